@@ -1,0 +1,4 @@
+pub mod Key
+pub mod KeyOrder
+pub mod KeyFaults
+pub mod Limits

@@ -1,0 +1,219 @@
+//! Keys, and lists of them that several places share.
+
+ghost use Rattle.std.specs.Prelude.{◌≡◌, ◌<◌, ◌≤◌, IfOk, IfErr, length};
+ghost use Rattle.std.proofs.Common.{rules};
+ghost use Rattle.std.specs.Ordering.{as_partial_cmp};
+ghost use Rattle.std.specs.Cmp.{partial_order_from_own_ties};
+ghost use Rattle.std.specs.Cmp.Rules.{comparing, hashing};
+ghost use Rattle.dl_desk.specs.Key.{IsKey, key_eq};
+ghost use Rattle.dl_desk.specs.KeyOrder.{key_cmp, key_input};
+ghost use Rattle.dl_desk.specs.KeyFaults.{RefusedAs};
+
+use crate::fault::KeyFault;
+use crate::text::Text;
+use std::alloc::{AllocError, Global};
+use std::cmp::Ordering;
+use std::hash::{Hash, Hasher};
+use std::marker::Model;
+use std::sync::Arc;
+
+/// The most bytes of a key's table.
+pub const TABLE_BYTES: usize = 64;
+
+/// The most bytes of a key's id.
+pub const ID_BYTES: usize = 128;
+
+/// The two texts of a key.
+#[derive(Debug, PartialEq, Eq, PartialOrd, Ord, Hash, Drop)]
+struct KeyText {
+    table: Text,
+    id: Text,
+}
+
+impl Model for KeyText {
+    ghost use Rattle.dl_desk.specs.Key.{Key, IsKey};
+
+    ghost Value = { Key };
+
+    ghost view = { λ k. record { table = k.table; id = k.id } };
+
+    ghost invariant = { λ k. IsKey (record { table = k.table; id = k.id }) };
+
+    ghost inverse = { λ k. record { table = k.table; id = k.id } };
+}
+
+/// What a loader is asked for: a table and an id in it. A copy shares the texts and costs one
+/// atomic step. Equality, order and hash are over the table, then the id, by their bytes.
+#[derive(Debug, Drop)]
+pub struct FetchKey {
+    both: Arc<KeyText>,
+}
+
+impl Model for FetchKey {
+    ghost use Rattle.dl_desk.specs.Key.{Key, IsKey};
+    ghost use Rattle.std.specs.Arc.{arc_value};
+
+    ghost Value = { Key };
+
+    ghost view = { λ k. arc_value k.both };
+
+    ghost invariant = { λ k. IsKey (arc_value k.both) };
+}
+
+impl FetchKey {
+    /// A key of a table and an id, each of at least one byte.
+    ///
+    /// # Errors
+    /// The first cause of [`KeyFault`] that applies, in its order.
+    pub fn new(alloc: Global, table: &str, id: &str) -> Result<FetchKey, KeyFault>
+        ensures ok { IfOk result (λ k. (k ≡ record { table = table.now; id = id.now }) × IsKey k) }
+        ensures err { IfErr result (RefusedAs table.now id.now) }
+    {
+        if table.is_empty() {
+            return Err(KeyFault::EmptyTable);
+        }
+        if table.len() > TABLE_BYTES {
+            return Err(KeyFault::TableTooLong);
+        }
+        if id.is_empty() {
+            return Err(KeyFault::EmptyId);
+        }
+        if id.len() > ID_BYTES {
+            return Err(KeyFault::IdTooLong);
+        }
+        let table = Text::new(alloc, table).map_err(|_| KeyFault::OutOfMemory)?;
+        let id = Text::new(alloc, id).map_err(|_| KeyFault::OutOfMemory)?;
+        let both = Arc::new(alloc, KeyText { table, id }).map_err(|_| KeyFault::OutOfMemory)?;
+        Ok(FetchKey { both })
+    }
+
+    /// The table's name.
+    pub fn table(&self) -> &str
+        ensures text { result.now ≡ self.now.table }
+        ensures key { IsKey self.now }
+    {
+        self.both.table.as_str()
+    }
+
+    /// The id in the table.
+    pub fn id(&self) -> &str
+        ensures text { result.now ≡ self.now.id }
+        ensures key { IsKey self.now }
+    {
+        self.both.id.as_str()
+    }
+
+    /// The same key. It shares the texts and takes no memory; the error is a count of copies at its end.
+    pub fn try_copy(&self) -> Result<FetchKey, AllocError>
+        ensures { IfOk result (λ k. k ≡ self.now) }
+    {
+        let both = Arc::try_clone(&self.both)?;
+        Ok(FetchKey { both })
+    }
+}
+
+impl Clone for FetchKey {
+    ghost is_clone = { λ a b. b ≡ a };
+
+    fn clone(&self) -> Result<FetchKey, AllocError> {
+        self.try_copy()
+    }
+}
+
+impl PartialEq for FetchKey {
+    ghost eq = { key_eq };
+
+    ghost laws = { Prim.search (comparing, rules) };
+
+    fn eq(&self, other: &FetchKey) -> bool {
+        *self.both == *other.both
+    }
+}
+
+impl Eq for FetchKey {
+    ghost laws = { Prim.search (comparing, rules) };
+}
+
+impl PartialOrd for FetchKey {
+    ghost partial_cmp = { as_partial_cmp key_cmp };
+
+    ghost laws = { partial_order_from_own_ties (Prim.search (comparing, rules))
+        (Prim.search (comparing, rules)) };
+
+    fn partial_cmp(&self, other: &FetchKey) -> Option<Ordering> {
+        Some(self.cmp(other))
+    }
+}
+
+impl Ord for FetchKey {
+    ghost cmp = { key_cmp };
+
+    ghost total = { Prim.search (comparing, rules) };
+
+    ghost matches_partial_cmp = { Prim.search (comparing, rules) };
+
+    ghost matches_eq = { Prim.search (comparing, rules) };
+
+    fn cmp(&self, other: &FetchKey) -> Ordering {
+        (*self.both).cmp(&*other.both)
+    }
+}
+
+impl Hash for FetchKey {
+    ghost hash_input = { key_input };
+
+    ghost respects_eq = { Prim.search (hashing, rules) };
+
+    fn hash<H: Hasher>(&self, state: &mut H) {
+        (*self.both).hash(state);
+    }
+}
+
+/// A list of keys that several places share, as a job's. A copy costs one atomic step. Contracts
+/// see the list.
+#[derive(Debug, Drop)]
+pub struct Keys {
+    keys: Arc<Vec<FetchKey>>,
+}
+
+impl Model for Keys {
+    ghost use Rattle.std.specs.Prelude.{List};
+    ghost use Rattle.std.specs.Arc.{arc_value};
+    ghost use Rattle.dl_desk.specs.Key.{Key};
+
+    ghost Value = { List Key };
+
+    ghost view = { λ k. (arc_value k.keys).items };
+}
+
+impl Keys {
+    /// A list of these keys. The error is want of memory.
+    pub fn new(alloc: Global, keys: Vec<FetchKey>) -> Result<Keys, AllocError>
+        ensures { IfOk result (λ k. k ≡ keys.items) }
+    {
+        let keys = Arc::new(alloc, keys)?;
+        Ok(Keys { keys })
+    }
+
+    /// A list of copies of the keys. The error is want of memory.
+    pub fn copy_of(alloc: Global, keys: &[FetchKey]) -> Result<Keys, AllocError>
+        ensures { IfOk result (λ k. k ≡ keys.now) }
+    {
+        Keys::new(alloc, keys.to_vec(alloc)?)
+    }
+
+    /// The keys, in order.
+    pub fn as_slice(&self) -> &[FetchKey]
+        ensures { result.now ≡ self.now }
+    {
+        self.keys.as_slice()
+    }
+
+    /// The same list, shared. It takes no memory; the error is a count of copies at its end.
+    pub fn try_copy(&self) -> Result<Keys, AllocError>
+        ensures { IfOk result (λ k. k ≡ self.now) }
+    {
+        let keys = Arc::try_clone(&self.keys)?;
+        Ok(Keys { keys })
+    }
+}

@@ -1,0 +1,17 @@
+//! The sequential loader: keys, the memo of held cells, and batches.
+//!
+//! A [`Desk`] answers each call as a data loader of one thread does. Its contracts speak of the
+//! history of the calls made so far, in the words of `specs/History.antt`.
+#![tactic(auto)]
+
+mod fault;
+mod key;
+mod limits;
+mod reply;
+mod text;
+
+pub use fault::{DeskFault, KeyFault, LimitFault};
+pub use key::{FetchKey, ID_BYTES, Keys, TABLE_BYTES};
+pub use limits::{LARGEST_LIMIT, Limits};
+pub use reply::{Job, LoadReply};
+pub use text::Text;

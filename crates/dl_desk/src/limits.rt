@@ -1,0 +1,88 @@
+//! The limits of a loader.
+
+ghost use Rattle.std.specs.Prelude.{◌≡◌, ◌&&◌, nat_le, IfOk, IfErr, None};
+ghost use Rattle.dl_desk.specs.Limits.{AreLimits, RefusedAs};
+
+use crate::fault::LimitFault;
+use std::marker::Model;
+
+/// The greatest number that a limit may be.
+pub const LARGEST_LIMIT: u32 = 65_536;
+
+/// How much a loader takes: the most keys of a batch (DataLoader's `maxBatchSize`), the most cells
+/// and the most calls. Each is 1 to [`LARGEST_LIMIT`].
+#[derive(Clone, Copy, Debug)]
+pub struct Limits {
+    max_batch: u32,
+    max_cells: u32,
+    max_calls: u32,
+}
+
+impl Model for Limits {
+    ghost use Rattle.std.specs.Prelude.{None};
+    ghost use Rattle.dl_desk.specs.Limits.{Limits, AreLimits};
+
+    ghost Value = { Limits };
+
+    ghost view = { λ l. record { max_batch = l.max_batch; max_cells = l.max_cells; max_calls = l.max_calls; tables = None } };
+
+    ghost invariant = { λ l. AreLimits (record { max_batch = l.max_batch; max_cells = l.max_cells; max_calls = l.max_calls; tables = None }) };
+
+    ghost inverse = { λ l. record { max_batch = l.max_batch; max_cells = l.max_cells; max_calls = l.max_calls } };
+}
+
+impl Limits {
+    /// The limits of these numbers: keys of a batch, cells, calls.
+    ///
+    /// # Errors
+    /// The first of the three that is not 1 to [`LARGEST_LIMIT`].
+    pub fn new(max_batch: u32, max_cells: u32, max_calls: u32) -> Result<Limits, LimitFault>
+        ensures ok { IfOk result (λ l. (l ≡ record { max_batch = max_batch; max_cells = max_cells; max_calls = max_calls; tables = None }) × AreLimits l) }
+        ensures err { IfErr result (RefusedAs max_batch max_cells max_calls) }
+    {
+        if !is_limit(max_batch) {
+            return Err(LimitFault::BatchLimit);
+        }
+        if !is_limit(max_cells) {
+            return Err(LimitFault::CellLimit);
+        }
+        if !is_limit(max_calls) {
+            return Err(LimitFault::CallLimit);
+        }
+        Ok(Limits {
+            max_batch,
+            max_cells,
+            max_calls,
+        })
+    }
+
+    /// The most keys of a batch.
+    pub fn max_batch(&self) -> u32
+        ensures value { result ≡ self.now.max_batch }
+        ensures limits { AreLimits self.now }
+    {
+        self.max_batch
+    }
+
+    /// The most cells.
+    pub fn max_cells(&self) -> u32
+        ensures value { result ≡ self.now.max_cells }
+        ensures limits { AreLimits self.now }
+    {
+        self.max_cells
+    }
+
+    /// The most calls.
+    pub fn max_calls(&self) -> u32
+        ensures value { result ≡ self.now.max_calls }
+        ensures limits { AreLimits self.now }
+    {
+        self.max_calls
+    }
+}
+
+fn is_limit(number: u32) -> bool
+    ensures { result ≡ (nat_le 1 number && nat_le number LARGEST_LIMIT) }
+{
+    (1..=LARGEST_LIMIT).contains(&number)
+}

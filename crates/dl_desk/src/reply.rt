@@ -1,0 +1,37 @@
+//! Replies of a desk.
+
+ghost use Rattle.std.specs.Prelude.{◌≡◌, IfOk};
+
+use crate::key::Keys;
+use std::alloc::AllocError;
+
+/// The reply to a load: the cell that will show the key's outcome.
+#[derive(Clone, Copy, Debug, PartialEq, Eq)]
+pub enum LoadReply {
+    /// The memo holds the key: its cell.
+    Hit(u32),
+    /// A new cell, and the batch that will fetch it.
+    Fresh { cell: u32, batch: u32 },
+}
+
+/// A batch that was sent: the keys to fetch, in order.
+#[derive(Debug, Drop)]
+pub struct Job {
+    /// The batch's number.
+    pub batch: u32,
+    /// Its members' keys.
+    pub keys: Keys,
+}
+
+impl Job {
+    /// An equal job, which shares the keys. It takes no memory; the error is a count of copies at its end.
+    pub fn try_copy(&self) -> Result<Job, AllocError>
+        ensures { IfOk result (λ j. j ≡ self.now) }
+    {
+        let keys = self.keys.try_copy()?;
+        Ok(Job {
+            batch: self.batch,
+            keys,
+        })
+    }
+}
