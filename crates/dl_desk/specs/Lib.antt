@@ -2,3 +2,5 @@ pub mod Key
 pub mod KeyOrder
 pub mod KeyFaults
 pub mod Limits
+pub mod History
+pub mod Calls

@@ -1,17 +1,15 @@
--- The limits of a loader.
-use Rattle.std.specs.Prelude.{◌≡◌, ℕ, ◌<◌, ◌≤◌, ◌⊎◌, List, Option}
+-- The limits of a loader, and how its batches are made.
+use Rattle.std.specs.Prelude.{◌≡◌, ℕ, ◌<◌, ◌≤◌, ◌⊎◌, List, Option, Some, None, unwrap_or, bytes_eq}
+use Rattle.std.specs.Map.{lookup}
 use Rattle.dl_desk.specs.declared.limits.TheConstants.{LARGEST_LIMIT}
 use Rattle.dl_desk.specs.declared.fault.LimitFault.{LimitFault}
 use Rattle.dl_desk.specs.declared.fault.LimitFault.TheVariants.{BatchLimit, CellLimit, CallLimit}
 
--- The limits of a loader: the most members of a batch, the most cells and the most calls.
--- With no limits of tables a batch may mix tables. With some, each batch is of one table, and the
--- tables that are named here have limits of their own.
+-- the limits of a loader: the most members of a batch, the most cells and the most calls
 pub record Limits : Type 0 where
   pub max_batch : ℕ
   pub max_cells : ℕ
   pub max_calls : ℕ
-  pub tables : Option (List (List ℕ × ℕ))
 
 -- a number that a limit may be
 pub record IsLimit (n : ℕ) : Type 0 where
@@ -22,7 +20,7 @@ pub record IsLimit (n : ℕ) : Type 0 where
 abbrev pub IsNoLimit : ℕ → Type 0
 IsNoLimit n = (n ≡ 0) ⊎ (LARGEST_LIMIT < n)
 
--- each of the three numbers is a limit
+-- each of the three numbers may be a limit
 pub record AreLimits (l : Limits) : Type 0 where
   pub batch : IsLimit l.max_batch
   pub cells : IsLimit l.max_cells
@@ -33,3 +31,21 @@ abbrev pub RefusedAs : ℕ → ℕ → ℕ → LimitFault → Type 0
 RefusedAs batch cells calls BatchLimit = IsNoLimit batch
 RefusedAs batch cells calls CellLimit = IsLimit batch × IsNoLimit cells
 RefusedAs batch cells calls CallLimit = IsLimit batch × IsLimit cells × IsNoLimit calls
+
+-- How a loader makes its batches: its limits and, where each batch is of one table, the tables that
+-- have a limit of their own. With none of these a batch may mix tables.
+pub record Rules : Type 0 where
+  pub limits : Limits
+  pub tables : Option (List (List ℕ × ℕ))
+
+-- batches may mix tables
+abbrev pub mixed : Limits → Rules
+mixed limits = record { limits = limits; tables = None }
+
+abbrev pub limit_by : ℕ → Option (List (List ℕ × ℕ)) → List ℕ → ℕ
+limit_by max_batch None table = max_batch
+limit_by max_batch (Some ts) table = unwrap_or (lookup (bytes_eq table) ts) max_batch
+
+-- the most members of a batch with keys of the table (DataLoader: maxBatchSize)
+abbrev pub limit_of : Rules → List ℕ → ℕ
+limit_of rules table = limit_by rules.limits.max_batch rules.tables table

@@ -13,5 +13,5 @@ mod text;
 pub use fault::{DeskFault, KeyFault, LimitFault};
 pub use key::{FetchKey, ID_BYTES, Keys, TABLE_BYTES};
 pub use limits::{LARGEST_LIMIT, Limits};
-pub use reply::{Job, LoadReply};
+pub use reply::{DeskPrime, End, Job, LoadReply};
 pub use text::Text;

@@ -1,6 +1,6 @@
 //! The limits of a loader.
 
-ghost use Rattle.std.specs.Prelude.{◌≡◌, ◌&&◌, nat_le, IfOk, IfErr, None};
+ghost use Rattle.std.specs.Prelude.{◌≡◌, ◌&&◌, nat_le, IfOk, IfErr};
 ghost use Rattle.dl_desk.specs.Limits.{AreLimits, RefusedAs};
 
 use crate::fault::LimitFault;
@@ -19,14 +19,13 @@ pub struct Limits {
 }
 
 impl Model for Limits {
-    ghost use Rattle.std.specs.Prelude.{None};
     ghost use Rattle.dl_desk.specs.Limits.{Limits, AreLimits};
 
     ghost Value = { Limits };
 
-    ghost view = { λ l. record { max_batch = l.max_batch; max_cells = l.max_cells; max_calls = l.max_calls; tables = None } };
+    ghost view = { λ l. record { max_batch = l.max_batch; max_cells = l.max_cells; max_calls = l.max_calls } };
 
-    ghost invariant = { λ l. AreLimits (record { max_batch = l.max_batch; max_cells = l.max_cells; max_calls = l.max_calls; tables = None }) };
+    ghost invariant = { λ l. AreLimits (record { max_batch = l.max_batch; max_cells = l.max_cells; max_calls = l.max_calls }) };
 
     ghost inverse = { λ l. record { max_batch = l.max_batch; max_cells = l.max_cells; max_calls = l.max_calls } };
 }
@@ -37,7 +36,7 @@ impl Limits {
     /// # Errors
     /// The first of the three that is not 1 to [`LARGEST_LIMIT`].
     pub fn new(max_batch: u32, max_cells: u32, max_calls: u32) -> Result<Limits, LimitFault>
-        ensures ok { IfOk result (λ l. (l ≡ record { max_batch = max_batch; max_cells = max_cells; max_calls = max_calls; tables = None }) × AreLimits l) }
+        ensures ok { IfOk result (λ l. (l ≡ record { max_batch = max_batch; max_cells = max_cells; max_calls = max_calls }) × AreLimits l) }
         ensures err { IfErr result (RefusedAs max_batch max_cells max_calls) }
     {
         if !is_limit(max_batch) {

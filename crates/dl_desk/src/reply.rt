@@ -14,6 +14,24 @@ pub enum LoadReply {
     Fresh { cell: u32, batch: u32 },
 }
 
+/// The reply to a prime.
+#[derive(Clone, Copy, Debug, PartialEq, Eq)]
+pub enum DeskPrime {
+    /// The new cell, which is held from now on.
+    Primed(u32),
+    /// The key is held already, and nothing changed.
+    Kept,
+}
+
+/// How a batch ended.
+#[derive(Clone, Copy, Debug, PartialEq, Eq)]
+pub enum End {
+    /// With an outcome for each member.
+    Settled,
+    /// As a whole.
+    Failed,
+}
+
 /// A batch that was sent: the keys to fetch, in order.
 #[derive(Debug, Drop)]
 pub struct Job {
