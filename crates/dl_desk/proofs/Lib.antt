@@ -10,3 +10,8 @@ pub mod Steps
 pub mod Tails
 pub mod Marked
 pub mod Prepares
+pub mod Counts
+pub mod Loads
+pub mod EndLemmas
+pub mod Shown
+pub mod Ended

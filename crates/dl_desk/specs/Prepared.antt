@@ -1,5 +1,5 @@
 -- How the parts of a desk hold its two books, and what one step of a call does to a book.
-use Rattle.std.specs.Prelude.{◌≡◌, ℕ, zero, suc, ◌<◌, ◌≤◌, ◌+◌, Bool, false, not, ◌&&◌, ◌||◌, ◌⊎◌, nat_eq, nat_lt, nat_le, if◌then◌else◌, map, take, List, [], ◌∷◌, ◌++◌, length, Option, Some, None, slice_get}
+use Rattle.std.specs.Prelude.{◌≡◌, ℕ, zero, suc, ◌<◌, ◌≤◌, ◌+◌, Bool, false, not, ◌&&◌, ◌||◌, ◌⊎◌, nat_eq, nat_lt, nat_le, if◌then◌else◌, map, take, List, [], ◌∷◌, ◌++◌, length, Option, Some, None, IsSome, slice_get}
 use Rattle.std.specs.Map.{lookup}
 use Rattle.dl_desk.specs.Key.{Key, key_eq}
 use Rattle.dl_desk.specs.Limits.{limit_of}
@@ -7,7 +7,6 @@ use Rattle.dl_desk.specs.History.{has_member, serves, greatest}
 use Rattle.dl_desk.specs.Stored.{Stored}
 use Rattle.dl_desk.specs.Book.{Batch, Book}
 use Rattle.dl_desk.specs.declared.reply.End.{End}
-use Rattle.dl_desk.specs.declared.reply.End.TheVariants.{Failed}
 use Rattle.dl_desk.specs.declared.reply.Job.{Job}
 use Rattle.dl_desk.specs.declared.fault.DeskFault.{DeskFault}
 use Rattle.dl_desk.specs.declared.fault.DeskFault.TheVariants.{NoBatch, NotSent, SettledBefore, CellsFull, OutOfMemory}
@@ -115,7 +114,24 @@ set_end [] b e = []
 set_end (x ∷ xs) zero e = record { members = x.members; end = Some e } ∷ xs
 set_end (x ∷ xs) (suc b) e = x ∷ set_end xs b e
 
--- what is held for a key after an end: a failed batch's own cells are forgotten
-abbrev pub held_after : End → List (Key × ℕ) → Key → Option ℕ → Option ℕ
-held_after Failed ms k o = without ms k o
-held_after _ ms k o = o
+-- a batch of the book may end: it is sent, and has not ended
+pub record MayEndIn (book : Book) (b : ℕ) : Type 0 where
+  pub is_begun : b < length book.batches
+  pub is_sent : b < book.sent
+  pub no_end : end_at book b ≡ None
+
+-- an end of a batch of the book is refused so
+abbrev pub RefusesEnd : Book → ℕ → DeskFault → Type 0
+RefusesEnd book b NoBatch = length book.batches ≤ b
+RefusesEnd book b NotSent = (b < length book.batches) × (book.sent ≤ b)
+RefusesEnd book b SettledBefore = (b < length book.batches) × (b < book.sent) × IsSome (end_at book b)
+RefusesEnd book b (CellsFull limit) = ⊥
+RefusesEnd book b OutOfMemory = ⊥
+
+-- the book after it forgot the keys of a batch that it held with the batch's own cells
+pub record Forgets (old : Book) (b : ℕ) (new : Book) : Type 0 where
+  pub rules : new.rules ≡ old.rules
+  pub cells : new.cells ≡ old.cells
+  pub sent : new.sent ≡ old.sent
+  pub memo : (k : Key) → lookup (key_eq k) new.memo ≡ without (members_at old b) k (lookup (key_eq k) old.memo)
+  pub batches : new.batches ≡ old.batches

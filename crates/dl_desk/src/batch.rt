@@ -1,6 +1,7 @@
 //! Batches as a desk stores them: members, of which the last may be prepared.
 
-ghost use Rattle.std.specs.Prelude.{◌≡◌, Some, false, [], ◌∷◌, ◌++◌, length, take, zip, map, OnOk, OnErr, IfOk};
+ghost use Rattle.std.specs.Prelude.{◌≡◌, Some, false, ◌<◌, slice_get, [], ◌∷◌, ◌++◌, length, take, map, OnOk, OnErr, IfOk};
+ghost use Rattle.std.specs.List.{zip};
 ghost use Rattle.dl_desk.specs.History.{has_member};
 ghost use Rattle.dl_desk.specs.Stored.{Stored, blank};
 ghost use Rattle.dl_desk.specs.Prepared.{whole, front};
@@ -67,6 +68,15 @@ impl StoredBatch {
         self.keys.as_slice()
     }
 
+    /// The key and the cell of a member, shown or prepared.
+    pub fn member(&self, place: usize) -> (&FetchKey, u32)
+        requires { place < length self.now.members }
+        ensures { slice_get self.now.members place ≡ Some (result.0.now, result.1) }
+    {
+        let keys = self.keys.as_slice();
+        (&keys[place], self.cells[place])
+    }
+
     /// How the batch ended, if it did.
     pub fn ended(&self) -> Option<End>
         ensures { result ≡ self.now.end }
@@ -102,5 +112,21 @@ impl StoredBatch {
         ensures front { front self.new ≡ whole self.old }
     {
         self.seen = self.cells.len();
+    }
+
+    /// Ends the batch.
+    pub fn finish(&mut self, end: End)
+        ensures whole { whole self.new ≡ record { members = self.old.members; end = Some end } }
+        ensures front { front self.new ≡ record { members = take self.old.seen self.old.members; end = Some end } }
+    {
+        self.end = Some(end);
+    }
+
+    /// The members that are shown: their keys and their cells, in order.
+    pub fn shown(&self) -> (&[FetchKey], &[u32])
+        ensures { zip result.0.now result.1.now ≡ (front self.now).members }
+    {
+        let keys = self.keys.as_slice();
+        (&keys[..self.seen], &self.cells[..self.seen])
     }
 }

@@ -2,9 +2,9 @@
 
 ghost use Rattle.std.specs.Prelude.{◌≡◌, ◌<◌, ◌≤◌, Some, None, false, [], ◌∷◌, ◌++◌, length, map, vec_len, slice_get, OnOk, OnErr, IfOk};
 ghost use Rattle.std.specs.Map.{lookup};
-ghost use Rattle.dl_desk.specs.Key.{key_eq};
+ghost use Rattle.dl_desk.specs.Key.{Key, key_eq};
 ghost use Rattle.dl_desk.specs.History.{has_member};
-ghost use Rattle.dl_desk.specs.Prepared.{whole, front, Same, members_of};
+ghost use Rattle.dl_desk.specs.Prepared.{whole, front, Same, members_of, without};
 ghost use Rattle.dl_desk.specs.Marks.{IsAdded, Grows};
 
 use crate::batch::StoredBatch;
@@ -64,4 +64,16 @@ pub fn add(
         batches.push(StoredBatch::new(alloc))?;
     }
     batches[number].push(key, cell)
+}
+
+/// Forgets each member's key that is held with the member's own cell.
+pub fn forget(memo: &mut IndexMap<FetchKey, u32>, batch: &StoredBatch)
+    ensures { (k : Key) → lookup (key_eq k) memo.new.entries ≡ without batch.now.members k (lookup (key_eq k) memo.old.entries) }
+{
+    for place in 0..batch.len() {
+        let (key, cell) = batch.member(place);
+        if memo.get(key).copied() == Some(cell) {
+            let _ = memo.swap_remove(key);
+        }
+    }
 }
