@@ -119,3 +119,21 @@ impl<T: Drop> CellRow<T> {
         reader.value.show(segment.cell(i % SEGMENT), value)
     }
 }
+
+#[cfg(test)]
+mod tests {
+    use super::CellRow;
+    use std::alloc::AllocError;
+    use std::test::Fail;
+
+    #[test]
+    fn only_a_new_segment_takes_memory(rt: HostRuntime) -> Result<(), Fail> {
+        let row = CellRow::<u8>::new(rt.alloc(), 130)?;
+        let _first = row.reader(0)?;
+        assert!(rt; row.reader_with(63, || Err(AllocError)).is_ok());
+        assert!(rt; row.reader_with(64, || Err(AllocError)).is_err());
+        let mut reader = row.reader(64)?;
+        assert_eq!(rt; row.look(64, &mut reader), None);
+        Ok(())
+    }
+}
