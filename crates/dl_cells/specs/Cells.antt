@@ -1,5 +1,6 @@
--- What a row of set-once cells and a reader of one of them are in clauses. A row's name and a cell's name are opaque to other crates: they know only that `row_len` and `cell_of` are functions of them.
-use Rattle.std.specs.Prelude.{◌≡◌, ℕ, ◌/◌, ◌%◌, List, Option, IfSome, slice_index}
+-- What a row of set-once cells and a reader of one of them are in clauses.
+-- To other crates the names are opaque: `row_len` and `cell_of` are functions of a row's name, and no more is said.
+use Rattle.std.specs.Prelude.{◌≡◌, ℕ, ◌/◌, ◌%◌, List, [], Option, IfSome, slice_index}
 
 -- which cell it is: the cell that its segment is kept in, and the place inside the segment
 pub record CellName : Type 0 where
@@ -10,6 +11,10 @@ pub record CellName : Type 0 where
 pub record RowName : Type 0 where
   pub segments : List ℕ
   pub cells : ℕ
+
+-- the name of a row without cells, for a type that names no row
+unfoldable pub no_row : RowName
+no_row = record { segments = []; cells = 0 }
 
 -- how many cells a row has
 unfoldable pub row_len : RowName → ℕ

@@ -36,29 +36,6 @@ impl<T> Model for CellRow<T> {
     ghost invariant = { λ r. r.len ≤ 64 * vec_len r.segments };
 }
 
-impl<T> CellRow<T> {
-    /// The value of cell `i`, if it was shown. From then on the reader knows it, and is answered it
-    /// each time. A reader that knows a value is never answered `None`.
-    pub fn look<'a>(&'a self, i: u32, reader: &mut Reader<T>) -> Option<&'a T>
-        requires in_row { i < row_len self.now }
-        requires of_cell { reader.old.cell ≡ cell_of self.now i }
-        ensures cell { reader.new.cell ≡ reader.old.cell }
-        ensures shown { IfSome result (λ x. (reader.new.known ≡ Some x.now) × Agrees reader.old.known x.now) }
-        ensures empty { IfNone result ((reader.old.known ≡ None) × (reader.new.known ≡ None)) }
-    {
-        let segment = reader.segment.get(self.home(i));
-        reader.value.look(segment.cell(i % SEGMENT))
-    }
-
-    // The cell that the segment of cell `i` is kept in.
-    fn home(&self, i: u32) -> &OnceBox<Segment<T>>
-        requires { i < row_len self.now }
-        ensures { cell_name result.now ≡ (cell_of self.now i).segment }
-    {
-        &self.segments[(i / SEGMENT) as usize]
-    }
-}
-
 impl<T: Drop> CellRow<T> {
     /// A row of `len` empty cells. Fails only for want of memory.
     pub fn new(alloc: Global, len: u32) -> Result<CellRow<T>, AllocError>
@@ -117,6 +94,29 @@ impl<T: Drop> CellRow<T> {
     {
         let segment = reader.segment.get(self.home(i));
         reader.value.show(segment.cell(i % SEGMENT), value)
+    }
+}
+
+impl<T> CellRow<T> {
+    /// The value of cell `i`, if it was shown. From then on the reader knows it, and is answered it
+    /// each time. A reader that knows a value is never answered `None`.
+    pub fn look<'a>(&'a self, i: u32, reader: &mut Reader<T>) -> Option<&'a T>
+        requires in_row { i < row_len self.now }
+        requires of_cell { reader.old.cell ≡ cell_of self.now i }
+        ensures cell { reader.new.cell ≡ reader.old.cell }
+        ensures shown { IfSome result (λ x. (reader.new.known ≡ Some x.now) × Agrees reader.old.known x.now) }
+        ensures empty { IfNone result ((reader.old.known ≡ None) × (reader.new.known ≡ None)) }
+    {
+        let segment = reader.segment.get(self.home(i));
+        reader.value.look(segment.cell(i % SEGMENT))
+    }
+
+    // The cell that the segment of cell `i` is kept in.
+    fn home(&self, i: u32) -> &OnceBox<Segment<T>>
+        requires { i < row_len self.now }
+        ensures { cell_name result.now ≡ (cell_of self.now i).segment }
+    {
+        &self.segments[(i / SEGMENT) as usize]
     }
 }
 

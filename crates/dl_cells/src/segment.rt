@@ -35,7 +35,7 @@ impl<T> Segment<T> {
 
     /// The cell at a place.
     pub(crate) fn cell(&self, place: u32) -> &OnceBox<T>
-        requires { place < 64 }
+        requires { place < SEGMENT }
         ensures { cell_name result.now ≡ slice_index self.now place }
     {
         &self.cells[place as usize]

@@ -89,6 +89,30 @@ fn a_call_refused_memory_can_be_made_again(rt: HostRuntime) -> Result<(), Fail> 
     Ok(())
 }
 
+#[test]
+fn threads_look_by_one_shared_reader(rt: HostRuntime) -> Result<(), Fail> {
+    let row = CellRow::new(rt.alloc(), 1)?;
+    let mut reader = row.reader(0)?;
+    let three = Box::new(rt.alloc(), 3u8)?;
+    assert!(rt; row.show(0, &mut reader, three).is_ok());
+    let (row, reader) = (&row, &reader);
+    let seen = thread::join(
+        &rt,
+        move || look_again(row, reader),
+        move || look_again(row, reader),
+    );
+    assert_eq!(rt; seen, (Some(3), Some(3)));
+    Ok(())
+}
+
+// What a copy of a reader of cell 0 sees there.
+fn look_again(row: &CellRow<u8>, reader: &Reader<u8>) -> Option<u8>
+    requires in_row { 0 < row_len row.now }
+    requires of_cell { reader.now.cell ≡ cell_of row.now 0 }
+{
+    row.look(0, &mut reader.again()).copied()
+}
+
 /// What one thread saw in a cell, with the reader that saw it.
 #[derive(Drop)]
 struct Offer {

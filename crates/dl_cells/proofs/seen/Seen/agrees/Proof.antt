@@ -5,7 +5,6 @@ use mir.Val.{Val, vptr, vunit}
 use mir.MapTy.{inst_fn}
 use base.Logic.{SProp, ent, id⊢}
 use prog.Wp.{WpFn}
-use types.Logic.{sem}
 use types.Kit.{‵, raw, ◌⊛◌, ◌$◌, ◌∵◌, !, qed, by, move, keep, drop, split, fsplit, fsplit3, fjoin, suffices, use2, rewrite, feq_i}
 use types.Run.{of_opd, returns, enter, unit_lit}
 use types.ByLocal.{alloc_all, pass_all, free_all, look_at, sets}
