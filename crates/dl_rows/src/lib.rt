@@ -3,3 +3,5 @@
 
 #[cfg(test)]
 mod cells;
+#[cfg(test)]
+mod desk;
