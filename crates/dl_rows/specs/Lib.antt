@@ -1,0 +1,4 @@
+pub mod Slow
+pub mod Begun
+pub mod Latest
+pub mod Rules

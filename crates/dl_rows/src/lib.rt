@@ -1,0 +1,4 @@
+//! Worked rows, and what they are held against.
+#![tactic(auto)]
+
+mod slow;
