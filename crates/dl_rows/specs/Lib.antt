@@ -2,3 +2,4 @@ pub mod Slow
 pub mod Begun
 pub mod Latest
 pub mod Rules
+pub mod Said

@@ -3,11 +3,13 @@
 //! of `dl_desk` give, so the rows that run through it are a review of those definitions.
 
 mod atom;
+mod calls;
 mod counts;
 mod memo;
 mod replies;
 
 pub use atom::Atom;
+pub use calls::{Call, Reply, refusal, reply_to};
 pub use counts::{begun, cells, end_of, members, sent};
 pub use memo::held;
 pub use replies::{Rules, jobs, load_reply, prime_reply, room};
