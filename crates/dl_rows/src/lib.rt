@@ -1,4 +1,6 @@
 //! Worked rows, and what they are held against.
 #![tactic(auto)]
 
-mod slow;
+pub mod slow;
+#[cfg(test)]
+mod slow_rows;

@@ -5,11 +5,13 @@
 mod atom;
 mod calls;
 mod counts;
+mod lines;
 mod memo;
 mod replies;
 
 pub use atom::Atom;
 pub use calls::{Call, Reply, refusal, reply_to};
 pub use counts::{begun, cells, end_of, members, sent};
+pub use lines::lines_of;
 pub use memo::held;
 pub use replies::{Rules, jobs, load_reply, prime_reply, room};

@@ -64,10 +64,8 @@ fn last_for(
     history: &[Atom],
     key: &FetchKey,
 ) -> Result<Option<usize>, AllocError>
-    ensures {
-        let h = history_of history.now in
-        IfOk result (λ b. b ≡ desk.greatest (λ n. desk.serves (rules_of rules.now) key.now (desk.members h n)) (desk.begun h))
-    }
+    ensures { let h = history_of history.now in
+        IfOk result (λ b. b ≡ desk.greatest (λ n. desk.serves (rules_of rules.now) key.now (desk.members h n)) (desk.begun h)) }
 {
     let mut last = None;
     for number in 0..begun(history) {

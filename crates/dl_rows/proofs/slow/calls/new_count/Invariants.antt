@@ -6,5 +6,5 @@ use Rattle.dl_rows.proofs.slow.calls.new_count.Given as goal
 abbrev pub invariant-loop-place : goal.invariant-loop-place
 invariant-loop-place l = let h = history_of l.history in record {
   few : l.count ≤ l.place;
-  rest : l.count + desk.new_count h (drop l.place l.keys) ≡ desk.new_count h l.keys
+  rest : l.count + desk.new_count h (drop l.place l.keys) ≡ desk.new_count h l.keys;
 }

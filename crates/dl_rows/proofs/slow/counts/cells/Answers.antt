@@ -5,6 +5,7 @@ use Rattle.dl_rows.specs.Slow.{told, history_of}
 use Rattle.dl_rows.proofs.Told.{history_more, none_begins, none_named, sent_other}
 use Rattle.dl_rows.proofs.slow.counts.cells.Goals as goal
 use Rattle.dl_rows.proofs.slow.counts.cells.Goals.{in-Some, in_default}
+
 pub loop-atom-preserved : goal.loop-atom-preserved
 loop-atom-preserved c =
     let e = history_more c.args.history.now c.loop-atom.atom-index c.atom-item.result c.loop-atom-test.true c.atom-item.is in

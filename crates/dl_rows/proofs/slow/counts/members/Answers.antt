@@ -5,6 +5,7 @@ use Rattle.dl_rows.specs.Slow.{told, history_of}
 use Rattle.dl_rows.proofs.Told.{history_more, none_begins, none_named, sent_other}
 use Rattle.dl_rows.proofs.slow.counts.members.Goals as goal
 use Rattle.dl_rows.proofs.slow.counts.members.Goals.{in-Some+then-is_in+in_ok-try_copy+in_ok-push, in-Some+else-is_in, in_default}
+
 pub loop-atom-preserved : goal.loop-atom-preserved
 loop-atom-preserved c =
     let e = history_more c.args.history.now c.loop-atom.atom-index c.atom-item.result c.loop-atom-test.true c.atom-item.is in
