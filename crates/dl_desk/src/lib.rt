@@ -4,12 +4,16 @@
 //! history of the calls made so far, in the words of `specs/History.antt`.
 #![tactic(auto)]
 
+mod batch;
+mod desk;
 mod fault;
 mod key;
 mod limits;
 mod reply;
+mod stored;
 mod text;
 
+pub use desk::Desk;
 pub use fault::{DeskFault, KeyFault, LimitFault};
 pub use key::{FetchKey, ID_BYTES, Keys, TABLE_BYTES};
 pub use limits::{LARGEST_LIMIT, Limits};
