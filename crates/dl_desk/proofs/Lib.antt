@@ -10,3 +10,6 @@ pub mod Steps
 pub mod Tails
 pub mod Marked
 pub mod Prepares
+pub mod LawFacts
+pub mod LawFresh
+pub mod LawBatches

@@ -8,3 +8,4 @@ pub mod Stored
 pub mod Book
 pub mod Prepared
 pub mod Marks
+pub mod Laws

@@ -1,0 +1,1 @@
+-- Batches are within their limits.
