@@ -13,3 +13,4 @@ pub mod Prepares
 pub mod LawFacts
 pub mod LawFresh
 pub mod LawBatches
+pub mod LawEnds

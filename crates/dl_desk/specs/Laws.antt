@@ -4,6 +4,7 @@ use Rattle.std.specs.List.{list_any}
 use Rattle.dl_desk.specs.Key.{Key}
 use Rattle.dl_desk.specs.Limits.{Rules, limit_of}
 use Rattle.dl_desk.specs.History.{Atom, Load, IsLegal, members, forgets}
+use Rattle.dl_desk.specs.Events.{Event, IsLegalLog, ended}
 use Rattle.dl_desk.specs.declared.reply.LoadReply.TheVariants.{Fresh}
 
 -- Between two fresh loads of one key something forgets the key: a clear of it, a clear of all, or the
@@ -32,3 +33,7 @@ pub record IsBatch (rules : Rules) (ms : List (Key × ℕ)) : Type 0 where
 -- a batch has distinct keys, no more than its limit, and of one table where tables have limits
 abbrev pub BatchesAreWithinLimits : Type 0
 BatchesAreWithinLimits = (rules : Rules) → HaveLimits rules → (history : List Atom) → IsLegal rules history → (batch : ℕ) → IsBatch rules (members history batch)
+
+-- a cell that was ended keeps the place of its end in every longer log
+abbrev pub EndsStay : Type 0
+EndsStay = (rules : Rules) (later before : List Event) (cell place : ℕ) → IsLegalLog rules (later ++ before) → ended before cell ≡ Some place → ended (later ++ before) cell ≡ Some place

@@ -8,4 +8,5 @@ pub mod Stored
 pub mod Book
 pub mod Prepared
 pub mod Marks
+pub mod Events
 pub mod Laws
