@@ -1,6 +1,6 @@
 -- Batches are within their limits.
-use Rattle.std.proofs.Common.{◌≡◌, ◌≢◌, ◌∙◌, sym, ap, subst, ℕ, zero, suc, ◌+◌, ◌<◌, ◌≤◌, ◌⊎◌, inl, inr, Bool, true, false, not, ◌&&◌, cond, List, [], ◌∷◌, ◌++◌, length, get_or, Option, Some, None, nat_eq, nat_lt, nat_le, bytes_eq, refl, arith, length-append, lit<}
-use Rattle.std.specs.List.{All, AllPairs, list_any}
+use Rattle.std.proofs.Common.{◌≡◌, ◌≢◌, ◌∙◌, sym, ap, subst, ℕ, zero, suc, ◌<◌, ◌≤◌, ◌⊎◌, inl, inr, Bool, true, false, not, ◌&&◌, cond, List, [], ◌∷◌, ◌++◌, length, get_or, Option, Some, None, nat_lt, nat_le, bytes_eq, refl, arith}
+use Rattle.std.specs.List.{All, AllPairs}
 use Rattle.std.proofs.lemmas.Bool.{and_parts, not-true, eqb-true, ltb-true}
 use Rattle.std.proofs.lemmas.Bool.Decides.{nat_tests}
 use Rattle.std.proofs.lemmas.List.{length_push}
@@ -11,7 +11,7 @@ use Rattle.std.proofs.lemmas.Slice.Eq.{bytes_eq-Decides}
 use Rattle.dl_desk.specs.Key.{Key, key_eq}
 use Rattle.dl_desk.specs.Limits.{Rules, limit_by, limit_of}
 use Rattle.dl_desk.specs.Laws.{HaveLimits, AreOfOneTable, IsBatch, BatchesAreWithinLimits}
-use Rattle.dl_desk.specs.History.{Atom, Begun, begins, is_number, add_member, members, begun, is_named, sent, has_member, is_of_table, serves_by, serves, greatest, is_open, room_in, room, IsAnswered, IsLegal}
+use Rattle.dl_desk.specs.History.{Atom, Begun, begins, is_number, add_member, members, begun, is_named, sent, has_member, serves_by, serves, greatest, is_open, room_in, room, IsAnswered, IsLegal}
 use Rattle.dl_desk.proofs.KeyLemmas.{key_eq-refl}
 use Rattle.dl_desk.proofs.Facts.{fresh_cell, named, members-unnamed}
 
@@ -74,9 +74,11 @@ batch_first rules k c limits = record {
     within : All (λ (m : Key × ℕ). 1 ≤ limit_of rules m.0.table) ((k, c) ∷ [])
     within zero d low = limits.least k.table
     within (suc i) d low = absurd (omega arith)
+
     none : (o : Option (List (List ℕ × ℕ))) → OfTable o k []
     none None = tt
     none (Some tables) = λ i d low. absurd (omega arith)
+
     empty : (o : Option (List (List ℕ × ℕ))) → AreOfOneTable o []
     empty None = tt
     empty (Some tables) = λ i j d low high. absurd (omega arith)

@@ -1,12 +1,12 @@
 -- A cell that was ended stays so.
-use Rattle.std.proofs.Common.{◌≡◌, ◌∙◌, sym, ap, subst, ℕ, ◌+◌, ◌<◌, ◌≤◌, Bool, true, false, ◌&&◌, cond, List, [], ◌∷◌, ◌++◌, length, Option, Some, None, nat_eq, is_none, refl, arith}
+use Rattle.std.proofs.Common.{◌≡◌, ◌∙◌, sym, ap, subst, ℕ, ◌+◌, ◌<◌, ◌≤◌, Bool, true, false, cond, List, [], ◌∷◌, ◌++◌, Option, Some, None, option_map, nat_eq, is_none, refl, arith}
 use Rattle.std.specs.Option.{option_or, option_and_then}
 use Rattle.std.proofs.lemmas.Bool.{and_parts, eqb-true}
 use Rattle.std.proofs.lemmas.Bool.Decides.{nat_tests}
 use Rattle.dl_desk.specs.Key.{Key}
 use Rattle.dl_desk.specs.Limits.{Rules}
 use Rattle.dl_desk.specs.Laws.{EndsStay}
-use Rattle.dl_desk.specs.Events.{Made, One, Many, Event, with_loads, with_made, atoms, IsReplied, IsLegalLog, place_of, is_primed, primes, ends_batch, ends, batch_at, cell_batch, ended}
+use Rattle.dl_desk.specs.Events.{Made, One, Many, Event, with_loads, with_made, atoms, IsReplied, IsLegalLog, last_of, is_primed, primes, ends_batch, ends, batch_at, cell_batch, Placed, newest, ending, ended}
 use Rattle.dl_desk.specs.History.{Atom, Load, Prime, Clear, ClearAll, Dispatch, Settle, Fail, Begun, begins, count_cell, cells, end_of, load_reply, load_replies, IsAnswered, IsLegal}
 use Rattle.dl_desk.specs.declared.reply.LoadReply.{LoadReply}
 use Rattle.dl_desk.specs.declared.reply.End.{End}
@@ -74,6 +74,7 @@ batch_low rules history a c b (Some g) answered is low e = by (nat_eq c g.cell) 
   where
     next : g.cell ≡ cells history
     next = (fresh_cell rules history a g answered is).cell_is
+
     by : (t : Bool) → nat_eq c g.cell ≡ t → cond t g.batch (cell_batch history c) ≡ Some b → c < cells history + 1
     by true same f = let eq : c ≡ g.cell = eqb-true c g.cell same in let n = next in omega arith
     by false other f = let l : c < cells history = low f in omega arith
@@ -94,25 +95,25 @@ made_primes : (rules : Rules) (history : List Atom) (m : Made) (c : ℕ) → IsR
 made_primes rules history (One a) c replied e = primes_next rules history a c (begins a) replied refl e
 made_primes rules history (Many ks rs) c replied e = absurd (let bad : false ≡ true = e in cc)
 
-primed_step : (rules : Rules) (e : Event) (before : List Event) (c p : ℕ) → IsReplied rules (atoms before) e.made → (t : Bool) → primes c e.made ≡ t → (place_of (primes c) before ≡ Some p → c < cells (atoms before))
-    → cond t (Some (length before)) (place_of (primes c) before) ≡ Some p → c < cells (atoms (e ∷ before))
+primed_step : (rules : Rules) (e : Event) (before : List Event) (c : ℕ) (p : Placed) → IsReplied rules (atoms before) e.made → (t : Bool) → primes c e.made ≡ t → (last_of (primes c) before ≡ Some p → c < cells (atoms before))
+    → cond t (Some (newest before e)) (last_of (primes c) before) ≡ Some p → c < cells (atoms (e ∷ before))
 primed_step rules e before c p replied true now low is = (made_primes rules (atoms before) e.made c replied now).1
 primed_step rules e before c p replied false other low is =
     let below : c < cells (atoms before) = low is in
     let more = made-le e.made (atoms before) in
     omega arith
 
-primed-low : (rules : Rules) (log : List Event) (c p : ℕ) → IsLegalLog rules log → place_of (primes c) log ≡ Some p → c < cells (atoms log)
-primed-low rules [] c p legal e = absurd (let bad : ◌≡◌ {A = Option ℕ} None (Some p) = e in cc)
+primed-low : (rules : Rules) (log : List Event) (c : ℕ) (p : Placed) → IsLegalLog rules log → last_of (primes c) log ≡ Some p → c < cells (atoms log)
+primed-low rules [] c p legal e = absurd (let bad : ◌≡◌ {A = Option Placed} None (Some p) = e in cc)
 primed-low rules (e ∷ before) c p legal is = primed_step rules e before c p legal.0 (primes c e.made) refl (primed-low rules before c p legal.1) is
 
-ended_low : (rules : Rules) (log : List Event) (c p : ℕ) → IsLegalLog rules log → (prime : Option ℕ) → place_of (primes c) log ≡ prime → (batch : Option ℕ) → cell_batch (atoms log) c ≡ batch → option_or prime (option_and_then (λ b. place_of (ends b) log) batch) ≡ Some p → c < cells (atoms log)
+ended_low : (rules : Rules) (log : List Event) (c : ℕ) (p : Placed) → IsLegalLog rules log → (prime : Option Placed) → last_of (primes c) log ≡ prime → (batch : Option ℕ) → cell_batch (atoms log) c ≡ batch → option_or prime (option_and_then (λ b. last_of (ends b) log) batch) ≡ Some p → c < cells (atoms log)
 ended_low rules log c p legal (Some q) prime batch is e = primed-low rules log c q legal prime
 ended_low rules log c p legal None prime (Some b) is e = cell_batch-low rules (atoms log) c b (atoms_legal rules log legal) is
-ended_low rules log c p legal None prime None is e = absurd (let bad : ◌≡◌ {A = Option ℕ} None (Some p) = e in cc)
+ended_low rules log c p legal None prime None is e = absurd (let bad : ◌≡◌ {A = Option Placed} None (Some p) = e in cc)
 
-ended-low : (rules : Rules) (log : List Event) (c p : ℕ) → IsLegalLog rules log → ended log c ≡ Some p → c < cells (atoms log)
-ended-low rules log c p legal e = ended_low rules log c p legal (place_of (primes c) log) refl (cell_batch (atoms log) c) refl e
+ended-low : (rules : Rules) (log : List Event) (c : ℕ) (p : Placed) → IsLegalLog rules log → ending log c ≡ Some p → c < cells (atoms log)
+ended-low rules log c p legal e = ended_low rules log c p legal (last_of (primes c) log) refl (cell_batch (atoms log) c) refl e
 
 -- ---- a batch ends once
 
@@ -142,11 +143,11 @@ made_unended (One a) history b none = atom_unended a history b none
 made_unended (Many ks rs) history b none = (refl, sym (loads_unended ks rs history b) ∙ none)
 
 -- where no atom ends the batch, no event does
-place-unended : (log : List Event) (b : ℕ) → end_of (atoms log) b ≡ None → place_of (ends b) log ≡ None
-place-unended [] b none = refl
-place-unended (e ∷ before) b none =
+last-unended : (log : List Event) (b : ℕ) → end_of (atoms log) b ≡ None → last_of (ends b) log ≡ None
+last-unended [] b none = refl
+last-unended (e ∷ before) b none =
     let parts = made_unended e.made (atoms before) b none in
-    rw parts.0 (place-unended before b parts.1)
+    rw parts.0 (last-unended before b parts.1)
 
 atom_may_end : (rules : Rules) (history : List Atom) (a : Atom) (b : ℕ) → IsAnswered rules history a → ends_batch b a ≡ true → end_of history b ≡ None
 atom_may_end rules history (Load k r) b answered e = absurd (let bad : false ≡ true = e in cc)
@@ -162,39 +163,47 @@ made_may_end rules history (One a) b replied e = atom_may_end rules history a b 
 made_may_end rules history (Many ks rs) b replied e = absurd (let bad : false ≡ true = e in cc)
 
 -- a batch that was ended isn't ended again
-end_stays : (rules : Rules) (e : Event) (before : List Event) (b p : ℕ) → IsReplied rules (atoms before) e.made → place_of (ends b) before ≡ Some p → place_of (ends b) (e ∷ before) ≡ Some p
+end_stays : (rules : Rules) (e : Event) (before : List Event) (b : ℕ) (p : Placed) → IsReplied rules (atoms before) e.made → last_of (ends b) before ≡ Some p → last_of (ends b) (e ∷ before) ≡ Some p
 end_stays rules e before b p replied is = by (ends b e.made) refl
   where
-    by : (t : Bool) → ends b e.made ≡ t → cond t (Some (length before)) (place_of (ends b) before) ≡ Some p
+    by : (t : Bool) → ends b e.made ≡ t → cond t (Some (newest before e)) (last_of (ends b) before) ≡ Some p
     by true now =
-        let none : place_of (ends b) before ≡ None = place-unended before b (made_may_end rules (atoms before) e.made b replied now) in
-        let both : ◌≡◌ {A = Option ℕ} None (Some p) = sym none ∙ is in
+        let none : last_of (ends b) before ≡ None = last-unended before b (made_may_end rules (atoms before) e.made b replied now) in
+        let both : ◌≡◌ {A = Option Placed} None (Some p) = sym none ∙ is in
         absurd (cc)
     by false other = is
 
 -- ---- one more event
 
-primes_stay : (rules : Rules) (e : Event) (before : List Event) (c : ℕ) → IsReplied rules (atoms before) e.made → c < cells (atoms before) → place_of (primes c) (e ∷ before) ≡ place_of (primes c) before
+primes_stay : (rules : Rules) (e : Event) (before : List Event) (c : ℕ) → IsReplied rules (atoms before) e.made → c < cells (atoms before) → last_of (primes c) (e ∷ before) ≡ last_of (primes c) before
 primes_stay rules e before c replied low = by (primes c e.made) refl
   where
-    by : (t : Bool) → primes c e.made ≡ t → cond t (Some (length before)) (place_of (primes c) before) ≡ place_of (primes c) before
+    by : (t : Bool) → primes c e.made ≡ t → cond t (Some (newest before e)) (last_of (primes c) before) ≡ last_of (primes c) before
     by true now = let next = (made_primes rules (atoms before) e.made c replied now).0 in absurd (omega arith)
     by false other = refl
 
-end_step : (rules : Rules) (e : Event) (before : List Event) (p : ℕ) → IsReplied rules (atoms before) e.made → (prime batch : Option ℕ)
-    → option_or prime (option_and_then (λ b. place_of (ends b) before) batch) ≡ Some p → option_or prime (option_and_then (λ b. place_of (ends b) (e ∷ before)) batch) ≡ Some p
+end_step : (rules : Rules) (e : Event) (before : List Event) (p : Placed) → IsReplied rules (atoms before) e.made → (prime : Option Placed) (batch : Option ℕ)
+    → option_or prime (option_and_then (λ b. last_of (ends b) before) batch) ≡ Some p → option_or prime (option_and_then (λ b. last_of (ends b) (e ∷ before)) batch) ≡ Some p
 end_step rules e before p replied (Some q) batch is = is
 end_step rules e before p replied None None is = is
 end_step rules e before p replied None (Some b) is = end_stays rules e before b p replied is
 
-ended_step : (rules : Rules) (e : Event) (before : List Event) (c p : ℕ) → IsLegalLog rules (e ∷ before) → ended before c ≡ Some p → ended (e ∷ before) c ≡ Some p
-ended_step rules e before c p legal is =
+ending_step : (rules : Rules) (e : Event) (before : List Event) (c : ℕ) (p : Placed) → IsLegalLog rules (e ∷ before) → ending before c ≡ Some p → ending (e ∷ before) c ≡ Some p
+ending_step rules e before c p legal is =
     let low = ended-low rules before c p legal.1 is in
     let prime = primes_stay rules e before c legal.0 low in
     let batch = made_kept rules (atoms before) e.made c legal.0 low in
-    let stays = end_step rules e before p legal.0 (place_of (primes c) before) (cell_batch (atoms before) c) is in
+    let stays = end_step rules e before p legal.0 (last_of (primes c) before) (cell_batch (atoms before) c) is in
     rw (prime, batch) stays
 
+-- the event that ended a cell stays the same
+pub ending_stays : (rules : Rules) (later before : List Event) (c : ℕ) (p : Placed) → IsLegalLog rules (later ++ before) → ending before c ≡ Some p → ending (later ++ before) c ≡ Some p
+ending_stays rules [] before c p legal is = is
+ending_stays rules (e ∷ later) before c p legal is = ending_step rules e (later ++ before) c p legal (ending_stays rules later before c p legal.1 is)
+
+place_stays : (rules : Rules) (later before : List Event) (c place : ℕ) → IsLegalLog rules (later ++ before) → (o : Option Placed) → ending before c ≡ o → option_map (λ (p : Placed). p.place) o ≡ Some place → ended (later ++ before) c ≡ Some place
+place_stays rules later before c place legal None is e = absurd (let bad : ◌≡◌ {A = Option ℕ} None (Some place) = e in cc)
+place_stays rules later before c place legal (Some p) is e = ap (option_map (λ (q : Placed). q.place)) (ending_stays rules later before c p legal is) ∙ e
+
 pub ends_stay : EndsStay
-ends_stay rules [] before c p legal is = is
-ends_stay rules (e ∷ later) before c p legal is = ended_step rules e (later ++ before) c p legal (ends_stay rules later before c p legal.1 is)
+ends_stay rules later before c place legal is = place_stays rules later before c place legal (ending before c) refl is

@@ -1,14 +1,14 @@
 -- Two fresh loads of a key are apart.
-use Rattle.std.proofs.Common.{◌≡◌, ◌∙◌, sym, ap, subst, ℕ, Bool, true, false, ◌||◌, cond, List, [], ◌∷◌, ◌++◌, Option, Some, None, refl}
+use Rattle.std.proofs.Common.{◌≡◌, ◌∙◌, sym, ap, ℕ, Bool, true, false, cond, List, [], ◌∷◌, ◌++◌, Option, Some, None, refl}
 use Rattle.std.specs.List.{list_any}
 use Rattle.std.proofs.lemmas.Bool.{or_parts}
 use Rattle.dl_desk.specs.Key.{Key, key_eq}
 use Rattle.dl_desk.specs.Limits.{Rules}
 use Rattle.dl_desk.specs.Laws.{FreshLoadsAreApart}
-use Rattle.dl_desk.specs.History.{Atom, Load, Begun, begins, Latest, later, latest, latest_at, forgets, cell_kept, held, load_reply_at, IsAnswered, IsLegal}
-use Rattle.dl_desk.specs.declared.reply.LoadReply.TheVariants.{Hit, Fresh}
+use Rattle.dl_desk.specs.History.{Atom, Load, Begun, begins, Latest, later, latest, latest_at, forgets, held, IsAnswered, IsLegal}
+use Rattle.dl_desk.specs.declared.reply.LoadReply.TheVariants.{Fresh}
 use Rattle.dl_desk.proofs.KeyLemmas.{key_eq-refl, key_eq-same}
-use Rattle.dl_desk.proofs.Facts.{IsFresh, fresh_cell}
+use Rattle.dl_desk.proofs.Facts.{fresh_cell}
 use Rattle.dl_desk.proofs.LawFacts.{legal_before}
 
 -- the fresh load of the key, and the atoms after it
@@ -51,6 +51,7 @@ fresh_loads_are_apart rules key cell batch later_cell later_batch later between 
   where
     history : List Atom
     history = between ++ Load key (Fresh cell batch) ∷ before
+
     by : (t : Bool) → list_any (forgets key (Some batch)) between ≡ t → t ≡ true
     by true none = refl
     by false none =

@@ -1,5 +1,5 @@
 -- Events: the calls of several callers, each with its reply, and which of them ended a cell.
-use Rattle.std.specs.Prelude.{◌≡◌, ℕ, Bool, false, ◌&&◌, List, [], ◌∷◌, length, Option, Some, None, is_none, if◌then◌else◌, nat_eq}
+use Rattle.std.specs.Prelude.{◌≡◌, ℕ, Bool, false, ◌&&◌, List, [], ◌∷◌, length, Option, Some, None, option_map, is_none, if◌then◌else◌, nat_eq}
 use Rattle.std.specs.Option.{option_or, option_and_then}
 use Rattle.dl_desk.specs.Key.{Key}
 use Rattle.dl_desk.specs.Limits.{Rules}
@@ -49,10 +49,18 @@ IsLegalLog rules (e ∷ before) = IsReplied rules (atoms before) e.made × IsLeg
 
 -- ---- the end of a cell
 
--- the place of the newest event whose call passes the test
-abbrev pub place_of : (Made → Bool) → List Event → Option ℕ
-place_of test [] = None
-place_of test (e ∷ before) = if test e.made then Some (length before) else place_of test before
+-- an event of a log, and its place there
+pub record Placed : Type 0 where
+  pub place : ℕ
+  pub event : Event
+
+abbrev pub newest : List Event → Event → Placed
+newest before e = record { place = length before; event = e }
+
+-- the newest event whose call passes the test
+abbrev pub last_of : (Made → Bool) → List Event → Option Placed
+last_of test [] = None
+last_of test (e ∷ before) = if test e.made then Some (newest before e) else last_of test before
 
 abbrev pub is_primed : ℕ → Option Begun → Bool
 is_primed c None = false
@@ -86,7 +94,10 @@ abbrev pub cell_batch : List Atom → ℕ → Option ℕ
 cell_batch [] c = None
 cell_batch (a ∷ before) c = batch_at c (begins a) (cell_batch before c)
 
--- The place of the event that ended the cell: the prime that began it, or the settle or fail of its
--- batch.
+-- the event that ended the cell: the prime that began it, or the settle or fail of its batch
+abbrev pub ending : List Event → ℕ → Option Placed
+ending log c = option_or (last_of (primes c) log) (option_and_then (λ b. last_of (ends b) log) (cell_batch (atoms log) c))
+
+-- the place of that event
 abbrev pub ended : List Event → ℕ → Option ℕ
-ended log c = option_or (place_of (primes c) log) (option_and_then (λ b. place_of (ends b) log) (cell_batch (atoms log) c))
+ended log c = option_map (λ p. p.place) (ending log c)
