@@ -1,5 +1,5 @@
 -- The last atom of a key, one atom on.
-use Rattle.std.proofs.Common.{◌≡◌, ℕ, ◌+◌, ◌<◌, ◌≤◌, List, [], ◌∷◌, ◌++◌, Option, Some, None, option_map, IfSome, length, get_or, take, drop, refl, ap, sym, ◌∙◌, arith}
+use Rattle.std.proofs.Common.{◌≡◌, ℕ, ◌+◌, ◌<◌, ◌≤◌, List, [], ◌∷◌, Option, Some, None, option_map, IfSome, length, get_or, take, drop, refl, ap, sym, ◌∙◌, arith}
 use Rattle.std.proofs.lemmas.List.{take_more, drop-append-le, drop_all, length-take-le}
 use Rattle.dl_desk.specs.History as desk
 use Rattle.dl_rows.specs.declared.slow.atom.Atom.{Atom}

@@ -1,5 +1,5 @@
 -- The last atom that began a cell for a key.
-use Rattle.std.specs.Prelude.{ℕ, ◌+◌, List, drop}
+use Rattle.std.specs.Prelude.{◌+◌, List, drop}
 use Rattle.dl_desk.specs.History as desk
 use Rattle.dl_rows.specs.Slow.{history_of}
 use Rattle.dl_rows.specs.declared.slow.atom.Atom.{Atom}

@@ -1,5 +1,5 @@
 -- The rules of a loader, as the definitions have them.
-use Rattle.std.specs.Prelude.{ℕ, List, Option, option_map}
+use Rattle.std.specs.Prelude.{option_map}
 use Rattle.dl_desk.specs.Limits as desk
 use Rattle.dl_rows.specs.declared.slow.replies.Rules.{Rules}
 

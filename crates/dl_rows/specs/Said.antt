@@ -1,5 +1,5 @@
 -- What a call replies, and the history that it leaves, by the definitions.
-use Rattle.std.specs.Prelude.{ℕ, List, [], ◌∷◌, Option, Some, None}
+use Rattle.std.specs.Prelude.{List, [], ◌∷◌, Option, Some, None}
 use Rattle.dl_desk.specs.Limits.{Rules}
 use Rattle.dl_desk.specs.History.{Atom, load_reply, prime_reply, jobs, load_replies}
 use Rattle.dl_desk.specs.Calls.{DeskCall, Loads, Primes, Clears, ClearsAll, Sends, Settles, Fails, refusal, after}

@@ -5,6 +5,7 @@
 mod atom;
 mod calls;
 mod counts;
+#[cfg(test)]
 mod lines;
 mod memo;
 mod replies;
@@ -12,6 +13,7 @@ mod replies;
 pub use atom::Atom;
 pub use calls::{Call, Reply, refusal, reply_to};
 pub use counts::{begun, cells, end_of, members, sent};
+#[cfg(test)]
 pub use lines::lines_of;
 pub use memo::held;
 pub use replies::{Rules, jobs, load_reply, prime_reply, room};

@@ -3,7 +3,7 @@
 ghost use Rattle.std.specs.Prelude.{◌≡◌, ◌∷◌, IfOk, OnOk};
 ghost use Rattle.std.specs.List.{list_any};
 ghost use Rattle.dl_desk.specs.Key.{key_eq};
-ghost use Rattle.dl_desk.specs.History.{loaded, load_replies};
+ghost use Rattle.dl_desk.specs.History.{IsLegal, loaded, load_replies};
 ghost use Rattle.dl_desk.specs.Calls as desk;
 ghost use Rattle.dl_rows.specs.Slow.{told, history_of};
 ghost use Rattle.dl_rows.specs.Rules.{rules_of};
@@ -188,8 +188,8 @@ fn accept(
     }
 }
 
-/// The reply to a call, which is added to the history unless it is refused. After want of memory the
-/// history is of no use.
+/// The reply to a call, which is added to the history unless it is refused. A legal history stays
+/// legal. After want of memory the history is of no use.
 pub fn reply_to(
     alloc: Global,
     rules: &Rules,
@@ -198,6 +198,7 @@ pub fn reply_to(
 ) -> Result<Reply, AllocError>
     ensures reply { IfOk result (λ r. said r ≡ reply_at (rules_of rules.now) (history_of history.old.items) call.now) }
     ensures history { OnOk result (history_of history.new.items ≡ left (rules_of rules.now) (history_of history.old.items) call.now) }
+    ensures legal { OnOk result (IsLegal (rules_of rules.now) (history_of history.old.items) → IsLegal (rules_of rules.now) (history_of history.new.items)) }
 {
     match refusal(rules, history.as_slice(), call) {
         Some(fault) => Ok(Reply::Refused(fault)),

@@ -1,4 +1,3 @@
-use Rattle.std.proofs.Common.{◌≡◌}
 use Rattle.dl_rows.proofs.Told.{history_of-push}
 use Rattle.dl_rows.proofs.slow.calls.add.Goals as goal
 

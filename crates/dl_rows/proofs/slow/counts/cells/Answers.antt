@@ -1,8 +1,5 @@
-use Rattle.std.proofs.Common.{◌≡◌, ℕ, ◌+◌, ◌∷◌, ◌≤◌, List, take, arith, rules}
-use Rattle.std.proofs.lemmas.Grind.{common_steps}
-use Rattle.dl_desk.specs.History as desk
-use Rattle.dl_rows.specs.Slow.{told, history_of}
-use Rattle.dl_rows.proofs.Told.{history_more, none_begins, none_named, sent_other}
+use Rattle.std.proofs.Common.{arith}
+use Rattle.dl_rows.proofs.Told.{history_more, none_begins}
 use Rattle.dl_rows.proofs.slow.counts.cells.Goals as goal
 use Rattle.dl_rows.proofs.slow.counts.cells.Goals.{in-Some, in_default}
 

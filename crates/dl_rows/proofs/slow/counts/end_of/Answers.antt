@@ -1,8 +1,4 @@
-use Rattle.std.proofs.Common.{◌≡◌, ℕ, ◌+◌, ◌∷◌, ◌≤◌, ◌<◌, List, take, arith, rules, refl, sym, ◌∙◌, ap}
-use Rattle.std.proofs.lemmas.Grind.{common_steps}
-use Rattle.dl_desk.specs.History as desk
-use Rattle.dl_rows.specs.Slow.{told, history_of}
-use Rattle.dl_rows.proofs.Told.{history_more, none_begins, none_named, sent_other, end_of-cons}
+use Rattle.dl_rows.proofs.Told.{history_more, end_of-cons}
 use Rattle.dl_rows.proofs.slow.counts.end_of.Goals as goal
 
 pub loop-atom-preserved : goal.loop-atom-preserved

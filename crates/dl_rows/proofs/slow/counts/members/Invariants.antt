@@ -1,4 +1,4 @@
-use Rattle.std.proofs.Common.{◌≡◌, ◌≤◌, take}
+use Rattle.std.proofs.Common.{◌≡◌, take}
 use Rattle.dl_desk.specs.History as desk
 use Rattle.dl_rows.specs.Slow.{history_of}
 use Rattle.dl_rows.proofs.slow.counts.members.Given as goal

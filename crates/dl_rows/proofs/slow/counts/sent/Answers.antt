@@ -1,8 +1,4 @@
-use Rattle.std.proofs.Common.{◌≡◌, ℕ, ◌+◌, ◌∷◌, ◌≤◌, List, take, arith, rules}
-use Rattle.std.proofs.lemmas.Grind.{common_steps}
-use Rattle.dl_desk.specs.History as desk
-use Rattle.dl_rows.specs.Slow.{told, history_of}
-use Rattle.dl_rows.proofs.Told.{history_more, none_begins, none_named, sent_other}
+use Rattle.dl_rows.proofs.Told.{history_more, sent_other}
 use Rattle.dl_rows.proofs.slow.counts.sent.Goals as goal
 use Rattle.dl_rows.proofs.slow.counts.sent.Goals.{in-Dispatch, in_default}
 

@@ -1,7 +1,4 @@
-use Rattle.std.proofs.Common.{◌≡◌, ℕ, ◌+◌, ◌∷◌, ◌≤◌, ◌<◌, List, take, arith, rules, refl, sym, ◌∙◌, ap}
-use Rattle.std.proofs.lemmas.Grind.{common_steps}
-use Rattle.dl_desk.specs.History as desk
-use Rattle.dl_rows.specs.Slow.{told, history_of}
+use Rattle.std.proofs.Common.{arith, refl}
 use Rattle.dl_rows.proofs.Told.{history_more, none_begins}
 use Rattle.dl_rows.proofs.Latests.{latest_kept, latest_new, low_kept}
 use Rattle.dl_rows.proofs.slow.memo.find_latest.Goals as goal

@@ -1,7 +1,4 @@
-use Rattle.std.proofs.Common.{◌≡◌, ◌+◌, ◌-◌, ◌≤◌, List, ℕ, Option, None, Some, take, drop, map, unwrap_or}
-use Rattle.dl_desk.specs.History as desk
-use Rattle.dl_rows.specs.Slow.{history_of}
-use Rattle.dl_rows.specs.Rules.{rules_of}
+use Rattle.std.proofs.Common.{◌≡◌, take, map}
 use Rattle.dl_rows.proofs.slow.replies.job.Given as goal
 
 abbrev pub invariant-loop-key : goal.invariant-loop-key

@@ -1,4 +1,4 @@
-use Rattle.std.proofs.Common.{◌≡◌, ◌+◌, ◌-◌, ◌≤◌, List, ℕ, Option, None, Some, take, drop, map, unwrap_or}
+use Rattle.std.proofs.Common.{◌≡◌}
 use Rattle.dl_desk.specs.History as desk
 use Rattle.dl_rows.specs.Slow.{history_of}
 use Rattle.dl_rows.specs.Rules.{rules_of}
