@@ -15,3 +15,7 @@ pub mod Loads
 pub mod EndLemmas
 pub mod Shown
 pub mod Ended
+pub mod LawFacts
+pub mod LawFresh
+pub mod LawBatches
+pub mod LawEnds

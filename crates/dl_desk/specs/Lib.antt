@@ -9,3 +9,5 @@ pub mod Book
 pub mod Prepared
 pub mod Marks
 pub mod Ready
+pub mod Events
+pub mod Laws

@@ -8,6 +8,7 @@ mod batch;
 mod desk;
 mod fault;
 mod key;
+pub mod laws;
 mod limits;
 mod ready;
 mod reply;

@@ -1,7 +1,12 @@
 //! Tests of what crosses crates, and worked rows of calls: one file for each crate that it exercises.
+//! The plain slow program, which reviews the definitions of histories, stands here too.
 #![tactic(auto)]
+
+pub mod slow;
 
 #[cfg(test)]
 mod cells;
 #[cfg(test)]
 mod desk;
+#[cfg(test)]
+mod slow_rows;

@@ -1,0 +1,39 @@
+-- What holds of every legal history, whatever its calls.
+use Rattle.std.specs.Prelude.{◌≡◌, ◌≢◌, ℕ, ◌≤◌, true, List, ◌∷◌, ◌++◌, length, Option, Some, None, All, AllPairs}
+use Rattle.std.specs.List.{list_any}
+use Rattle.dl_desk.specs.Key.{Key}
+use Rattle.dl_desk.specs.Limits.{Rules, limit_of}
+use Rattle.dl_desk.specs.History.{Atom, Load, IsLegal, members, forgets}
+use Rattle.dl_desk.specs.Events.{Event, IsLegalLog, ended}
+use Rattle.dl_desk.specs.declared.reply.LoadReply.TheVariants.{Fresh}
+
+-- Between two fresh loads of one key something forgets the key: a clear of it, a clear of all, or the
+-- failure of the first one's batch. So a key is fetched once between clears, unless its whole batch
+-- failed (DataLoader: the memo).
+abbrev pub FreshLoadsAreApart : Type 0
+FreshLoadsAreApart = (rules : Rules) (key : Key) (cell batch later_cell later_batch : ℕ) (later between before : List Atom)
+    → IsLegal rules (later ++ Load key (Fresh later_cell later_batch) ∷ (between ++ Load key (Fresh cell batch) ∷ before))
+    → list_any (forgets key (Some batch)) between ≡ true
+
+-- each batch may have a member
+pub record HaveLimits (rules : Rules) : Type 0 where
+  pub least : (table : List ℕ) → 1 ≤ limit_of rules table
+
+-- where tables have limits of their own, the members are of one table
+abbrev pub AreOfOneTable : Option (List (List ℕ × ℕ)) → List (Key × ℕ) → Type 0
+AreOfOneTable None ms = Unit {0}
+AreOfOneTable (Some tables) ms = AllPairs (λ m n. m.0.table ≡ n.0.table) ms
+
+-- the members of a batch as the rules allow it (DataLoader: maxBatchSize)
+pub record IsBatch (rules : Rules) (ms : List (Key × ℕ)) : Type 0 where
+  pub distinct : AllPairs (λ m n. m.0 ≢ n.0) ms
+  pub within : All (λ m. length ms ≤ limit_of rules m.0.table) ms
+  pub tables : AreOfOneTable rules.tables ms
+
+-- a batch has distinct keys, no more than its limit, and of one table where tables have limits
+abbrev pub BatchesAreWithinLimits : Type 0
+BatchesAreWithinLimits = (rules : Rules) → HaveLimits rules → (history : List Atom) → IsLegal rules history → (batch : ℕ) → IsBatch rules (members history batch)
+
+-- a cell that was ended keeps the place of its end in every longer log
+abbrev pub EndsStay : Type 0
+EndsStay = (rules : Rules) (later before : List Event) (cell place : ℕ) → IsLegalLog rules (later ++ before) → ended before cell ≡ Some place → ended (later ++ before) cell ≡ Some place

@@ -1,0 +1,21 @@
+//! Laws of the definitions, for every legal history. Each function does nothing: its contract is the
+//! law.
+
+ghost use Rattle.dl_desk.specs.Laws.{FreshLoadsAreApart, BatchesAreWithinLimits, EndsStay};
+
+/// Between two fresh loads of one key something forgets the key: a clear of it, a clear of all, or the
+/// failure of the first one's batch.
+pub fn fresh_loads_are_apart()
+    ensures { FreshLoadsAreApart }
+{}
+
+/// The members of a batch have distinct keys, are no more than its limit and, where tables have limits
+/// of their own, are of one table.
+pub fn batches_are_within_limits()
+    ensures { BatchesAreWithinLimits }
+{}
+
+/// A cell that was ended keeps the place of its end, whatever is called after.
+pub fn ends_stay()
+    ensures { EndsStay }
+{}

@@ -1,0 +1,38 @@
+-- The history that a call leaves is legal.
+use Rattle.std.proofs.Common.{◌≡◌, refl, sym, subst, ℕ, Bool, true, false, cond, List, [], ◌∷◌, Option, Some, None, is_some, nat_le, arith}
+use Rattle.std.proofs.lemmas.Bool.Decides.{nat_tests}
+use Rattle.dl_desk.specs.Key.{Key}
+use Rattle.dl_desk.specs.Limits.{Rules}
+use Rattle.dl_desk.specs.History.{Atom, Load, begun, sent, end_of, MayEnd, load_reply, IsLegal, loaded}
+use Rattle.dl_desk.specs.Calls.{DeskCall, Loads, Primes, Clears, ClearsAll, Sends, Settles, Fails, unfit, refusal, after}
+use Rattle.dl_desk.specs.declared.reply.End.{End}
+use Rattle.dl_desk.specs.declared.fault.DeskFault.{DeskFault}
+use Rattle.dl_desk.specs.declared.fault.DeskFault.TheVariants.{NoBatch, NotSent, SettledBefore}
+
+loaded_legal : (rules : Rules) (history : List Atom) (ks : List Key) → IsLegal rules history → IsLegal rules (loaded rules history ks)
+loaded_legal rules history [] legal = legal
+loaded_legal rules history (k ∷ ks) legal = loaded_legal rules (Load k (load_reply rules history k) ∷ history) ks (refl, legal)
+
+-- an end that isn't refused is one that may be
+may_end : (history : List Atom) (b : ℕ) → unfit history b ≡ None → MayEnd history b
+may_end history b fit = by (nat_le (begun history) b) (nat_le (sent history) b) refl (end_of history b) refl fit
+  where
+    by : (none unsent : Bool) → nat_le (sent history) b ≡ unsent → (end : Option End) → end_of history b ≡ end
+        → cond none (Some NoBatch) (cond unsent (Some NotSent) (cond (is_some end) (Some SettledBefore) None)) ≡ None → MayEnd history b
+    by true unsent low end is e = absurd (let bad : ◌≡◌ {A = Option DeskFault} (Some NoBatch) None = e in cc)
+    by false true low end is e = absurd (let bad : ◌≡◌ {A = Option DeskFault} (Some NotSent) None = e in cc)
+    by false false low (Some x) is e = absurd (let bad : ◌≡◌ {A = Option DeskFault} (Some SettledBefore) None = e in cc)
+    by false false low None is e = record { is_sent = grind (arith, nat_tests); no_end = is }
+
+after_legal : (rules : Rules) (history : List Atom) (call : DeskCall) → refusal rules history call ≡ None → IsLegal rules history → IsLegal rules (after rules history call)
+after_legal rules history (Loads ks) fit legal = loaded_legal rules history ks legal
+after_legal rules history (Primes k) fit legal = (refl, legal)
+after_legal rules history (Clears k) fit legal = (tt, legal)
+after_legal rules history ClearsAll fit legal = (tt, legal)
+after_legal rules history Sends fit legal = (refl, legal)
+after_legal rules history (Settles b) fit legal = (may_end history b fit, legal)
+after_legal rules history (Fails b) fit legal = (may_end history b fit, legal)
+
+-- the history that an accepted call leaves
+pub legal_after : (rules : Rules) (history : List Atom) (call : DeskCall) → refusal rules history call ≡ None → (longer : List Atom) → longer ≡ after rules history call → IsLegal rules history → IsLegal rules longer
+legal_after rules history call fit longer is legal = subst (IsLegal rules) (sym is) (after_legal rules history call fit legal)

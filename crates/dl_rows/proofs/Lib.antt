@@ -1,0 +1,3 @@
+pub mod Told
+pub mod Latests
+pub mod LeftLegal
