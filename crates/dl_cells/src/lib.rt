@@ -6,7 +6,7 @@
 //!
 //! `show` takes a reader because only a reader can say what came of it: that the cell now holds the
 //! value that was passed, or which value it held before.
-#![tactic(auto, unfolding(crate::specs::Cells::cell_of, crate::specs::Cells::row_len))]
+#![tactic(auto)]
 
 mod reader;
 mod row;

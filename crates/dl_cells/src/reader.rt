@@ -1,4 +1,6 @@
 //! What one holder knows of one cell.
+#![tactic(auto, unfolding(crate::specs::Cells::cell_of, crate::specs::Cells::row_len))]
+
 ghost use Rattle.std.specs.Prelude.{◌≡◌, IfSome};
 ghost use Rattle.dl_cells.specs.Cells.{Agrees};
 

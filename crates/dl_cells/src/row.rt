@@ -1,4 +1,6 @@
 //! A row of cells, and its calls.
+#![tactic(auto, unfolding(crate::specs::Cells::cell_of, crate::specs::Cells::row_len))]
+
 ghost use Rattle.std.specs.Prelude.{◌≡◌, ◌<◌, ◌/◌, ◌%◌, IfErr, IfNone, IfOk, IfSome, OnOk};
 ghost use Rattle.std.specs.declared.option.Option.TheVariants.{None, Some};
 ghost use Rattle.once_cell.specs.Once.{cell_name};
