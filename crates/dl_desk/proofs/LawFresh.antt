@@ -46,18 +46,16 @@ still rules key cell batch (a ∷ between) before legal none =
 fresh_unheld : (rules : Rules) (history : List Atom) (key : Key) (cell batch : ℕ) → IsAnswered rules history (Load key (Fresh cell batch)) → held history key ≡ None
 fresh_unheld rules history key cell batch answered = (fresh_cell rules history (Load key (Fresh cell batch)) (record { key = key; cell = cell; batch = Some batch }) answered refl).not_held
 
-pub fresh_loads_are_apart : FreshLoadsAreApart
-fresh_loads_are_apart rules key cell batch later_cell later_batch later between before legal = by (list_any (forgets key (Some batch)) between) refl
-  where
-    history : List Atom
-    history = between ++ Load key (Fresh cell batch) ∷ before
+-- so a later fresh load finds that something forgot it
+apart : (rules : Rules) (key : Key) (cell batch later_cell later_batch : ℕ) (between before : List Atom) → IsLegal rules (Load key (Fresh later_cell later_batch) ∷ (between ++ Load key (Fresh cell batch) ∷ before)) → (t : Bool) → list_any (forgets key (Some batch)) between ≡ t → t ≡ true
+apart rules key cell batch later_cell later_batch between before legal true none = refl
+apart rules key cell batch later_cell later_batch between before legal false none =
+    let history = between ++ Load key (Fresh cell batch) ∷ before in
+    let holds = held_since key cell batch between history (still rules key cell batch between before legal.1 none) none in
+    let both : ◌≡◌ {A = Option ℕ} None (Some cell) = sym (fresh_unheld rules history key later_cell later_batch legal.0) ∙ holds in
+    absurd (cc)
 
-    by : (t : Bool) → list_any (forgets key (Some batch)) between ≡ t → t ≡ true
-    by true none = refl
-    by false none =
-        let part = legal_before rules later (Load key (Fresh later_cell later_batch) ∷ (between ++ Load key (Fresh cell batch) ∷ before)) legal in
-        let at = still rules key cell batch between before part.1 none in
-        let holds = held_since key cell batch between (between ++ Load key (Fresh cell batch) ∷ before) at none in
-        let unheld = fresh_unheld rules (between ++ Load key (Fresh cell batch) ∷ before) key later_cell later_batch part.0 in
-        let both : ◌≡◌ {A = Option ℕ} None (Some cell) = sym unheld ∙ holds in
-        absurd (cc)
+pub fresh_loads_are_apart : FreshLoadsAreApart
+fresh_loads_are_apart rules key cell batch later_cell later_batch later between before legal =
+    let part = legal_before rules later (Load key (Fresh later_cell later_batch) ∷ (between ++ Load key (Fresh cell batch) ∷ before)) legal in
+    apart rules key cell batch later_cell later_batch between before part (list_any (forgets key (Some batch)) between) refl

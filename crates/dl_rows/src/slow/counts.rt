@@ -12,13 +12,13 @@ use std::alloc::{AllocError, Global};
 pub fn cells(history: &[Atom]) -> usize
     ensures { result ≡ desk.cells (history_of history.now) }
 {
-    let mut count = 0;
+    let mut total = 0;
     for atom in history {
         if let Some(_) = atom.begins() {
-            count += 1;
+            total += 1;
         }
     }
-    count
+    total
 }
 
 /// The keys and cells of the fresh loads that name a batch, in their order.

@@ -4,4 +4,4 @@ use Rattle.dl_rows.specs.Slow.{history_of}
 use Rattle.dl_rows.proofs.slow.counts.cells.Given as goal
 
 abbrev pub invariant-loop-atom : goal.invariant-loop-atom
-invariant-loop-atom l = record { few : l.count ≤ l.atom-index; is : l.count ≡ desk.cells (history_of (take l.atom-index l.history)) }
+invariant-loop-atom l = record { few : l.total ≤ l.atom-index; is : l.total ≡ desk.cells (history_of (take l.atom-index l.history)) }
