@@ -5,13 +5,19 @@
 #![tactic(auto)]
 
 mod fault;
+mod json;
 mod key;
 mod limits;
+mod message;
+mod outcome;
 mod reply;
 mod text;
 
 pub use fault::{DeskFault, KeyFault, LimitFault};
+pub use json::{Json, has_float};
 pub use key::{FetchKey, ID_BYTES, Keys, TABLE_BYTES};
 pub use limits::{LARGEST_LIMIT, Limits};
+pub use message::Message;
+pub use outcome::{BatchFault, Outcome};
 pub use reply::{Job, LoadReply};
 pub use text::Text;
