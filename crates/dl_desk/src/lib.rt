@@ -18,6 +18,6 @@ pub use json::{Json, has_float};
 pub use key::{FetchKey, ID_BYTES, Keys, TABLE_BYTES};
 pub use limits::{LARGEST_LIMIT, Limits};
 pub use message::Message;
-pub use outcome::{BatchFault, Outcome};
+pub use outcome::{BatchFault, Outcome, Outcomes};
 pub use reply::{Job, LoadReply};
 pub use text::Text;

@@ -5,6 +5,7 @@ ghost use Rattle.std.specs.Prelude.{◌≡◌, IfOk};
 use crate::json::Json;
 use crate::message::Message;
 use std::alloc::AllocError;
+use std::marker::Model;
 
 /// What a key's load ends with.
 #[derive(Debug, Drop)]
@@ -51,5 +52,48 @@ impl BatchFault {
             BatchFault::Memory => Ok(BatchFault::Memory),
             BatchFault::Unsent => Ok(BatchFault::Unsent),
         }
+    }
+}
+
+/// Outcomes in the order of their keys. Contracts see the list.
+#[derive(Debug, Drop)]
+pub struct Outcomes {
+    outcomes: Vec<Outcome>,
+}
+
+impl Model for Outcomes {
+    ghost use Rattle.std.specs.Prelude.{List};
+    ghost use Rattle.std.specs.Coded.{coded_list};
+    ghost use Rattle.dl_desk.specs.declared.outcome.Outcome.{Outcome};
+    ghost use Rattle.dl_desk.specs.contracts.outcome.Outcome as outcome;
+
+    ghost Value = { List Outcome };
+
+    ghost coded = { coded_list outcome.the_row.coded };
+
+    ghost view = { λ o. o.outcomes.items };
+}
+
+impl Outcomes {
+    /// These outcomes.
+    pub fn new(outcomes: Vec<Outcome>) -> Outcomes
+        ensures { result ≡ outcomes.items }
+    {
+        Outcomes { outcomes }
+    }
+
+    /// The outcomes, in order.
+    pub fn as_slice(&self) -> &[Outcome]
+        ensures { result.now ≡ self.now }
+    {
+        self.outcomes.as_slice()
+    }
+
+    /// The outcomes, to move them on.
+    pub fn into_vec(self) -> Vec<Outcome>
+        ensures { result.items ≡ self }
+    {
+        let Outcomes { outcomes } = self;
+        outcomes
     }
 }

@@ -1,0 +1,4 @@
+pub mod Source
+pub mod Listing
+pub mod Answer
+pub mod AnswerFits
