@@ -17,9 +17,15 @@ NamedTables = List (List ℕ × Listing)
 abbrev pub named : {X : Type 0} → List (String Global × X) → List (List ℕ × X)
 named es = map (λ e. (string_bytes e.0, e.1)) es
 
--- the codes of both, by which a proof tells two apart
+-- the codes of these, by which a proof tells two apart
+abbrev pub entry_code : Coded (List ℕ × Entry)
+entry_code = coded× (coded_list coded_ℕ) entry.the_row.coded
+
 abbrev pub listing_code : Coded Listing
-listing_code = coded_list (coded× (coded_list coded_ℕ) entry.the_row.coded)
+listing_code = coded_list entry_code
+
+abbrev pub table_code : Coded (List ℕ × Listing)
+table_code = coded× (coded_list coded_ℕ) listing_code
 
 abbrev pub tables_code : Coded NamedTables
-tables_code = coded_list (coded× (coded_list coded_ℕ) listing_code)
+tables_code = coded_list table_code

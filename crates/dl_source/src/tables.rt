@@ -1,12 +1,18 @@
 //! Tables as a source.
 
-ghost use Rattle.std.specs.Prelude.{◌≡◌, option_copied};
+ghost use Rattle.std.specs.Prelude.{◌≡◌, ◌⊎◌, [], ◌∷◌, ◌++◌, true, false, not, if◌then◌else◌, option_copied, IfOk, IfErr, OnOk};
+ghost use Rattle.std.specs.List.{list_any};
 ghost use Rattle.std.specs.Result.{result_copied};
 ghost use Rattle.dl_source.specs.Answer.{entry_at, found};
+ghost use Rattle.dl_source.specs.Faults.{is_not_whole, lists, repeats, has_other_number, has_repeated_key};
 
+use crate::fault::TableFault;
+use crate::listed::{ListedEntry, ListedTable};
+use crate::reading::{content_fault, read_tables, repeats_name};
 use crate::source::{BatchAnswer, Source};
 use dl_desk::{FetchKey, Json, Message, Outcome, Outcomes};
 use indexmap::IndexMap;
+use serde_json::Value;
 use std::alloc::{AllocError, Global};
 use std::marker::Model;
 
@@ -60,6 +66,39 @@ impl Model for Tables {
 }
 
 impl Table {
+    fn new(alloc: Global) -> Table
+        ensures { result ≡ [] }
+    {
+        Table {
+            entries: IndexMap::new(alloc),
+        }
+    }
+
+    /// A table of these entries, or None where an id is listed twice. The error is want of memory.
+    fn copy_of(alloc: Global, entries: &[ListedEntry<'_>]) -> Result<Option<Table>, AllocError>
+        requires { list_any (λ e. is_not_whole e.1) entries.now ≡ false }
+        ensures { IfOk result (λ t. t ≡ (if repeats entries.now then None else Some entries.now)) }
+    {
+        let mut table = Table::new(alloc);
+        for listed in entries {
+            let entry = listed.to_entry(alloc)?;
+            if !table.add(alloc, listed.id(), entry)? {
+                return Ok(None);
+            }
+        }
+        Ok(Some(table))
+    }
+
+    /// Adds an entry under a new id. Where the id is listed, the entry takes the place of its own,
+    /// and the answer is false. The error is want of memory.
+    fn add(&mut self, alloc: Global, id: &str, entry: Entry) -> Result<bool, AllocError>
+        ensures found { IfOk result (λ new. new ≡ not (lists id.now self.old)) }
+        ensures added { result ≡ Ok true → self.new ≡ self.old ++ (id.now, entry) ∷ [] }
+    {
+        let id = String::from_str(alloc, id)?;
+        Ok(self.entries.insert(id, entry)?.is_none())
+    }
+
     fn entry(&self, id: &str) -> Option<&Entry>
         ensures { option_copied result ≡ entry_at self.now id.now }
     {
@@ -68,6 +107,69 @@ impl Table {
 }
 
 impl Tables {
+    ghost use Rattle.dl_source.specs.declared.fault.TableFault.{TableFault};
+    ghost use Rattle.serde_json.specs.View.{view};
+    ghost use Rattle.dl_source.specs.Spelling.{Spells};
+    ghost use Rattle.dl_source.specs.Faults.{Causes, RefusedFor};
+
+    /// The tables that a JSON value spells: a list of objects with the members `name` (a text),
+    /// `rows` (a list of pairs of an id and any value) and, if wanted, `errors` and `breaks` (lists
+    /// of pairs of an id and a text). A pair is a list of two.
+    ///
+    /// # Errors
+    /// The first cause of [`TableFault`] that applies anywhere in the value, in its order, or want
+    /// of memory.
+    pub fn from_value(alloc: Global, value: &Value) -> Result<Tables, TableFault>
+        ensures ok { IfOk result (Spells (view value.now)) }
+        ensures passes { OnOk result ((f : TableFault) → Causes (view value.now) f → ⊥) }
+        ensures err { IfErr result (RefusedFor (view value.now)) }
+    {
+        let listed = read_tables(alloc, value)?;
+        if let Some(fault) = content_fault(&listed) {
+            return Err(fault);
+        }
+        if repeats_name(alloc, &listed)? {
+            return Err(TableFault::DuplicateTable);
+        }
+        Tables::copy_of(alloc, &listed)
+    }
+
+    /// Copies of these tables, or the one fault that is found only now, that an id is listed twice.
+    fn copy_of(alloc: Global, listed: &[ListedTable<'_>]) -> Result<Tables, TableFault>
+        requires names { repeats listed.now ≡ false }
+        requires whole { has_other_number listed.now ≡ false }
+        ensures ok { IfOk result (λ t. (t ≡ listed.now) × (has_repeated_key listed.now ≡ false)) }
+        ensures err { IfErr result (λ f. (f ≡ TableFault.OutOfMemory) ⊎ ((f ≡ TableFault.DuplicateKey) × (has_repeated_key listed.now ≡ true))) }
+    {
+        let mut tables = Tables::new(alloc)?;
+        for table in listed {
+            let copy = Table::copy_of(alloc, table.entries())?;
+            let copy = copy.ok_or(TableFault::DuplicateKey)?;
+            tables.add(alloc, table.name(), copy)?;
+        }
+        Ok(tables)
+    }
+
+    fn new(alloc: Global) -> Result<Tables, AllocError>
+        ensures { IfOk result (λ t. t ≡ []) }
+    {
+        Ok(Tables {
+            tables: IndexMap::new(alloc),
+            no_table: Message::new(alloc, "no table")?,
+            no_row: Message::new(alloc, "no row")?,
+        })
+    }
+
+    /// Adds a table under a new name. The error is want of memory.
+    fn add(&mut self, alloc: Global, name: &str, table: Table) -> Result<(), AllocError>
+        requires { lists name.now self.old ≡ false }
+        ensures { OnOk result (self.new ≡ self.old ++ (name.now, table) ∷ []) }
+    {
+        let name = String::from_str(alloc, name)?;
+        self.tables.insert(name, table)?;
+        Ok(())
+    }
+
     // What is listed under the key, or why nothing is.
     fn entry(&self, key: &FetchKey) -> Result<&Entry, &Message>
         ensures { result_copied result ≡ found self.now key.now }
