@@ -6,3 +6,4 @@ pub mod Spelling
 pub mod Faults
 pub mod Reading
 pub mod Listed
+pub mod Fetched

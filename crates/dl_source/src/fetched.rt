@@ -1,14 +1,12 @@
 //! A job together with what its source answered.
 
-ghost use Rattle.std.specs.Prelude.{◌≡◌, IfOk, IfErr};
-ghost use Rattle.dl_source.specs.Source.{IsFor};
+ghost use Rattle.std.specs.Prelude.{◌≡◌};
 
 use crate::source::{BatchAnswer, Source};
 use dl_desk::{FetchKey, Job};
-use std::alloc::{AllocError, Global};
 
-/// A job and what its source answered to the job's keys. The type keeps that the answer is the
-/// source's own, with an outcome for each key.
+/// A job and what its source answered to the job's keys; [`fetch_job`](crate::fetch_job) makes one.
+/// The type keeps that the answer is the source's own.
 #[derive(Drop)]
 pub struct Fetched<'s, S: Source> {
     source: &'s S,
@@ -17,57 +15,62 @@ pub struct Fetched<'s, S: Source> {
     pub ghost answered: { answer ≡ S.answer source.now job.keys },
 }
 
-/// Asks the source for the job's keys.
-///
-/// # Errors
-/// Want of memory, with the job.
-pub fn fetch_job<'s, S: Source>(
-    alloc: Global,
-    source: &'s S,
-    job: Job,
-) -> Result<Fetched<'s, S>, (Job, AllocError)>
-    ensures ok { IfOk result (λ f. (f.source.now ≡ source.entry.now) × (f.job ≡ job)) }
-    ensures err { IfErr result (λ e. e.0 ≡ job) }
-{
-    match source.fetch(alloc, job.keys.as_slice()) {
-        Ok(answer) => Ok(Fetched {
+impl<'s, S: Source> Fetched<'s, S> {
+    ghost use Rattle.std.specs.Prelude.{◌≡◌};
+    ghost use Rattle.dl_source.specs.Source.{IsFor};
+    ghost use Rattle.dl_source.specs.Fetched.{source_of, job_of, answer_of};
+
+    pub(crate) fn new(source: &'s S, job: Job, answer: BatchAnswer) -> Fetched<'s, S>
+        requires { answer ≡ S.answer source.now job.keys }
+        ensures source { source_of result ≡ source.entry.now }
+        ensures job { job_of result ≡ job }
+    {
+        Fetched {
             source,
             job,
             answer,
-        }),
-        Err(error) => Err((job, error)),
+        }
     }
-}
 
-impl<'s, S: Source> Fetched<'s, S> {
     /// The number of the job's batch.
     pub fn batch(&self) -> u32
-        ensures { result ≡ self.now.job.batch }
+        ensures { result ≡ (job_of self.now).batch }
     {
         self.job.batch
     }
 
     /// The job's keys, in order.
     pub fn keys(&self) -> &[FetchKey]
-        ensures { result.now ≡ self.now.job.keys }
+        ensures { result.now ≡ (job_of self.now).keys }
     {
         self.job.keys.as_slice()
     }
 
     /// What the source answered to the keys.
     pub fn answer(&self) -> &BatchAnswer
-        ensures answer { result.now ≡ self.now.answer }
-        ensures own { result.now ≡ S.answer self.now.source.now self.now.job.keys }
-        ensures fits { IsFor self.now.job.keys result.now }
+        ensures answer { result.now ≡ answer_of self.now }
+        ensures own { result.now ≡ S.answer (source_of self.now) (job_of self.now).keys }
+        ensures fits { IsFor (job_of self.now).keys result.now }
     {
         &self.answer
     }
 
     /// The job alone.
     pub fn into_job(self) -> Job
-        ensures { result ≡ self.entry.job }
+        ensures { result ≡ job_of self.entry }
     {
         let Fetched { job, .. } = self;
         job
+    }
+
+    /// The job and the answer, to move both on.
+    pub fn into_parts(self) -> (Job, BatchAnswer)
+        ensures job { result.0 ≡ job_of self.entry }
+        ensures answer { result.1 ≡ answer_of self.entry }
+        ensures own { result.1 ≡ S.answer (source_of self.entry) result.0.keys }
+        ensures fits { IsFor result.0.keys result.1 }
+    {
+        let Fetched { job, answer, .. } = self;
+        (job, answer)
     }
 }

@@ -2,6 +2,7 @@
 #![tactic(auto)]
 
 mod fault;
+mod fetch;
 mod fetched;
 mod listed;
 mod reading;
@@ -9,7 +10,8 @@ mod source;
 mod tables;
 
 pub use fault::TableFault;
-pub use fetched::{Fetched, fetch_job};
+pub use fetch::fetch_job;
+pub use fetched::Fetched;
 pub use reading::TEXT_BYTES;
 pub use source::{BatchAnswer, Source};
 pub use tables::{Entry, Tables};

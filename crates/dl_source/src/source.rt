@@ -20,11 +20,13 @@ pub enum BatchAnswer {
 /// Where outcomes come from. A source answers by one function of the keys: asked twice, it answers
 /// the same.
 pub trait Source {
+    // The one function: what the source answers to a list of keys.
     ghost answer: { Self → List Key → BatchAnswer };
 
     /// The answer to these keys, in their order. The error is want of memory.
     fn fetch(&self, alloc: Global, keys: &[FetchKey]) -> Result<BatchAnswer, AllocError>
         ensures { IfOk result (λ a. a ≡ answer self.now keys.now) };
 
+    // Each answer has as many outcomes as there are keys, or breaks.
     ghost fits: { (s : Self) (ks : List Key) → IsFor ks (answer s ks) };
 }
