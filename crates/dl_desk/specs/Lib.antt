@@ -11,3 +11,4 @@ pub mod Marks
 pub mod Ready
 pub mod Events
 pub mod Laws
+pub mod Json

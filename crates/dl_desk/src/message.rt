@@ -1,0 +1,49 @@
+//! Texts of errors.
+
+ghost use Rattle.std.specs.Prelude.{◌≡◌, IfOk};
+
+use crate::text::Text;
+use std::alloc::{AllocError, Global};
+use std::marker::Model;
+use std::sync::Arc;
+
+/// The text of an error that several places share. A copy costs one atomic step. Contracts see its
+/// bytes.
+#[derive(Debug, Drop)]
+pub struct Message {
+    text: Arc<Text>,
+}
+
+impl Model for Message {
+    ghost use Rattle.std.specs.Prelude.{List, ℕ};
+    ghost use Rattle.std.specs.Arc.{arc_value};
+
+    ghost Value = { List ℕ };
+
+    ghost view = { λ m. arc_value m.text };
+}
+
+impl Message {
+    /// A message of this text. The error is want of memory.
+    pub fn new(alloc: Global, text: &str) -> Result<Message, AllocError>
+        ensures { IfOk result (λ m. m ≡ text.now) }
+    {
+        let text = Arc::new(alloc, Text::new(alloc, text)?)?;
+        Ok(Message { text })
+    }
+
+    /// The text itself.
+    pub fn as_str(&self) -> &str
+        ensures { result.now ≡ self.now }
+    {
+        self.text.as_str()
+    }
+
+    /// The same message, shared. It takes no memory; the error is a count of copies at its end.
+    pub fn try_copy(&self) -> Result<Message, AllocError>
+        ensures { IfOk result (λ m. m ≡ self.now) }
+    {
+        let text = Arc::try_clone(&self.text)?;
+        Ok(Message { text })
+    }
+}

@@ -1,0 +1,5 @@
+pub mod Lookups
+pub mod Members
+pub mod Repeats
+pub mod Spelled
+pub mod Refusals

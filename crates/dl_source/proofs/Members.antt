@@ -1,0 +1,29 @@
+-- The names of an object's members, and the parts of a list of two.
+use Rattle.std.proofs.Common.{◌≡◌, ◌≢◌, ℕ, ◌<◌, suc, List, [], ◌∷◌, Bool, ◌&&◌, Option, Some, None, length, ap, sym, ◌∙◌, refl, String, string_bytes, map, get_or, arith}
+use Rattle.std.specs.declared.alloc.Global.{Global}
+use Rattle.std.specs.List.{list_all}
+use Rattle.serde_json.specs.Data.{Data, Items, no_items, item}
+use Rattle.serde_json.specs.View.{view, items_view, members_view}
+use Rattle.serde_json.specs.declared.value.Value.{Value}
+use Rattle.dl_source.specs.declared.tables.Entry.{Entry}
+use Rattle.dl_source.specs.Spelling.{names_all}
+use Rattle.dl_source.specs.Reading.{pair_in}
+
+-- a test of the names sees the keys of the map
+pub names_all-members_view : (test : List ℕ → Bool) (es : List (String Global × Value)) → names_all test (members_view es) ≡ list_all (λ k. test (string_bytes k)) (map (λ e. e.0) es)
+names_all-members_view test [] = refl
+names_all-members_view test (e ∷ es) = ap (λ b. test (string_bytes e.0) && b) (names_all-members_view test es)
+
+-- only a list of two is a pair
+pub no_pair : (entry_of : Data → Option Entry) (vs : List Value) → length vs ≢ 2 → pair_in entry_of (items_view vs) ≡ None
+no_pair entry_of [] h = refl
+no_pair entry_of (v ∷ []) h = refl
+no_pair entry_of (v ∷ w ∷ []) h = absurd (h refl)
+no_pair entry_of (v ∷ w ∷ x ∷ vs) h = refl
+
+-- the parts of a list of two
+pub two_items : (vs : List Value) (d : Value) → length vs ≡ 2 → items_view vs ≡ item (view (get_or vs 0 d)) (item (view (get_or vs 1 d)) no_items)
+two_items [] d h = absurd (omega arith)
+two_items (v ∷ []) d h = absurd (omega arith)
+two_items (v ∷ w ∷ []) d h = refl
+two_items (v ∷ w ∷ x ∷ vs) d h = absurd (omega arith)

@@ -1,0 +1,92 @@
+-- When a tree is refused as tables.
+use Rattle.std.specs.Prelude.{◌≡◌, ◌⊎◌, ℕ, ◌<◌, ◌&&◌, ◌||◌, List, [], ◌∷◌, length, Bool, true, false, not, nat_lt, nat_le, bytes_eq}
+use Rattle.std.specs.List.{list_any}
+use Rattle.serde_json.specs.Data.{Data}
+use Rattle.serde_json.specs.Written.{has_float}
+use Rattle.dl_desk.specs.declared.key.TheConstants.{TABLE_BYTES, ID_BYTES}
+use Rattle.dl_source.specs.declared.reading.TheConstants.{TEXT_BYTES}
+use Rattle.dl_source.specs.declared.tables.Entry.{Entry}
+use Rattle.dl_source.specs.declared.tables.Entry.TheVariants.{Row, Error, Break}
+use Rattle.dl_source.specs.declared.fault.TableFault.{TableFault}
+use Rattle.dl_source.specs.declared.fault.TableFault.TheVariants.{Shape, BadKey, TextTooLong, NotWhole, DuplicateTable, DuplicateKey, OutOfMemory}
+use Rattle.dl_source.specs.Listing.{Listing, NamedTables}
+use Rattle.dl_source.specs.Spelling.{Spells}
+
+-- ---- what an entry may not have
+
+abbrev pub is_sized : ℕ → List ℕ → Bool
+is_sized most text = nat_le 1 (length text) && nat_le (length text) most
+
+abbrev pub has_bad_id : List ℕ × Entry → Bool
+has_bad_id e = not (is_sized ID_BYTES e.0)
+
+abbrev pub is_long : Entry → Bool
+is_long (Row v) = false
+is_long (Error t) = nat_lt TEXT_BYTES (length t)
+is_long (Break t) = nat_lt TEXT_BYTES (length t)
+
+abbrev pub is_not_whole : Entry → Bool
+is_not_whole (Row v) = has_float v
+is_not_whole (Error t) = false
+is_not_whole (Break t) = false
+
+-- ---- what tables may not have
+
+-- the name stands in the list
+abbrev pub lists : {X : Type 0} → List ℕ → List (List ℕ × X) → Bool
+lists name es = list_any (λ e. bytes_eq name e.0) es
+
+-- some name stands twice
+abbrev pub repeats : {X : Type 0} → List (List ℕ × X) → Bool
+repeats [] = false
+repeats (e ∷ es) = lists e.0 es || repeats es
+
+abbrev pub has_bad_name : List ℕ × Listing → Bool
+has_bad_name t = not (is_sized TABLE_BYTES t.0)
+
+abbrev pub has_bad_key : NamedTables → Bool
+has_bad_key tables = list_any (λ t. has_bad_name t || list_any has_bad_id t.1) tables
+
+abbrev pub has_long_text : NamedTables → Bool
+has_long_text tables = list_any (λ t. list_any (λ e. is_long e.1) t.1) tables
+
+abbrev pub has_other_number : NamedTables → Bool
+has_other_number tables = list_any (λ t. list_any (λ e. is_not_whole e.1) t.1) tables
+
+abbrev pub has_repeated_key : NamedTables → Bool
+has_repeated_key tables = list_any (λ t. repeats t.1) tables
+
+-- ---- refusals
+
+-- the tree spells tables of which the test is true
+abbrev pub Has : (NamedTables → Bool) → Data → Type 0
+Has test d = (tables : NamedTables) × Spells d tables × (test tables ≡ true)
+
+-- what each refusal comes from
+abbrev pub Causes : Data → TableFault → Type 0
+Causes d Shape = (tables : NamedTables) → Spells d tables → ⊥
+Causes d BadKey = Has has_bad_key d
+Causes d TextTooLong = Has has_long_text d
+Causes d NotWhole = Has has_other_number d
+Causes d DuplicateTable = Has repeats d
+Causes d DuplicateKey = Has has_repeated_key d
+Causes d OutOfMemory = ⊥
+
+-- the faults are tested in this order
+abbrev pub number : TableFault → ℕ
+number Shape = 1
+number BadKey = 2
+number TextTooLong = 3
+number NotWhole = 4
+number DuplicateTable = 5
+number DuplicateKey = 6
+number OutOfMemory = 7
+
+-- the tree gives cause for the fault, and for none that is tested before it
+pub record IsLeast (d : Data) (f : TableFault) : Type 0 where
+  pub cause : Causes d f
+  pub least : (g : TableFault) → number g < number f → Causes d g → ⊥
+
+-- Memory may run out before the cause is found.
+abbrev pub RefusedFor : Data → TableFault → Type 0
+RefusedFor d f = (f ≡ OutOfMemory) ⊎ IsLeast d f

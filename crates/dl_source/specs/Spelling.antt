@@ -1,0 +1,78 @@
+-- Which JSON trees spell which tables.
+use Rattle.std.specs.Prelude.{◌≡◌, ◌⊎◌, ℕ, List, [], ◌∷◌, ◌++◌, codes, Bool, true, false, ◌&&◌, ◌||◌, Option, Some, None, bytes_eq, ⊤, option_map}
+use Rattle.std.specs.Option.{option_map_or}
+use Rattle.serde_json.specs.Data.{Data, string, array, Items, no_items, item, Members, no_members, member}
+use Rattle.serde_json.specs.Find.{get, as_str, as_object}
+use Rattle.dl_source.specs.declared.tables.Entry.{Entry}
+use Rattle.dl_source.specs.declared.tables.Entry.TheVariants.{Row, Error, Break}
+use Rattle.dl_source.specs.Listing.{Listing, NamedTables}
+
+-- ---- lists
+
+-- the items spell the values, one by one
+abbrev pub SpellsEach : {X : Type 0} → (Data → X → Type 0) → Items → List X → Type 0
+SpellsEach S no_items [] = ⊤
+SpellsEach S no_items (x ∷ xs) = ⊥
+SpellsEach S (item d ds) [] = ⊥
+SpellsEach S (item d ds) (x ∷ xs) = S d x × SpellsEach S ds xs
+
+-- a list of what spells the values
+abbrev pub SpellsList : {X : Type 0} → (Data → X → Type 0) → Data → List X → Type 0
+SpellsList S d xs = (ds : Items) × (d ≡ array ds) × SpellsEach S ds xs
+
+-- a member that is such a list
+abbrev pub SpellsMember : {X : Type 0} → (Data → X → Type 0) → Option Data → List X → Type 0
+SpellsMember S m xs = (d : Data) × (m ≡ Some d) × SpellsList S d xs
+
+-- a member that may be absent, and then stands for the empty list
+abbrev pub SpellsOptional : {X : Type 0} → (Data → X → Type 0) → Option Data → List X → Type 0
+SpellsOptional S m xs = ((m ≡ None) × (xs ≡ [])) ⊎ SpellsMember S m xs
+
+-- ---- entries
+
+-- a list of an id and something more
+abbrev pub pair : List ℕ → Data → Data
+pair id d = array (item (string id) (item d no_items))
+
+-- what stands beside the id: any value in a row, a text in an error and in a break
+abbrev pub row_of : Data → Option Entry
+row_of d = Some (Row d)
+
+abbrev pub error_of : Data → Option Entry
+error_of d = option_map Error (as_str d)
+
+abbrev pub break_text_of : Data → Option Entry
+break_text_of d = option_map Break (as_str d)
+
+abbrev pub SpellsEntry : (Data → Option Entry) → Data → List ℕ × Entry → Type 0
+SpellsEntry entry_of d e = (v : Data) × (d ≡ pair e.0 v) × (entry_of v ≡ Some e.1)
+
+-- ---- tables
+
+abbrev pub is_table_member : List ℕ → Bool
+is_table_member name = bytes_eq name (codes "name") || (bytes_eq name (codes "rows") || (bytes_eq name (codes "errors") || bytes_eq name (codes "breaks")))
+
+-- each name passes the test
+abbrev pub names_all : (List ℕ → Bool) → Members → Bool
+names_all test no_members = true
+names_all test (member name d ms) = test name && names_all test ms
+
+-- an object whose names pass the test
+abbrev pub has_only : (List ℕ → Bool) → Data → Bool
+has_only test d = option_map_or (names_all test) (as_object d) false
+
+-- A table is an object with a name and rows, and perhaps errors and breaks, and lists them in this order.
+pub record SpellsTable (d : Data) (t : List ℕ × Listing) : Type 0 where
+  pub members : has_only is_table_member d ≡ true
+  pub name : get (codes "name") d ≡ Some (string t.0)
+  pub rows : Listing
+  pub errors : Listing
+  pub breaks : Listing
+  pub rows_are : SpellsMember (SpellsEntry row_of) (get (codes "rows") d) rows
+  pub errors_are : SpellsOptional (SpellsEntry error_of) (get (codes "errors") d) errors
+  pub breaks_are : SpellsOptional (SpellsEntry break_text_of) (get (codes "breaks") d) breaks
+  pub all : t.1 ≡ rows ++ errors ++ breaks
+
+-- the tree is a list of tables
+abbrev pub Spells : Data → NamedTables → Type 0
+Spells d tables = SpellsList SpellsTable d tables

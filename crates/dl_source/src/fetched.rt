@@ -1,0 +1,76 @@
+//! A job together with what its source answered.
+
+ghost use Rattle.std.specs.Prelude.{◌≡◌};
+
+use crate::source::{BatchAnswer, Source};
+use dl_desk::{FetchKey, Job};
+
+/// A job and what its source answered to the job's keys; [`fetch_job`](crate::fetch_job) makes one.
+/// The type keeps that the answer is the source's own.
+#[derive(Drop)]
+pub struct Fetched<'s, S: Source> {
+    source: &'s S,
+    job: Job,
+    answer: BatchAnswer,
+    pub ghost answered: { answer ≡ S.answer source.now job.keys },
+}
+
+impl<'s, S: Source> Fetched<'s, S> {
+    ghost use Rattle.std.specs.Prelude.{◌≡◌};
+    ghost use Rattle.dl_source.specs.Source.{IsFor};
+    ghost use Rattle.dl_source.specs.Fetched.{source_of, job_of, answer_of};
+
+    pub(crate) fn new(source: &'s S, job: Job, answer: BatchAnswer) -> Fetched<'s, S>
+        requires { answer ≡ S.answer source.now job.keys }
+        ensures source { source_of result ≡ source.entry.now }
+        ensures job { job_of result ≡ job }
+    {
+        Fetched {
+            source,
+            job,
+            answer,
+        }
+    }
+
+    /// The number of the job's batch.
+    pub fn batch(&self) -> u32
+        ensures { result ≡ (job_of self.now).batch }
+    {
+        self.job.batch
+    }
+
+    /// The job's keys, in order.
+    pub fn keys(&self) -> &[FetchKey]
+        ensures { result.now ≡ (job_of self.now).keys }
+    {
+        self.job.keys.as_slice()
+    }
+
+    /// What the source answered to the keys.
+    pub fn answer(&self) -> &BatchAnswer
+        ensures answer { result.now ≡ answer_of self.now }
+        ensures own { result.now ≡ S.answer (source_of self.now) (job_of self.now).keys }
+        ensures fits { IsFor (job_of self.now).keys result.now }
+    {
+        &self.answer
+    }
+
+    /// The job alone.
+    pub fn into_job(self) -> Job
+        ensures { result ≡ job_of self.entry }
+    {
+        let Fetched { job, .. } = self;
+        job
+    }
+
+    /// The job and the answer, to move both on.
+    pub fn into_parts(self) -> (Job, BatchAnswer)
+        ensures job { result.0 ≡ job_of self.entry }
+        ensures answer { result.1 ≡ answer_of self.entry }
+        ensures own { result.1 ≡ S.answer (source_of self.entry) result.0.keys }
+        ensures fits { IsFor result.0.keys result.1 }
+    {
+        let Fetched { job, answer, .. } = self;
+        (job, answer)
+    }
+}

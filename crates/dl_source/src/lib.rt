@@ -1,0 +1,17 @@
+//! Where the keys of a batch get their outcomes: sources, and tables read from JSON as a source.
+#![tactic(auto)]
+
+mod fault;
+mod fetch;
+mod fetched;
+mod listed;
+mod reading;
+mod source;
+mod tables;
+
+pub use fault::TableFault;
+pub use fetch::fetch_job;
+pub use fetched::Fetched;
+pub use reading::TEXT_BYTES;
+pub use source::{BatchAnswer, Source};
+pub use tables::{Entry, Tables};

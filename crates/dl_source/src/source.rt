@@ -1,0 +1,32 @@
+//! What a source is.
+
+ghost use Rattle.std.specs.Prelude.{◌≡◌, List, IfOk};
+ghost use Rattle.dl_desk.specs.Key.{Key};
+ghost use Rattle.dl_source.specs.declared.source.BatchAnswer.{BatchAnswer};
+ghost use Rattle.dl_source.specs.Source.{IsFor};
+
+use dl_desk::{FetchKey, Message, Outcomes};
+use std::alloc::{AllocError, Global};
+
+/// What a source answers to a list of keys.
+#[derive(Debug, Drop)]
+pub enum BatchAnswer {
+    /// An outcome for each key, in the order of the keys.
+    Each(Outcomes),
+    /// Why the whole list has no answer.
+    Break(Message),
+}
+
+/// Where outcomes come from. A source answers by one function of the keys: asked twice, it answers
+/// the same.
+pub trait Source {
+    // The one function: what the source answers to a list of keys.
+    ghost answer: { Self → List Key → BatchAnswer };
+
+    /// The answer to these keys, in their order. The error is want of memory.
+    fn fetch(&self, alloc: Global, keys: &[FetchKey]) -> Result<BatchAnswer, AllocError>
+        ensures { IfOk result (λ a. a ≡ answer self.now keys.now) };
+
+    // Each answer has as many outcomes as there are keys, or breaks.
+    ghost fits: { (s : Self) (ks : List Key) → IsFor ks (answer s ks) };
+}

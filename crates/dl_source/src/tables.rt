@@ -1,0 +1,206 @@
+//! Tables as a source.
+
+ghost use Rattle.std.specs.Prelude.{◌≡◌, ◌⊎◌, [], ◌∷◌, ◌++◌, true, false, not, if◌then◌else◌, option_copied, IfOk, IfErr, OnOk};
+ghost use Rattle.std.specs.List.{list_any};
+ghost use Rattle.std.specs.Result.{result_copied};
+ghost use Rattle.dl_source.specs.Answer.{entry_at, found};
+ghost use Rattle.dl_source.specs.Faults.{is_not_whole, lists, repeats, has_other_number, has_repeated_key};
+
+use crate::fault::TableFault;
+use crate::listed::{ListedEntry, ListedTable};
+use crate::reading::{content_fault, read_tables, repeats_name};
+use crate::source::{BatchAnswer, Source};
+use dl_desk::{FetchKey, Json, Message, Outcome, Outcomes};
+use indexmap::IndexMap;
+use serde_json::Value;
+use std::alloc::{AllocError, Global};
+use std::marker::Model;
+
+/// What a table lists under an id.
+#[derive(Debug, Drop)]
+pub enum Entry {
+    /// The row's value.
+    Row(Json),
+    /// The id has no value: why.
+    Error(Message),
+    /// A batch that asks for the id fails: why.
+    Break(Message),
+}
+
+/// What one table lists. Contracts see the entries in the order in which they were added.
+#[derive(Drop)]
+pub(crate) struct Table {
+    entries: IndexMap<String, Entry>,
+}
+
+impl Model for Table {
+    ghost use Rattle.dl_source.specs.Listing.{Listing, listing_code, named};
+
+    ghost Value = { Listing };
+
+    ghost coded = { listing_code };
+
+    ghost view = { λ t. named t.entries.entries };
+}
+
+/// Tables with their names, which are a source. Contracts see the tables in the order of their
+/// document, and in each its rows, then its errors, then its breaks.
+#[derive(Drop)]
+pub struct Tables {
+    tables: IndexMap<String, Table>,
+    no_table: Message,
+    no_row: Message,
+}
+
+impl Model for Tables {
+    ghost use Rattle.std.specs.Prelude.{◌≡◌, codes};
+    ghost use Rattle.dl_source.specs.Listing.{NamedTables, tables_code, named};
+
+    ghost Value = { NamedTables };
+
+    ghost coded = { tables_code };
+
+    ghost view = { λ t. named t.tables.entries };
+
+    ghost invariant = { λ t. (t.no_table ≡ codes "no table") × (t.no_row ≡ codes "no row") };
+}
+
+impl Table {
+    fn new(alloc: Global) -> Table
+        ensures { result ≡ [] }
+    {
+        Table {
+            entries: IndexMap::new(alloc),
+        }
+    }
+
+    /// A table of these entries, or None where an id is listed twice. The error is want of memory.
+    fn copy_of(alloc: Global, entries: &[ListedEntry<'_>]) -> Result<Option<Table>, AllocError>
+        requires { list_any (λ e. is_not_whole e.1) entries.now ≡ false }
+        ensures { IfOk result (λ t. t ≡ (if repeats entries.now then None else Some entries.now)) }
+    {
+        let mut table = Table::new(alloc);
+        for listed in entries {
+            let entry = listed.to_entry(alloc)?;
+            if !table.add(alloc, listed.id(), entry)? {
+                return Ok(None);
+            }
+        }
+        Ok(Some(table))
+    }
+
+    /// Adds an entry under a new id. Where the id is listed, the entry takes the place of its own,
+    /// and the answer is false. The error is want of memory.
+    fn add(&mut self, alloc: Global, id: &str, entry: Entry) -> Result<bool, AllocError>
+        ensures found { IfOk result (λ new. new ≡ not (lists id.now self.old)) }
+        ensures added { result ≡ Ok true → self.new ≡ self.old ++ (id.now, entry) ∷ [] }
+    {
+        let id = String::from_str(alloc, id)?;
+        Ok(self.entries.insert(id, entry)?.is_none())
+    }
+
+    fn entry(&self, id: &str) -> Option<&Entry>
+        ensures { option_copied result ≡ entry_at self.now id.now }
+    {
+        self.entries.get(id)
+    }
+}
+
+impl Tables {
+    ghost use Rattle.dl_source.specs.declared.fault.TableFault.{TableFault};
+    ghost use Rattle.serde_json.specs.View.{view};
+    ghost use Rattle.dl_source.specs.Spelling.{Spells};
+    ghost use Rattle.dl_source.specs.Faults.{Causes, RefusedFor};
+
+    /// The tables that a JSON value spells: a list of objects with the members `name` (a text),
+    /// `rows` (a list of pairs of an id and any value) and, if wanted, `errors` and `breaks` (lists
+    /// of pairs of an id and a text). A pair is a list of two.
+    ///
+    /// # Errors
+    /// The first cause of [`TableFault`] that applies anywhere in the value, in its order, or want
+    /// of memory.
+    pub fn from_value(alloc: Global, value: &Value) -> Result<Tables, TableFault>
+        ensures ok { IfOk result (Spells (view value.now)) }
+        ensures passes { OnOk result ((f : TableFault) → Causes (view value.now) f → ⊥) }
+        ensures err { IfErr result (RefusedFor (view value.now)) }
+    {
+        let listed = read_tables(alloc, value)?;
+        if let Some(fault) = content_fault(&listed) {
+            return Err(fault);
+        }
+        if repeats_name(alloc, &listed)? {
+            return Err(TableFault::DuplicateTable);
+        }
+        Tables::copy_of(alloc, &listed)
+    }
+
+    /// Copies of these tables, or the one fault that is found only now, that an id is listed twice.
+    fn copy_of(alloc: Global, listed: &[ListedTable<'_>]) -> Result<Tables, TableFault>
+        requires names { repeats listed.now ≡ false }
+        requires whole { has_other_number listed.now ≡ false }
+        ensures ok { IfOk result (λ t. (t ≡ listed.now) × (has_repeated_key listed.now ≡ false)) }
+        ensures err { IfErr result (λ f. (f ≡ TableFault.OutOfMemory) ⊎ ((f ≡ TableFault.DuplicateKey) × (has_repeated_key listed.now ≡ true))) }
+    {
+        let mut tables = Tables::new(alloc)?;
+        for table in listed {
+            let copy = Table::copy_of(alloc, table.entries())?;
+            let copy = copy.ok_or(TableFault::DuplicateKey)?;
+            tables.add(alloc, table.name(), copy)?;
+        }
+        Ok(tables)
+    }
+
+    fn new(alloc: Global) -> Result<Tables, AllocError>
+        ensures { IfOk result (λ t. t ≡ []) }
+    {
+        Ok(Tables {
+            tables: IndexMap::new(alloc),
+            no_table: Message::new(alloc, "no table")?,
+            no_row: Message::new(alloc, "no row")?,
+        })
+    }
+
+    /// Adds a table under a new name. The error is want of memory.
+    fn add(&mut self, alloc: Global, name: &str, table: Table) -> Result<(), AllocError>
+        requires { lists name.now self.old ≡ false }
+        ensures { OnOk result (self.new ≡ self.old ++ (name.now, table) ∷ []) }
+    {
+        let name = String::from_str(alloc, name)?;
+        self.tables.insert(name, table)?;
+        Ok(())
+    }
+
+    // What is listed under the key, or why nothing is.
+    fn entry(&self, key: &FetchKey) -> Result<&Entry, &Message>
+        ensures { result_copied result ≡ found self.now key.now }
+    {
+        match self.tables.get(key.table()) {
+            None => Err(&self.no_table),
+            Some(table) => table.entry(key.id()).ok_or(&self.no_row),
+        }
+    }
+}
+
+impl Source for Tables {
+    ghost use Rattle.dl_source.specs.Answer.{answer_of};
+    ghost use Rattle.dl_source.specs.AnswerFits.{answer_fits};
+
+    ghost answer = { answer_of };
+
+    ghost fits = { answer_fits };
+
+    /// The text of the first key that is listed under its table's breaks; without one, each key's
+    /// row or error, or that it has no row or no table.
+    fn fetch(&self, alloc: Global, keys: &[FetchKey]) -> Result<BatchAnswer, AllocError> {
+        let mut outcomes = Vec::with_capacity(alloc, keys.len())?;
+        for key in keys {
+            let outcome = match self.entry(key) {
+                Ok(Entry::Row(value)) => Outcome::Value(value.try_copy()?),
+                Ok(Entry::Error(text)) | Err(text) => Outcome::KeyError(text.try_copy()?),
+                Ok(Entry::Break(text)) => return Ok(BatchAnswer::Break(text.try_copy()?)),
+            };
+            outcomes.push(outcome)?;
+        }
+        Ok(BatchAnswer::Each(Outcomes::new(outcomes)))
+    }
+}
