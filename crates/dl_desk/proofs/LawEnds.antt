@@ -42,7 +42,7 @@ loads-le (k ∷ ks) (r ∷ rs) history =
     let more = loads-le ks rs (Load k r ∷ history) in
     omega arith
 
-made-le : (m : Made) (history : List Atom) → cells history ≤ cells (with_made m history)
+pub made-le : (m : Made) (history : List Atom) → cells history ≤ cells (with_made m history)
 made-le (One a) history = count_cell-le (begins a) (cells history)
 made-le (Many ks rs) history = loads-le ks rs history
 
@@ -62,7 +62,7 @@ loads_kept rules history (k ∷ ks) c low =
     let still : c < cells (Load k r ∷ history) = omega arith in
     loads_kept rules (Load k r ∷ history) ks c still ∙ batch_kept rules history (Load k r) c (begins (Load k r)) refl refl low
 
-made_kept : (rules : Rules) (history : List Atom) (m : Made) (c : ℕ) → IsReplied rules history m → c < cells history → cell_batch (with_made m history) c ≡ cell_batch history c
+pub made_kept : (rules : Rules) (history : List Atom) (m : Made) (c : ℕ) → IsReplied rules history m → c < cells history → cell_batch (with_made m history) c ≡ cell_batch history c
 made_kept rules history (One a) c replied low = batch_kept rules history a c (begins a) replied refl low
 made_kept rules history (Many ks rs) c replied low = ap (λ (replies : List LoadReply). cell_batch (with_loads ks replies history) c) replied ∙ loads_kept rules history ks c low
 
@@ -112,7 +112,7 @@ ended_low rules log c p legal (Some q) prime batch is e = primed-low rules log c
 ended_low rules log c p legal None prime (Some b) is e = cell_batch-low rules (atoms log) c b (atoms_legal rules log legal) is
 ended_low rules log c p legal None prime None is e = absurd (let bad : ◌≡◌ {A = Option Placed} None (Some p) = e in cc)
 
-ended-low : (rules : Rules) (log : List Event) (c : ℕ) (p : Placed) → IsLegalLog rules log → ending log c ≡ Some p → c < cells (atoms log)
+pub ended-low : (rules : Rules) (log : List Event) (c : ℕ) (p : Placed) → IsLegalLog rules log → ending log c ≡ Some p → c < cells (atoms log)
 ended-low rules log c p legal e = ended_low rules log c p legal (last_of (primes c) log) refl (cell_batch (atoms log) c) refl e
 
 -- ---- a batch ends once

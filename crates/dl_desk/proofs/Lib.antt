@@ -19,3 +19,4 @@ pub mod LawFacts
 pub mod LawFresh
 pub mod LawBatches
 pub mod LawEnds
+pub mod LawOutcomes

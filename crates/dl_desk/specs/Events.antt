@@ -1,20 +1,34 @@
 -- Events: the calls of several callers, each with its reply, and which of them ended a cell.
-use Rattle.std.specs.Prelude.{◌≡◌, ℕ, Bool, false, ◌&&◌, List, [], ◌∷◌, length, Option, Some, None, option_map, is_none, if◌then◌else◌, nat_eq}
+use Rattle.std.specs.Prelude.{◌≡◌, ℕ, Bool, false, ◌&&◌, List, [], ◌∷◌, length, map, Option, Some, None, option_map, is_none, if◌then◌else◌, nat_eq}
 use Rattle.std.specs.Option.{option_or, option_and_then}
+use Rattle.std.specs.List.{zip}
+use Rattle.std.specs.Map.{lookup}
 use Rattle.dl_desk.specs.Key.{Key}
 use Rattle.dl_desk.specs.Limits.{Rules}
-use Rattle.dl_desk.specs.History.{Atom, Load, Prime, Clear, ClearAll, Dispatch, Settle, Fail, Begun, begins, load_replies, IsAnswered}
+use Rattle.dl_desk.specs.History.{Atom, Load, Prime, Clear, ClearAll, Dispatch, Settle, Fail, Begun, begins, members, load_replies, IsAnswered}
 use Rattle.dl_desk.specs.declared.reply.LoadReply.{LoadReply}
+use Rattle.dl_desk.specs.declared.outcome.Outcome.{Outcome}
+use Rattle.dl_desk.specs.declared.outcome.Outcome.TheVariants.{BatchFailed}
+use Rattle.dl_desk.specs.declared.outcome.BatchFault.{BatchFault}
 
 -- A call with its reply: that of an atom, or a loadMany, which is one call of many loads.
 pub data Made : Type 0 where
   One : Atom → Made
   Many : List Key → List LoadReply → Made
 
--- a call that a caller made
+-- What a call gives to cells: a prime the outcome of its cell, a settle an outcome for each member of its
+-- batch in order, a fail its fault to all of them.
+pub data Gave : Type 0 where
+  Nothing : Gave
+  Given : Outcome → Gave
+  Each : List Outcome → Gave
+  Broke : BatchFault → Gave
+
+-- a call that a caller made, and what it gave
 pub record Event : Type 0 where
   pub caller : ℕ
   pub made : Made
+  pub gave : Gave
 
 -- A log is a list of events, the newest first. The place of an event is how many stand before it, so
 -- that of the newest is the length of the rest.
@@ -101,3 +115,21 @@ ending log c = option_or (last_of (primes c) log) (option_and_then (λ b. last_o
 -- the place of that event
 abbrev pub ended : List Event → ℕ → Option ℕ
 ended log c = option_map (λ p. p.place) (ending log c)
+
+-- ---- the outcome of a cell
+
+-- the cells of a batch's members, in order
+abbrev pub batch_cells : List Atom → Option ℕ → List ℕ
+batch_cells history None = []
+batch_cells history (Some b) = map (λ m. m.1) (members history b)
+
+-- what is given to a cell, where an outcome for each member goes by the member's place
+abbrev pub outcome_given : List Atom → ℕ → Gave → Option Outcome
+outcome_given history c Nothing = None
+outcome_given history c (Given o) = Some o
+outcome_given history c (Each os) = lookup (nat_eq c) (zip (batch_cells history (cell_batch history c)) os)
+outcome_given history c (Broke fault) = Some (BatchFailed fault)
+
+-- the outcome that the event which ended the cell gave it
+abbrev pub outcome : List Event → ℕ → Option Outcome
+outcome log c = option_and_then (λ p. outcome_given (atoms log) c p.event.gave) (ending log c)

@@ -4,8 +4,9 @@ use Rattle.std.specs.List.{list_any}
 use Rattle.dl_desk.specs.Key.{Key}
 use Rattle.dl_desk.specs.Limits.{Rules, limit_of}
 use Rattle.dl_desk.specs.History.{Atom, Load, IsLegal, members, forgets}
-use Rattle.dl_desk.specs.Events.{Event, IsLegalLog, ended}
+use Rattle.dl_desk.specs.Events.{Event, IsLegalLog, ended, outcome}
 use Rattle.dl_desk.specs.declared.reply.LoadReply.TheVariants.{Fresh}
+use Rattle.dl_desk.specs.declared.outcome.Outcome.{Outcome}
 
 -- Between two fresh loads of one key something forgets the key: a clear of it, a clear of all, or the
 -- failure of the first one's batch. So a key is fetched once between clears, unless its whole batch
@@ -37,3 +38,7 @@ BatchesAreWithinLimits = (rules : Rules) → HaveLimits rules → (history : Lis
 -- a cell that was ended keeps the place of its end in every longer log
 abbrev pub EndsStay : Type 0
 EndsStay = (rules : Rules) (later before : List Event) (cell place : ℕ) → IsLegalLog rules (later ++ before) → ended before cell ≡ Some place → ended (later ++ before) cell ≡ Some place
+
+-- and it keeps the outcome that it was given
+abbrev pub OutcomesStay : Type 0
+OutcomesStay = (rules : Rules) (later before : List Event) (cell : ℕ) (given : Outcome) → IsLegalLog rules (later ++ before) → outcome before cell ≡ Some given → outcome (later ++ before) cell ≡ Some given

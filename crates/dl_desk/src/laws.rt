@@ -1,7 +1,7 @@
 //! Laws of the definitions, for every legal history. Each function does nothing: its contract is the
 //! law.
 
-ghost use Rattle.dl_desk.specs.Laws.{FreshLoadsAreApart, BatchesAreWithinLimits, EndsStay};
+ghost use Rattle.dl_desk.specs.Laws.{FreshLoadsAreApart, BatchesAreWithinLimits, EndsStay, OutcomesStay};
 
 /// Between two fresh loads of one key something forgets the key: a clear of it, a clear of all, or the
 /// failure of the first one's batch.
@@ -18,4 +18,9 @@ pub fn batches_are_within_limits()
 /// A cell that was ended keeps the place of its end, whatever is called after.
 pub fn ends_stay()
     ensures { EndsStay }
+{}
+
+/// A cell that was given an outcome keeps it, whatever is called after.
+pub fn outcomes_stay()
+    ensures { OutcomesStay }
 {}
