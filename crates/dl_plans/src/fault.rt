@@ -29,3 +29,20 @@ pub enum PlanFault {
     #[error("memory")]
     OutOfMemory,
 }
+
+/// How a run of the program fails.
+#[derive(Clone, Copy, Debug, PartialEq, Eq, Error)]
+pub enum RunError {
+    /// The reader failed. Nothing is written.
+    #[error("failed: read")]
+    Read,
+    /// What was read is no document. Nothing is written.
+    #[error("refused: {0}")]
+    Refused(PlanFault),
+    /// The writer failed, or took nothing. A front of the text is written.
+    #[error("failed: write")]
+    Write,
+    /// A growth was refused. Nothing is written.
+    #[error("failed: memory")]
+    OutOfMemory,
+}

@@ -2,12 +2,18 @@
 #![tactic(auto)]
 
 mod call;
+mod command;
 mod document;
 mod fault;
 mod limits;
+mod lines;
 mod member;
+mod program;
 mod script;
+mod settings;
 
+pub use command::options;
 pub use document::{MOST_BYTES, read_input};
-pub use fault::PlanFault;
+pub use fault::{PlanFault, RunError};
 pub use script::{Calls, Input, Script, ScriptCall};
+pub use settings::Options;
