@@ -4,3 +4,8 @@ pub mod KeyFaults
 pub mod Limits
 pub mod History
 pub mod Calls
+pub mod Stored
+pub mod Book
+pub mod Prepared
+pub mod Marks
+pub mod Ready

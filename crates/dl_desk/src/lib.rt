@@ -4,14 +4,20 @@
 //! history of the calls made so far, in the words of `specs/History.antt`.
 #![tactic(auto)]
 
+mod batch;
+mod desk;
 mod fault;
 mod key;
 mod limits;
+mod ready;
 mod reply;
+mod stored;
 mod text;
 
+pub use desk::{BatchView, Desk};
 pub use fault::{DeskFault, KeyFault, LimitFault};
 pub use key::{FetchKey, ID_BYTES, Keys, TABLE_BYTES};
 pub use limits::{LARGEST_LIMIT, Limits};
-pub use reply::{DeskPrime, End, Job, LoadReply};
+pub use ready::Ready;
+pub use reply::{BatchState, DeskPrime, DeskReply, End, Job, LoadReply};
 pub use text::Text;

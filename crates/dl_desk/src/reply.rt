@@ -53,3 +53,27 @@ impl Job {
         })
     }
 }
+
+/// The reply to a call that a desk can prepare.
+#[derive(Debug, Drop)]
+pub enum DeskReply {
+    /// To a load of several keys: a reply for each, in order.
+    Loads(Vec<LoadReply>),
+    /// To a prime.
+    Primed(DeskPrime),
+    /// To a dispatch: the jobs, in order.
+    Sent(Vec<Job>),
+}
+
+/// How far a batch has come.
+#[derive(Clone, Copy, Debug, PartialEq, Eq)]
+pub enum BatchState {
+    /// It isn't sent, and takes members while it is the last one and has room.
+    Collecting,
+    /// It is sent, and has not ended.
+    Sent,
+    /// It ended with an outcome for each member.
+    Settled,
+    /// It failed as a whole.
+    Failed,
+}

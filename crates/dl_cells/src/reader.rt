@@ -1,0 +1,52 @@
+//! What one holder knows of one cell.
+ghost use Rattle.std.specs.Prelude.{◌≡◌, IfSome};
+ghost use Rattle.dl_cells.specs.Cells.{Agrees};
+
+use crate::seen::Seen;
+use crate::segment::Segment;
+use std::marker::Model;
+
+/// What one holder knows of one cell of a `CellRow`: nothing yet, or the cell's value for good.
+///
+/// In clauses it is a `Reading`: `cell` says which cell it is of, and `known` is the value, once it
+/// was seen. A reader borrows nothing, and may lie in a struct or go to another thread. It takes the
+/// four bytes of its place.
+#[derive(Drop)]
+pub struct Reader<T> {
+    pub(crate) segment: Seen<Segment<T>>,
+    pub(crate) place: u32,
+    pub(crate) value: Seen<T>,
+}
+
+impl<T> Model for Reader<T> {
+    ghost use Rattle.std.specs.Prelude.{◌≡◌, IsSomeAnd, slice_index};
+    ghost use Rattle.dl_cells.specs.Cells.{Reading};
+
+    ghost Value = { Reading T };
+
+    ghost view = { λ r. record { cell = record { segment = r.segment.cell; place = r.place }; known = r.value.known } };
+
+    ghost invariant = { λ r. IsSomeAnd r.segment.known (λ names. r.value.cell ≡ slice_index names r.place) };
+}
+
+impl<T> Reader<T> {
+    /// A second reader of the same cell that knows the same, as for another thread. It takes no memory.
+    pub fn again(&self) -> Reader<T>
+        ensures { result ≡ self.now }
+    {
+        Reader {
+            segment: self.segment.again(),
+            place: self.place,
+            value: self.value.again(),
+        }
+    }
+
+    /// Two readers of one cell that know its value know the same value, whichever threads made them.
+    pub fn agree(&self, other: &Reader<T>)
+        requires { other.now.cell ≡ self.now.cell }
+        ensures { IfSome other.now.known (Agrees self.now.known) }
+    {
+        self.segment.agrees(&other.segment);
+        self.value.agrees(&other.value);
+    }
+}

@@ -1,0 +1,139 @@
+//! A row of cells, and its calls.
+ghost use Rattle.std.specs.Prelude.{◌≡◌, ◌<◌, ◌/◌, ◌%◌, IfErr, IfNone, IfOk, IfSome, OnOk};
+ghost use Rattle.std.specs.declared.option.Option.TheVariants.{None, Some};
+ghost use Rattle.once_cell.specs.Once.{cell_name};
+ghost use Rattle.dl_cells.specs.Cells.{row_len, cell_of, Agrees};
+
+use crate::reader::Reader;
+use crate::seen::Seen;
+use crate::segment::{SEGMENT, Segment};
+use once_cell::race::OnceBox;
+use std::alloc::{AllocError, Global};
+use std::marker::Model;
+
+/// A row of cells, each of which is set at most once. Any thread may set or read a cell through a `&`,
+/// and no call waits.
+///
+/// The cells lie in segments of 64. A segment is made when the first reader of one of its cells is,
+/// so a row of which little is used takes little memory: a pointer for each segment.
+///
+/// In clauses a row is its name: `row_len` is how many cells it has, and `cell_of` the name of one.
+#[derive(Drop)]
+pub struct CellRow<T> {
+    segments: Vec<OnceBox<Segment<T>>>,
+    len: u32,
+}
+
+impl<T> Model for CellRow<T> {
+    ghost use Rattle.std.specs.Prelude.{◌*◌, ◌≤◌, map, vec_len};
+    ghost use Rattle.once_cell.specs.Once.{cell_name};
+    ghost use Rattle.dl_cells.specs.Cells.{RowName};
+
+    ghost Value = { RowName };
+
+    ghost view = { λ r. record { segments = map cell_name r.segments.items; cells = r.len } };
+
+    ghost invariant = { λ r. r.len ≤ 64 * vec_len r.segments };
+}
+
+impl<T: Drop> CellRow<T> {
+    /// A row of `len` empty cells. Fails only for want of memory.
+    pub fn new(alloc: Global, len: u32) -> Result<CellRow<T>, AllocError>
+        ensures { IfOk result (λ row. row_len row ≡ len) }
+    {
+        let mut segments = Vec::new(alloc);
+        segments.resize_with(len.div_ceil(SEGMENT) as usize, || OnceBox::new(alloc))?;
+        Ok(CellRow { segments, len })
+    }
+
+    /// A reader of cell `i` that knows nothing yet. Makes the cell's segment where it isn't there, and
+    /// fails only where there is no memory for it.
+    pub fn reader(&self, i: u32) -> Result<Reader<T>, AllocError>
+        requires { i < row_len self.now }
+        ensures cell { IfOk result (λ reader. reader.cell ≡ cell_of self.now i) }
+        ensures known { IfOk result (λ reader. reader.known ≡ None) }
+    {
+        let alloc = *self.segments.allocator();
+        self.reader_with(i, move || Ok(Box::new(alloc, Segment::new(alloc))?))
+    }
+
+    // As `reader`, where `make` makes a segment that isn't there.
+    fn reader_with<F: FnOnce() -> Result<Box<Segment<T>>, AllocError>>(
+        &self,
+        i: u32,
+        make: F,
+    ) -> Result<Reader<T>, AllocError>
+    where
+        F: Drop,
+        requires in_row { i < row_len self.now }
+        requires callable { F.pre make }
+        ensures cell { IfOk result (λ reader. reader.cell ≡ cell_of self.now i) }
+        ensures known { IfOk result (λ reader. reader.known ≡ None) }
+    {
+        let home = self.home(i);
+        let mut note = home.note();
+        let place = i % SEGMENT;
+        let cell = home.get_or_try_init_as(make, &mut note)?.cell(place);
+        Ok(Reader {
+            segment: Seen::of(&mut note),
+            place,
+            value: Seen::of(&mut cell.note()),
+        })
+    }
+
+    /// Sets cell `i` to `value`: the reader then knows that value, and knew nothing before. Where the
+    /// cell was set before, hands `value` back: the reader then knows the value that is there.
+    /// It takes no memory.
+    pub fn show(&self, i: u32, reader: &mut Reader<T>, value: Box<T>) -> Result<(), Box<T>>
+        requires in_row { i < row_len self.now }
+        requires of_cell { reader.old.cell ≡ cell_of self.now i }
+        ensures cell { reader.new.cell ≡ reader.old.cell }
+        ensures known { (x : T) × (reader.new.known ≡ Some x) × Agrees reader.old.known x }
+        ensures ok { OnOk result ((reader.new.known ≡ Some value.value) × (reader.old.known ≡ None)) }
+        ensures err { IfErr result (λ back. back.value ≡ value.value) }
+    {
+        let segment = reader.segment.get(self.home(i));
+        reader.value.show(segment.cell(i % SEGMENT), value)
+    }
+}
+
+impl<T> CellRow<T> {
+    /// The value of cell `i`, if it was shown. From then on the reader knows it, and is answered it
+    /// each time. A reader that knows a value is never answered `None`.
+    pub fn look<'a>(&'a self, i: u32, reader: &mut Reader<T>) -> Option<&'a T>
+        requires in_row { i < row_len self.now }
+        requires of_cell { reader.old.cell ≡ cell_of self.now i }
+        ensures cell { reader.new.cell ≡ reader.old.cell }
+        ensures shown { IfSome result (λ x. (reader.new.known ≡ Some x.now) × Agrees reader.old.known x.now) }
+        ensures empty { IfNone result ((reader.old.known ≡ None) × (reader.new.known ≡ None)) }
+    {
+        let segment = reader.segment.get(self.home(i));
+        reader.value.look(segment.cell(i % SEGMENT))
+    }
+
+    // The cell that the segment of cell `i` is kept in.
+    fn home(&self, i: u32) -> &OnceBox<Segment<T>>
+        requires { i < row_len self.now }
+        ensures { cell_name result.now ≡ (cell_of self.now i).segment }
+    {
+        &self.segments[(i / SEGMENT) as usize]
+    }
+}
+
+#[cfg(test)]
+mod tests {
+    use super::CellRow;
+    use std::alloc::AllocError;
+    use std::test::Fail;
+
+    #[test]
+    fn only_a_new_segment_takes_memory(rt: HostRuntime) -> Result<(), Fail> {
+        let row = CellRow::<u8>::new(rt.alloc(), 130)?;
+        let _first = row.reader(0)?;
+        assert!(rt; row.reader_with(63, || Err(AllocError)).is_ok());
+        assert!(rt; row.reader_with(64, || Err(AllocError)).is_err());
+        let mut reader = row.reader(64)?;
+        assert_eq!(rt; row.look(64, &mut reader), None);
+        Ok(())
+    }
+}

@@ -1,0 +1,17 @@
+pub mod Zips
+pub mod KeyLemmas
+pub mod Facts
+pub mod HeldLemmas
+pub mod Puts
+pub mod Begun
+pub mod Rooms
+pub mod Sends
+pub mod Steps
+pub mod Tails
+pub mod Marked
+pub mod Prepares
+pub mod Counts
+pub mod Loads
+pub mod EndLemmas
+pub mod Shown
+pub mod Ended

@@ -1,0 +1,22 @@
+use Rattle.std.proofs.Common.{◌≡◌, ◌∙◌, sym, ap, ◌≤◌, ℕ, length, map, Some, slice_get, refl, arith}
+use Rattle.std.proofs.lemmas.List.{length-map}
+use Rattle.std.proofs.lemmas.Option.{slice_get_read}
+use Rattle.dl_desk.specs.Key.{Key}
+use Rattle.dl_desk.specs.Book.{Desk}
+use Rattle.dl_desk.specs.Prepared.{whole, members_at}
+use Rattle.dl_desk.proofs.Sends.{book_jobs-more, members_at-stored}
+use Rattle.dl_desk.proofs.desk.Desk.jobs.Goals as goal
+
+at : (c : goal.In_ok-push) → slice_get c.self.inside.batches.items c.loop-number.number ≡ Some c.index.result.now
+at c =
+    let stored : c.self.inside.prepared.begun ≤ length c.self.inside.batches.items = rw length-map at c.self.invariant.prepared_book.all_stored in
+    slice_get_read c.self.inside.batches.items (length c.self.inside.batches.items) c.loop-number.number c.index.result.now refl (omega arith) c.index.ensures
+
+members : (c : goal.In_ok-push) → members_at c.args.self.now.prepared c.loop-number.number ≡ c.index.result.now.members
+members c = members_at-stored whole c.args.self.now.prepared c.self.inside.prepared.begun c.loop-number.number c.self.inside.batches.items c.index.result.now (sym (ap (λ (d : Desk). d.prepared.batches) c.self.view_is)) c.loop-number-test.true (at c)
+
+pub loop-number-preserved : goal.loop-number-preserved
+loop-number-preserved c =
+    c.in_ok-push.ensures.items
+    ∙ book_jobs-more c.args.self.now.prepared c.self.inside.prepared.sent c.loop-number.number _ _ (omega arith) c.loop-number.invariant
+    (c.in_ok-keys.ensures ∙ (c.keys.ensures ∙ ap (map (λ (m : Key × ℕ). m.0)) (sym (members c))))

@@ -1,0 +1,6 @@
+use Rattle.std.proofs.Common.{◌≡◌, ◌-◌}
+use Rattle.dl_desk.specs.Prepared.{book_jobs}
+use Rattle.dl_desk.proofs.desk.Desk.jobs.Given as goal
+
+abbrev pub invariant-loop-number : goal.invariant-loop-number
+invariant-loop-number l = l.jobs.items ≡ book_jobs l.self.prepared l.sent (l.number - l.sent)

@@ -1,0 +1,27 @@
+-- A call that a desk has prepared.
+use Rattle.std.specs.Prelude.{◌≡◌, List}
+use Rattle.dl_desk.specs.Limits.{Rules}
+use Rattle.dl_desk.specs.History.{Atom, load_replies, prime_reply, jobs}
+use Rattle.dl_desk.specs.Calls.{DeskCall, Loads, Primes, Clears, ClearsAll, Sends, Settles, Fails, after}
+use Rattle.dl_desk.specs.Book.{Desk, StandsFor}
+use Rattle.dl_desk.specs.declared.reply.DeskReply.{DeskReply}
+use Rattle.dl_desk.specs.declared.reply.DeskReply.TheVariants as reply
+use Rattle.dl_desk.specs.declared.ready.Ready.{Ready}
+
+-- the reply is that to the call
+abbrev pub IsReplyTo : Rules → List Atom → DeskCall → DeskReply → Type 0
+IsReplyTo rules history (Loads ks) (reply.Loads replies) = replies.items ≡ load_replies rules history ks
+IsReplyTo rules history (Primes k) (reply.Primed primed) = primed ≡ prime_reply history k
+IsReplyTo rules history Sends (reply.Sent sent) = sent.items ≡ jobs history
+IsReplyTo rules history (Loads ks) _ = ⊥
+IsReplyTo rules history (Primes k) _ = ⊥
+IsReplyTo rules history Sends _ = ⊥
+IsReplyTo rules history (Clears k) _ = ⊥
+IsReplyTo rules history ClearsAll _ = ⊥
+IsReplyTo rules history (Settles b) _ = ⊥
+IsReplyTo rules history (Fails b) _ = ⊥
+
+-- what is prepared in the desk is the call, and the reply is the call's
+pub record IsReadyFor (desk : Desk) (call : DeskCall) (ready : Ready) : Type 0 where
+  pub stands : (history : List Atom) → StandsFor desk.book history → StandsFor desk.prepared (after desk.book.rules history call)
+  pub reply : (history : List Atom) → StandsFor desk.book history → IsReplyTo desk.book.rules history call ready.reply

@@ -1,0 +1,132 @@
+//! Batches as a desk stores them: members, of which the last may be prepared.
+
+ghost use Rattle.std.specs.Prelude.{◌≡◌, Some, false, ◌<◌, slice_get, [], ◌∷◌, ◌++◌, length, take, map, OnOk, OnErr, IfOk};
+ghost use Rattle.std.specs.List.{zip};
+ghost use Rattle.dl_desk.specs.History.{has_member};
+ghost use Rattle.dl_desk.specs.Stored.{Stored, blank};
+ghost use Rattle.dl_desk.specs.Prepared.{whole, front};
+
+use crate::key::{FetchKey, Keys};
+use crate::reply::End;
+use indexmap::IndexSet;
+use std::alloc::{AllocError, Global};
+use std::marker::Model;
+
+/// A batch: the keys of its members, each once and in order, with the cell of each, and how it
+/// ended. The first `seen` members are shown, the others are prepared.
+#[derive(Drop)]
+pub struct StoredBatch {
+    keys: IndexSet<FetchKey>,
+    cells: Vec<u32>,
+    seen: usize,
+    end: Option<End>,
+}
+
+impl Model for StoredBatch {
+    ghost use Rattle.std.specs.Prelude.{◌≡◌, ◌≤◌, length};
+    ghost use Rattle.std.specs.List.{zip};
+    ghost use Rattle.dl_desk.specs.Stored.{Stored};
+
+    ghost Value = { Stored };
+
+    ghost view = { λ b. record { members = zip b.keys.keys b.cells.items; seen = b.seen; end = b.end } };
+
+    ghost invariant = { λ b. (length b.keys.keys ≡ length b.cells.items) × (b.seen ≤ length b.cells.items) };
+}
+
+impl StoredBatch {
+    /// A batch with no members. It takes no memory.
+    pub fn new(alloc: Global) -> StoredBatch
+        ensures { result ≡ blank }
+    {
+        StoredBatch {
+            keys: IndexSet::new(alloc),
+            cells: Vec::new(alloc),
+            seen: 0,
+            end: None,
+        }
+    }
+
+    /// How many members it has, shown and prepared.
+    pub fn len(&self) -> usize
+        ensures { result ≡ length self.now.members }
+    {
+        self.cells.len()
+    }
+
+    /// Whether a member, shown or prepared, has the key.
+    pub fn has(&self, key: &FetchKey) -> bool
+        ensures { result ≡ has_member self.now.members key.now }
+    {
+        self.keys.contains(key)
+    }
+
+    /// The keys of the members, shown and prepared, in order.
+    pub fn keys(&self) -> &[FetchKey]
+        ensures { result.now ≡ map (λ m. m.0) self.now.members }
+    {
+        self.keys.as_slice()
+    }
+
+    /// The key and the cell of a member, shown or prepared.
+    pub fn member(&self, place: usize) -> (&FetchKey, u32)
+        requires { place < length self.now.members }
+        ensures { slice_get self.now.members place ≡ Some (result.0.now, result.1) }
+    {
+        let keys = self.keys.as_slice();
+        (&keys[place], self.cells[place])
+    }
+
+    /// How the batch ended, if it did.
+    pub fn ended(&self) -> Option<End>
+        ensures { result ≡ self.now.end }
+    {
+        self.end
+    }
+
+    /// Prepares one more member. The error is want of memory, and leaves the batch as it was.
+    pub fn push(&mut self, key: FetchKey, cell: u32) -> Result<(), AllocError>
+        requires { has_member self.old.members key ≡ false }
+        ensures shown { front self.new ≡ front self.old }
+        ensures added { OnOk result (whole self.new ≡ record { members = self.old.members ++ (key, cell) ∷ []; end = self.old.end }) }
+        ensures err { OnErr result (self.new ≡ self.old) }
+    {
+        self.cells.reserve(1)?;
+        self.keys.insert(key)?;
+        self.cells.push(cell).unwrap();
+        Ok(())
+    }
+
+    /// Takes back what is prepared.
+    pub fn cut(&mut self)
+        ensures whole { whole self.new ≡ front self.old }
+        ensures front { front self.new ≡ front self.old }
+    {
+        self.keys.truncate(self.seen);
+        self.cells.truncate(self.seen);
+    }
+
+    /// Shows what is prepared.
+    pub fn show(&mut self)
+        ensures whole { whole self.new ≡ whole self.old }
+        ensures front { front self.new ≡ whole self.old }
+    {
+        self.seen = self.cells.len();
+    }
+
+    /// Ends the batch.
+    pub fn finish(&mut self, end: End)
+        ensures whole { whole self.new ≡ record { members = self.old.members; end = Some end } }
+        ensures front { front self.new ≡ record { members = take self.old.seen self.old.members; end = Some end } }
+    {
+        self.end = Some(end);
+    }
+
+    /// The members that are shown: their keys and their cells, in order.
+    pub fn shown(&self) -> (&[FetchKey], &[u32])
+        ensures { zip result.0.now result.1.now ≡ (front self.now).members }
+    {
+        let keys = self.keys.as_slice();
+        (&keys[..self.seen], &self.cells[..self.seen])
+    }
+}

@@ -1,0 +1,152 @@
+//! The calls on keys, each prepared and then shown, and the dispatch.
+
+ghost use Rattle.std.specs.Prelude.{◌≡◌, ◌≤◌, ◌∷◌, [], List, None, IfOk, OnOk, IfErr, OnErr};
+ghost use Rattle.dl_desk.specs.History.{Atom, load_reply, load_replies, loaded, prime_reply, jobs};
+ghost use Rattle.dl_desk.specs.Calls.{Loads, Primes, Clears, ClearsAll, Sends, refusal, IsRefusal, after};
+ghost use Rattle.dl_desk.specs.Book.{StandsFor};
+
+use crate::desk::Desk;
+use crate::fault::DeskFault;
+use crate::key::FetchKey;
+use crate::reply::{DeskPrime, Job, LoadReply};
+use std::alloc::{AllocError, Global};
+
+impl Desk {
+    /// Prepares loads of the keys, in order.
+    pub(super) fn prepare_loads(
+        &mut self,
+        alloc: Global,
+        keys: &[FetchKey],
+    ) -> Result<Vec<LoadReply>, DeskFault>
+        ensures book { self.new.book ≡ self.old.book }
+        ensures rules { self.new.prepared.rules ≡ self.old.book.rules }
+        ensures replies { IfOk result (λ replies. (history : List Atom) → StandsFor self.old.book history → replies.items ≡ load_replies self.old.book.rules history keys.now) }
+        ensures stands { OnOk result ((history : List Atom) → StandsFor self.old.book history → StandsFor self.new.prepared (loaded self.old.book.rules history keys.now)) }
+        ensures accepted { OnOk result ((history : List Atom) → StandsFor self.old.book history → refusal self.old.book.rules history (Loads keys.now) ≡ None) }
+        ensures fault { IfErr result (λ fault. (history : List Atom) → StandsFor self.old.book history → IsRefusal self.old.book.rules history (Loads keys.now) fault) }
+    {
+        self.discard();
+        let mut replies = Vec::with_capacity(alloc, keys.len())?;
+        for key in keys {
+            replies.push(self.load_step(alloc, key)?)?;
+        }
+        Ok(replies)
+    }
+
+    /// Loads a key: the cell that is held for it, or a new one in a batch (DataLoader: `load`).
+    ///
+    /// # Errors
+    /// `CellsFull` where the key isn't held and all cells are begun; `OutOfMemory`.
+    pub fn load(&mut self, alloc: Global, key: &FetchKey) -> Result<LoadReply, DeskFault>
+        ensures rules { self.new.book.rules ≡ self.old.book.rules }
+        ensures reply { IfOk result (λ reply. (history : List Atom) → StandsFor self.old.book history → reply ≡ load_reply self.old.book.rules history key.now) }
+        ensures stands { OnOk result ((history : List Atom) → StandsFor self.old.book history → StandsFor self.new.book (after self.old.book.rules history (Loads (key.now ∷ [])))) }
+        ensures accepted { OnOk result ((history : List Atom) → StandsFor self.old.book history → refusal self.old.book.rules history (Loads (key.now ∷ [])) ≡ None) }
+        ensures fault { IfErr result (λ fault. (history : List Atom) → StandsFor self.old.book history → IsRefusal self.old.book.rules history (Loads (key.now ∷ [])) fault) }
+        ensures err { OnErr result (self.new.book ≡ self.old.book) }
+    {
+        self.discard();
+        let reply = self.load_step(alloc, key)?;
+        self.show();
+        Ok(reply)
+    }
+
+    /// Loads the keys in order, as one call, all or nothing (DataLoader: `loadMany`).
+    ///
+    /// # Errors
+    /// `CellsFull` where the new cells, one for each distinct key that isn't held, are more than
+    /// may be begun; `OutOfMemory`.
+    pub fn load_many(
+        &mut self,
+        alloc: Global,
+        keys: &[FetchKey],
+    ) -> Result<Vec<LoadReply>, DeskFault>
+        ensures rules { self.new.book.rules ≡ self.old.book.rules }
+        ensures replies { IfOk result (λ replies. (history : List Atom) → StandsFor self.old.book history → replies.items ≡ load_replies self.old.book.rules history keys.now) }
+        ensures stands { OnOk result ((history : List Atom) → StandsFor self.old.book history → StandsFor self.new.book (after self.old.book.rules history (Loads keys.now))) }
+        ensures accepted { OnOk result ((history : List Atom) → StandsFor self.old.book history → refusal self.old.book.rules history (Loads keys.now) ≡ None) }
+        ensures fault { IfErr result (λ fault. (history : List Atom) → StandsFor self.old.book history → IsRefusal self.old.book.rules history (Loads keys.now) fault) }
+        ensures err { OnErr result (self.new.book ≡ self.old.book) }
+    {
+        let replies = self.prepare_loads(alloc, keys)?;
+        self.show();
+        Ok(replies)
+    }
+
+    /// Prepares a prime of the key.
+    pub(super) fn prepare_prime(&mut self, key: &FetchKey) -> Result<DeskPrime, DeskFault>
+        ensures book { self.new.book ≡ self.old.book }
+        ensures rules { self.new.prepared.rules ≡ self.old.book.rules }
+        ensures reply { IfOk result (λ reply. (history : List Atom) → StandsFor self.old.book history → reply ≡ prime_reply history key.now) }
+        ensures stands { OnOk result ((history : List Atom) → StandsFor self.old.book history → StandsFor self.new.prepared (after self.old.book.rules history (Primes key.now))) }
+        ensures accepted { OnOk result ((history : List Atom) → StandsFor self.old.book history → refusal self.old.book.rules history (Primes key.now) ≡ None) }
+        ensures fault { IfErr result (λ fault. (history : List Atom) → StandsFor self.old.book history → IsRefusal self.old.book.rules history (Primes key.now) fault) }
+    {
+        self.discard();
+        self.prime_step(key)
+    }
+
+    /// Begins a cell of the key in no batch, for an outcome that the caller has, unless the key is
+    /// held already (DataLoader: `prime`).
+    ///
+    /// # Errors
+    /// `CellsFull` where the key isn't held and all cells are begun; `OutOfMemory`.
+    pub fn prime(&mut self, key: &FetchKey) -> Result<DeskPrime, DeskFault>
+        ensures rules { self.new.book.rules ≡ self.old.book.rules }
+        ensures reply { IfOk result (λ reply. (history : List Atom) → StandsFor self.old.book history → reply ≡ prime_reply history key.now) }
+        ensures stands { OnOk result ((history : List Atom) → StandsFor self.old.book history → StandsFor self.new.book (after self.old.book.rules history (Primes key.now))) }
+        ensures accepted { OnOk result ((history : List Atom) → StandsFor self.old.book history → refusal self.old.book.rules history (Primes key.now) ≡ None) }
+        ensures fault { IfErr result (λ fault. (history : List Atom) → StandsFor self.old.book history → IsRefusal self.old.book.rules history (Primes key.now) fault) }
+        ensures err { OnErr result (self.new.book ≡ self.old.book) }
+    {
+        let reply = self.prepare_prime(key)?;
+        self.show();
+        Ok(reply)
+    }
+
+    /// Prepares a dispatch.
+    pub(super) fn prepare_dispatch(&mut self, alloc: Global) -> Result<Vec<Job>, AllocError>
+        ensures book { self.new.book ≡ self.old.book }
+        ensures rules { self.new.prepared.rules ≡ self.old.book.rules }
+        ensures reply { IfOk result (λ sent. (history : List Atom) → StandsFor self.old.book history → sent.items ≡ jobs history) }
+        ensures stands { OnOk result ((history : List Atom) → StandsFor self.old.book history → StandsFor self.new.prepared (after self.old.book.rules history Sends)) }
+    {
+        self.discard();
+        let jobs = self.jobs(alloc)?;
+        self.prepared.sent = self.prepared.begun;
+        Ok(jobs)
+    }
+
+    /// Sends every batch that was begun and not sent, in order, each as a job. The error is want
+    /// of memory.
+    pub fn dispatch(&mut self, alloc: Global) -> Result<Vec<Job>, AllocError>
+        ensures rules { self.new.book.rules ≡ self.old.book.rules }
+        ensures reply { IfOk result (λ sent. (history : List Atom) → StandsFor self.old.book history → sent.items ≡ jobs history) }
+        ensures stands { OnOk result ((history : List Atom) → StandsFor self.old.book history → StandsFor self.new.book (after self.old.book.rules history Sends)) }
+        ensures err { OnErr result (self.new.book ≡ self.old.book) }
+    {
+        let jobs = self.prepare_dispatch(alloc)?;
+        self.show();
+        Ok(jobs)
+    }
+
+    /// Forgets the key, if it is held (DataLoader: `clear`). It takes no memory.
+    pub fn clear(&mut self, key: &FetchKey)
+        ensures rules { self.new.book.rules ≡ self.old.book.rules }
+        ensures stands { (history : List Atom) → StandsFor self.old.book history → StandsFor self.new.book (after self.old.book.rules history (Clears key.now)) }
+    {
+        self.discard();
+        let _ = self.memo.swap_remove(key);
+        self.shown_memo = self.memo.len();
+    }
+
+    /// Forgets all keys (DataLoader: `clearAll`). It takes no memory.
+    pub fn clear_all(&mut self)
+        ensures rules { self.new.book.rules ≡ self.old.book.rules }
+        ensures stands { (history : List Atom) → StandsFor self.old.book history → StandsFor self.new.book (after self.old.book.rules history ClearsAll) }
+    {
+        self.discard();
+        self.memo.clear();
+        self.shown_memo = 0;
+    }
+}

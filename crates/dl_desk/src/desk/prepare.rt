@@ -1,0 +1,72 @@
+//! Calls in two steps: the first makes the growths, the second can't fail.
+
+ghost use Rattle.std.specs.Prelude.{◌≡◌, List, None, IfOk, OnOk, IfErr};
+ghost use Rattle.dl_desk.specs.History.{Atom};
+ghost use Rattle.dl_desk.specs.Calls.{DeskCall, Loads, Primes, Sends, refusal, IsRefusal, after};
+ghost use Rattle.dl_desk.specs.Book.{StandsFor};
+ghost use Rattle.dl_desk.specs.Ready.{IsReadyFor, IsReplyTo};
+
+use crate::desk::Desk;
+use crate::fault::DeskFault;
+use crate::key::FetchKey;
+use crate::ready::Ready;
+use crate::reply::DeskReply;
+use std::alloc::{AllocError, Global};
+
+impl Desk {
+    /// Makes the growths of [`load_many`](Desk::load_many), and changes nothing that can be seen.
+    ///
+    /// # Errors
+    /// As `load_many`.
+    pub fn ready_loads(&mut self, alloc: Global, keys: &[FetchKey]) -> Result<Ready, DeskFault>
+        ensures book { self.new.book ≡ self.old.book }
+        ensures ready { IfOk result (IsReadyFor self.new (Loads keys.now)) }
+        ensures accepted { OnOk result ((history : List Atom) → StandsFor self.old.book history → refusal self.old.book.rules history (Loads keys.now) ≡ None) }
+        ensures fault { IfErr result (λ fault. (history : List Atom) → StandsFor self.old.book history → IsRefusal self.old.book.rules history (Loads keys.now) fault) }
+    {
+        let replies = self.prepare_loads(alloc, keys)?;
+        Ok(Ready {
+            reply: DeskReply::Loads(replies),
+        })
+    }
+
+    /// Makes the growths of [`prime`](Desk::prime), and changes nothing that can be seen.
+    ///
+    /// # Errors
+    /// As `prime`.
+    pub fn ready_prime(&mut self, key: &FetchKey) -> Result<Ready, DeskFault>
+        ensures book { self.new.book ≡ self.old.book }
+        ensures ready { IfOk result (IsReadyFor self.new (Primes key.now)) }
+        ensures accepted { OnOk result ((history : List Atom) → StandsFor self.old.book history → refusal self.old.book.rules history (Primes key.now) ≡ None) }
+        ensures fault { IfErr result (λ fault. (history : List Atom) → StandsFor self.old.book history → IsRefusal self.old.book.rules history (Primes key.now) fault) }
+    {
+        let reply = self.prepare_prime(key)?;
+        Ok(Ready {
+            reply: DeskReply::Primed(reply),
+        })
+    }
+
+    /// Makes the growths of [`dispatch`](Desk::dispatch), and changes nothing that can be seen.
+    /// The error is want of memory.
+    pub fn ready_dispatch(&mut self, alloc: Global) -> Result<Ready, AllocError>
+        ensures book { self.new.book ≡ self.old.book }
+        ensures ready { IfOk result (IsReadyFor self.new Sends) }
+    {
+        let jobs = self.prepare_dispatch(alloc)?;
+        Ok(Ready {
+            reply: DeskReply::Sent(jobs),
+        })
+    }
+
+    /// Makes the call that is ready, and answers its reply. It takes no memory.
+    pub fn commit(&mut self, ready: Ready) -> DeskReply
+        requires { (call : DeskCall) × IsReadyFor self.old call ready }
+        ensures told { result ≡ ready.reply }
+        ensures rules { self.new.book.rules ≡ self.old.book.rules }
+        ensures reply { (call : DeskCall) → IsReadyFor self.old call ready → (history : List Atom) → StandsFor self.old.book history → IsReplyTo self.old.book.rules history call result }
+        ensures stands { (call : DeskCall) → IsReadyFor self.old call ready → (history : List Atom) → StandsFor self.old.book history → StandsFor self.new.book (after self.old.book.rules history call) }
+    {
+        self.show();
+        ready.reply
+    }
+}
