@@ -4,4 +4,6 @@ pub mod CallLists
 pub mod Given
 pub mod Bytes
 pub mod Known
+pub mod Runs
+pub mod Scripts
 pub mod Verdicts

@@ -10,10 +10,13 @@ mod lines;
 mod member;
 mod program;
 mod script;
+mod script_text;
 mod settings;
 
 pub use command::options;
 pub use document::{MOST_BYTES, read_input};
 pub use fault::{PlanFault, RunError};
+pub use program::run;
 pub use script::{Calls, Input, Script, ScriptCall};
+pub use script_text::run_script;
 pub use settings::Options;

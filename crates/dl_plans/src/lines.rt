@@ -1,6 +1,6 @@
 //! Writing the lines of replies and refusals.
 
-ghost use Rattle.std.specs.Prelude.{◌≡◌, ◌++◌, IfOk, OnOk, codes, string_bytes};
+ghost use Rattle.std.specs.Prelude.{◌≡◌, ◌≢◌, ◌++◌, IfOk, OnOk, codes, string_bytes};
 ghost use Rattle.serde_json.specs.Written.{compact_text};
 ghost use Rattle.dl_plans.specs.Lines.{done_line, load_line, many_lines, prime_line, job_line, sent_lines, refused_line};
 ghost use Rattle.dl_plans.specs.Script.{key_tree};
@@ -59,16 +59,17 @@ pub fn push_sent(alloc: Global, out: &mut String, jobs: &[Job]) -> Result<(), Al
     Ok(())
 }
 
-/// The line of a refusal. Want of memory has none.
+/// The line of a refusal. Want of memory has none, and is the error itself.
 pub fn push_refusal(out: &mut String, fault: DeskFault) -> Result<(), AllocError>
-    ensures { OnOk result (string_bytes out.new ≡ string_bytes out.old ++ refused_line fault) }
+    ensures line { OnOk result (string_bytes out.new ≡ string_bytes out.old ++ refused_line fault) }
+    ensures memory { OnOk result (fault ≢ DeskFault.OutOfMemory) }
 {
     match fault {
         DeskFault::NoBatch => writeln!(out, "refused NoBatch"),
         DeskFault::NotSent => writeln!(out, "refused NotSent"),
         DeskFault::SettledBefore => writeln!(out, "refused SettledBefore"),
         DeskFault::CellsFull { limit } => writeln!(out, "refused CellsFull {limit}"),
-        DeskFault::OutOfMemory => Ok(()),
+        DeskFault::OutOfMemory => Err(AllocError),
     }
 }
 
