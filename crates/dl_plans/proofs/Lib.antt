@@ -1,0 +1,9 @@
+pub mod Trees
+pub mod CallLaws
+pub mod CallLists
+pub mod Given
+pub mod Bytes
+pub mod Known
+pub mod Runs
+pub mod Scripts
+pub mod Verdicts

@@ -1,0 +1,98 @@
+-- A document's bytes, and the first bytes of a reader.
+use Rattle.std.proofs.Common.{◌≡◌, ◌⊎◌, inl, inr, ℕ, ◌+◌, ◌<◌, ◌≤◌, List, length, take, Option, Some, None, Result, Ok, Err, refl, arith}
+use Rattle.std.proofs.lemmas.Bool.{cases_lt}
+use Rattle.std.proofs.lemmas.List.{take_all, length-take}
+use Rattle.std.specs.Io.KnownBytes.{Appends}
+use Rattle.std.specs.Option.{IfSome}
+use Rattle.std.specs.Result.{OnOk}
+use Rattle.serde_json.specs.Data.{Data}
+use Rattle.dl_plans.specs.Document.{IsTextOf, Spells}
+use Rattle.dl_plans.specs.Output.{input_text}
+use Rattle.dl_plans.specs.Faults.{Applies, IsBefore, IsLeast, number, place}
+use Rattle.dl_plans.specs.Run.{Answers, AppendsFront, Writes, WritesFront, IsRefused}
+use Rattle.dl_plans.specs.declared.document.TheConstants.{MOST_BYTES}
+use Rattle.dl_plans.specs.declared.fault.PlanFault.{PlanFault}
+use Rattle.dl_plans.specs.declared.fault.PlanFault.TheVariants.{TooLarge, NotJson, Version, Top, BadCall, Limit, OutOfMemory}
+use Rattle.dl_plans.specs.declared.fault.RunError.{RunError}
+use Rattle.dl_plans.specs.declared.fault.RunError.TheVariants as error
+use Rattle.dl_plans.specs.declared.program.TheConstants.{MOST_READ}
+use Rattle.dl_plans.specs.declared.script.Input.{Input}
+
+-- the first bytes, if there are no more than a document has, are all
+all_read : (bytes : List ℕ) → length (take MOST_READ bytes) ≤ MOST_BYTES → take MOST_READ bytes ≡ bytes
+all_read bytes h = take_all MOST_READ bytes (omega (arith, length-take {A = ℕ} MOST_READ bytes))
+
+answers_all : (bytes text : List ℕ) → Answers (take MOST_READ bytes) text → Answers bytes text
+answers_all bytes text a = rw (all_read bytes a.small) at a
+
+pub run_writes : (held : Option (List ℕ)) (read text : List ℕ) (old new : Option (List ℕ)) → IfSome held (λ bytes. read ≡ take MOST_READ bytes)
+    → Answers read text → Appends old new text → IfSome held (Writes old new)
+run_writes None read text old new is a written = tt
+run_writes (Some bytes) read text old new is a written = record { text = text; answers = answers_all bytes text (rw is at a); written = written }
+
+pub run_writes_front : (held : Option (List ℕ)) (read text : List ℕ) (old new : Option (List ℕ)) → IfSome held (λ bytes. read ≡ take MOST_READ bytes)
+    → Answers read text → AppendsFront old new text → IfSome held (WritesFront old new)
+run_writes_front None read text old new is a written = tt
+run_writes_front (Some bytes) read text old new is a written = record { text = text; answers = answers_all bytes text (rw is at a); written = written }
+
+-- the same of a write that may have failed
+pub run_ok : (written : Result (Unit {0}) RunError) (held : Option (List ℕ)) (read text : List ℕ) (old new : Option (List ℕ))
+    → IfSome held (λ bytes. read ≡ take MOST_READ bytes) → Answers read text → OnOk written (Appends old new text) → OnOk written (IfSome held (Writes old new))
+run_ok (Ok u) held read text old new is a h = run_writes held read text old new is a h
+run_ok (Err e) held read text old new is a h = tt
+
+-- a text that answers what was read
+pub answers_made : (bytes text : List ℕ) (i : Input) → ((d : Data) × IsTextOf bytes d × Spells d i) → ((f : PlanFault) → Applies bytes f → ⊥)
+    → text ≡ input_text i → Answers bytes text
+answers_made bytes text i p passes e = record {
+  small = elim (cases_lt MOST_BYTES (length bytes)) [ inl many ↦ absurd (passes TooLarge many) | inr few ↦ few ];
+  tree = p.0;
+  input = i;
+  is_text = p.1;
+  spells = p.2;
+  output = e;
+}
+
+-- nothing comes before the first refusal
+numbered : (f : PlanFault) → 1 ≤ number f
+numbered TooLarge = omega arith
+numbered NotJson = omega arith
+numbered Version = omega arith
+numbered Top = omega arith
+numbered (BadCall n) = omega arith
+numbered (Limit l) = omega arith
+numbered OutOfMemory = omega arith
+
+not_before : (g : PlanFault) → IsBefore g TooLarge → ⊥
+not_before g (inl h) = let k = numbered g in omega arith
+not_before g (inr h) = omega (arith, h.1)
+
+large_refused : (bytes : List ℕ) (f : PlanFault) → MOST_BYTES < length bytes → (IsBefore TooLarge f → ⊥) → Applies (take MOST_READ bytes) f → IsLeast (Applies bytes) f
+large_refused bytes TooLarge h first a = record { applies = h; first = λ g k before. not_before g before }
+large_refused bytes NotJson h first a = absurd (first (inl (omega arith)))
+large_refused bytes Version h first a = absurd (first (inl (omega arith)))
+large_refused bytes Top h first a = absurd (first (inl (omega arith)))
+large_refused bytes (BadCall n) h first a = absurd (first (inl (omega arith)))
+large_refused bytes (Limit l) h first a = absurd (first (inl (omega arith)))
+large_refused bytes OutOfMemory h first a = absurd a
+
+refused_by : (bytes : List ℕ) (f : PlanFault) → (length bytes ≤ MOST_BYTES) ⊎ (MOST_BYTES < length bytes) → IsLeast (Applies (take MOST_READ bytes)) f → IsLeast (Applies bytes) f
+refused_by bytes f (inl few) least = rw (take_all MOST_READ bytes (omega arith)) at least
+refused_by bytes f (inr many) least =
+    let large : MOST_BYTES < length (take MOST_READ bytes) = omega (arith, length-take {A = ℕ} MOST_READ bytes) in
+    large_refused bytes f many (least.first TooLarge large) least.applies
+
+either_size : (n : ℕ) → (n ≤ MOST_BYTES) ⊎ (MOST_BYTES < n)
+either_size n = elim (cases_lt MOST_BYTES n) [ inl many ↦ inr many | inr few ↦ inl few ]
+
+refused_all : (bytes : List ℕ) (e : RunError) → IsRefused (take MOST_READ bytes) e → IsRefused bytes e
+refused_all bytes error.Read h = h
+refused_all bytes (error.Refused f) h = refused_by bytes f (either_size (length bytes)) h
+refused_all bytes error.Write h = h
+refused_all bytes error.OutOfMemory h = h
+
+-- what is refused of the first bytes is refused of all
+pub run_refused : (held : Option (List ℕ)) (read : List ℕ) (e : RunError) → IfSome held (λ bytes. read ≡ take MOST_READ bytes)
+    → IsRefused read e → IfSome held (λ bytes. IsRefused bytes e)
+run_refused None read e is h = tt
+run_refused (Some bytes) read e is h = refused_all bytes e (rw is at h)

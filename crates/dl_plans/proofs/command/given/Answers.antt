@@ -1,0 +1,18 @@
+use Rattle.std.proofs.Common.{rules, arith, ◌≡◌, ◌∙◌, sym, Bool, true, false, codes, Some}
+use Rattle.clap.proofs.WalkLemmas.{one_text-rows}
+use Rattle.clap.specs.Matches.{one_text}
+use Rattle.clap.specs.Words.{Text, found_of}
+use Rattle.dl_plans.specs.Options.{IsDecimal}
+use Rattle.dl_plans.proofs.Given.{number_given}
+use Rattle.dl_plans.proofs.command.given.Goals as goal
+
+pub returns : goal.returns
+returns c =
+    record {
+      workers = number_given (found_of c.args.matches.now) (codes "workers") c.in_ok-workers.workers c.in_ok-workers.ensures.none
+          (λ t e. let k = c.in_ok-workers.ensures.value t e in record { numeral = search rules; value = search rules });
+      least = search rules;
+      most = search rules;
+      batches = λ e. c.get_flag.ensures.value (one_text-rows (found_of c.args.matches.now) (codes "batches") ∙ e);
+      no_batches = λ e. c.get_flag.ensures.other (one_text-rows (found_of c.args.matches.now) (codes "batches") ∙ e);
+    }

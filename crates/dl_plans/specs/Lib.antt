@@ -1,0 +1,10 @@
+pub mod Script
+pub mod Document
+pub mod Faults
+pub mod Numbers
+pub mod Lines
+pub mod Output
+pub mod Options
+pub mod Run
+pub mod Reading
+pub mod Read

@@ -1,0 +1,48 @@
+-- The command line of `plans`, and what its matches give.
+use Rattle.std.specs.Prelude.{◌≡◌, ◌≤◌, ℕ, ◌∷◌, [], List, true, false, pos, codes, Some}
+use Rattle.std.specs.Str.Parse.{digits_value, without_leading_plus, IsNumeral}
+use Rattle.clap.specs.Words.{App, Shape, Row, Rule, Text, matches_of, new_app, new_rule, one_of, with_rule}
+use Rattle.clap.specs.Simple.{on_top}
+use Rattle.clap.specs.declared.builder.action.ArgAction.TheVariants.{SetTrue}
+use Rattle.clap.specs.declared.builder.value_parser.ValueParser.TheVariants as vp
+use Rattle.dl_plans.specs.declared.settings.Options.{Options}
+
+-- `--workers N`, a number from 1 to 16, and 3 where it isn't given
+abbrev pub workers_rule : Rule
+workers_rule = record (new_rule (codes "workers")) {
+  long = Some (codes "workers");
+  value_names = 1;
+  parser = Some (vp.Signed (pos 1) (pos 16));
+  defaults = codes "3" ∷ [];
+}
+
+-- `--batches`, a flag
+abbrev pub batches_rule : Rule
+batches_rule = record (new_rule (codes "batches")) { long = Some (codes "batches"); action = Some SetTrue }
+
+-- the words stand behind the program's name
+abbrev pub without_name : Shape → Shape
+without_name s = record s { no_binary_name = true }
+
+-- the command line
+abbrev pub plans_app : App
+plans_app = with_rule (with_rule (on_top without_name (new_app (codes "plans"))) workers_rule) batches_rule
+
+-- a text is this number in decimal
+pub record IsDecimal (text : Text) (n : ℕ) : Type 0 where
+  pub numeral : IsNumeral 10 (without_leading_plus text)
+  pub value : n ≡ digits_value 10 (without_leading_plus text)
+
+-- a row of the matches is this number in decimal
+pub record GivesNumber (rows : List Row) (id : Text) (n : ℕ) : Type 0 where
+  pub text : Text
+  pub row : one_of id rows ≡ Some text
+  pub decimal : IsDecimal text n
+
+-- the options that the matches give
+pub record AreGiven (rows : List Row) (o : Options) : Type 0 where
+  pub workers : GivesNumber rows (codes "workers") o.workers
+  pub least : 1 ≤ o.workers
+  pub most : o.workers ≤ 16
+  pub batches : one_of (codes "batches") rows ≡ Some (codes "true") → o.batches ≡ true
+  pub no_batches : one_of (codes "batches") rows ≡ Some (codes "false") → o.batches ≡ false

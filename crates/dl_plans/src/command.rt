@@ -1,0 +1,76 @@
+//! The command line.
+
+ghost use Rattle.std.specs.Prelude.{◌≡◌, IfOk, IfSome, map, false};
+ghost use Rattle.clap.specs.Words.{app_of, rule_of, found_of, matches_of, rows_of};
+ghost use Rattle.dl_plans.specs.Options.{plans_app, workers_rule, batches_rule, AreGiven};
+
+use crate::settings::Options;
+use clap::error::ErrorKind;
+use clap::{Arg, ArgAction, ArgMatches, Command, Error, value_parser};
+use std::alloc::{AllocError, Global};
+use std::convert::AsStr;
+
+/// The options that the words behind the program's name give: `[--workers N] [--batches]`, with N
+/// from 1 to 16, and 3 where it is not given.
+///
+/// # Errors
+/// A request for help, with the help as its text, and words of another form.
+pub fn options<'a, S: AsStr>(alloc: Global, words: &'a [S]) -> Result<Options, Error>
+    ensures { IfOk result (AreGiven (matches_of plans_app (map S.text words.entry.now))) }
+{
+    let mut command = command(alloc)?;
+    let matches = command.try_get_matches_from_mut(words)?;
+    match given(&matches) {
+        Some(options) => Ok(options),
+        None => Err(command.error(ErrorKind::ValueValidation, "N is not 1 to 16")?),
+    }
+}
+
+/// The command line of `plans`.
+fn command<'a>(alloc: Global) -> Result<Command<'a>, AllocError>
+    ensures { IfOk result (λ c. app_of c ≡ plans_app) }
+{
+    Command::new(alloc, "plans")
+        .about("Answers a document that stands on standard input")
+        .no_binary_name(true)
+        .arg(workers(alloc))?
+        .arg(batches(alloc))
+}
+
+/// `--workers N`.
+fn workers<'a>(alloc: Global) -> Arg<'a>
+    ensures rule { rule_of result ≡ workers_rule }
+    ensures local { result.global ≡ false }
+{
+    Arg::new(alloc, "workers")
+        .long("workers")
+        .value_name("N")
+        .value_parser(value_parser!(u32).range(1..=16))
+        .default_value("3")
+        .help("How many workers fetch for a plan file, 1 to 16")
+}
+
+/// `--batches`.
+fn batches<'a>(alloc: Global) -> Arg<'a>
+    ensures rule { rule_of result ≡ batches_rule }
+    ensures local { result.global ≡ false }
+{
+    Arg::new(alloc, "batches")
+        .long("batches")
+        .action(ArgAction::SetTrue)
+        .help("Prints the batches of a plan file with one plan")
+}
+
+/// The options of the matches, if the number of workers is in range.
+fn given(matches: &ArgMatches) -> Option<Options>
+    ensures { IfSome result (AreGiven (rows_of (found_of matches.now))) }
+{
+    let workers = matches.get_one::<u32>("workers")?;
+    if !(1..=16).contains(&workers) {
+        return None;
+    }
+    Some(Options {
+        workers,
+        batches: matches.get_flag("batches"),
+    })
+}

@@ -1,0 +1,102 @@
+//! Running the program over a reader and a writer.
+
+ghost use Rattle.std.specs.Prelude.{◌≡◌, ◌≢◌, ◌⊎◌, IfOk, IfErr, IfSome, OnOk, OnErr, take, string_bytes};
+ghost use Rattle.std.specs.Io.KnownBytes.{Appends, Keeps};
+ghost use Rattle.dl_plans.specs.Faults.{Applies, IsLeast};
+ghost use Rattle.dl_plans.specs.Run.{Answers, Writes, WritesFront, AppendsFront, IsRefused};
+
+use crate::document::{MOST_BYTES, read_input};
+use crate::fault::{PlanFault, RunError};
+use crate::script::Input;
+use crate::script_text::run_script;
+use crate::settings::Options;
+use std::alloc::Global;
+use std::io::{Read, Write};
+
+/// The most bytes that are read: one more than a document has.
+const MOST_READ: usize = MOST_BYTES + 1;
+
+/// How many bytes are asked for at a time.
+const BUFFER_BYTES: usize = 4096;
+
+/// Reads a document, and writes the text that it gives once all of it is made. A script has no use
+/// for the options.
+///
+/// # Errors
+/// `Read` where the reader fails, `Refused` where what it holds is no document, want of memory, and
+/// `Write` where the writer fails. Only after `Write` something may be written: a front of the text.
+pub fn run<R: Read, W: Write>(
+    alloc: Global,
+    reader: &mut R,
+    writer: &mut W,
+    _options: Options,
+) -> Result<(), RunError>
+    ensures ok { OnOk result (IfSome (R.remaining reader.old) (Writes (W.contents writer.old) (W.contents writer.new))) }
+    ensures refused { IfErr result (λ e. IfSome (R.remaining reader.old) (λ bytes. IsRefused bytes e)) }
+    ensures write { result ≡ Err RunError.Write → IfSome (R.remaining reader.old) (WritesFront (W.contents writer.old) (W.contents writer.new)) }
+    ensures untouched { IfErr result (λ e. e ≢ RunError.Write → Keeps (W.contents writer.old) (W.contents writer.new)) }
+{
+    let bytes = read_all(alloc, reader)?;
+    let text = output(alloc, &bytes)?;
+    write_all(writer, text.as_bytes())
+}
+
+/// The text that a document gives.
+fn output(alloc: Global, bytes: &[u8]) -> Result<String, RunError>
+    ensures ok { IfOk result (λ text. Answers bytes.now (string_bytes text)) }
+    ensures err { IfErr result (IsRefused bytes.now) }
+    ensures kept { IfErr result (λ e. e ≢ RunError.Write) }
+{
+    match read_input(alloc, bytes) {
+        Ok(Input::Script(script)) => match run_script(alloc, &script) {
+            Ok(text) => Ok(text),
+            Err(_) => Err(RunError::OutOfMemory),
+        },
+        Err(PlanFault::OutOfMemory) => Err(RunError::OutOfMemory),
+        Err(fault) => Err(RunError::Refused(fault)),
+    }
+}
+
+/// The bytes that the reader has, up to one more than a document's. A read is repeated until it
+/// gives nothing.
+///
+/// # Errors
+/// `Read` at a read that fails, also an interrupted one, and want of memory.
+fn read_all<R: Read>(alloc: Global, reader: &mut R) -> Result<Vec<u8>, RunError>
+    ensures bytes { IfOk result (λ v. IfSome (R.remaining reader.old) (λ bytes. v.items ≡ take MOST_READ bytes)) }
+    ensures err { IfErr result (λ e. (e ≡ RunError.Read) ⊎ (e ≡ RunError.OutOfMemory)) }
+{
+    let mut bytes = Vec::new(alloc);
+    let mut buffer = [0; BUFFER_BYTES];
+    'reads: while bytes.len() < MOST_READ {
+        let room = BUFFER_BYTES.min(MOST_READ - bytes.len());
+        match reader.read(&mut buffer[..room]) {
+            Ok(0) => return Ok(bytes),
+            Ok(count) => bytes
+                .extend_from_slice(&buffer[..count])
+                .map_err(|_| RunError::OutOfMemory)?,
+            Err(_) => return Err(RunError::Read),
+        }
+    }
+    Ok(bytes)
+}
+
+/// Writes the text and flushes.
+///
+/// # Errors
+/// `Write` at a write that fails, also an interrupted one, or takes nothing, and at a flush that
+/// fails. What was written is then a front of the text.
+fn write_all<W: Write>(writer: &mut W, text: &[u8]) -> Result<(), RunError>
+    ensures ok { OnOk result (Appends (W.contents writer.old) (W.contents writer.new) text.now) }
+    ensures err { IfErr result (λ e. e ≡ RunError.Write) }
+    ensures front { AppendsFront (W.contents writer.old) (W.contents writer.new) text.now }
+{
+    let mut at = 0;
+    'writes: while at < text.len() {
+        match writer.write(&text[at..]) {
+            Ok(0) | Err(_) => return Err(RunError::Write),
+            Ok(count) => at += count,
+        }
+    }
+    writer.flush().map_err(|_| RunError::Write)
+}

@@ -1,0 +1,10 @@
+//! The settings of a run.
+
+/// What the command line sets.
+#[derive(Clone, Copy, Debug, PartialEq, Eq)]
+pub struct Options {
+    /// How many workers fetch for a plan file, 1 to 16.
+    pub workers: u32,
+    /// Whether the batches of a plan file with one plan are printed.
+    pub batches: bool,
+}
