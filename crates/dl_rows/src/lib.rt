@@ -9,4 +9,6 @@ mod cells;
 #[cfg(test)]
 mod desk;
 #[cfg(test)]
+mod generated;
+#[cfg(test)]
 mod slow_rows;
