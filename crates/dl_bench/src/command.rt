@@ -1,6 +1,8 @@
 //! What the words of the command line ask for.
 
-ghost use Rattle.std.specs.Prelude.{◌≤◌, IfOk};
+ghost use Rattle.std.specs.Prelude.{◌≡◌, Some, map, slice_get, IfOk};
+ghost use Rattle.dl_desk.specs.Limits.{IsLimit};
+ghost use Rattle.dl_bench.specs.Asked.{IsSized, workload};
 
 use dl_desk::LARGEST_LIMIT;
 use thiserror::Error;
@@ -31,7 +33,10 @@ pub enum CommandFault {
 
 impl Command {
     /// The command of these words, of which the first is the program's name.
-    pub fn from_words(words: &[&str]) -> Result<Command, CommandFault> {
+    pub fn from_words(words: &[&str]) -> Result<Command, CommandFault>
+        ensures workload { IfOk result (λ command. slice_get (map (λ word. word.now) words.now) 1 ≡ Some (workload command)) }
+        ensures sizes { IfOk result IsSized }
+    {
         match words {
             [_, "loads", keys, batch] => Ok(Command::Loads {
                 keys: size(keys)?,
@@ -53,7 +58,7 @@ impl Command {
 }
 
 fn size(word: &str) -> Result<u32, CommandFault>
-    ensures { IfOk result (λ n. (1 ≤ n) × (n ≤ LARGEST_LIMIT)) }
+    ensures { IfOk result IsLimit }
 {
     match word.parse::<u32>() {
         Ok(number) if (1..=LARGEST_LIMIT).contains(&number) => Ok(number),
