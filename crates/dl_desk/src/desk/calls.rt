@@ -146,7 +146,7 @@ impl Desk {
         ensures stands { (history : List Atom) → StandsFor self.old.book history → StandsFor self.new.book (after self.old.book.rules history ClearsAll) }
     {
         self.discard();
-        self.memo.clear();
+        self.memo.truncate(0);
         self.shown_memo = 0;
     }
 }

@@ -1,0 +1,25 @@
+-- What words ask for, and counts that stay at their end.
+use Rattle.std.specs.Prelude.{ℕ, ◌+◌, ◌-◌, ◌^◌, min, codes, List}
+use Rattle.dl_desk.specs.Limits.{IsLimit}
+use Rattle.dl_bench.specs.declared.command.Command.{Command}
+use Rattle.dl_bench.specs.declared.command.Command.TheVariants.{Loads, Many, Hits, Clears, Rounds}
+
+-- each number of the command may be a limit of a loader
+abbrev pub IsSized : Command → Type 0
+IsSized (Loads keys batch) = IsLimit keys × IsLimit batch
+IsSized (Many keys batch) = IsLimit keys × IsLimit batch
+IsSized (Hits keys) = IsLimit keys
+IsSized (Clears keys) = IsLimit keys
+IsSized (Rounds keys batch) = IsLimit keys × IsLimit batch
+
+-- the word that names the workload
+abbrev pub workload : Command → List ℕ
+workload (Loads _ _) = codes "loads"
+workload (Many _ _) = codes "many"
+workload (Hits _) = codes "hits"
+workload (Clears _) = codes "clears"
+workload (Rounds _ _) = codes "rounds"
+
+-- one more, but the largest number stays
+abbrev pub one_more : ℕ → ℕ
+one_more n = min (n + 1) (2 ^ 64 - 1)

@@ -1,0 +1,67 @@
+//! What the words of the command line ask for.
+
+ghost use Rattle.std.specs.Prelude.{◌≡◌, Some, map, slice_get, IfOk};
+ghost use Rattle.dl_desk.specs.Limits.{IsLimit};
+ghost use Rattle.dl_bench.specs.Asked.{IsSized, workload};
+
+use dl_desk::LARGEST_LIMIT;
+use thiserror::Error;
+
+/// A workload and its size: how many keys, and the most keys of a batch.
+#[derive(Clone, Copy, Debug, PartialEq, Eq)]
+pub enum Command {
+    /// Loads the keys one by one, then dispatches.
+    Loads { keys: u32, batch: u32 },
+    /// Loads the keys in one call.
+    Many { keys: u32, batch: u32 },
+    /// Loads the keys one by one, twice.
+    Hits { keys: u32 },
+    /// Loads, clears and loads again each key in turn.
+    Clears { keys: u32 },
+    /// For each batch of keys: loads them in one call, dispatches, settles.
+    Rounds { keys: u32, batch: u32 },
+}
+
+/// Why words are no command.
+#[derive(Clone, Copy, Debug, PartialEq, Eq, Error)]
+pub enum CommandFault {
+    #[error("usage: dl_bench loads|many|rounds N B, or dl_bench hits|clears N")]
+    Usage,
+    #[error("N and B are numbers from 1 to 65536, the largest limit of a loader")]
+    Size,
+}
+
+impl Command {
+    /// The command of these words, of which the first is the program's name.
+    pub fn from_words(words: &[&str]) -> Result<Command, CommandFault>
+        ensures workload { IfOk result (λ command. slice_get (map (λ word. word.now) words.now) 1 ≡ Some (workload command)) }
+        ensures sizes { IfOk result IsSized }
+    {
+        match words {
+            [_, "loads", keys, batch] => Ok(Command::Loads {
+                keys: size(keys)?,
+                batch: size(batch)?,
+            }),
+            [_, "many", keys, batch] => Ok(Command::Many {
+                keys: size(keys)?,
+                batch: size(batch)?,
+            }),
+            [_, "hits", keys] => Ok(Command::Hits { keys: size(keys)? }),
+            [_, "clears", keys] => Ok(Command::Clears { keys: size(keys)? }),
+            [_, "rounds", keys, batch] => Ok(Command::Rounds {
+                keys: size(keys)?,
+                batch: size(batch)?,
+            }),
+            _ => Err(CommandFault::Usage),
+        }
+    }
+}
+
+fn size(word: &str) -> Result<u32, CommandFault>
+    ensures { IfOk result IsLimit }
+{
+    match word.parse::<u32>() {
+        Ok(number) if (1..=LARGEST_LIMIT).contains(&number) => Ok(number),
+        _ => Err(CommandFault::Size),
+    }
+}

@@ -1,0 +1,44 @@
+//! Runs one workload on a desk, and prints counts of what it did and no time, so that the same
+//! words always print the same.
+#![tactic(auto)]
+
+mod command;
+mod counts;
+mod workloads;
+
+use crate::command::Command;
+use crate::counts::Counts;
+use anyhow::Result;
+use std::alloc::Global;
+use std::env;
+use std::io::Print;
+
+fn run(alloc: Global, command: Command) -> Result<Counts> {
+    match command {
+        Command::Loads { keys, batch } => workloads::loads(alloc, keys, batch),
+        Command::Many { keys, batch } => workloads::many(alloc, keys, batch),
+        Command::Hits { keys } => workloads::hits(alloc, keys),
+        Command::Clears { keys } => workloads::clears(alloc, keys),
+        Command::Rounds { keys, batch } => workloads::rounds(alloc, keys, batch),
+    }
+}
+
+fn print(rt: &impl Print, counts: &Counts) -> Result<()> {
+    println!(rt; "cells {}", counts.cells)?;
+    println!(rt; "hits {}", counts.hits)?;
+    println!(rt; "batches {}", counts.batches)?;
+    println!(rt; "jobs {}", counts.jobs)?;
+    println!(rt; "settled {}", counts.settled)?;
+    Ok(())
+}
+
+fn main(rt: HostRuntime) -> Result<()> {
+    let arguments = env::args(&rt)?.collect::<Vec<_>>(rt.alloc())?;
+    let mut words = Vec::new(rt.alloc());
+    for argument in &arguments {
+        words.push(argument.as_str())?;
+    }
+    let command = Command::from_words(words.as_slice())?;
+    let counts = run(rt.alloc(), command)?;
+    print(&rt, &counts)
+}
