@@ -1,5 +1,6 @@
-pub mod Totals
-pub mod Steps
-pub mod Jobs
-pub mod Accounts
-pub mod Finish
+mod Accounts
+mod Finish
+mod Jobs
+pub mod SeatLists
+mod Steps
+mod Totals

@@ -2,6 +2,7 @@
 
 ghost use Rattle.std.specs.Prelude.{◌≡◌, ◌<◌, ◌≤◌};
 ghost use Rattle.crossbeam_channel.specs.Ends.{sends_on, receives_on};
+ghost use Rattle.dl_workers.specs.declared.queue.TheConstants.{MOST_SEATS};
 
 use crate::deal::{deal_senders, deal_takers, widen};
 use crate::fault::QueueFault;
@@ -41,12 +42,12 @@ pub struct JobQueue {
     takers: u32,
     ghost one_channel: { receives_on receives ≡ sends_on sends },
     ghost some_senders: { 0 < senders },
-    ghost few_senders: { senders ≤ 32 },
-    ghost few_takers: { takers ≤ 32 },
+    ghost few_senders: { senders ≤ MOST_SEATS },
+    ghost few_takers: { takers ≤ MOST_SEATS },
 }
 
 impl JobQueue {
-    ghost use Rattle.std.specs.Prelude.{◌+◌, ◌*◌, ◌^◌, [], ◌∷◌, ◌++◌, length, All, MatchOption, OnOk, IfOk, IfErr, flat_map, vec_len};
+    ghost use Rattle.std.specs.Prelude.{◌+◌, ◌*◌, ◌^◌, [], ◌∷◌, ◌++◌, length, All, MatchOption, MatchResult, OnOk, IfOk, IfErr, flat_map, vec_len};
     ghost use Rattle.crossbeam_channel.specs.Claims.{view, IsSeatAt};
     ghost use Rattle.dl_workers.specs.QueueFaults.{IsCapacity, IsCount, RefusedAs};
     ghost use Rattle.dl_workers.specs.Seats.{IsSenderOf, IsTakerOf, AreSeatsOf, sent_items, sent_jobs, taken_items, taken_jobs, places_of};
@@ -135,18 +136,13 @@ impl JobQueue {
         if sender.sent == u32::MAX || self.is_shut.load(Ordering::SeqCst) {
             return Err(job);
         }
-        match self
-            .sends
-            .send_as::<Sends, R>(rt, &mut sender.pass, Item::Work(job))
-        {
+        match self.put(rt, &mut sender.pass, Item::Work(job)) {
             Ok(()) => {
                 sender.sent += 1;
                 Ok(())
             }
-            Err(refused) => match refused.into_inner() {
-                Item::Work(job) => Err(job),
-                Item::End => unreachable!(),
-            },
+            Err(Item::Work(job)) => Err(job),
+            Err(Item::End) => unreachable!(),
         }
     }
 
@@ -196,9 +192,20 @@ impl JobQueue {
         ensures seat { IsSenderOf self.now sender.new }
         ensures same { sent_jobs sender.new ≡ sent_jobs sender.old }
     {
-        let _ = self
-            .sends
-            .send_as::<Sends, R>(rt, &mut sender.pass, Item::End);
+        let _ = self.put(rt, &mut sender.pass, Item::End);
+    }
+
+    // Puts an item into the channel, and waits where that is full. The item comes back where it can't be put.
+    fn put<R: Wait>(&self, rt: &R, pass: &mut Pass<Item, Account>, item: Item) -> Result<(), Item>
+        requires seat { IsSeatAt (sends_on self.now.sends) pass.old }
+        requires some_seat { 0 < (view pass.old).seats }
+        ensures seat { IsSeatAt (sends_on self.now.sends) pass.new }
+        ensures put { MatchResult result (λ _. view pass.new ≡ account (view pass.old).seats (view pass.old).all ((view pass.old).sent ++ item ∷ []) (view pass.old).taken) (λ back. (back ≡ item) × (view pass.new ≡ view pass.old)) }
+    {
+        match self.sends.send_as::<Sends, R>(rt, pass, item) {
+            Ok(()) => Ok(()),
+            Err(refused) => Err(refused.into_inner()),
+        }
     }
 
     /// Ends the queue, given back all of its seats, and counts the jobs. It takes the handle as
@@ -218,23 +225,20 @@ impl JobQueue {
         let sent = u64::from(sent) + self.gather_senders(&mut whole, senders);
         let taken = self.gather_takers(&mut whole, takers);
         self.sends.learn_as::<Whole>(&mut whole);
-        Tally {
-            sent,
-            taken,
-            left: sent - taken,
-        }
+        let left = sent - taken;
+        Tally { sent, taken, left }
     }
 
     // Joins the senders into one pass, and adds up their jobs.
     fn gather_senders(&self, whole: &mut Pass<Item, Account>, senders: Vec<Sender>) -> u64
         requires seat { IsSeatAt (sends_on self.now.sends) whole.old }
         requires some_seat { 0 < (view whole.old).seats }
-        requires few { length senders.items ≤ 32 }
+        requires few { length senders.items ≤ MOST_SEATS }
         requires senders { All (IsSenderOf self.now) senders.items }
         ensures seat { IsSeatAt (sends_on self.now.sends) whole.new }
         ensures gathered { view whole.new ≡ account ((view whole.old).seats + length senders.items) (view whole.old).all ((view whole.old).sent ++ flat_map sent_items senders.items) (view whole.old).taken }
         ensures counted { result ≡ length (flat_map sent_jobs senders.items) }
-        ensures bound { result ≤ 32 * 2 ^ 32 }
+        ensures bound { result ≤ MOST_SEATS * 2 ^ 32 }
     {
         let mut sent = 0;
         for sender in senders {
@@ -248,12 +252,12 @@ impl JobQueue {
     fn gather_takers(&self, whole: &mut Pass<Item, Account>, takers: Vec<Taker>) -> u64
         requires seat { IsSeatAt (sends_on self.now.sends) whole.old }
         requires some_seat { 0 < (view whole.old).seats }
-        requires few { length takers.items ≤ 32 }
+        requires few { length takers.items ≤ MOST_SEATS }
         requires takers { All (IsTakerOf self.now) takers.items }
         ensures seat { IsSeatAt (sends_on self.now.sends) whole.new }
         ensures gathered { view whole.new ≡ account ((view whole.old).seats + length takers.items) (view whole.old).all (view whole.old).sent ((view whole.old).taken ++ flat_map taken_items takers.items) }
         ensures counted { result ≡ length (flat_map taken_jobs takers.items) }
-        ensures bound { result ≤ 32 * 2 ^ 32 }
+        ensures bound { result ≤ MOST_SEATS * 2 ^ 32 }
     {
         let mut taken = 0;
         for taker in takers {

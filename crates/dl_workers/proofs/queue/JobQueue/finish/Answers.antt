@@ -53,8 +53,8 @@ sums : (g : Over) (c : After-learn_as g)
     → c.from.result + c.gather_senders.result ≡ c.gather_takers-taken.result + (c.from.result + c.gather_senders.result - c.gather_takers-taken.result)
 sums g c = balance_of_counts (c.pop.new.self.items ++ c.in-Some.last ∷ []) c.args.takers.items _ _ _ (balance g c)
 
-pub overflow_sub-result : goal.overflow_sub-result
-overflow_sub-result g c = omega (arith, sums g c)
+pub overflow_sub-left : goal.overflow_sub-left
+overflow_sub-left g c = omega (arith, sums g c)
 
 pub returns-clause-balance : goal.returns-clause-balance
 returns-clause-balance g c = rw c.in-Some.ensures.items (balance g (goal.at.returns-clause-balance g c).After-learn_as)
