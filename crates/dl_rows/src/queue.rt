@@ -57,7 +57,14 @@ fn one_job_and_then_shut(rt: HostRuntime) -> Result<(), Fail> {
     assert_eq!(rt; send(&rt, &queue, &mut senders[0], job(alloc, 1)?), Some(1));
     assert_eq!(rt; take(&rt, &queue, &mut takers[0]), None);
     let tally = queue.finish(&rt, senders, takers);
-    assert_eq!(rt; tally, Tally { sent: 1, taken: 1, left: 0 });
+    assert_eq!(rt;
+        tally,
+        Tally {
+            sent: 1,
+            taken: 1,
+            left: 0
+        }
+    );
     Ok(())
 }
 
@@ -67,7 +74,14 @@ fn one_job_left(rt: HostRuntime) -> Result<(), Fail> {
     let (queue, mut senders, takers) = JobQueue::new(alloc, 2, 1, 1)?;
     assert_eq!(rt; send(&rt, &queue, &mut senders[0], job(alloc, 0)?), None);
     let tally = queue.finish(&rt, senders, takers);
-    assert_eq!(rt; tally, Tally { sent: 1, taken: 0, left: 1 });
+    assert_eq!(rt;
+        tally,
+        Tally {
+            sent: 1,
+            taken: 0,
+            left: 1
+        }
+    );
     Ok(())
 }
 
@@ -90,8 +104,25 @@ fn what_is_left_comes_before_the_end(rt: HostRuntime) -> Result<(), Fail> {
     assert_eq!(rt; take(&rt, &queue, &mut takers[1]), None);
     assert_eq!(rt; take(&rt, &queue, &mut takers[0]), None);
     let tally = queue.finish(&rt, senders, takers);
-    assert_eq!(rt; tally, Tally { sent: 3, taken: 3, left: 0 });
+    assert_eq!(rt;
+        tally,
+        Tally {
+            sent: 3,
+            taken: 3,
+            left: 0
+        }
+    );
     Ok(())
+}
+
+// Under `rt try --test --fail-alloc N` each growth of `new` is refused in turn.
+#[test]
+fn a_refused_growth(rt: HostRuntime) {
+    let alloc = rt.alloc();
+    if let Err(fault) = JobQueue::new(alloc, 2, 1, 1) {
+        assert_eq!(rt; fault, QueueFault::OutOfMemory);
+        assert!(rt; JobQueue::new(alloc, 2, 1, 1).is_ok());
+    }
 }
 
 /// Sends the jobs of these numbers, as long as the queue takes them.
@@ -240,6 +271,13 @@ fn four_threads(rt: HostRuntime) -> Result<(), Fail> {
     takers.push(one.seat)?;
     takers.push(other.seat)?;
     let tally = queue.finish(&rt, senders, takers);
-    assert_eq!(rt; tally, Tally { sent: 200, taken: 200, left: 0 });
+    assert_eq!(rt;
+        tally,
+        Tally {
+            sent: 200,
+            taken: 200,
+            left: 0
+        }
+    );
     Ok(())
 }
