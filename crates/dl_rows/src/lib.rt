@@ -11,4 +11,6 @@ mod desk;
 #[cfg(test)]
 mod generated;
 #[cfg(test)]
+mod queue;
+#[cfg(test)]
 mod slow_rows;
