@@ -2,7 +2,7 @@
 use Rattle.std.specs.Prelude.{ℕ, ◌+◌, ◌-◌, ◌^◌, min, codes, List}
 use Rattle.dl_desk.specs.Limits.{IsLimit}
 use Rattle.dl_bench.specs.declared.command.Command.{Command}
-use Rattle.dl_bench.specs.declared.command.Command.TheVariants.{Loads, Many, Hits, Clears, Rounds}
+use Rattle.dl_bench.specs.declared.command.Command.TheVariants.{Loads, Many, Hits, Clears, Rounds, Script}
 
 -- each number of the command may be a limit of a loader
 abbrev pub IsSized : Command → Type 0
@@ -11,6 +11,7 @@ IsSized (Many keys batch) = IsLimit keys × IsLimit batch
 IsSized (Hits keys) = IsLimit keys
 IsSized (Clears keys) = IsLimit keys
 IsSized (Rounds keys batch) = IsLimit keys × IsLimit batch
+IsSized (Script keys) = IsLimit keys
 
 -- the word that names the workload
 abbrev pub workload : Command → List ℕ
@@ -19,6 +20,7 @@ workload (Many _ _) = codes "many"
 workload (Hits _) = codes "hits"
 workload (Clears _) = codes "clears"
 workload (Rounds _ _) = codes "rounds"
+workload (Script _) = codes "script"
 
 -- one more, but the largest number stays
 abbrev pub one_more : ℕ → ℕ

@@ -20,12 +20,14 @@ pub enum Command {
     Clears { keys: u32 },
     /// For each batch of keys: loads them in one call, dispatches, settles.
     Rounds { keys: u32, batch: u32 },
+    /// Reads a script that loads the keys one by one, and answers it.
+    Script { keys: u32 },
 }
 
 /// Why words are no command.
 #[derive(Clone, Copy, Debug, PartialEq, Eq, Error)]
 pub enum CommandFault {
-    #[error("usage: dl_bench loads|many|rounds N B, or dl_bench hits|clears N")]
+    #[error("usage: dl_bench loads|many|rounds N B, or dl_bench hits|clears|script N")]
     Usage,
     #[error("N and B are numbers from 1 to 65536, the largest limit of a loader")]
     Size,
@@ -52,6 +54,7 @@ impl Command {
                 keys: size(keys)?,
                 batch: size(batch)?,
             }),
+            [_, "script", keys] => Ok(Command::Script { keys: size(keys)? }),
             _ => Err(CommandFault::Usage),
         }
     }

@@ -6,8 +6,8 @@ ghost use Rattle.dl_bench.specs.Asked.{one_more};
 
 use dl_desk::LoadReply;
 
-/// Loads that began a cell and loads that were hits, batches begun, jobs sent, batches settled, and
-/// the batch of the newest cell.
+/// Loads that began a cell and loads that were hits, batches begun, jobs sent, batches settled, lines
+/// printed, and the batch of the newest cell.
 #[derive(Clone, Copy, Debug, Default, PartialEq, Eq)]
 pub struct Counts {
     pub cells: u64,
@@ -15,6 +15,7 @@ pub struct Counts {
     pub batches: u64,
     pub jobs: u64,
     pub settled: u64,
+    pub lines: u64,
     pub last_batch: Option<u32>,
 }
 

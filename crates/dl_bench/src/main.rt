@@ -20,6 +20,7 @@ fn run(alloc: Global, command: Command) -> Result<Counts> {
         Command::Hits { keys } => workloads::hits(alloc, keys),
         Command::Clears { keys } => workloads::clears(alloc, keys),
         Command::Rounds { keys, batch } => workloads::rounds(alloc, keys, batch),
+        Command::Script { keys } => workloads::script(alloc, keys),
     }
 }
 
@@ -29,6 +30,7 @@ fn print(rt: &impl Print, counts: &Counts) -> Result<()> {
     println!(rt; "batches {}", counts.batches)?;
     println!(rt; "jobs {}", counts.jobs)?;
     println!(rt; "settled {}", counts.settled)?;
+    println!(rt; "lines {}", counts.lines)?;
     Ok(())
 }
 

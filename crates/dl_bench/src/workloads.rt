@@ -3,8 +3,9 @@
 use crate::counts::Counts;
 use anyhow::Result;
 use dl_desk::{Desk, FetchKey, LARGEST_LIMIT, LimitFault, Limits};
+use dl_plans::{Input, read_input, run_script};
 use itoa::Buffer;
-use std::alloc::Global;
+use std::alloc::{AllocError, Global};
 
 /// The most keys that can be loaded, cleared and loaded again on one desk, since each begins two
 /// cells.
@@ -94,5 +95,28 @@ pub fn rounds(alloc: Global, keys: u32, batch: u32) -> Result<Counts> {
             counts.settled = counts.settled.saturating_add(1);
         }
     }
+    Ok(counts)
+}
+
+/// The text of a script that loads the keys one by one.
+fn script_of(alloc: Global, keys: u32) -> Result<String, AllocError> {
+    let mut text = String::from_str(alloc, "{\"script\":1,\"calls\":[")?;
+    for number in 0..keys {
+        if number > 0 {
+            text.push_str(",")?;
+        }
+        write!(text, "{{\"load\":[\"users\",\"{number}\"]}}")?;
+    }
+    text.push_str("]}")?;
+    Ok(text)
+}
+
+/// Reads a script that loads the keys one by one, answers it, and counts the lines of the answer.
+pub fn script(alloc: Global, keys: u32) -> Result<Counts> {
+    let text = script_of(alloc, keys)?;
+    let Input::Script(script) = read_input(alloc, text.as_bytes())?;
+    let output = run_script(alloc, &script)?;
+    let mut counts = Counts::default();
+    counts.lines = output.bytes().filter(|byte| *byte == b'\n').count() as u64;
     Ok(counts)
 }
