@@ -3,3 +3,7 @@
 
 #[cfg(test)]
 mod cells;
+#[cfg(test)]
+mod program;
+#[cfg(test)]
+mod scripts;
