@@ -1,0 +1,190 @@
+//! `dl_plans` over readers and writers, and its command line.
+
+use dl_plans::{Options, PlanFault, RunError, options, run};
+use std::alloc::Global;
+use std::io::{self, ErrorKind, Read, Write};
+use std::test::Fail;
+
+/// A document, and the text that it gives.
+const DOCUMENT: &str =
+    r#"{"script":1,"maxBatchSize":2,"calls":[{"load":["t","a"]},{"load":["t","b"]},{"load":["t","c"]},{"dispatch":true}]}"#;
+
+const TEXT: &str =
+    "fresh 0 0\nfresh 1 0\nfresh 2 1\nsent 2\njob 0 [\"t\",\"a\"] [\"t\",\"b\"]\njob 1 [\"t\",\"c\"]\n";
+
+/// The options of no words.
+const OPTIONS: Options = Options {
+    workers: 3,
+    batches: false,
+};
+
+/// A reader that gives a few bytes a read, and fails at one of them.
+#[derive(Drop)]
+struct Drip {
+    rest: &'static [u8],
+    most: usize,
+    good_reads: usize,
+    kind: ErrorKind,
+}
+
+impl Read for Drip {
+    fn read(&mut self, buffer: &mut [u8]) -> io::Result<usize> {
+        if self.good_reads == 0 {
+            return Err(io::Error::from(self.kind));
+        }
+        self.good_reads -= 1;
+        let count = self.most.min(self.rest.len()).min(buffer.len());
+        buffer[..count].copy_from_slice(&self.rest[..count]);
+        self.rest = &self.rest[count..];
+        Ok(count)
+    }
+}
+
+/// A writer that takes a number of bytes, a few a write, and then fails or takes nothing.
+#[derive(Drop)]
+struct Cut {
+    written: Vec<u8>,
+    room: usize,
+    most: usize,
+    fails: bool,
+    flush_fails: bool,
+}
+
+impl Write for Cut {
+    fn write(&mut self, bytes: &[u8]) -> io::Result<usize> {
+        if self.room == 0 && self.fails {
+            return Err(io::Error::from(ErrorKind::Interrupted));
+        }
+        let count = self.room.min(self.most).min(bytes.len());
+        self.written.extend_from_slice(&bytes[..count])?;
+        self.room -= count;
+        Ok(count)
+    }
+
+    fn flush(&mut self) -> io::Result<()> {
+        if self.flush_fails {
+            Err(io::Error::from(ErrorKind::Other))
+        } else {
+            Ok(())
+        }
+    }
+}
+
+/// A reader of the document.
+fn whole() -> Drip {
+    Drip {
+        rest: DOCUMENT.as_bytes(),
+        most: 100,
+        good_reads: usize::MAX,
+        kind: ErrorKind::Other,
+    }
+}
+
+/// A writer that takes everything.
+fn open(alloc: Global) -> Cut {
+    Cut {
+        written: Vec::new(alloc),
+        room: usize::MAX,
+        most: usize::MAX,
+        fails: false,
+        flush_fails: false,
+    }
+}
+
+#[test]
+fn a_document_is_answered(rt: HostRuntime) {
+    let mut writer = open(rt.alloc());
+    writer.most = 7;
+    let ran = run(rt.alloc(), &mut whole(), &mut writer, OPTIONS);
+    assert_eq!(rt; ran, Ok(()));
+    assert_eq!(rt; writer.written.as_slice(), TEXT.as_bytes());
+}
+
+#[test]
+fn a_reader_that_fails_leaves_nothing_written(rt: HostRuntime) {
+    for (good_reads, kind) in [
+        (0, ErrorKind::Other),
+        (1, ErrorKind::Interrupted),
+        (2, ErrorKind::Other),
+    ] {
+        let mut reader = whole();
+        reader.good_reads = good_reads;
+        reader.kind = kind;
+        let mut writer = open(rt.alloc());
+        let ran = run(rt.alloc(), &mut reader, &mut writer, OPTIONS);
+        assert_eq!(rt; ran, Err(RunError::Read), "after {good_reads} reads");
+        assert!(rt; writer.written.is_empty());
+    }
+}
+
+#[test]
+fn a_writer_that_fails_has_a_front(rt: HostRuntime) {
+    for room in 0..TEXT.len() {
+        for fails in [false, true] {
+            let mut writer = open(rt.alloc());
+            writer.room = room;
+            writer.most = 10;
+            writer.fails = fails;
+            let ran = run(rt.alloc(), &mut whole(), &mut writer, OPTIONS);
+            assert_eq!(rt; ran, Err(RunError::Write), "after {room} bytes");
+            assert_eq!(rt; writer.written.as_slice(), &TEXT.as_bytes()[..room]);
+        }
+    }
+}
+
+#[test]
+fn a_flush_that_fails_is_told(rt: HostRuntime) {
+    let mut writer = open(rt.alloc());
+    writer.flush_fails = true;
+    let ran = run(rt.alloc(), &mut whole(), &mut writer, OPTIONS);
+    assert_eq!(rt; ran, Err(RunError::Write));
+    assert_eq!(rt; writer.written.as_slice(), TEXT.as_bytes());
+}
+
+#[test]
+fn a_refused_document_leaves_nothing_written(rt: HostRuntime) {
+    let mut reader = whole();
+    reader.rest = &DOCUMENT.as_bytes()[1..];
+    let mut writer = open(rt.alloc());
+    let ran = run(rt.alloc(), &mut reader, &mut writer, OPTIONS);
+    assert_eq!(rt; ran, Err(RunError::Refused(PlanFault::NotJson)));
+    assert!(rt; writer.written.is_empty());
+}
+
+#[test]
+fn failures_have_lines(rt: HostRuntime) -> Result<(), Fail> {
+    for (error, line) in [
+        (RunError::Read, "failed: read"),
+        (RunError::Write, "failed: write"),
+        (RunError::OutOfMemory, "failed: memory"),
+    ] {
+        let shown = format!(in rt.alloc(); "{error}")?;
+        assert_eq!(rt; shown.as_str(), line);
+    }
+    Ok(())
+}
+
+#[test]
+fn the_command_line_is_read(rt: HostRuntime) {
+    let none: [&str; 0] = [];
+    assert_eq!(rt; options(rt.alloc(), &none).ok(), Some(OPTIONS));
+    let most = Options {
+        workers: 16,
+        batches: true,
+    };
+    let words = ["--batches", "--workers", "16"];
+    assert_eq!(rt; options(rt.alloc(), &words).ok(), Some(most));
+}
+
+#[test]
+fn other_command_lines_are_refused(rt: HostRuntime) {
+    for number in ["0", "17"] {
+        let words = ["--workers", number];
+        let status = options(rt.alloc(), &words).err().map(|e| e.exit_code());
+        assert_eq!(rt; status, Some(2), "of {number}");
+    }
+    let status = options(rt.alloc(), &["--help"])
+        .err()
+        .map(|e| e.exit_code());
+    assert_eq!(rt; status, Some(0));
+}

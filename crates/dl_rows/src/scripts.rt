@@ -1,0 +1,146 @@
+//! `dl_plans` on call scripts: the text that a document gives, and the refusals of others.
+
+use dl_desk::LimitFault;
+use dl_plans::{Input, PlanFault, RunError, read_input, run_script};
+use std::alloc::Global;
+use std::test::Fail;
+
+/// Documents and the text that each gives.
+const OUTPUTS: [(&str, &str); 13] = [
+    (
+        r#"{"script":1,"maxBatchSize":2,"calls":[{"load":["t","a"]},{"load":["t","a"]}]}"#,
+        "fresh 0 0\nhit 0\n",
+    ),
+    (
+        r#"{"script":1,"maxBatchSize":2,"calls":[{"load":["t","a"]},{"load":["t","b"]},{"load":["t","c"]},{"dispatch":true}]}"#,
+        "fresh 0 0\nfresh 1 0\nfresh 2 1\nsent 2\njob 0 [\"t\",\"a\"] [\"t\",\"b\"]\njob 1 [\"t\",\"c\"]\n",
+    ),
+    (
+        r#"{"script":1,"maxBatchSize":2,"calls":[{"dispatch":true},{"loadMany":[]}]}"#,
+        "sent 0\nmany 0\n",
+    ),
+    (
+        r#"{"script":1,"maxBatchSize":2,"calls":[{"load":["t","a"]},{"clear":["t","a"]},{"load":["t","a"]},{"load":["t","b"]}]}"#,
+        "fresh 0 0\nok\nfresh 1 1\nfresh 2 1\n",
+    ),
+    (
+        r#"{"script":1,"maxBatchSize":2,"calls":[{"prime":["t","a"]},{"load":["t","a"]},{"prime":["t","a"]}]}"#,
+        "primed 0\nhit 0\nkept\n",
+    ),
+    (
+        r#"{"script":1,"maxBatchSize":2,"calls":[{"load":["t","a"]},{"prime":["t","a"]},{"clearAll":true},{"prime":["t","a"]}]}"#,
+        "fresh 0 0\nkept\nok\nprimed 1\n",
+    ),
+    (
+        r#"{"script":1,"maxBatchSize":2,"calls":[{"load":["t","a"]},{"dispatch":true},{"clear":["t","a"]},{"load":["t","a"]},{"fail":0},{"load":["t","a"]}]}"#,
+        "fresh 0 0\nsent 1\njob 0 [\"t\",\"a\"]\nok\nfresh 1 1\nok\nhit 1\n",
+    ),
+    (
+        r#"{"script":1,"maxBatchSize":2,"calls":[{"load":["t","a"]},{"dispatch":true},{"fail":0},{"load":["t","a"]}]}"#,
+        "fresh 0 0\nsent 1\njob 0 [\"t\",\"a\"]\nok\nfresh 1 1\n",
+    ),
+    (
+        r#"{"script":1,"maxBatchSize":2,"calls":[{"load":["t","a"]},{"settle":0},{"dispatch":true},{"settle":0},{"load":["t","a"]},{"settle":0},{"fail":0},{"settle":5}]}"#,
+        "fresh 0 0\nrefused NotSent\nsent 1\njob 0 [\"t\",\"a\"]\nok\nhit 0\nrefused SettledBefore\nrefused SettledBefore\nrefused NoBatch\n",
+    ),
+    (
+        r#"{"script":1,"maxBatchSize":2,"maxCells":2,"calls":[{"load":["t","a"]},{"loadMany":[["t","b"],["t","c"],["t","b"]]},{"loadMany":[["t","b"],["t","b"],["t","a"]]},{"prime":["t","c"]}]}"#,
+        "fresh 0 0\nrefused CellsFull 2\nmany 3\nfresh 1 0\nhit 1\nhit 0\nrefused CellsFull 2\n",
+    ),
+    (
+        r#"{"script":1,"maxCells":1,"calls":[{"load":["t","a"]},{"load":["t","b"]},{"load":["t","a"]}]}"#,
+        "fresh 0 0\nrefused CellsFull 1\nhit 0\n",
+    ),
+    (
+        r#"{"script":1,"maxBatchSize":1,"calls":[{"load":["t","a"]},{"load":["t","b"]},{"dispatch":true},{"settle":1},{"fail":0},{"load":["t","a"]},{"load":["t","b"]},{"dispatch":true}]}"#,
+        "fresh 0 0\nfresh 1 1\nsent 2\njob 0 [\"t\",\"a\"]\njob 1 [\"t\",\"b\"]\nok\nok\nfresh 2 2\nhit 1\nsent 1\njob 2 [\"t\",\"a\"]\n",
+    ),
+    (r#"{"script":1,"calls":[]}"#, ""),
+];
+
+/// Documents that are refused, with the fault and its line.
+const REFUSALS: [(&str, PlanFault, &str); 11] = [
+    ("", PlanFault::NotJson, "refused: not json"),
+    ("[1]", PlanFault::Version, "refused: version"),
+    (
+        r#"{"version":3,"tables":[],"plans":[[]]}"#,
+        PlanFault::Version,
+        "refused: version",
+    ),
+    (
+        r#"{"script":1,"calls":[{"load":["t","a"]},{"load":["t",""]}]}"#,
+        PlanFault::BadCall { call: 1 },
+        "refused: call 1",
+    ),
+    (
+        r#"{"script":1,"x":1,"calls":[5]}"#,
+        PlanFault::Top,
+        "refused: top",
+    ),
+    (r#"{"script":1}"#, PlanFault::Top, "refused: top"),
+    (
+        r#"{"script":1,"maxCalls":1.0,"calls":[]}"#,
+        PlanFault::Top,
+        "refused: top",
+    ),
+    (
+        r#"{"script":1,"maxBatchSize":0,"calls":[]}"#,
+        PlanFault::Limit(LimitFault::BatchLimit),
+        "refused: limit BatchLimit",
+    ),
+    (
+        r#"{"script":1,"maxCells":65537,"maxCalls":-1,"calls":[]}"#,
+        PlanFault::Limit(LimitFault::CellLimit),
+        "refused: limit CellLimit",
+    ),
+    (
+        r#"{"script":1,"maxCalls":65537,"calls":[]}"#,
+        PlanFault::Limit(LimitFault::CallLimit),
+        "refused: limit CallLimit",
+    ),
+    (
+        r#"{"script":1,"maxBatchSize":0,"calls":[{"clearAll":false}]}"#,
+        PlanFault::BadCall { call: 0 },
+        "refused: call 0",
+    ),
+];
+
+/// The text that a document gives, if it is one and memory suffices.
+fn text_of(alloc: Global, document: &[u8]) -> Result<String, RunError> {
+    match read_input(alloc, document).map_err(RunError::Refused)? {
+        Input::Script(script) => { run_script(alloc, &script).map_err(|_| RunError::OutOfMemory) }
+    }
+}
+
+#[test]
+fn a_script_gives_its_text(rt: HostRuntime) {
+    for (document, want) in OUTPUTS {
+        let text = text_of(rt.alloc(), document.as_bytes());
+        let same = matches!(&text, Ok(text) if text.as_str() == want);
+        assert!(rt; same, "of {document}: {text:?}");
+    }
+}
+
+#[test]
+fn other_documents_are_refused(rt: HostRuntime) -> Result<(), Fail> {
+    for (document, want, line) in REFUSALS {
+        let fault = read_input(rt.alloc(), document.as_bytes()).err();
+        assert_eq!(rt; fault, Some(want), "of {document}");
+        let shown = format!(in rt.alloc(); "{}", RunError::Refused(want))?;
+        assert_eq!(rt; shown.as_str(), line);
+    }
+    Ok(())
+}
+
+#[test]
+fn a_document_has_a_most_of_bytes(rt: HostRuntime) -> Result<(), Fail> {
+    let mut spaces = vec![in rt.alloc(); b' '; 1_048_577]?;
+    let fault = read_input(rt.alloc(), &spaces).err();
+    assert_eq!(rt; fault, Some(PlanFault::TooLarge));
+    let shown = format!(in rt.alloc(); "{}", RunError::Refused(PlanFault::TooLarge))?;
+    assert_eq!(rt; shown.as_str(), "refused: too large");
+    spaces.truncate(1_048_576);
+    let fault = read_input(rt.alloc(), &spaces).err();
+    assert_eq!(rt; fault, Some(PlanFault::NotJson));
+    Ok(())
+}
