@@ -3,3 +3,4 @@ pub mod Begun
 pub mod Latest
 pub mod Rules
 pub mod Said
+pub mod Starved

@@ -11,6 +11,12 @@ mod desk;
 #[cfg(test)]
 mod generated;
 #[cfg(test)]
+mod program;
+#[cfg(test)]
 mod queue;
 #[cfg(test)]
+mod scripts;
+#[cfg(test)]
 mod slow_rows;
+#[cfg(test)]
+mod source;

@@ -1,0 +1,281 @@
+//! Tables read from JSON, and what they answer.
+
+use dl_desk::{BatchFault, FetchKey, Job, Json, Keys, Message, Outcome, has_float};
+use dl_source::{BatchAnswer, Source, TEXT_BYTES, TableFault, Tables, fetch_job};
+use serde_json::Value;
+use std::alloc::{AllocError, Global};
+use std::process::Abort;
+use std::test::Fail;
+
+const USERS: &str =
+    r#"[{"name":"user","rows":[["u1",{"best":"u2","friends":["u2","u3"],"name":"Ada"}],["u2",{"best":"u1","friends":[],"name":"Bob"}],["u3",{"name":"Cy"}]],"errors":[["u9","gone"]],"breaks":[["u13","db down"]]}]"#;
+
+const TWO_BREAKS: &str = r#"[{"name":"t","rows":[],"breaks":[["x","p"],["y","q"]]}]"#;
+
+fn tables(alloc: Global, text: &str) -> Result<Tables, Fail> {
+    let value = Value::from_str(alloc, text)?;
+    Ok(Tables::from_value(alloc, &value)?)
+}
+
+// A job for keys of one table.
+fn job(alloc: Global, batch: u32, table: &str, ids: &[&str]) -> Result<Job, Fail> {
+    let mut keys = Vec::new(alloc);
+    for id in ids {
+        keys.push(FetchKey::new(alloc, table, id)?)?;
+    }
+    let keys = Keys::new(alloc, keys)?;
+    Ok(Job { batch, keys })
+}
+
+fn outcome_text(alloc: Global, outcome: &Outcome) -> Result<String, AllocError> {
+    match outcome {
+        Outcome::Value(value) => value.to_text(alloc),
+        Outcome::KeyError(text) => format!(in alloc; "error {}", text.as_str()),
+        Outcome::BatchFailed(fault) => fault_text(alloc, fault),
+    }
+}
+
+fn fault_text(alloc: Global, fault: &BatchFault) -> Result<String, AllocError> {
+    match fault {
+        BatchFault::Source(text) => format!(in alloc; "batch {}", text.as_str()),
+        BatchFault::Memory => String::from_str(alloc, "memory"),
+        BatchFault::Unsent => String::from_str(alloc, "unsent"),
+    }
+}
+
+// Each outcome on a line of its own, or the text of the break.
+fn answer_text(alloc: Global, answer: &BatchAnswer) -> Result<String, AllocError> {
+    let outcomes = match answer {
+        BatchAnswer::Break(cause) => return format!(in alloc; "break {}", cause.as_str()),
+        BatchAnswer::Each(outcomes) => outcomes,
+    };
+    let mut text = String::new(alloc);
+    for outcome in outcomes.as_slice() {
+        text.push_str(outcome_text(alloc, outcome)?.as_str())?;
+        text.push_str("\n")?;
+    }
+    Ok(text)
+}
+
+fn asked(alloc: Global, tables: &Tables, table: &str, ids: &[&str]) -> Result<String, Fail> {
+    let job = job(alloc, 0, table, ids)?;
+    match fetch_job(alloc, tables, job) {
+        Ok(fetched) => Ok(answer_text(alloc, fetched.answer())?),
+        Err((_, error)) => Err(error.into()),
+    }
+}
+
+#[test]
+fn each_key_has_its_own_outcome(rt: HostRuntime) -> Result<(), Fail> {
+    let users = tables(rt.alloc(), USERS)?;
+    let errors = asked(rt.alloc(), &users, "user", &["u9", "u4"])?;
+    assert_eq!(rt; errors.as_str(), "error gone\nerror no row\n");
+    let missing = asked(rt.alloc(), &users, "shop", &["s"])?;
+    assert_eq!(rt; missing.as_str(), "error no table\n");
+    let row = asked(rt.alloc(), &users, "user", &["u2"])?;
+    assert_eq!(rt;
+        row.as_str(),
+        "{\"best\":\"u1\",\"friends\":[],\"name\":\"Bob\"}\n"
+    );
+    Ok(())
+}
+
+#[test]
+fn a_key_that_breaks_fails_its_batch(rt: HostRuntime) -> Result<(), Fail> {
+    let users = tables(rt.alloc(), USERS)?;
+    let broken = asked(rt.alloc(), &users, "user", &["u1", "u13"])?;
+    assert_eq!(rt; broken.as_str(), "break db down");
+    Ok(())
+}
+
+#[test]
+fn the_first_key_that_breaks_gives_the_text(rt: HostRuntime) -> Result<(), Fail> {
+    let two = tables(rt.alloc(), TWO_BREAKS)?;
+    let first = asked(rt.alloc(), &two, "t", &["y", "x"])?;
+    assert_eq!(rt; first.as_str(), "break q");
+    Ok(())
+}
+
+#[test]
+fn no_keys_have_no_outcomes(rt: HostRuntime) -> Result<(), Fail> {
+    let two = tables(rt.alloc(), TWO_BREAKS)?;
+    let BatchAnswer::Each(outcomes) = two.fetch(rt.alloc(), &[])? else {
+        return Err("no keys break nothing".into());
+    };
+    assert_eq!(rt; outcomes.as_slice().len(), 0);
+    Ok(())
+}
+
+#[test]
+fn a_fetched_job_keeps_its_batch_and_keys(rt: HostRuntime) -> Result<(), Fail> {
+    let users = tables(rt.alloc(), USERS)?;
+    let job = job(rt.alloc(), 7, "user", &["u9"])?;
+    let Ok(fetched) = fetch_job(rt.alloc(), &users, job) else {
+        return Err("no memory".into());
+    };
+    assert_eq!(rt; fetched.batch(), 7);
+    assert_eq!(rt; fetched.keys().len(), 1);
+    let job = fetched.into_job();
+    assert_eq!(rt; job.batch, 7);
+    Ok(())
+}
+
+#[test]
+fn a_fetched_job_gives_its_answer_away(rt: HostRuntime) -> Result<(), Fail> {
+    let users = tables(rt.alloc(), USERS)?;
+    let job = job(rt.alloc(), 7, "user", &["u9"])?;
+    let Ok(fetched) = fetch_job(rt.alloc(), &users, job) else {
+        return Err("no memory".into());
+    };
+    let (job, answer) = fetched.into_parts();
+    assert_eq!(rt; job.batch, 7);
+    let BatchAnswer::Each(outcomes) = answer else {
+        return Err("u9 breaks nothing".into());
+    };
+    assert_eq!(rt; outcomes.into_vec().len(), 1);
+    Ok(())
+}
+
+fn assert_refused(
+    rt: &impl Abort,
+    alloc: Global,
+    text: &str,
+    want: TableFault,
+) -> Result<(), Fail> {
+    let value = Value::from_str(alloc, text)?;
+    let fault = Tables::from_value(alloc, &value).err();
+    assert_eq!(rt; fault, Some(want), "{text}");
+    Ok(())
+}
+
+#[test]
+fn refuses_other_shapes(rt: HostRuntime) -> Result<(), Fail> {
+    let alloc = rt.alloc();
+    assert_refused(&rt, alloc, r#"[{"name":"","rows":5}]"#, TableFault::Shape)?;
+    assert_refused(
+        &rt,
+        alloc,
+        r#"[{"name":"t","rows":[["a",1,2]]}]"#,
+        TableFault::Shape,
+    )?;
+    assert_refused(
+        &rt,
+        alloc,
+        r#"[{"name":"t","rows":[],"row":[]}]"#,
+        TableFault::Shape,
+    )?;
+    assert_refused(&rt, alloc, r#"[{"name":"t"}]"#, TableFault::Shape)?;
+    Ok(())
+}
+
+#[test]
+fn refuses_keys_and_numbers(rt: HostRuntime) -> Result<(), Fail> {
+    let alloc = rt.alloc();
+    let bad = r#"[{"name":"","rows":[["a",1.5]]}]"#;
+    assert_refused(&rt, alloc, bad, TableFault::BadKey)?;
+    let other = r#"[{"name":"t","rows":[["a",{"n":1.5}]]}]"#;
+    assert_refused(&rt, alloc, other, TableFault::NotWhole)?;
+    let later = r#"[{"name":"t","rows":[["a",1.5]]},{"name":"t","rows":[["",1]]}]"#;
+    assert_refused(&rt, alloc, later, TableFault::BadKey)?;
+    Ok(())
+}
+
+#[test]
+fn refuses_repetitions(rt: HostRuntime) -> Result<(), Fail> {
+    let alloc = rt.alloc();
+    let twice = r#"[{"name":"t","rows":[["u1",1],["u1",2]]}]"#;
+    assert_refused(&rt, alloc, twice, TableFault::DuplicateKey)?;
+    let across = r#"[{"name":"t","rows":[["u1",1]],"breaks":[["u1","down"]]}]"#;
+    assert_refused(&rt, alloc, across, TableFault::DuplicateKey)?;
+    let both = r#"[{"name":"t","rows":[["a",1],["a",2]]},{"name":"t","rows":[]}]"#;
+    assert_refused(&rt, alloc, both, TableFault::DuplicateTable)?;
+    Ok(())
+}
+
+// One table that lists an error with a text of this length.
+fn table_with_error(alloc: Global, length: usize) -> Result<Value, Fail> {
+    let mut text = String::from_str(alloc, r#"[{"name":"t","rows":[],"errors":[["a",""#)?;
+    for _ in 0..length {
+        text.push('x')?;
+    }
+    text.push_str(r#""]]}]"#)?;
+    Ok(Value::from_str(alloc, text.as_str())?)
+}
+
+#[test]
+fn takes_texts_up_to_their_limit(rt: HostRuntime) -> Result<(), Fail> {
+    let alloc = rt.alloc();
+    assert_eq!(rt; TEXT_BYTES, 1_024);
+    let most = Tables::from_value(alloc, &table_with_error(alloc, 1_024)?)?;
+    assert_eq!(rt; asked(alloc, &most, "t", &["a"])?.len(), 1_031);
+    let more = Tables::from_value(alloc, &table_with_error(alloc, 1_025)?);
+    assert_eq!(rt; more.err(), Some(TableFault::TextTooLong));
+    Ok(())
+}
+
+fn assert_copied(
+    rt: &impl Abort,
+    alloc: Global,
+    outcome: &Outcome,
+    want: &str,
+) -> Result<(), Fail> {
+    let copy = outcome.try_copy()?;
+    assert_eq!(rt; outcome_text(alloc, &copy)?.as_str(), want);
+    assert_eq!(rt; outcome_text(alloc, outcome)?.as_str(), want);
+    Ok(())
+}
+
+#[test]
+fn copies_of_values_are_the_same(rt: HostRuntime) -> Result<(), Fail> {
+    let alloc = rt.alloc();
+    let value = Value::from_str(alloc, r#"{"b":[1,-2],"a":null}"#)?;
+    assert!(rt; !has_float(&value));
+    let json = Json::new(alloc, value)?;
+    let copy = json.try_copy()?.into_value()?;
+    assert_eq!(rt; copy.to_string(alloc)?.as_str(), r#"{"a":null,"b":[1,-2]}"#);
+    assert_copied(
+        &rt,
+        alloc,
+        &Outcome::Value(json),
+        r#"{"a":null,"b":[1,-2]}"#,
+    )
+}
+
+#[test]
+fn copies_of_failures_are_the_same(rt: HostRuntime) -> Result<(), Fail> {
+    let alloc = rt.alloc();
+    let gone = Outcome::KeyError(Message::new(alloc, "gone")?);
+    assert_copied(&rt, alloc, &gone, "error gone")?;
+    let down = BatchFault::Source(Message::new(alloc, "down")?);
+    assert_copied(&rt, alloc, &Outcome::BatchFailed(down), "batch down")?;
+    let memory = Outcome::BatchFailed(BatchFault::Memory);
+    assert_copied(&rt, alloc, &memory, "memory")?;
+    let unsent = Outcome::BatchFailed(BatchFault::Unsent);
+    assert_copied(&rt, alloc, &unsent, "unsent")
+}
+
+// A source that has no memory left.
+#[derive(Drop)]
+struct Starved;
+
+impl Source for Starved {
+    ghost use Rattle.dl_rows.specs.Starved.{answer_of, answer_fits};
+
+    ghost answer = { answer_of };
+
+    ghost fits = { answer_fits };
+
+    fn fetch(&self, _alloc: Global, _keys: &[FetchKey]) -> Result<BatchAnswer, AllocError> {
+        Err(AllocError)
+    }
+}
+
+#[test]
+fn a_job_comes_back_for_want_of_memory(rt: HostRuntime) -> Result<(), Fail> {
+    let asked = job(rt.alloc(), 3, "t", &["a"])?;
+    let Err((back, AllocError)) = fetch_job(rt.alloc(), &Starved, asked) else {
+        return Err("there was memory".into());
+    };
+    assert_eq!(rt; back.batch, 3);
+    Ok(())
+}
