@@ -1,6 +1,7 @@
 //! What the words of the command line ask for.
 
 ghost use Rattle.std.specs.Prelude.{◌≡◌, Some, map, slice_get, IfOk};
+ghost use Rattle.std.specs.Str.Parse.{digits_value, without_leading_plus};
 ghost use Rattle.dl_desk.specs.Limits.{IsLimit};
 ghost use Rattle.dl_bench.specs.Asked.{IsSized, workload};
 
@@ -60,8 +61,10 @@ impl Command {
     }
 }
 
+/// The number that a word spells in decimal.
 fn size(word: &str) -> Result<u32, CommandFault>
-    ensures { IfOk result IsLimit }
+    ensures value { IfOk result (λ n. n ≡ digits_value 10 (without_leading_plus word.now)) }
+    ensures limit { IfOk result IsLimit }
 {
     match word.parse::<u32>() {
         Ok(number) if (1..=LARGEST_LIMIT).contains(&number) => Ok(number),

@@ -1,5 +1,7 @@
 //! The workloads.
 
+ghost use Rattle.std.specs.Prelude.{◌≡◌, codes, decimal, IfOk};
+
 use crate::counts::Counts;
 use anyhow::Result;
 use dl_desk::{Desk, FetchKey, LARGEST_LIMIT, LimitFault, Limits};
@@ -17,7 +19,9 @@ fn limits(batch: u32) -> Result<Limits, LimitFault> {
 }
 
 /// The key of a number: its id is the number in decimal.
-fn key_of(alloc: Global, number: u32) -> Result<FetchKey> {
+fn key_of(alloc: Global, number: u32) -> Result<FetchKey>
+    ensures { IfOk result (λ key. key ≡ record { table = codes "users"; id = decimal number }) }
+{
     let mut buffer = Buffer::new();
     Ok(FetchKey::new(alloc, "users", buffer.format(number))?)
 }
