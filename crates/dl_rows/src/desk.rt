@@ -25,10 +25,22 @@ fn keys_are_refused_for_their_first_fault(rt: HostRuntime) -> Result<(), Fail> {
     let table = long(alloc, 65)?;
     let longest = long(alloc, 128)?;
     let too_long = long(alloc, 129)?;
-    assert_eq!(rt; FetchKey::new(alloc, "", "").err(), Some(KeyFault::EmptyTable));
-    assert_eq!(rt; FetchKey::new(alloc, table.as_str(), "").err(), Some(KeyFault::TableTooLong));
-    assert_eq!(rt; FetchKey::new(alloc, "t", "").err(), Some(KeyFault::EmptyId));
-    assert_eq!(rt; FetchKey::new(alloc, "t", too_long.as_str()).err(), Some(KeyFault::IdTooLong));
+    assert_eq!(rt;
+        FetchKey::new(alloc, "", "").err(),
+        Some(KeyFault::EmptyTable)
+    );
+    assert_eq!(rt;
+        FetchKey::new(alloc, table.as_str(), "").err(),
+        Some(KeyFault::TableTooLong)
+    );
+    assert_eq!(rt;
+        FetchKey::new(alloc, "t", "").err(),
+        Some(KeyFault::EmptyId)
+    );
+    assert_eq!(rt;
+        FetchKey::new(alloc, "t", too_long.as_str()).err(),
+        Some(KeyFault::IdTooLong)
+    );
     let key = FetchKey::new(alloc, "t", longest.as_str())?;
     let copy = key.try_copy()?;
     assert_eq!(rt; copy.table(), "t");
@@ -52,7 +64,10 @@ fn keys_are_ordered_by_table_then_id(rt: HostRuntime) -> Result<(), Fail> {
 #[test]
 fn limits_are_refused_for_their_first_fault(rt: HostRuntime) -> Result<(), Fail> {
     assert_eq!(rt; Limits::new(0, 0, 0).err(), Some(LimitFault::BatchLimit));
-    assert_eq!(rt; Limits::new(1, 65_537, 0).err(), Some(LimitFault::CellLimit));
+    assert_eq!(rt;
+        Limits::new(1, 65_537, 0).err(),
+        Some(LimitFault::CellLimit)
+    );
     assert_eq!(rt; Limits::new(1, 1, 0).err(), Some(LimitFault::CallLimit));
     let limits = Limits::new(65_536, 65_536, 65_536)?;
     assert_eq!(rt; limits.max_batch(), 65_536);

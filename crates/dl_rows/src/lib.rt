@@ -2,8 +2,6 @@
 //! The plain slow program, which reviews the definitions of histories, stands here too.
 #![tactic(auto)]
 
-pub mod slow;
-
 #[cfg(test)]
 mod cells;
 #[cfg(test)]
@@ -16,6 +14,7 @@ mod program;
 mod queue;
 #[cfg(test)]
 mod scripts;
+pub mod slow;
 #[cfg(test)]
 mod slow_rows;
 #[cfg(test)]
