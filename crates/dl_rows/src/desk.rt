@@ -114,15 +114,12 @@ fn batches_show_members_and_state(rt: HostRuntime) -> Result<(), Fail> {
     ];
     assert_eq!(rt; states.as_slice(), expected.as_slice());
     assert_eq!(rt; desk.held(&a), Some(2));
-    let mut members = 0usize;
-    if let Some(batch) = desk.batch(0) {
-        for (key, cell) in batch.members() {
-            assert!(rt; *key == a);
-            assert_eq!(rt; *cell, 0);
-            members += usize::from(members == 0);
-        }
-    }
-    assert_eq!(rt; members, 1);
+    let batch = desk.batch(0).ok_or("the first batch is shown")?;
+    let mut members = batch.members();
+    let (member, cell) = members.next().ok_or("it has a member")?;
+    assert!(rt; *member == a);
+    assert_eq!(rt; *cell, 0);
+    assert!(rt; members.next().is_none());
     Ok(())
 }
 
