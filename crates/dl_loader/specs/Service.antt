@@ -1,0 +1,20 @@
+-- What a loader serves by.
+use Rattle.std.specs.Prelude.{ℕ, List, [], None}
+use Rattle.dl_desk.specs.Key.{Key}
+use Rattle.dl_desk.specs.Limits.{Rules}
+use Rattle.dl_source.specs.declared.source.BatchAnswer.{BatchAnswer}
+use Rattle.dl_source.specs.declared.source.BatchAnswer.TheVariants.{Break}
+
+-- What a loader serves by: how it makes batches, how many callers it has, and the one function by
+-- which its source answers.
+pub record Service : Type 0 where
+  pub rules : Rules
+  pub callers : ℕ
+  pub answer : List Key → BatchAnswer
+
+-- no rules and no source, for a type that names no loader
+abbrev pub no_rules : Rules
+no_rules = record { limits = record { max_batch = 0; max_cells = 0; max_calls = 0 }; tables = None }
+
+abbrev pub no_answer : List Key → BatchAnswer
+no_answer keys = Break []

@@ -1,0 +1,76 @@
+//! Lists in the replies of events, which contracts see as lists.
+
+ghost use Rattle.std.specs.Prelude.{◌≡◌};
+
+use dl_desk::{Job, LoadReply};
+use std::marker::Model;
+
+/// The replies to the loads of a loadMany, in the order of its keys. Contracts see the list.
+#[derive(Debug, Drop)]
+pub struct Replies {
+    replies: Vec<LoadReply>,
+}
+
+impl Model for Replies {
+    ghost use Rattle.std.specs.Prelude.{List};
+    ghost use Rattle.std.specs.Coded.{coded_list};
+    ghost use Rattle.dl_desk.specs.declared.reply.LoadReply.{LoadReply};
+    ghost use Rattle.dl_desk.specs.contracts.reply.LoadReply as reply;
+
+    ghost Value = { List LoadReply };
+
+    ghost coded = { coded_list reply.the_row.coded };
+
+    ghost view = { λ r. r.replies.items };
+}
+
+impl Replies {
+    /// These replies.
+    pub fn new(replies: Vec<LoadReply>) -> Replies
+        ensures { result ≡ replies.items }
+    {
+        Replies { replies }
+    }
+
+    /// The replies, in order.
+    pub fn as_slice(&self) -> &[LoadReply]
+        ensures { result.now ≡ self.now }
+    {
+        self.replies.as_slice()
+    }
+}
+
+/// The jobs that a dispatch sent, in the order of their batches. Contracts see the list.
+#[derive(Debug, Drop)]
+pub struct Jobs {
+    jobs: Vec<Job>,
+}
+
+impl Model for Jobs {
+    ghost use Rattle.std.specs.Prelude.{List};
+    ghost use Rattle.std.specs.Coded.{coded_list};
+    ghost use Rattle.dl_desk.specs.declared.reply.Job.{Job};
+    ghost use Rattle.dl_desk.specs.contracts.reply.Job as job;
+
+    ghost Value = { List Job };
+
+    ghost coded = { coded_list job.the_row.coded };
+
+    ghost view = { λ j. j.jobs.items };
+}
+
+impl Jobs {
+    /// These jobs.
+    pub fn new(jobs: Vec<Job>) -> Jobs
+        ensures { result ≡ jobs.items }
+    {
+        Jobs { jobs }
+    }
+
+    /// The jobs, in order.
+    pub fn as_slice(&self) -> &[Job]
+        ensures { result.now ≡ self.now }
+    {
+        self.jobs.as_slice()
+    }
+}
