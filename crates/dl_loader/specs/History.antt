@@ -1,12 +1,13 @@
 -- The history of a shared loader: its events in order, and when it is legal. What a call is replied is
 -- said by the definitions of a data loader of one thread.
-use Rattle.std.specs.Prelude.{◌≡◌, ℕ, ◌<◌, List, [], ◌∷◌, Some, slice_get, map, take}
+use Rattle.std.specs.Prelude.{◌≡◌, ℕ, ◌<◌, List, [], ◌∷◌, Option, Some, None, slice_get, map, take}
 use Rattle.dl_desk.specs.Key.{Key}
 use Rattle.dl_desk.specs.Limits.{Rules}
 use Rattle.dl_desk.specs.History.{Atom, MayEnd, members, load_reply, load_replies, prime_reply, jobs}
 use Rattle.dl_desk.specs.History as atom
-use Rattle.dl_desk.specs.Events.{Made, One, Many, Gave, Nothing, Given, Each, Broke, atoms}
+use Rattle.dl_desk.specs.Events.{Made, One, Many, Gave, Nothing, Given, Each, Broke, atoms, ended, outcome}
 use Rattle.dl_desk.specs.Events as desk
+use Rattle.dl_desk.specs.declared.outcome.Outcome.{Outcome}
 use Rattle.dl_desk.specs.declared.outcome.BatchFault.{BatchFault}
 use Rattle.dl_desk.specs.declared.outcome.BatchFault.TheVariants.{Source, Memory, Unsent}
 use Rattle.dl_desk.specs.declared.reply.DeskPrime.{DeskPrime}
@@ -15,6 +16,7 @@ use Rattle.dl_source.specs.declared.source.BatchAnswer.{BatchAnswer}
 use Rattle.dl_source.specs.declared.source.BatchAnswer.TheVariants as answered
 use Rattle.dl_loader.specs.Service.{Service}
 use Rattle.dl_loader.specs.declared.event.Event.{Event}
+use Rattle.dl_loader.specs.declared.event.Ending.{Ending}
 use Rattle.dl_loader.specs.declared.event.Call.{Call}
 use Rattle.dl_loader.specs.declared.event.Call.TheVariants.{Load, LoadMany, Prime, Clear, ClearAll, Dispatch, Settle, Fail}
 use Rattle.dl_loader.specs.declared.event.Reply.{Reply}
@@ -103,3 +105,14 @@ pub record IsNext (service : Service) (before : List Event) (e : Event) : Type 0
 -- each event of the history is one that may stand after those before it
 pub record IsLegal (service : Service) (events : List Event) : Type 0 where
   pub at : (k : ℕ) (e : Event) → slice_get events k ≡ Some e → IsNext service (take k events) e
+
+-- ---- the ends of cells
+
+abbrev pub end_with : Option ℕ → Option Outcome → Option Ending
+end_with None o = None
+end_with (Some at) None = None
+end_with (Some at) (Some o) = Some (record { at = at; outcome = o })
+
+-- what a cell shows once it has ended: the place of the event that ended it, and the outcome that it was given
+abbrev pub ending_of : List Event → ℕ → Option Ending
+ending_of events c = end_with (ended (log events) c) (outcome (log events) c)

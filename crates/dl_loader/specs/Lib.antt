@@ -1,2 +1,5 @@
 pub mod Service
 pub mod History
+pub mod Lists
+pub mod Entries
+pub mod Pass

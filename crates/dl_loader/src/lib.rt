@@ -5,10 +5,13 @@
 //! knows of the history stands in its [`Pass`].
 #![tactic(auto)]
 
+mod entry;
 mod event;
 mod lists;
 mod name;
+mod pass;
 
+pub use entry::EntryKind;
 pub use event::{Call, Ending, Event, Reply};
 pub use lists::{Jobs, Replies};
 pub use name::LoaderName;

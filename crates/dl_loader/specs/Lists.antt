@@ -1,0 +1,19 @@
+-- Lists, and what is added up over them.
+use Rattle.std.specs.Prelude.{◌≡◌, ℕ, ◌+◌, Bool, cond, List, [], ◌∷◌, Some, slice_get}
+
+-- the fact holds of each element
+abbrev pub Every : {X : Type 0} → (X → Type 0) → List X → Type 0
+Every P [] = Unit {0}
+Every P (x ∷ xs) = P x × Every P xs
+
+-- f of each element, added up
+abbrev pub total : {X : Type 0} → (X → ℕ) → List X → ℕ
+total f [] = 0
+total f (x ∷ xs) = f x + total f xs
+
+abbrev pub one_if : Bool → ℕ
+one_if b = cond b 1 0
+
+-- x stands in the list
+abbrev pub Among : {X : Type 0} → X → List X → Type 0
+Among x xs = (i : ℕ) × (slice_get xs i ≡ Some x)
