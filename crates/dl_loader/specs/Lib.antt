@@ -3,3 +3,4 @@ pub mod History
 pub mod Lists
 pub mod Entries
 pub mod Pass
+pub mod Opening

@@ -7,11 +7,15 @@
 
 mod entry;
 mod event;
+mod fault;
 mod lists;
 mod name;
+mod opening;
 mod pass;
 
 pub use entry::EntryKind;
 pub use event::{Call, Ending, Event, Reply};
+pub use fault::StartFault;
 pub use lists::{Jobs, Replies};
 pub use name::LoaderName;
+pub use opening::{MOST_CALLERS, Opening};

@@ -1,0 +1,35 @@
+-- What a loader is opened with.
+use Rattle.std.specs.Prelude.{◌≡◌, ℕ, ◌<◌, ◌≤◌}
+use Rattle.dl_cells.specs.Cells.{RowName, row_len}
+use Rattle.dl_desk.specs.Limits.{Limits, Rules}
+use Rattle.dl_loader.specs.declared.fault.StartFault.{StartFault}
+use Rattle.dl_loader.specs.declared.fault.StartFault.TheVariants.{NoCallers, TooManyCallers, OutOfMemory}
+use Rattle.dl_loader.specs.declared.opening.TheConstants.{MOST_CALLERS}
+
+-- what contracts see of an opening: its source, how batches will be made, how many callers there will be,
+-- the loader's two rows, and the name of the ledger that counts its events
+pub record Unstarted (S : Type 0) : Type 0 where
+  pub source : S
+  pub rules : Rules
+  pub callers : ℕ
+  pub log : RowName
+  pub outcomes : RowName
+  pub ledger : ℕ
+
+-- a number of callers that a loader may have
+pub record AreCallers (callers : ℕ) : Type 0 where
+  pub least : 1 ≤ callers
+  pub most : callers ≤ MOST_CALLERS
+
+-- the rows have room for all calls and cells, and each caller has a part of the ledger
+pub record IsOpening (limits : Limits) (callers parts : ℕ) (log outcomes : RowName) : Type 0 where
+  pub parts_are : parts ≡ callers
+  pub callers_are : AreCallers callers
+  pub calls_fit : row_len log ≡ limits.max_calls
+  pub cells_fit : row_len outcomes ≡ limits.max_cells
+
+-- the fault names the first cause why there can't be so many callers
+abbrev pub RefusedAs : ℕ → StartFault → Type 0
+RefusedAs callers NoCallers = callers ≡ 0
+RefusedAs callers TooManyCallers = MOST_CALLERS < callers
+RefusedAs callers OutOfMemory = AreCallers callers

@@ -1,0 +1,79 @@
+//! What a loader is opened with.
+
+ghost use Rattle.std.specs.Prelude.{◌≡◌, IfOk, IfErr, OnOk};
+ghost use Rattle.dl_desk.specs.Limits.{mixed};
+ghost use Rattle.dl_loader.specs.Opening.{AreCallers, RefusedAs};
+
+use crate::event::{Ending, Event};
+use crate::fault::StartFault;
+use dl_cells::CellRow;
+use dl_desk::Limits;
+use dl_source::Source;
+use std::alloc::Global;
+use std::marker::Model;
+use std::sync::ledger::Blank;
+
+/// The most callers of a loader.
+pub const MOST_CALLERS: u32 = 32;
+
+/// A loader that isn't started yet: its source, its limits, how many callers it will have, and the rows
+/// that its history and its outcomes will lie in.
+///
+/// Whoever has one calls a function over `L: LoaderName` at `std::marker::Brand`, which then starts it:
+/// from there on the type `L` stands for this loader.
+#[derive(Drop)]
+pub struct Opening<'s, S: Source> {
+    source: &'s S,
+    limits: Limits,
+    callers: u32,
+    log: CellRow<Event>,
+    outcomes: CellRow<Ending>,
+    blank: Blank,
+}
+
+impl<'s, S: Source> Model for Opening<'s, S> {
+    ghost use Rattle.dl_desk.specs.Limits.{mixed};
+    ghost use Rattle.dl_loader.specs.Opening.{Unstarted, IsOpening};
+
+    ghost Value = { Unstarted S };
+
+    ghost view = { λ o. record {
+      source = o.source.now;
+      rules = mixed o.limits;
+      callers = o.blank.parts;
+      log = o.log;
+      outcomes = o.outcomes;
+      ledger = o.blank.name;
+    } };
+
+    ghost invariant = { λ o. IsOpening o.limits o.callers o.blank.parts o.log o.outcomes };
+}
+
+impl<'s, S: Source> Opening<'s, S> {
+    /// An opening of a loader over a source, whose batches may mix tables.
+    ///
+    /// # Errors
+    /// The first cause of [`StartFault`] that applies, in its order.
+    pub fn new(alloc: Global, source: &'s S, limits: Limits, callers: u32) -> Result<Opening<'s, S>, StartFault>
+        ensures source { IfOk result (λ o. o.source ≡ source.now) }
+        ensures rules { IfOk result (λ o. o.rules ≡ mixed limits) }
+        ensures callers { IfOk result (λ o. o.callers ≡ callers) }
+        ensures accepted { OnOk result (AreCallers callers) }
+        ensures refused { IfErr result (RefusedAs callers) }
+    {
+        if callers == 0 {
+            return Err(StartFault::NoCallers);
+        }
+        if callers > MOST_CALLERS {
+            return Err(StartFault::TooManyCallers);
+        }
+        Ok(Opening {
+            source,
+            limits,
+            callers,
+            log: CellRow::new(alloc, limits.max_calls())?,
+            outcomes: CellRow::new(alloc, limits.max_cells())?,
+            blank: Blank::new(callers as u64),
+        })
+    }
+}
