@@ -11,7 +11,7 @@ mod lists;
 mod name;
 mod pass;
 
-pub use entry::EntryKind;
+pub use entry::{Entry, EntryKind};
 pub use event::{Call, Ending, Event, Reply};
 pub use lists::{Jobs, Replies};
 pub use name::LoaderName;
