@@ -10,8 +10,11 @@ mod event;
 mod lists;
 mod name;
 mod pass;
+mod state;
+mod ticket;
 
 pub use entry::{Entry, EntryKind};
 pub use event::{Call, Ending, Event, Reply};
 pub use lists::{Jobs, Replies};
 pub use name::LoaderName;
+pub use ticket::Ticket;
