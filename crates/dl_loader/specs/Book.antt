@@ -1,5 +1,5 @@
 -- What contracts see of a loader's book, which lies behind its lock, and what the book keeps.
-use Rattle.std.specs.Prelude.{◌≡◌, ℕ, ◌+◌, ◌<◌, ◌≤◌, Bool, List, [], ◌∷◌, length, map, min, Option, Some, None, IsSome, slice_get}
+use Rattle.std.specs.Prelude.{◌≡◌, ℕ, ◌≤◌, Bool, List, length, map, Option, Some, None, IsSome, slice_get}
 use Rattle.dl_cells.specs.Cells.{RowName, cell_of}
 use Rattle.dl_desk.specs.Events.{atoms}
 use Rattle.dl_desk.specs.Book.{Book, StandsFor}

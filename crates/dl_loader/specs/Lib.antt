@@ -2,5 +2,8 @@ pub mod Service
 pub mod History
 pub mod Lists
 pub mod Entries
+pub mod Lines
 pub mod Pass
 pub mod Opening
+pub mod Codes
+pub mod Book

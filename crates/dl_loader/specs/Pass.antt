@@ -1,5 +1,6 @@
 -- What contracts see of a pass, and of a ticket.
 use Rattle.std.specs.Prelude.{◌≡◌, ℕ, zero, suc, ◌+◌, ◌<◌, ◌≤◌, Bool, true, false, not, List, [], ◌∷◌, ◌++◌, length, set, Option, Some, slice_get}
+use Rattle.dl_desk.specs.declared.outcome.Outcome.{Outcome}
 use Rattle.dl_desk.specs.declared.reply.LoadReply.{LoadReply}
 use Rattle.dl_loader.specs.declared.event.Event.{Event}
 use Rattle.dl_loader.specs.declared.event.Ending.{Ending}
@@ -77,6 +78,13 @@ pub record Hold : Type 0 where
   pub number : ℕ
   pub reply : LoadReply
   pub known : Option Ending
+
+abbrev pub hold : ℕ → LoadReply → Option Ending → Hold
+hold number reply known = record { number = number; reply = reply; known = known }
+
+-- the ticket knows that its cell has ended with this outcome
+abbrev pub Shows : Hold → Outcome → Type 0
+Shows t outcome = (ending : Ending) × (t.known ≡ Some ending) × (ending.outcome ≡ outcome)
 
 -- the pass gave the ticket, whose outcome is among the entries or isn't
 abbrev pub Gave : Part → Hold → Bool → Type 0

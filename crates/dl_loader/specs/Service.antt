@@ -12,6 +12,9 @@ pub record Service : Type 0 where
   pub callers : ℕ
   pub answer : List Key → BatchAnswer
 
+abbrev pub service : Rules → ℕ → (List Key → BatchAnswer) → Service
+service rules callers answer = record { rules = rules; callers = callers; answer = answer }
+
 -- no rules and no source, for a type that names no loader
 abbrev pub no_rules : Rules
 no_rules = record { limits = record { max_batch = 0; max_cells = 0; max_calls = 0 }; tables = None }

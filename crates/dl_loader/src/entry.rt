@@ -1,5 +1,14 @@
 //! The entries of a pass: calls that were made, and outcomes that were read.
 
+ghost use Rattle.std.specs.Prelude.{◌≡◌, ◌<◌, IfErr, IfOk, IfSome, IsSomeAnd};
+ghost use Rattle.dl_cells.specs.Cells.{cell_of, row_len};
+ghost use Rattle.dl_loader.specs.Entries.{told, read, ending_known, kind_of, Called, Saw};
+
+use crate::event::{Ending, Event};
+use crate::name::LoaderName;
+use dl_cells::{CellRow, Reader};
+use std::marker::{Model, PhantomData};
+
 /// What an entry of a pass is.
 #[derive(Clone, Copy, Debug, PartialEq, Eq)]
 pub enum EntryKind {
@@ -7,4 +16,183 @@ pub enum EntryKind {
     Call { at: u32 },
     /// The outcome of a cell, which the event at this place gave it.
     Saw { cell: u32, at: u32 },
+}
+
+/// An event that lies in the log, and its place there. Contracts see both.
+#[derive(Drop)]
+pub(crate) struct Stored<L: LoaderName> {
+    at: u16,
+    reader: Reader<Event>,
+    of: PhantomData<L>,
+}
+
+impl<L: LoaderName> Model for Stored<L> {
+    ghost use Rattle.std.specs.Prelude.{◌≡◌, ◌<◌, Some};
+    ghost use Rattle.dl_cells.specs.Cells.{cell_of, row_len};
+    ghost use Rattle.dl_loader.specs.Entries.{Told, told, event_known};
+    ghost use Rattle.dl_loader.specs.Codes.{told_code};
+
+    ghost Value = { Told };
+
+    ghost coded = { told_code };
+
+    ghost view = { λ e. told e.at (event_known e.reader.known) };
+
+    ghost invariant = { λ e. (e.at < row_len L.log) × (e.reader.cell ≡ cell_of L.log e.at) × (e.reader.known ≡ Some (event_known e.reader.known)) };
+}
+
+impl<L: LoaderName> Stored<L> {
+    /// Puts an event into its cell of the log. Where the log has another event there, hands the event
+    /// back. It takes no memory.
+    pub(crate) fn store(
+        row: &CellRow<Event>,
+        at: u16,
+        mut reader: Reader<Event>,
+        event: Box<Event>,
+    ) -> Result<Stored<L>, Box<Event>>
+        requires row { row.now ≡ L.log }
+        requires in_row { at < row_len L.log }
+        requires of_cell { reader.cell ≡ cell_of L.log at }
+        ensures stored { IfOk result (λ stored. stored ≡ told at event.value) }
+        ensures back { IfErr result (λ back. back.value ≡ event.value) }
+    {
+        row.show(u32::from(at), &mut reader, event)?;
+        Ok(Stored {
+            at,
+            reader,
+            of: PhantomData,
+        })
+    }
+
+    /// A second one that tells the same. It takes no memory.
+    pub(crate) fn again(&self) -> Stored<L>
+        ensures { result ≡ self.now }
+    {
+        Stored {
+            at: self.at,
+            reader: self.reader.again(),
+            of: PhantomData,
+        }
+    }
+
+    /// Two that were stored at one place tell the same event, whichever threads hold them.
+    pub(crate) fn agree(&self, other: &Stored<L>)
+        requires { other.now.at ≡ self.now.at }
+        ensures { self.now ≡ other.now }
+    {
+        self.reader.agree(&other.reader);
+    }
+}
+
+/// An outcome that was read of a cell. Contracts see the cell, the outcome, and the place of the event
+/// that gave it.
+#[derive(Drop)]
+pub(crate) struct Seen<L: LoaderName> {
+    cell: u32,
+    at: u16,
+    reader: Reader<Ending>,
+    of: PhantomData<L>,
+}
+
+impl<L: LoaderName> Model for Seen<L> {
+    ghost use Rattle.std.specs.Prelude.{◌≡◌, ◌<◌, Some};
+    ghost use Rattle.dl_cells.specs.Cells.{cell_of, row_len};
+    ghost use Rattle.dl_loader.specs.Entries.{Read, read, ending_known};
+    ghost use Rattle.dl_loader.specs.Codes.{read_code};
+
+    ghost Value = { Read };
+
+    ghost coded = { read_code };
+
+    ghost view = { λ s. read s.cell (ending_known s.reader.known) };
+
+    ghost invariant = { λ s. (s.cell < row_len L.outcomes) × (s.at ≡ (ending_known s.reader.known).at) × (s.reader.cell ≡ cell_of L.outcomes s.cell) × (s.reader.known ≡ Some (ending_known s.reader.known)) };
+}
+
+impl<L: LoaderName> Seen<L> {
+    /// The outcome that a reader of a cell knows, which the event at `at` gave the cell.
+    pub(crate) fn of(cell: u32, at: u16, reader: Reader<Ending>) -> Seen<L>
+        requires in_row { cell < row_len L.outcomes }
+        requires of_cell { reader.cell ≡ cell_of L.outcomes cell }
+        requires known { IsSomeAnd reader.known (λ ending. ending.at ≡ at) }
+        ensures { result ≡ read cell (ending_known reader.known) }
+    {
+        Seen {
+            cell,
+            at,
+            reader,
+            of: PhantomData,
+        }
+    }
+
+    /// A reader of the cell that knows an outcome knows this one, whichever threads hold the two.
+    pub(crate) fn agree(&self, reader: &Reader<Ending>)
+        requires { reader.now.cell ≡ cell_of L.outcomes self.now.cell }
+        ensures { IfSome reader.now.known (λ ending. ending ≡ self.now.ending) }
+    {
+        self.reader.agree(reader);
+    }
+}
+
+/// An entry of a pass: a call that was made, or an outcome that was read.
+#[derive(Drop)]
+pub struct Entry<L: LoaderName> {
+    kind: Kind<L>,
+}
+
+// What an entry is.
+#[derive(Drop)]
+enum Kind<L: LoaderName> {
+    // A call that was made.
+    Call(Stored<L>),
+    // An outcome that was read.
+    Saw(Seen<L>),
+}
+
+impl<L: LoaderName> Model for Entry<L> {
+    ghost use Rattle.dl_loader.specs.Entries.{Line};
+    ghost use Rattle.dl_loader.specs.Codes.{line_code};
+
+    ghost Value = { Line };
+
+    ghost coded = { line_code };
+
+    ghost use Rattle.dl_loader.specs.Lines.{line_of};
+
+    ghost view = { λ e. line_of e.kind };
+}
+
+impl<L: LoaderName> Entry<L> {
+    /// The entry of a call that was made.
+    pub(crate) fn call(stored: Stored<L>) -> Entry<L>
+        ensures { result ≡ Called stored }
+    {
+        Entry {
+            kind: Kind::Call(stored),
+        }
+    }
+
+    /// The entry of an outcome that was read.
+    pub(crate) fn saw(seen: Seen<L>) -> Entry<L>
+        ensures { result ≡ Saw seen }
+    {
+        Entry {
+            kind: Kind::Saw(seen),
+        }
+    }
+
+    /// What the entry is.
+    pub fn kind(&self) -> EntryKind
+        ensures { result ≡ kind_of self.now }
+    {
+        match &self.kind {
+            Kind::Call(stored) => EntryKind::Call {
+                at: u32::from(stored.at),
+            },
+            Kind::Saw(seen) => EntryKind::Saw {
+                cell: seen.cell,
+                at: u32::from(seen.at),
+            },
+        }
+    }
 }

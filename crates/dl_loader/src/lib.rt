@@ -5,6 +5,7 @@
 //! knows of the history stands in its [`Pass`].
 #![tactic(auto)]
 
+mod book;
 mod entry;
 mod event;
 mod fault;
@@ -12,10 +13,14 @@ mod lists;
 mod name;
 mod opening;
 mod pass;
+mod state;
+mod ticket;
 
-pub use entry::EntryKind;
+pub use book::Book;
+pub use entry::{Entry, EntryKind};
 pub use event::{Call, Ending, Event, Reply};
 pub use fault::StartFault;
 pub use lists::{Jobs, Replies};
 pub use name::LoaderName;
 pub use opening::{MOST_CALLERS, Opening};
+pub use ticket::Ticket;

@@ -1,0 +1,36 @@
+-- What tells two entries, two passes or two tickets apart: the tuple of what they have.
+use Rattle.std.specs.Prelude.{◌≡◌, ℕ, ◌⊎◌, Option, refl}
+use Rattle.std.proofs.Common.{inl, inr}
+use Rattle.std.specs.Coded.{Coded, code_by, coded_ℕ, coded_option, coded×, coded⊎}
+use Rattle.dl_desk.specs.declared.reply.LoadReply.{LoadReply}
+use Rattle.dl_desk.specs.contracts.reply.LoadReply as reply
+use Rattle.dl_loader.specs.declared.event.Event.{Event}
+use Rattle.dl_loader.specs.contracts.event.Event as event
+use Rattle.dl_loader.specs.declared.event.Ending.{Ending}
+use Rattle.dl_loader.specs.contracts.event.Ending as ending
+use Rattle.dl_loader.specs.Entries.{Told, told, Read, read, Line, Called, Saw}
+use Rattle.dl_loader.specs.Pass.{Hold, hold}
+
+abbrev pub told_code : Coded Told
+told_code = code_by (ℕ × Event) (coded× coded_ℕ event.the_row.coded) (λ t. (t.at, t.event)) (λ p. told p.0 p.1) (λ _. refl)
+
+abbrev pub read_code : Coded Read
+read_code = code_by (ℕ × Ending) (coded× coded_ℕ ending.the_row.coded) (λ r. (r.cell, r.ending)) (λ p. read p.0 p.1) (λ _. refl)
+
+abbrev split : Line → Told ⊎ Read
+split (Called t) = inl t
+split (Saw r) = inr r
+
+abbrev join : Told ⊎ Read → Line
+join (inl t) = Called t
+join (inr r) = Saw r
+
+pub join-split : (l : Line) → join (split l) ≡ l
+join-split (Called t) = refl
+join-split (Saw r) = refl
+
+abbrev pub line_code : Coded Line
+line_code = code_by (Told ⊎ Read) (coded⊎ told_code read_code) split join join-split
+
+abbrev pub hold_code : Coded Hold
+hold_code = code_by (ℕ × (LoadReply × Option Ending)) (coded× coded_ℕ (coded× reply.the_row.coded (coded_option ending.the_row.coded))) (λ t. (t.number, (t.reply, t.known))) (λ p. hold p.0 p.1.0 p.1.1) (λ _. refl)

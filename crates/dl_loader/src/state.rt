@@ -1,0 +1,62 @@
+//! What the lock of a loader guards of each cell of an outcome.
+
+ghost use Rattle.std.specs.Prelude.{◌≡◌, ◌<◌, IfSome, MatchBool, None, Some};
+ghost use Rattle.dl_cells.specs.Cells.{cell_of, row_len};
+ghost use Rattle.dl_loader.specs.declared.state.Mark.TheVariants.{Waiting, Ended, Refused};
+
+use crate::entry::Seen;
+use crate::event::Ending;
+use crate::name::LoaderName;
+use dl_cells::{CellRow, Reader};
+
+/// Whether a cell took the outcome that it was given.
+#[derive(Clone, Copy, Debug)]
+pub(crate) enum Mark {
+    /// It was given none.
+    Waiting,
+    /// It took it.
+    Ended,
+    /// It held another one.
+    Refused,
+}
+
+/// A cell of an outcome: a reader of it, and whether it took what it was given.
+#[derive(Drop)]
+pub(crate) struct State {
+    pub(crate) reader: Reader<Ending>,
+    pub(crate) mark: Mark,
+}
+
+impl State {
+    /// A cell that waits for its outcome.
+    pub(crate) fn new(reader: Reader<Ending>) -> State
+        ensures reader { result.reader ≡ reader }
+        ensures mark { result.mark ≡ Waiting }
+    {
+        State {
+            reader,
+            mark: Mark::Waiting,
+        }
+    }
+
+    /// Gives the cell its outcome, and tells whether the cell took it. It takes no memory.
+    pub(crate) fn end(&mut self, row: &CellRow<Ending>, cell: u32, ending: Box<Ending>) -> bool
+        requires in_row { cell < row_len row.now }
+        requires of_cell { self.old.reader.cell ≡ cell_of row.now cell }
+        requires unknown { self.old.reader.known ≡ None }
+        ensures cell { self.new.reader.cell ≡ self.old.reader.cell }
+        ensures ended { MatchBool result ((self.new.mark ≡ Ended) × (self.new.reader.known ≡ Some ending.value)) (self.new.mark ≡ Refused) }
+    {
+        let taken = row.show(cell, &mut self.reader, ending).is_ok();
+        self.mark = if taken { Mark::Ended } else { Mark::Refused };
+        taken
+    }
+
+    /// What is known of the cell is what was read of it, whichever threads know and read.
+    pub(crate) fn agree<L: LoaderName>(&self, seen: &Seen<L>)
+        requires { self.now.reader.cell ≡ cell_of L.outcomes seen.now.cell }
+        ensures { IfSome self.now.reader.known (λ ending. ending ≡ seen.now.ending) }
+    {
+        seen.agree(&self.reader);
+    }
+}
