@@ -7,3 +7,4 @@ pub mod Pass
 pub mod Opening
 pub mod Codes
 pub mod Book
+pub mod Asks

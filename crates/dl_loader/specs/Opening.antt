@@ -33,3 +33,12 @@ abbrev pub RefusedAs : ℕ → StartFault → Type 0
 RefusedAs callers NoCallers = callers ≡ 0
 RefusedAs callers TooManyCallers = MOST_CALLERS < callers
 RefusedAs callers OutOfMemory = AreCallers callers
+
+-- what holds of the fields of a loader: it goes by its rules, and its rows are its own, with room for all calls
+-- and cells
+pub record IsLoader (limits : Limits) (log outcomes : RowName) (rules : Rules) (own_log own_outcomes : RowName) : Type 0 where
+  pub limits_are : limits ≡ rules.limits
+  pub log_is : log ≡ own_log
+  pub outcomes_are : outcomes ≡ own_outcomes
+  pub calls_fit : row_len own_log ≡ limits.max_calls
+  pub cells_fit : row_len own_outcomes ≡ limits.max_cells

@@ -1,13 +1,15 @@
 //! The book of a loader, which lies behind its lock.
 
-ghost use Rattle.std.specs.Prelude.{◌≡◌, length};
+ghost use Rattle.std.specs.Prelude.{◌≡◌, [], false, length};
+ghost use Rattle.dl_desk.specs.Limits.{mixed};
 ghost use Rattle.dl_loader.specs.Service.{service};
 ghost use Rattle.dl_loader.specs.Book.{Keeps};
 
 use crate::entry::Stored;
 use crate::name::LoaderName;
 use crate::state::State;
-use dl_desk::Desk;
+use dl_desk::{Desk, Limits};
+use std::alloc::Global;
 use std::marker::Model;
 use std::sync::ledger;
 
@@ -42,6 +44,22 @@ impl<L: LoaderName> Model for Book<L> {
 }
 
 impl<L: LoaderName> Book<L> {
+    /// The book of a loader that had no call.
+    pub(crate) fn new(alloc: Global, limits: Limits, calls: ledger::Book<L>) -> Book<L>
+        requires rules { mixed limits ≡ L.rules }
+        requires none_counted { calls.total ≡ 0 }
+        ensures history { result.history ≡ [] }
+        ensures not_stopped { result.stopped ≡ false }
+    {
+        Book {
+            desk: Desk::new(alloc, limits),
+            log: Vec::new(alloc),
+            states: Vec::new(alloc),
+            calls,
+            stopped: false,
+        }
+    }
+
     /// What every book keeps: its history is legal, and all else is that of the history.
     pub fn keeps(&self)
         ensures { Keeps (service L.rules L.parts L.answer) self.now }

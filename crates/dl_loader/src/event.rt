@@ -24,6 +24,15 @@ pub enum Call {
     Fail { batch: u32, fault: BatchFault },
 }
 
+/// Why a batch that was sent is failed without an answer.
+#[derive(Clone, Copy, Debug, PartialEq, Eq)]
+pub enum GiveUp {
+    /// Memory ran out before the batch was answered.
+    Memory,
+    /// The batch was never handed to a worker.
+    Unsent,
+}
+
 /// The reply to a call of a shared loader.
 #[derive(Debug, Drop)]
 pub enum Reply {

@@ -5,21 +5,25 @@
 //! knows of the history stands in its [`Pass`].
 #![tactic(auto)]
 
+mod ask;
 mod book;
 mod entry;
 mod event;
 mod fault;
 mod lists;
+mod loader;
 mod name;
 mod opening;
 mod pass;
 mod state;
 mod ticket;
 
+pub use ask::Ask;
 pub use book::Book;
 pub use entry::{Entry, EntryKind};
-pub use event::{Call, Ending, Event, Reply};
+pub use event::{Call, Ending, Event, GiveUp, Reply};
 pub use fault::StartFault;
+pub use loader::Loader;
 pub use lists::{Jobs, Replies};
 pub use name::LoaderName;
 pub use opening::{MOST_CALLERS, Opening};
