@@ -1,7 +1,7 @@
 -- What tells two entries, two passes or two tickets apart: the tuple of what they have.
-use Rattle.std.specs.Prelude.{◌≡◌, ℕ, ◌⊎◌, Option, refl}
+use Rattle.std.specs.Prelude.{◌≡◌, ℕ, ◌⊎◌, List, Option, refl}
 use Rattle.std.proofs.Common.{inl, inr}
-use Rattle.std.specs.Coded.{Coded, code_by, coded_ℕ, coded_option, coded×, coded⊎}
+use Rattle.std.specs.Coded.{Coded, code_by, coded_ℕ, coded_list, coded_option, coded×, coded⊎}
 use Rattle.dl_desk.specs.declared.reply.LoadReply.{LoadReply}
 use Rattle.dl_desk.specs.contracts.reply.LoadReply as reply
 use Rattle.dl_loader.specs.declared.event.Event.{Event}
@@ -9,7 +9,9 @@ use Rattle.dl_loader.specs.contracts.event.Event as event
 use Rattle.dl_loader.specs.declared.event.Ending.{Ending}
 use Rattle.dl_loader.specs.contracts.event.Ending as ending
 use Rattle.dl_loader.specs.Entries.{Told, told, Read, read, Line, Called, Saw}
-use Rattle.dl_loader.specs.Pass.{Hold, hold}
+use Rattle.dl_loader.specs.declared.pass.Given.{Given}
+use Rattle.dl_loader.specs.contracts.pass.Given as given
+use Rattle.dl_loader.specs.Pass.{Part, part, Pass, Hold, hold}
 
 abbrev pub told_code : Coded Told
 told_code = code_by (ℕ × Event) (coded× coded_ℕ event.the_row.coded) (λ t. (t.at, t.event)) (λ p. told p.0 p.1) (λ _. refl)
@@ -31,6 +33,12 @@ join-split (Saw r) = refl
 
 abbrev pub line_code : Coded Line
 line_code = code_by (Told ⊎ Read) (coded⊎ told_code read_code) split join join-split
+
+abbrev pub part_code : Coded Part
+part_code = code_by (ℕ × (List Line × List Given)) (coded× coded_ℕ (coded× (coded_list line_code) (coded_list given.the_row.coded))) (λ p. (p.caller, (p.entries, p.tickets))) (λ q. part q.0 q.1.0 q.1.1) (λ _. refl)
+
+abbrev pub pass_code : Coded Pass
+pass_code = code_by (Part × ℕ) (coded× part_code coded_ℕ) (λ p. (p.part, p.spare)) (λ q. record { part = q.0; spare = q.1 }) (λ _. refl)
 
 abbrev pub hold_code : Coded Hold
 hold_code = code_by (ℕ × (LoadReply × Option Ending)) (coded× coded_ℕ (coded× reply.the_row.coded (coded_option ending.the_row.coded))) (λ t. (t.number, (t.reply, t.known))) (λ p. hold p.0 p.1.0 p.1.1) (λ _. refl)

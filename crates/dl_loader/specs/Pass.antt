@@ -30,10 +30,11 @@ abbrev pub unseen_of : List Given → ℕ
 unseen_of gs = total (λ g. one_if (not g.seen)) gs
 
 -- what holds of the fields of a pass
-pub record IsPass (callers caller front parts amount unseen room ticket_room : ℕ) (entries : List Line) (tickets : List Given) : Type 0 where
+pub record IsPass (callers caller front calls parts amount unseen room ticket_room : ℕ) (entries : List Line) (tickets : List Given) : Type 0 where
   pub caller_is : caller < callers
   pub front_is : front ≡ front_of entries
   pub front_most : front ≤ 65536
+  pub calls_are : calls ≡ length (calls_of entries)
   pub one_part : parts ≡ 1
   pub counted : amount ≡ length (calls_of entries)
   pub ordered : Ordered 0 entries

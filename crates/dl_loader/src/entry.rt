@@ -64,6 +64,13 @@ impl<L: LoaderName> Stored<L> {
         })
     }
 
+    /// The place in the log.
+    pub(crate) fn at(&self) -> u16
+        ensures { result ≡ self.now.at }
+    {
+        self.at
+    }
+
     /// A second one that tells the same. It takes no memory.
     pub(crate) fn again(&self) -> Stored<L>
         ensures { result ≡ self.now }
@@ -123,6 +130,13 @@ impl<L: LoaderName> Seen<L> {
             reader,
             of: PhantomData,
         }
+    }
+
+    /// The place of the event that gave the outcome.
+    pub(crate) fn at(&self) -> u16
+        ensures { result ≡ self.now.ending.at }
+    {
+        self.at
     }
 
     /// A reader of the cell that knows an outcome knows this one, whichever threads hold the two.

@@ -27,4 +27,5 @@ pub use loader::Loader;
 pub use lists::{Jobs, Replies};
 pub use name::LoaderName;
 pub use opening::{MOST_CALLERS, Opening};
+pub use pass::{Given, Pass};
 pub use ticket::Ticket;

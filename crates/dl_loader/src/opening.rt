@@ -24,11 +24,11 @@ pub const MOST_CALLERS: u32 = 32;
 #[derive(Drop)]
 pub struct Opening<'s, S: Source> {
     source: &'s S,
-    limits: Limits,
-    callers: u32,
-    log: CellRow<Event>,
-    outcomes: CellRow<Ending>,
-    blank: Blank,
+    pub(crate) limits: Limits,
+    pub(crate) callers: u32,
+    pub(crate) log: CellRow<Event>,
+    pub(crate) outcomes: CellRow<Ending>,
+    pub(crate) blank: Blank,
 }
 
 impl<'s, S: Source> Model for Opening<'s, S> {

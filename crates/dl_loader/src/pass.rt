@@ -1,5 +1,17 @@
 //! Passes: what a caller knows of the history.
 
+ghost use Rattle.std.specs.Prelude.{◌≡◌, ◌+◌, ◌<◌, ◌≤◌, Bool, false, IfSome, IsSome, OnOk, Some, [], length, slice_get};
+ghost use Rattle.dl_loader.specs.Entries.{calls_of, cell_of_load, cells_of, ending_known, front_of};
+ghost use Rattle.dl_loader.specs.Lists.{Among};
+ghost use Rattle.dl_loader.specs.Pass.{Gave, given, part, with_call, with_saw, with_ticket};
+
+use crate::entry::{Entry, Seen, Stored};
+use crate::name::LoaderName;
+use crate::ticket::Ticket;
+use std::alloc::{AllocError, Global};
+use std::marker::Model;
+use std::sync::ledger::{Book, Share};
+
 /// A ticket that a pass gave.
 #[derive(Clone, Copy, Debug)]
 pub struct Given {
@@ -7,4 +19,156 @@ pub struct Given {
     cell: u32,
     // Whether the cell's outcome is among the entries.
     seen: bool,
+}
+
+/// What one caller knows of the history: the calls that it made, the outcomes that it read, and the
+/// tickets that it was given. Contracts see these, and for how many more of them there is room.
+#[derive(Drop)]
+pub struct Pass<L: LoaderName> {
+    caller: u32,
+    entries: Vec<Entry<L>>,
+    // How many of the entries are calls.
+    calls: usize,
+    // One more than the greatest place among the entries, and 0 without any.
+    front: u32,
+    tickets: Vec<Given>,
+    // How many of the tickets have no entry of their outcome.
+    unseen: usize,
+    share: Share<L>,
+}
+
+impl<L: LoaderName> Model for Pass<L> {
+    ghost use Rattle.std.specs.Prelude.{◌+◌, ◌-◌, length, min, vec_capacity};
+    ghost use Rattle.dl_loader.specs.Pass.{Pass, IsPass, part};
+    ghost use Rattle.dl_loader.specs.Codes.{pass_code};
+
+    ghost Value = { Pass };
+
+    ghost coded = { pass_code };
+
+    ghost view = { λ p. record { part = part p.caller p.entries.items p.tickets.items; spare = min (vec_capacity p.entries - (length p.entries.items + p.unseen)) (vec_capacity p.tickets - length p.tickets.items) } };
+
+    ghost invariant = { λ p. IsPass L.parts p.caller p.front p.calls p.share.parts p.share.amount p.unseen (vec_capacity p.entries) (vec_capacity p.tickets) p.entries.items p.tickets.items };
+}
+
+impl<L: LoaderName> Pass<L> {
+    /// The pass of a caller that has made no call. It takes no memory.
+    pub(crate) fn fresh(alloc: Global, caller: u32, share: Share<L>) -> Pass<L>
+        requires caller { caller < L.parts }
+        requires part { share.parts ≡ 1 }
+        requires amount { share.amount ≡ 0 }
+        ensures { result.part ≡ part caller [] [] }
+    {
+        Pass {
+            caller,
+            entries: Vec::new(alloc),
+            calls: 0,
+            front: 0,
+            tickets: Vec::new(alloc),
+            unseen: 0,
+            share,
+        }
+    }
+
+    /// The caller, counted from 0.
+    pub fn caller(&self) -> u32
+        ensures { result ≡ self.now.part.caller }
+    {
+        self.caller
+    }
+
+    /// The calls that were made and the outcomes that were read, in order.
+    pub fn entries(&self) -> &[Entry<L>]
+        ensures { result.now ≡ self.now.part.entries }
+    {
+        self.entries.as_slice()
+    }
+
+    /// How many calls were made.
+    pub fn calls(&self) -> usize
+        ensures { result ≡ length (calls_of self.now.part.entries) }
+    {
+        self.calls
+    }
+
+    /// The length that the history has at least: one more than the greatest place among the entries,
+    /// and 0 without any.
+    pub fn front(&self) -> u32
+        ensures { result ≡ front_of self.now.part.entries }
+    {
+        self.front
+    }
+
+    /// Makes room for one call more and so many tickets. The error is want of memory, and changes
+    /// nothing.
+    pub(crate) fn reserve(&mut self, tickets: usize) -> Result<(), AllocError>
+        ensures part { self.new.part ≡ self.old.part }
+        ensures room { OnOk result (tickets + 1 ≤ self.new.spare) }
+    {
+        let more = tickets.checked_add(1).ok_or(AllocError)?;
+        let entries = self.unseen.checked_add(more).ok_or(AllocError)?;
+        self.entries.reserve(entries)?;
+        self.tickets.reserve(more)
+    }
+
+    /// Adds a call, which counts in the book of calls. It takes no memory.
+    pub(crate) fn add_call(&mut self, stored: Stored<L>, calls: &mut Book<L>)
+        requires room { 0 < self.old.spare }
+        requires after { front_of self.old.part.entries ≤ stored.at }
+        requires own { stored.event.caller ≡ self.old.part.caller }
+        ensures part { self.new.part ≡ with_call self.old.part stored.at stored.event }
+        ensures room { self.old.spare ≤ self.new.spare + 1 }
+        ensures counted { calls.new.total ≡ calls.old.total + 1 }
+    {
+        self.front = u32::from(stored.at()) + 1;
+        self.calls += 1;
+        calls.add(&mut self.share, 1);
+        self.entries.push_reserved(Entry::call(stored));
+    }
+
+    /// Adds a ticket of a cell, and answers its number. It takes no memory.
+    pub(crate) fn add_ticket(&mut self, cell: u32) -> usize
+        requires room { 0 < self.old.spare }
+        requires answered { Among cell (cells_of self.old.part.entries) }
+        ensures part { self.new.part ≡ with_ticket self.old.part cell }
+        ensures number { result ≡ length self.old.part.tickets }
+        ensures room { self.old.spare ≤ self.new.spare + 1 }
+    {
+        let number = self.tickets.len();
+        self.unseen += 1;
+        self.tickets.push_reserved(Given { cell, seen: false });
+        number
+    }
+
+    /// Adds the outcome that a ticket of this pass shows, once: where it is among the entries already,
+    /// nothing changes. It never waits, and takes no memory.
+    pub fn saw(&mut self, ticket: &mut Ticket<'_, L>)
+        requires gave { (seen : Bool) × Gave self.old.part ticket.old seen }
+        requires shown { IsSome ticket.old.known }
+        ensures ticket { ticket.new ≡ ticket.old }
+        ensures saw { (seen : Bool) × Gave self.old.part ticket.old seen × (self.new.part ≡ with_saw self.old.part ticket.old.number (cell_of_load ticket.old.reply) (ending_known ticket.old.known) seen) }
+    {
+        if !self.has_seen(ticket.number()) {
+            self.add_saw(ticket.number(), ticket.seen());
+        }
+    }
+
+    // Whether the outcome of the ticket of this number is among the entries.
+    fn has_seen(&self, number: usize) -> bool
+        requires { number < length self.now.part.tickets }
+        ensures { IfSome (slice_get self.now.part.tickets number) (λ ticket. result ≡ ticket.seen) }
+    {
+        self.tickets[number].seen
+    }
+
+    // Adds the outcome of the ticket of this number.
+    fn add_saw(&mut self, number: usize, seen: Seen<L>)
+        requires { slice_get self.old.part.tickets number ≡ Some (given seen.cell false) }
+        ensures { self.new.part ≡ with_saw self.old.part number seen.cell seen.ending false }
+    {
+        self.front = self.front.max(u32::from(seen.at()) + 1);
+        self.unseen -= 1;
+        self.tickets[number].seen = true;
+        self.entries.push_reserved(Entry::saw(seen));
+    }
 }

@@ -1,0 +1,162 @@
+-- What holds of a pass once it has one call, one ticket or one outcome more.
+use Rattle.std.proofs.Common.{◌≡◌, ◌∙◌, sym, ap, subst, ℕ, zero, suc, ◌+◌, ◌-◌, ◌<◌, ◌≤◌, max, min, true, false, not, List, [], ◌∷◌, ◌++◌, length, set, Option, Some, None, slice_get, get_or, refl, arith, append_assoc, length-append}
+use Rattle.std.proofs.lemmas.List.{append-nil, length-set}
+use Rattle.std.proofs.lemmas.Option.{get_or_from_slice_get}
+use Rattle.dl_loader.specs.declared.pass.Given.{Given}
+use Rattle.dl_loader.specs.Lists.{Every, Among, one_if}
+use Rattle.dl_loader.specs.Entries.{Told, Read, Line, Called, Saw, calls_in, calls_of, IsOwn, line_front, front_of, Ordered, answered, cells_in, cells_of, Answered}
+use Rattle.dl_loader.specs.Pass.{IsPass, part, given, unseen_of}
+use Rattle.dl_loader.proofs.ListLemmas.{among_longer, total-append, every_append, every_weaker, every_at, every_set}
+
+-- ---- entries, with one more
+
+pub calls_of-append : (xs ys : List Line) → calls_of (xs ++ ys) ≡ calls_of xs ++ calls_of ys
+calls_of-append [] ys = refl
+calls_of-append (x ∷ xs) ys = rw (calls_of-append xs ys) (sym (append_assoc (calls_in x) (calls_of xs) (calls_of ys)))
+
+pub cells_of-append : (xs ys : List Line) → cells_of (xs ++ ys) ≡ cells_of xs ++ cells_of ys
+cells_of-append [] ys = refl
+cells_of-append (x ∷ xs) ys = rw (cells_of-append xs ys) (sym (append_assoc (cells_in x) (cells_of xs) (cells_of ys)))
+
+-- no more calls than entries
+pub calls_few : (xs : List Line) → length (calls_of xs) ≤ length xs
+calls_few [] = omega arith
+calls_few (Called t ∷ xs) = let rest = calls_few xs in omega arith
+calls_few (Saw r ∷ xs) = let rest = calls_few xs in omega arith
+
+pub front_of-push : (xs : List Line) (l : Line) → front_of (xs ++ l ∷ []) ≡ max (front_of xs) (line_front l)
+front_of-push [] l = omega arith
+front_of-push (x ∷ xs) l = let rest = front_of-push xs l in omega arith
+
+pub ordered_call : (k : ℕ) (xs : List Line) (t : Told) → k ≤ t.at → front_of xs ≤ t.at → Ordered k xs → Ordered k (xs ++ Called t ∷ [])
+ordered_call k [] t low past ordered = (low, tt)
+ordered_call k (x ∷ xs) t low past ordered =
+    (ordered.0, ordered_call (max k (line_front x)) xs t (omega arith) (omega arith) ordered.1)
+
+pub ordered_saw : (k : ℕ) (xs : List Line) (r : Read) → Ordered k xs → Ordered k (xs ++ Saw r ∷ [])
+ordered_saw k [] r ordered = (tt, tt)
+ordered_saw k (x ∷ xs) r ordered = (ordered.0, ordered_saw (max k (line_front x)) xs r ordered.1)
+
+pub answered_call : (cs : List ℕ) (xs : List Line) (t : Told) → Answered cs xs → Answered cs (xs ++ Called t ∷ [])
+answered_call cs [] t answered = (tt, tt)
+answered_call cs (x ∷ xs) t answered = (answered.0, answered_call (cs ++ cells_in x) xs t answered.1)
+
+pub answered_saw : (cs : List ℕ) (xs : List Line) (r : Read) → Among r.cell (cs ++ cells_of xs) → Answered cs xs → Answered cs (xs ++ Saw r ∷ [])
+answered_saw cs [] r among answered = let P : List ℕ → Type 0 = λ c. Among r.cell c in (subst P (append-nil cs) among, tt)
+answered_saw cs (x ∷ xs) r among answered =
+    let P : List ℕ → Type 0 = λ c. Among r.cell c in
+    let there = subst P (sym (append_assoc cs (cells_in x) (cells_of xs))) among in
+    (answered.0, answered_saw (cs ++ cells_in x) xs r there answered.1)
+
+-- tickets of cells with which calls were answered still are
+given_longer : (xs ys : List Line) (gs : List Given) → Every (λ g. Among g.cell (cells_of xs)) gs → Every (λ g. Among g.cell (cells_of (xs ++ ys))) gs
+given_longer xs ys gs each =
+    every_weaker (λ g. Among g.cell (cells_of xs)) (λ g. Among g.cell (cells_of (xs ++ ys))) gs (λ g among. rw (cells_of-append xs ys) (among_longer g.cell (cells_of xs) (cells_of ys) among)) each
+
+-- one ticket's outcome is among the entries now
+pub unseen_of-saw : (gs : List Given) (n cell : ℕ) → slice_get gs n ≡ Some (given cell false) → unseen_of gs ≡ unseen_of (set gs n (given cell true)) + 1
+unseen_of-saw [] n cell at = let is : ◌≡◌ {A = Option Given} None (Some (given cell false)) = at in absurd cc
+unseen_of-saw (g ∷ gs) zero cell at =
+    let is : ◌≡◌ {A = Option Given} (Some g) (Some (given cell false)) = at in
+    let e : g ≡ given cell false = cc in
+    rw e (omega arith)
+unseen_of-saw (g ∷ gs) (suc n) cell at = let rest = unseen_of-saw gs n cell at in omega arith
+
+-- where a ticket's outcome is not among the entries, there is such a ticket
+pub some_unseen : {unseen : ℕ} (gs : List Given) (n cell : ℕ) → unseen ≡ unseen_of gs → slice_get gs n ≡ Some (given cell false) → 1 ≤ unseen
+some_unseen gs n cell is at = let one = unseen_of-saw gs n cell at in omega arith
+
+-- a ticket that was read is the one that stands there
+pub ticket_read : (gs : List Given) (n cell : ℕ) (g : Given) → slice_get gs n ≡ Some (given cell false) → g ≡ get_or gs n g → g.cell ≡ cell
+ticket_read gs n cell g at read = ap (λ x. x.cell) (read ∙ get_or_from_slice_get gs n (given cell false) g at)
+
+-- ---- passes
+
+pub part_same : {caller caller2 : ℕ} {entries entries2 : List Line} {tickets tickets2 : List Given} → caller ≡ caller2 → entries ≡ entries2 → tickets ≡ tickets2 → part caller entries tickets ≡ part caller2 entries2 tickets2
+part_same caller entries tickets = rw (caller, entries, tickets) refl
+
+-- where there is room for more, no Vec is full
+pub pass_room : (room len unseen ticket_room ticket_len spare : ℕ) → min (room - (len + unseen)) (ticket_room - ticket_len) ≡ spare → 0 < spare → (len + unseen < room) × (ticket_len < ticket_room)
+pass_room room len unseen ticket_room ticket_len spare is some = (omega arith, omega arith)
+
+pub pass_call : {callers caller front front2 calls calls2 parts parts2 amount amount2 unseen room room2 ticket_room : ℕ} {entries entries2 : List Line} {tickets : List Given} (t : Told)
+    → IsPass callers caller front calls parts amount unseen room ticket_room entries tickets
+    → entries2 ≡ entries ++ Called t ∷ [] → front_of entries ≤ t.at → t.at < 65536 → t.event.caller ≡ caller
+    → front2 ≡ t.at + 1 → calls2 ≡ calls + 1 → parts2 ≡ parts → amount2 ≡ amount + 1
+    → length entries + unseen < room → room2 ≡ room
+    → IsPass callers caller front2 calls2 parts2 amount2 unseen room2 ticket_room entries2 tickets
+pass_call {entries = entries} {entries2 = entries2} {tickets = tickets} t old more past small own front_is calls_is parts_is amount_is fits same =
+    let calls = ap calls_of more ∙ calls_of-append entries (Called t ∷ []) in
+    let one_more : length (calls_of entries2) ≡ length (calls_of entries) + 1 = ap length calls ∙ length-append (calls_of entries) (t ∷ []) in
+    let longer : length entries2 ≡ length entries + 1 = ap length more ∙ length-append entries (Called t ∷ []) in
+    let front : front_of entries2 ≡ max (front_of entries) (t.at + 1) = ap front_of more ∙ front_of-push entries (Called t) in
+    record {
+      caller_is = old.caller_is;
+      front_is = omega arith;
+      front_most = omega arith;
+      calls_are = let e = old.calls_are in omega arith;
+      one_part = parts_is ∙ old.one_part;
+      counted = let e = old.counted in omega arith;
+      ordered = rw more (ordered_call 0 entries t (omega arith) past old.ordered);
+      own = rw calls (every_append (IsOwn _) (calls_of entries) (t ∷ []) old.own (own, tt));
+      answered_are = rw more (answered_call [] entries t old.answered_are);
+      given_are = rw more (given_longer entries (Called t ∷ []) tickets old.given_are);
+      unseen_is = old.unseen_is;
+      entries_fit = omega arith;
+      tickets_fit = old.tickets_fit;
+    }
+
+pub pass_ticket : {callers caller front calls parts amount unseen unseen2 room ticket_room ticket_room2 : ℕ} {entries : List Line} {tickets tickets2 : List Given} (cell : ℕ)
+    → IsPass callers caller front calls parts amount unseen room ticket_room entries tickets
+    → tickets2 ≡ tickets ++ given cell false ∷ [] → Among cell (cells_of entries) → unseen2 ≡ unseen + 1
+    → length entries + unseen < room → length tickets < ticket_room → ticket_room2 ≡ ticket_room
+    → IsPass callers caller front calls parts amount unseen2 room ticket_room2 entries tickets2
+pass_ticket {entries = entries} {tickets = tickets} {tickets2 = tickets2} cell old more among unseen_is fits ticket_fits same =
+    let longer : length tickets2 ≡ length tickets + 1 = ap length more ∙ length-append tickets (given cell false ∷ []) in
+    let unseen : unseen_of tickets2 ≡ unseen_of tickets + 1 = ap unseen_of more ∙ total-append (λ g. one_if (not g.seen)) tickets (given cell false ∷ []) in
+    record {
+      caller_is = old.caller_is;
+      front_is = old.front_is;
+      front_most = old.front_most;
+      calls_are = old.calls_are;
+      one_part = old.one_part;
+      counted = old.counted;
+      ordered = old.ordered;
+      own = old.own;
+      answered_are = old.answered_are;
+      given_are = rw more (every_append (λ g. Among g.cell (cells_of entries)) tickets (given cell false ∷ []) old.given_are (among, tt));
+      unseen_is = let e = old.unseen_is in omega arith;
+      entries_fit = omega arith;
+      tickets_fit = omega arith;
+    }
+
+pub pass_saw : {callers caller front front2 calls parts amount unseen unseen2 room room2 ticket_room ticket_room2 : ℕ} {entries entries2 : List Line} {tickets tickets2 : List Given} (n : ℕ) (r : Read)
+    → IsPass callers caller front calls parts amount unseen room ticket_room entries tickets
+    → slice_get tickets n ≡ Some (given r.cell false) → r.ending.at < 65536
+    → entries2 ≡ entries ++ Saw r ∷ [] → tickets2 ≡ set tickets n (given r.cell true)
+    → front2 ≡ max front (r.ending.at + 1) → unseen2 + 1 ≡ unseen → room2 ≡ room → ticket_room2 ≡ ticket_room
+    → IsPass callers caller front2 calls parts amount unseen2 room2 ticket_room2 entries2 tickets2
+pass_saw {front = front} {entries = entries} {entries2 = entries2} {tickets = tickets} {tickets2 = tickets2} n r old at small more marked front_is unseen_is room_is ticket_room_is =
+    let calls : calls_of entries2 ≡ calls_of entries = ap calls_of more ∙ (calls_of-append entries (Saw r ∷ []) ∙ append-nil (calls_of entries)) in
+    let longer : length entries2 ≡ length entries + 1 = ap length more ∙ length-append entries (Saw r ∷ []) in
+    let front_now : front_of entries2 ≡ max (front_of entries) (r.ending.at + 1) = ap front_of more ∙ front_of-push entries (Saw r) in
+    let among = every_at (λ g. Among g.cell (cells_of entries)) tickets n (given r.cell false) at old.given_are in
+    let given_now = given_longer entries (Saw r ∷ []) tickets old.given_are in
+    let among_now = every_at (λ g. Among g.cell (cells_of (entries ++ Saw r ∷ []))) tickets n (given r.cell false) at given_now in
+    let unseen : unseen_of tickets ≡ unseen_of tickets2 + 1 = unseen_of-saw tickets n r.cell at ∙ ap (λ gs. unseen_of gs + 1) (sym marked) in
+    let as_long : length tickets2 ≡ length tickets = ap length marked ∙ length-set tickets n (given r.cell true) in
+    record {
+      caller_is = old.caller_is;
+      front_is = let e = old.front_is in omega arith;
+      front_most = let e = old.front_most in omega arith;
+      calls_are = old.calls_are ∙ ap length (sym calls);
+      one_part = old.one_part;
+      counted = old.counted ∙ ap length (sym calls);
+      ordered = rw more (ordered_saw 0 entries r old.ordered);
+      own = rw calls old.own;
+      answered_are = rw more (answered_saw [] entries r among old.answered_are);
+      given_are = rw (more, marked) (every_set (λ g. Among g.cell (cells_of (entries ++ Saw r ∷ []))) tickets n (given r.cell true) among_now given_now);
+      unseen_is = let e = old.unseen_is in omega arith;
+      entries_fit = let e = old.entries_fit in omega arith;
+      tickets_fit = let e = old.tickets_fit in omega arith;
+    }
