@@ -1,1 +1,4 @@
 pub mod Logs
+pub mod CellBatches
+pub mod LogEnds
+pub mod Endings
