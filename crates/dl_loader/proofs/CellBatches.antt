@@ -20,6 +20,10 @@ pub record HasCell (ms : List (Key × ℕ)) (c : ℕ) : Type 0 where
   pub at : slice_get ms place ≡ Some member
   pub is : member.1 ≡ c
 
+-- none of the members has the cell
+abbrev pub NoCell : List (Key × ℕ) → ℕ → Type 0
+NoCell ms c = (i : ℕ) (m : Key × ℕ) → slice_get ms i ≡ Some m → m.1 ≡ c → ⊥
+
 has_more : (ms : List (Key × ℕ)) (m : Key × ℕ) (c : ℕ) → HasCell ms c → HasCell (ms ++ m ∷ []) c
 has_more ms m c h = record {
   place = h.place;
@@ -32,16 +36,16 @@ has_last : (ms : List (Key × ℕ)) (m : Key × ℕ) (c : ℕ) → m.1 ≡ c →
 has_last ms m c is = record { place = length ms; member = m; at = get-snoc_last ms m; is = is }
 
 -- one of the members has the cell, or none has it
-pub has_cell : (ms : List (Key × ℕ)) (c : ℕ) → HasCell ms c ⊎ ((i : ℕ) (m : Key × ℕ) → slice_get ms i ≡ Some m → m.1 ≡ c → ⊥)
+pub has_cell : (ms : List (Key × ℕ)) (c : ℕ) → HasCell ms c ⊎ NoCell ms c
 has_cell [] c = inr (λ i m got. absurd (let bad : ◌≡◌ {A = Option (Key × ℕ)} None (Some m) = got in cc))
 has_cell (x ∷ ms) c = by (cases_eq x.1 c) (has_cell ms c)
   where
-    by : (x.1 ≡ c) ⊎ (x.1 ≡ c → ⊥) → HasCell ms c ⊎ ((i : ℕ) (m : Key × ℕ) → slice_get ms i ≡ Some m → m.1 ≡ c → ⊥) → HasCell (x ∷ ms) c ⊎ ((i : ℕ) (m : Key × ℕ) → slice_get (x ∷ ms) i ≡ Some m → m.1 ≡ c → ⊥)
+    by : (x.1 ≡ c) ⊎ (x.1 ≡ c → ⊥) → HasCell ms c ⊎ NoCell ms c → HasCell (x ∷ ms) c ⊎ NoCell (x ∷ ms) c
     by (inl is) rest = inl (record { place = 0; member = x; at = refl; is = is })
     by (inr other) (inl h) = inl (record { place = suc h.place; member = h.member; at = h.at; is = h.is })
     by (inr other) (inr none) = inr not
       where
-        not : (i : ℕ) (m : Key × ℕ) → slice_get (x ∷ ms) i ≡ Some m → m.1 ≡ c → ⊥
+        not : NoCell (x ∷ ms) c
         not zero m got is = let two : ◌≡◌ {A = Option (Key × ℕ)} (Some x) (Some m) = got in let same : x ≡ m = cc in other (ap (λ (n : Key × ℕ). n.1) same ∙ is)
         not (suc i) m got is = none i m got is
 

@@ -1,6 +1,6 @@
 -- What one more event of a legal history does to what a cell shows.
-use Rattle.std.proofs.Common.{◌≡◌, ◌∙◌, sym, ap, ℕ, ◌<◌, ◌≤◌, true, false, List, [], ◌∷◌, ◌++◌, length, Option, Some, None, slice_get, nat_eq, refl}
-use Rattle.std.proofs.lemmas.Bool.{and_right, eq-eqb, ne_eqb}
+use Rattle.std.proofs.Common.{◌⊎◌, inl, inr, ◌≡◌, ◌∙◌, sym, ap, ℕ, ◌<◌, ◌≤◌, true, false, List, [], ◌∷◌, ◌++◌, length, Option, Some, None, slice_get, nat_eq, refl}
+use Rattle.std.proofs.lemmas.Bool.{and_right, eq-eqb, ne_eqb, cases_eq}
 use Rattle.dl_desk.specs.Key.{Key}
 use Rattle.dl_desk.specs.Limits.{Rules}
 use Rattle.dl_desk.specs.History.{Atom, begins, cells, members, load_reply, prime_reply, MayEnd}
@@ -124,7 +124,7 @@ kept_stays s es e c k o legal next is reply = others_stay s es e c legal next (r
 -- ---- an event that ends a cell
 
 -- what a cell shows that the newest event ended
-shows_newest : (es : List Event) (e : Event) (c : ℕ) (o : Outcome) → ending (as_made e ∷ log es) c ≡ Some (newest (log es) (as_made e)) → outcome_given (atoms (as_made e ∷ log es)) c (gave e.call e.reply) ≡ Some o → ending_of (es ++ e ∷ []) c ≡ Some (record { at = length es; outcome = o })
+pub shows_newest : (es : List Event) (e : Event) (c : ℕ) (o : Outcome) → ending (as_made e ∷ log es) c ≡ Some (newest (log es) (as_made e)) → outcome_given (atoms (as_made e ∷ log es)) c (gave e.call e.reply) ≡ Some o → ending_of (es ++ e ∷ []) c ≡ Some (record { at = length es; outcome = o })
 shows_newest es e c o is given = rw (log-snoc es e, is, given, length-log es) refl
 
 -- ---- a prime of a key that is not held
@@ -152,3 +152,14 @@ primed_others s es e k o c d legal next is reply other =
     let not_primed : primes d (made e.call e.reply) ≡ false = rw (is, reply) (rw (ne_eqb d c other) refl) in
     let not_ended : (b : ℕ) → ends b (made e.call e.reply) ≡ false = λ b. rw (is, reply) refl in
     spared_stays s es e d legal next (spares_all (atoms (log es)) d (made e.call e.reply) not_primed not_ended)
+
+-- What a prime leaves to show of a cell: its outcome, if it began the cell, and else what it showed.
+pub primed_shows : (s : Service) (es : List Event) (e : Event) (k : Key) (o : Outcome) (c d : ℕ) (now : Option Ending) → IsLegal s es → IsNext s es e → e.call ≡ Prime k o → e.reply ≡ Primed c
+    → (d ≡ c → now ≡ Some (record { at = length es; outcome = o }))
+    → ((d ≡ c → ⊥) → now ≡ ending_of es d)
+    → now ≡ ending_of (es ++ e ∷ []) d
+primed_shows s es e k o c d now legal next is reply mine other = by (cases_eq d c)
+  where
+    by : (d ≡ c) ⊎ (d ≡ c → ⊥) → now ≡ ending_of (es ++ e ∷ []) d
+    by (inl same) = mine same ∙ sym (rw same (primed_end s es e k o c legal next is reply))
+    by (inr ne) = other ne ∙ sym (primed_others s es e k o c d legal next is reply ne)

@@ -2,3 +2,5 @@ pub mod Logs
 pub mod CellBatches
 pub mod LogEnds
 pub mod Endings
+pub mod BatchEndings
+pub mod Outcomes

@@ -1,5 +1,5 @@
 -- What one more event of a legal log does to the end of a cell.
-use Rattle.std.proofs.Common.{◌≡◌, ◌∙◌, sym, ap, ℕ, ◌<◌, ◌≤◌, ◌⊎◌, inl, inr, Bool, true, false, cond, List, [], ◌∷◌, map, Option, Some, None, nat_eq, is_none, refl, arith}
+use Rattle.std.proofs.Common.{◌≡◌, ◌∙◌, sym, ap, ℕ, ◌<◌, ◌≤◌, ◌⊎◌, inl, inr, Bool, true, false, cond, List, [], ◌∷◌, length, map, Option, Some, None, nat_eq, is_none, refl, arith}
 use Rattle.std.specs.Option.{option_or, option_and_then}
 use Rattle.std.specs.List.{zip}
 use Rattle.std.specs.Map.{lookup}
@@ -82,6 +82,27 @@ ended_sent rules log c b p legal e is = by (cases_lt b (sent (atoms log)))
         let none : ending log c ≡ None = open_unended rules log c b legal is (end_of-unsent rules (atoms log) (atoms_legal rules log legal) b high) in
         let bad : ◌≡◌ {A = Option Placed} None (Some p) = sym none ∙ e in
         absurd (cc)
+
+place_low : (e : Event) (before : List Event) (test : Made → Bool) (p : Placed) (t : Bool) → (last_of test before ≡ Some p → p.place < length before) → cond t (Some (newest before e)) (last_of test before) ≡ Some p → p.place < length (e ∷ before)
+place_low e before test p true rest is =
+    let two : ◌≡◌ {A = Option Placed} (Some (newest before e)) (Some p) = is in
+    let same : newest before e ≡ p = cc in
+    let at : length before ≡ p.place = ap (λ (q : Placed). q.place) same in
+    omega arith
+place_low e before test p false rest is = let low : p.place < length before = rest is in omega arith
+
+last_low : (log : List Event) (test : Made → Bool) (p : Placed) → last_of test log ≡ Some p → p.place < length log
+last_low [] test p is = absurd (let bad : ◌≡◌ {A = Option Placed} None (Some p) = is in cc)
+last_low (e ∷ before) test p is = place_low e before test p (test e.made) (last_low before test p) is
+
+-- the event that ended a cell stands in the log
+pub ending_low : (log : List Event) (c : ℕ) (p : Placed) → ending log c ≡ Some p → p.place < length log
+ending_low log c p is = by (last_of (primes c) log) refl (cell_batch (atoms log) c) is
+  where
+    by : (prime : Option Placed) → last_of (primes c) log ≡ prime → (batch : Option ℕ) → option_or prime (option_and_then (λ b. last_of (ends b) log) batch) ≡ Some p → p.place < length log
+    by (Some q) at batch f = last_low log (primes c) p (at ∙ f)
+    by None at (Some b) f = last_low log (ends b) p f
+    by None at None f = absurd (let bad : ◌≡◌ {A = Option Placed} None (Some p) = f in cc)
 
 -- ---- an event that does not end the cell
 

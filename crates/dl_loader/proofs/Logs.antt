@@ -43,6 +43,12 @@ get-snoc {X} (x ∷ xs) y z (suc i) got = by (get-snoc xs y z i got)
     by (inl old) = inl (let l = old.0 in omega arith, old.1)
     by (inr new) = inr (let l = new.0 in omega arith, new.1)
 
+-- a list has an element at each place below its length
+pub get-inside : {X : Type 0} (xs : List X) (i : ℕ) → i < length xs → slice_get xs i ≡ None → ⊥
+get-inside [] i low none = absurd (omega arith)
+get-inside {X} (x ∷ xs) zero low none = let bad : ◌≡◌ {A = Option X} (Some x) None = none in cc
+get-inside (x ∷ xs) (suc i) low none = get-inside xs i (omega arith) none
+
 -- the front up to an element and that element
 pub take-get : {X : Type 0} (xs : List X) (i : ℕ) (x : X) → slice_get xs i ≡ Some x → take (suc i) xs ≡ take i xs ++ x ∷ []
 take-get {X} [] i x got = absurd (let bad : ◌≡◌ {A = Option X} None (Some x) = got in cc)
