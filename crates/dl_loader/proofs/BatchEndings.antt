@@ -1,21 +1,18 @@
 -- What the end of a batch does to what its members' cells show.
-use Rattle.std.proofs.Common.{◌≡◌, ◌∙◌, sym, ap, subst, ℕ, zero, suc, ◌<◌, ◌≤◌, ◌⊎◌, inl, inr, Bool, true, false, List, [], ◌∷◌, ◌++◌, length, map, Option, Some, None, slice_get, nat_eq, refl, arith}
+use Rattle.std.proofs.Common.{◌≡◌, ◌∙◌, sym, ap, ℕ, zero, suc, ◌<◌, ◌⊎◌, inl, inr, true, false, List, [], ◌∷◌, ◌++◌, length, map, Option, Some, None, slice_get, nat_eq, refl, arith}
 use Rattle.std.specs.List.{zip}
 use Rattle.std.specs.Map.{lookup}
-use Rattle.std.proofs.lemmas.Bool.{cases_Bool, eqb-true, eq-eqb, ne_eqb}
+use Rattle.std.proofs.lemmas.Bool.{eq-eqb, ne_eqb}
 use Rattle.std.proofs.lemmas.List.{length-map}
-use Rattle.std.proofs.lemmas.Option.{slice_get_within, slice_get_past}
+use Rattle.std.proofs.lemmas.Option.{slice_get_within}
 use Rattle.dl_desk.specs.Key.{Key}
 use Rattle.dl_desk.specs.History.{Atom, members}
-use Rattle.dl_desk.specs.History as atom
 use Rattle.dl_desk.specs.Events.{atoms, ends, cell_batch}
 use Rattle.dl_desk.specs.declared.outcome.Outcome.{Outcome}
 use Rattle.dl_desk.specs.declared.outcome.Outcome.TheVariants.{BatchFailed}
 use Rattle.dl_desk.specs.declared.outcome.BatchFault.{BatchFault}
-use Rattle.dl_source.specs.declared.source.BatchAnswer.TheVariants as answered
 use Rattle.dl_loader.specs.declared.event.Event.{Event}
 use Rattle.dl_loader.specs.declared.event.Ending.{Ending}
-use Rattle.dl_loader.specs.declared.event.Call.{Call}
 use Rattle.dl_loader.specs.declared.event.Call.TheVariants.{Settle, Fail}
 use Rattle.dl_loader.specs.Service.{Service, AnswersEach}
 use Rattle.dl_loader.specs.History.{made, as_made, log, keys_of, MayBeMade, IsNext, IsLegal, ending_of}
@@ -56,12 +53,16 @@ settled_end s es e b os i m o legal next is got given =
     let newest_is = ending_batch s.rules (as_made e) (log es) m.1 b (legal_next s es e legal next) batch now in
     shows_newest es e m.1 o newest_is (rw (next.reply, is, batch) (beside_member (members H b) os i m o (members-rise s.rules H b (legal_atoms s es legal)) got given))
 
--- each other cell shows what it showed
-pub settled_others : (s : Service) (es : List Event) (e : Event) (b : ℕ) (os : List Outcome) (c : ℕ) → IsLegal s es → IsNext s es e → e.call ≡ Settle b os → NoCell (members (atoms (log es)) b) c → ending_of (es ++ e ∷ []) c ≡ ending_of es c
-settled_others s es e b os c legal next is none = spared_stays s es e c legal next (record {
+-- the settle spares each cell that is no member's
+pub settled_spares : (s : Service) (es : List Event) (e : Event) (b : ℕ) (os : List Outcome) (c : ℕ) → IsNext s es e → e.call ≡ Settle b os → NoCell (members (atoms (log es)) b) c → Spares (atoms (log es)) (made e.call e.reply) c
+settled_spares s es e b os c next is none = record {
   not_primed = rw (next.reply, is) refl;
   not_ended = λ n batch. rw (next.reply, is) (other_batch (atoms (log es)) b c n none batch);
-})
+}
+
+-- each other cell shows what it showed
+pub settled_others : (s : Service) (es : List Event) (e : Event) (b : ℕ) (os : List Outcome) (c : ℕ) → IsLegal s es → IsNext s es e → e.call ≡ Settle b os → NoCell (members (atoms (log es)) b) c → ending_of (es ++ e ∷ []) c ≡ ending_of es c
+settled_others s es e b os c legal next is none = spared_stays s es e c legal next (settled_spares s es e b os c next is none)
 
 -- where the source answers each key, a settle has as many outcomes as its batch has members
 pub settled_length : (s : Service) (es : List Event) (e : Event) (b : ℕ) (os : List Outcome) → AnswersEach s.answer → IsNext s es e → e.call ≡ Settle b os → length os ≡ length (members (atoms (log es)) b)
@@ -83,12 +84,16 @@ failed_end s es e b fault i m legal next is got =
     let newest_is = ending_batch s.rules (as_made e) (log es) m.1 b (legal_next s es e legal next) batch now in
     shows_newest es e m.1 (BatchFailed fault) newest_is (rw (next.reply, is) refl)
 
--- each other cell shows what it showed
-pub failed_others : (s : Service) (es : List Event) (e : Event) (b : ℕ) (fault : BatchFault) (c : ℕ) → IsLegal s es → IsNext s es e → e.call ≡ Fail b fault → NoCell (members (atoms (log es)) b) c → ending_of (es ++ e ∷ []) c ≡ ending_of es c
-failed_others s es e b fault c legal next is none = spared_stays s es e c legal next (record {
+-- the fail spares each cell that is no member's
+pub failed_spares : (s : Service) (es : List Event) (e : Event) (b : ℕ) (fault : BatchFault) (c : ℕ) → IsNext s es e → e.call ≡ Fail b fault → NoCell (members (atoms (log es)) b) c → Spares (atoms (log es)) (made e.call e.reply) c
+failed_spares s es e b fault c next is none = record {
   not_primed = rw (next.reply, is) refl;
   not_ended = λ n batch. rw (next.reply, is) (other_batch (atoms (log es)) b c n none batch);
-})
+}
+
+-- each other cell shows what it showed
+pub failed_others : (s : Service) (es : List Event) (e : Event) (b : ℕ) (fault : BatchFault) (c : ℕ) → IsLegal s es → IsNext s es e → e.call ≡ Fail b fault → NoCell (members (atoms (log es)) b) c → ending_of (es ++ e ∷ []) c ≡ ending_of es c
+failed_others s es e b fault c legal next is none = spared_stays s es e c legal next (failed_spares s es e b fault c next is none)
 
 -- ---- every cell
 

@@ -91,11 +91,15 @@ spares_none rules history c Dispatch none = spares_all history c (made Dispatch 
 spares_none rules history c (Settle b os) none = absurd (let bad : Each os ≡ Nothing = none in cc)
 spares_none rules history c (Fail b fault) none = absurd (let bad : Broke fault ≡ Nothing = none in cc)
 
+-- an event that gives nothing to cells spares each
+pub nothing_spares : (s : Service) (es : List Event) (e : Event) (c : ℕ) → IsNext s es e → gave e.call e.reply ≡ Nothing → Spares (atoms (log es)) (made e.call e.reply) c
+nothing_spares s es e c next none =
+    let nothing : gave e.call (reply_to s.rules (atoms (log es)) e.call) ≡ Nothing = rw next.reply at none in
+    rw next.reply (spares_none s.rules (atoms (log es)) c e.call nothing)
+
 -- where an event gives nothing to cells, each shows what it showed
 pub others_stay : (s : Service) (es : List Event) (e : Event) (c : ℕ) → IsLegal s es → IsNext s es e → gave e.call e.reply ≡ Nothing → ending_of (es ++ e ∷ []) c ≡ ending_of es c
-others_stay s es e c legal next none =
-    let nothing : gave e.call (reply_to s.rules (atoms (log es)) e.call) ≡ Nothing = rw next.reply at none in
-    spared_stays s es e c legal next (rw next.reply (spares_none s.rules (atoms (log es)) c e.call nothing))
+others_stay s es e c legal next none = spared_stays s es e c legal next (nothing_spares s es e c next none)
 
 -- so after a load
 pub load_stays : (s : Service) (es : List Event) (e : Event) (c : ℕ) (k : Key) → IsLegal s es → IsNext s es e → e.call ≡ Load k → ending_of (es ++ e ∷ []) c ≡ ending_of es c
@@ -146,12 +150,16 @@ primed_end s es e k o c legal next is reply =
     let now : primes c (made e.call e.reply) ≡ true = rw (is, reply) (rw (eq-eqb c c refl) refl) in
     shows_newest es e c o (ending_primed (as_made e) (log es) c now) (rw (is, reply) refl)
 
--- each other cell shows what it showed
-pub primed_others : (s : Service) (es : List Event) (e : Event) (k : Key) (o : Outcome) (c d : ℕ) → IsLegal s es → IsNext s es e → e.call ≡ Prime k o → e.reply ≡ Primed c → (d ≡ c → ⊥) → ending_of (es ++ e ∷ []) d ≡ ending_of es d
-primed_others s es e k o c d legal next is reply other =
+-- the prime spares each other cell
+pub primed_spares : (s : Service) (es : List Event) (e : Event) (k : Key) (o : Outcome) (c d : ℕ) → e.call ≡ Prime k o → e.reply ≡ Primed c → (d ≡ c → ⊥) → Spares (atoms (log es)) (made e.call e.reply) d
+primed_spares s es e k o c d is reply other =
     let not_primed : primes d (made e.call e.reply) ≡ false = rw (is, reply) (rw (ne_eqb d c other) refl) in
     let not_ended : (b : ℕ) → ends b (made e.call e.reply) ≡ false = λ b. rw (is, reply) refl in
-    spared_stays s es e d legal next (spares_all (atoms (log es)) d (made e.call e.reply) not_primed not_ended)
+    spares_all (atoms (log es)) d (made e.call e.reply) not_primed not_ended
+
+-- each other cell shows what it showed
+pub primed_others : (s : Service) (es : List Event) (e : Event) (k : Key) (o : Outcome) (c d : ℕ) → IsLegal s es → IsNext s es e → e.call ≡ Prime k o → e.reply ≡ Primed c → (d ≡ c → ⊥) → ending_of (es ++ e ∷ []) d ≡ ending_of es d
+primed_others s es e k o c d legal next is reply other = spared_stays s es e d legal next (primed_spares s es e k o c d is reply other)
 
 -- What a prime leaves to show of a cell: its outcome, if it began the cell, and else what it showed.
 pub primed_shows : (s : Service) (es : List Event) (e : Event) (k : Key) (o : Outcome) (c d : ℕ) (now : Option Ending) → IsLegal s es → IsNext s es e → e.call ≡ Prime k o → e.reply ≡ Primed c
