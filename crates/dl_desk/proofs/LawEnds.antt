@@ -91,7 +91,7 @@ primes_next rules history a c (Some g) answered is e =
     let same : c ≡ g.cell = eqb-true c g.cell (and_parts (nat_eq c g.cell) (is_none g.batch) e).0 in
     (same ∙ next, omega arith)
 
-pub made_primes : (rules : Rules) (history : List Atom) (m : Made) (c : ℕ) → IsReplied rules history m → primes c m ≡ true → (c ≡ cells history) × (c < cells (with_made m history))
+made_primes : (rules : Rules) (history : List Atom) (m : Made) (c : ℕ) → IsReplied rules history m → primes c m ≡ true → (c ≡ cells history) × (c < cells (with_made m history))
 made_primes rules history (One a) c replied e = primes_next rules history a c (begins a) replied refl e
 made_primes rules history (Many ks rs) c replied e = absurd (let bad : false ≡ true = e in cc)
 
@@ -138,7 +138,7 @@ loads_unended [] rs history b = refl
 loads_unended (k ∷ ks) [] history b = refl
 loads_unended (k ∷ ks) (r ∷ rs) history b = loads_unended ks rs (Load k r ∷ history) b
 
-pub made_unended : (m : Made) (history : List Atom) (b : ℕ) → end_of (with_made m history) b ≡ None → (ends b m ≡ false) × (end_of history b ≡ None)
+made_unended : (m : Made) (history : List Atom) (b : ℕ) → end_of (with_made m history) b ≡ None → (ends b m ≡ false) × (end_of history b ≡ None)
 made_unended (One a) history b none = atom_unended a history b none
 made_unended (Many ks rs) history b none = (refl, sym (loads_unended ks rs history b) ∙ none)
 

@@ -9,7 +9,7 @@ use Rattle.dl_desk.specs.Events.{Made, One, Many, with_loads, with_made, IsRepli
 use Rattle.dl_desk.specs.declared.reply.LoadReply.{LoadReply}
 use Rattle.dl_desk.proofs.Facts.{fresh_cell, sent-le}
 use Rattle.dl_desk.proofs.EndLemmas.{Below, members-below}
-use Rattle.dl_loader.proofs.Logs.{get-snoc_low, get-snoc_last, get-snoc}
+use Rattle.dl_loader.proofs.Logs.{get-append, get-append_at, get-snoc}
 
 -- ---- a cell among members
 
@@ -28,12 +28,12 @@ has_more : (ms : List (Key × ℕ)) (m : Key × ℕ) (c : ℕ) → HasCell ms c 
 has_more ms m c h = record {
   place = h.place;
   member = h.member;
-  at = get-snoc_low ms m h.place (slice_get_within ms h.place h.member h.at) ∙ h.at;
+  at = get-append ms (m ∷ []) h.place (slice_get_within ms h.place h.member h.at) ∙ h.at;
   is = h.is;
 }
 
 has_last : (ms : List (Key × ℕ)) (m : Key × ℕ) (c : ℕ) → m.1 ≡ c → HasCell (ms ++ m ∷ []) c
-has_last ms m c is = record { place = length ms; member = m; at = get-snoc_last ms m; is = is }
+has_last ms m c is = record { place = length ms; member = m; at = get-append_at ms m []; is = is }
 
 -- one of the members has the cell, or none has it
 pub has_cell : (ms : List (Key × ℕ)) (c : ℕ) → HasCell ms c ⊎ NoCell ms c
@@ -52,7 +52,7 @@ has_cell (x ∷ ms) c = by (cases_eq x.1 c) (has_cell ms c)
 -- ---- the batch of a cell
 
 -- a number that an option is
-pub is_number-some : (b : ℕ) (o : Option ℕ) → is_number b o ≡ true → o ≡ Some b
+is_number-some : (b : ℕ) (o : Option ℕ) → is_number b o ≡ true → o ≡ Some b
 is_number-some b None e = absurd (let bad : false ≡ true = e in cc)
 is_number-some b (Some n) e = let same = eqb-true b n e in ap Some (sym same)
 
@@ -174,7 +174,7 @@ room_in-unsent rules history k (Some b) = by (is_open rules history k b) refl
     by false other = sent-le history
 
 -- the batch of a cell that is begun isn't sent
-pub begun_unsent : (rules : Rules) (history : List Atom) (a : Atom) (g : Begun) (b : ℕ) → IsAnswered rules history a → begins a ≡ Some g → g.batch ≡ Some b → sent history ≤ b
+begun_unsent : (rules : Rules) (history : List Atom) (a : Atom) (g : Begun) (b : ℕ) → IsAnswered rules history a → begins a ≡ Some g → g.batch ≡ Some b → sent history ≤ b
 begun_unsent rules history a g b answered is own =
     let e : b ≡ room rules history g.key = (fresh_cell rules history a g answered is).batch_is b own in
     let high : sent history ≤ room rules history g.key = room_in-unsent rules history g.key (greatest (λ n. serves rules g.key (members history n)) (begun history)) in

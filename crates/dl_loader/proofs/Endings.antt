@@ -1,6 +1,7 @@
 -- What one more event of a legal history does to what a cell shows.
-use Rattle.std.proofs.Common.{◌⊎◌, inl, inr, ◌≡◌, ◌∙◌, sym, ap, ℕ, ◌<◌, ◌≤◌, true, false, List, [], ◌∷◌, ◌++◌, length, Option, Some, None, slice_get, nat_eq, refl}
+use Rattle.std.proofs.Common.{◌≡◌, ◌∙◌, sym, ap, ℕ, ◌<◌, ◌≤◌, ◌⊎◌, inl, inr, true, false, List, [], ◌∷◌, ◌++◌, length, Option, Some, None, slice_get, nat_eq, refl}
 use Rattle.std.proofs.lemmas.Bool.{and_right, eq-eqb, ne_eqb, cases_eq}
+use Rattle.std.proofs.lemmas.List.{append-nil, append_assoc}
 use Rattle.dl_desk.specs.Key.{Key}
 use Rattle.dl_desk.specs.Limits.{Rules}
 use Rattle.dl_desk.specs.History.{Atom, begins, cells, members, load_reply, prime_reply, MayEnd}
@@ -20,7 +21,7 @@ use Rattle.dl_loader.specs.declared.event.Call.TheVariants.{Load, LoadMany, Prim
 use Rattle.dl_loader.specs.declared.event.Reply.TheVariants.{Primed, Kept}
 use Rattle.dl_loader.specs.Service.{Service}
 use Rattle.dl_loader.specs.History.{made, gave, as_made, log, primed, reply_to, IsNext, IsLegal, end_with, ending_of}
-use Rattle.dl_loader.proofs.Logs.{log-snoc, length-log, legal_log, legal_atoms, legal_next}
+use Rattle.dl_loader.proofs.Logs.{legal_front, legal_at, log-snoc, length-log, legal_log, legal_atoms, legal_next}
 use Rattle.dl_loader.proofs.CellBatches.{member_cell, member_low, members-apart}
 use Rattle.dl_loader.proofs.LogEnds.{high_unended, open_unended, Spares, ending_spared, outcome_spared, ending_primed}
 
@@ -62,6 +63,15 @@ kept_end s es e c x legal next is = rw (log-snoc es e) (by (ended (log es) c) re
     by (Some p) at None given f = absurd (let bad : ◌≡◌ {A = Option Ending} None (Some x) = f in cc)
     by (Some p) at (Some o) given f = rw (ends_stay s.rules (as_made e ∷ []) (log es) c p whole at, outcomes_stay s.rules (as_made e ∷ []) (log es) c o whole given) f
 
+-- a cell that shows an end shows it in every longer history
+pub kept_later : (s : Service) (es later : List Event) (c : ℕ) (x : Ending) → IsLegal s (es ++ later) → ending_of es c ≡ Some x → ending_of (es ++ later) c ≡ Some x
+kept_later s es [] c x legal is = rw append-nil is
+kept_later s es (e ∷ later) c x legal is =
+    let split : (es ++ e ∷ []) ++ later ≡ es ++ e ∷ later = append_assoc es (e ∷ []) later in
+    let whole : IsLegal s ((es ++ e ∷ []) ++ later) = rw split legal in
+    let next = legal_at s es later e legal in
+    rw split at (kept_later s (es ++ e ∷ []) later c x whole (kept_end s es e c x (legal_front s es (e ∷ later) legal) next is))
+
 -- a cell that the event spares shows what it showed
 pub spared_stays : (s : Service) (es : List Event) (e : Event) (c : ℕ) → IsLegal s es → IsNext s es e → Spares (atoms (log es)) (made e.call e.reply) c → ending_of (es ++ e ∷ []) c ≡ ending_of es c
 spared_stays s es e c legal next spares =
@@ -101,7 +111,11 @@ nothing_spares s es e c next none =
 pub others_stay : (s : Service) (es : List Event) (e : Event) (c : ℕ) → IsLegal s es → IsNext s es e → gave e.call e.reply ≡ Nothing → ending_of (es ++ e ∷ []) c ≡ ending_of es c
 others_stay s es e c legal next none = spared_stays s es e c legal next (nothing_spares s es e c next none)
 
--- so after a load
+-- and one that was not begun before it shows no end
+pub new_open : (s : Service) (es : List Event) (e : Event) (c : ℕ) → IsLegal s es → IsNext s es e → gave e.call e.reply ≡ Nothing → cells (atoms (log es)) ≤ c → ending_of (es ++ e ∷ []) c ≡ None
+new_open s es e c legal next none high = others_stay s es e c legal next none ∙ none_unbegun s es c legal high
+
+-- each cell shows what it showed after a load
 pub load_stays : (s : Service) (es : List Event) (e : Event) (c : ℕ) (k : Key) → IsLegal s es → IsNext s es e → e.call ≡ Load k → ending_of (es ++ e ∷ []) c ≡ ending_of es c
 load_stays s es e c k legal next is = others_stay s es e c legal next (rw is refl)
 

@@ -1,6 +1,7 @@
 -- The log of a history, one event after another, and the legal histories.
-use Rattle.std.proofs.Common.{◌≡◌, sym, ap, subst, ℕ, zero, suc, ◌+◌, ◌<◌, ◌⊎◌, inl, inr, List, [], ◌∷◌, ◌++◌, length, take, Option, Some, None, slice_get, refl, arith}
+use Rattle.std.proofs.Common.{◌≡◌, ◌∙◌, ◌≤◌, sym, ap, subst, ℕ, zero, suc, ◌+◌, ◌<◌, ◌⊎◌, inl, inr, List, [], ◌∷◌, ◌++◌, length, take, Option, Some, None, slice_get, refl, arith}
 use Rattle.std.proofs.lemmas.List.{take-append-le, take_at, take_all}
+use Rattle.std.proofs.lemmas.Option.{slice_get_within}
 use Rattle.dl_desk.specs.Key.{Key}
 use Rattle.dl_desk.specs.Limits.{Rules}
 use Rattle.dl_desk.specs.History.{Atom, load_reply, load_replies, prime_reply, loaded}
@@ -17,20 +18,20 @@ use Rattle.dl_loader.specs.declared.event.Call.{Call}
 use Rattle.dl_loader.specs.declared.event.Call.TheVariants.{Load, LoadMany, Prime, Clear, ClearAll, Dispatch, Settle, Fail}
 use Rattle.dl_loader.specs.Service.{Service}
 use Rattle.dl_loader.specs.History.{made, as_made, log_onto, log, primed, reply_to, call_of, MayBeMade, IsNext, IsLegal}
-use Rattle.dl_desk.proofs.LawEnds.{atoms_legal}
+use Rattle.dl_desk.proofs.LawEnds.{atoms_legal, made-le}
 
--- ---- a list with one more element
+-- ---- lists with more elements
 
--- below the length of a list, one more element changes nothing
-pub get-snoc_low : {X : Type 0} (xs : List X) (y : X) (i : ℕ) → i < length xs → slice_get (xs ++ y ∷ []) i ≡ slice_get xs i
-get-snoc_low [] y i low = absurd (omega arith)
-get-snoc_low (x ∷ xs) y zero low = refl
-get-snoc_low (x ∷ xs) y (suc i) low = get-snoc_low xs y i (omega arith)
+-- below the length of a list, what follows it changes nothing
+pub get-append : {X : Type 0} (xs ys : List X) (i : ℕ) → i < length xs → slice_get (xs ++ ys) i ≡ slice_get xs i
+get-append [] ys i low = absurd (omega arith)
+get-append (x ∷ xs) ys zero low = refl
+get-append (x ∷ xs) ys (suc i) low = get-append xs ys i (omega arith)
 
--- the one more element stands at the list's length
-pub get-snoc_last : {X : Type 0} (xs : List X) (y : X) → slice_get (xs ++ y ∷ []) (length xs) ≡ Some y
-get-snoc_last [] y = refl
-get-snoc_last (x ∷ xs) y = get-snoc_last xs y
+-- at its length stands the first of what follows it
+pub get-append_at : {X : Type 0} (xs : List X) (y : X) (ys : List X) → slice_get (xs ++ y ∷ ys) (length xs) ≡ Some y
+get-append_at [] y ys = refl
+get-append_at (x ∷ xs) y ys = get-append_at xs y ys
 
 -- an element of a list with one more is one of the list's, or the one more
 pub get-snoc : {X : Type 0} (xs : List X) (y z : X) (i : ℕ) → slice_get (xs ++ y ∷ []) i ≡ Some z → ((i < length xs) × (slice_get xs i ≡ Some z)) ⊎ ((i ≡ length xs) × (z ≡ y))
@@ -97,6 +98,22 @@ legal_more s es e legal next = record { at = λ k x got. by k x (get-snoc es e x
     by k x (inr new) =
         let all : take k (es ++ e ∷ []) ≡ es = take_at es (e ∷ []) k (sym new.0) in
         rw (all, new.1) next
+
+-- the front of a legal history is legal
+pub legal_front : (s : Service) (es later : List Event) → IsLegal s (es ++ later) → IsLegal s es
+legal_front s es later legal = record { at = by }
+  where
+    by : (k : ℕ) (e : Event) → slice_get es k ≡ Some e → IsNext s (take k es) e
+    by k e got =
+        let low : k < length es = slice_get_within es k e got in
+        let front : take k (es ++ later) ≡ take k es = take-append-le k es later (omega arith) in
+        rw front at (legal.at k e (get-append es later k low ∙ got))
+
+-- each event of a legal history is a next one of those before it
+pub legal_at : (s : Service) (es later : List Event) (e : Event) → IsLegal s (es ++ e ∷ later) → IsNext s es e
+legal_at s es later e legal =
+    let front : take (length es) (es ++ e ∷ later) ≡ es = take_at es (e ∷ later) (length es) refl in
+    rw front at (legal.at (length es) e (get-append_at es e later))
 
 -- what holds of no events, and of a legal history with a next event if it holds of the history, holds of
 -- every legal history
@@ -165,3 +182,7 @@ made_after rules history (Fail b fault) = refl
 -- a next event leaves the history that a desk's call leaves
 pub atoms_next : (s : Service) (es : List Event) (e : Event) → IsNext s es e → atoms (log (es ++ e ∷ [])) ≡ after s.rules (atoms (log es)) (call_of e.call)
 atoms_next s es e next = rw (log-snoc es e, next.reply) (made_after s.rules (atoms (log es)) e.call)
+
+-- a next event leaves each cell begun
+pub cells_next : (s : Service) (es : List Event) (e : Event) → atom.cells (atoms (log es)) ≤ atom.cells (atoms (log (es ++ e ∷ [])))
+cells_next s es e = rw (log-snoc es e) (made-le (made e.call e.reply) (atoms (log es)))
