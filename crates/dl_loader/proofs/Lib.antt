@@ -4,3 +4,4 @@ pub mod LogEnds
 pub mod Endings
 pub mod BatchEndings
 pub mod Outcomes
+pub mod Fronts

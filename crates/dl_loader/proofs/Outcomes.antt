@@ -60,16 +60,16 @@ shown_place es c x is = by (ending (log es) c) refl (shown_parts es c x is).0
 
 -- ---- each end gives an outcome
 
--- The event ends the cell, which then shows an end, or spares it.
+-- The event ends the cell, which then shows an end at the event's place, or spares it.
 abbrev pub EndsOrSpares : List Event → Event → ℕ → Type 0
-EndsOrSpares es e c = ((x : Ending) × (ending_of (es ++ e ∷ []) c ≡ Some x)) ⊎ Spares (atoms (log es)) (made e.call e.reply) c
+EndsOrSpares es e c = ((o : Outcome) × (ending_of (es ++ e ∷ []) c ≡ Some (record { at = length es; outcome = o }))) ⊎ Spares (atoms (log es)) (made e.call e.reply) c
 
 ends_or_spares_prime : (s : Service) (es : List Event) (e : Event) (c : ℕ) (k : Key) (o : Outcome) → IsLegal s es → IsNext s es e → e.call ≡ Prime k o → (r : DeskPrime) → e.reply ≡ primed r → EndsOrSpares es e c
 ends_or_spares_prime s es e c k o legal next is prime.Kept reply = inr (nothing_spares s es e c next (rw (is, reply) refl))
 ends_or_spares_prime s es e c k o legal next is (prime.Primed d) reply = by (cases_eq c d)
   where
     by : (c ≡ d) ⊎ (c ≡ d → ⊥) → EndsOrSpares es e c
-    by (inl same) = inl (record { at = length es; outcome = o }, rw same (primed_end s es e k o d legal next is reply))
+    by (inl same) = inl (o, rw same (primed_end s es e k o d legal next is reply))
     by (inr other) = inr (primed_spares s es e k o d c is reply other)
 
 ends_or_spares_settle : (s : Service) (es : List Event) (e : Event) (c b : ℕ) (os : List Outcome) → AnswersEach s.answer → IsLegal s es → IsNext s es e → e.call ≡ Settle b os → EndsOrSpares es e c
@@ -80,7 +80,7 @@ ends_or_spares_settle s es e c b os each legal next is = by (has_cell (members (
         let low : h.place < length (members (atoms (log es)) b) = slice_get_within (members (atoms (log es)) b) h.place h.member h.at in
         let many : length os ≡ length (members (atoms (log es)) b) = settled_length s es e b os each next is in
         absurd (get-inside os h.place (omega arith) none)
-    of_member h (Some o) got = inl (record { at = length es; outcome = o }, rw h.is at (settled_end s es e b os h.place h.member o legal next is h.at got))
+    of_member h (Some o) got = inl (o, rw h.is at (settled_end s es e b os h.place h.member o legal next is h.at got))
 
     by : HasCell (members (atoms (log es)) b) c ⊎ NoCell (members (atoms (log es)) b) c → EndsOrSpares es e c
     by (inl h) = of_member h (slice_get os h.place) refl
@@ -90,7 +90,7 @@ ends_or_spares_fail : (s : Service) (es : List Event) (e : Event) (c b : ℕ) (f
 ends_or_spares_fail s es e c b fault legal next is = by (has_cell (members (atoms (log es)) b) c)
   where
     by : HasCell (members (atoms (log es)) b) c ⊎ NoCell (members (atoms (log es)) b) c → EndsOrSpares es e c
-    by (inl h) = inl (record { at = length es; outcome = BatchFailed fault }, rw h.is at (failed_end s es e b fault h.place h.member legal next is h.at))
+    by (inl h) = inl (BatchFailed fault, rw h.is at (failed_end s es e b fault h.place h.member legal next is h.at))
     by (inr none) = inr (failed_spares s es e b fault c next is none)
 
 ends_or_spares_call : (s : Service) (es : List Event) (e : Event) (c : ℕ) → AnswersEach s.answer → IsLegal s es → IsNext s es e → (call : Call) → e.call ≡ call → EndsOrSpares es e c
@@ -103,7 +103,7 @@ ends_or_spares_call s es e c each legal next Dispatch is = inr (nothing_spares s
 ends_or_spares_call s es e c each legal next (Settle b os) is = ends_or_spares_settle s es e c b os each legal next is
 ends_or_spares_call s es e c each legal next (Fail b fault) is = ends_or_spares_fail s es e c b fault legal next is
 
--- where the source answers each key, a next event ends a cell, which then shows an end, or spares it
+-- where the source answers each key, a next event ends a cell, which then shows that, or spares it
 pub ends_or_spares : (s : Service) (es : List Event) (e : Event) (c : ℕ) → AnswersEach s.answer → IsLegal s es → IsNext s es e → EndsOrSpares es e c
 ends_or_spares s es e c each legal next = ends_or_spares_call s es e c each legal next e.call refl
 
@@ -119,7 +119,7 @@ outcomes_more : (s : Service) → AnswersEach s.answer → (es : List Event) (e 
 outcomes_more s each es e legal next rest c p is = by (ends_or_spares s es e c each legal next)
   where
     by : EndsOrSpares es e c → (o : Outcome) × (outcome (log (es ++ e ∷ [])) c ≡ Some o)
-    by (inl ends) = (ends.0.outcome, (shown_parts (es ++ e ∷ []) c ends.0 ends.1).1)
+    by (inl ends) = let x : Ending = record { at = length es; outcome = ends.0 } in (ends.0, (shown_parts (es ++ e ∷ []) c x ends.1).1)
     by (inr spares) =
         let whole = legal_next s es e legal next in
         let same : ended (as_made e ∷ log es) c ≡ ended (log es) c = ap (option_map (λ (q : Placed). q.place)) (ending_spared s.rules (as_made e) (log es) c whole spares) in
