@@ -79,7 +79,7 @@ batch_low rules history a c b (Some g) answered is low e = by (nat_eq c g.cell) 
     by true same f = let eq : c ≡ g.cell = eqb-true c g.cell same in let n = next in omega arith
     by false other f = let l : c < cells history = low f in omega arith
 
-cell_batch-low : (rules : Rules) (history : List Atom) (c b : ℕ) → IsLegal rules history → cell_batch history c ≡ Some b → c < cells history
+pub cell_batch-low : (rules : Rules) (history : List Atom) (c b : ℕ) → IsLegal rules history → cell_batch history c ≡ Some b → c < cells history
 cell_batch-low rules [] c b legal e = absurd (let bad : ◌≡◌ {A = Option ℕ} None (Some b) = e in cc)
 cell_batch-low rules (a ∷ before) c b legal e = batch_low rules before a c b (begins a) legal.0 refl (cell_batch-low rules before c b legal.1) e
 
@@ -103,7 +103,7 @@ primed_step rules e before c p replied false other low is =
     let more = made-le e.made (atoms before) in
     omega arith
 
-primed-low : (rules : Rules) (log : List Event) (c : ℕ) (p : Placed) → IsLegalLog rules log → last_of (primes c) log ≡ Some p → c < cells (atoms log)
+pub primed-low : (rules : Rules) (log : List Event) (c : ℕ) (p : Placed) → IsLegalLog rules log → last_of (primes c) log ≡ Some p → c < cells (atoms log)
 primed-low rules [] c p legal e = absurd (let bad : ◌≡◌ {A = Option Placed} None (Some p) = e in cc)
 primed-low rules (e ∷ before) c p legal is = primed_step rules e before c p legal.0 (primes c e.made) refl (primed-low rules before c p legal.1) is
 
@@ -143,7 +143,7 @@ made_unended (One a) history b none = atom_unended a history b none
 made_unended (Many ks rs) history b none = (refl, sym (loads_unended ks rs history b) ∙ none)
 
 -- where no atom ends the batch, no event does
-last-unended : (log : List Event) (b : ℕ) → end_of (atoms log) b ≡ None → last_of (ends b) log ≡ None
+pub last-unended : (log : List Event) (b : ℕ) → end_of (atoms log) b ≡ None → last_of (ends b) log ≡ None
 last-unended [] b none = refl
 last-unended (e ∷ before) b none =
     let parts = made_unended e.made (atoms before) b none in

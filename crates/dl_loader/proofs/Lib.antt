@@ -1,3 +1,10 @@
 pub mod ListLemmas
 pub mod PassLemmas
 mod Fresh
+pub mod Logs
+pub mod CellBatches
+pub mod LogEnds
+pub mod Endings
+pub mod BatchEndings
+pub mod Outcomes
+pub mod Fronts

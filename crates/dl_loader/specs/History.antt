@@ -7,6 +7,7 @@ use Rattle.dl_desk.specs.History.{Atom, MayEnd, members, load_reply, load_replie
 use Rattle.dl_desk.specs.History as atom
 use Rattle.dl_desk.specs.Events.{Made, One, Many, Gave, Nothing, Given, Each, Broke, atoms, ended, outcome}
 use Rattle.dl_desk.specs.Events as desk
+use Rattle.dl_desk.specs.Calls.{DeskCall, Loads, Primes, Clears, ClearsAll, Sends, Settles, Fails}
 use Rattle.dl_desk.specs.declared.outcome.Outcome.{Outcome}
 use Rattle.dl_desk.specs.declared.outcome.BatchFault.{BatchFault}
 use Rattle.dl_desk.specs.declared.outcome.BatchFault.TheVariants.{Source, Memory, Unsent}
@@ -72,6 +73,17 @@ reply_to rules history ClearAll = Done
 reply_to rules history Dispatch = Sent (jobs history)
 reply_to rules history (Settle b os) = Done
 reply_to rules history (Fail b fault) = Done
+
+-- the call as a desk has it, where a load is a loadMany of its one key
+abbrev pub call_of : Call → DeskCall
+call_of (Load k) = Loads (k ∷ [])
+call_of (LoadMany ks) = Loads ks
+call_of (Prime k o) = Primes k
+call_of (Clear k) = Clears k
+call_of ClearAll = ClearsAll
+call_of Dispatch = Sends
+call_of (Settle b os) = Settles b
+call_of (Fail b fault) = Fails b
 
 -- the keys of a batch's members, in order
 abbrev pub keys_of : List Atom → ℕ → List Key
