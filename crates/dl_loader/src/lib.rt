@@ -17,5 +17,5 @@ pub use entry::{Entry, EntryKind};
 pub use event::{Call, Ending, Event, Reply};
 pub use lists::{Jobs, Replies};
 pub use name::LoaderName;
-pub use pass::{Given, Pass};
+pub use pass::Pass;
 pub use ticket::Ticket;
