@@ -1,6 +1,6 @@
 //! The entries of a pass: calls that were made, and outcomes that were read.
 
-ghost use Rattle.std.specs.Prelude.{◌≡◌, ◌<◌, IfErr, IfOk, IfSome, IsSomeAnd};
+ghost use Rattle.std.specs.Prelude.{◌≡◌, ◌<◌, IfErr, IfOk, IfSome, IsSome, IsSomeAnd};
 ghost use Rattle.dl_cells.specs.Cells.{cell_of, row_len};
 ghost use Rattle.dl_loader.specs.Entries.{told, read, ending_known, kind_of, Called, Saw};
 
@@ -43,23 +43,25 @@ impl<L: LoaderName> Model for Stored<L> {
 
 impl<L: LoaderName> Stored<L> {
     /// Puts an event into its cell of the log. Where the log has another event there, hands the event
-    /// back. It takes no memory.
+    /// back. Either way the reader knows from then on what the cell has. It takes no memory.
     pub(crate) fn store(
         row: &CellRow<Event>,
         at: u16,
-        mut reader: Reader<Event>,
+        reader: &mut Reader<Event>,
         event: Box<Event>,
     ) -> Result<Stored<L>, Box<Event>>
         requires row { row.now ≡ L.log }
         requires in_row { at < row_len L.log }
-        requires of_cell { reader.cell ≡ cell_of L.log at }
+        requires of_cell { reader.old.cell ≡ cell_of L.log at }
+        ensures cell { reader.new.cell ≡ reader.old.cell }
+        ensures known { IsSome reader.new.known }
         ensures stored { IfOk result (λ stored. stored ≡ told at event.value) }
         ensures back { IfErr result (λ back. back.value ≡ event.value) }
     {
-        row.show(u32::from(at), &mut reader, event)?;
+        row.show(u32::from(at), reader, event)?;
         Ok(Stored {
             at,
-            reader,
+            reader: reader.again(),
             of: PhantomData,
         })
     }
@@ -96,7 +98,7 @@ impl<L: LoaderName> Stored<L> {
 #[derive(Drop)]
 pub(crate) struct Seen<L: LoaderName> {
     cell: u32,
-    at: u16,
+    ended_at: u16,
     reader: Reader<Ending>,
     of: PhantomData<L>,
 }
@@ -113,7 +115,7 @@ impl<L: LoaderName> Model for Seen<L> {
 
     ghost view = { λ s. read s.cell (ending_known s.reader.known) };
 
-    ghost invariant = { λ s. (s.cell < row_len L.outcomes) × (s.at ≡ (ending_known s.reader.known).at) × (s.reader.cell ≡ cell_of L.outcomes s.cell) × (s.reader.known ≡ Some (ending_known s.reader.known)) };
+    ghost invariant = { λ s. (s.cell < row_len L.outcomes) × (s.ended_at ≡ (ending_known s.reader.known).at) × (s.reader.cell ≡ cell_of L.outcomes s.cell) × (s.reader.known ≡ Some (ending_known s.reader.known)) };
 }
 
 impl<L: LoaderName> Seen<L> {
@@ -126,17 +128,17 @@ impl<L: LoaderName> Seen<L> {
     {
         Seen {
             cell,
-            at,
+            ended_at: at,
             reader,
             of: PhantomData,
         }
     }
 
     /// The place of the event that gave the outcome.
-    pub(crate) fn at(&self) -> u16
+    pub(crate) fn ended_at(&self) -> u16
         ensures { result ≡ self.now.ending.at }
     {
-        self.at
+        self.ended_at
     }
 
     /// A reader of the cell that knows an outcome knows this one, whichever threads hold the two.
@@ -205,7 +207,7 @@ impl<L: LoaderName> Entry<L> {
             },
             Kind::Saw(seen) => EntryKind::Saw {
                 cell: seen.cell,
-                at: u32::from(seen.at),
+                at: u32::from(seen.ended_at),
             },
         }
     }

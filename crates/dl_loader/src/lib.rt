@@ -28,4 +28,5 @@ pub use lists::{Jobs, Replies};
 pub use name::LoaderName;
 pub use opening::{MOST_CALLERS, Opening};
 pub use pass::{Given, Pass};
+pub use pass::Pass;
 pub use ticket::Ticket;

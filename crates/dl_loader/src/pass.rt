@@ -1,6 +1,6 @@
 //! Passes: what a caller knows of the history.
 
-ghost use Rattle.std.specs.Prelude.{◌≡◌, ◌+◌, ◌<◌, ◌≤◌, Bool, false, IfSome, IsSome, OnOk, Some, [], length, slice_get};
+ghost use Rattle.std.specs.Prelude.{◌≡◌, ◌+◌, ◌<◌, ◌≤◌, Bool, false, IfSome, IsSome, OnErr, OnOk, Some, [], length, slice_get};
 ghost use Rattle.dl_loader.specs.Entries.{calls_of, cell_of_load, cells_of, ending_known, front_of};
 ghost use Rattle.dl_loader.specs.Lists.{Among};
 ghost use Rattle.dl_loader.specs.Pass.{Gave, given, part, with_call, with_saw, with_ticket};
@@ -100,13 +100,15 @@ impl<L: LoaderName> Pass<L> {
     }
 
     /// Makes room for one call more and so many tickets. The error is want of memory, and changes
-    /// nothing.
+    /// nothing; it comes only where the room was missing.
     pub(crate) fn reserve(&mut self, tickets: usize) -> Result<(), AllocError>
         ensures part { self.new.part ≡ self.old.part }
         ensures room { OnOk result (tickets + 1 ≤ self.new.spare) }
+        ensures full { OnErr result (self.old.spare < tickets + 1) }
     {
+        let unseen = self.unseen;
         let more = tickets.checked_add(1).ok_or(AllocError)?;
-        let entries = self.unseen.checked_add(more).ok_or(AllocError)?;
+        let entries = unseen.checked_add(more).ok_or(AllocError)?;
         self.entries.reserve(entries)?;
         self.tickets.reserve(more)
     }
@@ -166,7 +168,7 @@ impl<L: LoaderName> Pass<L> {
         requires { slice_get self.old.part.tickets number ≡ Some (given seen.cell false) }
         ensures { self.new.part ≡ with_saw self.old.part number seen.cell seen.ending false }
     {
-        self.front = self.front.max(u32::from(seen.at()) + 1);
+        self.front = self.front.max(u32::from(seen.ended_at()) + 1);
         self.unseen -= 1;
         self.tickets[number].seen = true;
         self.entries.push_reserved(Entry::saw(seen));

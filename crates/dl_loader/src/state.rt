@@ -1,6 +1,6 @@
 //! What the lock of a loader guards of each cell of an outcome.
 
-ghost use Rattle.std.specs.Prelude.{◌≡◌, ◌<◌, IfSome, MatchBool, None, Some};
+ghost use Rattle.std.specs.Prelude.{◌≡◌, ◌<◌, IfSome, IsSome, MatchBool, None, Some};
 ghost use Rattle.dl_cells.specs.Cells.{cell_of, row_len};
 ghost use Rattle.dl_loader.specs.declared.state.Mark.TheVariants.{Waiting, Ended, Refused};
 
@@ -39,12 +39,14 @@ impl State {
         }
     }
 
-    /// Gives the cell its outcome, and tells whether the cell took it. It takes no memory.
+    /// Gives the cell its outcome, and tells whether the cell took it. Either way the reader knows from
+    /// then on what the cell has. It takes no memory.
     pub(crate) fn end(&mut self, row: &CellRow<Ending>, cell: u32, ending: Box<Ending>) -> bool
         requires in_row { cell < row_len row.now }
         requires of_cell { self.old.reader.cell ≡ cell_of row.now cell }
         requires unknown { self.old.reader.known ≡ None }
         ensures cell { self.new.reader.cell ≡ self.old.reader.cell }
+        ensures known { IsSome self.new.reader.known }
         ensures ended { MatchBool result ((self.new.mark ≡ Ended) × (self.new.reader.known ≡ Some ending.value)) (self.new.mark ≡ Refused) }
     {
         let taken = row.show(cell, &mut self.reader, ending).is_ok();

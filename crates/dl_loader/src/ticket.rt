@@ -127,6 +127,7 @@ impl<'a, L: LoaderName> Ticket<'a, L> {
         ensures none { IfNone result ((self.old.known ≡ None) × (self.new.known ≡ None)) }
     {
         let row = self.row;
-        row.look(load_cell(self.reply), &mut self.reader)
+        let cell = self.cell();
+        row.look(cell, &mut self.reader)
     }
 }
