@@ -8,3 +8,4 @@ pub mod Endings
 pub mod BatchEndings
 pub mod Outcomes
 pub mod Fronts
+mod JournalLemmas

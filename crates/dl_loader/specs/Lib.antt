@@ -6,5 +6,6 @@ pub mod Lines
 pub mod Pass
 pub mod Opening
 pub mod Codes
+pub mod Journal
 pub mod Book
 pub mod Asks

@@ -1,50 +1,46 @@
 //! The book of a loader, which lies behind its lock.
 
-ghost use Rattle.std.specs.Prelude.{◌≡◌, [], false, length};
+ghost use Rattle.std.specs.Prelude.{◌≡◌, [], false};
 ghost use Rattle.dl_desk.specs.Limits.{mixed};
 ghost use Rattle.dl_loader.specs.Service.{service};
 ghost use Rattle.dl_loader.specs.Book.{Keeps};
 
-use crate::entry::Stored;
+use crate::journal::Journal;
 use crate::name::LoaderName;
-use crate::state::State;
 use dl_desk::{Desk, Limits};
 use std::alloc::Global;
 use std::marker::Model;
 use std::sync::ledger;
 
-/// What lies behind the lock of a loader: the desk, where each event of the history lies in the log, the
-/// cells that were begun, the count of all events, and whether the loader is stopped.
+/// What lies behind the lock of a loader: its desk, its history and cells, and whether it is stopped.
 ///
 /// Whenever the lock is free, the memo and the batches of the desk are those of the history, the history is
 /// legal, and each cell that has an end shows it or is marked as one that refused it.
 #[derive(Drop)]
 pub struct Book<L: LoaderName> {
     desk: Desk,
-    log: Vec<Stored<L>>,
-    states: Vec<State>,
-    calls: ledger::Book<L>,
+    journal: Journal<L>,
     stopped: bool,
 }
 
 impl<L: LoaderName> Model for Book<L> {
-    ghost use Rattle.dl_loader.specs.Service.{service};
-    ghost use Rattle.dl_loader.specs.Book.{Locked, Keeps, IsBook, events_of, cells_by};
     ghost use Rattle.std.specs.Coded.{codes};
     ghost use Rattle.dl_loader.specs.contracts.event.Event as event;
     ghost use Rattle.dl_loader.specs.contracts.event.Ending as ending;
+    ghost use Rattle.dl_loader.specs.Service.{service};
+    ghost use Rattle.dl_loader.specs.Book.{Locked, locked, Keeps};
 
     ghost Value = { Locked };
 
     ghost coded = { Prim.hlevel (codes, event.the_row.coded, ending.the_row.coded) };
 
-    ghost view = { λ b. record { history = events_of b.log.items; desk = b.desk.book; cells = cells_by b.states.items; stopped = b.stopped } };
+    ghost view = { λ b. locked b.journal.history b.desk.book b.journal.cells b.stopped };
 
-    ghost invariant = { λ b. Keeps (service L.rules L.parts L.answer) (record { history = events_of b.log.items; desk = b.desk.book; cells = cells_by b.states.items; stopped = b.stopped }) × IsBook (service L.rules L.parts L.answer) L.outcomes b.calls.total b.log.items b.states.items };
+    ghost invariant = { λ b. Keeps (service L.rules L.parts L.answer) (locked b.journal.history b.desk.book b.journal.cells b.stopped) };
 }
 
 impl<L: LoaderName> Book<L> {
-    /// The book of a loader that had no call.
+    /// The book of a loader that had no call. It takes no memory.
     pub(crate) fn new(alloc: Global, limits: Limits, calls: ledger::Book<L>) -> Book<L>
         requires rules { mixed limits ≡ L.rules }
         requires none_counted { calls.total ≡ 0 }
@@ -53,9 +49,7 @@ impl<L: LoaderName> Book<L> {
     {
         Book {
             desk: Desk::new(alloc, limits),
-            log: Vec::new(alloc),
-            states: Vec::new(alloc),
-            calls,
+            journal: Journal::new(alloc, calls),
             stopped: false,
         }
     }
@@ -65,12 +59,5 @@ impl<L: LoaderName> Book<L> {
         ensures { Keeps (service L.rules L.parts L.answer) self.now }
     {
         let _ = &self.desk;
-    }
-
-    /// How many events the history has.
-    pub fn len(&self) -> usize
-        ensures { result ≡ length self.now.history }
-    {
-        self.log.len()
     }
 }

@@ -1,5 +1,4 @@
-use Rattle.std.proofs.Common.{◌≡◌, ◌+◌, arith}
-use Rattle.dl_loader.specs.Pass.{Part}
+use Rattle.std.proofs.Common.{arith}
 use Rattle.dl_loader.proofs.Fresh.{fresh_next}
 use Rattle.dl_loader.proofs.loader.deal.Goals as goal
 

@@ -1,0 +1,10 @@
+use Rattle.std.proofs.Common.{◌∙◌, sym, ap, length, ◌∷◌, ◌++◌, [], rules}
+use Rattle.std.proofs.lemmas.List.{length-map}
+use Rattle.dl_loader.proofs.JournalLemmas.{journal_event}
+use Rattle.dl_loader.proofs.journal.Journal.add.Goals as goal
+
+pub invariant_of-self : goal.invariant_of-self
+invariant_of-self g c =
+    let grown = c.push_reserved.ensures.items ∙ ap (λ t. c.self.inside.log.items ++ t ∷ []) c.again.ensures in
+    let place = c.requires.place ∙ (sym (ap (λ j. length j.history) c.self.view_is) ∙ length-map c.self.inside.log.items (λ t. t.event)) in
+    journal_event c.add_call.new.calls.total c.push_reserved.new.self.items c.args.stored c.self.invariant grown c.add_call.ensures.counted place

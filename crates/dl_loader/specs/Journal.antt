@@ -1,0 +1,49 @@
+-- What contracts see of the events and the cells of a loader, and what holds of the fields behind them.
+use Rattle.std.specs.Prelude.{◌≡◌, ℕ, List, length, map, Option, Some, None, slice_get}
+use Rattle.dl_cells.specs.Cells.{RowName, cell_of}
+use Rattle.dl_loader.specs.Entries.{Told}
+use Rattle.dl_loader.specs.declared.event.Event.{Event}
+use Rattle.dl_loader.specs.declared.event.Ending.{Ending}
+use Rattle.dl_loader.specs.declared.state.Mark.{Mark}
+use Rattle.dl_loader.specs.declared.state.Mark.TheVariants.{Waiting, Ended, Refused}
+use Rattle.dl_loader.specs.declared.state.State.{State}
+
+-- how a cell stands: whether it took the outcome that it was given, and what it is known to show
+pub record Cell : Type 0 where
+  pub mark : Mark
+  pub shows : Option Ending
+
+-- a cell that has no end
+abbrev pub waiting : Cell
+waiting = record { mark = Waiting; shows = None }
+
+-- a cell that took its outcome
+abbrev pub ended : Ending → Cell
+ended e = record { mark = Ended; shows = Some e }
+
+-- a cell that had something else
+abbrev pub refused : Option Ending → Cell
+refused other = record { mark = Refused; shows = other }
+
+-- the events in order, the cells that were begun, and for how many more of both there is room
+pub record Journal : Type 0 where
+  pub history : List Event
+  pub cells : List Cell
+  pub spare : ℕ
+
+-- the events, in order
+abbrev pub events_of : List Told → List Event
+events_of ts = map (λ t. t.event) ts
+
+abbrev pub cell_by : State → Cell
+cell_by s = record { mark = s.mark; shows = s.reader.known }
+
+-- the cells as the states have them
+abbrev pub cells_by : List State → List Cell
+cells_by states = map cell_by states
+
+-- each event is counted and stands at its place, and each state is of its own cell
+pub record IsJournal (outcomes : RowName) (counted : ℕ) (log : List Told) (states : List State) : Type 0 where
+  pub counted_is : counted ≡ length log
+  pub places : (k : ℕ) (t : Told) → slice_get log k ≡ Some t → t.at ≡ k
+  pub own_cells : (c : ℕ) (s : State) → slice_get states c ≡ Some s → s.reader.cell ≡ cell_of outcomes c
