@@ -1,5 +1,5 @@
 -- The parts of callers that have made no call.
-use Rattle.std.proofs.Common.{◌≡◌, ◌∙◌, ap, ℕ, zero, suc, ◌+◌, List, [], ◌∷◌, ◌++◌, map, refl, arith}
+use Rattle.std.proofs.Common.{◌≡◌, ap, ℕ, zero, suc, ◌+◌, List, [], ◌∷◌, ◌++◌, map, refl, arith}
 use Rattle.std.proofs.lemmas.List.{map-append}
 use Rattle.dl_loader.specs.Pass.{Part, part, fresh}
 

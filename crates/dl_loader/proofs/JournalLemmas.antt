@@ -1,9 +1,8 @@
 -- What holds of a journal once it has one event more, or a cell has its end.
-use Rattle.std.proofs.Common.{◌≡◌, ◌∙◌, sym, ap, ℕ, ◌+◌, ◌<◌, ◌⊎◌, Bool, true, false, List, [], ◌∷◌, ◌++◌, length, map, set, Option, Some, None, MatchBool, slice_get, refl, arith, inl, inr, length-append}
+use Rattle.std.proofs.Common.{◌≡◌, ◌∙◌, sym, ap, ℕ, ◌+◌, ◌<◌, ◌⊎◌, Bool, true, false, List, [], ◌∷◌, ◌++◌, length, set, Option, Some, MatchBool, slice_get, refl, arith, inl, inr, length-append}
 use Rattle.std.proofs.lemmas.List.{map-set}
 use Rattle.dl_cells.specs.Cells.{RowName}
 use Rattle.dl_loader.specs.declared.event.Ending.{Ending}
-use Rattle.dl_loader.specs.declared.state.Mark.{Mark}
 use Rattle.dl_loader.specs.declared.state.Mark.TheVariants.{Ended, Refused}
 use Rattle.dl_loader.specs.declared.state.State.{State}
 use Rattle.dl_loader.specs.Entries.{Told}

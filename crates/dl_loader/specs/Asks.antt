@@ -1,5 +1,5 @@
 -- What an event call asks for: the call that the history will tell, and the job that it ends.
-use Rattle.std.specs.Prelude.{ℕ, List, Option, Some, None}
+use Rattle.std.specs.Prelude.{ℕ, Option, Some, None}
 use Rattle.dl_desk.specs.declared.outcome.BatchFault.{BatchFault}
 use Rattle.dl_desk.specs.declared.outcome.BatchFault.TheVariants as fault
 use Rattle.dl_desk.specs.declared.reply.Job.{Job}

@@ -9,3 +9,4 @@ pub mod Codes
 pub mod Journal
 pub mod Book
 pub mod Asks
+pub mod Refusals

@@ -1,9 +1,12 @@
 //! Why a loader refuses.
 
 ghost use Rattle.std.specs.Prelude.{◌≡◌};
-ghost use Rattle.dl_loader.specs.declared.fault.StartFault.TheVariants.{OutOfMemory};
+ghost use Rattle.dl_loader.specs.declared.fault.CallFault.TheVariants as call;
+ghost use Rattle.dl_loader.specs.declared.fault.StartFault.TheVariants as start;
+ghost use Rattle.dl_loader.specs.Refusals.{call_fault};
 
-use std::alloc::{AllocError, AllocFailed};
+use dl_desk::DeskFault;
+use std::alloc::AllocError;
 use thiserror::Error;
 
 /// Why a loader can't be opened or started, the first cause that applies.
@@ -21,9 +24,67 @@ pub enum StartFault {
 }
 
 impl From<AllocError> for StartFault {
-    ghost from_gives = { λ _ fault. fault ≡ OutOfMemory };
+    ghost from_gives = { λ _ fault. fault ≡ start.OutOfMemory };
 
     fn from(_: AllocError) -> StartFault {
         StartFault::OutOfMemory
+    }
+}
+
+/// Why a loader refuses a call, the first cause that applies. A refused call leaves the loader, its history
+/// and the pass as they were.
+#[derive(Clone, Copy, Debug, PartialEq, Eq, Error)]
+pub enum CallFault {
+    /// The loader was stopped.
+    #[error("the loader is stopped")]
+    Stopped,
+    /// The pass has seen more of a history than this one has.
+    #[error("a pass has seen {front} events, and the history has {len}")]
+    Behind { front: u32, len: u32 },
+    /// The history has as many events as it may have.
+    #[error("a history of {limit} calls is full")]
+    LogFull { limit: u32 },
+    /// No batch has this number yet.
+    #[error("there is no such batch")]
+    NoBatch,
+    /// The batch still collects keys.
+    #[error("the batch has not been sent")]
+    NotSent,
+    /// The batch has ended before, settled or failed.
+    #[error("the batch has ended before")]
+    SettledBefore,
+    /// The keys aren't those of the batch, in order.
+    #[error("the keys are not those of the batch")]
+    WrongKeys,
+    /// The call would begin more cells than the limit.
+    #[error("a loader of {limit} cells is full")]
+    CellsFull { limit: u32 },
+    /// A growth was refused.
+    #[error("out of memory")]
+    OutOfMemory,
+    /// The history's own cell refused the event.
+    #[error("the history refused the event")]
+    LogRefused,
+}
+
+impl From<AllocError> for CallFault {
+    ghost from_gives = { λ _ fault. fault ≡ call.OutOfMemory };
+
+    fn from(_: AllocError) -> CallFault {
+        CallFault::OutOfMemory
+    }
+}
+
+impl From<DeskFault> for CallFault {
+    ghost from_gives = { λ desk fault. fault ≡ call_fault desk };
+
+    fn from(fault: DeskFault) -> CallFault {
+        match fault {
+            DeskFault::NoBatch => CallFault::NoBatch,
+            DeskFault::NotSent => CallFault::NotSent,
+            DeskFault::SettledBefore => CallFault::SettledBefore,
+            DeskFault::CellsFull { limit } => CallFault::CellsFull { limit },
+            DeskFault::OutOfMemory => CallFault::OutOfMemory,
+        }
     }
 }

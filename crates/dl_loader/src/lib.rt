@@ -23,7 +23,7 @@ pub use ask::Ask;
 pub use book::Book;
 pub use entry::{Entry, EntryKind};
 pub use event::{Call, Ending, Event, GiveUp, Reply};
-pub use fault::StartFault;
+pub use fault::{CallFault, StartFault};
 pub use loader::Loader;
 pub use lists::{Jobs, Replies};
 pub use name::LoaderName;

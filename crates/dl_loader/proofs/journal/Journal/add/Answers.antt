@@ -1,4 +1,4 @@
-use Rattle.std.proofs.Common.{◌∙◌, sym, ap, length, ◌∷◌, ◌++◌, [], rules}
+use Rattle.std.proofs.Common.{◌∙◌, sym, ap, length, ◌∷◌, ◌++◌, []}
 use Rattle.std.proofs.lemmas.List.{length-map}
 use Rattle.dl_loader.proofs.JournalLemmas.{journal_event}
 use Rattle.dl_loader.proofs.journal.Journal.add.Goals as goal

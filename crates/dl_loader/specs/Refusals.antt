@@ -1,0 +1,57 @@
+-- Why an event call is refused.
+use Rattle.std.specs.Prelude.{◌≡◌, ◌⊎◌, Bool, List, length, Option, Some, None, option_map, if◌then◌else◌, nat_lt, nat_le}
+use Rattle.std.specs.Cmp.Lexicographic.{pointwise}
+use Rattle.std.specs.Option.{option_or}
+use Rattle.dl_desk.specs.Key.{Key, key_eq}
+use Rattle.dl_desk.specs.Events.{atoms}
+use Rattle.dl_desk.specs.History.{Atom}
+use Rattle.dl_desk.specs.Calls as desk
+use Rattle.dl_desk.specs.declared.fault.DeskFault.{DeskFault}
+use Rattle.dl_desk.specs.declared.fault.DeskFault.TheVariants as desk_fault
+use Rattle.dl_desk.specs.declared.reply.Job.{Job}
+use Rattle.dl_loader.specs.Service.{Service}
+use Rattle.dl_loader.specs.History.{log, keys_of, call_of}
+use Rattle.dl_loader.specs.Entries.{front_of}
+use Rattle.dl_loader.specs.Pass.{Part}
+use Rattle.dl_loader.specs.Book.{Locked}
+use Rattle.dl_loader.specs.declared.event.Call.{Call}
+use Rattle.dl_loader.specs.declared.fault.CallFault.{CallFault}
+use Rattle.dl_loader.specs.declared.fault.CallFault.TheVariants.{Stopped, Behind, LogFull, NoBatch, NotSent, SettledBefore, WrongKeys, CellsFull, OutOfMemory, LogRefused}
+
+-- the desk's refusal as the loader's
+abbrev pub call_fault : DeskFault → CallFault
+call_fault desk_fault.NoBatch = NoBatch
+call_fault desk_fault.NotSent = NotSent
+call_fault desk_fault.SettledBefore = SettledBefore
+call_fault (desk_fault.CellsFull limit) = CellsFull limit
+call_fault desk_fault.OutOfMemory = OutOfMemory
+
+-- Why a pass may make no event at all: the loader is stopped, the pass has seen more events than there are, or
+-- the history is full.
+abbrev pub unready : Service → Locked → Part → Option CallFault
+unready service b p =
+    if b.stopped then Some Stopped
+    else if nat_lt (length b.history) (front_of p.entries) then Some (Behind (front_of p.entries) (length b.history))
+    else if nat_le service.rules.limits.max_calls (length b.history) then Some (LogFull service.rules.limits.max_calls)
+    else None
+
+-- whether two lists have the same keys, in order
+abbrev pub same_keys : List Key → List Key → Bool
+same_keys ks js = pointwise key_eq ks js
+
+-- the refusal of an end by a job whose keys aren't those of its batch
+abbrev pub wrong_keys : List Atom → Option Job → Option CallFault
+wrong_keys history None = None
+wrong_keys history (Some job) = if same_keys job.keys (keys_of history job.batch) then None else Some WrongKeys
+
+-- The refusal of a call, perhaps with a job that it ends: the first cause that applies, but for want of memory
+-- and a log that refuses.
+abbrev pub refusal : Service → Locked → Part → Call → Option Job → Option CallFault
+refusal service b p call job =
+    option_or (unready service b p)
+    (option_or (option_map call_fault (desk.refusal service.rules (atoms (log b.history)) (call_of call)))
+    (wrong_keys (atoms (log b.history)) job))
+
+-- the call is refused so: for its cause, for want of memory, or because the log refused the event
+abbrev pub IsRefusal : Service → Locked → Part → Call → Option Job → CallFault → Type 0
+IsRefusal service b p call job fault = (fault ≡ OutOfMemory) ⊎ (fault ≡ LogRefused) ⊎ (refusal service b p call job ≡ Some fault)
