@@ -13,6 +13,7 @@ mod fault;
 mod journal;
 mod lists;
 mod loader;
+mod loads;
 mod name;
 mod opening;
 mod pass;

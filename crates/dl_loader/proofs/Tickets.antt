@@ -1,0 +1,44 @@
+-- Tickets, one after another.
+use Rattle.std.proofs.Common.{◌≡◌, ◌∙◌, ap, ℕ, zero, suc, ◌+◌, ◌<◌, ◌≤◌, List, [], ◌∷◌, ◌++◌, length, take, get_or, refl, arith}
+use Rattle.std.proofs.lemmas.List.{take_more}
+use Rattle.dl_desk.specs.declared.reply.LoadReply.{LoadReply}
+use Rattle.dl_loader.specs.Begun.{begun_by, cells_begun}
+use Rattle.dl_loader.specs.Entries.{Line, cell_of_load, cells_of}
+use Rattle.dl_loader.specs.Lists.{Every, Among}
+use Rattle.dl_loader.specs.Pass.{Part, with_ticket, with_tickets}
+
+-- one ticket more
+pub with_tickets-snoc : (p : Part) (rs : List LoadReply) (r : LoadReply) → with_tickets p (rs ++ r ∷ []) ≡ with_ticket (with_tickets p rs) (cell_of_load r)
+with_tickets-snoc p [] r = refl
+with_tickets-snoc p (x ∷ rs) r = with_tickets-snoc (with_ticket p (cell_of_load x)) rs r
+
+-- tickets are no entries
+pub tickets_entries : (p : Part) (rs : List LoadReply) → (with_tickets p rs).entries ≡ p.entries
+tickets_entries p [] = refl
+tickets_entries p (r ∷ rs) = tickets_entries (with_ticket p (cell_of_load r)) rs
+
+-- the cells of one load more
+pub begun-snoc : (rs : List LoadReply) (r : LoadReply) → cells_begun (rs ++ r ∷ []) ≡ cells_begun rs + begun_by r
+begun-snoc [] r = omega arith
+begun-snoc (x ∷ rs) r = let more = begun-snoc rs r in omega arith
+
+-- a ticket for the load at a place, after those before it
+pub ticket_next : (p now then : Part) (rs : List LoadReply) (i c : ℕ) (d : LoadReply) → i < length rs → now ≡ with_tickets p (take i rs) → c ≡ cell_of_load (get_or rs i d) → then ≡ with_ticket now c → then ≡ with_tickets p (take (i + 1) rs)
+ticket_next p now then rs i c d low before cell is = rw (is, before, cell, take_more rs i d low, with_tickets-snoc p (take i rs) (get_or rs i d)) refl
+
+every_read : {X : Type 0} (P : X → Type 0) (xs : List X) (i : ℕ) (d : X) → i < length xs → Every P xs → P (get_or xs i d)
+every_read P [] i d low each = absurd (omega arith)
+every_read P (x ∷ xs) zero d low each = each.0
+every_read P (x ∷ xs) (suc i) d low each = every_read P xs i d (omega arith) each.1
+
+-- its cell is among those that were answered
+pub ticket_among : (p now : Part) (rs : List LoadReply) (i : ℕ) (d : LoadReply) → i < length rs → now ≡ with_tickets p (take i rs) → Every (λ r. Among (cell_of_load r) (cells_of p.entries)) rs → Among (cell_of_load (get_or rs i d)) (cells_of now.entries)
+ticket_among p now rs i d low before each =
+    let same : now.entries ≡ p.entries = ap (λ (q : Part). q.entries) before ∙ tickets_entries p (take i rs) in
+    rw same (every_read (λ r. Among (cell_of_load r) (cells_of p.entries)) rs i d low each)
+
+-- the cells that loads began, with the load at a place
+pub begun_next : (rs : List LoadReply) (i n m : ℕ) (d r : LoadReply) → i < length rs → n ≡ cells_begun (take i rs) → get_or rs i d ≡ r → m ≡ n + begun_by r → m ≡ cells_begun (take (i + 1) rs)
+begun_next rs i n m d r low before is more =
+    let longer : take (i + 1) rs ≡ take i rs ++ r ∷ [] = take_more rs i d low ∙ ap (λ (x : LoadReply). take i rs ++ x ∷ []) is in
+    rw (longer, begun-snoc (take i rs) r, more, before) refl

@@ -1,0 +1,32 @@
+-- What an event that was made leaves in the book and in the pass of its caller.
+use Rattle.std.specs.Prelude.{◌≡◌, ℕ, List, [], ◌∷◌, ◌++◌, length}
+use Rattle.dl_desk.specs.declared.reply.LoadReply.{LoadReply}
+use Rattle.dl_loader.specs.declared.event.Event.{Event}
+use Rattle.dl_loader.specs.declared.event.Call.{Call}
+use Rattle.dl_loader.specs.declared.event.Reply.{Reply}
+use Rattle.dl_loader.specs.declared.event.Reply.TheVariants.{Loaded, Many, Primed, Kept, Done, Sent}
+use Rattle.dl_loader.specs.Pass.{Part, with_call, with_tickets}
+use Rattle.dl_loader.specs.Book.{Locked}
+
+-- the event of a caller's call
+abbrev pub event_of : Part → Call → Reply → Event
+event_of p call reply = record { caller = p.caller; call = call; reply = reply }
+
+-- the loads that a reply answers: for each of them the caller gets a ticket
+abbrev pub loads_of : Reply → List LoadReply
+loads_of (Loaded r) = r ∷ []
+loads_of (Many rs) = rs
+loads_of (Primed c) = []
+loads_of Kept = []
+loads_of Done = []
+loads_of (Sent js) = []
+
+-- the part after its event at a place, with its tickets
+abbrev pub with_event : Part → ℕ → Call → Reply → Part
+with_event p at call reply = with_tickets (with_call p at (event_of p call reply)) (loads_of reply)
+
+-- The event is the last of the history, and the last call among the pass's entries, at its place.
+pub record Makes (before : Locked) (old : Part) (call : Call) (reply : Reply) (now : Locked) (new : Part) : Type 0 where
+  pub history : now.history ≡ before.history ++ event_of old call reply ∷ []
+  pub part : new ≡ with_event old (length before.history) call reply
+  pub stopped : now.stopped ≡ before.stopped
