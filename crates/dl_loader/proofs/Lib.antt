@@ -10,3 +10,6 @@ pub mod Outcomes
 pub mod Fronts
 mod JournalLemmas
 pub mod Tickets
+pub mod Begun
+pub mod CellLists
+pub mod Kept

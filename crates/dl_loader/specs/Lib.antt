@@ -13,3 +13,4 @@ pub mod Refusals
 pub mod Begun
 pub mod Replies
 pub mod Made
+pub mod EndedUpTo

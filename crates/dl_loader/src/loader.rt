@@ -43,7 +43,10 @@ impl<L: LoaderName> Model for Loader<L> {
 impl<L: LoaderName> Loader<L> {
     /// The loader of an opening, with an empty history, and a pass for each caller, of which none has an
     /// entry. `L` is to stand for this opening. The error is want of memory.
-    pub fn start<S: Source>(alloc: Global, opening: Opening<'_, S>) -> Result<(Loader<L>, Vec<Pass<L>>), StartFault>
+    pub fn start<S: Source>(
+        alloc: Global,
+        opening: Opening<'_, S>,
+    ) -> Result<(Loader<L>, Vec<Pass<L>>), StartFault>
         requires rules { opening.rules ≡ L.rules }
         requires callers { opening.callers ≡ L.parts }
         requires answer { (keys : List Key) → S.answer opening.source keys ≡ L.answer keys }
@@ -76,7 +79,11 @@ impl<L: LoaderName> Loader<L> {
 }
 
 /// A pass for each caller, each with one part of the ledger.
-fn deal<L: LoaderName>(alloc: Global, callers: u32, mut all: Share<L>) -> Result<Vec<Pass<L>>, AllocError>
+fn deal<L: LoaderName>(
+    alloc: Global,
+    callers: u32,
+    mut all: Share<L>,
+) -> Result<Vec<Pass<L>>, AllocError>
     requires callers { callers ≡ L.parts }
     requires parts { all.parts ≡ L.parts }
     requires amount { all.amount ≡ 0 }
