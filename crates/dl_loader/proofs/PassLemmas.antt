@@ -1,11 +1,11 @@
 -- What holds of a pass once it has one call, one ticket or one outcome more.
-use Rattle.std.proofs.Common.{◌≡◌, ◌∙◌, sym, ap, subst, ℕ, zero, suc, ◌+◌, ◌-◌, ◌<◌, ◌≤◌, max, min, true, false, not, List, [], ◌∷◌, ◌++◌, length, set, Option, Some, None, slice_get, get_or, refl, arith, append_assoc, length-append}
+use Rattle.std.proofs.Common.{◌≡◌, ◌∙◌, sym, ap, subst, ℕ, zero, suc, ◌+◌, ◌-◌, ◌<◌, ◌≤◌, max, true, false, not, List, [], ◌∷◌, ◌++◌, length, set, Option, Some, None, slice_get, get_or, refl, arith, append_assoc, length-append}
 use Rattle.std.proofs.lemmas.List.{append-nil, length-set}
-use Rattle.std.proofs.lemmas.Option.{get_or_from_slice_get}
+use Rattle.std.proofs.lemmas.Option.{get_or_from_slice_get, slice_get_within}
 use Rattle.dl_loader.specs.declared.pass.Given.{Given}
 use Rattle.dl_loader.specs.Lists.{Every, Among, one_if}
 use Rattle.dl_loader.specs.Entries.{Told, Read, Line, Called, Saw, calls_in, calls_of, IsOwn, line_front, front_of, Ordered, answered, cells_in, cells_of, Answered}
-use Rattle.dl_loader.specs.Pass.{IsPass, part, given, unseen_of}
+use Rattle.dl_loader.specs.Pass.{Pass, IsPass, viewed, part, given, unseen_of, with_saw}
 use Rattle.dl_loader.proofs.ListLemmas.{among_longer, total-append, every_append, every_weaker, every_at, every_set}
 
 -- ---- entries, with one more
@@ -62,30 +62,54 @@ unseen_of-saw (g ∷ gs) zero cell at =
     rw e (omega arith)
 unseen_of-saw (g ∷ gs) (suc n) cell at = let rest = unseen_of-saw gs n cell at in omega arith
 
--- where a ticket's outcome is not among the entries, there is such a ticket
-pub some_unseen : {unseen : ℕ} (gs : List Given) (n cell : ℕ) → unseen ≡ unseen_of gs → slice_get gs n ≡ Some (given cell false) → 1 ≤ unseen
-some_unseen gs n cell is at = let one = unseen_of-saw gs n cell at in omega arith
-
--- a ticket that was read is the one that stands there
-pub ticket_read : (gs : List Given) (n cell : ℕ) (g : Given) → slice_get gs n ≡ Some (given cell false) → g ≡ get_or gs n g → g.cell ≡ cell
-ticket_read gs n cell g at read = ap (λ x. x.cell) (read ∙ get_or_from_slice_get gs n (given cell false) g at)
-
 -- ---- passes
 
-pub part_same : {caller caller2 : ℕ} {entries entries2 : List Line} {tickets tickets2 : List Given} → caller ≡ caller2 → entries ≡ entries2 → tickets ≡ tickets2 → part caller entries tickets ≡ part caller2 entries2 tickets2
-part_same caller entries tickets = rw (caller, entries, tickets) refl
+-- a pass p that stands for these fields
+module _ {callers caller front calls parts amount unseen room ticket_room : ℕ} {entries : List Line} {tickets : List Given} (p : Pass) (view : viewed caller unseen room ticket_room entries tickets ≡ p) (old : IsPass callers caller front calls parts amount unseen room ticket_room entries tickets) where
+  -- where there is room for more, no Vec is full
+  pub pass_room : 0 < p.spare → (length entries + unseen < room) × (length tickets < ticket_room)
+  pass_room some = let spare = ap (λ v. v.spare) view in (omega arith, omega arith)
 
--- where there is room for more, no Vec is full
-pub pass_room : (room len unseen ticket_room ticket_len spare : ℕ) → min (room - (len + unseen)) (ticket_room - ticket_len) ≡ spare → 0 < spare → (len + unseen < room) × (ticket_len < ticket_room)
-pass_room room len unseen ticket_room ticket_len spare is some = (omega arith, omega arith)
+  -- so one call more can be counted
+  pub pass_counts : 0 < p.spare → calls < room
+  pass_counts some =
+      let fits = pass_room some in
+      let few = calls_few entries in
+      let e = old.calls_are in
+      omega arith
 
-pub pass_call : {callers caller front front2 calls calls2 parts parts2 amount amount2 unseen room room2 ticket_room : ℕ} {entries entries2 : List Line} {tickets : List Given} (t : Told)
+  -- a ticket of it whose outcome is not among the entries
+  module _ (n cell : ℕ) (gave : slice_get p.part.tickets n ≡ Some (given cell false)) where
+    pub gave_inside : slice_get tickets n ≡ Some (given cell false)
+    gave_inside = let same = ap (λ v. v.part.tickets) view in rw same gave
+
+    -- it is one of those that are counted
+    pub some_unseen : 1 ≤ unseen
+    some_unseen = let one = unseen_of-saw tickets n cell gave_inside in let e = old.unseen_is in omega arith
+
+    -- so there is room for its entry
+    pub saw_fits : length entries < room
+    saw_fits = let some = some_unseen in let e = old.entries_fit in omega arith
+
+    pub gave_within : n < length tickets
+    gave_within = slice_get_within tickets n (given cell false) gave_inside
+
+    -- it is the one that was read at its number
+    pub ticket_read : (g : Given) → g ≡ get_or tickets n g → g.cell ≡ cell
+    ticket_read g read = ap (λ x. x.cell) (read ∙ get_or_from_slice_get tickets n (given cell false) g gave_inside)
+
+pub pass_call : {callers caller front front2 calls calls2 parts parts2 amount amount2 unseen room room2 ticket_room : ℕ} {entries entries2 : List Line} {tickets : List Given} (p : Pass) (t : Told) (entry : Line)
+    → viewed caller unseen room ticket_room entries tickets ≡ p
     → IsPass callers caller front calls parts amount unseen room ticket_room entries tickets
-    → entries2 ≡ entries ++ Called t ∷ [] → front_of entries ≤ t.at → t.at < 65536 → t.event.caller ≡ caller
-    → front2 ≡ t.at + 1 → calls2 ≡ calls + 1 → parts2 ≡ parts → amount2 ≡ amount + 1
-    → length entries + unseen < room → room2 ≡ room
+    → 0 < p.spare → front_of p.part.entries ≤ t.at → t.event.caller ≡ p.part.caller
+    → entries2 ≡ entries ++ entry ∷ [] → entry ≡ Called t → t.at < 65536
+    → front2 ≡ t.at + 1 → calls2 ≡ calls + 1 → parts2 ≡ parts → amount2 ≡ amount + 1 → room2 ≡ room
     → IsPass callers caller front2 calls2 parts2 amount2 unseen room2 ticket_room entries2 tickets
-pass_call {entries = entries} {entries2 = entries2} {tickets = tickets} t old more past small own front_is calls_is parts_is amount_is fits same =
+pass_call {entries = entries} {entries2 = entries2} {tickets = tickets} p t entry view old some past_p own_p pushed is small front_is calls_is parts_is amount_is same =
+    let fits = pass_room p view old some in
+    let past : front_of entries ≤ t.at = let e = ap (λ v. front_of v.part.entries) view in omega arith in
+    let own : IsOwn _ t = own_p ∙ sym (ap (λ v. v.part.caller) view) in
+    let more = pushed ∙ ap (λ e. entries ++ e ∷ []) is in
     let calls = ap calls_of more ∙ calls_of-append entries (Called t ∷ []) in
     let one_more : length (calls_of entries2) ≡ length (calls_of entries) + 1 = ap length calls ∙ length-append (calls_of entries) (t ∷ []) in
     let longer : length entries2 ≡ length entries + 1 = ap length more ∙ length-append entries (Called t ∷ []) in
@@ -106,12 +130,15 @@ pass_call {entries = entries} {entries2 = entries2} {tickets = tickets} t old mo
       tickets_fit = old.tickets_fit;
     }
 
-pub pass_ticket : {callers caller front calls parts amount unseen unseen2 room ticket_room ticket_room2 : ℕ} {entries : List Line} {tickets tickets2 : List Given} (cell : ℕ)
+pub pass_ticket : {callers caller front calls parts amount unseen unseen2 room ticket_room ticket_room2 : ℕ} {entries : List Line} {tickets tickets2 : List Given} (p : Pass) (cell : ℕ)
+    → viewed caller unseen room ticket_room entries tickets ≡ p
     → IsPass callers caller front calls parts amount unseen room ticket_room entries tickets
-    → tickets2 ≡ tickets ++ given cell false ∷ [] → Among cell (cells_of entries) → unseen2 ≡ unseen + 1
-    → length entries + unseen < room → length tickets < ticket_room → ticket_room2 ≡ ticket_room
+    → 0 < p.spare → Among cell (cells_of p.part.entries)
+    → tickets2 ≡ tickets ++ given cell false ∷ [] → unseen2 ≡ unseen + 1 → ticket_room2 ≡ ticket_room
     → IsPass callers caller front calls parts amount unseen2 room ticket_room2 entries tickets2
-pass_ticket {entries = entries} {tickets = tickets} {tickets2 = tickets2} cell old more among unseen_is fits ticket_fits same =
+pass_ticket {entries = entries} {tickets = tickets} {tickets2 = tickets2} p cell view old some among_p more unseen_is same =
+    let fits = pass_room p view old some in
+    let among : Among cell (cells_of entries) = let e = ap (λ v. v.part.entries) view in rw e among_p in
     let longer : length tickets2 ≡ length tickets + 1 = ap length more ∙ length-append tickets (given cell false ∷ []) in
     let unseen : unseen_of tickets2 ≡ unseen_of tickets + 1 = ap unseen_of more ∙ total-append (λ g. one_if (not g.seen)) tickets (given cell false ∷ []) in
     record {
@@ -130,13 +157,18 @@ pass_ticket {entries = entries} {tickets = tickets} {tickets2 = tickets2} cell o
       tickets_fit = omega arith;
     }
 
-pub pass_saw : {callers caller front front2 calls parts amount unseen unseen2 room room2 ticket_room ticket_room2 : ℕ} {entries entries2 : List Line} {tickets tickets2 : List Given} (n : ℕ) (r : Read)
+pub pass_saw : {callers caller front front2 calls parts amount unseen unseen2 room room2 ticket_room ticket_room2 : ℕ} {entries entries2 : List Line} {tickets tickets2 : List Given} (p : Pass) (n : ℕ) (r : Read) (entry : Line) (g : Given)
+    → viewed caller unseen room ticket_room entries tickets ≡ p
     → IsPass callers caller front calls parts amount unseen room ticket_room entries tickets
-    → slice_get tickets n ≡ Some (given r.cell false) → r.ending.at < 65536
-    → entries2 ≡ entries ++ Saw r ∷ [] → tickets2 ≡ set tickets n (given r.cell true)
-    → front2 ≡ max front (r.ending.at + 1) → unseen2 + 1 ≡ unseen → room2 ≡ room → ticket_room2 ≡ ticket_room
+    → slice_get p.part.tickets n ≡ Some (given r.cell false) → r.ending.at < 65536
+    → entries2 ≡ entries ++ entry ∷ [] → entry ≡ Saw r → g ≡ get_or tickets n g → tickets2 ≡ set tickets n (given g.cell true)
+    → front2 ≡ max front (r.ending.at + 1) → unseen2 ≡ unseen - 1 → room2 ≡ room → ticket_room2 ≡ ticket_room
     → IsPass callers caller front2 calls parts amount unseen2 room2 ticket_room2 entries2 tickets2
-pass_saw {front = front} {entries = entries} {entries2 = entries2} {tickets = tickets} {tickets2 = tickets2} n r old at small more marked front_is unseen_is room_is ticket_room_is =
+pass_saw {front = front} {entries = entries} {entries2 = entries2} {tickets = tickets} {tickets2 = tickets2} p n r entry g view old gave small pushed is read written front_is unseen_is room_is ticket_room_is =
+    let at = gave_inside p view old n r.cell gave in
+    let some = some_unseen p view old n r.cell gave in
+    let more = pushed ∙ ap (λ e. entries ++ e ∷ []) is in
+    let marked = written ∙ ap (λ k. set tickets n (given k true)) (ticket_read p view old n r.cell gave g read) in
     let calls : calls_of entries2 ≡ calls_of entries = ap calls_of more ∙ (calls_of-append entries (Saw r ∷ []) ∙ append-nil (calls_of entries)) in
     let longer : length entries2 ≡ length entries + 1 = ap length more ∙ length-append entries (Saw r ∷ []) in
     let front_now : front_of entries2 ≡ max (front_of entries) (r.ending.at + 1) = ap front_of more ∙ front_of-push entries (Saw r) in
@@ -160,3 +192,14 @@ pass_saw {front = front} {entries = entries} {entries2 = entries2} {tickets = ti
       entries_fit = let e = old.entries_fit in omega arith;
       tickets_fit = let e = old.tickets_fit in omega arith;
     }
+
+-- the part once the outcome is among the entries
+pub part_saw : {callers caller front calls parts amount unseen room ticket_room : ℕ} {entries entries2 : List Line} {tickets tickets2 : List Given} (p : Pass) (n : ℕ) (r : Read) (entry : Line) (g : Given)
+    → viewed caller unseen room ticket_room entries tickets ≡ p
+    → IsPass callers caller front calls parts amount unseen room ticket_room entries tickets
+    → slice_get p.part.tickets n ≡ Some (given r.cell false)
+    → entries2 ≡ entries ++ entry ∷ [] → entry ≡ Saw r → g ≡ get_or tickets n g → tickets2 ≡ set tickets n (given g.cell true)
+    → part caller entries2 tickets2 ≡ with_saw p.part n r.cell r.ending false
+part_saw {tickets = tickets} p n r entry g view old gave pushed is read written =
+    let marked = written ∙ ap (λ k. set tickets n (given k true)) (ticket_read p view old n r.cell gave g read) in
+    rw (pushed, is, marked, ← view) refl

@@ -1,5 +1,5 @@
 -- What contracts see of a pass, and of a ticket.
-use Rattle.std.specs.Prelude.{◌≡◌, ℕ, zero, suc, ◌+◌, ◌<◌, ◌≤◌, Bool, true, false, not, List, [], ◌∷◌, ◌++◌, length, set, Option, Some, slice_get}
+use Rattle.std.specs.Prelude.{◌≡◌, ℕ, zero, suc, ◌+◌, ◌-◌, ◌<◌, ◌≤◌, min, Bool, true, false, not, List, [], ◌∷◌, ◌++◌, length, set, Option, Some, slice_get}
 use Rattle.dl_desk.specs.declared.outcome.Outcome.{Outcome}
 use Rattle.dl_desk.specs.declared.reply.LoadReply.{LoadReply}
 use Rattle.dl_loader.specs.declared.event.Event.{Event}
@@ -24,6 +24,11 @@ part caller entries tickets = record { caller = caller; entries = entries; ticke
 pub record Pass : Type 0 where
   pub part : Part
   pub spare : ℕ
+
+-- what contracts see of the fields of a pass
+abbrev pub viewed : ℕ → ℕ → ℕ → ℕ → List Line → List Given → Pass
+viewed caller unseen room ticket_room entries tickets =
+    record { part = part caller entries tickets; spare = min (room - (length entries + unseen)) (ticket_room - length tickets) }
 
 -- how many of the tickets have no entry of their outcome
 abbrev pub unseen_of : List Given → ℕ

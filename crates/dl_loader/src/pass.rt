@@ -38,15 +38,15 @@ pub struct Pass<L: LoaderName> {
 }
 
 impl<L: LoaderName> Model for Pass<L> {
-    ghost use Rattle.std.specs.Prelude.{◌+◌, ◌-◌, length, min, vec_capacity};
-    ghost use Rattle.dl_loader.specs.Pass.{Pass, IsPass, part};
+    ghost use Rattle.std.specs.Prelude.{vec_capacity};
+    ghost use Rattle.dl_loader.specs.Pass.{Pass, IsPass, viewed};
     ghost use Rattle.dl_loader.specs.Codes.{pass_code};
 
     ghost Value = { Pass };
 
     ghost coded = { pass_code };
 
-    ghost view = { λ p. record { part = part p.caller p.entries.items p.tickets.items; spare = min (vec_capacity p.entries - (length p.entries.items + p.unseen)) (vec_capacity p.tickets - length p.tickets.items) } };
+    ghost view = { λ p. viewed p.caller p.unseen (vec_capacity p.entries) (vec_capacity p.tickets) p.entries.items p.tickets.items };
 
     ghost invariant = { λ p. IsPass L.parts p.caller p.front p.calls p.share.parts p.share.amount p.unseen (vec_capacity p.entries) (vec_capacity p.tickets) p.entries.items p.tickets.items };
 }
