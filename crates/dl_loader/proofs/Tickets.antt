@@ -1,6 +1,7 @@
 -- Tickets, one after another.
 use Rattle.std.proofs.Common.{◌≡◌, ◌∙◌, ap, ℕ, zero, suc, ◌+◌, ◌<◌, ◌≤◌, List, [], ◌∷◌, ◌++◌, length, take, get_or, refl, arith}
 use Rattle.std.proofs.lemmas.List.{take_more}
+use Rattle.std.proofs.lemmas.List.Sums.{sum_by-append, sum_by-cons}
 use Rattle.dl_desk.specs.declared.reply.LoadReply.{LoadReply}
 use Rattle.dl_loader.specs.Begun.{begun_by, cells_begun}
 use Rattle.dl_loader.specs.Entries.{Line, cell_of_load, cells_of}
@@ -19,8 +20,10 @@ tickets_entries p (r ∷ rs) = tickets_entries (with_ticket p (cell_of_load r)) 
 
 -- the cells of one load more
 pub begun-snoc : (rs : List LoadReply) (r : LoadReply) → cells_begun (rs ++ r ∷ []) ≡ cells_begun rs + begun_by r
-begun-snoc [] r = omega arith
-begun-snoc (x ∷ rs) r = let more = begun-snoc rs r in omega arith
+begun-snoc rs r =
+    let more : cells_begun (rs ++ r ∷ []) ≡ cells_begun rs + cells_begun (r ∷ []) = sum_by-append begun_by rs (r ∷ []) in
+    let one : cells_begun (r ∷ []) ≡ begun_by r + 0 = sum_by-cons begun_by r [] in
+    omega arith
 
 -- a ticket for the load at a place, after those before it
 pub ticket_next : (p now then : Part) (rs : List LoadReply) (i c : ℕ) (d : LoadReply) → i < length rs → now ≡ with_tickets p (take i rs) → c ≡ cell_of_load (get_or rs i d) → then ≡ with_ticket now c → then ≡ with_tickets p (take (i + 1) rs)

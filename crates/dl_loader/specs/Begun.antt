@@ -1,8 +1,3 @@
--- How many cells loads begin.
-use Rattle.std.specs.Prelude.{ℕ, ◌+◌, List, [], ◌∷◌}
-use Rattle.dl_desk.specs.declared.reply.LoadReply.{LoadReply}
-use Rattle.dl_desk.specs.declared.reply.LoadReply.TheVariants.{Hit, Fresh}
-
 -- How many cells loads begin, told by their replies.
 use Rattle.std.specs.Prelude.{ℕ, List, sum_by}
 use Rattle.dl_desk.specs.declared.reply.LoadReply.{LoadReply}
@@ -13,10 +8,6 @@ abbrev pub begun_by : LoadReply → ℕ
 begun_by (Hit c) = 0
 begun_by (Fresh c b) = 1
 
--- how many cells the loads with these replies began
-abbrev pub cells_begun : List LoadReply → ℕ
-cells_begun [] = 0
-cells_begun (r ∷ rs) = begun_by r + cells_begun rs
 -- how many cells the loads with these replies begin
 abbrev pub cells_begun : List LoadReply → ℕ
 cells_begun replies = sum_by begun_by replies

@@ -1,4 +1,4 @@
-use Rattle.std.proofs.Common.{◌≡◌, ◌+◌, arith}
+use Rattle.std.proofs.Common.{arith}
 use Rattle.dl_desk.specs.declared.reply.LoadReply.TheVariants.{Hit}
 use Rattle.dl_loader.proofs.Tickets.{ticket_next, ticket_among}
 use Rattle.dl_loader.proofs.loads.add_tickets.Goals as goal
