@@ -1,5 +1,5 @@
 -- Look-ups by a text in entries whose keys are strings.
-use Rattle.std.proofs.Common.{◌≡◌, ℕ, List, [], ◌∷◌, Some, None, Option, Err, Result, ok_or, cond, ap, sym, ◌∙◌, refl, String, string_bytes, bytes_eq, codes, option_copied, Bor, Bool, true, false, ◌||◌, is_some, map, ◌++◌, true≢false}
+use Rattle.std.proofs.Common.{◌≡◌, ℕ, List, [], ◌∷◌, Some, None, Option, ok_or, cond, ap, sym, ◌∙◌, refl, String, string_bytes, bytes_eq, codes, option_copied, Bor, Bool, true, false, ◌||◌, is_some, ◌++◌, true≢false}
 use Rattle.std.proofs.lemmas.List.{map-append}
 use Rattle.std.specs.String.{string_eq}
 use Rattle.indexmap.specs.IndexMap.{IndexMap, get, insert_entry}

@@ -1,8 +1,8 @@
 -- The names of an object's members, and the parts of a list of two.
-use Rattle.std.proofs.Common.{◌≡◌, ◌≢◌, ℕ, ◌<◌, suc, List, [], ◌∷◌, Bool, ◌&&◌, Option, Some, None, length, ap, sym, ◌∙◌, refl, String, string_bytes, map, get_or, arith}
+use Rattle.std.proofs.Common.{◌≡◌, ◌≢◌, ℕ, List, [], ◌∷◌, Bool, ◌&&◌, Option, None, length, ap, refl, String, string_bytes, map, get_or, arith}
 use Rattle.std.specs.declared.alloc.Global.{Global}
 use Rattle.std.specs.List.{list_all}
-use Rattle.serde_json.specs.Data.{Data, Items, no_items, item}
+use Rattle.serde_json.specs.Data.{Data, no_items, item}
 use Rattle.serde_json.specs.View.{view, items_view, members_view}
 use Rattle.serde_json.specs.declared.value.Value.{Value}
 use Rattle.dl_source.specs.declared.tables.Entry.{Entry}

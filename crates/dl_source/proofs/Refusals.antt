@@ -1,5 +1,5 @@
 -- The tests, made in their order on what was read, find the least fault.
-use Rattle.std.proofs.Common.{◌≡◌, ℕ, ◌<◌, List, Bool, true, false, Option, Some, None, Result, Ok, Err, if◌then◌else◌, ap, sym, ◌∙◌, refl, subst, inl, inr, ◌⊎◌, true≢false, arith}
+use Rattle.std.proofs.Common.{◌≡◌, ℕ, ◌<◌, Bool, true, false, Option, Some, None, Err, if◌then◌else◌, ap, sym, ◌∙◌, refl, subst, inl, inr, ◌⊎◌, true≢false, arith}
 use Rattle.serde_json.specs.Data.{Data}
 use Rattle.dl_source.specs.declared.fault.TableFault.{TableFault}
 use Rattle.dl_source.specs.declared.fault.TableFault.TheVariants.{Shape, BadKey, TextTooLong, NotWhole, DuplicateTable, DuplicateKey, OutOfMemory}

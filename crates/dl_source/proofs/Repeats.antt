@@ -1,8 +1,7 @@
 -- A walk through a list that compares each name with those before it finds each repetition.
-use Rattle.std.proofs.Common.{◌≡◌, ℕ, List, [], ◌∷◌, ◌++◌, Bool, true, false, ◌||◌, not, map, take, drop, length, get_or, ◌<◌, ◌+◌, ap, sym, ◌∙◌, refl, bytes_eq, Bor, true≢false, Result, Ok, Err, ok_or, if◌then◌else◌, Some, None}
+use Rattle.std.proofs.Common.{◌≡◌, ℕ, List, [], ◌∷◌, ◌++◌, Bool, true, false, ◌||◌, not, map, take, drop, length, get_or, ◌<◌, ◌+◌, ap, sym, ◌∙◌, refl, bytes_eq, Bor, true≢false, Result, Ok, ok_or, if◌then◌else◌, Some, None}
 use Rattle.std.specs.List.{list_any}
 use Rattle.std.proofs.lemmas.List.{drop_more, take_more, map-append}
-use Rattle.indexmap.specs.IndexSet.{insert_key}
 use Rattle.std.proofs.lemmas.List.Folds.{list_any-append}
 use Rattle.std.proofs.lemmas.Slice.Eq.{bytes_eq-Decides}
 use Rattle.std.proofs.lemmas.Bool.Decides.{same_from_decides}

@@ -1,10 +1,8 @@
 -- The tables that a tree spells, found by looking into it; and what the reading functions answer.
-use Rattle.std.specs.Prelude.{◌≡◌, ◌⊎◌, ℕ, List, [], ◌∷◌, ◌++◌, codes, Bool, true, false, Option, Some, None, Result, Ok, Err, option_map, option_and_then, if◌then◌else◌, ⊤}
+use Rattle.std.specs.Prelude.{◌≡◌, ℕ, List, [], ◌∷◌, ◌++◌, codes, Option, Some, None, Result, Ok, Err, option_map, option_and_then, if◌then◌else◌, ⊤}
 use Rattle.serde_json.specs.Data.{Data, Items, no_items, item}
 use Rattle.serde_json.specs.Find.{get, as_str, as_array}
-use Rattle.serde_json.specs.View.{view}
 use Rattle.dl_source.specs.declared.tables.Entry.{Entry}
-use Rattle.dl_source.specs.declared.tables.Entry.TheVariants as entry
 use Rattle.dl_source.specs.declared.fault.TableFault.{TableFault}
 use Rattle.dl_source.specs.declared.fault.TableFault.TheVariants.{Shape, BadKey, TextTooLong, NotWhole, DuplicateTable, DuplicateKey, OutOfMemory}
 use Rattle.dl_source.specs.Listing.{Listing, NamedTables}

@@ -1,5 +1,5 @@
 -- What every answer of a source keeps to.
-use Rattle.std.specs.Prelude.{◌≡◌, ℕ, List, length, ⊤}
+use Rattle.std.specs.Prelude.{◌≡◌, List, length, ⊤}
 use Rattle.dl_desk.specs.Key.{Key}
 use Rattle.dl_source.specs.declared.source.BatchAnswer.{BatchAnswer}
 use Rattle.dl_source.specs.declared.source.BatchAnswer.TheVariants.{Each, Break}

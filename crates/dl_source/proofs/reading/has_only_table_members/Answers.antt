@@ -1,4 +1,4 @@
-use Rattle.std.proofs.Common.{false, ap, sym, ◌∙◌, Some}
+use Rattle.std.proofs.Common.{false, ap, sym, ◌∙◌}
 use Rattle.std.specs.Option.{option_map_or}
 use Rattle.dl_source.specs.Spelling.{is_table_member, names_all}
 use Rattle.dl_source.proofs.Members.{names_all-members_view}

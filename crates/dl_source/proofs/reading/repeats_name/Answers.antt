@@ -1,4 +1,4 @@
-use Rattle.std.proofs.Common.{◌≡◌, true, false, List, ℕ, ◌++◌, ◌∷◌, [], if◌then◌else◌, map, ap, sym, ◌∙◌, bytes_eq, take}
+use Rattle.std.proofs.Common.{◌≡◌, true, false, ◌++◌, ◌∷◌, [], if◌then◌else◌, map, ap, sym, ◌∙◌, bytes_eq, take}
 use Rattle.std.specs.List.{list_any}
 use Rattle.dl_source.specs.Faults.{lists}
 use Rattle.dl_source.proofs.Repeats.{clashes_first, lists-names, found_again, goes_on, noted, was_there, was_new}

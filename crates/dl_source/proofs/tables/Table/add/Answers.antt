@@ -1,4 +1,4 @@
-use Rattle.std.proofs.Common.{◌≡◌, true, false, not, ap, sym, ◌∙◌, is_some, ◌++◌, ◌∷◌, []}
+use Rattle.std.proofs.Common.{◌≡◌, true, not, ap, sym, ◌∙◌, is_some, ◌++◌, ◌∷◌, []}
 use Rattle.dl_source.specs.Faults.{lists}
 use Rattle.dl_source.specs.Listing.{named}
 use Rattle.dl_source.proofs.Lookups.{lists-get, named-insert}

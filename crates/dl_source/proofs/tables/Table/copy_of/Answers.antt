@@ -1,4 +1,4 @@
-use Rattle.std.proofs.Common.{◌≡◌, true, false, Ok, take, ◌++◌, ◌∷◌, [], ap, sym, ◌∙◌}
+use Rattle.std.proofs.Common.{◌≡◌, false, Ok, take, ◌++◌, ◌∷◌, [], ap, sym, ◌∙◌}
 use Rattle.dl_source.specs.Faults.{lists, is_not_whole}
 use Rattle.dl_source.proofs.Repeats.{clashes_first, take_next, any_at, goes_on, was_new, or_right_false}
 use Rattle.dl_source.proofs.tables.Table.copy_of.Goals as goal

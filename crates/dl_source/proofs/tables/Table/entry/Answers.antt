@@ -1,4 +1,4 @@
-use Rattle.std.proofs.Common.{rules, ap, sym, ◌∙◌}
+use Rattle.std.proofs.Common.{rules}
 use Rattle.dl_source.proofs.Lookups.{lookup-named}
 use Rattle.dl_source.proofs.tables.Table.entry.Goals as goal
 

@@ -1,4 +1,4 @@
-use Rattle.std.proofs.Common.{ap, sym, ◌∙◌, ◌++◌, ◌∷◌, []}
+use Rattle.std.proofs.Common.{ap, ◌∙◌, ◌++◌, ◌∷◌, []}
 use Rattle.dl_source.specs.Faults.{lists}
 use Rattle.dl_source.specs.Listing.{named}
 use Rattle.dl_source.proofs.Lookups.{named-insert}

@@ -1,6 +1,6 @@
-use Rattle.std.proofs.Common.{◌≡◌, true, false, refl, Ok, take, drop, ◌++◌, ◌∷◌, [], ◌||◌, ◌+◌, ap, sym, ◌∙◌, ok_or}
+use Rattle.std.proofs.Common.{◌≡◌, false, refl, take, drop, ◌++◌, ◌∷◌, [], ◌||◌, ◌+◌, ap, sym, ◌∙◌, ok_or}
 use Rattle.std.specs.List.{list_any}
-use Rattle.dl_source.specs.Faults.{lists, repeats, is_not_whole, has_repeated_key}
+use Rattle.dl_source.specs.Faults.{repeats, is_not_whole, has_repeated_key}
 use Rattle.dl_source.specs.declared.fault.TableFault.TheVariants.{DuplicateKey}
 use Rattle.dl_source.proofs.Repeats.{clashes_first, clashes_at, take_next, any_at, goes_on, or_left_false, or_right_false, kept_true, kept_rows}
 use Rattle.dl_source.proofs.tables.Tables.copy_of.Goals as goal
