@@ -9,3 +9,4 @@ pub mod BatchEndings
 pub mod Outcomes
 pub mod Fronts
 mod JournalLemmas
+mod BlankReaders

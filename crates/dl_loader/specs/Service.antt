@@ -15,6 +15,7 @@ pub record Service : Type 0 where
 
 abbrev pub service : Rules → ℕ → (List Key → BatchAnswer) → Service
 service rules callers answer = record { rules = rules; callers = callers; answer = answer }
+
 -- an answer that does not break has an outcome for each key
 abbrev pub AnswersEach : (List Key → BatchAnswer) → Type 0
 AnswersEach answer = (ks : List Key) (os : List Outcome) → answer ks ≡ Each os → length os ≡ length ks

@@ -16,6 +16,7 @@ mod loader;
 mod name;
 mod opening;
 mod pass;
+mod record;
 mod state;
 mod ticket;
 
@@ -24,8 +25,8 @@ pub use book::Book;
 pub use entry::{Entry, EntryKind};
 pub use event::{Call, Ending, Event, GiveUp, Reply};
 pub use fault::{CallFault, StartFault};
-pub use loader::Loader;
 pub use lists::{Jobs, Replies};
+pub use loader::Loader;
 pub use name::LoaderName;
 pub use opening::{MOST_CALLERS, Opening};
 pub use pass::Pass;

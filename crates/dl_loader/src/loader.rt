@@ -1,6 +1,7 @@
 //! The shared loader.
 
 ghost use Rattle.std.specs.Prelude.{◌≡◌, ◌≤◌, ◌<◌, ◌+◌, ◌-◌, List, map, IfOk, IfErr};
+ghost use Rattle.dl_cells.specs.Cells.{row_len};
 ghost use Rattle.dl_desk.specs.Key.{Key};
 ghost use Rattle.dl_loader.specs.declared.fault.StartFault.TheVariants.{OutOfMemory};
 ghost use Rattle.dl_loader.specs.Pass.{fresh};
@@ -23,7 +24,7 @@ use std::sync::{Condvar, Mutex};
 #[derive(Drop)]
 pub struct Loader<L: LoaderName> {
     limits: Limits,
-    log: CellRow<Event>,
+    pub(crate) log: CellRow<Event>,
     outcomes: CellRow<Ending>,
     book: Mutex<Book<L>>,
     changed: Condvar,
@@ -43,7 +44,10 @@ impl<L: LoaderName> Model for Loader<L> {
 impl<L: LoaderName> Loader<L> {
     /// The loader of an opening, with an empty history, and a pass for each caller, of which none has an
     /// entry. `L` is to stand for this opening. The error is want of memory.
-    pub fn start<S: Source>(alloc: Global, opening: Opening<'_, S>) -> Result<(Loader<L>, Vec<Pass<L>>), StartFault>
+    pub fn start<S: Source>(
+        alloc: Global,
+        opening: Opening<'_, S>,
+    ) -> Result<(Loader<L>, Vec<Pass<L>>), StartFault>
         requires rules { opening.rules ≡ L.rules }
         requires callers { opening.callers ≡ L.parts }
         requires answer { (keys : List Key) → S.answer opening.source keys ≡ L.answer keys }
@@ -73,10 +77,29 @@ impl<L: LoaderName> Loader<L> {
         };
         Ok((loader, passes))
     }
+
+    /// The limits.
+    pub(crate) fn limits(&self) -> Limits
+        ensures { result ≡ L.rules.limits }
+    {
+        self.limits
+    }
+
+    /// The row that the outcomes lie in, which has as many cells as may be begun.
+    pub(crate) fn outcomes(&self) -> &CellRow<Ending>
+        ensures row { result.now ≡ L.outcomes }
+        ensures cells { row_len L.outcomes ≡ L.rules.limits.max_cells }
+    {
+        &self.outcomes
+    }
 }
 
 /// A pass for each caller, each with one part of the ledger.
-fn deal<L: LoaderName>(alloc: Global, callers: u32, mut all: Share<L>) -> Result<Vec<Pass<L>>, AllocError>
+fn deal<L: LoaderName>(
+    alloc: Global,
+    callers: u32,
+    mut all: Share<L>,
+) -> Result<Vec<Pass<L>>, AllocError>
     requires callers { callers ≡ L.parts }
     requires parts { all.parts ≡ L.parts }
     requires amount { all.amount ≡ 0 }

@@ -54,7 +54,12 @@ impl<'s, S: Source> Opening<'s, S> {
     ///
     /// # Errors
     /// The first cause of [`StartFault`] that applies, in its order.
-    pub fn new(alloc: Global, source: &'s S, limits: Limits, callers: u32) -> Result<Opening<'s, S>, StartFault>
+    pub fn new(
+        alloc: Global,
+        source: &'s S,
+        limits: Limits,
+        callers: u32,
+    ) -> Result<Opening<'s, S>, StartFault>
         ensures source { IfOk result (λ o. o.source ≡ source.now) }
         ensures rules { IfOk result (λ o. o.rules ≡ mixed limits) }
         ensures callers { IfOk result (λ o. o.callers ≡ callers) }
