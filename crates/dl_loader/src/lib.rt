@@ -24,7 +24,7 @@ pub use ask::Ask;
 pub use book::Book;
 pub use entry::{Entry, EntryKind};
 pub use event::{Call, Ending, Event, GiveUp, Reply};
-pub use fault::{CallFault, StartFault};
+pub use fault::{CallFault, StartFault, Stopped};
 pub use lists::{Jobs, Replies};
 pub use loader::Loader;
 pub use name::LoaderName;
