@@ -13,3 +13,4 @@ pub mod Tickets
 pub mod Begun
 pub mod CellLists
 pub mod Kept
+mod BlankReaders

@@ -1,6 +1,6 @@
 -- What contracts see of the events and the cells of a loader, and what holds of the fields behind them.
-use Rattle.std.specs.Prelude.{◌≡◌, ℕ, List, length, map, Option, Some, None, slice_get}
-use Rattle.dl_cells.specs.Cells.{RowName, cell_of}
+use Rattle.std.specs.Prelude.{◌≡◌, ℕ, ◌+◌, List, length, map, Option, Some, None, slice_get}
+use Rattle.dl_cells.specs.Cells.{RowName, cell_of, Reading}
 use Rattle.dl_loader.specs.Entries.{Told}
 use Rattle.dl_loader.specs.declared.event.Event.{Event}
 use Rattle.dl_loader.specs.declared.event.Ending.{Ending}
@@ -47,3 +47,7 @@ pub record IsJournal (outcomes : RowName) (counted : ℕ) (log : List Told) (sta
   pub counted_is : counted ≡ length log
   pub places : (k : ℕ) (t : Told) → slice_get log k ≡ Some t → t.at ≡ k
   pub own_cells : (c : ℕ) (s : State) → slice_get states c ≡ Some s → s.reader.cell ≡ cell_of outcomes c
+
+-- readers, in order, of the cells from one on, of which they know nothing
+pub record AreBlank (outcomes : RowName) (from : ℕ) (readers : List (Reading Ending)) : Type 0 where
+  pub at : (k : ℕ) (r : Reading Ending) → slice_get readers k ≡ Some r → (r.cell ≡ cell_of outcomes (from + k)) × (r.known ≡ None)

@@ -1,13 +1,19 @@
 //! The book of a loader, which lies behind its lock.
 
-ghost use Rattle.std.specs.Prelude.{◌≡◌, [], false};
+ghost use Rattle.std.specs.Prelude.{◌≡◌, ◌<◌, ◌≤◌, [], false, true, IfErr, None, OnOk, Some, length};
 ghost use Rattle.dl_desk.specs.Limits.{mixed};
 ghost use Rattle.dl_loader.specs.Service.{service};
-ghost use Rattle.dl_loader.specs.Book.{Keeps};
+ghost use Rattle.dl_loader.specs.Book.{Keeps, locked};
+ghost use Rattle.dl_loader.specs.Entries.{cell_of_load, front_of};
+ghost use Rattle.dl_loader.specs.Refusals.{unready};
 
+use crate::fault::CallFault;
 use crate::journal::Journal;
+use crate::loader::Loader;
 use crate::name::LoaderName;
-use dl_desk::{Desk, Limits};
+use crate::pass::Pass;
+use crate::ticket::{Ticket, load_cell};
+use dl_desk::{Desk, Limits, LoadReply};
 use std::alloc::Global;
 use std::marker::Model;
 use std::sync::ledger;
@@ -52,6 +58,63 @@ impl<L: LoaderName> Book<L> {
             journal: Journal::new(alloc, calls),
             stopped: false,
         }
+    }
+
+    /// Whether a pass may make an event now.
+    ///
+    /// # Errors
+    /// The first of these causes that applies: `Stopped`, `Behind`, `LogFull`.
+    pub(crate) fn admit(&self, loader: &Loader<L>, pass: &Pass<L>) -> Result<(), CallFault>
+        ensures ok { OnOk result (unready (service L.rules L.parts L.answer) self.now pass.now.part ≡ None) }
+        ensures fault { IfErr result (λ fault. unready (service L.rules L.parts L.answer) self.now pass.now.part ≡ Some fault) }
+        ensures after { OnOk result (front_of pass.now.part.entries ≤ length self.now.history) }
+        ensures room { OnOk result (length self.now.history < L.rules.limits.max_calls) }
+    {
+        if self.stopped {
+            return Err(CallFault::Stopped);
+        }
+        let front = pass.front();
+        let len = self.journal.len();
+        if len < front as usize {
+            return Err(CallFault::Behind {
+                front,
+                len: len as u32,
+            });
+        }
+        let limit = loader.limits().max_calls();
+        if limit as usize <= len {
+            return Err(CallFault::LogFull { limit });
+        }
+        Ok(())
+    }
+
+    /// A ticket of this number for a load that was replied so. It takes no memory.
+    pub(crate) fn ticket<'a>(
+        &self,
+        loader: &'a Loader<L>,
+        number: usize,
+        reply: LoadReply,
+    ) -> Ticket<'a, L>
+        requires { cell_of_load reply < length self.now.cells }
+        ensures number { result.number ≡ number }
+        ensures reply { result.reply ≡ reply }
+    {
+        let reader = self.journal.reader(load_cell(reply));
+        Ticket::new(loader.outcomes(), number, reply, reader)
+    }
+
+    /// Stops the loader: no pass may make an event from then on.
+    pub(crate) fn stop(&mut self)
+        ensures { self.new ≡ locked self.old.history self.old.desk self.old.cells true }
+    {
+        self.stopped = true;
+    }
+
+    /// Whether the loader is stopped.
+    pub(crate) fn is_stopped(&self) -> bool
+        ensures { result ≡ self.now.stopped }
+    {
+        self.stopped
     }
 
     /// What every book keeps: its history is legal, and all else is that of the history.

@@ -67,6 +67,11 @@ pub enum CallFault {
     LogRefused,
 }
 
+/// The loader was stopped, and a ticket's cell had not ended.
+#[derive(Clone, Copy, Debug, PartialEq, Eq, Error)]
+#[error("the loader is stopped")]
+pub struct Stopped;
+
 impl From<AllocError> for CallFault {
     ghost from_gives = { λ _ fault. fault ≡ call.OutOfMemory };
 

@@ -1,11 +1,12 @@
 //! The history and the cells of a loader, as they are known under its lock.
 
 ghost use Rattle.std.specs.Prelude.{◌≡◌, ◌+◌, ◌<◌, ◌≤◌, ◌∷◌, ◌++◌, [], MatchBool, None, OnOk, Option, Some, length, set, slice_get};
+ghost use Rattle.std.specs.List.{repeat};
 ghost use Rattle.dl_cells.specs.Cells.{cell_of, row_len};
 ghost use Rattle.dl_loader.specs.declared.event.Ending.{Ending};
 ghost use Rattle.dl_loader.specs.Entries.{front_of};
 ghost use Rattle.dl_loader.specs.Pass.{with_call};
-ghost use Rattle.dl_loader.specs.Journal.{waiting, ended, refused};
+ghost use Rattle.dl_loader.specs.Journal.{AreBlank, waiting, ended, refused};
 
 use crate::entry::Stored;
 use crate::event::Ending;
@@ -112,6 +113,18 @@ impl<L: LoaderName> Journal<L> {
         ensures room { self.old.spare ≤ self.new.spare + 1 }
     {
         self.states.push_reserved(State::new(reader));
+    }
+
+    /// Adds the next cells, which have no end yet. It takes no memory.
+    pub(crate) fn add_cells(&mut self, readers: Vec<Reader<Ending>>)
+        requires blank { AreBlank L.outcomes (length self.old.cells) readers.items }
+        requires room { length readers.items ≤ self.old.spare }
+        ensures history { self.new.history ≡ self.old.history }
+        ensures cells { self.new.cells ≡ self.old.cells ++ repeat (length readers.items) (waiting ∷ []) }
+    {
+        for reader in readers {
+            self.add_cell(reader);
+        }
     }
 
     /// Gives a cell its outcome, and tells whether the cell took it. It takes no memory.

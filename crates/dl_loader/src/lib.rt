@@ -17,6 +17,7 @@ mod loads;
 mod name;
 mod opening;
 mod pass;
+mod record;
 mod state;
 mod ticket;
 
@@ -25,6 +26,7 @@ pub use book::Book;
 pub use entry::{Entry, EntryKind};
 pub use event::{Call, Ending, Event, GiveUp, Reply};
 pub use fault::{CallFault, StartFault};
+pub use fault::{CallFault, StartFault, Stopped};
 pub use lists::{Jobs, Replies};
 pub use loader::Loader;
 pub use name::LoaderName;

@@ -1,29 +1,32 @@
 //! The shared loader.
 
-ghost use Rattle.std.specs.Prelude.{◌≡◌, ◌≤◌, ◌<◌, ◌+◌, ◌-◌, List, map, IfOk, IfErr};
+ghost use Rattle.std.specs.Prelude.{◌≡◌, ◌≤◌, ◌<◌, ◌+◌, ◌-◌, Bool, IfErr, IfOk, IfSome, IsSome, List, None, OnErr, OnOk, Some, map};
+ghost use Rattle.dl_cells.specs.Cells.{row_len};
 ghost use Rattle.dl_desk.specs.Key.{Key};
 ghost use Rattle.dl_loader.specs.declared.fault.StartFault.TheVariants.{OutOfMemory};
-ghost use Rattle.dl_loader.specs.Pass.{fresh};
+ghost use Rattle.dl_loader.specs.Entries.{cell_of_load, ending_known};
+ghost use Rattle.dl_loader.specs.Pass.{Gave, fresh, with_saw};
 
 use crate::book::Book;
 use crate::event::{Ending, Event};
-use crate::fault::StartFault;
+use crate::fault::{StartFault, Stopped};
 use crate::name::LoaderName;
 use crate::opening::Opening;
 use crate::pass::Pass;
+use crate::ticket::Ticket;
 use dl_cells::CellRow;
 use dl_desk::Limits;
 use dl_source::Source;
 use std::alloc::{AllocError, Global};
 use std::marker::Model;
 use std::sync::ledger::Share;
-use std::sync::{Condvar, Mutex};
+use std::sync::{Condvar, Mutex, Wait};
 
 /// A loader that threads share by reference. Each of its callers has a [`Pass`].
 #[derive(Drop)]
 pub struct Loader<L: LoaderName> {
     limits: Limits,
-    log: CellRow<Event>,
+    pub(crate) log: CellRow<Event>,
     outcomes: CellRow<Ending>,
     book: Mutex<Book<L>>,
     changed: Condvar,
@@ -75,6 +78,78 @@ impl<L: LoaderName> Loader<L> {
             changed: Condvar::new(),
         };
         Ok((loader, passes))
+    }
+
+    /// Stops the loader: from then on no pass may make an event, and no wait for a cell that has not ended
+    /// goes on.
+    pub fn stop(&self, rt: &impl Wait) {
+        self.book.lock(rt).stop();
+        self.changed.notify_all();
+    }
+
+    /// Waits until the ticket shows its outcome, and adds that to the pass, once: where it is among the
+    /// entries already, the pass stays as it is. Where the ticket shows its outcome at once, no lock is taken.
+    /// It takes no memory.
+    ///
+    /// # Errors
+    /// `Stopped` where the loader is stopped and the cell has not ended. The pass then tells what it told
+    /// before.
+    pub fn wait(
+        &self,
+        rt: &impl Wait,
+        pass: &mut Pass<L>,
+        ticket: &mut Ticket<'_, L>,
+    ) -> Result<(), Stopped>
+        requires gave { (seen : Bool) × Gave pass.old.part ticket.old seen }
+        ensures number { ticket.new.number ≡ ticket.old.number }
+        ensures reply { ticket.new.reply ≡ ticket.old.reply }
+        ensures kept { IfSome ticket.old.known (λ ending. ticket.new.known ≡ Some ending) }
+        ensures shown { OnOk result (IsSome ticket.new.known) }
+        ensures saw { OnOk result ((seen : Bool) × Gave pass.old.part ticket.old seen × (pass.new.part ≡ with_saw pass.old.part ticket.old.number (cell_of_load ticket.old.reply) (ending_known ticket.new.known) seen)) }
+        ensures unchanged { OnErr result (pass.new.part ≡ pass.old.part) }
+        ensures none { OnErr result (ticket.new.known ≡ None) }
+    {
+        if ticket.look().is_none() {
+            self.wait_for(rt, ticket)?;
+        }
+        pass.saw(ticket);
+        Ok(())
+    }
+
+    // Waits under the lock until the ticket shows its outcome.
+    fn wait_for(&self, rt: &impl Wait, ticket: &mut Ticket<'_, L>) -> Result<(), Stopped>
+        requires { ticket.old.known ≡ None }
+        ensures number { ticket.new.number ≡ ticket.old.number }
+        ensures reply { ticket.new.reply ≡ ticket.old.reply }
+        ensures shown { OnOk result (IsSome ticket.new.known) }
+        ensures none { OnErr result (ticket.new.known ≡ None) }
+    {
+        let mut book = self.book.lock(rt);
+        for _ in rt.forever() {
+            if ticket.look().is_some() {
+                return Ok(());
+            }
+            if book.is_stopped() {
+                return Err(Stopped);
+            }
+            book = self.changed.wait(rt, book);
+        }
+        unreachable!()
+    }
+
+    /// The limits.
+    pub(crate) fn limits(&self) -> Limits
+        ensures { result ≡ L.rules.limits }
+    {
+        self.limits
+    }
+
+    /// The row that the outcomes lie in, which has as many cells as may be begun.
+    pub(crate) fn outcomes(&self) -> &CellRow<Ending>
+        ensures row { result.now ≡ L.outcomes }
+        ensures cells { row_len L.outcomes ≡ L.rules.limits.max_cells }
+    {
+        &self.outcomes
     }
 }
 

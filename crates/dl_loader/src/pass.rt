@@ -72,7 +72,8 @@ impl<L: LoaderName> Pass<L> {
 
     /// The caller, counted from 0.
     pub fn caller(&self) -> u32
-        ensures { result ≡ self.now.part.caller }
+        ensures caller { result ≡ self.now.part.caller }
+        ensures below { self.now.part.caller < L.parts }
     {
         self.caller
     }

@@ -1,0 +1,9 @@
+use Rattle.std.proofs.Common.{◌≡◌, length}
+use Rattle.dl_loader.specs.Journal.{AreBlank}
+use Rattle.dl_loader.proofs.record.blank_readers.Given as goal
+
+abbrev pub invariant-loop-more : goal.invariant-loop-more
+invariant-loop-more l = record {
+  count : length l.readers.items ≡ l.more;
+  blank : AreBlank l.row l.from l.readers.items;
+}

@@ -1,0 +1,106 @@
+//! One event more in the journal of a loader.
+
+ghost use Rattle.std.specs.Prelude.{◌≡◌, ◌+◌, ◌<◌, ◌≤◌, ◌⊎◌, ◌∷◌, ◌++◌, [], IfErr, IfOk, OnErr, OnOk, length};
+ghost use Rattle.std.specs.List.{repeat};
+ghost use Rattle.dl_cells.specs.Cells.{row_len};
+ghost use Rattle.dl_loader.specs.declared.fault.CallFault.TheVariants.{LogRefused, OutOfMemory};
+ghost use Rattle.dl_loader.specs.Entries.{front_of};
+ghost use Rattle.dl_loader.specs.Journal.{AreBlank, waiting};
+ghost use Rattle.dl_loader.specs.Pass.{with_call};
+
+use crate::entry::Stored;
+use crate::event::{Ending, Event};
+use crate::fault::CallFault;
+use crate::journal::Journal;
+use crate::loader::Loader;
+use crate::name::LoaderName;
+use crate::pass::Pass;
+use dl_cells::{CellRow, Reader};
+use dl_desk::LARGEST_LIMIT;
+use std::alloc::{AllocError, Global};
+
+impl<L: LoaderName> Loader<L> {
+    /// Adds an event of the pass to the journal, with as many cells as it begins, and makes room in the pass
+    /// for its tickets. All growths are made first, then the event is stored in the log, and after that
+    /// nothing can be refused.
+    ///
+    /// # Errors
+    /// `OutOfMemory`; `LogRefused` where the log's cell has another event. The journal and the pass then tell
+    /// what they told before.
+    pub(crate) fn record(
+        &self,
+        alloc: Global,
+        journal: &mut Journal<L>,
+        pass: &mut Pass<L>,
+        event: Event,
+        cells: u32,
+        tickets: usize,
+    ) -> Result<(), CallFault>
+        requires room { length journal.old.history < L.rules.limits.max_calls }
+        requires cells_room { length journal.old.cells + cells ≤ L.rules.limits.max_cells }
+        requires after { front_of pass.old.part.entries ≤ length journal.old.history }
+        requires own { event.caller ≡ pass.old.part.caller }
+        ensures history { OnOk result (journal.new.history ≡ journal.old.history ++ event ∷ []) }
+        ensures cells { OnOk result (journal.new.cells ≡ journal.old.cells ++ repeat cells (waiting ∷ [])) }
+        ensures part { OnOk result (pass.new.part ≡ with_call pass.old.part (length journal.old.history) event) }
+        ensures pass_room { OnOk result (tickets ≤ pass.new.spare) }
+        ensures unchanged { OnErr result ((journal.new.history ≡ journal.old.history) × (journal.new.cells ≡ journal.old.cells) × (pass.new.part ≡ pass.old.part)) }
+        ensures fault { IfErr result (λ fault. (fault ≡ OutOfMemory) ⊎ (fault ≡ LogRefused)) }
+    {
+        let place = self.place(journal);
+        let first = self.first_cell(journal, cells);
+        let readers = blank_readers(alloc, self.outcomes(), first, cells)?;
+        let mut reader = self.log.reader(u32::from(place))?;
+        let event = Box::new(alloc, event).map_err(AllocError::from)?;
+        journal.reserve(cells as usize)?;
+        pass.reserve(tickets)?;
+        let stored = Stored::store(&self.log, place, &mut reader, event).map_err(
+            |_| CallFault::LogRefused,
+        )?;
+        journal.add(stored, pass);
+        journal.add_cells(readers);
+        Ok(())
+    }
+
+    // The place of the next event.
+    fn place(&self, journal: &Journal<L>) -> u16
+        requires { length journal.now.history < L.rules.limits.max_calls }
+        ensures { result ≡ length journal.now.history }
+    {
+        let most = self.limits().max_calls() as usize;
+        let place = journal.len();
+        prove!(place < most);
+        place as u16
+    }
+
+    // The next cell, from which on there are numbers for so many cells.
+    fn first_cell(&self, journal: &Journal<L>, cells: u32) -> u32
+        requires { length journal.now.cells + cells ≤ L.rules.limits.max_cells }
+        ensures first { result ≡ length journal.now.cells }
+        ensures fits { result + cells ≤ LARGEST_LIMIT }
+    {
+        let most = self.limits().max_cells() as usize;
+        let first = journal.cells();
+        prove!(first <= most);
+        first as u32
+    }
+}
+
+// Readers, in order, of so many cells from one on, which know nothing of them.
+fn blank_readers(
+    alloc: Global,
+    row: &CellRow<Ending>,
+    from: u32,
+    count: u32,
+) -> Result<Vec<Reader<Ending>>, AllocError>
+    requires in_row { from + count ≤ row_len row.now }
+    requires fits { from + count ≤ LARGEST_LIMIT }
+    ensures count { IfOk result (λ readers. length readers.items ≡ count) }
+    ensures blank { IfOk result (λ readers. AreBlank row.now from readers.items) }
+{
+    let mut readers = Vec::with_capacity(alloc, count as usize)?;
+    for more in 0..count {
+        readers.push(row.reader(from + more)?)?;
+    }
+    Ok(readers)
+}
