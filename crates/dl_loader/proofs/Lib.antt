@@ -9,3 +9,6 @@ pub mod BatchEndings
 pub mod Outcomes
 pub mod Fronts
 mod JournalLemmas
+pub mod Begun
+pub mod CellLists
+pub mod Kept

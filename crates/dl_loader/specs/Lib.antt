@@ -10,3 +10,5 @@ pub mod Journal
 pub mod Book
 pub mod Asks
 pub mod Refusals
+pub mod Begun
+pub mod EndedUpTo
