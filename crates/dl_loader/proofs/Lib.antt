@@ -12,3 +12,4 @@ mod JournalLemmas
 pub mod Begun
 pub mod CellLists
 pub mod Kept
+pub mod KeptEnds
