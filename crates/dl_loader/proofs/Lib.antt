@@ -13,3 +13,4 @@ pub mod Begun
 pub mod CellLists
 pub mod Kept
 pub mod KeptEnds
+pub mod KeptCalls
