@@ -14,3 +14,8 @@ pub mod Begun
 pub mod CellLists
 pub mod Kept
 mod BlankReaders
+pub mod Begun
+pub mod CellLists
+pub mod Kept
+pub mod KeptEnds
+pub mod KeptCalls
