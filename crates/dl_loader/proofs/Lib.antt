@@ -14,8 +14,5 @@ pub mod Begun
 pub mod CellLists
 pub mod Kept
 mod BlankReaders
-pub mod Begun
-pub mod CellLists
-pub mod Kept
 pub mod KeptEnds
 pub mod KeptCalls

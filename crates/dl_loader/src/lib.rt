@@ -25,7 +25,6 @@ pub use ask::Ask;
 pub use book::Book;
 pub use entry::{Entry, EntryKind};
 pub use event::{Call, Ending, Event, GiveUp, Reply};
-pub use fault::{CallFault, StartFault};
 pub use fault::{CallFault, StartFault, Stopped};
 pub use lists::{Jobs, Replies};
 pub use loader::Loader;
