@@ -1,10 +1,10 @@
 -- Tickets, one after another.
-use Rattle.std.proofs.Common.{◌≡◌, ◌∙◌, ap, ℕ, zero, suc, ◌+◌, ◌<◌, ◌≤◌, List, [], ◌∷◌, ◌++◌, length, take, get_or, refl, arith}
+use Rattle.std.proofs.Common.{◌≡◌, ◌∙◌, ap, ℕ, zero, suc, ◌+◌, ◌<◌, List, [], ◌∷◌, ◌++◌, length, take, get_or, refl, arith}
 use Rattle.std.proofs.lemmas.List.{take_more}
 use Rattle.std.proofs.lemmas.List.Sums.{sum_by-append, sum_by-cons}
 use Rattle.dl_desk.specs.declared.reply.LoadReply.{LoadReply}
 use Rattle.dl_loader.specs.Begun.{begun_by, cells_begun}
-use Rattle.dl_loader.specs.Entries.{Line, cell_of_load, cells_of}
+use Rattle.dl_loader.specs.Entries.{cell_of_load, cells_of}
 use Rattle.dl_loader.specs.Lists.{Every, Among}
 use Rattle.dl_loader.specs.Pass.{Part, with_ticket, with_tickets}
 

@@ -1,5 +1,5 @@
 -- What contracts see of the events and the cells of a loader, and what holds of the fields behind them.
-use Rattle.std.specs.Prelude.{◌≡◌, ℕ, ◌+◌, List, length, map, Option, Some, None, slice_get}
+use Rattle.std.specs.Prelude.{◌≡◌, ℕ, Bool, true, false, count_by, ◌+◌, List, length, map, Option, Some, None, slice_get}
 use Rattle.dl_cells.specs.Cells.{RowName, cell_of, Reading}
 use Rattle.dl_loader.specs.Entries.{Told}
 use Rattle.dl_loader.specs.declared.event.Event.{Event}
@@ -24,6 +24,15 @@ ended e = record { mark = Ended; shows = Some e }
 -- a cell that had something else
 abbrev pub refused : Option Ending → Cell
 refused other = record { mark = Refused; shows = other }
+
+abbrev pub is_refused : Mark → Bool
+is_refused Waiting = false
+is_refused Ended = false
+is_refused Refused = true
+
+-- how many cells refused their outcome
+abbrev pub refusals : List Cell → ℕ
+refusals cells = count_by (λ x. is_refused x.mark) cells
 
 -- the events in order, the cells that were begun, and for how many more of both there is room
 pub record Journal : Type 0 where

@@ -1,4 +1,4 @@
-use Rattle.std.proofs.Common.{◌≡◌, ◌∙◌, ◌+◌, ◌≤◌, arith}
+use Rattle.std.proofs.Common.{arith}
 use Rattle.dl_desk.specs.declared.reply.LoadReply.TheVariants.{Hit, Fresh}
 use Rattle.dl_loader.proofs.Tickets.{begun_next}
 use Rattle.dl_loader.proofs.loads.cells_begun.Goals.{in-Hit, in-Fresh}
