@@ -1,5 +1,5 @@
--- What words ask for, and counts that stay at their end.
-use Rattle.std.specs.Prelude.{ℕ, ◌+◌, ◌-◌, ◌^◌, min, codes, List}
+-- What words ask for.
+use Rattle.std.specs.Prelude.{ℕ, codes, List}
 use Rattle.dl_desk.specs.Limits.{IsLimit}
 use Rattle.dl_bench.specs.declared.command.Command.{Command}
 use Rattle.dl_bench.specs.declared.command.Command.TheVariants.{Loads, Many, Hits, Clears, Rounds, Script}
@@ -21,7 +21,3 @@ workload (Hits _) = codes "hits"
 workload (Clears _) = codes "clears"
 workload (Rounds _ _) = codes "rounds"
 workload (Script _) = codes "script"
-
--- one more, but the largest number stays
-abbrev pub one_more : ℕ → ℕ
-one_more n = min (n + 1) (2 ^ 64 - 1)

@@ -1,1 +1,5 @@
 pub mod Asked
+pub mod Counted
+pub mod Steps
+pub mod Trials
+pub mod ScriptText

@@ -1,8 +1,7 @@
 //! Counts of what a workload did.
 
-ghost use Rattle.std.specs.Prelude.{◌≡◌, ◌≢◌, ℕ, Some};
-ghost use Rattle.dl_desk.specs.declared.reply.LoadReply.TheVariants.{Hit, Fresh};
-ghost use Rattle.dl_bench.specs.Asked.{one_more};
+ghost use Rattle.std.specs.Prelude.{◌≡◌};
+ghost use Rattle.dl_bench.specs.Counted.{count, counted};
 
 use dl_desk::LoadReply;
 
@@ -22,9 +21,7 @@ pub struct Counts {
 impl Counts {
     /// Counts a load, and a batch where it isn't that of the newest cell.
     pub fn load(&mut self, reply: LoadReply)
-        ensures hit { (cell : ℕ) → reply ≡ Hit cell → self.new ≡ record self.old { hits = one_more self.old.hits } }
-        ensures same_batch { (cell : ℕ) → (batch : ℕ) → reply ≡ Fresh cell batch → self.old.last_batch ≡ Some batch → self.new ≡ record self.old { cells = one_more self.old.cells } }
-        ensures new_batch { (cell : ℕ) → (batch : ℕ) → reply ≡ Fresh cell batch → self.old.last_batch ≢ Some batch → self.new ≡ record self.old { cells = one_more self.old.cells; batches = one_more self.old.batches; last_batch = Some batch } }
+        ensures { self.new ≡ count reply self.old }
     {
         match reply {
             LoadReply::Hit(_) => self.hits = self.hits.saturating_add(1),
@@ -39,7 +36,9 @@ impl Counts {
     }
 
     /// Counts loads.
-    pub fn loads(&mut self, replies: &[LoadReply]) {
+    pub fn loads(&mut self, replies: &[LoadReply])
+        ensures { self.new ≡ counted replies.now self.old }
+    {
         for reply in replies {
             self.load(*reply);
         }

@@ -4,6 +4,7 @@
 
 mod command;
 mod counts;
+mod trial;
 mod workloads;
 
 use crate::command::Command;

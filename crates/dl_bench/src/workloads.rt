@@ -1,10 +1,15 @@
 //! The workloads.
 
-ghost use Rattle.std.specs.Prelude.{◌≡◌, codes, decimal, IfOk};
+ghost use Rattle.std.specs.Prelude.{◌≡◌, ◌≤◌, ◌-◌, ◌==◌, ◌++◌, ℕ, List, [], ◌∷◌, min, count_by, IfOk, string_bytes};
+ghost use Rattle.dl_plans.specs.Run.{Answers};
+ghost use Rattle.dl_bench.specs.Counted.{none};
+ghost use Rattle.dl_bench.specs.Steps.{Loads, Sends, limits_of, added_anew, user, users, load_each, reload_each, parts, round_each};
+ghost use Rattle.dl_bench.specs.ScriptText.{script_text};
 
 use crate::counts::Counts;
+use crate::trial::Trial;
 use anyhow::Result;
-use dl_desk::{Desk, FetchKey, LARGEST_LIMIT, LimitFault, Limits};
+use dl_desk::{FetchKey, LARGEST_LIMIT, LimitFault, Limits};
 use dl_plans::{Input, read_input, run_script};
 use itoa::Buffer;
 use std::alloc::{AllocError, Global};
@@ -14,96 +19,102 @@ use std::alloc::{AllocError, Global};
 const LOADED_TWICE: u32 = 32_768;
 
 /// The limit of a batch, beside the largest other limits.
-fn limits(batch: u32) -> Result<Limits, LimitFault> {
+fn limits(batch: u32) -> Result<Limits, LimitFault>
+    ensures { IfOk result (λ l. l ≡ limits_of batch) }
+{
     Limits::new(batch, LARGEST_LIMIT, LARGEST_LIMIT)
 }
 
 /// The key of a number: its id is the number in decimal.
 fn key_of(alloc: Global, number: u32) -> Result<FetchKey>
-    ensures { IfOk result (λ key. key ≡ record { table = codes "users"; id = decimal number }) }
+    ensures { IfOk result (λ key. key ≡ user number) }
 {
     let mut buffer = Buffer::new();
     Ok(FetchKey::new(alloc, "users", buffer.format(number))?)
 }
 
-/// The keys of the numbers in a range.
-fn keys_of(alloc: Global, from: u32, to: u32) -> Result<Vec<FetchKey>> {
-    let mut keys = Vec::with_capacity(alloc, to.saturating_sub(from) as usize)?;
-    for number in from..to {
+/// The keys of the first numbers.
+fn keys_of(alloc: Global, count: u32) -> Result<Vec<FetchKey>>
+    ensures { IfOk result (λ keys. keys.items ≡ users 0 count) }
+{
+    let mut keys = Vec::with_capacity(alloc, count as usize)?;
+    for number in 0..count {
         keys.push(key_of(alloc, number)?)?;
     }
     Ok(keys)
 }
 
 /// Loads the keys one by one, then dispatches.
-pub fn loads(alloc: Global, keys: u32, batch: u32) -> Result<Counts> {
-    let mut desk = Desk::new(alloc, limits(batch)?);
-    let mut counts = Counts::default();
+pub fn loads(alloc: Global, keys: u32, batch: u32) -> Result<Counts>
+    ensures { IfOk result (λ counts. counts ≡ added_anew batch (load_each (users 0 keys) ++ Sends ∷ []) none) }
+{
+    let mut trial = Trial::new(alloc, limits(batch)?, Counts::default());
     for number in 0..keys {
-        counts.load(desk.load(alloc, &key_of(alloc, number)?)?);
+        trial.load(alloc, &key_of(alloc, number)?)?;
     }
-    counts.jobs = desk.dispatch(alloc)?.len() as u64;
-    Ok(counts)
+    trial.dispatch(alloc)?;
+    Ok(trial.counts)
 }
 
 /// Loads the keys in one call.
-pub fn many(alloc: Global, keys: u32, batch: u32) -> Result<Counts> {
-    let mut desk = Desk::new(alloc, limits(batch)?);
-    let mut counts = Counts::default();
-    let keys = keys_of(alloc, 0, keys)?;
-    counts.loads(desk.load_many(alloc, &keys)?.as_slice());
-    Ok(counts)
+pub fn many(alloc: Global, keys: u32, batch: u32) -> Result<Counts>
+    ensures { IfOk result (λ counts. counts ≡ added_anew batch (Loads (users 0 keys) ∷ []) none) }
+{
+    let mut trial = Trial::new(alloc, limits(batch)?, Counts::default());
+    let keys = keys_of(alloc, keys)?;
+    trial.load_many(alloc, &keys)?;
+    Ok(trial.counts)
 }
 
 /// Loads the keys one by one, and then again.
-pub fn hits(alloc: Global, keys: u32) -> Result<Counts> {
-    let mut desk = Desk::new(alloc, limits(LARGEST_LIMIT)?);
-    let mut counts = Counts::default();
-    let keys = keys_of(alloc, 0, keys)?;
-    for key in &keys {
-        counts.load(desk.load(alloc, key)?);
-    }
-    for key in &keys {
-        counts.load(desk.load(alloc, key)?);
-    }
-    Ok(counts)
+pub fn hits(alloc: Global, keys: u32) -> Result<Counts>
+    ensures { IfOk result (λ counts. counts ≡ added_anew LARGEST_LIMIT (load_each (users 0 keys) ++ load_each (users 0 keys)) none) }
+{
+    let mut trial = Trial::new(alloc, limits(LARGEST_LIMIT)?, Counts::default());
+    let keys = keys_of(alloc, keys)?;
+    trial.load_each(alloc, &keys)?;
+    trial.load_each(alloc, &keys)?;
+    Ok(trial.counts)
 }
 
-/// Loads, clears and loads again each key in turn.
-pub fn clears(alloc: Global, keys: u32) -> Result<Counts> {
-    let mut counts = Counts::default();
-    let mut desk = Desk::new(alloc, limits(LARGEST_LIMIT)?);
-    for number in 0..keys {
-        if number == LOADED_TWICE {
-            desk = Desk::new(alloc, limits(LARGEST_LIMIT)?);
-        }
-        let key = key_of(alloc, number)?;
-        counts.load(desk.load(alloc, &key)?);
-        desk.clear(&key);
-        counts.load(desk.load(alloc, &key)?);
+/// Loads, clears and loads again each key in turn, on a new desk where the first can take no more.
+pub fn clears(alloc: Global, keys: u32) -> Result<Counts>
+    ensures { IfOk result (λ counts. let first = min keys LOADED_TWICE in counts ≡ added_anew LARGEST_LIMIT (reload_each (users first (keys - first))) (added_anew LARGEST_LIMIT (reload_each (users 0 first)) none)) }
+{
+    let first = keys.min(LOADED_TWICE);
+    let counts = reloads(alloc, Counts::default(), 0, first)?;
+    reloads(alloc, counts, first, keys)
+}
+
+/// Loads, clears and loads again the key of each number in a range, on a new desk.
+fn reloads(alloc: Global, counts: Counts, from: u32, to: u32) -> Result<Counts>
+    ensures { IfOk result (λ new. new ≡ added_anew LARGEST_LIMIT (reload_each (users from (to - from))) counts) }
+{
+    let mut trial = Trial::new(alloc, limits(LARGEST_LIMIT)?, counts);
+    for number in from..to {
+        trial.reload(alloc, &key_of(alloc, number)?)?;
     }
-    Ok(counts)
+    Ok(trial.counts)
 }
 
 /// For each batch of keys: loads them in one call, dispatches, and settles what was sent.
-pub fn rounds(alloc: Global, keys: u32, batch: u32) -> Result<Counts> {
+pub fn rounds(alloc: Global, keys: u32, batch: u32) -> Result<Counts>
+    ensures { IfOk result (λ counts. counts ≡ added_anew batch (round_each (parts batch (users 0 keys))) none) }
+{
     let limits = limits(batch)?;
-    let mut desk = Desk::new(alloc, limits);
-    let mut counts = Counts::default();
-    let keys = keys_of(alloc, 0, keys)?;
+    let mut trial = Trial::new(alloc, limits, Counts::default());
+    let keys = keys_of(alloc, keys)?;
     for round in keys.chunks(limits.max_batch() as usize) {
-        counts.loads(desk.load_many(alloc, round)?.as_slice());
-        for job in desk.dispatch(alloc)? {
-            counts.jobs = counts.jobs.saturating_add(1);
-            desk.settle(job.batch)?;
-            counts.settled = counts.settled.saturating_add(1);
-        }
+        trial.load_many(alloc, round)?;
+        trial.settle(alloc)?;
     }
-    Ok(counts)
+    Ok(trial.counts)
 }
 
 /// The text of a script that loads the keys one by one.
-fn script_of(alloc: Global, keys: u32) -> Result<String, AllocError> {
+fn script_of(alloc: Global, keys: u32) -> Result<String, AllocError>
+    ensures { IfOk result (λ script. string_bytes script ≡ script_text keys) }
+{
     let mut text = String::from_str(alloc, "{\"script\":1,\"calls\":[")?;
     for number in 0..keys {
         if number > 0 {
@@ -115,12 +126,21 @@ fn script_of(alloc: Global, keys: u32) -> Result<String, AllocError> {
     Ok(text)
 }
 
+/// How many lines end in a text.
+fn line_count(text: &str) -> u64
+    ensures { result ≡ count_by (λ byte. byte == 10) text.now }
+{
+    text.bytes().filter(|byte| *byte == b'\n').count() as u64
+}
+
 /// Reads a script that loads the keys one by one, answers it, and counts the lines of the answer.
-pub fn script(alloc: Global, keys: u32) -> Result<Counts> {
+pub fn script(alloc: Global, keys: u32) -> Result<Counts>
+    ensures { IfOk result (λ counts. (answer : List ℕ) × Answers (script_text keys) answer × (counts ≡ record none { lines = count_by (λ byte. byte == 10) answer })) }
+{
     let text = script_of(alloc, keys)?;
     let Input::Script(script) = read_input(alloc, text.as_bytes())?;
     let output = run_script(alloc, &script)?;
     let mut counts = Counts::default();
-    counts.lines = output.bytes().filter(|byte| *byte == b'\n').count() as u64;
+    counts.lines = line_count(&output);
     Ok(counts)
 }

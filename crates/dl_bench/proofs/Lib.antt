@@ -1,0 +1,4 @@
+pub mod StepLists
+pub mod Making
+pub mod Parts
+pub mod Texts
