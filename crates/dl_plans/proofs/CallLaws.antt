@@ -1,15 +1,15 @@
 -- A call has one tree: what is found in a tree is what the tree spells, and is found again.
-use Rattle.std.proofs.Common.{◌≡◌, ℕ, zero, suc, ◌^◌, ◌<◌, ◌≤◌, ◌&&◌, Bool, true, false, List, [], ◌∷◌, length, map, codes, if◌then◌else◌, nat_lt, nat_le, bytes_eq, Option, Some, None, option_map, option_and_then, refl, sym, ap, ◌∙◌, arith}
+use Rattle.std.proofs.Common.{◌≡◌, ℕ, suc, ◌^◌, ◌<◌, ◌≤◌, ◌&&◌, Bool, true, false, List, [], ◌∷◌, length, map, codes, if◌then◌else◌, nat_lt, nat_le, bytes_eq, Option, Some, None, option_map, option_and_then, refl, sym, ap, ◌∙◌}
 use Rattle.std.proofs.lemmas.Slice.Eq.{bytes_eq-Decides}
 use Rattle.std.proofs.lemmas.Bool.{leb-true, le-leb}
 use Rattle.std.specs.List.{AllByRecursion}
-use Rattle.serde_json.specs.Data.{Data, Num, unsigned, negative, float, null, boolean, number, string, array, object, Items, no_items, item, Members, no_members, member}
+use Rattle.serde_json.specs.Data.{Data, unsigned, boolean, number, string, array, object, Items, no_items, item, no_members, member}
 use Rattle.serde_json.specs.Find.{as_str}
 use Rattle.serde_json.specs.View.{items_of}
 use Rattle.dl_desk.specs.Key.{Key, IsKey}
 use Rattle.dl_desk.specs.declared.key.TheConstants.{TABLE_BYTES, ID_BYTES}
 use Rattle.dl_plans.specs.Script.{key_tree, one, call_tree, IsCall}
-use Rattle.dl_plans.specs.Reading.{two_of, both, texts_in, is_sized, keyed, key_in, add_key, keys_of, keys_in, is_true, batch_of, number_in, call_named, call_in}
+use Rattle.dl_plans.specs.Reading.{two_of, both, texts_in, is_sized, keyed, key_in, add_key, keys_of, keys_in, is_true, number_in, call_named, call_in}
 use Rattle.dl_plans.specs.declared.script.ScriptCall.{ScriptCall}
 use Rattle.dl_plans.specs.declared.script.ScriptCall.TheVariants.{Load, LoadMany, Prime, Clear, ClearAll, Dispatch, Settle, Fail}
 

@@ -1,18 +1,17 @@
 -- Reading a list of calls one by one.
-use Rattle.std.proofs.Common.{◌≡◌, ℕ, zero, suc, ◌+◌, ◌<◌, ◌≤◌, List, [], ◌∷◌, ◌++◌, length, get_or, take, map, Option, Some, None, refl, sym, ap, ◌∙◌, arith}
+use Rattle.std.proofs.Common.{◌≡◌, ℕ, zero, suc, ◌+◌, ◌<◌, ◌≤◌, List, [], ◌∷◌, ◌++◌, length, get_or, take, map, Some, None, refl, sym, ap, ◌∙◌, arith}
 use Rattle.std.proofs.lemmas.List.{take_more, take_all, map-append}
 use Rattle.std.specs.List.{AllByRecursion}
 use Rattle.serde_json.proofs.Views.{get_item_within}
-use Rattle.serde_json.specs.Data.{Data, Items}
+use Rattle.serde_json.specs.Data.{Data}
 use Rattle.serde_json.specs.Find.{get_item}
 use Rattle.serde_json.specs.View.{view, items_of, items_view}
 use Rattle.serde_json.specs.declared.value.Value.{Value}
 use Rattle.dl_plans.proofs.CallLaws.{call_is, call_again}
-use Rattle.dl_plans.specs.Faults.{IsNoCall, IsBadAt}
+use Rattle.dl_plans.specs.Faults.{IsNoCall}
 use Rattle.dl_plans.specs.Read.{AreCalls, IsFirstBad}
 use Rattle.dl_plans.specs.Reading.{call_in}
-use Rattle.dl_plans.specs.Script.{call_tree, IsCall, calls_tree}
-use Rattle.dl_plans.specs.declared.fault.PlanFault.{PlanFault}
+use Rattle.dl_plans.specs.Script.{call_tree, IsCall}
 use Rattle.dl_plans.specs.declared.fault.PlanFault.TheVariants.{BadCall}
 use Rattle.dl_plans.specs.declared.script.ScriptCall.{ScriptCall}
 

@@ -1,5 +1,5 @@
 -- A document's bytes, and the first bytes of a reader.
-use Rattle.std.proofs.Common.{◌≡◌, ◌⊎◌, inl, inr, ℕ, ◌+◌, ◌<◌, ◌≤◌, List, length, take, Option, Some, None, Result, Ok, Err, refl, arith}
+use Rattle.std.proofs.Common.{◌≡◌, ◌⊎◌, inl, inr, ℕ, ◌<◌, ◌≤◌, List, length, take, Option, Some, None, Result, Ok, Err, arith}
 use Rattle.std.proofs.lemmas.Bool.{cases_lt}
 use Rattle.std.proofs.lemmas.List.{take_all, length-take}
 use Rattle.std.specs.Io.KnownBytes.{Appends}
@@ -8,7 +8,7 @@ use Rattle.std.specs.Result.{OnOk}
 use Rattle.serde_json.specs.Data.{Data}
 use Rattle.dl_plans.specs.Document.{IsTextOf, Spells}
 use Rattle.dl_plans.specs.Output.{input_text}
-use Rattle.dl_plans.specs.Faults.{Applies, IsBefore, IsLeast, number, place}
+use Rattle.dl_plans.specs.Faults.{Applies, IsBefore, IsLeast, number}
 use Rattle.dl_plans.specs.Run.{Answers, AppendsFront, Writes, WritesFront, IsRefused}
 use Rattle.dl_plans.specs.declared.document.TheConstants.{MOST_BYTES}
 use Rattle.dl_plans.specs.declared.fault.PlanFault.{PlanFault}

@@ -1,13 +1,12 @@
 -- Which refusal of a document comes first.
-use Rattle.std.proofs.Common.{◌≡◌, ◌⊎◌, inl, inr, ℕ, zero, suc, ◌<◌, ◌≤◌, ℤ, pos, List, [], ◌∷◌, length, false, true, IsTrue, codes, Some, None, refl, sym, ap, ◌∙◌, arith}
+use Rattle.std.proofs.Common.{◌≡◌, inl, inr, ℕ, zero, suc, ◌<◌, ◌≤◌, ℤ, pos, List, [], ◌∷◌, length, codes, Some, None, refl, sym, ◌∙◌, arith}
 use Rattle.std.specs.List.{AllByRecursion}
 use Rattle.serde_json.specs.Data.{Data, Items}
-use Rattle.serde_json.specs.Find.{get_item}
-use Rattle.dl_desk.specs.Limits.{Limits, IsLimit}
+use Rattle.dl_desk.specs.Limits.{Limits}
 use Rattle.dl_desk.specs.declared.fault.LimitFault.{LimitFault}
 use Rattle.dl_desk.specs.declared.fault.LimitFault.TheVariants.{BatchLimit, CellLimit, CallLimit}
-use Rattle.dl_plans.specs.Document.{IsTextOf, IsScript, SpellsScript, GivesLimit, GivesLimits, items_at, number_at}
-use Rattle.dl_plans.specs.Faults.{limit_name, IsBadTop, HasStrange, LacksCalls, HasNoNumber, IsBadAt, IsBadCall, IsBadLimit, IsOutside, Causes, CausesIn, Applies, IsBefore, IsLeast, number, place}
+use Rattle.dl_plans.specs.Document.{IsTextOf, IsScript, SpellsScript, GivesLimits, items_at, number_at}
+use Rattle.dl_plans.specs.Faults.{limit_name, IsBadTop, HasStrange, LacksCalls, HasNoNumber, IsBadAt, IsBadCall, IsBadLimit, Causes, CausesIn, Applies, IsBefore, IsLeast, number, place}
 use Rattle.dl_plans.specs.Numbers.{AreGiven, IsInside, IsFirstOutside}
 use Rattle.dl_plans.specs.Read.{HasTop, AreCalls, IsFirstBad}
 use Rattle.dl_plans.specs.Script.{IsCall, calls_tree}

@@ -1,6 +1,6 @@
 -- The numbers that a document gives for its limits.
 use Rattle.std.specs.Prelude.{◌≡◌, ℕ, ℤ, pos, codes, Some, None}
-use Rattle.serde_json.specs.Data.{Data, Items}
+use Rattle.serde_json.specs.Data.{Data}
 use Rattle.dl_desk.specs.Limits.{Limits, IsLimit, AreLimits}
 use Rattle.dl_desk.specs.declared.fault.LimitFault.{LimitFault}
 use Rattle.dl_desk.specs.declared.fault.LimitFault.TheVariants.{BatchLimit, CellLimit, CallLimit}

@@ -1,7 +1,7 @@
 -- The command line of `plans`, and what its matches give.
 use Rattle.std.specs.Prelude.{◌≡◌, ◌≤◌, ℕ, ◌∷◌, [], List, true, false, pos, codes, Some}
 use Rattle.std.specs.Str.Parse.{digits_value, without_leading_plus, IsNumeral}
-use Rattle.clap.specs.Words.{App, Shape, Row, Rule, Text, matches_of, new_app, new_rule, one_of, with_rule}
+use Rattle.clap.specs.Words.{App, Shape, Row, Rule, Text, new_app, new_rule, one_of, with_rule}
 use Rattle.clap.specs.Simple.{on_top}
 use Rattle.clap.specs.declared.builder.action.ArgAction.TheVariants.{SetTrue}
 use Rattle.clap.specs.declared.builder.value_parser.ValueParser.TheVariants as vp

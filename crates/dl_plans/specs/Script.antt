@@ -1,5 +1,5 @@
 -- How keys and calls of a script are spelled in JSON: each has one tree.
-use Rattle.std.specs.Prelude.{ℕ, ◌≤◌, ◌^◌, ◌<◌, List, map, true, codes}
+use Rattle.std.specs.Prelude.{ℕ, ◌^◌, ◌<◌, List, map, true, codes}
 use Rattle.std.specs.List.{AllByRecursion}
 use Rattle.serde_json.specs.Data.{Data, unsigned, boolean, number, string, array, object, Items, no_items, item, no_members, member}
 use Rattle.serde_json.specs.View.{items_of}

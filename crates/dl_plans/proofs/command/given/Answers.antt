@@ -1,8 +1,6 @@
-use Rattle.std.proofs.Common.{rules, arith, ◌≡◌, ◌∙◌, sym, Bool, true, false, codes, Some}
+use Rattle.std.proofs.Common.{rules, ◌∙◌, codes}
 use Rattle.clap.proofs.WalkLemmas.{one_text-rows}
-use Rattle.clap.specs.Matches.{one_text}
-use Rattle.clap.specs.Words.{Text, found_of}
-use Rattle.dl_plans.specs.Options.{IsDecimal}
+use Rattle.clap.specs.Words.{found_of}
 use Rattle.dl_plans.proofs.Given.{number_given}
 use Rattle.dl_plans.proofs.command.given.Goals as goal
 

@@ -1,4 +1,4 @@
-use Rattle.std.proofs.Common.{rules, ◌∙◌, rules}
+use Rattle.std.proofs.Common.{◌∙◌}
 use Rattle.dl_plans.proofs.Known.{known_members}
 use Rattle.dl_plans.proofs.document.has_only_known.Goals as goal
 

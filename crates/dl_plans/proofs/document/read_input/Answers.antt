@@ -1,4 +1,4 @@
-use Rattle.std.proofs.Common.{rules, arith, ◌≡◌, IfErr, Err, inl, inr}
+use Rattle.std.proofs.Common.{rules, arith, ◌≡◌, Err, inl, inr}
 use Rattle.serde_json.specs.View.{view}
 use Rattle.dl_plans.specs.Document.{IsTextOf}
 use Rattle.dl_plans.proofs.Verdicts.{least_of, passes}

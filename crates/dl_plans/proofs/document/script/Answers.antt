@@ -1,4 +1,4 @@
-use Rattle.std.proofs.Common.{rules, ◌≡◌, IfErr, Err, inl, inr}
+use Rattle.std.proofs.Common.{rules, ◌≡◌, Err, inl, inr}
 use Rattle.serde_json.specs.View.{view, items_view}
 use Rattle.dl_plans.specs.Document.{IsScript}
 use Rattle.dl_plans.specs.Numbers.{IsFirstOutside}

@@ -1,4 +1,3 @@
-use Rattle.std.proofs.Common.{rules}
 use Rattle.dl_plans.specs.Faults.{HasNoNumber}
 use Rattle.dl_plans.proofs.document.top.Goals as goal
 

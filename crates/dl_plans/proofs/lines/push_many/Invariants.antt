@@ -1,5 +1,5 @@
 -- The lines of the replies so far stand behind the first.
-use Rattle.std.proofs.Common.{◌≡◌, ◌++◌, [], ◌∷◌, codes, decimal, flat_map, length, string_bytes, take}
+use Rattle.std.proofs.Common.{◌≡◌, ◌++◌, codes, decimal, flat_map, length, string_bytes, take}
 use Rattle.dl_plans.specs.Lines.{line, load_line}
 use Rattle.dl_plans.proofs.lines.push_many.Given as goal
 

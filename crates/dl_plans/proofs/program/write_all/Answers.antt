@@ -1,4 +1,4 @@
-use Rattle.std.proofs.Common.{rules, arith, length, take, drop, ◌-◌}
+use Rattle.std.proofs.Common.{rules, length, take, drop, ◌-◌}
 use Rattle.std.proofs.lemmas.List.{take_rest}
 use Rattle.dl_plans.proofs.Bytes.{wrote_more}
 use Rattle.dl_plans.proofs.program.write_all.Goals as goal
