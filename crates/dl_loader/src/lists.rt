@@ -1,8 +1,9 @@
 //! Lists in the replies of events, which contracts see as lists.
 
-ghost use Rattle.std.specs.Prelude.{◌≡◌};
+ghost use Rattle.std.specs.Prelude.{◌≡◌, IfOk};
 
 use dl_desk::{Job, LoadReply};
+use std::alloc::{AllocError, Global};
 use std::marker::Model;
 
 /// The replies to the loads of a loadMany, in the order of its keys. Contracts see the list.
@@ -30,6 +31,13 @@ impl Replies {
         ensures { result ≡ replies.items }
     {
         Replies { replies }
+    }
+
+    /// A copy of these replies. The error is want of memory.
+    pub fn copy_of(alloc: Global, replies: &[LoadReply]) -> Result<Replies, AllocError>
+        ensures { IfOk result (λ copy. copy ≡ replies.now) }
+    {
+        Ok(Replies::new(replies.to_vec(alloc)?))
     }
 
     /// The replies, in order.

@@ -7,10 +7,12 @@ ghost use Rattle.dl_loader.specs.Lists.{Among, Every};
 ghost use Rattle.dl_loader.specs.Pass.{with_tickets};
 ghost use Rattle.dl_loader.specs.Replies.{loads_in};
 
+use crate::loader::Loader;
 use crate::name::LoaderName;
 use crate::pass::Pass;
 use crate::ticket::load_cell;
 use dl_desk::{DeskReply, LoadReply};
+use std::alloc::Global;
 
 /// The replies to loads, where the reply is to loads.
 pub(crate) fn loads_in(reply: &DeskReply) -> &[LoadReply]
@@ -19,6 +21,16 @@ pub(crate) fn loads_in(reply: &DeskReply) -> &[LoadReply]
     match reply {
         DeskReply::Loads(replies) => replies.as_slice(),
         DeskReply::Primed(_) | DeskReply::Sent(_) => &[],
+    }
+}
+
+/// The replies to loads by value, where the reply is to loads. It takes no memory.
+pub(crate) fn into_loads(alloc: Global, reply: DeskReply) -> Vec<LoadReply>
+    ensures { result.items ≡ loads_in reply }
+{
+    match reply {
+        DeskReply::Loads(replies) => replies,
+        DeskReply::Primed(_) | DeskReply::Sent(_) => Vec::new(alloc),
     }
 }
 
@@ -34,6 +46,19 @@ pub(crate) fn cells_begun(replies: &[LoadReply]) -> usize
         }
     }
     cells
+}
+
+impl<L: LoaderName> Loader<L> {
+    /// How many cells the loads began, where these are no more than may be begun.
+    pub(crate) fn new_cells(&self, replies: &[LoadReply]) -> u32
+        requires { cells_begun replies.now ≤ L.rules.limits.max_cells }
+        ensures { result ≡ cells_begun replies.now }
+    {
+        let most = self.limits().max_cells() as usize;
+        let cells = cells_begun(replies);
+        prove!(cells <= most);
+        cells as u32
+    }
 }
 
 /// Adds a ticket for each load. It takes no memory.

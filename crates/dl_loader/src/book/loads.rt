@@ -1,0 +1,89 @@
+//! The loads of keys, as events.
+
+ghost use Rattle.std.specs.Prelude.{◌≡◌, IfErr, IfOk, None, OnErr, OnOk};
+ghost use Rattle.dl_loader.specs.declared.event.Call.TheVariants.{Load, LoadMany};
+ghost use Rattle.dl_loader.specs.Service.{service};
+ghost use Rattle.dl_loader.specs.Journal.{refusals};
+ghost use Rattle.dl_loader.specs.Made.{Makes};
+ghost use Rattle.dl_loader.specs.Refusals.{IsRefusal, refusal, unready};
+
+use crate::book::Book;
+use crate::event::{Call, Event, Reply};
+use crate::fault::CallFault;
+use crate::lists::Replies;
+use crate::loader::Loader;
+use crate::loads::{add_tickets, into_loads, loads_in};
+use crate::name::LoaderName;
+use crate::pass::Pass;
+use crate::ticket::load_cell;
+use dl_desk::{FetchKey, Keys};
+use std::alloc::Global;
+use std::slice;
+
+impl<L: LoaderName> Book<L> {
+    /// Loads a key, as an event of the pass, which gets a ticket.
+    ///
+    /// # Errors
+    /// `CellsFull` where the key isn't held and all cells are begun; `OutOfMemory`; `LogRefused`.
+    pub(crate) fn load(
+        &mut self,
+        alloc: Global,
+        loader: &Loader<L>,
+        pass: &mut Pass<L>,
+        key: &FetchKey,
+    ) -> Result<Reply, CallFault>
+        requires ready { unready (service L.rules L.parts L.answer) self.old pass.old.part ≡ None }
+        ensures made { IfOk result (λ reply. Makes self.old pass.old.part (Load key.now) reply self.new pass.new.part) }
+        ensures accepted { OnOk result (refusal (service L.rules L.parts L.answer) self.old pass.old.part (Load key.now) None ≡ None) }
+        ensures refused { OnOk result (refusals self.new.cells ≡ refusals self.old.cells) }
+        ensures fault { IfErr result (IsRefusal (service L.rules L.parts L.answer) self.old pass.old.part (Load key.now) None) }
+        ensures unchanged { OnErr result ((self.new ≡ self.old) × (pass.new.part ≡ pass.old.part)) }
+    {
+        let ready = self.desk.ready_loads(alloc, slice::from_ref(key))?;
+        let loads = loads_in(ready.reply());
+        let reply = loads[0];
+        let event = Event {
+            caller: pass.caller(),
+            call: Call::Load(key.try_copy()?),
+            reply: Reply::Loaded(reply),
+        };
+        let cells = loader.new_cells(loads);
+        loader.record(alloc, &mut self.journal, pass, event, cells, 1)?;
+        self.desk.commit(ready);
+        pass.add_ticket(load_cell(reply));
+        Ok(Reply::Loaded(reply))
+    }
+
+    /// Loads keys in order, as one event of the pass, which gets a ticket for each.
+    ///
+    /// # Errors
+    /// `CellsFull` where the new cells, one for each distinct key that isn't held, are more than may be
+    /// begun; `OutOfMemory`; `LogRefused`.
+    pub(crate) fn load_many(
+        &mut self,
+        alloc: Global,
+        loader: &Loader<L>,
+        pass: &mut Pass<L>,
+        keys: &[FetchKey],
+    ) -> Result<Reply, CallFault>
+        requires ready { unready (service L.rules L.parts L.answer) self.old pass.old.part ≡ None }
+        ensures made { IfOk result (λ reply. Makes self.old pass.old.part (LoadMany keys.now) reply self.new pass.new.part) }
+        ensures accepted { OnOk result (refusal (service L.rules L.parts L.answer) self.old pass.old.part (LoadMany keys.now) None ≡ None) }
+        ensures refused { OnOk result (refusals self.new.cells ≡ refusals self.old.cells) }
+        ensures fault { IfErr result (IsRefusal (service L.rules L.parts L.answer) self.old pass.old.part (LoadMany keys.now) None) }
+        ensures unchanged { OnErr result ((self.new ≡ self.old) × (pass.new.part ≡ pass.old.part)) }
+    {
+        let ready = self.desk.ready_loads(alloc, keys)?;
+        let loads = loads_in(ready.reply());
+        let event = Event {
+            caller: pass.caller(),
+            call: Call::LoadMany(Keys::copy_of(alloc, keys)?),
+            reply: Reply::Many(Replies::copy_of(alloc, loads)?),
+        };
+        let cells = loader.new_cells(loads);
+        loader.record(alloc, &mut self.journal, pass, event, cells, loads.len())?;
+        let replies = into_loads(alloc, self.desk.commit(ready));
+        add_tickets(pass, replies.as_slice());
+        Ok(Reply::Many(Replies::new(replies)))
+    }
+}
