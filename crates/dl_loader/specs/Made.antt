@@ -1,12 +1,17 @@
 -- What an event that was made leaves in the book and in the pass of its caller.
-use Rattle.std.specs.Prelude.{◌≡◌, ℕ, List, [], ◌∷◌, ◌++◌, length}
+use Rattle.std.specs.Prelude.{◌≡◌, ℕ, ◌≤◌, List, [], ◌∷◌, ◌++◌, length, Option}
+use Rattle.dl_desk.specs.declared.reply.Job.{Job}
 use Rattle.dl_desk.specs.declared.reply.LoadReply.{LoadReply}
 use Rattle.dl_loader.specs.declared.event.Event.{Event}
 use Rattle.dl_loader.specs.declared.event.Call.{Call}
 use Rattle.dl_loader.specs.declared.event.Reply.{Reply}
 use Rattle.dl_loader.specs.declared.event.Reply.TheVariants.{Loaded, Many, Primed, Kept, Done, Sent}
 use Rattle.dl_loader.specs.Pass.{Part, with_call, with_tickets}
-use Rattle.dl_loader.specs.Book.{Locked}
+use Rattle.dl_loader.specs.Service.{Service}
+use Rattle.dl_loader.specs.Entries.{front_of}
+use Rattle.dl_loader.specs.Book.{Locked, Keeps}
+use Rattle.dl_loader.specs.Refusals.{IsRefusal}
+use Rattle.dl_loader.specs.declared.fault.CallFault.{CallFault}
 
 -- the event of a caller's call
 abbrev pub event_of : Part → Call → Reply → Event
@@ -30,3 +35,13 @@ pub record Makes (before : Locked) (old : Part) (call : Call) (reply : Reply) (n
   pub history : now.history ≡ before.history ++ event_of old call reply ∷ []
   pub part : new ≡ with_event old (length before.history) call reply
   pub stopped : now.stopped ≡ before.stopped
+
+-- ---- what a caller knows of a call that was made under the lock
+
+-- at a book of the loader, which had at least the events that the pass had seen, the call was made so
+abbrev pub WasMade : Service → Part → Call → Reply → Part → Type 0
+WasMade service old call reply new = (before now : Locked) × Keeps service before × Keeps service now × (front_of old.entries ≤ length before.history) × Makes before old call reply now new
+
+-- at a book of the loader the call was refused so
+abbrev pub WasRefused : Service → Part → Call → Option Job → CallFault → Type 0
+WasRefused service p call job fault = (before : Locked) × Keeps service before × IsRefusal service before p call job fault
