@@ -16,3 +16,4 @@ pub mod Kept
 mod BlankReaders
 pub mod KeptEnds
 pub mod KeptCalls
+pub mod KeyEvents

@@ -1,8 +1,9 @@
 //! Lists in the replies of events, which contracts see as lists.
 
-ghost use Rattle.std.specs.Prelude.{◌≡◌};
+ghost use Rattle.std.specs.Prelude.{◌≡◌, IfOk};
 
 use dl_desk::{Job, LoadReply};
+use std::alloc::{AllocError, Global};
 use std::marker::Model;
 
 /// The replies to the loads of a loadMany, in the order of its keys. Contracts see the list.
@@ -65,6 +66,17 @@ impl Jobs {
         ensures { result ≡ jobs.items }
     {
         Jobs { jobs }
+    }
+
+    /// Copies of the jobs, which share the keys. The error is want of memory.
+    pub fn copy_of(alloc: Global, jobs: &[Job]) -> Result<Jobs, AllocError>
+        ensures { IfOk result (λ copies. copies ≡ jobs.now) }
+    {
+        let mut copies = Vec::with_capacity(alloc, jobs.len())?;
+        for job in jobs {
+            copies.push(job.try_copy()?)?;
+        }
+        Ok(Jobs { jobs: copies })
     }
 
     /// The jobs, in order.
