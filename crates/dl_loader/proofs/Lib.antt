@@ -17,3 +17,4 @@ mod BlankReaders
 pub mod KeptEnds
 pub mod KeptCalls
 mod LoadEvents
+pub mod KeyEvents

@@ -8,6 +8,7 @@ ghost use Rattle.dl_loader.specs.Entries.{cell_of_load, front_of};
 ghost use Rattle.dl_loader.specs.Refusals.{unready};
 
 mod loads;
+mod keys;
 
 use crate::fault::CallFault;
 use crate::journal::Journal;

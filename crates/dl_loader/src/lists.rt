@@ -75,6 +75,17 @@ impl Jobs {
         Jobs { jobs }
     }
 
+    /// Copies of the jobs, which share the keys. The error is want of memory.
+    pub fn copy_of(alloc: Global, jobs: &[Job]) -> Result<Jobs, AllocError>
+        ensures { IfOk result (λ copies. copies ≡ jobs.now) }
+    {
+        let mut copies = Vec::with_capacity(alloc, jobs.len())?;
+        for job in jobs {
+            copies.push(job.try_copy()?)?;
+        }
+        Ok(Jobs { jobs: copies })
+    }
+
     /// The jobs, in order.
     pub fn as_slice(&self) -> &[Job]
         ensures { result.now ≡ self.now }

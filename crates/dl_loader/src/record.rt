@@ -62,8 +62,8 @@ impl<L: LoaderName> Loader<L> {
         Ok(())
     }
 
-    // The place of the next event.
-    fn place(&self, journal: &Journal<L>) -> u16
+    /// The place of the next event.
+    pub(crate) fn place(&self, journal: &Journal<L>) -> u16
         requires { length journal.now.history < L.rules.limits.max_calls }
         ensures { result ≡ length journal.now.history }
     {

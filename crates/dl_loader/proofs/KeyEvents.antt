@@ -1,0 +1,242 @@
+-- What the book of a loader keeps after a call on a key, a clear of all keys and a dispatch, told by what the
+-- record of the event and the desk promise.
+use Rattle.std.proofs.Common.{◌≡◌, ◌∙◌, sym, ap, subst, ℕ, ◌+◌, ◌<◌, Bool, true, false, cond, List, [], ◌∷◌, ◌++◌, length, set, Option, Some, None, MatchBool, slice_get, nat_lt, nat_le, refl, arith}
+use Rattle.std.specs.List.{fold, repeat}
+use Rattle.std.proofs.lemmas.Bool.{leb-false}
+use Rattle.dl_desk.specs.Key.{Key}
+use Rattle.dl_desk.specs.Limits.{Rules}
+use Rattle.dl_desk.specs.History.{Atom, prime_reply, jobs}
+use Rattle.dl_desk.specs.History as atom
+use Rattle.dl_desk.specs.Events.{atoms}
+use Rattle.dl_desk.specs.Calls.{DeskCall, Primes, Clears, ClearsAll, Sends, refusal, after}
+use Rattle.dl_desk.specs.Book.{Book, Desk, StandsFor}
+use Rattle.dl_desk.specs.Ready.{IsReplyTo, IsReadyFor}
+use Rattle.dl_desk.specs.declared.outcome.Outcome.{Outcome}
+use Rattle.dl_desk.specs.declared.ready.Ready.{Ready}
+use Rattle.dl_desk.specs.declared.reply.DeskPrime.{DeskPrime}
+use Rattle.dl_desk.specs.declared.reply.DeskPrime.TheVariants as prime
+use Rattle.dl_desk.specs.declared.reply.DeskReply.{DeskReply}
+use Rattle.dl_desk.specs.declared.reply.DeskReply.TheVariants as desk
+use Rattle.dl_desk.specs.declared.reply.Job.{Job}
+use Rattle.dl_loader.specs.declared.event.Event.{Event}
+use Rattle.dl_loader.specs.declared.event.Ending.{Ending}
+use Rattle.dl_loader.specs.declared.event.Call.{Call}
+use Rattle.dl_loader.specs.declared.event.Call.TheVariants.{Prime, Clear, ClearAll, Dispatch}
+use Rattle.dl_loader.specs.declared.event.Reply.{Reply}
+use Rattle.dl_loader.specs.declared.event.Reply.TheVariants.{Primed, Kept, Done, Sent}
+use Rattle.dl_loader.specs.declared.fault.CallFault.{CallFault}
+use Rattle.dl_loader.specs.declared.fault.CallFault.TheVariants.{Stopped, Behind, LogFull}
+use Rattle.dl_loader.specs.Service.{Service}
+use Rattle.dl_loader.specs.History.{log, primed, IsNext}
+use Rattle.dl_loader.specs.Entries.{front_of}
+use Rattle.dl_loader.specs.Journal.{Cell, waiting, ended, refused, is_refused, refusals}
+use Rattle.dl_loader.specs.Book.{Locked, locked, ShowsEnd, Keeps}
+use Rattle.dl_loader.specs.Pass.{Part}
+use Rattle.dl_loader.specs.Refusals.{unready}
+use Rattle.dl_loader.specs.Replies.{jobs_in, primed_in}
+use Rattle.dl_loader.proofs.Logs.{get-append_at}
+use Rattle.dl_loader.proofs.Endings.{primed_cell}
+use Rattle.dl_loader.proofs.CellLists.{repeat_none, set_last, gets_end}
+use Rattle.dl_loader.proofs.Kept.{begun_cells}
+use Rattle.dl_loader.proofs.KeptCalls.{keeps_clear, keeps_clear_all, keeps_dispatch, keeps_prime_held, keeps_prime_new}
+
+-- ---- room for an event
+
+room_at : (limit n : ℕ) (behind full : Bool) (why : CallFault) → nat_le limit n ≡ full → cond behind (Some why) (cond full (Some (LogFull limit)) None) ≡ None → n < limit
+room_at limit n true full why test none = absurd (let bad : ◌≡◌ {A = Option CallFault} (Some why) None = none in cc)
+room_at limit n false true why test none = absurd (let bad : ◌≡◌ {A = Option CallFault} (Some (LogFull limit)) None = none in cc)
+room_at limit n false false why test none = leb-false limit n test
+
+ready_at : (limit n front : ℕ) (stopped : Bool) → cond stopped (Some Stopped) (cond (nat_lt n front) (Some (Behind front n)) (cond (nat_le limit n) (Some (LogFull limit)) None)) ≡ None → n < limit
+ready_at limit n front true none = absurd (let bad : ◌≡◌ {A = Option CallFault} (Some Stopped) None = none in cc)
+ready_at limit n front false none = room_at limit n (nat_lt n front) (nat_le limit n) (Behind front n) refl none
+
+-- where a pass may make an event, the history is not full
+pub ready_room : (s : Service) (b : Locked) (p : Part) (es : List Event) (d : Book) (xs : List Cell) (stopped : Bool) → locked es d xs stopped ≡ b → unready s b p ≡ None → length es < s.rules.limits.max_calls
+ready_room s b p es d xs stopped view ready =
+    let same : b.history ≡ es = ap (λ (x : Locked). x.history) (sym view) in
+    subst (λ (hs : List Event). length hs < s.rules.limits.max_calls) same (ready_at s.rules.limits.max_calls (length b.history) (front_of p.entries) b.stopped ready)
+
+-- ---- an event with no cells
+
+abbrev pub event : ℕ → Call → Reply → Event
+event caller call reply = record { caller = caller; call = call; reply = reply }
+
+-- the book with the history and the cells that the record left
+recorded : (s : Service) (es now : List Event) (e : Event) (d : Book) (xs ys : List Cell) (stopped : Bool) → now ≡ es ++ e ∷ [] → ys ≡ xs ++ repeat 0 (waiting ∷ []) → Keeps s (locked (es ++ e ∷ []) d xs stopped) → Keeps s (locked now d ys stopped)
+recorded s es now e d xs ys stopped history cells kept =
+    let same : ys ≡ xs = cells ∙ sym (repeat_none xs waiting) in
+    let with_cells : Keeps s (locked (es ++ e ∷ []) d ys stopped) = subst (λ (cs : List Cell). Keeps s (locked (es ++ e ∷ []) d cs stopped)) (sym same) kept in
+    subst (λ (hs : List Event). Keeps s (locked hs d ys stopped)) (sym history) with_cells
+
+-- after a clear of a key, where the event has a copy of the key
+pub clear_kept : (s : Service) (b : Locked) (p : Part) (es now : List Event) (k j : Key) (caller : ℕ) (old new : Book) (xs ys : List Cell) (stopped : Bool)
+    → locked es old xs stopped ≡ b → unready s b p ≡ None → Keeps s (locked es old xs stopped) → caller ≡ p.caller → p.caller < s.callers → k ≡ j
+    → now ≡ es ++ event caller (Clear k) Done ∷ [] → ys ≡ xs ++ repeat 0 (waiting ∷ [])
+    → new.rules ≡ old.rules → ((h : List Atom) → StandsFor old h → StandsFor new (after old.rules h (Clears j)))
+    → Keeps s (locked now new ys stopped)
+clear_kept s b p es now k j caller old new xs ys stopped view ready kept own below copy history cells rules stands =
+    let e : Event = event caller (Clear k) Done in
+    let next : IsNext s es e = record { caller = omega arith; reply = refl; made = tt } in
+    let stands_now : StandsFor new (atom.Clear k ∷ atoms (log es)) = subst (λ (x : Key). StandsFor new (atom.Clear x ∷ atoms (log es))) (sym copy) (stands (atoms (log es)) kept.desk) in
+    recorded s es now e new xs ys stopped history cells (keeps_clear s es e k old new xs stopped kept next refl (ready_room s b p es old xs stopped view ready) rules stands_now)
+
+-- after a clear of all keys
+pub clear_all_kept : (s : Service) (b : Locked) (p : Part) (es now : List Event) (caller : ℕ) (old new : Book) (xs ys : List Cell) (stopped : Bool)
+    → locked es old xs stopped ≡ b → unready s b p ≡ None → Keeps s (locked es old xs stopped) → caller ≡ p.caller → p.caller < s.callers
+    → now ≡ es ++ event caller ClearAll Done ∷ [] → ys ≡ xs ++ repeat 0 (waiting ∷ [])
+    → new.rules ≡ old.rules → ((h : List Atom) → StandsFor old h → StandsFor new (after old.rules h ClearsAll))
+    → Keeps s (locked now new ys stopped)
+clear_all_kept s b p es now caller old new xs ys stopped view ready kept own below history cells rules stands =
+    let e : Event = event caller ClearAll Done in
+    let next : IsNext s es e = record { caller = omega arith; reply = refl; made = tt } in
+    recorded s es now e new xs ys stopped history cells (keeps_clear_all s es e old new xs stopped kept next refl (ready_room s b p es old xs stopped view ready) rules (stands (atoms (log es)) kept.desk))
+
+-- ---- a call that the desk has prepared
+
+-- the facts of a desk whose book is a loader's: it stands for the history
+desk_stands : (s : Service) (es : List Event) (old : Book) (xs : List Cell) (stopped : Bool) (d : Book) → d ≡ old → Keeps s (locked es old xs stopped) → StandsFor d (atoms (log es))
+desk_stands s es old xs stopped d same kept = subst (λ (x : Book). StandsFor x (atoms (log es))) (sym same) kept.desk
+
+-- a commit of what is ready leaves a desk that stands for the history with the call
+abbrev pub Commits : Desk → Ready → Book → Type 0
+Commits d ready new = (call : DeskCall) → IsReadyFor d call ready → (h : List Atom) → StandsFor d.book h → StandsFor new (after d.book.rules h call)
+
+-- the jobs of the reply to a dispatch
+jobs_of : (rules : Rules) (h : List Atom) (r : DeskReply) → IsReplyTo rules h Sends r → jobs_in r ≡ jobs h
+jobs_of rules h (desk.Loads replies) is = absurd is
+jobs_of rules h (desk.Primed r) is = absurd is
+jobs_of rules h (desk.Sent sent) is = is
+
+-- after a dispatch
+pub dispatch_kept : (s : Service) (b : Locked) (p : Part) (es now : List Event) (js : List Job) (caller : ℕ) (d : Desk) (call : Ready) (old new : Book) (xs ys : List Cell) (stopped : Bool)
+    → locked es old xs stopped ≡ b → unready s b p ≡ None → Keeps s (locked es old xs stopped) → caller ≡ p.caller → p.caller < s.callers
+    → d.book ≡ old → IsReadyFor d Sends call → js ≡ jobs_in call.reply
+    → now ≡ es ++ event caller Dispatch (Sent js) ∷ [] → ys ≡ xs ++ repeat 0 (waiting ∷ [])
+    → new.rules ≡ d.book.rules → Commits d call new
+    → Keeps s (locked now new ys stopped)
+dispatch_kept s b p es now js caller d call old new xs ys stopped view ready kept own below same is_ready copies history cells rules stands =
+    let H = atoms (log es) in
+    let e : Event = event caller Dispatch (Sent js) in
+    let for_history : StandsFor d.book H = desk_stands s es old xs stopped d.book same kept in
+    let all : js ≡ jobs H = copies ∙ jobs_of d.book.rules H call.reply (is_ready.reply H for_history) in
+    let next : IsNext s es e = record { caller = omega arith; reply = ap Sent all; made = tt } in
+    let rules_now : new.rules ≡ old.rules = rules ∙ ap (λ (x : Book). x.rules) same in
+    recorded s es now e new xs ys stopped history cells (keeps_dispatch s es e old new xs stopped kept next refl (ready_room s b p es old xs stopped view ready) rules_now (stands Sends is_ready H for_history))
+
+-- ---- a prime
+
+-- the desk's reply to a prime
+primed_of : (rules : Rules) (h : List Atom) (k : Key) (r : DeskReply) → IsReplyTo rules h (Primes k) r → primed_in r ≡ prime_reply h k
+primed_of rules h k (desk.Loads replies) is = absurd is
+primed_of rules h k (desk.Primed r) is = is
+primed_of rules h k (desk.Sent sent) is = absurd is
+
+-- An event that a prime of a key is to make: with the pass's caller, a copy of the key, and the reply that the
+-- desk has ready.
+pub record IsPrime (s : Service) (p : Part) (k j : Key) (caller : ℕ) (reply : Reply) (r : DeskPrime) (d : Desk) (call : Ready) (old : Book) : Type 0 where
+  pub own : caller ≡ p.caller
+  pub below : p.caller < s.callers
+  pub copy : k ≡ j
+  pub replies : reply ≡ primed r
+  pub told : r ≡ primed_in call.reply
+  pub same : d.book ≡ old
+  pub is_ready : IsReadyFor d (Primes j) call
+
+prime_told : (s : Service) (p : Part) (es : List Event) (k j : Key) (caller : ℕ) (reply : Reply) (r : DeskPrime) (d : Desk) (call : Ready) (old : Book) (xs : List Cell) (stopped : Bool)
+    → Keeps s (locked es old xs stopped) → IsPrime s p k j caller reply r d call old → r ≡ prime_reply (atoms (log es)) k
+prime_told s p es k j caller reply r d call old xs stopped kept is =
+    let H = atoms (log es) in
+    let by_desk : primed_in call.reply ≡ prime_reply H j = primed_of d.book.rules H j call.reply (is.is_ready.reply H (desk_stands s es old xs stopped d.book is.same kept)) in
+    is.told ∙ (by_desk ∙ sym (ap (prime_reply H) is.copy))
+
+prime_next : (s : Service) (p : Part) (es : List Event) (k j : Key) (o : Outcome) (caller : ℕ) (reply : Reply) (r : DeskPrime) (d : Desk) (call : Ready) (old : Book) (xs : List Cell) (stopped : Bool)
+    → Keeps s (locked es old xs stopped) → IsPrime s p k j caller reply r d call old → IsNext s es (event caller (Prime k o) reply)
+prime_next s p es k j o caller reply r d call old xs stopped kept is =
+    let own = is.own in
+    let below = is.below in
+    let told = prime_told s p es k j caller reply r d call old xs stopped kept is in
+    record { caller = omega arith; reply = is.replies ∙ ap primed told; made = tt }
+
+prime_stands : (s : Service) (p : Part) (es : List Event) (k j : Key) (caller : ℕ) (reply : Reply) (r : DeskPrime) (d : Desk) (call : Ready) (old new : Book) (xs : List Cell) (stopped : Bool)
+    → Keeps s (locked es old xs stopped) → IsPrime s p k j caller reply r d call old → Commits d call new → StandsFor new (atom.Prime k (prime_reply (atoms (log es)) k) ∷ atoms (log es))
+prime_stands s p es k j caller reply r d call old new xs stopped kept is stands =
+    let H = atoms (log es) in
+    let now : StandsFor new (atom.Prime j (prime_reply H j) ∷ H) = stands (Primes j) is.is_ready H (desk_stands s es old xs stopped d.book is.same kept) in
+    subst (λ (x : Key). StandsFor new (atom.Prime x (prime_reply H x) ∷ H)) (sym is.copy) now
+
+-- after a prime of a key that is held
+pub held_kept : (s : Service) (b : Locked) (p : Part) (es now : List Event) (k j : Key) (o : Outcome) (caller : ℕ) (reply : Reply) (r : DeskPrime) (d : Desk) (call : Ready) (old new : Book) (xs ys : List Cell) (stopped : Bool)
+    → locked es old xs stopped ≡ b → unready s b p ≡ None → Keeps s (locked es old xs stopped) → IsPrime s p k j caller reply r d call old → r ≡ prime.Kept
+    → now ≡ es ++ event caller (Prime k o) reply ∷ [] → ys ≡ xs ++ repeat 0 (waiting ∷ [])
+    → new.rules ≡ d.book.rules → Commits d call new
+    → Keeps s (locked now new ys stopped)
+held_kept s b p es now k j o caller reply r d call old new xs ys stopped view ready kept is held history cells rules stands =
+    let e : Event = event caller (Prime k o) reply in
+    let next : IsNext s es e = prime_next s p es k j o caller reply r d call old xs stopped kept is in
+    let rules_now : new.rules ≡ old.rules = rules ∙ ap (λ (x : Book). x.rules) is.same in
+    let stands_now = prime_stands s p es k j caller reply r d call old new xs stopped kept is stands in
+    recorded s es now e new xs ys stopped history cells (keeps_prime_held s es e k o old new xs stopped kept next refl (is.replies ∙ ap primed held) (ready_room s b p es old xs stopped view ready) rules_now stands_now)
+
+-- a new cell is the next one
+pub primed_next : (s : Service) (p : Part) (es : List Event) (k j : Key) (o : Outcome) (caller c : ℕ) (reply : Reply) (r : DeskPrime) (d : Desk) (call : Ready) (old : Book) (xs : List Cell) (stopped : Bool)
+    → Keeps s (locked es old xs stopped) → IsPrime s p k j caller reply r d call old → r ≡ prime.Primed c → c ≡ length xs
+primed_next s p es k j o caller c reply r d call old xs stopped kept is new =
+    let next = prime_next s p es k j o caller reply r d call old xs stopped kept is in
+    let counted = primed_cell s es (event caller (Prime k o) reply) k o c next refl (is.replies ∙ ap primed new) in
+    counted ∙ sym (begun_cells s es old xs stopped kept)
+
+-- and it waits until it has its end
+pub primed_waits : (xs mids : List Cell) (c : ℕ) → mids ≡ xs ++ repeat 1 (waiting ∷ []) → c ≡ length xs → slice_get mids c ≡ Some waiting
+primed_waits xs mids c cells new = rw (cells, new) (get-append_at xs waiting [])
+
+-- the cells once the new one has its end
+ended_new : (xs mids ys : List Cell) (c : ℕ) (x : Cell) → mids ≡ xs ++ repeat 1 (waiting ∷ []) → c ≡ length xs → ys ≡ set mids c x → ys ≡ xs ++ x ∷ []
+ended_new xs mids ys c x cells new is = rw (is, cells, new) (set_last xs waiting x)
+
+ending_is : (end : Ending) (at n : ℕ) (o given : Outcome) → end ≡ record { at = at; outcome = given } → at ≡ n → o ≡ given → end ≡ record { at = n; outcome = o }
+ending_is end at n o given is place copy = rw (is, place, copy) refl
+
+-- after a prime of a key that is not held, whose cell has its end
+pub primed_kept : (s : Service) (b : Locked) (p : Part) (es now : List Event) (k j : Key) (o : Outcome) (caller c : ℕ) (reply : Reply) (r : DeskPrime) (d : Desk) (call : Ready) (old new : Book) (xs mids ys : List Cell) (stopped took : Bool) (end : Ending) (at : ℕ) (given : Outcome)
+    → locked es old xs stopped ≡ b → unready s b p ≡ None → Keeps s (locked es old xs stopped) → IsPrime s p k j caller reply r d call old → r ≡ prime.Primed c
+    → ((h : List Atom) → StandsFor old h → refusal old.rules h (Primes j) ≡ None)
+    → now ≡ es ++ event caller (Prime k o) reply ∷ [] → mids ≡ xs ++ repeat 1 (waiting ∷ [])
+    → new.rules ≡ d.book.rules → Commits d call new
+    → end ≡ record { at = at; outcome = given } → at ≡ length es → o ≡ given
+    → MatchBool took (ys ≡ set mids c (ended end)) ((other : Option Ending) × (ys ≡ set mids c (refused other)))
+    → Keeps s (locked now new ys stopped)
+primed_kept s b p es now k j o caller c reply r d call old new xs mids ys stopped took end at given view ready kept is fresh accepted history cells rules stands ending place copy ends =
+    let H = atoms (log es) in
+    let e : Event = event caller (Prime k o) reply in
+    let next : IsNext s es e = prime_next s p es k j o caller reply r d call old xs stopped kept is in
+    let last : c ≡ length xs = primed_next s p es k j o caller c reply r d call old xs stopped kept is fresh in
+    let rules_now : new.rules ≡ old.rules = rules ∙ ap (λ (x : Book). x.rules) is.same in
+    let stands_now = prime_stands s p es k j caller reply r d call old new xs stopped kept is stands in
+    let none : refusal old.rules H (Primes k) ≡ None = subst (λ (x : Key). refusal old.rules H (Primes x) ≡ None) (sym is.copy) (accepted H kept.desk) in
+    let cell = gets_end took mids ys c end ends in
+    let shows = subst (λ (x : Ending). ShowsEnd (Some x) cell.0.mark cell.0.shows) (ending_is end at (length es) o given ending place copy) cell.2 in
+    let all : Keeps s (locked (es ++ e ∷ []) new ys stopped) = keeps_prime_new s es e k o c old new xs ys cell.0 stopped kept next refl (is.replies ∙ ap primed fresh) (ready_room s b p es old xs stopped view ready) rules_now stands_now none shows (ended_new xs mids ys c cell.0 cells last cell.1) in
+    subst (λ (hs : List Event). Keeps s (locked hs new ys stopped)) (sym history) all
+
+-- ---- how many cells refused their outcome
+
+refused-onto : (n : ℕ) (xs : List Cell) (x : Cell) → fold (λ (m : ℕ) (y : Cell). m + cond (is_refused y.mark) 1 0) n (xs ++ x ∷ []) ≡ fold (λ (m : ℕ) (y : Cell). m + cond (is_refused y.mark) 1 0) n xs + cond (is_refused x.mark) 1 0
+refused-onto n [] x = refl
+refused-onto n (y ∷ xs) x = refused-onto (n + cond (is_refused y.mark) 1 0) xs x
+
+refusals-snoc : (xs : List Cell) (x : Cell) → refusals (xs ++ x ∷ []) ≡ refusals xs + cond (is_refused x.mark) 1 0
+refusals-snoc xs x = refused-onto 0 xs x
+
+-- one more where the new cell refused it
+pub primed_refusals : (xs mids ys : List Cell) (c n : ℕ) (took : Bool) (end : Ending) → mids ≡ xs ++ repeat 1 (waiting ∷ []) → c ≡ length xs → n ≡ cond took 0 1
+    → MatchBool took (ys ≡ set mids c (ended end)) ((other : Option Ending) × (ys ≡ set mids c (refused other)))
+    → refusals ys ≡ refusals xs + n
+primed_refusals xs mids ys c n true end cells new many ends =
+    let all = ended_new xs mids ys c (ended end) cells new ends in
+    let count = refusals-snoc xs (ended end) in
+    ap refusals all ∙ (count ∙ ap (λ m. refusals xs + m) (sym many))
+primed_refusals xs mids ys c n false end cells new many ends =
+    let all = ended_new xs mids ys c (refused ends.0) cells new ends.1 in
+    let count = refusals-snoc xs (refused ends.0) in
+    ap refusals all ∙ (count ∙ ap (λ m. refusals xs + m) (sym many))

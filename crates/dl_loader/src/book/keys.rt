@@ -1,0 +1,198 @@
+//! The calls on keys, and the dispatch.
+
+ghost use Rattle.std.specs.Prelude.{◌≡◌, ◌+◌, IfErr, IfOk, None, OnErr, OnOk};
+ghost use Rattle.dl_loader.specs.declared.event.Call.TheVariants as made;
+ghost use Rattle.dl_loader.specs.History.{primed};
+ghost use Rattle.dl_loader.specs.Service.{service};
+ghost use Rattle.dl_loader.specs.Journal.{refusals};
+ghost use Rattle.dl_loader.specs.Made.{Makes};
+ghost use Rattle.dl_loader.specs.Refusals.{IsRefusal, refusal, unready};
+ghost use Rattle.dl_loader.specs.Replies.{jobs_in, primed_in};
+
+use crate::book::Book;
+use crate::event::{Call, Ending, Event, Reply};
+use crate::fault::CallFault;
+use crate::lists::Jobs;
+use crate::loader::Loader;
+use crate::name::LoaderName;
+use crate::pass::Pass;
+use dl_desk::{DeskPrime, DeskReply, FetchKey, Job, Outcome};
+use std::alloc::{AllocError, Global};
+
+impl<L: LoaderName> Book<L> {
+    /// Makes the event of a clear: the memo forgets the key, if it is held.
+    ///
+    /// # Errors
+    /// `OutOfMemory`, `LogRefused`. The book and the pass then tell what they told before.
+    pub(crate) fn clear(
+        &mut self,
+        alloc: Global,
+        loader: &Loader<L>,
+        pass: &mut Pass<L>,
+        key: &FetchKey,
+    ) -> Result<Reply, CallFault>
+        requires ready { unready (service L.rules L.parts L.answer) self.old pass.old.part ≡ None }
+        ensures made { IfOk result (λ reply. Makes self.old pass.old.part (made.Clear key.now) reply self.new pass.new.part) }
+        ensures accepted { OnOk result (refusal (service L.rules L.parts L.answer) self.old pass.old.part (made.Clear key.now) None ≡ None) }
+        ensures refused { OnOk result (refusals self.new.cells ≡ refusals self.old.cells) }
+        ensures fault { IfErr result (IsRefusal (service L.rules L.parts L.answer) self.old pass.old.part (made.Clear key.now) None) }
+        ensures unchanged { OnErr result ((self.new ≡ self.old) × (pass.new.part ≡ pass.old.part)) }
+    {
+        let event = Event {
+            caller: pass.caller(),
+            call: Call::Clear(key.try_copy()?),
+            reply: Reply::Done,
+        };
+        loader.record(alloc, &mut self.journal, pass, event, 0, 0)?;
+        self.desk.clear(key);
+        Ok(Reply::Done)
+    }
+
+    /// Makes the event of a clearAll: the memo forgets all keys.
+    ///
+    /// # Errors
+    /// `OutOfMemory`, `LogRefused`. The book and the pass then tell what they told before.
+    pub(crate) fn clear_all(
+        &mut self,
+        alloc: Global,
+        loader: &Loader<L>,
+        pass: &mut Pass<L>,
+    ) -> Result<Reply, CallFault>
+        requires ready { unready (service L.rules L.parts L.answer) self.old pass.old.part ≡ None }
+        ensures made { IfOk result (λ reply. Makes self.old pass.old.part made.ClearAll reply self.new pass.new.part) }
+        ensures accepted { OnOk result (refusal (service L.rules L.parts L.answer) self.old pass.old.part made.ClearAll None ≡ None) }
+        ensures refused { OnOk result (refusals self.new.cells ≡ refusals self.old.cells) }
+        ensures fault { IfErr result (IsRefusal (service L.rules L.parts L.answer) self.old pass.old.part made.ClearAll None) }
+        ensures unchanged { OnErr result ((self.new ≡ self.old) × (pass.new.part ≡ pass.old.part)) }
+    {
+        let event = Event {
+            caller: pass.caller(),
+            call: Call::ClearAll,
+            reply: Reply::Done,
+        };
+        loader.record(alloc, &mut self.journal, pass, event, 0, 0)?;
+        self.desk.clear_all();
+        Ok(Reply::Done)
+    }
+
+    /// Makes the event of a dispatch: every batch that was begun and not sent is sent, each as a job.
+    ///
+    /// # Errors
+    /// `OutOfMemory`, `LogRefused`. The book and the pass then tell what they told before.
+    pub(crate) fn dispatch(
+        &mut self,
+        alloc: Global,
+        loader: &Loader<L>,
+        pass: &mut Pass<L>,
+    ) -> Result<Reply, CallFault>
+        requires ready { unready (service L.rules L.parts L.answer) self.old pass.old.part ≡ None }
+        ensures made { IfOk result (λ reply. Makes self.old pass.old.part made.Dispatch reply self.new pass.new.part) }
+        ensures accepted { OnOk result (refusal (service L.rules L.parts L.answer) self.old pass.old.part made.Dispatch None ≡ None) }
+        ensures refused { OnOk result (refusals self.new.cells ≡ refusals self.old.cells) }
+        ensures fault { IfErr result (IsRefusal (service L.rules L.parts L.answer) self.old pass.old.part made.Dispatch None) }
+        ensures unchanged { OnErr result ((self.new ≡ self.old) × (pass.new.part ≡ pass.old.part)) }
+    {
+        let ready = self.desk.ready_dispatch(alloc)?;
+        let event = Event {
+            caller: pass.caller(),
+            call: Call::Dispatch,
+            reply: Reply::Sent(Jobs::copy_of(alloc, jobs_in(ready.reply()))?),
+        };
+        loader.record(alloc, &mut self.journal, pass, event, 0, 0)?;
+        let jobs = into_jobs(alloc, self.desk.commit(ready));
+        Ok(Reply::Sent(Jobs::new(jobs)))
+    }
+
+    /// Makes the event of a prime: a key that isn't held gets a cell that ends with the outcome. Answers the
+    /// reply, and how many cells refused their outcome.
+    ///
+    /// # Errors
+    /// `CellsFull` where the key isn't held and all cells are begun; `OutOfMemory`, `LogRefused`. The book and
+    /// the pass then tell what they told before.
+    pub(crate) fn prime(
+        &mut self,
+        alloc: Global,
+        loader: &Loader<L>,
+        pass: &mut Pass<L>,
+        key: &FetchKey,
+        outcome: &Outcome,
+    ) -> Result<(Reply, u32), CallFault>
+        requires ready { unready (service L.rules L.parts L.answer) self.old pass.old.part ≡ None }
+        ensures made { IfOk result (λ r. Makes self.old pass.old.part (made.Prime key.now outcome.now) r.0 self.new pass.new.part) }
+        ensures accepted { OnOk result (refusal (service L.rules L.parts L.answer) self.old pass.old.part (made.Prime key.now outcome.now) None ≡ None) }
+        ensures refused { IfOk result (λ r. refusals self.new.cells ≡ refusals self.old.cells + r.1) }
+        ensures fault { IfErr result (IsRefusal (service L.rules L.parts L.answer) self.old pass.old.part (made.Prime key.now outcome.now) None) }
+        ensures unchanged { OnErr result ((self.new ≡ self.old) × (pass.new.part ≡ pass.old.part)) }
+    {
+        let call = Call::Prime(key.try_copy()?, outcome.try_copy()?);
+        let ready = self.desk.ready_prime(key)?;
+        let primed = primed_in(ready.reply());
+        let event = Event {
+            caller: pass.caller(),
+            call,
+            reply: prime_reply(primed),
+        };
+        match primed {
+            DeskPrime::Kept => {
+                loader.record(alloc, &mut self.journal, pass, event, 0, 0)?;
+                self.desk.commit(ready);
+                Ok((Reply::Kept, 0))
+            }
+            DeskPrime::Primed(cell) => {
+                let ending = new_ending(alloc, loader.place(&self.journal), outcome)?;
+                loader.record(alloc, &mut self.journal, pass, event, 1, 0)?;
+                self.desk.commit(ready);
+                let took = self.journal.end(loader.outcomes(), cell, ending);
+                Ok((Reply::Primed(cell), if took { 0 } else { 1 }))
+            }
+        }
+    }
+}
+
+// The jobs, where the reply is to a dispatch.
+fn jobs_in(reply: &DeskReply) -> &[Job]
+    ensures { result.now ≡ jobs_in reply.now }
+{
+    match reply {
+        DeskReply::Sent(jobs) => jobs.as_slice(),
+        DeskReply::Loads(_) | DeskReply::Primed(_) => &[],
+    }
+}
+
+// The same jobs, to move them on. It takes no memory.
+fn into_jobs(alloc: Global, reply: DeskReply) -> Vec<Job>
+    ensures { result.items ≡ jobs_in reply }
+{
+    match reply {
+        DeskReply::Sent(jobs) => jobs,
+        DeskReply::Loads(_) | DeskReply::Primed(_) => Vec::new(alloc),
+    }
+}
+
+// The reply to a prime, where the reply is to one.
+fn primed_in(reply: &DeskReply) -> DeskPrime
+    ensures { result ≡ primed_in reply.now }
+{
+    match reply {
+        DeskReply::Primed(primed) => *primed,
+        DeskReply::Loads(_) | DeskReply::Sent(_) => DeskPrime::Kept,
+    }
+}
+
+// The desk's reply to a prime, as the history has it.
+fn prime_reply(reply: DeskPrime) -> Reply
+    ensures { result ≡ primed reply }
+{
+    match reply {
+        DeskPrime::Primed(cell) => Reply::Primed(cell),
+        DeskPrime::Kept => Reply::Kept,
+    }
+}
+
+// The end that the event at a place gives to a cell. The error is want of memory.
+fn new_ending(alloc: Global, at: u16, outcome: &Outcome) -> Result<Box<Ending>, AllocError>
+    ensures { IfOk result (λ ending. ending.value ≡ record { at = at; outcome = outcome.now }) }
+{
+    let outcome = outcome.try_copy()?;
+    Box::new(alloc, Ending { at, outcome }).map_err(AllocError::from)
+}
