@@ -1,8 +1,9 @@
 -- What the book of a loader keeps after a call on a key, a clear of all keys and a dispatch, told by what the
 -- record of the event and the desk promise.
 use Rattle.std.proofs.Common.{◌≡◌, ◌∙◌, sym, ap, subst, ℕ, ◌+◌, ◌<◌, Bool, true, false, cond, List, [], ◌∷◌, ◌++◌, length, set, Option, Some, None, MatchBool, slice_get, nat_lt, nat_le, refl, arith}
-use Rattle.std.specs.List.{fold, repeat}
+use Rattle.std.specs.List.{repeat}
 use Rattle.std.proofs.lemmas.Bool.{leb-false}
+use Rattle.std.proofs.lemmas.List.Sums.{fold-append}
 use Rattle.dl_desk.specs.Key.{Key}
 use Rattle.dl_desk.specs.Limits.{Rules}
 use Rattle.dl_desk.specs.History.{Atom, prime_reply, jobs}
@@ -221,12 +222,8 @@ primed_kept s b p es now k j o caller c reply r d call old new xs mids ys stoppe
 
 -- ---- how many cells refused their outcome
 
-refused-onto : (n : ℕ) (xs : List Cell) (x : Cell) → fold (λ (m : ℕ) (y : Cell). m + cond (is_refused y.mark) 1 0) n (xs ++ x ∷ []) ≡ fold (λ (m : ℕ) (y : Cell). m + cond (is_refused y.mark) 1 0) n xs + cond (is_refused x.mark) 1 0
-refused-onto n [] x = refl
-refused-onto n (y ∷ xs) x = refused-onto (n + cond (is_refused y.mark) 1 0) xs x
-
 refusals-snoc : (xs : List Cell) (x : Cell) → refusals (xs ++ x ∷ []) ≡ refusals xs + cond (is_refused x.mark) 1 0
-refusals-snoc xs x = refused-onto 0 xs x
+refusals-snoc xs x = fold-append (λ (n : ℕ) (y : Cell). n + cond (is_refused y.mark) 1 0) 0 xs (x ∷ [])
 
 -- one more where the new cell refused it
 pub primed_refusals : (xs mids ys : List Cell) (c n : ℕ) (took : Bool) (end : Ending) → mids ≡ xs ++ repeat 1 (waiting ∷ []) → c ≡ length xs → n ≡ cond took 0 1
