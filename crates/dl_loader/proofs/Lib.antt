@@ -16,3 +16,5 @@ pub mod Kept
 mod BlankReaders
 pub mod KeptEnds
 pub mod KeptCalls
+pub mod GivenDues
+pub mod BatchEnds

@@ -7,6 +7,8 @@ ghost use Rattle.dl_loader.specs.Book.{Keeps, locked};
 ghost use Rattle.dl_loader.specs.Entries.{cell_of_load, front_of};
 ghost use Rattle.dl_loader.specs.Refusals.{unready};
 
+mod ends;
+
 use crate::fault::CallFault;
 use crate::journal::Journal;
 use crate::loader::Loader;
