@@ -1,19 +1,17 @@
 -- The end of a batch: when it is refused, and what it leaves.
-use Rattle.std.proofs.Common.{◌≡◌, ◌∙◌, sym, ap, subst, ℕ, zero, suc, ◌+◌, ◌<◌, ◌≤◌, ◌⊎◌, inl, inr, Bool, true, false, cond, List, [], ◌∷◌, ◌++◌, length, map, Option, Some, None, IsSome, slice_get, option_map, is_some, nat_lt, nat_le, Decides, refl, arith}
+use Rattle.std.proofs.Common.{◌≡◌, ◌∙◌, sym, ap, subst, ℕ, zero, suc, ◌<◌, ◌≤◌, ◌⊎◌, inl, inr, Bool, true, false, cond, List, [], ◌∷◌, ◌++◌, length, map, Option, Some, None, IsSome, IfSome, Result, Ok, Err, slice_get, option_map, is_some, nat_lt, nat_le, Decides, refl, arith}
 use Rattle.std.specs.Option.{option_or}
 use Rattle.std.proofs.lemmas.Bool.{ltb-false, leb-true, leb-false, le-leb, lt-leb, ltb-true}
 use Rattle.std.proofs.lemmas.Option.{slice_get_within}
 use Rattle.std.proofs.lemmas.List.{length-map}
 use Rattle.std.proofs.lemmas.Slice.Eq.{slice_eq-Decides}
-use Rattle.std.specs.Cmp.Lexicographic.{pointwise}
 use Rattle.dl_desk.specs.Key.{Key, key_eq}
 use Rattle.dl_desk.specs.Limits.{Rules}
 use Rattle.dl_desk.specs.Events.{atoms}
-use Rattle.std.specs.Result.{Result, IsOk, IfErr, OnOk}
-use Rattle.std.specs.declared.result.Result.TheVariants.{Ok, Err}
+use Rattle.std.specs.Result.{IsOk, IfErr, OnOk}
 use Rattle.dl_desk.specs.History.{Atom, begun, sent, end_of, members, MayEnd}
 use Rattle.dl_desk.specs.History as atom
-use Rattle.dl_desk.specs.Book.{Book, StandsFor, state_by}
+use Rattle.dl_desk.specs.Book.{Book, StandsFor, Seen, state_by, batch_seen}
 use Rattle.dl_desk.specs.Calls.{unfit}
 use Rattle.dl_desk.specs.declared.fault.DeskFault.{DeskFault}
 use Rattle.dl_desk.specs.declared.fault.DeskFault.TheVariants as desk_fault
@@ -38,7 +36,7 @@ use Rattle.dl_loader.specs.declared.event.Ending.{Ending}
 use Rattle.dl_loader.specs.declared.fault.CallFault.{CallFault}
 use Rattle.dl_loader.specs.declared.fault.CallFault.TheVariants.{Stopped, Behind, LogFull, NoBatch, NotSent, SettledBefore, WrongKeys}
 use Rattle.dl_loader.specs.Asks.{end_by}
-use Rattle.dl_loader.specs.Book.{Locked, locked, ShowsEnd, Keeps}
+use Rattle.dl_loader.specs.Book.{Locked, locked, Keeps}
 use Rattle.dl_loader.specs.Dues.{end_refusal, outcome_by, AreDue, CanEnd, AreGiven}
 use Rattle.dl_loader.specs.EndedUpTo.{EndedUpTo}
 use Rattle.dl_loader.specs.Entries.{front_of}
@@ -150,8 +148,8 @@ ended_is_sent : (rules : Rules) (history : List Atom) (b : ℕ) (t : Bool) → a
 ended_is_sent rules history b false legal low some = refl
 ended_is_sent rules history b true legal low some =
     let none : end_of history b ≡ None = end_of-unsent rules history legal b (leb-true (sent history) b low) in
-    let bad : is_some {A = End} None ≡ true = rw none at some in
-    absurd (let is : false ≡ true = bad in cc)
+    let gone : is_some (end_of history b) ≡ false = rw none refl in
+    absurd (let bad : false ≡ true = sym gone ∙ some in cc)
 
 pub ended_refusal : (rules : Rules) (history : List Atom) (b : ℕ) (ks : List Key) → atom.IsLegal rules history → b < begun history → HasEndedIn (state_by (nat_lt b (sent history)) (end_of history b)) → end_refusal history b ks ≡ Some SettledBefore
 ended_refusal rules history b ks legal l is =
@@ -160,10 +158,10 @@ ended_refusal rules history b ks legal l is =
     rw (lt-leb (begun history) b l, past, some) refl
 
 sent_at : (history : List Atom) (b : ℕ) (t : Bool) (o : Option End) → nat_lt b (sent history) ≡ t → end_of history b ≡ o → state_by t o ≡ Sent → MayEnd history b
-sent_at history b t (Some end.Settled) low no is = absurd (let bad : Settled ≡ Sent = is in cc)
-sent_at history b t (Some end.Failed) low no is = absurd (let bad : Failed ≡ Sent = is in cc)
-sent_at history b false None low no is = absurd (let bad : Collecting ≡ Sent = is in cc)
-sent_at history b true None low no is = record { is_sent = ltb-true b (sent history) low; no_end = no }
+sent_at history b t (Some end.Settled) low end_is is = absurd (let bad : Settled ≡ Sent = is in cc)
+sent_at history b t (Some end.Failed) low end_is is = absurd (let bad : Failed ≡ Sent = is in cc)
+sent_at history b false None low end_is is = absurd (let bad : Collecting ≡ Sent = is in cc)
+sent_at history b true None low end_is is = record { is_sent = ltb-true b (sent history) low; no_end = end_is }
 
 pub sent_may : (history : List Atom) (b : ℕ) → state_by (nat_lt b (sent history)) (end_of history b) ≡ Sent → MayEnd history b
 sent_may history b is = sent_at history b (nat_lt b (sent history)) (end_of history b) refl refl is
@@ -184,16 +182,16 @@ cells_count history b ks own = rw own (length-map (members history b) (λ m. m.1
 pub can_end : (s : Service) (es : List Event) (b : ℕ) (d : Book) (xs : List Cell) (stopped : Bool) → Keeps s (locked es d xs stopped) → MayEnd (atoms (log es)) b → CanEnd (map (λ m. m.1) (members (atoms (log es)) b)) xs
 can_end s es b d xs stopped kept may = record {
   waits = λ j c got.
-    let m = unmapped (λ (m : Key × ℕ). m.1) (members (atoms (log es)) b) j c got in
-    let begun = begun_cells s es d xs stopped kept in
-    let low = member_begun s es b j m.0 kept.legal m.1 in
-    let inside : m.0.1 < length xs = omega arith in
-    let waits : slice_get xs m.0.1 ≡ Some waiting = cell_waits s es m.0.1 d xs stopped kept inside (member_open s es b j m.0 kept.legal may m.1) in
-    subst (λ (n : ℕ). slice_get xs n ≡ Some waiting) m.2 waits;
+      let m = unmapped (λ (m : Key × ℕ). m.1) (members (atoms (log es)) b) j c got in
+      let begun = begun_cells s es d xs stopped kept in
+      let low = member_begun s es b j m.0 kept.legal m.1 in
+      let inside : m.0.1 < length xs = omega arith in
+      let waits : slice_get xs m.0.1 ≡ Some waiting = cell_waits s es m.0.1 d xs stopped kept inside (member_open s es b j m.0 kept.legal may m.1) in
+      subst (λ (n : ℕ). slice_get xs n ≡ Some waiting) m.2 waits;
   distinct = λ i j c first second.
-    let m = unmapped (λ (m : Key × ℕ). m.1) (members (atoms (log es)) b) i c first in
-    let n = unmapped (λ (m : Key × ℕ). m.1) (members (atoms (log es)) b) j c second in
-    members_distinct s es b i j m.0 n.0 kept.legal m.1 n.1 (m.2 ∙ sym n.2);
+      let m = unmapped (λ (m : Key × ℕ). m.1) (members (atoms (log es)) b) i c first in
+      let n = unmapped (λ (m : Key × ℕ). m.1) (members (atoms (log es)) b) j c second in
+      members_distinct s es b i j m.0 n.0 kept.legal m.1 n.1 (m.2 ∙ sym n.2);
 }
 
 abbrev ending : ℕ → Outcome → Ending
@@ -206,16 +204,16 @@ ended_by : (es : List Event) (e : Event) (call : Call) (ms : List (Key × ℕ)) 
 ended_by es e call ms dues xs ys ends due given = record {
   long = given.long;
   ended = λ j m x low got shown.
-    let cell : slice_get (map (λ (d : Due). d.cell) dues) j ≡ Some m.1 = ap (λ (cs : List ℕ). slice_get cs j) due.cells_are ∙ get_mapped (λ (m : Key × ℕ). m.1) ms j m got in
-    let d = unmapped (λ (d : Due). d.cell) dues j m.1 cell in
-    let brings = due.ends_are j d.0 d.1 in
-    let here : slice_get ys d.0.cell ≡ Some x = ap (slice_get ys) d.2 ∙ shown in
-    let is : ending_of (es ++ e ∷ []) m.1 ≡ Some d.0.ending.value = ends j m d.0.ending.value.outcome got brings.0 ∙ ap (λ (at : ℕ). Some (ending at d.0.ending.value.outcome)) (sym brings.1) in
-    shows_same (Some d.0.ending.value) (ending_of (es ++ e ∷ []) m.1) x is (given.ended j d.0 x d.1 here);
+      let cell : slice_get (map (λ (d : Due). d.cell) dues) j ≡ Some m.1 = ap (λ (cs : List ℕ). slice_get cs j) due.cells_are ∙ get_mapped (λ (m : Key × ℕ). m.1) ms j m got in
+      let d = unmapped (λ (d : Due). d.cell) dues j m.1 cell in
+      let brings = due.ends_are j d.0 d.1 in
+      let here : slice_get ys d.0.cell ≡ Some x = ap (slice_get ys) d.2 ∙ shown in
+      let is : ending_of (es ++ e ∷ []) m.1 ≡ Some d.0.ending.value = ends j m d.0.ending.value.outcome got brings.0 ∙ ap (λ (at : ℕ). Some (ending at d.0.ending.value.outcome)) (sym brings.1) in
+      shows_same (Some d.0.ending.value) (ending_of (es ++ e ∷ []) m.1) x is (given.ended j d.0 x d.1 here);
   others = λ c none. given.others c (λ j d got same.
-    let cell : slice_get (map (λ (m : Key × ℕ). m.1) ms) j ≡ Some d.cell = ap (λ (cs : List ℕ). slice_get cs j) (sym due.cells_are) ∙ get_mapped (λ (d : Due). d.cell) dues j d got in
-    let m = unmapped (λ (m : Key × ℕ). m.1) ms j d.cell cell in
-    none j m.0 (slice_get_within ms j m.0 m.1) m.1 (m.2 ∙ same));
+      let cell : slice_get (map (λ (m : Key × ℕ). m.1) ms) j ≡ Some d.cell = ap (λ (cs : List ℕ). slice_get cs j) (sym due.cells_are) ∙ get_mapped (λ (d : Due). d.cell) dues j d got in
+      let m = unmapped (λ (m : Key × ℕ). m.1) ms j d.cell cell in
+      none j m.0 (slice_get_within ms j m.0 m.1) m.1 (m.2 ∙ same));
 }
 
 pub ended_settle : (s : Service) (es : List Event) (e : Event) (b : ℕ) (os : List Outcome) (dues : List Due) (xs ys : List Cell) → IsLegal s es → IsNext s es e → e.call ≡ Settle b os
@@ -227,7 +225,7 @@ pub ended_fail : (s : Service) (es : List Event) (e : Event) (b : ℕ) (fault : 
     → AreDue (Fail b fault) (length es) (map (λ m. m.1) (members (atoms (log es)) b)) dues → AreGiven dues xs ys → EndedUpTo (es ++ e ∷ []) (members (atoms (log es)) b) (length (members (atoms (log es)) b)) xs ys
 ended_fail s es e b fault dues xs ys legal next is due given =
     ended_by es e (Fail b fault) (members (atoms (log es)) b) dues xs ys
-      (λ j m o got brings. let two : ◌≡◌ {A = Option Outcome} (Some (BatchFailed fault)) (Some o) = brings in let same : BatchFailed fault ≡ o = cc in rw (← same) (failed_end s es e b fault j m legal next is got)) due given
+    (λ j m o got brings. let two : ◌≡◌ {A = Option Outcome} (Some (BatchFailed fault)) (Some o) = brings in let same : BatchFailed fault ≡ o = cc in rw (← same) (failed_end s es e b fault j m legal next is got)) due given
 
 -- the event of an end may stand next
 next_end : (s : Service) (es : List Event) (p : Part) (call : Call) → p.caller < s.callers → MayBeMade s.answer (atoms (log es)) call → Done ≡ reply_to s.rules (atoms (log es)) call → IsNext s es (event_of p call Done)
@@ -281,6 +279,18 @@ pub can_end_view : (s : Service) (view b : Locked) (n : ℕ) (cs : List ℕ) →
 can_end_view s view b n cs is kept may cells =
     let same : (X : Locked → Type 0) → X b → X view = λ X x. subst X (sym is) x in
     can_end_now s view n cs kept (same (λ v. MayEnd (atoms (log v.history)) n) may) (same (λ v. cs ≡ map (λ m. m.1) (members (atoms (log v.history)) n)) cells)
+
+-- the refusal of an end of a batch that shows an end
+pub ended_seen : (s : Service) (view b : Locked) (n : ℕ) (ks : List Key) (seen : Seen) (shown : Option Seen) (state : BatchState) → view ≡ b → Keeps s view → shown ≡ Some seen
+    → IfSome shown (λ v. (h : List Atom) → StandsFor view.desk h → (n < begun h) × (v ≡ batch_seen h n)) → state ≡ seen.state → HasEndedIn state → end_refusal (atoms (log b.history)) n ks ≡ Some SettledBefore
+ended_seen s view b n ks seen shown state is kept got tells own ended =
+    let P : Option Seen → Type 0 = λ o. IfSome o (λ v. (h : List Atom) → StandsFor view.desk h → (n < begun h) × (v ≡ batch_seen h n)) in
+    let H = atoms (log view.history) in
+    let here : (h : List Atom) → StandsFor view.desk h → (n < begun h) × (seen ≡ batch_seen h n) = subst P got tells in
+    let told = here H kept.desk in
+    let now : state ≡ state_by (nat_lt n (sent H)) (end_of H n) = own ∙ ap (λ (v : Seen). v.state) told.1 in
+    let refusal : end_refusal H n ks ≡ Some SettledBefore = ended_refusal view.desk.rules H n ks kept.desk.legal told.0 (subst HasEndedIn now ended) in
+    subst (λ (v : Locked). end_refusal (atoms (log v.history)) n ks ≡ Some SettledBefore) is refusal
 
 -- the desk can't refuse the end of a batch that may end
 pub ok_end : {T : Type 0} (view b : Locked) (s : Service) (n : ℕ) (r : Result T DeskFault) → view ≡ b → Keeps s view → MayEnd (atoms (log b.history)) n

@@ -1,6 +1,5 @@
 -- The dues of cells, given one by one.
-use Rattle.std.proofs.Common.{◌≡◌, ◌∙◌, sym, ap, subst, ℕ, zero, suc, ◌+◌, ◌<◌, ◌≤◌, ◌⊎◌, inl, inr, Bool, true, false, cond, List, [], ◌∷◌, ◌++◌, length, map, set, take, Option, Some, None, MatchBool, slice_get, get_or, option_map, refl, arith}
-use Rattle.std.specs.List.{count_by, sum_by}
+use Rattle.std.proofs.Common.{◌≡◌, ◌∙◌, sym, ap, subst, ℕ, zero, suc, ◌+◌, ◌<◌, ◌≤◌, ◌⊎◌, inl, inr, Bool, cond, List, [], ◌∷◌, ◌++◌, length, map, set, take, Option, Some, None, MatchBool, slice_get, get_or, option_map, refl, arith}
 use Rattle.std.proofs.lemmas.List.{length-set, take_more}
 use Rattle.std.proofs.lemmas.List.Sums.{count_by-le-length, sum_by-cons}
 use Rattle.std.proofs.lemmas.Option.{slice_get_within, slice_get_read, slice_get-map}
@@ -8,7 +7,6 @@ use Rattle.dl_desk.specs.declared.outcome.Outcome.{Outcome}
 use Rattle.dl_loader.specs.declared.dues.Due.{Due}
 use Rattle.dl_loader.specs.declared.event.Call.{Call}
 use Rattle.dl_loader.specs.declared.event.Ending.{Ending}
-use Rattle.dl_loader.specs.declared.state.Mark.TheVariants.{Waiting, Ended, Refused}
 use Rattle.dl_loader.specs.Journal.{Cell, waiting, ended, refused, is_refused, refusals}
 use Rattle.dl_loader.specs.Book.{ShowsEnd}
 use Rattle.dl_loader.specs.Dues.{outcome_by, AreDue, CanEnd, AreGiven}

@@ -90,12 +90,7 @@ impl<L: LoaderName> Book<L> {
     }
 
     // The cells of a batch's members, in order, where the batch may end and these are its keys.
-    fn cells_of(
-        &self,
-        alloc: Global,
-        batch: u32,
-        keys: &[FetchKey],
-    ) -> Result<Vec<u32>, CallFault>
+    fn cells_of(&self, alloc: Global, batch: u32, keys: &[FetchKey]) -> Result<Vec<u32>, CallFault>
         ensures cells { IfOk result (λ cells. cells.items ≡ map (λ m. m.1) (members (atoms (log self.now.history)) batch)) }
         ensures accepted { OnOk result (end_refusal (atoms (log self.now.history)) batch keys.now ≡ None) }
         ensures fault { IfErr result (λ fault. (fault ≡ OutOfMemory) ⊎ (end_refusal (atoms (log self.now.history)) batch keys.now ≡ Some fault)) }

@@ -1,4 +1,4 @@
-use Rattle.std.proofs.Common.{arith, rules}
+use Rattle.std.proofs.Common.{rules}
 use Rattle.dl_loader.proofs.GivenDues.{due_more}
 use Rattle.dl_loader.proofs.dues.dues.Goals as goal
 

@@ -1,4 +1,4 @@
-use Rattle.std.proofs.Common.{◌∙◌, ap, ◌+◌, [], ◌∷◌, length, arith, rules, length-append}
+use Rattle.std.proofs.Common.{◌∙◌, [], ◌∷◌, arith, rules, length-append}
 use Rattle.std.proofs.lemmas.Iterator.Adapters.{YieldsList-from_vec}
 use Rattle.std.proofs.lemmas.Iterator.Consumers.{YieldsList-turn, YieldsList-so_far}
 use Rattle.dl_loader.proofs.GivenDues.{front_is, next_waits, next_inside, given_more, taken_count, refused_count}
