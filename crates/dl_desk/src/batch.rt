@@ -124,7 +124,8 @@ impl StoredBatch {
 
     /// The members that are shown: their keys and their cells, in order.
     pub fn shown(&self) -> (&[FetchKey], &[u32])
-        ensures { zip result.0.now result.1.now ≡ (front self.now).members }
+        ensures members { zip result.0.now result.1.now ≡ (front self.now).members }
+        ensures as_many { length result.0.now ≡ length result.1.now }
     {
         let keys = self.keys.as_slice();
         (&keys[..self.seen], &self.cells[..self.seen])

@@ -18,3 +18,5 @@ pub mod KeptEnds
 pub mod KeptCalls
 mod LoadEvents
 pub mod KeyEvents
+pub mod GivenDues
+pub mod BatchEnds

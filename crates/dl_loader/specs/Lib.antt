@@ -14,3 +14,4 @@ pub mod Begun
 pub mod Replies
 pub mod Made
 pub mod EndedUpTo
+pub mod Dues

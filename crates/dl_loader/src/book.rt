@@ -9,6 +9,7 @@ ghost use Rattle.dl_loader.specs.Refusals.{unready};
 
 mod keys;
 mod loads;
+mod ends;
 
 use crate::fault::CallFault;
 use crate::journal::Journal;

@@ -1,15 +1,20 @@
 //! One event more in the journal of a loader.
 
-ghost use Rattle.std.specs.Prelude.{◌≡◌, ◌+◌, ◌<◌, ◌≤◌, ◌⊎◌, ◌∷◌, ◌++◌, [], IfErr, IfOk, OnErr, OnOk, length};
+ghost use Rattle.std.specs.Prelude.{◌≡◌, ℕ, List, IsSome, ◌+◌, ◌<◌, ◌≤◌, ◌⊎◌, ◌∷◌, ◌++◌, [], IfErr, IfOk, OnErr, OnOk, length};
 ghost use Rattle.std.specs.List.{repeat};
 ghost use Rattle.dl_cells.specs.Cells.{row_len};
 ghost use Rattle.dl_loader.specs.declared.fault.CallFault.TheVariants.{LogRefused, OutOfMemory};
+ghost use Rattle.dl_loader.specs.declared.dues.Due.{Due};
+ghost use Rattle.dl_loader.specs.declared.event.Reply.TheVariants.{Done};
+ghost use Rattle.dl_loader.specs.Dues.{AreDue, AreGiven, CanEnd, outcome_by};
 ghost use Rattle.dl_loader.specs.Entries.{front_of};
-ghost use Rattle.dl_loader.specs.Journal.{AreBlank, waiting};
+ghost use Rattle.dl_loader.specs.Journal.{AreBlank, refusals, waiting};
+ghost use Rattle.dl_loader.specs.Made.{event_of, with_event};
 ghost use Rattle.dl_loader.specs.Pass.{with_call};
 
+use crate::dues::{dues, give};
 use crate::entry::Stored;
-use crate::event::{Ending, Event};
+use crate::event::{Call, Ending, Event, Reply};
 use crate::fault::CallFault;
 use crate::journal::Journal;
 use crate::loader::Loader;
@@ -64,6 +69,57 @@ impl<L: LoaderName> Loader<L> {
 
     /// The place of the next event.
     pub(crate) fn place(&self, journal: &Journal<L>) -> u16
+    /// Adds an event of the pass that ends a batch whose members have these cells, gives each of them its
+    /// outcome, and tells how many of them refused.
+    ///
+    /// # Errors
+    /// As [`record`](Loader::record).
+    pub(crate) fn record_end(
+        &self,
+        alloc: Global,
+        journal: &mut Journal<L>,
+        pass: &mut Pass<L>,
+        cells: &[u32],
+        call: Call,
+    ) -> Result<u32, CallFault>
+        requires room { length journal.old.history < L.rules.limits.max_calls }
+        requires cells_fit { length journal.old.cells ≤ L.rules.limits.max_cells }
+        requires after { front_of pass.old.part.entries ≤ length journal.old.history }
+        requires can { CanEnd cells.now journal.old.cells }
+        requires brings { (i : ℕ) → i < length cells.now → IsSome (outcome_by call i) }
+        ensures below { pass.old.part.caller < L.parts }
+        ensures history { OnOk result (journal.new.history ≡ journal.old.history ++ event_of pass.old.part call Done ∷ []) }
+        ensures part { OnOk result (pass.new.part ≡ with_event pass.old.part (length journal.old.history) call Done) }
+        ensures given { OnOk result ((dues : List Due) × AreDue call (length journal.old.history) cells.now dues × AreGiven dues journal.old.cells journal.new.cells) }
+        ensures refused { IfOk result (λ refused. refusals journal.new.cells ≡ refusals journal.old.cells + refused) }
+        ensures few { IfOk result (λ refused. refused ≤ length cells.now) }
+        ensures unchanged { OnErr result ((journal.new.history ≡ journal.old.history) × (journal.new.cells ≡ journal.old.cells) × (pass.new.part ≡ pass.old.part)) }
+        ensures fault { IfErr result (λ fault. (fault ≡ OutOfMemory) ⊎ (fault ≡ LogRefused)) }
+    {
+        let caller = pass.caller();
+        let dues = dues(alloc, self.place(journal), cells, &call)?;
+        let event = Event {
+            caller,
+            call,
+            reply: Reply::Done,
+        };
+        self.record(alloc, journal, pass, event, 0, 0)?;
+        let refused = give(journal, self.outcomes(), dues);
+        Ok(self.count(refused))
+    }
+
+    // So many of the cells.
+    fn count(&self, cells: usize) -> u32
+        requires { cells ≤ L.rules.limits.max_cells }
+        ensures { result ≡ cells }
+    {
+        let most = self.limits().max_cells() as usize;
+        prove!(cells <= most);
+        cells as u32
+    }
+
+    // The place of the next event.
+    fn place(&self, journal: &Journal<L>) -> u16
         requires { length journal.now.history < L.rules.limits.max_calls }
         ensures { result ≡ length journal.now.history }
     {

@@ -1,6 +1,6 @@
 //! What a desk shows of its memo and its batches.
 
-ghost use Rattle.std.specs.Prelude.{◌≡◌, ◌<◌, ◌≤◌, List, IfSome, IfNone};
+ghost use Rattle.std.specs.Prelude.{◌≡◌, ◌<◌, ◌≤◌, List, map, IfSome, IfNone};
 ghost use Rattle.std.specs.List.{zip};
 ghost use Rattle.std.specs.Iterator.Adapters.{zip_first, zip_second};
 ghost use Rattle.std.specs.Slice.Iter.{iter_rest};
@@ -23,12 +23,15 @@ pub struct BatchView<'a> {
 }
 
 impl<'a> Model for BatchView<'a> {
+    ghost use Rattle.std.specs.Prelude.{◌≡◌, length};
     ghost use Rattle.std.specs.List.{zip};
     ghost use Rattle.dl_desk.specs.Book.{Seen};
 
     ghost Value = { Seen };
 
     ghost view = { λ b. record { members = zip b.keys.now b.cells.now; state = b.state } };
+
+    ghost invariant = { λ b. length b.keys.now ≡ length b.cells.now };
 }
 
 impl<'a> BatchView<'a> {
@@ -37,6 +40,20 @@ impl<'a> BatchView<'a> {
         ensures { zip (iter_rest (zip_first result)) (iter_rest (zip_second result)) ≡ self.now.members }
     {
         self.keys.iter().zip(self.cells)
+    }
+
+    /// The keys of the members, in order. It takes no memory.
+    pub fn keys(&self) -> &'a [FetchKey]
+        ensures { result.now ≡ map (λ m. m.0) self.now.members }
+    {
+        self.keys
+    }
+
+    /// The cells of the members, in order. It takes no memory.
+    pub fn cells(&self) -> &'a [u32]
+        ensures { result.now ≡ map (λ m. m.1) self.now.members }
+    {
+        self.cells
     }
 
     /// How far the batch has come. It takes no memory.

@@ -1,0 +1,338 @@
+-- The end of a batch: when it is refused, and what it leaves.
+use Rattle.std.proofs.Common.{◌≡◌, ◌∙◌, sym, ap, subst, ℕ, zero, suc, ◌<◌, ◌≤◌, ◌⊎◌, inl, inr, Bool, true, false, cond, List, [], ◌∷◌, ◌++◌, length, map, Option, Some, None, IsSome, IfSome, Result, Ok, Err, slice_get, option_map, is_some, nat_lt, nat_le, Decides, refl, arith}
+use Rattle.std.specs.Option.{option_or}
+use Rattle.std.proofs.lemmas.Bool.{ltb-false, leb-true, leb-false, le-leb, lt-leb, ltb-true}
+use Rattle.std.proofs.lemmas.Option.{slice_get_within}
+use Rattle.std.proofs.lemmas.List.{length-map}
+use Rattle.std.proofs.lemmas.Slice.Eq.{slice_eq-Decides}
+use Rattle.dl_desk.specs.Key.{Key, key_eq}
+use Rattle.dl_desk.specs.Limits.{Rules}
+use Rattle.dl_desk.specs.Events.{atoms}
+use Rattle.std.specs.Result.{IsOk, IfErr, OnOk}
+use Rattle.dl_desk.specs.History.{Atom, begun, sent, end_of, members, MayEnd}
+use Rattle.dl_desk.specs.History as atom
+use Rattle.dl_desk.specs.Book.{Book, StandsFor, Seen, state_by, batch_seen}
+use Rattle.dl_desk.specs.Calls.{unfit}
+use Rattle.dl_desk.specs.declared.fault.DeskFault.{DeskFault}
+use Rattle.dl_desk.specs.declared.fault.DeskFault.TheVariants as desk_fault
+use Rattle.dl_desk.specs.declared.outcome.Outcome.{Outcome}
+use Rattle.dl_desk.specs.declared.outcome.Outcome.TheVariants.{BatchFailed}
+use Rattle.dl_desk.specs.declared.outcome.BatchFault.{BatchFault}
+use Rattle.dl_desk.specs.declared.reply.End.{End}
+use Rattle.dl_desk.specs.declared.reply.End.TheVariants as end
+use Rattle.dl_desk.specs.declared.reply.Job.{Job}
+use Rattle.dl_desk.specs.declared.reply.BatchState.{BatchState}
+use Rattle.dl_desk.specs.declared.reply.BatchState.TheVariants.{Collecting, Sent, Settled, Failed}
+use Rattle.dl_desk.proofs.Facts.{sent-le, end_of-unsent}
+use Rattle.dl_desk.proofs.KeyLemmas.{key_eq-same, key_eq-refl}
+use Rattle.dl_source.specs.declared.source.BatchAnswer.{BatchAnswer}
+use Rattle.dl_source.specs.declared.source.BatchAnswer.TheVariants.{Each, Break}
+use Rattle.dl_loader.specs.declared.dues.Due.{Due}
+use Rattle.dl_loader.specs.declared.event.Call.{Call}
+use Rattle.dl_loader.specs.declared.event.Call.TheVariants.{Settle, Fail}
+use Rattle.dl_loader.specs.declared.event.Event.{Event}
+use Rattle.dl_loader.specs.declared.event.Reply.TheVariants.{Done}
+use Rattle.dl_loader.specs.declared.event.Ending.{Ending}
+use Rattle.dl_loader.specs.declared.fault.CallFault.{CallFault}
+use Rattle.dl_loader.specs.declared.fault.CallFault.TheVariants.{Stopped, Behind, LogFull, NoBatch, NotSent, SettledBefore, WrongKeys}
+use Rattle.dl_loader.specs.Asks.{end_by}
+use Rattle.dl_loader.specs.Book.{Locked, locked, Keeps}
+use Rattle.dl_loader.specs.Dues.{end_refusal, outcome_by, AreDue, CanEnd, AreGiven}
+use Rattle.dl_loader.specs.EndedUpTo.{EndedUpTo}
+use Rattle.dl_loader.specs.Entries.{front_of}
+use Rattle.dl_loader.specs.History.{log, keys_of, MayBeMade, reply_to, IsLegal, IsNext, ending_of}
+use Rattle.dl_loader.specs.Journal.{Cell, waiting}
+use Rattle.dl_loader.specs.Made.{event_of}
+use Rattle.dl_loader.specs.Pass.{Part}
+use Rattle.dl_loader.specs.Refusals.{call_fault, same_keys, unready, refusal}
+use Rattle.dl_loader.specs.Service.{Service}
+use Rattle.dl_loader.proofs.BatchEndings.{settled_end, failed_end}
+use Rattle.dl_loader.proofs.CellLists.{shows_same}
+use Rattle.dl_loader.proofs.Endings.{member_open, member_begun, members_distinct}
+use Rattle.dl_loader.proofs.GivenDues.{get_mapped, unmapped}
+use Rattle.dl_loader.proofs.Kept.{begun_cells}
+use Rattle.dl_loader.proofs.KeptEnds.{cell_waits, keeps_settled, keeps_failed}
+
+-- ---- a pass that may make an event
+
+ready_at : (limit front len : ℕ) (stopped behind full : Bool) → nat_lt len front ≡ behind → nat_le limit len ≡ full
+    → cond stopped (Some Stopped) (cond behind (Some (Behind front len)) (cond full (Some (LogFull limit)) None)) ≡ None → (front ≤ len) × (len < limit)
+ready_at limit front len true behind full b f none = absurd (let bad : ◌≡◌ {A = Option CallFault} (Some Stopped) None = none in cc)
+ready_at limit front len false true full b f none = absurd (let bad : ◌≡◌ {A = Option CallFault} (Some (Behind front len)) None = none in cc)
+ready_at limit front len false false true b f none = absurd (let bad : ◌≡◌ {A = Option CallFault} (Some (LogFull limit)) None = none in cc)
+ready_at limit front len false false false b f none = (ltb-false len front b, leb-false limit len f)
+
+-- a pass that may make an event has seen no more than there is, and the history has room
+pub ready_facts : (s : Service) (b : Locked) (p : Part) → unready s b p ≡ None → (front_of p.entries ≤ length b.history) × (length b.history < s.rules.limits.max_calls)
+ready_facts s b p none =
+    ready_at s.rules.limits.max_calls (front_of p.entries) (length b.history) b.stopped (nat_lt (length b.history) (front_of p.entries)) (nat_le s.rules.limits.max_calls (length b.history)) refl refl none
+
+-- ---- when an end is refused
+
+-- where the pass may make an event, an end is refused for its batch or its keys alone
+pub refusal_fail : (s : Service) (b : Locked) (p : Part) (job : Job) (fault : BatchFault) → unready s b p ≡ None → refusal s b p (Fail job.batch fault) (Some job) ≡ end_refusal (atoms (log b.history)) job.batch job.keys
+refusal_fail s b p job fault ready = rw ready refl
+
+pub refusal_end : (s : Service) (b : Locked) (p : Part) (job : Job) (answer : BatchAnswer) → unready s b p ≡ None → refusal s b p (end_by job.batch answer) (Some job) ≡ end_refusal (atoms (log b.history)) job.batch job.keys
+refusal_end s b p job (Each os) ready = rw ready refl
+refusal_end s b p job (Break text) ready = rw ready refl
+
+none_both : (x : Option DeskFault) (y : Option CallFault) → option_or (option_map call_fault x) y ≡ None → (x ≡ None) × (y ≡ None)
+none_both None y none = (refl, none)
+none_both (Some fault) y none = absurd (let bad : ◌≡◌ {A = Option CallFault} (Some (call_fault fault)) None = none in cc)
+
+unfit_at : (b begun sent : ℕ) (o : Option End) (t u : Bool) → nat_le begun b ≡ t → nat_le sent b ≡ u
+    → cond t (Some desk_fault.NoBatch) (cond u (Some desk_fault.NotSent) (cond (is_some o) (Some desk_fault.SettledBefore) None)) ≡ None → (b < sent) × (o ≡ None)
+unfit_at b begun sent o true u x y none = absurd (let bad : ◌≡◌ {A = Option DeskFault} (Some desk_fault.NoBatch) None = none in cc)
+unfit_at b begun sent o false true x y none = absurd (let bad : ◌≡◌ {A = Option DeskFault} (Some desk_fault.NotSent) None = none in cc)
+unfit_at b begun sent (Some e) false false x y none = absurd (let bad : ◌≡◌ {A = Option DeskFault} (Some desk_fault.SettledBefore) None = none in cc)
+unfit_at b begun sent None false false x y none = (leb-false sent b y, refl)
+
+same_at : (t : Bool) → cond t None (Some WrongKeys) ≡ None → t ≡ true
+same_at true none = refl
+same_at false none = absurd (let bad : ◌≡◌ {A = Option CallFault} (Some WrongKeys) None = none in cc)
+
+key_decides : (a b : Key) → Decides (key_eq a b) (a ≡ b)
+key_decides a b = (key_eq-same a b, λ same. rw same (key_eq-refl b))
+
+-- lists with the same keys are one list
+pub keys_same : (ks js : List Key) → same_keys ks js ≡ true → ks ≡ js
+keys_same ks js same = (slice_eq-Decides key_decides ks js (same_keys ks js) refl).0 same
+
+-- an end that is not refused is of a batch that may end, by its keys
+pub may_end : (history : List Atom) (b : ℕ) (ks : List Key) → end_refusal history b ks ≡ None → MayEnd history b
+may_end history b ks none =
+    let both = none_both (unfit history b) (cond (same_keys ks (keys_of history b)) None (Some WrongKeys)) none in
+    let fit = unfit_at b (begun history) (sent history) (end_of history b) (nat_le (begun history) b) (nat_le (sent history) b) refl refl both.0 in
+    record { is_sent = fit.0; no_end = fit.1 }
+
+pub own_keys : (history : List Atom) (b : ℕ) (ks : List Key) → end_refusal history b ks ≡ None → ks ≡ keys_of history b
+own_keys history b ks none =
+    let both = none_both (unfit history b) (cond (same_keys ks (keys_of history b)) None (Some WrongKeys)) none in
+    keys_same ks (keys_of history b) (same_at (same_keys ks (keys_of history b)) both.1)
+
+-- the desk does not refuse the end of a batch that may end
+pub unfit_may : (history : List Atom) (b : ℕ) → MayEnd history b → unfit history b ≡ None
+unfit_may history b may =
+    let low = sent-le history in
+    let is_sent = may.is_sent in
+    let l : b < begun history = omega arith in
+    rw (lt-leb (begun history) b l, lt-leb (sent history) b is_sent, may.no_end) refl
+
+-- ---- the refusal by what a batch shows
+
+pub unbegun_refusal : (history : List Atom) (b : ℕ) (ks : List Key) → begun history ≤ b → end_refusal history b ks ≡ Some NoBatch
+unbegun_refusal history b ks past = rw (le-leb (begun history) b past) refl
+
+collecting_at : (history : List Atom) (b : ℕ) (ks : List Key) (t : Bool) (o : Option End) → b < begun history → nat_lt b (sent history) ≡ t → state_by t o ≡ Collecting → end_refusal history b ks ≡ Some NotSent
+collecting_at history b ks t (Some end.Settled) l low is = absurd (let bad : Settled ≡ Collecting = is in cc)
+collecting_at history b ks t (Some end.Failed) l low is = absurd (let bad : Failed ≡ Collecting = is in cc)
+collecting_at history b ks true None l low is = absurd (let bad : Sent ≡ Collecting = is in cc)
+collecting_at history b ks false None l low is = rw (lt-leb (begun history) b l, le-leb (sent history) b (ltb-false b (sent history) low)) refl
+
+pub collecting_refusal : (history : List Atom) (b : ℕ) (ks : List Key) → b < begun history → state_by (nat_lt b (sent history)) (end_of history b) ≡ Collecting → end_refusal history b ks ≡ Some NotSent
+collecting_refusal history b ks l is = collecting_at history b ks (nat_lt b (sent history)) (end_of history b) l refl is
+
+-- the state of a batch that has ended
+abbrev pub HasEndedIn : BatchState → Type 0
+HasEndedIn state = (state ≡ Settled) ⊎ (state ≡ Failed)
+
+ended_at : (t : Bool) (o : Option End) → HasEndedIn (state_by t o) → is_some o ≡ true
+ended_at t (Some e) is = refl
+ended_at true None (inl is) = absurd (let bad : Sent ≡ Settled = is in cc)
+ended_at true None (inr is) = absurd (let bad : Sent ≡ Failed = is in cc)
+ended_at false None (inl is) = absurd (let bad : Collecting ≡ Settled = is in cc)
+ended_at false None (inr is) = absurd (let bad : Collecting ≡ Failed = is in cc)
+
+ended_is_sent : (rules : Rules) (history : List Atom) (b : ℕ) (t : Bool) → atom.IsLegal rules history → nat_le (sent history) b ≡ t → is_some (end_of history b) ≡ true → t ≡ false
+ended_is_sent rules history b false legal low some = refl
+ended_is_sent rules history b true legal low some =
+    let none : end_of history b ≡ None = end_of-unsent rules history legal b (leb-true (sent history) b low) in
+    let gone : is_some (end_of history b) ≡ false = rw none refl in
+    absurd (let bad : false ≡ true = sym gone ∙ some in cc)
+
+pub ended_refusal : (rules : Rules) (history : List Atom) (b : ℕ) (ks : List Key) → atom.IsLegal rules history → b < begun history → HasEndedIn (state_by (nat_lt b (sent history)) (end_of history b)) → end_refusal history b ks ≡ Some SettledBefore
+ended_refusal rules history b ks legal l is =
+    let some = ended_at (nat_lt b (sent history)) (end_of history b) is in
+    let past : nat_le (sent history) b ≡ false = ended_is_sent rules history b (nat_le (sent history) b) legal refl some in
+    rw (lt-leb (begun history) b l, past, some) refl
+
+sent_at : (history : List Atom) (b : ℕ) (t : Bool) (o : Option End) → nat_lt b (sent history) ≡ t → end_of history b ≡ o → state_by t o ≡ Sent → MayEnd history b
+sent_at history b t (Some end.Settled) low end_is is = absurd (let bad : Settled ≡ Sent = is in cc)
+sent_at history b t (Some end.Failed) low end_is is = absurd (let bad : Failed ≡ Sent = is in cc)
+sent_at history b false None low end_is is = absurd (let bad : Collecting ≡ Sent = is in cc)
+sent_at history b true None low end_is is = record { is_sent = ltb-true b (sent history) low; no_end = end_is }
+
+pub sent_may : (history : List Atom) (b : ℕ) → state_by (nat_lt b (sent history)) (end_of history b) ≡ Sent → MayEnd history b
+sent_may history b is = sent_at history b (nat_lt b (sent history)) (end_of history b) refl refl is
+
+pub wrong_refusal : (history : List Atom) (b : ℕ) (ks : List Key) → MayEnd history b → same_keys ks (keys_of history b) ≡ false → end_refusal history b ks ≡ Some WrongKeys
+wrong_refusal history b ks may other = rw (unfit_may history b may, other) refl
+
+pub no_refusal : (history : List Atom) (b : ℕ) (ks : List Key) → MayEnd history b → same_keys ks (keys_of history b) ≡ true → end_refusal history b ks ≡ None
+no_refusal history b ks may same = rw (unfit_may history b may, same) refl
+
+-- as many cells as keys
+pub cells_count : (history : List Atom) (b : ℕ) (ks : List Key) → ks ≡ keys_of history b → length (map (λ m. m.1) (members history b)) ≡ length ks
+cells_count history b ks own = rw own (length-map (members history b) (λ m. m.1) ∙ sym (length-map (members history b) (λ m. m.0)))
+
+-- ---- what an end leaves
+
+-- the cells of the members of a batch that may end can end
+pub can_end : (s : Service) (es : List Event) (b : ℕ) (d : Book) (xs : List Cell) (stopped : Bool) → Keeps s (locked es d xs stopped) → MayEnd (atoms (log es)) b → CanEnd (map (λ m. m.1) (members (atoms (log es)) b)) xs
+can_end s es b d xs stopped kept may = record {
+  waits = λ j c got.
+      let m = unmapped (λ (m : Key × ℕ). m.1) (members (atoms (log es)) b) j c got in
+      let begun = begun_cells s es d xs stopped kept in
+      let low = member_begun s es b j m.0 kept.legal m.1 in
+      let inside : m.0.1 < length xs = omega arith in
+      let waits : slice_get xs m.0.1 ≡ Some waiting = cell_waits s es m.0.1 d xs stopped kept inside (member_open s es b j m.0 kept.legal may m.1) in
+      subst (λ (n : ℕ). slice_get xs n ≡ Some waiting) m.2 waits;
+  distinct = λ i j c first second.
+      let m = unmapped (λ (m : Key × ℕ). m.1) (members (atoms (log es)) b) i c first in
+      let n = unmapped (λ (m : Key × ℕ). m.1) (members (atoms (log es)) b) j c second in
+      members_distinct s es b i j m.0 n.0 kept.legal m.1 n.1 (m.2 ∙ sym n.2);
+}
+
+abbrev ending : ℕ → Outcome → Ending
+ending at o = record { at = at; outcome = o }
+
+-- where each member's end is what the call brings it, the dues are the ends of all members
+ended_by : (es : List Event) (e : Event) (call : Call) (ms : List (Key × ℕ)) (dues : List Due) (xs ys : List Cell)
+    → ((j : ℕ) (m : Key × ℕ) (o : Outcome) → slice_get ms j ≡ Some m → outcome_by call j ≡ Some o → ending_of (es ++ e ∷ []) m.1 ≡ Some (record { at = length es; outcome = o }))
+    → AreDue call (length es) (map (λ m. m.1) ms) dues → AreGiven dues xs ys → EndedUpTo (es ++ e ∷ []) ms (length ms) xs ys
+ended_by es e call ms dues xs ys ends due given = record {
+  long = given.long;
+  ended = λ j m x low got shown.
+      let cell : slice_get (map (λ (d : Due). d.cell) dues) j ≡ Some m.1 = ap (λ (cs : List ℕ). slice_get cs j) due.cells_are ∙ get_mapped (λ (m : Key × ℕ). m.1) ms j m got in
+      let d = unmapped (λ (d : Due). d.cell) dues j m.1 cell in
+      let brings = due.ends_are j d.0 d.1 in
+      let here : slice_get ys d.0.cell ≡ Some x = ap (slice_get ys) d.2 ∙ shown in
+      let is : ending_of (es ++ e ∷ []) m.1 ≡ Some d.0.ending.value = ends j m d.0.ending.value.outcome got brings.0 ∙ ap (λ (at : ℕ). Some (ending at d.0.ending.value.outcome)) (sym brings.1) in
+      shows_same (Some d.0.ending.value) (ending_of (es ++ e ∷ []) m.1) x is (given.ended j d.0 x d.1 here);
+  others = λ c none. given.others c (λ j d got same.
+      let cell : slice_get (map (λ (m : Key × ℕ). m.1) ms) j ≡ Some d.cell = ap (λ (cs : List ℕ). slice_get cs j) (sym due.cells_are) ∙ get_mapped (λ (d : Due). d.cell) dues j d got in
+      let m = unmapped (λ (m : Key × ℕ). m.1) ms j d.cell cell in
+      none j m.0 (slice_get_within ms j m.0 m.1) m.1 (m.2 ∙ same));
+}
+
+pub ended_settle : (s : Service) (es : List Event) (e : Event) (b : ℕ) (os : List Outcome) (dues : List Due) (xs ys : List Cell) → IsLegal s es → IsNext s es e → e.call ≡ Settle b os
+    → AreDue (Settle b os) (length es) (map (λ m. m.1) (members (atoms (log es)) b)) dues → AreGiven dues xs ys → EndedUpTo (es ++ e ∷ []) (members (atoms (log es)) b) (length (members (atoms (log es)) b)) xs ys
+ended_settle s es e b os dues xs ys legal next is due given =
+    ended_by es e (Settle b os) (members (atoms (log es)) b) dues xs ys (λ j m o got brings. settled_end s es e b os j m o legal next is got brings) due given
+
+pub ended_fail : (s : Service) (es : List Event) (e : Event) (b : ℕ) (fault : BatchFault) (dues : List Due) (xs ys : List Cell) → IsLegal s es → IsNext s es e → e.call ≡ Fail b fault
+    → AreDue (Fail b fault) (length es) (map (λ m. m.1) (members (atoms (log es)) b)) dues → AreGiven dues xs ys → EndedUpTo (es ++ e ∷ []) (members (atoms (log es)) b) (length (members (atoms (log es)) b)) xs ys
+ended_fail s es e b fault dues xs ys legal next is due given =
+    ended_by es e (Fail b fault) (members (atoms (log es)) b) dues xs ys
+    (λ j m o got brings. let two : ◌≡◌ {A = Option Outcome} (Some (BatchFailed fault)) (Some o) = brings in let same : BatchFailed fault ≡ o = cc in rw (← same) (failed_end s es e b fault j m legal next is got)) due given
+
+-- the event of an end may stand next
+next_end : (s : Service) (es : List Event) (p : Part) (call : Call) → p.caller < s.callers → MayBeMade s.answer (atoms (log es)) call → Done ≡ reply_to s.rules (atoms (log es)) call → IsNext s es (event_of p call Done)
+next_end s es p call caller may reply = record { caller = caller; reply = reply; made = may }
+
+-- after a settle whose members' cells got their dues, the book keeps what it kept
+pub settle_keeps : (s : Service) (es later : List Event) (p : Part) (b : ℕ) (os : List Outcome) (old new : Book) (cs : List ℕ) (xs ys : List Cell) (stopped : Bool) → Keeps s (locked es old xs stopped) → p.caller < s.callers → MayBeMade s.answer (atoms (log es)) (Settle b os)
+    → length es < s.rules.limits.max_calls → later ≡ es ++ event_of p (Settle b os) Done ∷ [] → new.rules ≡ old.rules → StandsFor new (atom.Settle b ∷ atoms (log es)) → cs ≡ map (λ m. m.1) (members (atoms (log es)) b)
+    → (dues : List Due) × AreDue (Settle b os) (length es) cs dues × AreGiven dues xs ys → Keeps s (locked later new ys stopped)
+settle_keeps s es later p b os old new cs xs ys stopped kept caller may calls grown rules stands cells dues =
+    let e : Event = event_of p (Settle b os) Done in
+    let next : IsNext s es e = next_end s es p (Settle b os) caller may refl in
+    let due : AreDue (Settle b os) (length es) (map (λ m. m.1) (members (atoms (log es)) b)) dues.0 = subst (λ (ns : List ℕ). AreDue (Settle b os) (length es) ns dues.0) cells dues.1 in
+    let all = ended_settle s es e b os dues.0 xs ys kept.legal next refl due dues.2 in
+    let now : Keeps s (locked (es ++ e ∷ []) new ys stopped) = keeps_settled s es e b os (length (members (atoms (log es)) b)) old new xs ys stopped kept next refl calls rules stands (omega arith) all in
+    subst (λ (hs : List Event). Keeps s (locked hs new ys stopped)) (sym grown) now
+
+-- and so it does after a fail
+pub fail_keeps : (s : Service) (es later : List Event) (p : Part) (b : ℕ) (fault : BatchFault) (old new : Book) (cs : List ℕ) (xs ys : List Cell) (stopped : Bool) → Keeps s (locked es old xs stopped) → p.caller < s.callers → MayBeMade s.answer (atoms (log es)) (Fail b fault)
+    → length es < s.rules.limits.max_calls → later ≡ es ++ event_of p (Fail b fault) Done ∷ [] → new.rules ≡ old.rules → StandsFor new (atom.Fail b ∷ atoms (log es)) → cs ≡ map (λ m. m.1) (members (atoms (log es)) b)
+    → (dues : List Due) × AreDue (Fail b fault) (length es) cs dues × AreGiven dues xs ys → Keeps s (locked later new ys stopped)
+fail_keeps s es later p b fault old new cs xs ys stopped kept caller may calls grown rules stands cells dues =
+    let e : Event = event_of p (Fail b fault) Done in
+    let next : IsNext s es e = next_end s es p (Fail b fault) caller may refl in
+    let due : AreDue (Fail b fault) (length es) (map (λ m. m.1) (members (atoms (log es)) b)) dues.0 = subst (λ (ns : List ℕ). AreDue (Fail b fault) (length es) ns dues.0) cells dues.1 in
+    let all = ended_fail s es e b fault dues.0 xs ys kept.legal next refl due dues.2 in
+    let now : Keeps s (locked (es ++ e ∷ []) new ys stopped) = keeps_failed s es e b fault (length (members (atoms (log es)) b)) old new xs ys stopped kept next refl calls rules stands (omega arith) all in
+    subst (λ (hs : List Event). Keeps s (locked hs new ys stopped)) (sym grown) now
+
+-- the cells of a batch that may end can end, whichever list tells them
+pub can_end_now : (s : Service) (b : Locked) (n : ℕ) (cs : List ℕ) → Keeps s b → MayEnd (atoms (log b.history)) n → cs ≡ map (λ m. m.1) (members (atoms (log b.history)) n) → CanEnd cs b.cells
+can_end_now s b n cs kept may cells = subst (λ (ns : List ℕ). CanEnd ns b.cells) (sym cells) (can_end s b.history n b.desk b.cells b.stopped kept may)
+
+-- the cells fit
+pub cells_fit : (s : Service) (b : Locked) → Keeps s b → length b.cells ≤ s.rules.limits.max_cells
+cells_fit s b kept = let all = kept.all_cells in let fit = kept.cells_fit in omega arith
+
+some_inside : {X : Type 0} (xs : List X) (i : ℕ) → i < length xs → IsSome (slice_get xs i)
+some_inside [] i low = absurd (omega arith)
+some_inside (x ∷ xs) zero low = refl
+some_inside (x ∷ xs) (suc i) low = some_inside xs i (omega arith)
+
+-- as many outcomes bring each cell one
+pub settle_brings : (b : ℕ) (os : List Outcome) (cs : List ℕ) → length os ≡ length cs → (i : ℕ) → i < length cs → IsSome (outcome_by (Settle b os) i)
+settle_brings b os cs same i low = some_inside os i (omega arith)
+
+-- ---- as the book's calls have it
+
+-- a pass that may make an event, and a batch that may end there
+pub can_end_view : (s : Service) (view b : Locked) (n : ℕ) (cs : List ℕ) → view ≡ b → Keeps s view → MayEnd (atoms (log b.history)) n → cs ≡ map (λ m. m.1) (members (atoms (log b.history)) n) → CanEnd cs view.cells
+can_end_view s view b n cs is kept may cells =
+    let same : (X : Locked → Type 0) → X b → X view = λ X x. subst X (sym is) x in
+    can_end_now s view n cs kept (same (λ v. MayEnd (atoms (log v.history)) n) may) (same (λ v. cs ≡ map (λ m. m.1) (members (atoms (log v.history)) n)) cells)
+
+-- the refusal of an end of a batch that shows an end
+pub ended_seen : (s : Service) (view b : Locked) (n : ℕ) (ks : List Key) (seen : Seen) (shown : Option Seen) (state : BatchState) → view ≡ b → Keeps s view → shown ≡ Some seen
+    → IfSome shown (λ v. (h : List Atom) → StandsFor view.desk h → (n < begun h) × (v ≡ batch_seen h n)) → state ≡ seen.state → HasEndedIn state → end_refusal (atoms (log b.history)) n ks ≡ Some SettledBefore
+ended_seen s view b n ks seen shown state is kept got tells own ended =
+    let P : Option Seen → Type 0 = λ o. IfSome o (λ v. (h : List Atom) → StandsFor view.desk h → (n < begun h) × (v ≡ batch_seen h n)) in
+    let H = atoms (log view.history) in
+    let here : (h : List Atom) → StandsFor view.desk h → (n < begun h) × (seen ≡ batch_seen h n) = subst P got tells in
+    let told = here H kept.desk in
+    let now : state ≡ state_by (nat_lt n (sent H)) (end_of H n) = own ∙ ap (λ (v : Seen). v.state) told.1 in
+    let refusal : end_refusal H n ks ≡ Some SettledBefore = ended_refusal view.desk.rules H n ks kept.desk.legal told.0 (subst HasEndedIn now ended) in
+    subst (λ (v : Locked). end_refusal (atoms (log v.history)) n ks ≡ Some SettledBefore) is refusal
+
+-- the desk can't refuse the end of a batch that may end
+pub ok_end : {T : Type 0} (view b : Locked) (s : Service) (n : ℕ) (r : Result T DeskFault) → view ≡ b → Keeps s view → MayEnd (atoms (log b.history)) n
+    → IfErr r (λ fault. (h : List Atom) → StandsFor view.desk h → unfit h n ≡ Some fault) → IsOk r
+ok_end view b s n (Ok x) is kept may fault = refl
+ok_end view b s n (Err e) is kept may fault =
+    let here : MayEnd (atoms (log view.history)) n = subst (λ (v : Locked). MayEnd (atoms (log v.history)) n) (sym is) may in
+    let none = unfit_may (atoms (log view.history)) n here in
+    absurd (let bad : ◌≡◌ {A = Option DeskFault} None (Some e) = sym none ∙ fault (atoms (log view.history)) kept.desk in cc)
+
+on_ok : {T E : Type 0} {P : Type 0} (r : Result T E) → IsOk r → OnOk r P → P
+on_ok (Ok x) ok holds = holds
+on_ok (Err e) ok holds = absurd (let bad : false ≡ true = ok in cc)
+
+-- what the book keeps after its settle
+pub settle_kept : {T : Type 0} (s : Service) (view b : Locked) (later : List Event) (p : Part) (n : ℕ) (os : List Outcome) (new : Book) (cs : List ℕ) (ys : List Cell) (r : Result T DeskFault) → view ≡ b → Keeps s view → p.caller < s.callers → unready s b p ≡ None
+    → MayBeMade s.answer (atoms (log b.history)) (Settle n os) → cs ≡ map (λ m. m.1) (members (atoms (log b.history)) n) → later ≡ view.history ++ event_of p (Settle n os) Done ∷ [] → new.rules ≡ view.desk.rules
+    → IfErr r (λ fault. (h : List Atom) → StandsFor view.desk h → unfit h n ≡ Some fault) → OnOk r ((h : List Atom) → StandsFor view.desk h → StandsFor new (atom.Settle n ∷ h))
+    → (dues : List Due) × AreDue (Settle n os) (length view.history) cs dues × AreGiven dues view.cells ys → Keeps s (locked later new ys view.stopped)
+settle_kept s view b later p n os new cs ys r is kept caller ready may cells grown rules fault stands given =
+    let same : (X : Locked → Type 0) → X b → X view = λ X x. subst X (sym is) x in
+    let own = same (λ v. MayBeMade s.answer (atoms (log v.history)) (Settle n os)) may in
+    let calls = (ready_facts s view p (same (λ v. unready s v p ≡ None) ready)).1 in
+    let now = on_ok r (ok_end view b s n r is kept may.0 fault) stands (atoms (log view.history)) kept.desk in
+    settle_keeps s view.history later p n os view.desk new cs view.cells ys view.stopped kept caller own calls grown rules now (same (λ v. cs ≡ map (λ m. m.1) (members (atoms (log v.history)) n)) cells) given
+
+-- and after its fail
+pub fail_kept : {T : Type 0} (s : Service) (view b : Locked) (later : List Event) (p : Part) (n : ℕ) (why : BatchFault) (new : Book) (cs : List ℕ) (ys : List Cell) (r : Result T DeskFault) → view ≡ b → Keeps s view → p.caller < s.callers → unready s b p ≡ None
+    → MayBeMade s.answer (atoms (log b.history)) (Fail n why) → cs ≡ map (λ m. m.1) (members (atoms (log b.history)) n) → later ≡ view.history ++ event_of p (Fail n why) Done ∷ [] → new.rules ≡ view.desk.rules
+    → IfErr r (λ fault. (h : List Atom) → StandsFor view.desk h → unfit h n ≡ Some fault) → OnOk r ((h : List Atom) → StandsFor view.desk h → StandsFor new (atom.Fail n ∷ h))
+    → (dues : List Due) × AreDue (Fail n why) (length view.history) cs dues × AreGiven dues view.cells ys → Keeps s (locked later new ys view.stopped)
+fail_kept s view b later p n why new cs ys r is kept caller ready may cells grown rules fault stands given =
+    let same : (X : Locked → Type 0) → X b → X view = λ X x. subst X (sym is) x in
+    let own = same (λ v. MayBeMade s.answer (atoms (log v.history)) (Fail n why)) may in
+    let calls = (ready_facts s view p (same (λ v. unready s v p ≡ None) ready)).1 in
+    let now = on_ok r (ok_end view b s n r is kept may.0 fault) stands (atoms (log view.history)) kept.desk in
+    fail_keeps s view.history later p n why view.desk new cs view.cells ys view.stopped kept caller own calls grown rules now (same (λ v. cs ≡ map (λ m. m.1) (members (atoms (log v.history)) n)) cells) given
+
+-- what a source answered to the keys of a batch that may end is what the loader's source answers to them
+pub answered_own : (answer source : List Key → BatchAnswer) (history : List Atom) (b : ℕ) (ks js : List Key) (a : BatchAnswer) → end_refusal history b ks ≡ None → ks ≡ js → a ≡ source js → source js ≡ answer js → answer (keys_of history b) ≡ a
+answered_own answer source history b ks js a none own asked same = ap answer (sym (own_keys history b ks none) ∙ own) ∙ (sym same ∙ sym asked)
+
+pub settle_may : (answer source : List Key → BatchAnswer) (history : List Atom) (b : ℕ) (ks js : List Key) (a : BatchAnswer) (os copies : List Outcome) → end_refusal history b ks ≡ None → ks ≡ js → a ≡ source js → source js ≡ answer js → a ≡ Each os → copies ≡ os → MayBeMade answer history (Settle b copies)
+settle_may answer source history b ks js a os copies none own asked same is copied =
+    (may_end history b ks none, answered_own answer source history b ks js a none own asked same ∙ (is ∙ ap Each (sym copied)))

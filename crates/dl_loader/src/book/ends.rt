@@ -1,0 +1,170 @@
+//! The ends of batches.
+
+ghost use Rattle.std.specs.Prelude.{◌≡◌, ℕ, ◌+◌, ◌<◌, ◌≤◌, ◌⊎◌, IfErr, IfOk, IsSome, List, None, OnErr, OnOk, Some, length, map};
+ghost use Rattle.dl_desk.specs.Key.{Key};
+ghost use Rattle.dl_desk.specs.Events.{atoms};
+ghost use Rattle.dl_desk.specs.History.{members};
+ghost use Rattle.dl_source.specs.Fetched.{answer_of, job_of, source_of};
+ghost use Rattle.dl_loader.specs.declared.event.Call.TheVariants.{Settle, Fail};
+ghost use Rattle.dl_loader.specs.declared.fault.CallFault.TheVariants.{LogRefused, OutOfMemory};
+ghost use Rattle.dl_loader.specs.Asks.{end_by, fault_of};
+ghost use Rattle.dl_loader.specs.Dues.{end_refusal};
+ghost use Rattle.dl_loader.specs.History.{MayBeMade, log};
+ghost use Rattle.dl_loader.specs.Journal.{refusals};
+ghost use Rattle.dl_loader.specs.Made.{Makes};
+ghost use Rattle.dl_loader.specs.Refusals.{IsRefusal, refusal, unready};
+ghost use Rattle.dl_loader.specs.Service.{service};
+
+use crate::book::Book;
+use crate::dues::copy_outcomes;
+use crate::event::{Call, GiveUp, Reply};
+use crate::fault::CallFault;
+use crate::loader::Loader;
+use crate::name::LoaderName;
+use crate::pass::Pass;
+use dl_desk::{BatchFault, BatchState, FetchKey, Job, Outcomes};
+use dl_source::{BatchAnswer, Fetched, Source};
+use std::alloc::Global;
+
+impl<L: LoaderName> Book<L> {
+    /// Ends a batch by what the source answered to its keys, and tells how many of its cells refused
+    /// their outcome.
+    ///
+    /// # Errors
+    /// The first of these causes that applies: `NoBatch`, `NotSent`, `SettledBefore`, `WrongKeys`; else
+    /// `OutOfMemory` or `LogRefused`.
+    pub(crate) fn settle<S: Source>(
+        &mut self,
+        alloc: Global,
+        loader: &Loader<L>,
+        pass: &mut Pass<L>,
+        fetched: &Fetched<'_, S>,
+    ) -> Result<(Reply, u32), CallFault>
+        requires ready { unready (service L.rules L.parts L.answer) self.old pass.old.part ≡ None }
+        requires source { (keys : List Key) → S.answer (source_of fetched.now) keys ≡ L.answer keys }
+        ensures made { IfOk result (λ r. Makes self.old pass.old.part (end_by (job_of fetched.now).batch (answer_of fetched.now)) r.0 self.new pass.new.part) }
+        ensures accepted { OnOk result (refusal (service L.rules L.parts L.answer) self.old pass.old.part (end_by (job_of fetched.now).batch (answer_of fetched.now)) (Some (job_of fetched.now)) ≡ None) }
+        ensures refused { IfOk result (λ r. refusals self.new.cells ≡ refusals self.old.cells + r.1) }
+        ensures few { IfOk result (λ r. r.1 ≤ length (job_of fetched.now).keys) }
+        ensures fault { IfErr result (IsRefusal (service L.rules L.parts L.answer) self.old pass.old.part (end_by (job_of fetched.now).batch (answer_of fetched.now)) (Some (job_of fetched.now))) }
+        ensures unchanged { OnErr result ((self.new ≡ self.old) × (pass.new.part ≡ pass.old.part)) }
+    {
+        let batch = fetched.batch();
+        let cells = self.cells_of(alloc, batch, fetched.keys())?;
+        match fetched.answer() {
+            BatchAnswer::Each(outcomes) => {
+                let outcomes = copy_outcomes(alloc, outcomes)?;
+                self.settle_batch(alloc, loader, pass, batch, &cells, outcomes)
+            }
+            BatchAnswer::Break(text) => {
+                let copy = text.try_copy()?;
+                let fault = BatchFault::Source(copy);
+                self.fail_batch(alloc, loader, pass, batch, &cells, fault)
+            }
+        }
+    }
+
+    /// Fails a batch that is given up, and tells how many of its cells refused their outcome.
+    ///
+    /// # Errors
+    /// The first of these causes that applies: `NoBatch`, `NotSent`, `SettledBefore`, `WrongKeys`; else
+    /// `OutOfMemory` or `LogRefused`.
+    pub(crate) fn fail(
+        &mut self,
+        alloc: Global,
+        loader: &Loader<L>,
+        pass: &mut Pass<L>,
+        job: &Job,
+        give_up: GiveUp,
+    ) -> Result<(Reply, u32), CallFault>
+        requires ready { unready (service L.rules L.parts L.answer) self.old pass.old.part ≡ None }
+        ensures made { IfOk result (λ r. Makes self.old pass.old.part (Fail job.now.batch (fault_of give_up)) r.0 self.new pass.new.part) }
+        ensures accepted { OnOk result (refusal (service L.rules L.parts L.answer) self.old pass.old.part (Fail job.now.batch (fault_of give_up)) (Some job.now) ≡ None) }
+        ensures refused { IfOk result (λ r. refusals self.new.cells ≡ refusals self.old.cells + r.1) }
+        ensures few { IfOk result (λ r. r.1 ≤ length job.now.keys) }
+        ensures fault { IfErr result (IsRefusal (service L.rules L.parts L.answer) self.old pass.old.part (Fail job.now.batch (fault_of give_up)) (Some job.now)) }
+        ensures unchanged { OnErr result ((self.new ≡ self.old) × (pass.new.part ≡ pass.old.part)) }
+    {
+        let cells = self.cells_of(alloc, job.batch, job.keys.as_slice())?;
+        self.fail_batch(alloc, loader, pass, job.batch, &cells, batch_fault(give_up))
+    }
+
+    // The cells of a batch's members, in order, where the batch may end and these are its keys.
+    fn cells_of(&self, alloc: Global, batch: u32, keys: &[FetchKey]) -> Result<Vec<u32>, CallFault>
+        ensures cells { IfOk result (λ cells. cells.items ≡ map (λ m. m.1) (members (atoms (log self.now.history)) batch)) }
+        ensures accepted { OnOk result (end_refusal (atoms (log self.now.history)) batch keys.now ≡ None) }
+        ensures fault { IfErr result (λ fault. (fault ≡ OutOfMemory) ⊎ (end_refusal (atoms (log self.now.history)) batch keys.now ≡ Some fault)) }
+    {
+        let view = self.desk.batch(batch).ok_or(CallFault::NoBatch)?;
+        match view.state() {
+            BatchState::Sent => {}
+            BatchState::Collecting => return Err(CallFault::NotSent),
+            BatchState::Settled | BatchState::Failed => return Err(CallFault::SettledBefore),
+        }
+        if keys != view.keys() {
+            return Err(CallFault::WrongKeys);
+        }
+        Ok(view.cells().to_vec(alloc)?)
+    }
+
+    // Ends a batch whose members have these cells with an outcome for each.
+    fn settle_batch(
+        &mut self,
+        alloc: Global,
+        loader: &Loader<L>,
+        pass: &mut Pass<L>,
+        batch: u32,
+        cells: &[u32],
+        outcomes: Outcomes,
+    ) -> Result<(Reply, u32), CallFault>
+        requires ready { unready (service L.rules L.parts L.answer) self.old pass.old.part ≡ None }
+        requires may { MayBeMade L.answer (atoms (log self.old.history)) (Settle batch outcomes) }
+        requires cells { cells.now ≡ map (λ m. m.1) (members (atoms (log self.old.history)) batch) }
+        requires as_many { length outcomes ≡ length cells.now }
+        ensures made { IfOk result (λ r. Makes self.old pass.old.part (Settle batch outcomes) r.0 self.new pass.new.part) }
+        ensures refused { IfOk result (λ r. refusals self.new.cells ≡ refusals self.old.cells + r.1) }
+        ensures few { IfOk result (λ r. r.1 ≤ length cells.now) }
+        ensures fault { IfErr result (λ fault. (fault ≡ OutOfMemory) ⊎ (fault ≡ LogRefused)) }
+        ensures unchanged { OnErr result ((self.new ≡ self.old) × (pass.new.part ≡ pass.old.part)) }
+    {
+        let call = Call::Settle { batch, outcomes };
+        let refused = loader.record_end(alloc, &mut self.journal, pass, cells, call)?;
+        self.desk.settle(batch).unwrap();
+        Ok((Reply::Done, refused))
+    }
+
+    // Fails a batch whose members have these cells.
+    fn fail_batch(
+        &mut self,
+        alloc: Global,
+        loader: &Loader<L>,
+        pass: &mut Pass<L>,
+        batch: u32,
+        cells: &[u32],
+        fault: BatchFault,
+    ) -> Result<(Reply, u32), CallFault>
+        requires ready { unready (service L.rules L.parts L.answer) self.old pass.old.part ≡ None }
+        requires may { MayBeMade L.answer (atoms (log self.old.history)) (Fail batch fault) }
+        requires cells { cells.now ≡ map (λ m. m.1) (members (atoms (log self.old.history)) batch) }
+        ensures made { IfOk result (λ r. Makes self.old pass.old.part (Fail batch fault) r.0 self.new pass.new.part) }
+        ensures refused { IfOk result (λ r. refusals self.new.cells ≡ refusals self.old.cells + r.1) }
+        ensures few { IfOk result (λ r. r.1 ≤ length cells.now) }
+        ensures fault { IfErr result (λ fault. (fault ≡ OutOfMemory) ⊎ (fault ≡ LogRefused)) }
+        ensures unchanged { OnErr result ((self.new ≡ self.old) × (pass.new.part ≡ pass.old.part)) }
+    {
+        let call = Call::Fail { batch, fault };
+        let refused = loader.record_end(alloc, &mut self.journal, pass, cells, call)?;
+        self.desk.fail(batch).unwrap();
+        Ok((Reply::Done, refused))
+    }
+}
+
+// The fault of a batch that is given up.
+fn batch_fault(give_up: GiveUp) -> BatchFault
+    ensures { result ≡ fault_of give_up }
+{
+    match give_up {
+        GiveUp::Memory => BatchFault::Memory,
+        GiveUp::Unsent => BatchFault::Unsent,
+    }
+}

@@ -1,0 +1,100 @@
+//! What the cells of a batch's members are due when the batch ends.
+
+ghost use Rattle.std.specs.Prelude.{◌≡◌, ℕ, ◌+◌, ◌<◌, ◌≤◌, IfOk, IsSome, Some, length, map};
+ghost use Rattle.dl_cells.specs.Cells.{row_len};
+ghost use Rattle.dl_loader.specs.Dues.{AreDue, AreGiven, CanEnd, outcome_by};
+ghost use Rattle.dl_loader.specs.Journal.{refusals};
+
+use crate::event::{Call, Ending};
+use crate::journal::Journal;
+use crate::name::LoaderName;
+use dl_cells::CellRow;
+use dl_desk::{Outcome, Outcomes};
+use std::alloc::{AllocError, Global};
+
+/// The end that a cell is due.
+#[derive(Drop)]
+pub(crate) struct Due {
+    cell: u32,
+    ending: Box<Ending>,
+}
+
+impl Due {
+    // The due of a cell: an outcome that the event at a place gives it. The error is want of memory.
+    fn new(alloc: Global, cell: u32, at: u16, outcome: Outcome) -> Result<Due, AllocError>
+        ensures cell { IfOk result (λ due. due.cell ≡ cell) }
+        ensures at { IfOk result (λ due. due.ending.value.at ≡ at) }
+        ensures outcome { IfOk result (λ due. due.ending.value.outcome ≡ outcome) }
+    {
+        let ending = Box::new(alloc, Ending { at, outcome }).map_err(AllocError::from)?;
+        Ok(Due { cell, ending })
+    }
+}
+
+/// The dues of the cells of a batch's members, in order, by a call at a place of the history that ends the
+/// batch. The error is want of memory.
+pub(crate) fn dues(
+    alloc: Global,
+    at: u16,
+    cells: &[u32],
+    call: &Call,
+) -> Result<Vec<Due>, AllocError>
+    requires { (i : ℕ) → i < length cells.now → IsSome (outcome_by call.now i) }
+    ensures { IfOk result (λ dues. AreDue call.now at cells.now dues.items) }
+{
+    let mut dues = Vec::with_capacity(alloc, cells.len())?;
+    for place in 0..cells.len() {
+        let outcome = outcome_at(call, place)?;
+        let due = Due::new(alloc, cells[place], at, outcome)?;
+        dues.push(due)?;
+    }
+    Ok(dues)
+}
+
+/// Gives the cells their dues, and tells how many of them refused. It takes no memory.
+pub(crate) fn give<L: LoaderName>(
+    journal: &mut Journal<L>,
+    row: &CellRow<Ending>,
+    dues: Vec<Due>,
+) -> usize
+    requires row { row.now ≡ L.outcomes }
+    requires in_row { length journal.old.cells ≤ row_len L.outcomes }
+    requires can { CanEnd (map (λ d. d.cell) dues.items) journal.old.cells }
+    ensures history { journal.new.history ≡ journal.old.history }
+    ensures given { AreGiven dues.items journal.old.cells journal.new.cells }
+    ensures refused { refusals journal.new.cells ≡ refusals journal.old.cells + result }
+    ensures few { result ≤ length dues.items }
+{
+    let mut refused = 0;
+    for due in dues {
+        let Due { cell, ending } = due;
+        if !journal.end(row, cell, ending) {
+            refused += 1;
+        }
+    }
+    refused
+}
+
+/// The same outcomes, each shared. The error is want of memory.
+pub(crate) fn copy_outcomes(alloc: Global, outcomes: &Outcomes) -> Result<Outcomes, AllocError>
+    ensures { IfOk result (λ copies. copies ≡ outcomes.now) }
+{
+    let outcomes = outcomes.as_slice();
+    let mut copies = Vec::with_capacity(alloc, outcomes.len())?;
+    for outcome in outcomes {
+        copies.push(outcome.try_copy()?)?;
+    }
+    Ok(Outcomes::new(copies))
+}
+
+// The outcome that the end of a batch brings its member at a place.
+fn outcome_at(call: &Call, place: usize) -> Result<Outcome, AllocError>
+    requires { IsSome (outcome_by call.now place) }
+    ensures { IfOk result (λ outcome. outcome_by call.now place ≡ Some outcome) }
+{
+    match call {
+        Call::Settle { outcomes, .. } => outcomes.as_slice()[place].try_copy(),
+        Call::Fail { fault, .. } => Ok(Outcome::BatchFailed(fault.try_copy()?)),
+        _ => unreachable!(),
+    }
+}
