@@ -7,9 +7,9 @@ ghost use Rattle.dl_loader.specs.Book.{Keeps, locked};
 ghost use Rattle.dl_loader.specs.Entries.{cell_of_load, front_of};
 ghost use Rattle.dl_loader.specs.Refusals.{unready};
 
+mod ends;
 mod keys;
 mod loads;
-mod ends;
 
 use crate::fault::CallFault;
 use crate::journal::Journal;

@@ -67,8 +67,6 @@ impl<L: LoaderName> Loader<L> {
         Ok(())
     }
 
-    /// The place of the next event.
-    pub(crate) fn place(&self, journal: &Journal<L>) -> u16
     /// Adds an event of the pass that ends a batch whose members have these cells, gives each of them its
     /// outcome, and tells how many of them refused.
     ///
@@ -118,8 +116,8 @@ impl<L: LoaderName> Loader<L> {
         cells as u32
     }
 
-    // The place of the next event.
-    fn place(&self, journal: &Journal<L>) -> u16
+    /// The place of the next event.
+    pub(crate) fn place(&self, journal: &Journal<L>) -> u16
         requires { length journal.now.history < L.rules.limits.max_calls }
         ensures { result ≡ length journal.now.history }
     {
