@@ -158,3 +158,13 @@ refused_count now then c other waits is = let step = refusals-set now c waiting 
 -- no more refused than there are cells
 pub refusals-le : (xs : List Cell) → refusals xs ≤ length xs
 refusals-le xs = count_by-le-length (λ x. is_refused x.mark) xs
+
+-- the counts after one more was given
+pub refused_next : (was now then n : ℕ) → now ≡ was + n → then ≡ now + 1 → then ≡ was + (n + 1)
+refused_next was now then n before step = omega arith
+
+pub few_next : (n m k : ℕ) → n ≤ m → k ≡ m + 1 → n + 1 ≤ k
+few_next n m k few longer = omega arith
+
+pub few_still : (n m k : ℕ) → n ≤ m → k ≡ m + 1 → n ≤ k
+few_still n m k few longer = omega arith
