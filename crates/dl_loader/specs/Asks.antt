@@ -6,7 +6,7 @@ use Rattle.dl_desk.specs.declared.reply.Job.{Job}
 use Rattle.dl_source.specs.declared.source.BatchAnswer.{BatchAnswer}
 use Rattle.dl_source.specs.declared.source.BatchAnswer.TheVariants.{Each, Break}
 use Rattle.dl_source.specs.declared.source.Source.{Ghosts}
-use Rattle.dl_source.specs.Fetched.{job_of, answer_of}
+use Rattle.dl_source.specs.Fetched.{source_of, job_of, answer_of}
 use Rattle.dl_loader.specs.declared.ask.Ask.{Ask}
 use Rattle.dl_loader.specs.declared.ask.Ask.TheVariants as ask
 use Rattle.dl_loader.specs.declared.event.Call.{Call}
@@ -46,3 +46,14 @@ module _ {S : Type 0} {G : Ghosts S} where
   job_asked ask.Dispatch = None
   job_asked (ask.Settle fetched) = Some (job_of fetched)
   job_asked (ask.Fail job give_up) = Some job
+
+  -- the source that gave the answer which an ask brings
+  abbrev pub source_asked : Ask S G → Option S
+  source_asked (ask.Load k) = None
+  source_asked (ask.LoadMany ks) = None
+  source_asked (ask.Prime k o) = None
+  source_asked (ask.Clear k) = None
+  source_asked ask.ClearAll = None
+  source_asked ask.Dispatch = None
+  source_asked (ask.Settle fetched) = Some (source_of fetched)
+  source_asked (ask.Fail job give_up) = None

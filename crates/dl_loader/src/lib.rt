@@ -12,6 +12,7 @@ mod entry;
 mod event;
 mod fault;
 mod journal;
+pub mod laws;
 mod lists;
 mod loader;
 mod loads;

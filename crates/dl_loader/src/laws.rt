@@ -1,0 +1,77 @@
+//! One event, made on the locked book.
+
+ghost use Rattle.std.specs.Prelude.{◌≡◌, ◌+◌, List, None, IfErr, IfOk, IfSome, OnErr, OnOk};
+ghost use Rattle.dl_desk.specs.Key.{Key};
+ghost use Rattle.dl_loader.specs.Asks.{call_asked, job_asked, source_asked};
+ghost use Rattle.dl_loader.specs.Book.{Keeps};
+ghost use Rattle.dl_loader.specs.Journal.{refusals};
+ghost use Rattle.dl_loader.specs.Made.{Makes};
+ghost use Rattle.dl_loader.specs.Refusals.{refusal, IsRefusal, unready};
+ghost use Rattle.dl_loader.specs.Service.{service};
+
+use crate::ask::Ask;
+use crate::book::Book;
+use crate::event::Reply;
+use crate::fault::CallFault;
+use crate::loader::Loader;
+use crate::name::LoaderName;
+use crate::pass::Pass;
+use dl_source::Source;
+use std::alloc::Global;
+
+/// Makes one event of a pass on the book, and answers its reply and how many cells refused the outcome that
+/// it gave them. This is what each event call does under the lock.
+///
+/// # Errors
+/// The first cause of [`CallFault`] that applies, with the ask. The book and the pass are then as they were.
+pub fn event<'a, L: LoaderName, S: Source>(
+    alloc: Global,
+    loader: &Loader<L>,
+    book: &mut Book<L>,
+    pass: &mut Pass<L>,
+    ask: Ask<'a, S>,
+) -> Result<(Reply, u32), (CallFault, Ask<'a, S>)>
+    requires source { IfSome (source_asked ask) (λ source. (keys : List Key) → S.answer source keys ≡ L.answer keys) }
+    ensures made { IfOk result (λ r. Makes book.old pass.old.part (call_asked ask.entry) r.0 book.new pass.new.part) }
+    ensures accepted { OnOk result (refusal (service L.rules L.parts L.answer) book.old pass.old.part (call_asked ask.entry) (job_asked ask.entry) ≡ None) }
+    ensures refused { IfOk result (λ r. refusals book.new.cells ≡ refusals book.old.cells + r.1) }
+    ensures fault { IfErr result (λ e. IsRefusal (service L.rules L.parts L.answer) book.old pass.old.part (call_asked ask.entry) (job_asked ask.entry) e.0) }
+    ensures back { IfErr result (λ e. e.1 ≡ ask.entry) }
+    ensures unchanged { OnErr result ((book.new ≡ book.old) × (pass.new.part ≡ pass.old.part)) }
+    ensures keeps { Keeps (service L.rules L.parts L.answer) book.new }
+{
+    let made = make(alloc, loader, book, pass, &ask);
+    book.keeps();
+    match made {
+        Ok(made) => Ok(made),
+        Err(fault) => Err((fault, ask)),
+    }
+}
+
+// Makes the event that is asked for.
+fn make<L: LoaderName, S: Source>(
+    alloc: Global,
+    loader: &Loader<L>,
+    book: &mut Book<L>,
+    pass: &mut Pass<L>,
+    ask: &Ask<'_, S>,
+) -> Result<(Reply, u32), CallFault>
+    requires source { IfSome (source_asked ask.now) (λ source. (keys : List Key) → S.answer source keys ≡ L.answer keys) }
+    ensures made { IfOk result (λ r. Makes book.old pass.old.part (call_asked ask.now) r.0 book.new pass.new.part) }
+    ensures accepted { OnOk result (refusal (service L.rules L.parts L.answer) book.old pass.old.part (call_asked ask.now) (job_asked ask.now) ≡ None) }
+    ensures refused { IfOk result (λ r. refusals book.new.cells ≡ refusals book.old.cells + r.1) }
+    ensures fault { IfErr result (IsRefusal (service L.rules L.parts L.answer) book.old pass.old.part (call_asked ask.now) (job_asked ask.now)) }
+    ensures unchanged { OnErr result ((book.new ≡ book.old) × (pass.new.part ≡ pass.old.part)) }
+{
+    book.admit(loader, pass)?;
+    match ask {
+        Ask::Load(key) => Ok((book.load(alloc, loader, pass, key)?, 0)),
+        Ask::LoadMany(keys) => Ok((book.load_many(alloc, loader, pass, keys)?, 0)),
+        Ask::Prime(key, outcome) => book.prime(alloc, loader, pass, key, outcome),
+        Ask::Clear(key) => Ok((book.clear(alloc, loader, pass, key)?, 0)),
+        Ask::ClearAll => Ok((book.clear_all(alloc, loader, pass)?, 0)),
+        Ask::Dispatch => Ok((book.dispatch(alloc, loader, pass)?, 0)),
+        Ask::Settle(fetched) => book.settle(alloc, loader, pass, fetched),
+        Ask::Fail(job, give_up) => book.fail(alloc, loader, pass, job, *give_up),
+    }
+}
