@@ -24,7 +24,7 @@ use Rattle.dl_loader.specs.declared.event.Ending.{Ending}
 use Rattle.dl_loader.specs.declared.event.Call.{Call}
 use Rattle.dl_loader.specs.declared.event.Call.TheVariants.{Prime, Clear, ClearAll, Dispatch}
 use Rattle.dl_loader.specs.declared.event.Reply.{Reply}
-use Rattle.dl_loader.specs.declared.event.Reply.TheVariants.{Primed, Kept, Done, Sent}
+use Rattle.dl_loader.specs.declared.event.Reply.TheVariants.{Done, Sent}
 use Rattle.dl_loader.specs.declared.fault.CallFault.{CallFault}
 use Rattle.dl_loader.specs.declared.fault.CallFault.TheVariants.{Stopped, Behind, LogFull}
 use Rattle.dl_loader.specs.Service.{Service}

@@ -20,3 +20,4 @@ mod LoadEvents
 pub mod KeyEvents
 pub mod GivenDues
 pub mod BatchEnds
+mod Called

@@ -7,6 +7,7 @@
 
 mod ask;
 mod book;
+mod calls;
 mod dues;
 mod entry;
 mod event;

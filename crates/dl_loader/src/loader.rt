@@ -137,6 +137,11 @@ impl<L: LoaderName> Loader<L> {
         unreachable!()
     }
 
+    /// The lock round the book.
+    pub(crate) fn book(&self) -> &Mutex<Book<L>> {
+        &self.book
+    }
+
     /// The limits.
     pub(crate) fn limits(&self) -> Limits
         ensures { result ≡ L.rules.limits }

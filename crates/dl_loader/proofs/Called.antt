@@ -1,0 +1,23 @@
+-- What is known outside the lock of a call that was made under it.
+use Rattle.std.proofs.Common.{◌≡◌, subst, ◌≤◌, [], ◌∷◌, ◌++◌, length, List}
+use Rattle.dl_desk.specs.Events.{atoms}
+use Rattle.dl_loader.specs.Service.{Service}
+use Rattle.dl_loader.specs.History.{log, reply_to, IsLegal}
+use Rattle.dl_loader.specs.Entries.{front_of}
+use Rattle.dl_loader.specs.Pass.{Part}
+use Rattle.dl_loader.specs.Book.{Locked, Keeps}
+use Rattle.dl_loader.specs.Made.{event_of, Makes, WasMade}
+use Rattle.dl_loader.specs.declared.event.Event.{Event}
+use Rattle.dl_loader.specs.declared.event.Call.{Call}
+use Rattle.dl_loader.specs.declared.event.Reply.{Reply}
+use Rattle.dl_loader.proofs.Logs.{legal_at}
+
+-- the reply is the one that the history gives
+pub replied : (s : Service) (b now : Locked) (p new : Part) (call : Call) (r : Reply) → Keeps s now → Makes b p call r now new → r ≡ reply_to s.rules (atoms (log b.history)) call
+replied s b now p new call r kept made =
+    let legal : IsLegal s (b.history ++ event_of p call r ∷ []) = subst (λ (es : List Event). IsLegal s es) made.history kept.legal in
+    (legal_at s b.history [] (event_of p call r) legal).reply
+
+-- a call made at a book is one that was made, whatever the book
+pub was_made : (s : Service) (b now : Locked) (p new : Part) (call : Call) (r told : Reply) → Keeps s b → Keeps s now → front_of p.entries ≤ length b.history → Makes b p call r now new → r ≡ told → WasMade s p call told new
+was_made s b now p new call r told before kept after made is = (b, now, before, kept, after, subst (λ (x : Reply). Makes b p call x now new) is made)
