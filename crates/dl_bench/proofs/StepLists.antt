@@ -9,6 +9,9 @@ use Rattle.dl_desk.specs.Limits.{Rules}
 use Rattle.dl_desk.specs.declared.reply.Job.{Job}
 use Rattle.dl_desk.specs.History.{Atom, Settle}
 use Rattle.dl_bench.specs.declared.counts.Counts.{Counts}
+use Rattle.dl_source.specs.Listing.{NamedTables}
+use Rattle.dl_source.specs.Answer.{answer_of}
+use Rattle.dl_bench.specs.Answers.{answered, asked}
 use Rattle.dl_bench.specs.Steps.{Step, settled, left_by, added_by, left, added, user, users, load, load_each, reload, reload_each, round, round_each, first_parts}
 
 pub left-append : (rules : Rules) (history : List Atom) (xs ys : List Step) → left rules history (xs ++ ys) ≡ left rules (left rules history xs) ys
@@ -50,3 +53,14 @@ reload_users_more from count j is = ap reload_each (users_more from count j is) 
 pub rounds_more : (size : ℕ) (ks : List Key) (i : ℕ) (part : List Key) → part ≡ slice_chunk ks size i → round_each (first_parts size ks (i + 1)) ≡ round_each (first_parts size ks i) ++ round part
 rounds_more size ks i part is =
     ap round_each (map-range_with_len_more (slice_chunk ks size) 0 i i (omega arith)) ∙ (flat_map-append round (first_parts size ks i) (slice_chunk ks size i ∷ []) ∙ ap (λ (x : List Key). round_each (first_parts size ks i) ++ round x) (sym is))
+
+-- the counts of one list of keys more
+pub asked-snoc : (tables : NamedTables) (lists : List (List Key)) (ks : List Key) (c : Counts) → asked tables (lists ++ ks ∷ []) c ≡ answered (answer_of tables ks) (asked tables lists c)
+asked-snoc tables [] ks c = refl
+asked-snoc tables (l ∷ lists) ks c = asked-snoc tables lists ks (answered (answer_of tables l) c)
+
+-- the counts of one part of the keys more
+pub asked_more : (tables : NamedTables) (size : ℕ) (ks : List Key) (i : ℕ) (part : List Key) (c now new : Counts) → part ≡ slice_chunk ks size i → now ≡ asked tables (first_parts size ks i) c → new ≡ answered (answer_of tables part) now → new ≡ asked tables (first_parts size ks (i + 1)) c
+asked_more tables size ks i part c now new is before added =
+    let parts : first_parts size ks (i + 1) ≡ first_parts size ks i ++ slice_chunk ks size i ∷ [] = map-range_with_len_more (slice_chunk ks size) 0 i i (omega arith) in
+    rw (added, before, is, parts, asked-snoc tables (first_parts size ks i) (slice_chunk ks size i) c) refl

@@ -2,7 +2,7 @@
 use Rattle.std.specs.Prelude.{ℕ, codes, List}
 use Rattle.dl_desk.specs.Limits.{IsLimit}
 use Rattle.dl_bench.specs.declared.command.Command.{Command}
-use Rattle.dl_bench.specs.declared.command.Command.TheVariants.{Loads, Many, Hits, Clears, Rounds, Script}
+use Rattle.dl_bench.specs.declared.command.Command.TheVariants.{Loads, Many, Hits, Clears, Rounds, Script, Tables}
 
 -- each number of the command may be a limit of a loader
 abbrev pub IsSized : Command → Type 0
@@ -12,6 +12,7 @@ IsSized (Hits keys) = IsLimit keys
 IsSized (Clears keys) = IsLimit keys
 IsSized (Rounds keys batch) = IsLimit keys × IsLimit batch
 IsSized (Script keys) = IsLimit keys
+IsSized (Tables keys batch) = IsLimit keys × IsLimit batch
 
 -- the word that names the workload
 abbrev pub workload : Command → List ℕ
@@ -21,3 +22,4 @@ workload (Hits _) = codes "hits"
 workload (Clears _) = codes "clears"
 workload (Rounds _ _) = codes "rounds"
 workload (Script _) = codes "script"
+workload (Tables _ _) = codes "tables"

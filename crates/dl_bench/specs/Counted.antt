@@ -11,7 +11,7 @@ more n by = min (n + by) (2 ^ 64 - 1)
 
 -- nothing is counted yet
 abbrev pub none : Counts
-none = record { cells = 0; hits = 0; batches = 0; jobs = 0; settled = 0; lines = 0; last_batch = None }
+none = record { cells = 0; hits = 0; batches = 0; jobs = 0; settled = 0; lines = 0; outcomes = 0; last_batch = None }
 
 -- a batch is counted where it isn't that of the newest cell
 abbrev pub count_batch : ℕ → Counts → Counts

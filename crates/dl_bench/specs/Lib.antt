@@ -2,4 +2,5 @@ pub mod Asked
 pub mod Counted
 pub mod Steps
 pub mod Trials
-pub mod ScriptText
+pub mod Texts
+pub mod Answers

@@ -23,12 +23,14 @@ pub enum Command {
     Rounds { keys: u32, batch: u32 },
     /// Reads a script that loads the keys one by one, and answers it.
     Script { keys: u32 },
+    /// Reads tables with a row for each key, and fetches the keys, a batch at a time.
+    Tables { keys: u32, batch: u32 },
 }
 
 /// Why words are no command.
 #[derive(Clone, Copy, Debug, PartialEq, Eq, Error)]
 pub enum CommandFault {
-    #[error("usage: dl_bench loads|many|rounds N B, or dl_bench hits|clears|script N")]
+    #[error("usage: dl_bench loads|many|rounds|tables N B, or dl_bench hits|clears|script N")]
     Usage,
     #[error("N and B are numbers from 1 to 65536, the largest limit of a loader")]
     Size,
@@ -56,6 +58,10 @@ impl Command {
                 batch: size(batch)?,
             }),
             [_, "script", keys] => Ok(Command::Script { keys: size(keys)? }),
+            [_, "tables", keys, batch] => Ok(Command::Tables {
+                keys: size(keys)?,
+                batch: size(batch)?,
+            }),
             _ => Err(CommandFault::Usage),
         }
     }

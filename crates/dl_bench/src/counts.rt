@@ -1,12 +1,14 @@
 //! Counts of what a workload did.
 
 ghost use Rattle.std.specs.Prelude.{◌≡◌};
+ghost use Rattle.dl_bench.specs.Answers.{answered};
 ghost use Rattle.dl_bench.specs.Counted.{count, counted};
 
 use dl_desk::LoadReply;
+use dl_source::BatchAnswer;
 
 /// Loads that began a cell and loads that were hits, batches begun, jobs sent, batches settled, lines
-/// printed, and the batch of the newest cell.
+/// printed, outcomes fetched, and the batch of the newest cell.
 #[derive(Clone, Copy, Debug, Default, PartialEq, Eq)]
 pub struct Counts {
     pub cells: u64,
@@ -15,6 +17,7 @@ pub struct Counts {
     pub jobs: u64,
     pub settled: u64,
     pub lines: u64,
+    pub outcomes: u64,
     pub last_batch: Option<u32>,
 }
 
@@ -41,6 +44,17 @@ impl Counts {
     {
         for reply in replies {
             self.load(*reply);
+        }
+    }
+
+    /// Counts the outcomes of an answer.
+    pub fn answer(&mut self, answer: &BatchAnswer)
+        ensures { self.new ≡ answered answer.now self.old }
+    {
+        if let BatchAnswer::Each(outcomes) = answer {
+            self.outcomes = self
+                .outcomes
+                .saturating_add(outcomes.as_slice().len() as u64);
         }
     }
 }

@@ -22,6 +22,7 @@ fn run(alloc: Global, command: Command) -> Result<Counts> {
         Command::Clears { keys } => workloads::clears(alloc, keys),
         Command::Rounds { keys, batch } => workloads::rounds(alloc, keys, batch),
         Command::Script { keys } => workloads::script(alloc, keys),
+        Command::Tables { keys, batch } => workloads::tables(alloc, keys, batch),
     }
 }
 
@@ -32,6 +33,7 @@ fn print(rt: &impl Print, counts: &Counts) -> Result<()> {
     println!(rt; "jobs {}", counts.jobs)?;
     println!(rt; "settled {}", counts.settled)?;
     println!(rt; "lines {}", counts.lines)?;
+    println!(rt; "outcomes {}", counts.outcomes)?;
     Ok(())
 }
 

@@ -7,8 +7,7 @@ ghost use Rattle.dl_bench.specs.Steps.{Loads, Clears, Sends, Settles, load_each,
 ghost use Rattle.dl_bench.specs.Trials.{IsNew, Makes};
 
 use crate::counts::Counts;
-use anyhow::Result;
-use dl_desk::{Desk, FetchKey, Job, Limits};
+use dl_desk::{Desk, DeskFault, FetchKey, Job, Limits};
 use std::alloc::{AllocError, Global};
 
 /// A desk, and counts of what it did.
@@ -30,7 +29,8 @@ impl Trial {
     }
 
     /// Loads a key.
-    pub fn load(&mut self, alloc: Global, key: &FetchKey) -> Result<()>
+    #[inline]
+    pub fn load(&mut self, alloc: Global, key: &FetchKey) -> Result<(), DeskFault>
         ensures { OnOk result (Makes self.old (Loads (key.now ∷ []) ∷ []) self.new) }
     {
         self.counts.load(self.desk.load(alloc, key)?);
@@ -38,7 +38,7 @@ impl Trial {
     }
 
     /// Loads keys, one by one.
-    pub fn load_each(&mut self, alloc: Global, keys: &[FetchKey]) -> Result<()>
+    pub fn load_each(&mut self, alloc: Global, keys: &[FetchKey]) -> Result<(), DeskFault>
         ensures { OnOk result (Makes self.old (load_each keys.now) self.new) }
     {
         for key in keys {
@@ -48,7 +48,7 @@ impl Trial {
     }
 
     /// Loads keys in one call.
-    pub fn load_many(&mut self, alloc: Global, keys: &[FetchKey]) -> Result<()>
+    pub fn load_many(&mut self, alloc: Global, keys: &[FetchKey]) -> Result<(), DeskFault>
         ensures { OnOk result (Makes self.old (Loads keys.now ∷ []) self.new) }
     {
         let replies = self.desk.load_many(alloc, keys)?;
@@ -64,7 +64,7 @@ impl Trial {
     }
 
     /// Loads a key, clears it and loads it again.
-    pub fn reload(&mut self, alloc: Global, key: &FetchKey) -> Result<()>
+    pub fn reload(&mut self, alloc: Global, key: &FetchKey) -> Result<(), DeskFault>
         ensures { OnOk result (Makes self.old (reload key.now) self.new) }
     {
         self.load(alloc, key)?;
@@ -84,7 +84,7 @@ impl Trial {
     }
 
     /// Dispatches, and settles each batch that was sent.
-    pub fn settle(&mut self, alloc: Global) -> Result<()>
+    pub fn settle(&mut self, alloc: Global) -> Result<(), DeskFault>
         ensures { OnOk result (Makes self.old (Settles ∷ []) self.new) }
     {
         let jobs = self.dispatch(alloc)?;

@@ -1,17 +1,24 @@
 //! The workloads.
 
-ghost use Rattle.std.specs.Prelude.{◌≡◌, ◌≤◌, ◌-◌, ◌==◌, ◌++◌, ℕ, List, [], ◌∷◌, min, count_by, IfOk, string_bytes};
+ghost use Rattle.std.specs.Prelude.{◌≡◌, ◌≤◌, ◌-◌, ◌==◌, ◌++◌, ℕ, List, [], ◌∷◌, min, count_by, IfOk, Some, string_bytes};
 ghost use Rattle.dl_plans.specs.Run.{Answers};
 ghost use Rattle.dl_bench.specs.Counted.{none};
 ghost use Rattle.dl_bench.specs.Steps.{Loads, Sends, limits_of, added_anew, user, users, load_each, reload_each, parts, round_each};
-ghost use Rattle.dl_bench.specs.ScriptText.{script_text};
+ghost use Rattle.serde_json.specs.Data.{Data};
+ghost use Rattle.serde_json.specs.Read.{read as read_text};
+ghost use Rattle.dl_source.specs.Listing.{NamedTables};
+ghost use Rattle.dl_source.specs.Spelling.{Spells};
+ghost use Rattle.dl_bench.specs.Answers.{asked};
+ghost use Rattle.dl_bench.specs.Texts.{script_text, tree_text};
 
 use crate::counts::Counts;
 use crate::trial::Trial;
 use anyhow::Result;
 use dl_desk::{FetchKey, LARGEST_LIMIT, LimitFault, Limits};
 use dl_plans::{Input, read_input, run_script};
+use dl_source::{Source, Tables};
 use itoa::Buffer;
+use serde_json::Value;
 use std::alloc::{AllocError, Global};
 
 /// The most keys that can be loaded, cleared and loaded again on one desk, since each begins two
@@ -142,5 +149,43 @@ pub fn script(alloc: Global, keys: u32) -> Result<Counts>
     let output = run_script(alloc, &script)?;
     let mut counts = Counts::default();
     counts.lines = line_count(&output);
+    Ok(counts)
+}
+
+/// The text of a tree of one table, with a row for each key.
+fn tree_of(alloc: Global, keys: u32) -> Result<String, AllocError>
+    ensures { IfOk result (λ tree. string_bytes tree ≡ tree_text keys) }
+{
+    let mut text = String::from_str(alloc, "[{\"name\":\"users\",\"rows\":[")?;
+    for number in 0..keys {
+        if number > 0 {
+            text.push_str(",")?;
+        }
+        write!(text, "[\"{number}\",{number}]")?;
+    }
+    text.push_str("]}]")?;
+    Ok(text)
+}
+
+/// Reads tables with a row for each key, fetches the keys, a batch at a time, and counts their outcomes.
+pub fn tables(alloc: Global, keys: u32, batch: u32) -> Result<Counts>
+    ensures { IfOk result (λ counts. (tree : Data) × (named : NamedTables) × (read_text (tree_text keys) ≡ Some tree) × Spells tree named × (counts ≡ asked named (parts batch (users 0 keys)) none)) }
+{
+    let limits = limits(batch)?;
+    let text = tree_of(alloc, keys)?;
+    let tables = Tables::from_value(alloc, &Value::from_str(alloc, text.as_str())?)?;
+    let counts = fetch_each(alloc, &tables, &keys_of(alloc, keys)?, limits.max_batch())?;
+    Ok(counts)
+}
+
+/// Fetches keys, a batch at a time, and counts their outcomes.
+fn fetch_each(alloc: Global, tables: &Tables, keys: &[FetchKey], batch: u32) -> Result<Counts>
+    requires { 1 ≤ batch }
+    ensures { IfOk result (λ counts. counts ≡ asked tables.now (parts batch keys.now) none) }
+{
+    let mut counts = Counts::default();
+    for part in keys.chunks(batch as usize) {
+        counts.answer(&tables.fetch(alloc, part)?);
+    }
     Ok(counts)
 }

@@ -1,7 +1,7 @@
 use Rattle.std.proofs.Common.{◌≡◌, ◌∙◌, string_bytes, rules}
 use Rattle.dl_plans.specs.Run.{Answers}
 use Rattle.dl_plans.proofs.Runs.{answers_made}
-use Rattle.dl_bench.specs.ScriptText.{script_text}
+use Rattle.dl_bench.specs.Texts.{script_text}
 use Rattle.dl_bench.proofs.workloads.script.Goals as goal
 
 pub returns : goal.returns
