@@ -38,10 +38,10 @@ pub record Makes (before : Locked) (old : Part) (call : Call) (reply : Reply) (n
 
 -- ---- what a caller knows of a call that was made under the lock
 
--- at a book of the loader, which had at least the events that the pass had seen, the call was made so
+-- at a book that keeps what the loader's does, and has at least the events that the pass had seen, the call was made so
 abbrev pub WasMade : Service → Part → Call → Reply → Part → Type 0
 WasMade service old call reply new = (before now : Locked) × Keeps service before × Keeps service now × (front_of old.entries ≤ length before.history) × Makes before old call reply now new
 
--- at a book of the loader the call was refused so
+-- at a book that keeps what the loader's does the call was refused so; that it was the locked one nothing says
 abbrev pub WasRefused : Service → Part → Call → Option Job → CallFault → Type 0
 WasRefused service p call job fault = (before : Locked) × Keeps service before × IsRefusal service before p call job fault
