@@ -1,15 +1,15 @@
 -- The end of a batch: when it is refused, and what it leaves.
-use Rattle.std.proofs.Common.{◌≡◌, ◌∙◌, sym, ap, subst, ℕ, zero, suc, ◌<◌, ◌≤◌, ◌⊎◌, inl, inr, Bool, true, false, cond, List, [], ◌∷◌, ◌++◌, length, map, Option, Some, None, IsSome, IfSome, Result, Ok, Err, slice_get, option_map, is_some, nat_lt, nat_le, Decides, refl, arith}
+use Rattle.std.proofs.Common.{◌≡◌, ◌∙◌, sym, ap, subst, ℕ, zero, suc, ◌+◌, ◌<◌, ◌≤◌, ◌⊎◌, inl, inr, Bool, true, false, cond, List, [], ◌∷◌, ◌++◌, length, map, Option, Some, None, IsSome, IfSome, Result, Ok, Err, slice_get, option_map, is_some, nat_lt, nat_le, Decides, refl, arith}
 use Rattle.std.specs.Option.{option_or}
 use Rattle.std.proofs.lemmas.Bool.{ltb-false, leb-true, leb-false, le-leb, lt-leb, ltb-true}
 use Rattle.std.proofs.lemmas.Option.{slice_get_within}
-use Rattle.std.proofs.lemmas.List.{length-map}
+use Rattle.std.proofs.lemmas.List.{length-map, length_push}
 use Rattle.std.proofs.lemmas.Slice.Eq.{slice_eq-Decides}
 use Rattle.dl_desk.specs.Key.{Key, key_eq}
 use Rattle.dl_desk.specs.Limits.{Rules}
 use Rattle.dl_desk.specs.Events.{atoms}
 use Rattle.std.specs.Result.{IsOk, IfErr, OnOk}
-use Rattle.dl_desk.specs.History.{Atom, begun, sent, end_of, members, MayEnd}
+use Rattle.dl_desk.specs.History.{Atom, Begun, begins, cells, count_cell, is_number, add_member, begun, sent, end_of, members, MayEnd}
 use Rattle.dl_desk.specs.History as atom
 use Rattle.dl_desk.specs.Book.{Book, StandsFor, Seen, state_by, batch_seen}
 use Rattle.dl_desk.specs.Calls.{unfit}
@@ -34,38 +34,24 @@ use Rattle.dl_loader.specs.declared.event.Event.{Event}
 use Rattle.dl_loader.specs.declared.event.Reply.TheVariants.{Done}
 use Rattle.dl_loader.specs.declared.event.Ending.{Ending}
 use Rattle.dl_loader.specs.declared.fault.CallFault.{CallFault}
-use Rattle.dl_loader.specs.declared.fault.CallFault.TheVariants.{Stopped, Behind, LogFull, NoBatch, NotSent, SettledBefore, WrongKeys}
+use Rattle.dl_loader.specs.declared.fault.CallFault.TheVariants.{NoBatch, NotSent, SettledBefore, WrongKeys}
 use Rattle.dl_loader.specs.Asks.{end_by}
 use Rattle.dl_loader.specs.Book.{Locked, locked, Keeps}
 use Rattle.dl_loader.specs.Dues.{end_refusal, outcome_by, AreDue, CanEnd, AreGiven}
 use Rattle.dl_loader.specs.EndedUpTo.{EndedUpTo}
-use Rattle.dl_loader.specs.Entries.{front_of}
 use Rattle.dl_loader.specs.History.{log, keys_of, MayBeMade, reply_to, IsLegal, IsNext, ending_of}
 use Rattle.dl_loader.specs.Journal.{Cell, waiting}
 use Rattle.dl_loader.specs.Made.{event_of}
 use Rattle.dl_loader.specs.Pass.{Part}
 use Rattle.dl_loader.specs.Refusals.{call_fault, same_keys, unready, refusal}
 use Rattle.dl_loader.specs.Service.{Service}
+use Rattle.dl_loader.proofs.Admitted.{ready_facts}
 use Rattle.dl_loader.proofs.BatchEndings.{settled_end, failed_end}
 use Rattle.dl_loader.proofs.CellLists.{shows_same}
 use Rattle.dl_loader.proofs.Endings.{member_open, member_begun, members_distinct}
 use Rattle.dl_loader.proofs.GivenDues.{get_mapped, unmapped}
 use Rattle.dl_loader.proofs.Kept.{begun_cells}
 use Rattle.dl_loader.proofs.KeptEnds.{cell_waits, keeps_settled, keeps_failed}
-
--- ---- a pass that may make an event
-
-ready_at : (limit front len : ℕ) (stopped behind full : Bool) → nat_lt len front ≡ behind → nat_le limit len ≡ full
-    → cond stopped (Some Stopped) (cond behind (Some (Behind front len)) (cond full (Some (LogFull limit)) None)) ≡ None → (front ≤ len) × (len < limit)
-ready_at limit front len true behind full b f none = absurd (let bad : ◌≡◌ {A = Option CallFault} (Some Stopped) None = none in cc)
-ready_at limit front len false true full b f none = absurd (let bad : ◌≡◌ {A = Option CallFault} (Some (Behind front len)) None = none in cc)
-ready_at limit front len false false true b f none = absurd (let bad : ◌≡◌ {A = Option CallFault} (Some (LogFull limit)) None = none in cc)
-ready_at limit front len false false false b f none = (ltb-false len front b, leb-false limit len f)
-
--- a pass that may make an event has seen no more than there is, and the history has room
-pub ready_facts : (s : Service) (b : Locked) (p : Part) → unready s b p ≡ None → (front_of p.entries ≤ length b.history) × (length b.history < s.rules.limits.max_calls)
-ready_facts s b p none =
-    ready_at s.rules.limits.max_calls (front_of p.entries) (length b.history) b.stopped (nat_lt (length b.history) (front_of p.entries)) (nat_le s.rules.limits.max_calls (length b.history)) refl refl none
 
 -- ---- when an end is refused
 
@@ -279,6 +265,28 @@ pub can_end_view : (s : Service) (view b : Locked) (n : ℕ) (cs : List ℕ) →
 can_end_view s view b n cs is kept may cells =
     let same : (X : Locked → Type 0) → X b → X view = λ X x. subst X (sym is) x in
     can_end_now s view n cs kept (same (λ v. MayEnd (atoms (log v.history)) n) may) (same (λ v. cs ≡ map (λ m. m.1) (members (atoms (log v.history)) n)) cells)
+
+members_few : (history : List Atom) (b : ℕ) → length (members history b) ≤ cells history
+members_few [] b = omega arith
+members_few (a ∷ before) b = by (begins a) (members_few before b)
+  where
+    put : (t : Bool) (m : Key × ℕ) → length (members before b) ≤ cells before → length (cond t (members before b ++ m ∷ []) (members before b)) ≤ cells before + 1
+    put true m few = let long : length (members before b ++ m ∷ []) ≡ length (members before b) + 1 = length_push (members before b) m in omega arith
+    put false m few = omega arith
+
+    by : (o : Option Begun) → length (members before b) ≤ cells before → length (add_member b o (members before b)) ≤ count_cell o (cells before)
+    by None few = few
+    by (Some g) few = put (is_number b g.batch) (g.key, g.cell) few
+
+-- a batch has no more members than there may be cells
+pub few_end_view : (s : Service) (view b : Locked) (n : ℕ) (cs : List ℕ) → view ≡ b → Keeps s view → cs ≡ map (λ m. m.1) (members (atoms (log b.history)) n) → length cs ≤ s.rules.limits.max_cells
+few_end_view s view b n cs is kept own =
+    let here : cs ≡ map (λ m. m.1) (members (atoms (log view.history)) n) = subst (λ (v : Locked). cs ≡ map (λ m. m.1) (members (atoms (log v.history)) n)) (sym is) own in
+    let long : length cs ≡ length (members (atoms (log view.history)) n) = ap length here ∙ length-map (members (atoms (log view.history)) n) (λ (m : Key × ℕ). m.1) in
+    let few : length (members (atoms (log view.history)) n) ≤ cells (atoms (log view.history)) = members_few (atoms (log view.history)) n in
+    let all : view.desk.cells ≡ cells (atoms (log view.history)) = kept.desk.cells in
+    let fit : view.desk.cells ≤ s.rules.limits.max_cells = kept.cells_fit in
+    omega arith
 
 -- the refusal of an end of a batch that shows an end
 pub ended_seen : (s : Service) (view b : Locked) (n : ℕ) (ks : List Key) (seen : Seen) (shown : Option Seen) (state : BatchState) → view ≡ b → Keeps s view → shown ≡ Some seen

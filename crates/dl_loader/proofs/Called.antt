@@ -1,15 +1,18 @@
 -- What is known outside the lock of a call that was made under it.
-use Rattle.std.proofs.Common.{◌≡◌, subst, ◌≤◌, [], ◌∷◌, ◌++◌, length, List}
+use Rattle.std.proofs.Common.{◌≡◌, ◌∙◌, ap, subst, ◌≤◌, [], ◌∷◌, ◌++◌, length, List, refl}
 use Rattle.dl_desk.specs.Events.{atoms}
 use Rattle.dl_loader.specs.Service.{Service}
 use Rattle.dl_loader.specs.History.{log, reply_to, IsLegal}
 use Rattle.dl_loader.specs.Entries.{front_of}
-use Rattle.dl_loader.specs.Pass.{Part}
+use Rattle.dl_loader.specs.Pass.{Part, with_call, with_tickets}
 use Rattle.dl_loader.specs.Book.{Locked, Keeps}
-use Rattle.dl_loader.specs.Made.{event_of, Makes, WasMade}
+use Rattle.dl_loader.specs.Made.{event_of, loads_of, Makes, WasMade}
 use Rattle.dl_loader.specs.declared.event.Event.{Event}
 use Rattle.dl_loader.specs.declared.event.Call.{Call}
 use Rattle.dl_loader.specs.declared.event.Reply.{Reply}
+use Rattle.dl_loader.specs.EventReplies.{told_by}
+use Rattle.dl_loader.specs.declared.reply.PrimeReply.{PrimeReply}
+use Rattle.dl_loader.specs.declared.reply.PrimeReply.TheVariants as prime
 use Rattle.dl_loader.proofs.Logs.{legal_at}
 
 -- the reply is the one that the history gives
@@ -19,5 +22,16 @@ replied s b now p new call r kept made =
     (legal_at s b.history [] (event_of p call r) legal).reply
 
 -- a call made at a book is one that was made, whatever the book
-pub was_made : (s : Service) (b now : Locked) (p new : Part) (call : Call) (r told : Reply) → Keeps s b → Keeps s now → front_of p.entries ≤ length b.history → Makes b p call r now new → r ≡ told → WasMade s p call told new
-was_made s b now p new call r told before kept after made is = (b, now, before, kept, after, subst (λ (x : Reply). Makes b p call x now new) is made)
+pub was_made : (s : Service) (b now : Locked) (p new : Part) (call : Call) (r : Reply) → Keeps s b → Keeps s now → front_of p.entries ≤ length b.history → Makes b p call r now new → WasMade s p call r new
+was_made s b now p new call r before kept after made = (b, now, before, kept, after, made)
+
+-- a call that is no load gives no ticket
+pub no_tickets : (b now : Locked) (p new : Part) (call : Call) (r : Reply) → Makes b p call r now new → loads_of r ≡ [] → new.tickets ≡ p.tickets
+no_tickets b now p new call r made none =
+    let event : Part = with_call p (length b.history) (event_of p call r) in
+    ap (λ (q : Part). q.tickets) (made.part ∙ ap (with_tickets event) none)
+
+-- nor does a prime
+pub primed_none : (r : PrimeReply) → loads_of (told_by r) ≡ []
+primed_none (prime.Primed cell shown) = refl
+primed_none prime.Kept = refl

@@ -1,8 +1,7 @@
 -- What the book of a loader keeps after a call on a key, a clear of all keys and a dispatch, told by what the
 -- record of the event and the desk promise.
-use Rattle.std.proofs.Common.{◌≡◌, ◌∙◌, sym, ap, subst, ℕ, ◌+◌, ◌<◌, Bool, true, false, cond, List, [], ◌∷◌, ◌++◌, length, set, Option, Some, None, MatchBool, slice_get, nat_lt, nat_le, refl, arith}
+use Rattle.std.proofs.Common.{◌≡◌, ◌∙◌, sym, ap, subst, ℕ, ◌+◌, ◌<◌, Bool, true, false, cond, List, [], ◌∷◌, ◌++◌, length, set, Option, Some, None, MatchBool, slice_get, refl, arith}
 use Rattle.std.specs.List.{repeat}
-use Rattle.std.proofs.lemmas.Bool.{leb-false}
 use Rattle.std.proofs.lemmas.List.Sums.{fold-append}
 use Rattle.dl_desk.specs.Key.{Key}
 use Rattle.dl_desk.specs.Limits.{Rules}
@@ -25,38 +24,19 @@ use Rattle.dl_loader.specs.declared.event.Call.{Call}
 use Rattle.dl_loader.specs.declared.event.Call.TheVariants.{Prime, Clear, ClearAll, Dispatch}
 use Rattle.dl_loader.specs.declared.event.Reply.{Reply}
 use Rattle.dl_loader.specs.declared.event.Reply.TheVariants.{Done, Sent}
-use Rattle.dl_loader.specs.declared.fault.CallFault.{CallFault}
-use Rattle.dl_loader.specs.declared.fault.CallFault.TheVariants.{Stopped, Behind, LogFull}
 use Rattle.dl_loader.specs.Service.{Service}
 use Rattle.dl_loader.specs.History.{log, primed, IsNext}
-use Rattle.dl_loader.specs.Entries.{front_of}
 use Rattle.dl_loader.specs.Journal.{Cell, waiting, ended, refused, is_refused, refusals}
 use Rattle.dl_loader.specs.Book.{Locked, locked, ShowsEnd, Keeps}
 use Rattle.dl_loader.specs.Pass.{Part}
 use Rattle.dl_loader.specs.Refusals.{unready}
 use Rattle.dl_loader.specs.Replies.{jobs_in, primed_in}
+use Rattle.dl_loader.proofs.Admitted.{ready_room}
 use Rattle.dl_loader.proofs.Logs.{get-append_at}
 use Rattle.dl_loader.proofs.Endings.{primed_cell}
 use Rattle.dl_loader.proofs.CellLists.{repeat_none, set_last, gets_end}
 use Rattle.dl_loader.proofs.Kept.{begun_cells}
 use Rattle.dl_loader.proofs.KeptCalls.{keeps_clear, keeps_clear_all, keeps_dispatch, keeps_prime_held, keeps_prime_new}
-
--- ---- room for an event
-
-room_at : (limit n : ℕ) (behind full : Bool) (why : CallFault) → nat_le limit n ≡ full → cond behind (Some why) (cond full (Some (LogFull limit)) None) ≡ None → n < limit
-room_at limit n true full why test none = absurd (let bad : ◌≡◌ {A = Option CallFault} (Some why) None = none in cc)
-room_at limit n false true why test none = absurd (let bad : ◌≡◌ {A = Option CallFault} (Some (LogFull limit)) None = none in cc)
-room_at limit n false false why test none = leb-false limit n test
-
-ready_at : (limit n front : ℕ) (stopped : Bool) → cond stopped (Some Stopped) (cond (nat_lt n front) (Some (Behind front n)) (cond (nat_le limit n) (Some (LogFull limit)) None)) ≡ None → n < limit
-ready_at limit n front true none = absurd (let bad : ◌≡◌ {A = Option CallFault} (Some Stopped) None = none in cc)
-ready_at limit n front false none = room_at limit n (nat_lt n front) (nat_le limit n) (Behind front n) refl none
-
--- where a pass may make an event, the history is not full
-pub ready_room : (s : Service) (b : Locked) (p : Part) (es : List Event) (d : Book) (xs : List Cell) (stopped : Bool) → locked es d xs stopped ≡ b → unready s b p ≡ None → length es < s.rules.limits.max_calls
-ready_room s b p es d xs stopped view ready =
-    let same : b.history ≡ es = ap (λ (x : Locked). x.history) (sym view) in
-    subst (λ (hs : List Event). length hs < s.rules.limits.max_calls) same (ready_at s.rules.limits.max_calls (length b.history) (front_of p.entries) b.stopped ready)
 
 -- ---- an event with no cells
 

@@ -1,6 +1,7 @@
 pub mod ListLemmas
 pub mod PassLemmas
 mod Fresh
+mod Admitted
 pub mod Logs
 pub mod CellBatches
 pub mod LogEnds
@@ -10,6 +11,8 @@ pub mod Outcomes
 pub mod Fronts
 mod JournalLemmas
 pub mod Tickets
+pub mod HandedOut
+pub mod CellsGiven
 pub mod Begun
 pub mod CellLists
 pub mod Kept

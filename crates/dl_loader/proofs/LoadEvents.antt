@@ -1,7 +1,6 @@
 -- What a book keeps after loads of keys, told by what its desk and its journal promise.
-use Rattle.std.proofs.Common.{◌≡◌, ◌∙◌, sym, ap, subst, ℕ, zero, suc, ◌+◌, ◌<◌, ◌≤◌, Bool, true, false, cond, List, [], ◌∷◌, ◌++◌, length, get_or, map, Option, Some, None, nat_le, refl, arith, append_assoc}
+use Rattle.std.proofs.Common.{◌≡◌, ◌∙◌, sym, ap, subst, ℕ, zero, suc, ◌+◌, ◌<◌, ◌≤◌, Bool, cond, List, [], ◌∷◌, ◌++◌, length, get_or, map, None, refl, arith, append_assoc}
 use Rattle.std.specs.List.{repeat}
-use Rattle.std.proofs.lemmas.Bool.{leb-false}
 use Rattle.std.proofs.lemmas.List.Sums.{sum_by-append, sum_by-cons}
 use Rattle.dl_desk.specs.Key.{Key}
 use Rattle.dl_desk.specs.Limits.{Rules}
@@ -18,18 +17,15 @@ use Rattle.dl_loader.specs.declared.event.Event.{Event}
 use Rattle.dl_loader.specs.declared.event.Call.{Call}
 use Rattle.dl_loader.specs.declared.event.Call.TheVariants.{Load, LoadMany}
 use Rattle.dl_loader.specs.declared.event.Reply.TheVariants.{Loaded, Many}
-use Rattle.dl_loader.specs.declared.fault.CallFault.{CallFault}
-use Rattle.dl_loader.specs.declared.fault.CallFault.TheVariants.{Stopped, LogFull}
 use Rattle.dl_loader.specs.Service.{Service}
 use Rattle.dl_loader.specs.History.{log, reply_to, MayBeMade, IsNext}
 use Rattle.dl_loader.specs.Lists.{Every, Among}
 use Rattle.dl_loader.specs.Entries.{Called, told, cell_of_load, cells_of}
 use Rattle.dl_loader.specs.Pass.{Part, with_call}
 use Rattle.dl_loader.specs.Journal.{Cell, waiting, is_refused, refusals}
-use Rattle.dl_loader.specs.Book.{Locked, locked, Keeps}
+use Rattle.dl_loader.specs.Book.{locked, Keeps}
 use Rattle.dl_loader.specs.Begun.{begun_by, cells_begun}
 use Rattle.dl_loader.specs.Replies.{loads_in}
-use Rattle.dl_loader.specs.Refusals.{unready}
 use Rattle.dl_loader.proofs.Begun.{loads_fit}
 use Rattle.dl_loader.proofs.KeptCalls.{keeps_load, keeps_load_many}
 use Rattle.dl_loader.proofs.Logs.{get-append_at}
@@ -50,20 +46,6 @@ refusals_waiting xs ys n more =
     let both : refusals ys ≡ refusals xs + refusals (repeat n (waiting ∷ [])) = ap refusals more ∙ sum_by-append (λ (x : Cell). cond (is_refused x.mark) 1 0) xs (repeat n (waiting ∷ [])) in
     let none = refusals_repeat n in
     omega arith
-
--- ---- a history that is not full
-
-room_at : (limit n : ℕ) (stopped behind full : Bool) (fault : CallFault) → nat_le limit n ≡ full → cond stopped (Some Stopped) (cond behind (Some fault) (cond full (Some (LogFull limit)) None)) ≡ None → n < limit
-room_at limit n true behind full fault is none = absurd (let bad : ◌≡◌ {A = Option CallFault} (Some Stopped) None = none in cc)
-room_at limit n false true full fault is none = absurd (let bad : ◌≡◌ {A = Option CallFault} (Some fault) None = none in cc)
-room_at limit n false false true fault is none = absurd (let bad : ◌≡◌ {A = Option CallFault} (Some (LogFull limit)) None = none in cc)
-room_at limit n false false false fault is none = leb-false limit n is
-
--- a pass may make an event only where the history is not full
-pub room_ready : (s : Service) (es : List Event) (d : Book) (xs : List Cell) (stopped : Bool) (b : Locked) (p : Part) → locked es d xs stopped ≡ b → unready s b p ≡ None → length es < s.rules.limits.max_calls
-room_ready s es d xs stopped b p view ready =
-    let none : unready s (locked es d xs stopped) p ≡ None = subst (λ (x : Locked). unready s x p ≡ None) (sym view) ready in
-    room_at s.rules.limits.max_calls (length es) stopped _ (nat_le s.rules.limits.max_calls (length es)) _ refl none
 
 -- ---- cells that were answered
 

@@ -12,6 +12,7 @@ pub mod Asks
 pub mod Refusals
 pub mod Begun
 pub mod Replies
+pub mod EventReplies
 pub mod Made
 pub mod EndedUpTo
 pub mod Dues

@@ -1,5 +1,5 @@
 -- What contracts see of a pass, and of a ticket.
-use Rattle.std.specs.Prelude.{◌≡◌, ℕ, zero, suc, ◌+◌, ◌-◌, ◌<◌, ◌≤◌, min, Bool, true, false, not, List, [], ◌∷◌, ◌++◌, length, set, Option, Some, slice_get}
+use Rattle.std.specs.Prelude.{◌≡◌, ℕ, zero, suc, ◌+◌, ◌-◌, ◌<◌, ◌≤◌, min, Bool, true, false, not, List, [], ◌∷◌, ◌++◌, length, map, set, Option, Some, slice_get}
 use Rattle.dl_desk.specs.declared.outcome.Outcome.{Outcome}
 use Rattle.dl_desk.specs.declared.reply.LoadReply.{LoadReply}
 use Rattle.dl_loader.specs.declared.event.Event.{Event}
@@ -95,3 +95,13 @@ Shows t outcome = (ending : Ending) × (t.known ≡ Some ending) × (ending.outc
 -- the pass gave the ticket, whose outcome is among the entries or isn't
 abbrev pub Gave : Part → Hold → Bool → Type 0
 Gave p t seen = slice_get p.tickets t.number ≡ Some (given (cell_of_load t.reply) seen)
+
+-- tickets for loads with these replies, in order, numbered from one on
+pub record AreTickets (first : ℕ) (replies : List LoadReply) (ts : List Hold) : Type 0 where
+  pub replies_are : map (λ t. t.reply) ts ≡ replies
+  pub numbered : (i : ℕ) (t : Hold) → slice_get ts i ≡ Some t → t.number ≡ first + i
+
+-- the pass gave each of the tickets, which are numbered from one on, and saw none of their outcomes
+pub record GaveAll (p : Part) (first : ℕ) (ts : List Hold) : Type 0 where
+  pub numbered : (i : ℕ) (t : Hold) → slice_get ts i ≡ Some t → t.number ≡ first + i
+  pub gave : (i : ℕ) (t : Hold) → slice_get ts i ≡ Some t → Gave p t false

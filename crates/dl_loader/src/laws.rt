@@ -13,6 +13,7 @@ use crate::ask::Ask;
 use crate::book::Book;
 use crate::event::Reply;
 use crate::fault::CallFault;
+use crate::lists::{Jobs, Replies};
 use crate::loader::Loader;
 use crate::name::LoaderName;
 use crate::pass::Pass;
@@ -65,13 +66,34 @@ fn make<L: LoaderName, S: Source>(
 {
     book.admit(loader, pass)?;
     match ask {
-        Ask::Load(key) => Ok((book.load(alloc, loader, pass, key)?, 0)),
-        Ask::LoadMany(keys) => Ok((book.load_many(alloc, loader, pass, keys)?, 0)),
-        Ask::Prime(key, outcome) => book.prime(alloc, loader, pass, key, outcome),
-        Ask::Clear(key) => Ok((book.clear(alloc, loader, pass, key)?, 0)),
-        Ask::ClearAll => Ok((book.clear_all(alloc, loader, pass)?, 0)),
-        Ask::Dispatch => Ok((book.dispatch(alloc, loader, pass)?, 0)),
-        Ask::Settle(fetched) => book.settle(alloc, loader, pass, fetched),
-        Ask::Fail(job, give_up) => book.fail(alloc, loader, pass, job, *give_up),
+        Ask::Load(key) => {
+            let reply = book.load(alloc, loader, pass, key)?;
+            Ok((Reply::Loaded(reply), 0))
+        }
+        Ask::LoadMany(keys) => {
+            let replies = book.load_many(alloc, loader, pass, keys)?;
+            Ok((Reply::Many(Replies::new(replies)), 0))
+        }
+        Ask::Prime(key, outcome) => Ok(book.prime(alloc, loader, pass, key, outcome)?.told()),
+        Ask::Clear(key) => {
+            book.clear(alloc, loader, pass, key)?;
+            Ok((Reply::Done, 0))
+        }
+        Ask::ClearAll => {
+            book.clear_all(alloc, loader, pass)?;
+            Ok((Reply::Done, 0))
+        }
+        Ask::Dispatch => {
+            let jobs = book.dispatch(alloc, loader, pass)?;
+            Ok((Reply::Sent(Jobs::new(jobs)), 0))
+        }
+        Ask::Settle(fetched) => {
+            let settled = book.settle(alloc, loader, pass, fetched)?;
+            Ok((Reply::Done, settled.refused))
+        }
+        Ask::Fail(job, give_up) => {
+            let settled = book.fail(alloc, loader, pass, job, *give_up)?;
+            Ok((Reply::Done, settled.refused))
+        }
     }
 }

@@ -21,6 +21,7 @@ mod name;
 mod opening;
 mod pass;
 mod record;
+mod reply;
 mod state;
 mod ticket;
 
@@ -34,4 +35,5 @@ pub use loader::Loader;
 pub use name::LoaderName;
 pub use opening::{MOST_CALLERS, Opening};
 pub use pass::Pass;
+pub use reply::{PrimeReply, Settled};
 pub use ticket::Ticket;

@@ -84,7 +84,7 @@ impl<L: LoaderName> Loader<L> {
     /// goes on.
     pub fn stop(&self, rt: &impl Wait) {
         self.book.lock(rt).stop();
-        self.changed.notify_all();
+        self.wake();
     }
 
     /// Waits until the ticket shows its outcome, and adds that to the pass, once: where it is among the
@@ -135,6 +135,11 @@ impl<L: LoaderName> Loader<L> {
             book = self.changed.wait(rt, book);
         }
         unreachable!()
+    }
+
+    /// Wakes those that wait for a ticket.
+    pub(crate) fn wake(&self) {
+        self.changed.notify_all();
     }
 
     /// The lock round the book.

@@ -1,16 +1,17 @@
 //! What the replies to loads bring: cells, and tickets for their caller.
 
-ghost use Rattle.std.specs.Prelude.{◌≡◌, ◌≤◌, length};
+ghost use Rattle.std.specs.Prelude.{◌≡◌, ◌-◌, ◌<◌, ◌≤◌, [], length, vec_capacity};
 ghost use Rattle.dl_loader.specs.Begun.{cells_begun};
 ghost use Rattle.dl_loader.specs.Entries.{cell_of_load, cells_of};
 ghost use Rattle.dl_loader.specs.Lists.{Among, Every};
-ghost use Rattle.dl_loader.specs.Pass.{with_tickets};
+ghost use Rattle.dl_loader.specs.Pass.{AreTickets, with_tickets};
 ghost use Rattle.dl_loader.specs.Replies.{loads_in};
 
+use crate::book::Book;
 use crate::loader::Loader;
 use crate::name::LoaderName;
 use crate::pass::Pass;
-use crate::ticket::load_cell;
+use crate::ticket::{Ticket, load_cell};
 use dl_desk::{DeskReply, LoadReply};
 use std::alloc::Global;
 
@@ -58,6 +59,30 @@ impl<L: LoaderName> Loader<L> {
         let cells = cells_begun(replies);
         prove!(cells <= most);
         cells as u32
+    }
+}
+
+impl<L: LoaderName> Book<L> {
+    /// A ticket for each of these replies to the last loads of the pass, put into a list that has room for
+    /// them. It takes no memory.
+    pub(crate) fn make_tickets<'a>(
+        &self,
+        loader: &'a Loader<L>,
+        pass: &Pass<L>,
+        replies: &[LoadReply],
+        tickets: &mut Vec<Ticket<'a, L>>,
+    )
+        requires none { tickets.old.items ≡ [] }
+        requires room { length replies.now ≤ vec_capacity tickets.old }
+        requires last { length replies.now ≤ length pass.now.part.tickets }
+        requires begun { Every (λ r. cell_of_load r < length self.now.cells) replies.now }
+        ensures { AreTickets (length pass.now.part.tickets - length replies.now) replies.now tickets.new.items }
+    {
+        let first = pass.tickets() - replies.len();
+        for reply in replies {
+            let number = first + tickets.len();
+            tickets.push_reserved(self.ticket(loader, number, *reply));
+        }
     }
 }
 

@@ -100,6 +100,13 @@ impl<L: LoaderName> Pass<L> {
         self.front
     }
 
+    /// How many tickets were given.
+    pub(crate) fn tickets(&self) -> usize
+        ensures { result ≡ length self.now.part.tickets }
+    {
+        self.tickets.len()
+    }
+
     /// Makes room for one call more and so many tickets. The error is want of memory, and changes
     /// nothing; it comes only where the room was missing.
     pub(crate) fn reserve(&mut self, tickets: usize) -> Result<(), AllocError>

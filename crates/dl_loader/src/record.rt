@@ -20,6 +20,7 @@ use crate::journal::Journal;
 use crate::loader::Loader;
 use crate::name::LoaderName;
 use crate::pass::Pass;
+use crate::reply::Settled;
 use dl_cells::{CellRow, Reader};
 use dl_desk::LARGEST_LIMIT;
 use std::alloc::{AllocError, Global};
@@ -68,7 +69,7 @@ impl<L: LoaderName> Loader<L> {
     }
 
     /// Adds an event of the pass that ends a batch whose members have these cells, gives each of them its
-    /// outcome, and tells how many of them refused.
+    /// outcome, and tells how they took it.
     ///
     /// # Errors
     /// As [`record`](Loader::record).
@@ -79,18 +80,19 @@ impl<L: LoaderName> Loader<L> {
         pass: &mut Pass<L>,
         cells: &[u32],
         call: Call,
-    ) -> Result<u32, CallFault>
+    ) -> Result<Settled, CallFault>
         requires room { length journal.old.history < L.rules.limits.max_calls }
         requires cells_fit { length journal.old.cells ≤ L.rules.limits.max_cells }
         requires after { front_of pass.old.part.entries ≤ length journal.old.history }
+        requires few { length cells.now ≤ L.rules.limits.max_cells }
         requires can { CanEnd cells.now journal.old.cells }
         requires brings { (i : ℕ) → i < length cells.now → IsSome (outcome_by call i) }
         ensures below { pass.old.part.caller < L.parts }
         ensures history { OnOk result (journal.new.history ≡ journal.old.history ++ event_of pass.old.part call Done ∷ []) }
         ensures part { OnOk result (pass.new.part ≡ with_event pass.old.part (length journal.old.history) call Done) }
         ensures given { OnOk result ((dues : List Due) × AreDue call (length journal.old.history) cells.now dues × AreGiven dues journal.old.cells journal.new.cells) }
-        ensures refused { IfOk result (λ refused. refusals journal.new.cells ≡ refusals journal.old.cells + refused) }
-        ensures few { IfOk result (λ refused. refused ≤ length cells.now) }
+        ensures refused { IfOk result (λ settled. refusals journal.new.cells ≡ refusals journal.old.cells + settled.refused) }
+        ensures each { IfOk result (λ settled. settled.shown + settled.refused ≡ length cells.now) }
         ensures unchanged { OnErr result ((journal.new.history ≡ journal.old.history) × (journal.new.cells ≡ journal.old.cells) × (pass.new.part ≡ pass.old.part)) }
         ensures fault { IfErr result (λ fault. (fault ≡ OutOfMemory) ⊎ (fault ≡ LogRefused)) }
     {
@@ -103,17 +105,22 @@ impl<L: LoaderName> Loader<L> {
         };
         self.record(alloc, journal, pass, event, 0, 0)?;
         let refused = give(journal, self.outcomes(), dues);
-        Ok(self.count(refused))
+        Ok(self.settled(cells.len(), refused))
     }
 
-    // So many of the cells.
-    fn count(&self, cells: usize) -> u32
-        requires { cells ≤ L.rules.limits.max_cells }
-        ensures { result ≡ cells }
+    // So many cells took their outcome, where so many of them refused it.
+    fn settled(&self, cells: usize, refused: usize) -> Settled
+        requires few { cells ≤ L.rules.limits.max_cells }
+        requires among { refused ≤ cells }
+        ensures each { result.shown + result.refused ≡ cells }
+        ensures refused { result.refused ≡ refused }
     {
         let most = self.limits().max_cells() as usize;
         prove!(cells <= most);
-        cells as u32
+        Settled {
+            shown: (cells - refused) as u32,
+            refused: refused as u32,
+        }
     }
 
     /// The place of the next event.

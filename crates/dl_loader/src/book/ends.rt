@@ -6,6 +6,7 @@ ghost use Rattle.dl_desk.specs.Events.{atoms};
 ghost use Rattle.dl_desk.specs.History.{members};
 ghost use Rattle.dl_source.specs.Fetched.{answer_of, job_of, source_of};
 ghost use Rattle.dl_loader.specs.declared.event.Call.TheVariants.{Settle, Fail};
+ghost use Rattle.dl_loader.specs.declared.event.Reply.TheVariants.{Done};
 ghost use Rattle.dl_loader.specs.declared.fault.CallFault.TheVariants.{LogRefused, OutOfMemory};
 ghost use Rattle.dl_loader.specs.Asks.{end_by, fault_of};
 ghost use Rattle.dl_loader.specs.Dues.{end_refusal};
@@ -17,18 +18,19 @@ ghost use Rattle.dl_loader.specs.Service.{service};
 
 use crate::book::Book;
 use crate::dues::copy_outcomes;
-use crate::event::{Call, GiveUp, Reply};
+use crate::event::{Call, GiveUp};
 use crate::fault::CallFault;
 use crate::loader::Loader;
 use crate::name::LoaderName;
 use crate::pass::Pass;
+use crate::reply::Settled;
 use dl_desk::{BatchFault, BatchState, FetchKey, Job, Outcomes};
 use dl_source::{BatchAnswer, Fetched, Source};
 use std::alloc::Global;
 
 impl<L: LoaderName> Book<L> {
-    /// Ends a batch by what the source answered to its keys, and tells how many of its cells refused
-    /// their outcome.
+    /// Ends a batch by what the source answered to its keys, and tells how its cells took their
+    /// outcomes.
     ///
     /// # Errors
     /// The first of these causes that applies: `NoBatch`, `NotSent`, `SettledBefore`, `WrongKeys`; else
@@ -39,13 +41,13 @@ impl<L: LoaderName> Book<L> {
         loader: &Loader<L>,
         pass: &mut Pass<L>,
         fetched: &Fetched<'_, S>,
-    ) -> Result<(Reply, u32), CallFault>
+    ) -> Result<Settled, CallFault>
         requires ready { unready (service L.rules L.parts L.answer) self.old pass.old.part ≡ None }
         requires source { (keys : List Key) → S.answer (source_of fetched.now) keys ≡ L.answer keys }
-        ensures made { IfOk result (λ r. Makes self.old pass.old.part (end_by (job_of fetched.now).batch (answer_of fetched.now)) r.0 self.new pass.new.part) }
+        ensures made { OnOk result (Makes self.old pass.old.part (end_by (job_of fetched.now).batch (answer_of fetched.now)) Done self.new pass.new.part) }
         ensures accepted { OnOk result (refusal (service L.rules L.parts L.answer) self.old pass.old.part (end_by (job_of fetched.now).batch (answer_of fetched.now)) (Some (job_of fetched.now)) ≡ None) }
-        ensures refused { IfOk result (λ r. refusals self.new.cells ≡ refusals self.old.cells + r.1) }
-        ensures few { IfOk result (λ r. r.1 ≤ length (job_of fetched.now).keys) }
+        ensures refused { IfOk result (λ settled. refusals self.new.cells ≡ refusals self.old.cells + settled.refused) }
+        ensures each { IfOk result (λ settled. settled.shown + settled.refused ≡ length (job_of fetched.now).keys) }
         ensures fault { IfErr result (IsRefusal (service L.rules L.parts L.answer) self.old pass.old.part (end_by (job_of fetched.now).batch (answer_of fetched.now)) (Some (job_of fetched.now))) }
         ensures unchanged { OnErr result ((self.new ≡ self.old) × (pass.new.part ≡ pass.old.part)) }
     {
@@ -64,7 +66,7 @@ impl<L: LoaderName> Book<L> {
         }
     }
 
-    /// Fails a batch that is given up, and tells how many of its cells refused their outcome.
+    /// Fails a batch that is given up, and tells how its cells took their outcomes.
     ///
     /// # Errors
     /// The first of these causes that applies: `NoBatch`, `NotSent`, `SettledBefore`, `WrongKeys`; else
@@ -76,12 +78,12 @@ impl<L: LoaderName> Book<L> {
         pass: &mut Pass<L>,
         job: &Job,
         give_up: GiveUp,
-    ) -> Result<(Reply, u32), CallFault>
+    ) -> Result<Settled, CallFault>
         requires ready { unready (service L.rules L.parts L.answer) self.old pass.old.part ≡ None }
-        ensures made { IfOk result (λ r. Makes self.old pass.old.part (Fail job.now.batch (fault_of give_up)) r.0 self.new pass.new.part) }
+        ensures made { OnOk result (Makes self.old pass.old.part (Fail job.now.batch (fault_of give_up)) Done self.new pass.new.part) }
         ensures accepted { OnOk result (refusal (service L.rules L.parts L.answer) self.old pass.old.part (Fail job.now.batch (fault_of give_up)) (Some job.now) ≡ None) }
-        ensures refused { IfOk result (λ r. refusals self.new.cells ≡ refusals self.old.cells + r.1) }
-        ensures few { IfOk result (λ r. r.1 ≤ length job.now.keys) }
+        ensures refused { IfOk result (λ settled. refusals self.new.cells ≡ refusals self.old.cells + settled.refused) }
+        ensures each { IfOk result (λ settled. settled.shown + settled.refused ≡ length job.now.keys) }
         ensures fault { IfErr result (IsRefusal (service L.rules L.parts L.answer) self.old pass.old.part (Fail job.now.batch (fault_of give_up)) (Some job.now)) }
         ensures unchanged { OnErr result ((self.new ≡ self.old) × (pass.new.part ≡ pass.old.part)) }
     {
@@ -116,21 +118,21 @@ impl<L: LoaderName> Book<L> {
         batch: u32,
         cells: &[u32],
         outcomes: Outcomes,
-    ) -> Result<(Reply, u32), CallFault>
+    ) -> Result<Settled, CallFault>
         requires ready { unready (service L.rules L.parts L.answer) self.old pass.old.part ≡ None }
         requires may { MayBeMade L.answer (atoms (log self.old.history)) (Settle batch outcomes) }
         requires cells { cells.now ≡ map (λ m. m.1) (members (atoms (log self.old.history)) batch) }
         requires as_many { length outcomes ≡ length cells.now }
-        ensures made { IfOk result (λ r. Makes self.old pass.old.part (Settle batch outcomes) r.0 self.new pass.new.part) }
-        ensures refused { IfOk result (λ r. refusals self.new.cells ≡ refusals self.old.cells + r.1) }
-        ensures few { IfOk result (λ r. r.1 ≤ length cells.now) }
+        ensures made { OnOk result (Makes self.old pass.old.part (Settle batch outcomes) Done self.new pass.new.part) }
+        ensures refused { IfOk result (λ settled. refusals self.new.cells ≡ refusals self.old.cells + settled.refused) }
+        ensures each { IfOk result (λ settled. settled.shown + settled.refused ≡ length cells.now) }
         ensures fault { IfErr result (λ fault. (fault ≡ OutOfMemory) ⊎ (fault ≡ LogRefused)) }
         ensures unchanged { OnErr result ((self.new ≡ self.old) × (pass.new.part ≡ pass.old.part)) }
     {
         let call = Call::Settle { batch, outcomes };
-        let refused = loader.record_end(alloc, &mut self.journal, pass, cells, call)?;
+        let settled = loader.record_end(alloc, &mut self.journal, pass, cells, call)?;
         self.desk.settle(batch).unwrap();
-        Ok((Reply::Done, refused))
+        Ok(settled)
     }
 
     // Fails a batch whose members have these cells.
@@ -142,20 +144,20 @@ impl<L: LoaderName> Book<L> {
         batch: u32,
         cells: &[u32],
         fault: BatchFault,
-    ) -> Result<(Reply, u32), CallFault>
+    ) -> Result<Settled, CallFault>
         requires ready { unready (service L.rules L.parts L.answer) self.old pass.old.part ≡ None }
         requires may { MayBeMade L.answer (atoms (log self.old.history)) (Fail batch fault) }
         requires cells { cells.now ≡ map (λ m. m.1) (members (atoms (log self.old.history)) batch) }
-        ensures made { IfOk result (λ r. Makes self.old pass.old.part (Fail batch fault) r.0 self.new pass.new.part) }
-        ensures refused { IfOk result (λ r. refusals self.new.cells ≡ refusals self.old.cells + r.1) }
-        ensures few { IfOk result (λ r. r.1 ≤ length cells.now) }
+        ensures made { OnOk result (Makes self.old pass.old.part (Fail batch fault) Done self.new pass.new.part) }
+        ensures refused { IfOk result (λ settled. refusals self.new.cells ≡ refusals self.old.cells + settled.refused) }
+        ensures each { IfOk result (λ settled. settled.shown + settled.refused ≡ length cells.now) }
         ensures fault { IfErr result (λ fault. (fault ≡ OutOfMemory) ⊎ (fault ≡ LogRefused)) }
         ensures unchanged { OnErr result ((self.new ≡ self.old) × (pass.new.part ≡ pass.old.part)) }
     {
         let call = Call::Fail { batch, fault };
-        let refused = loader.record_end(alloc, &mut self.journal, pass, cells, call)?;
+        let settled = loader.record_end(alloc, &mut self.journal, pass, cells, call)?;
         self.desk.fail(batch).unwrap();
-        Ok((Reply::Done, refused))
+        Ok(settled)
     }
 }
 

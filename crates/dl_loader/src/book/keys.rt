@@ -2,6 +2,8 @@
 
 ghost use Rattle.std.specs.Prelude.{◌≡◌, ◌+◌, IfErr, IfOk, None, OnErr, OnOk};
 ghost use Rattle.dl_loader.specs.declared.event.Call.TheVariants as made;
+ghost use Rattle.dl_loader.specs.declared.event.Reply.TheVariants as reply;
+ghost use Rattle.dl_loader.specs.EventReplies.{refused_by, told_by};
 ghost use Rattle.dl_loader.specs.History.{primed};
 ghost use Rattle.dl_loader.specs.Service.{service};
 ghost use Rattle.dl_loader.specs.Journal.{refusals};
@@ -16,6 +18,7 @@ use crate::lists::Jobs;
 use crate::loader::Loader;
 use crate::name::LoaderName;
 use crate::pass::Pass;
+use crate::reply::PrimeReply;
 use dl_desk::{DeskPrime, DeskReply, FetchKey, Job, Outcome};
 use std::alloc::{AllocError, Global};
 
@@ -30,9 +33,9 @@ impl<L: LoaderName> Book<L> {
         loader: &Loader<L>,
         pass: &mut Pass<L>,
         key: &FetchKey,
-    ) -> Result<Reply, CallFault>
+    ) -> Result<(), CallFault>
         requires ready { unready (service L.rules L.parts L.answer) self.old pass.old.part ≡ None }
-        ensures made { IfOk result (λ reply. Makes self.old pass.old.part (made.Clear key.now) reply self.new pass.new.part) }
+        ensures made { OnOk result (Makes self.old pass.old.part (made.Clear key.now) reply.Done self.new pass.new.part) }
         ensures accepted { OnOk result (refusal (service L.rules L.parts L.answer) self.old pass.old.part (made.Clear key.now) None ≡ None) }
         ensures refused { OnOk result (refusals self.new.cells ≡ refusals self.old.cells) }
         ensures fault { IfErr result (IsRefusal (service L.rules L.parts L.answer) self.old pass.old.part (made.Clear key.now) None) }
@@ -45,7 +48,7 @@ impl<L: LoaderName> Book<L> {
         };
         loader.record(alloc, &mut self.journal, pass, event, 0, 0)?;
         self.desk.clear(key);
-        Ok(Reply::Done)
+        Ok(())
     }
 
     /// Makes the event of a clearAll: the memo forgets all keys.
@@ -57,9 +60,9 @@ impl<L: LoaderName> Book<L> {
         alloc: Global,
         loader: &Loader<L>,
         pass: &mut Pass<L>,
-    ) -> Result<Reply, CallFault>
+    ) -> Result<(), CallFault>
         requires ready { unready (service L.rules L.parts L.answer) self.old pass.old.part ≡ None }
-        ensures made { IfOk result (λ reply. Makes self.old pass.old.part made.ClearAll reply self.new pass.new.part) }
+        ensures made { OnOk result (Makes self.old pass.old.part made.ClearAll reply.Done self.new pass.new.part) }
         ensures accepted { OnOk result (refusal (service L.rules L.parts L.answer) self.old pass.old.part made.ClearAll None ≡ None) }
         ensures refused { OnOk result (refusals self.new.cells ≡ refusals self.old.cells) }
         ensures fault { IfErr result (IsRefusal (service L.rules L.parts L.answer) self.old pass.old.part made.ClearAll None) }
@@ -72,7 +75,7 @@ impl<L: LoaderName> Book<L> {
         };
         loader.record(alloc, &mut self.journal, pass, event, 0, 0)?;
         self.desk.clear_all();
-        Ok(Reply::Done)
+        Ok(())
     }
 
     /// Makes the event of a dispatch: every batch that was begun and not sent is sent, each as a job.
@@ -84,9 +87,9 @@ impl<L: LoaderName> Book<L> {
         alloc: Global,
         loader: &Loader<L>,
         pass: &mut Pass<L>,
-    ) -> Result<Reply, CallFault>
+    ) -> Result<Vec<Job>, CallFault>
         requires ready { unready (service L.rules L.parts L.answer) self.old pass.old.part ≡ None }
-        ensures made { IfOk result (λ reply. Makes self.old pass.old.part made.Dispatch reply self.new pass.new.part) }
+        ensures made { IfOk result (λ jobs. Makes self.old pass.old.part made.Dispatch (reply.Sent jobs.items) self.new pass.new.part) }
         ensures accepted { OnOk result (refusal (service L.rules L.parts L.answer) self.old pass.old.part made.Dispatch None ≡ None) }
         ensures refused { OnOk result (refusals self.new.cells ≡ refusals self.old.cells) }
         ensures fault { IfErr result (IsRefusal (service L.rules L.parts L.answer) self.old pass.old.part made.Dispatch None) }
@@ -99,12 +102,10 @@ impl<L: LoaderName> Book<L> {
             reply: Reply::Sent(Jobs::copy_of(alloc, jobs_in(ready.reply()))?),
         };
         loader.record(alloc, &mut self.journal, pass, event, 0, 0)?;
-        let jobs = into_jobs(alloc, self.desk.commit(ready));
-        Ok(Reply::Sent(Jobs::new(jobs)))
+        Ok(into_jobs(alloc, self.desk.commit(ready)))
     }
 
-    /// Makes the event of a prime: a key that isn't held gets a cell that ends with the outcome. Answers the
-    /// reply, and how many cells refused their outcome.
+    /// Makes the event of a prime: a key that isn't held gets a cell that ends with the outcome.
     ///
     /// # Errors
     /// `CellsFull` where the key isn't held and all cells are begun; `OutOfMemory`, `LogRefused`. The book and
@@ -116,11 +117,11 @@ impl<L: LoaderName> Book<L> {
         pass: &mut Pass<L>,
         key: &FetchKey,
         outcome: &Outcome,
-    ) -> Result<(Reply, u32), CallFault>
+    ) -> Result<PrimeReply, CallFault>
         requires ready { unready (service L.rules L.parts L.answer) self.old pass.old.part ≡ None }
-        ensures made { IfOk result (λ r. Makes self.old pass.old.part (made.Prime key.now outcome.now) r.0 self.new pass.new.part) }
+        ensures made { IfOk result (λ r. Makes self.old pass.old.part (made.Prime key.now outcome.now) (told_by r) self.new pass.new.part) }
         ensures accepted { OnOk result (refusal (service L.rules L.parts L.answer) self.old pass.old.part (made.Prime key.now outcome.now) None ≡ None) }
-        ensures refused { IfOk result (λ r. refusals self.new.cells ≡ refusals self.old.cells + r.1) }
+        ensures refused { IfOk result (λ r. refusals self.new.cells ≡ refusals self.old.cells + refused_by r) }
         ensures fault { IfErr result (IsRefusal (service L.rules L.parts L.answer) self.old pass.old.part (made.Prime key.now outcome.now) None) }
         ensures unchanged { OnErr result ((self.new ≡ self.old) × (pass.new.part ≡ pass.old.part)) }
     {
@@ -136,14 +137,14 @@ impl<L: LoaderName> Book<L> {
             DeskPrime::Kept => {
                 loader.record(alloc, &mut self.journal, pass, event, 0, 0)?;
                 self.desk.commit(ready);
-                Ok((Reply::Kept, 0))
+                Ok(PrimeReply::Kept)
             }
             DeskPrime::Primed(cell) => {
                 let ending = new_ending(alloc, loader.place(&self.journal), outcome)?;
                 loader.record(alloc, &mut self.journal, pass, event, 1, 0)?;
                 self.desk.commit(ready);
-                let took = self.journal.end(loader.outcomes(), cell, ending);
-                Ok((Reply::Primed(cell), if took { 0 } else { 1 }))
+                let shown = self.journal.end(loader.outcomes(), cell, ending);
+                Ok(PrimeReply::Primed { cell, shown })
             }
         }
     }

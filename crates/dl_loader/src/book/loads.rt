@@ -2,6 +2,7 @@
 
 ghost use Rattle.std.specs.Prelude.{◌≡◌, IfErr, IfOk, None, OnErr, OnOk};
 ghost use Rattle.dl_loader.specs.declared.event.Call.TheVariants.{Load, LoadMany};
+ghost use Rattle.dl_loader.specs.declared.event.Reply.TheVariants.{Loaded, Many};
 ghost use Rattle.dl_loader.specs.Service.{service};
 ghost use Rattle.dl_loader.specs.Journal.{refusals};
 ghost use Rattle.dl_loader.specs.Made.{Makes};
@@ -16,7 +17,7 @@ use crate::loads::{add_tickets, into_loads, loads_in};
 use crate::name::LoaderName;
 use crate::pass::Pass;
 use crate::ticket::load_cell;
-use dl_desk::{FetchKey, Keys};
+use dl_desk::{FetchKey, Keys, LoadReply};
 use std::alloc::Global;
 use std::slice;
 
@@ -31,9 +32,9 @@ impl<L: LoaderName> Book<L> {
         loader: &Loader<L>,
         pass: &mut Pass<L>,
         key: &FetchKey,
-    ) -> Result<Reply, CallFault>
+    ) -> Result<LoadReply, CallFault>
         requires ready { unready (service L.rules L.parts L.answer) self.old pass.old.part ≡ None }
-        ensures made { IfOk result (λ reply. Makes self.old pass.old.part (Load key.now) reply self.new pass.new.part) }
+        ensures made { IfOk result (λ reply. Makes self.old pass.old.part (Load key.now) (Loaded reply) self.new pass.new.part) }
         ensures accepted { OnOk result (refusal (service L.rules L.parts L.answer) self.old pass.old.part (Load key.now) None ≡ None) }
         ensures refused { OnOk result (refusals self.new.cells ≡ refusals self.old.cells) }
         ensures fault { IfErr result (IsRefusal (service L.rules L.parts L.answer) self.old pass.old.part (Load key.now) None) }
@@ -51,7 +52,7 @@ impl<L: LoaderName> Book<L> {
         loader.record(alloc, &mut self.journal, pass, event, cells, 1)?;
         self.desk.commit(ready);
         pass.add_ticket(load_cell(reply));
-        Ok(Reply::Loaded(reply))
+        Ok(reply)
     }
 
     /// Loads keys in order, as one event of the pass, which gets a ticket for each.
@@ -65,9 +66,9 @@ impl<L: LoaderName> Book<L> {
         loader: &Loader<L>,
         pass: &mut Pass<L>,
         keys: &[FetchKey],
-    ) -> Result<Reply, CallFault>
+    ) -> Result<Vec<LoadReply>, CallFault>
         requires ready { unready (service L.rules L.parts L.answer) self.old pass.old.part ≡ None }
-        ensures made { IfOk result (λ reply. Makes self.old pass.old.part (LoadMany keys.now) reply self.new pass.new.part) }
+        ensures made { IfOk result (λ replies. Makes self.old pass.old.part (LoadMany keys.now) (Many replies.items) self.new pass.new.part) }
         ensures accepted { OnOk result (refusal (service L.rules L.parts L.answer) self.old pass.old.part (LoadMany keys.now) None ≡ None) }
         ensures refused { OnOk result (refusals self.new.cells ≡ refusals self.old.cells) }
         ensures fault { IfErr result (IsRefusal (service L.rules L.parts L.answer) self.old pass.old.part (LoadMany keys.now) None) }
@@ -84,6 +85,6 @@ impl<L: LoaderName> Book<L> {
         loader.record(alloc, &mut self.journal, pass, event, cells, loads.len())?;
         let replies = into_loads(alloc, self.desk.commit(ready));
         add_tickets(pass, replies.as_slice());
-        Ok(Reply::Many(Replies::new(replies)))
+        Ok(replies)
     }
 }

@@ -6,7 +6,8 @@ use Rattle.dl_loader.specs.declared.event.Reply.TheVariants.{Loaded}
 use Rattle.dl_loader.specs.Service.{service}
 use Rattle.dl_loader.specs.Journal.{refusals}
 use Rattle.dl_loader.specs.Replies.{loads_in}
-use Rattle.dl_loader.proofs.LoadEvents.{refusals_waiting, room_ready, one_answered, one_kept}
+use Rattle.dl_loader.proofs.Admitted.{ready_room}
+use Rattle.dl_loader.proofs.LoadEvents.{refusals_waiting, one_answered, one_kept}
 use Rattle.dl_loader.proofs.book.Book.load.Goals as goal
 
 pub add_ticket-requires-clause-answered : goal.add_ticket-requires-clause-answered
@@ -20,7 +21,7 @@ invariant_of-self-2 g c =
     let s = service g.L.LoaderName.rules g.L.Ledger.parts g.L.LoaderName.answer in
     let reply = get_or c.loads_in-loads.result.now 0 (Hit 0) in
     let e : Event = record { caller = c.caller.result; call = Load c.in_ok-try_copy.field-0; reply = Loaded reply } in
-    let room = room_ready s c.self.inside.journal.history c.self.inside.desk.book c.self.inside.journal.cells c.self.inside.stopped c.args.self.now c.args.pass.now.part c.self.view_is c.requires.ready in
+    let room = ready_room s c.args.self.now c.args.pass.now.part c.self.inside.journal.history c.self.inside.desk.book c.self.inside.journal.cells c.self.inside.stopped c.self.view_is c.requires.ready in
     one_kept s c.self.inside.journal.history c.self.inside.desk.book c.self.inside.journal.cells c.self.inside.stopped c.self.invariant c.from_ref.result.now c.ready_loads.new.self c.in_ok-ready.ready c.ready_loads.ensures.book c.in_ok-ready.ensures.ready
     room c.in_ok-ready.ensures.accepted c.commit.new.self.book c.commit.ensures.rules c.commit.ensures.stands
     e c.args.key.now c.loads_in-loads.result.now (Hit 0) c.new_cells-cells.result c.record.new.journal.history c.record.new.journal.cells c.from_ref.ensures.value (c.loads_in-loads.ensures ∙ ap loads_in c.reply.ensures)

@@ -5,7 +5,8 @@ use Rattle.dl_loader.specs.declared.event.Reply.TheVariants.{Many}
 use Rattle.dl_loader.specs.Service.{service}
 use Rattle.dl_loader.specs.Journal.{refusals}
 use Rattle.dl_loader.specs.Replies.{loads_in}
-use Rattle.dl_loader.proofs.LoadEvents.{refusals_waiting, room_ready, many_answered, ready_fits, many_kept}
+use Rattle.dl_loader.proofs.Admitted.{ready_room}
+use Rattle.dl_loader.proofs.LoadEvents.{refusals_waiting, many_answered, ready_fits, many_kept}
 use Rattle.dl_loader.proofs.book.Book.load_many.Goals as goal
 
 pub new_cells-cells-requires : goal.new_cells-cells-requires
@@ -34,7 +35,7 @@ invariant_of-self-2 g c =
     let s = service g.L.LoaderName.rules g.L.Ledger.parts g.L.LoaderName.answer in
     let copied = c.in_ok-copy_of-2.field-0 in
     let e : Event = record { caller = c.caller.result; call = LoadMany c.in_ok-copy_of.field-0; reply = Many copied } in
-    let room = room_ready s c.self.inside.journal.history c.self.inside.desk.book c.self.inside.journal.cells c.self.inside.stopped c.args.self.now c.args.pass.now.part c.self.view_is c.requires.ready in
+    let room = ready_room s c.args.self.now c.args.pass.now.part c.self.inside.journal.history c.self.inside.desk.book c.self.inside.journal.cells c.self.inside.stopped c.self.view_is c.requires.ready in
     many_kept s c.self.inside.journal.history c.self.inside.desk.book c.self.inside.journal.cells c.self.inside.stopped c.self.invariant c.args.keys.now c.ready_loads.new.self c.in_ok-ready.ready c.ready_loads.ensures.book c.in_ok-ready.ensures.ready
     room c.in_ok-ready.ensures.accepted c.commit.new.self.book c.commit.ensures.rules c.commit.ensures.stands
     e c.loads_in-loads.result.now copied c.new_cells-cells.result c.record.new.journal.history c.record.new.journal.cells (c.loads_in-loads.ensures ∙ ap loads_in c.reply.ensures) c.in_ok-copy_of-2.ensures

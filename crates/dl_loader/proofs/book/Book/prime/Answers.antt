@@ -1,10 +1,9 @@
-use Rattle.std.proofs.Common.{◌≡◌, ◌+◌, ◌∙◌, ap, cond}
+use Rattle.std.proofs.Common.{◌+◌, ◌∙◌, ap, cond, refl}
 use Rattle.dl_loader.specs.Service.{service}
 use Rattle.dl_loader.specs.Book.{Locked}
 use Rattle.dl_loader.specs.Journal.{refusals}
 use Rattle.dl_loader.specs.Replies.{primed_in}
 use Rattle.dl_loader.proofs.KeyEvents.{held_kept, primed_next, primed_waits, primed_kept, primed_refusals}
-use Rattle.dl_loader.proofs.book.Book.prime.Goals.{then-took, else-took}
 use Rattle.dl_loader.proofs.book.Book.prime.Goals as goal
 
 pub invariant_of-self-in-Kept : goal.invariant_of-self-in-Kept
@@ -20,8 +19,8 @@ invariant_of-self-in-Kept g c =
       is_ready = c.in_ok-ready.ensures.ready;
     }) c.in-Kept.is c.in_ok-record-in-Kept.ensures.history c.in_ok-record-in-Kept.ensures.cells c.commit.ensures.rules c.commit.ensures.stands
 
-pub end-took-requires-clause-waits : goal.end-took-requires-clause-waits
-end-took-requires-clause-waits g c =
+pub end-shown-requires-clause-waits : goal.end-shown-requires-clause-waits
+end-shown-requires-clause-waits g c =
     let last = primed_next (service g.L.LoaderName.rules g.L.Ledger.parts g.L.LoaderName.answer) c.args.pass.now.part c.self.inside.journal.history c.in_ok-try_copy.field-0 c.args.key.now c.in_ok-try_copy-2.field-0 c.caller.result c.in-Primed.cell c.prime_reply.result c.primed_in-primed.result c.ready_prime.new.self c.in_ok-ready.ready c.self.inside.desk.book c.self.inside.journal.cells c.self.inside.stopped
     c.self.invariant (record {
       own = c.caller.ensures.caller;
@@ -36,7 +35,7 @@ end-took-requires-clause-waits g c =
 
 pub invariant_of-self-in-Primed : goal.invariant_of-self-in-Primed
 invariant_of-self-in-Primed g c =
-    primed_kept (service g.L.LoaderName.rules g.L.Ledger.parts g.L.LoaderName.answer) c.args.self.now c.args.pass.now.part c.self.inside.journal.history c.end-took.new.self.history c.in_ok-try_copy.field-0 c.args.key.now c.in_ok-try_copy-2.field-0 c.caller.result c.in-Primed.cell c.prime_reply.result c.primed_in-primed.result c.ready_prime.new.self c.in_ok-ready.ready c.self.inside.desk.book c.commit-in-Primed.new.self.book c.self.inside.journal.cells c.record-in-Primed.new.journal.cells c.end-took.new.self.cells c.self.inside.stopped c.end-took.result c.in_ok-ending-in-Primed.ending.value c.place.result c.args.outcome.now
+    primed_kept (service g.L.LoaderName.rules g.L.Ledger.parts g.L.LoaderName.answer) c.args.self.now c.args.pass.now.part c.self.inside.journal.history c.end-shown.new.self.history c.in_ok-try_copy.field-0 c.args.key.now c.in_ok-try_copy-2.field-0 c.caller.result c.in-Primed.cell c.prime_reply.result c.primed_in-primed.result c.ready_prime.new.self c.in_ok-ready.ready c.self.inside.desk.book c.commit-in-Primed.new.self.book c.self.inside.journal.cells c.record-in-Primed.new.journal.cells c.end-shown.new.self.cells c.self.inside.stopped c.end-shown.result c.in_ok-ending-in-Primed.ending.value c.place.result c.args.outcome.now
     c.self.view_is c.requires.ready c.self.invariant (record {
       own = c.caller.ensures.caller;
       below = c.caller.ensures.below;
@@ -45,10 +44,10 @@ invariant_of-self-in-Primed g c =
       told = c.primed_in-primed.ensures ∙ ap primed_in c.reply.ensures;
       same = c.in_ok-ready.ensures.book;
       is_ready = c.in_ok-ready.ensures.ready;
-    }) c.in-Primed.is c.in_ok-ready.ensures.accepted (c.end-took.ensures.history ∙ c.in_ok-record-in-Primed.ensures.history) c.in_ok-record-in-Primed.ensures.cells c.commit-in-Primed.ensures.rules c.commit-in-Primed.ensures.stands c.in_ok-ending-in-Primed.ensures c.place.ensures c.in_ok-try_copy-2.ensures c.end-took.ensures.ended
+    }) c.in-Primed.is c.in_ok-ready.ensures.accepted (c.end-shown.ensures.history ∙ c.in_ok-record-in-Primed.ensures.history) c.in_ok-record-in-Primed.ensures.cells c.commit-in-Primed.ensures.rules c.commit-in-Primed.ensures.stands c.in_ok-ending-in-Primed.ensures c.place.ensures c.in_ok-try_copy-2.ensures c.end-shown.ensures.ended
 
-pub returns-after-took-clause-refused : goal.returns-after-took-clause-refused
-returns-after-took-clause-refused g c =
+pub returns-in_ok-record-in-Primed-clause-refused : goal.returns-in_ok-record-in-Primed-clause-refused
+returns-in_ok-record-in-Primed-clause-refused g c =
     let last = primed_next (service g.L.LoaderName.rules g.L.Ledger.parts g.L.LoaderName.answer) c.args.pass.now.part c.self.inside.journal.history c.in_ok-try_copy.field-0 c.args.key.now c.in_ok-try_copy-2.field-0 c.caller.result c.in-Primed.cell c.prime_reply.result c.primed_in-primed.result c.ready_prime.new.self c.in_ok-ready.ready c.self.inside.desk.book c.self.inside.journal.cells c.self.inside.stopped
     c.self.invariant (record {
       own = c.caller.ensures.caller;
@@ -59,6 +58,5 @@ returns-after-took-clause-refused g c =
       same = c.in_ok-ready.ensures.book;
       is_ready = c.in_ok-ready.ensures.ready;
     }) c.in-Primed.is in
-    let many : c.if-took.result ≡ cond c.end-took.result 0 1 = elim c.if-took.branch [ then-took w ↦ rw w.if-took.true w.result-is | else-took w ↦ rw w.if-took.false w.result-is ] in
-    let count = primed_refusals c.self.inside.journal.cells c.record-in-Primed.new.journal.cells c.end-took.new.self.cells c.in-Primed.cell c.if-took.result c.end-took.result c.in_ok-ending-in-Primed.ending.value c.in_ok-record-in-Primed.ensures.cells last many c.end-took.ensures.ended in
-    count ∙ ap (λ (x : Locked). refusals x.cells + c.if-took.result) c.self.view_is
+    let count = primed_refusals c.self.inside.journal.cells c.record-in-Primed.new.journal.cells c.end-shown.new.self.cells c.in-Primed.cell (cond c.end-shown.result 0 1) c.end-shown.result c.in_ok-ending-in-Primed.ending.value c.in_ok-record-in-Primed.ensures.cells last refl c.end-shown.ensures.ended in
+    count ∙ ap (λ (x : Locked). refusals x.cells + cond c.end-shown.result 0 1) c.self.view_is

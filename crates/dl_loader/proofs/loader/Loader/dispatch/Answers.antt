@@ -1,13 +1,14 @@
-use Rattle.dl_desk.specs.Events.{atoms}
-use Rattle.dl_desk.specs.History.{jobs}
+use Rattle.std.proofs.Common.{refl}
 use Rattle.dl_loader.specs.declared.event.Call.TheVariants as call
+use Rattle.dl_loader.specs.declared.event.Reply.TheVariants as reply
 use Rattle.dl_loader.specs.Service.{Service, service}
-use Rattle.dl_loader.specs.History.{log}
-use Rattle.dl_loader.proofs.Called.{replied}
+use Rattle.dl_loader.proofs.Called.{was_made, no_tickets}
 use Rattle.dl_loader.proofs.loader.Loader.dispatch.Goals as goal
 
-pub unreachable-requires : goal.unreachable-requires
-unreachable-requires g c =
+pub returns-clause-made : goal.returns-clause-made
+returns-clause-made g c =
     let s : Service = service g.L.LoaderName.rules g.L.Ledger.parts g.L.LoaderName.answer in
-    let before = c.deref_mut-book.result.now in
-    c.in_default.not-Sent (jobs (atoms (log before.history))) (replied s before c.dispatch.new.self c.args.pass.now.part c.dispatch.new.pass.part call.Dispatch c.in_ok-reply.reply c.keeps-2.ensures c.in_ok-reply.ensures.made)
+    was_made s c.deref_mut-book.result.now c.dispatch.new.self c.args.pass.now.part c.dispatch.new.pass.part call.Dispatch (reply.Sent c.in_ok-jobs.jobs.items) c.keeps.ensures c.keeps-2.ensures c.in_ok-admit.ensures.after c.in_ok-jobs.ensures.made
+
+pub returns-clause-tickets : goal.returns-clause-tickets
+returns-clause-tickets g c = no_tickets c.deref_mut-book.result.now c.dispatch.new.self c.args.pass.now.part c.dispatch.new.pass.part call.Dispatch (reply.Sent c.in_ok-jobs.jobs.items) c.in_ok-jobs.ensures.made refl

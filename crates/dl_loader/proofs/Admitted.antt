@@ -1,0 +1,29 @@
+-- A pass that may make an event.
+use Rattle.std.proofs.Common.{◌≡◌, sym, subst, ℕ, ◌<◌, ◌≤◌, Bool, true, false, cond, List, length, Option, Some, None, nat_lt, nat_le, refl}
+use Rattle.std.proofs.lemmas.Bool.{ltb-false, leb-false}
+use Rattle.dl_desk.specs.Book.{Book}
+use Rattle.dl_loader.specs.declared.event.Event.{Event}
+use Rattle.dl_loader.specs.declared.fault.CallFault.{CallFault}
+use Rattle.dl_loader.specs.declared.fault.CallFault.TheVariants.{Stopped, Behind, LogFull}
+use Rattle.dl_loader.specs.Service.{Service}
+use Rattle.dl_loader.specs.Entries.{front_of}
+use Rattle.dl_loader.specs.Journal.{Cell}
+use Rattle.dl_loader.specs.Book.{Locked, locked}
+use Rattle.dl_loader.specs.Pass.{Part}
+use Rattle.dl_loader.specs.Refusals.{unready}
+
+ready_at : (limit front len : ℕ) (stopped behind full : Bool) → nat_lt len front ≡ behind → nat_le limit len ≡ full
+    → cond stopped (Some Stopped) (cond behind (Some (Behind front len)) (cond full (Some (LogFull limit)) None)) ≡ None → (front ≤ len) × (len < limit)
+ready_at limit front len true behind full b f none = absurd (let bad : ◌≡◌ {A = Option CallFault} (Some Stopped) None = none in cc)
+ready_at limit front len false true full b f none = absurd (let bad : ◌≡◌ {A = Option CallFault} (Some (Behind front len)) None = none in cc)
+ready_at limit front len false false true b f none = absurd (let bad : ◌≡◌ {A = Option CallFault} (Some (LogFull limit)) None = none in cc)
+ready_at limit front len false false false b f none = (ltb-false len front b, leb-false limit len f)
+
+-- a pass that may make an event has seen no more than there is, and the history has room
+pub ready_facts : (s : Service) (b : Locked) (p : Part) → unready s b p ≡ None → (front_of p.entries ≤ length b.history) × (length b.history < s.rules.limits.max_calls)
+ready_facts s b p none =
+    ready_at s.rules.limits.max_calls (front_of p.entries) (length b.history) b.stopped (nat_lt (length b.history) (front_of p.entries)) (nat_le s.rules.limits.max_calls (length b.history)) refl refl none
+
+-- so the history that the book was seen to have is not full
+pub ready_room : (s : Service) (b : Locked) (p : Part) (es : List Event) (d : Book) (xs : List Cell) (stopped : Bool) → locked es d xs stopped ≡ b → unready s b p ≡ None → length es < s.rules.limits.max_calls
+ready_room s b p es d xs stopped view ready = (ready_facts s (locked es d xs stopped) p (subst (λ (x : Locked). unready s x p ≡ None) (sym view) ready)).1

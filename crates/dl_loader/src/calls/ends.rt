@@ -1,0 +1,126 @@
+//! The ends of batches.
+
+ghost use Rattle.std.specs.Prelude.{◌≡◌, ◌+◌, IfErr, IfOk, List, OnErr, OnOk, Some, length};
+ghost use Rattle.dl_desk.specs.Key.{Key};
+ghost use Rattle.dl_source.specs.Fetched.{answer_of, job_of, source_of};
+ghost use Rattle.dl_loader.specs.declared.event.Call.TheVariants as call;
+ghost use Rattle.dl_loader.specs.declared.event.Reply.TheVariants as reply;
+ghost use Rattle.dl_loader.specs.Asks.{end_by, fault_of};
+ghost use Rattle.dl_loader.specs.Made.{WasMade, WasRefused};
+ghost use Rattle.dl_loader.specs.Service.{service};
+
+use crate::event::GiveUp;
+use crate::fault::CallFault;
+use crate::loader::Loader;
+use crate::name::LoaderName;
+use crate::pass::Pass;
+use crate::reply::Settled;
+use dl_desk::Job;
+use dl_source::{Fetched, Source};
+use std::alloc::Global;
+use std::sync::Wait;
+
+impl<L: LoaderName> Loader<L> {
+    /// Ends a batch by what the loader's source answered to it: with the outcomes of its keys, or, where the
+    /// source breaks, as one that failed with the break's text.
+    ///
+    /// # Errors
+    /// `Stopped`, `Behind`, `LogFull`, `NoBatch`, `NotSent`, `SettledBefore`, `WrongKeys`, `OutOfMemory`,
+    /// `LogRefused`, with what was fetched. The pass then tells what it told before.
+    pub fn settle<'s, S: Source>(
+        &self,
+        rt: &impl Wait,
+        alloc: Global,
+        pass: &mut Pass<L>,
+        fetched: Fetched<'s, S>,
+    ) -> Result<Settled, (CallFault, Fetched<'s, S>)>
+        requires source { (keys : List Key) → S.answer (source_of fetched) keys ≡ L.answer keys }
+        ensures made { OnOk result (WasMade (service L.rules L.parts L.answer) pass.old.part (end_by (job_of fetched.entry).batch (answer_of fetched.entry)) reply.Done pass.new.part) }
+        ensures tickets { OnOk result (pass.new.part.tickets ≡ pass.old.part.tickets) }
+        ensures each { IfOk result (λ settled. settled.shown + settled.refused ≡ length (job_of fetched.entry).keys) }
+        ensures fault { IfErr result (λ e. WasRefused (service L.rules L.parts L.answer) pass.old.part (end_by (job_of fetched.entry).batch (answer_of fetched.entry)) (Some (job_of fetched.entry)) e.0) }
+        ensures back { IfErr result (λ e. e.1 ≡ fetched.entry) }
+        ensures unchanged { OnErr result (pass.new.part ≡ pass.old.part) }
+    {
+        match self.settle_now(rt, alloc, pass, &fetched) {
+            Ok(settled) => Ok(settled),
+            Err(fault) => Err((fault, fetched)),
+        }
+    }
+
+    /// Fails a batch that is given up.
+    ///
+    /// # Errors
+    /// `Stopped`, `Behind`, `LogFull`, `NoBatch`, `NotSent`, `SettledBefore`, `WrongKeys`, `OutOfMemory`,
+    /// `LogRefused`, with the job. The pass then tells what it told before.
+    pub fn fail(
+        &self,
+        rt: &impl Wait,
+        alloc: Global,
+        pass: &mut Pass<L>,
+        job: Job,
+        give_up: GiveUp,
+    ) -> Result<Settled, (CallFault, Job)>
+        ensures made { OnOk result (WasMade (service L.rules L.parts L.answer) pass.old.part (call.Fail job.batch (fault_of give_up)) reply.Done pass.new.part) }
+        ensures tickets { OnOk result (pass.new.part.tickets ≡ pass.old.part.tickets) }
+        ensures each { IfOk result (λ settled. settled.shown + settled.refused ≡ length job.keys) }
+        ensures fault { IfErr result (λ e. WasRefused (service L.rules L.parts L.answer) pass.old.part (call.Fail job.batch (fault_of give_up)) (Some job) e.0) }
+        ensures back { IfErr result (λ e. e.1 ≡ job) }
+        ensures unchanged { OnErr result (pass.new.part ≡ pass.old.part) }
+    {
+        match self.fail_now(rt, alloc, pass, &job, give_up) {
+            Ok(settled) => Ok(settled),
+            Err(fault) => Err((fault, job)),
+        }
+    }
+
+    // Ends a batch under the lock by what was fetched, and wakes those that wait for its cells.
+    fn settle_now<S: Source>(
+        &self,
+        rt: &impl Wait,
+        alloc: Global,
+        pass: &mut Pass<L>,
+        fetched: &Fetched<'_, S>,
+    ) -> Result<Settled, CallFault>
+        requires source { (keys : List Key) → S.answer (source_of fetched.now) keys ≡ L.answer keys }
+        ensures made { OnOk result (WasMade (service L.rules L.parts L.answer) pass.old.part (end_by (job_of fetched.now).batch (answer_of fetched.now)) reply.Done pass.new.part) }
+        ensures tickets { OnOk result (pass.new.part.tickets ≡ pass.old.part.tickets) }
+        ensures each { IfOk result (λ settled. settled.shown + settled.refused ≡ length (job_of fetched.now).keys) }
+        ensures fault { IfErr result (WasRefused (service L.rules L.parts L.answer) pass.old.part (end_by (job_of fetched.now).batch (answer_of fetched.now)) (Some (job_of fetched.now))) }
+        ensures unchanged { OnErr result (pass.new.part ≡ pass.old.part) }
+    {
+        let mut guard = self.book().lock(rt);
+        let book = &mut *guard;
+        book.keeps();
+        book.admit(self, pass)?;
+        let settled = book.settle(alloc, self, pass, fetched)?;
+        book.keeps();
+        self.wake();
+        Ok(settled)
+    }
+
+    // Fails a batch under the lock, and wakes those that wait for its cells.
+    fn fail_now(
+        &self,
+        rt: &impl Wait,
+        alloc: Global,
+        pass: &mut Pass<L>,
+        job: &Job,
+        give_up: GiveUp,
+    ) -> Result<Settled, CallFault>
+        ensures made { OnOk result (WasMade (service L.rules L.parts L.answer) pass.old.part (call.Fail job.now.batch (fault_of give_up)) reply.Done pass.new.part) }
+        ensures tickets { OnOk result (pass.new.part.tickets ≡ pass.old.part.tickets) }
+        ensures each { IfOk result (λ settled. settled.shown + settled.refused ≡ length job.now.keys) }
+        ensures fault { IfErr result (WasRefused (service L.rules L.parts L.answer) pass.old.part (call.Fail job.now.batch (fault_of give_up)) (Some job.now)) }
+        ensures unchanged { OnErr result (pass.new.part ≡ pass.old.part) }
+    {
+        let mut guard = self.book().lock(rt);
+        let book = &mut *guard;
+        book.keeps();
+        book.admit(self, pass)?;
+        let settled = book.fail(alloc, self, pass, job, give_up)?;
+        book.keeps();
+        self.wake();
+        Ok(settled)
+    }
+}

@@ -1,0 +1,120 @@
+//! The calls on keys, and the dispatch.
+
+ghost use Rattle.std.specs.Prelude.{◌≡◌, ◌≤◌, false, true, None, IfErr, IfOk, List, OnErr, OnOk, length, map};
+ghost use Rattle.dl_loader.specs.declared.event.Call.TheVariants as call;
+ghost use Rattle.dl_loader.specs.declared.event.Reply.TheVariants as reply;
+ghost use Rattle.dl_loader.specs.EventReplies.{told_by};
+ghost use Rattle.dl_loader.specs.Made.{WasMade, WasRefused};
+ghost use Rattle.dl_loader.specs.Service.{service};
+
+use crate::fault::CallFault;
+use crate::loader::Loader;
+use crate::name::LoaderName;
+use crate::pass::Pass;
+use crate::reply::PrimeReply;
+use dl_desk::{FetchKey, Job, Outcome};
+use std::alloc::Global;
+use std::sync::Wait;
+
+impl<L: LoaderName> Loader<L> {
+    /// Gives a key that isn't held a new cell, which ends with the outcome at once. Where the key is held
+    /// nothing changes, but for the history (DataLoader: `prime`).
+    ///
+    /// # Errors
+    /// `Stopped`, `Behind`, `LogFull`, `CellsFull`, `OutOfMemory`, `LogRefused`. The pass then tells what it
+    /// told before.
+    pub fn prime(
+        &self,
+        rt: &impl Wait,
+        alloc: Global,
+        pass: &mut Pass<L>,
+        key: &FetchKey,
+        outcome: Outcome,
+    ) -> Result<PrimeReply, CallFault>
+        ensures made { IfOk result (λ r. WasMade (service L.rules L.parts L.answer) pass.old.part (call.Prime key.now outcome) (told_by r) pass.new.part) }
+        ensures tickets { OnOk result (pass.new.part.tickets ≡ pass.old.part.tickets) }
+        ensures fault { IfErr result (WasRefused (service L.rules L.parts L.answer) pass.old.part (call.Prime key.now outcome) None) }
+        ensures unchanged { OnErr result (pass.new.part ≡ pass.old.part) }
+    {
+        let mut guard = self.book().lock(rt);
+        let book = &mut *guard;
+        book.keeps();
+        book.admit(self, pass)?;
+        let reply = book.prime(alloc, self, pass, key, &outcome)?;
+        book.keeps();
+        Ok(reply)
+    }
+
+    /// Forgets the key, if it is held (DataLoader: `clear`).
+    ///
+    /// # Errors
+    /// `Stopped`, `Behind`, `LogFull`, `OutOfMemory`, `LogRefused`. The pass then tells what it told before.
+    pub fn clear(
+        &self,
+        rt: &impl Wait,
+        alloc: Global,
+        pass: &mut Pass<L>,
+        key: &FetchKey,
+    ) -> Result<(), CallFault>
+        ensures made { OnOk result (WasMade (service L.rules L.parts L.answer) pass.old.part (call.Clear key.now) reply.Done pass.new.part) }
+        ensures tickets { OnOk result (pass.new.part.tickets ≡ pass.old.part.tickets) }
+        ensures fault { IfErr result (WasRefused (service L.rules L.parts L.answer) pass.old.part (call.Clear key.now) None) }
+        ensures unchanged { OnErr result (pass.new.part ≡ pass.old.part) }
+    {
+        let mut guard = self.book().lock(rt);
+        let book = &mut *guard;
+        book.keeps();
+        book.admit(self, pass)?;
+        book.clear(alloc, self, pass, key)?;
+        book.keeps();
+        Ok(())
+    }
+
+    /// Forgets all keys (DataLoader: `clearAll`).
+    ///
+    /// # Errors
+    /// `Stopped`, `Behind`, `LogFull`, `OutOfMemory`, `LogRefused`. The pass then tells what it told before.
+    pub fn clear_all(
+        &self,
+        rt: &impl Wait,
+        alloc: Global,
+        pass: &mut Pass<L>,
+    ) -> Result<(), CallFault>
+        ensures made { OnOk result (WasMade (service L.rules L.parts L.answer) pass.old.part call.ClearAll reply.Done pass.new.part) }
+        ensures tickets { OnOk result (pass.new.part.tickets ≡ pass.old.part.tickets) }
+        ensures fault { IfErr result (WasRefused (service L.rules L.parts L.answer) pass.old.part call.ClearAll None) }
+        ensures unchanged { OnErr result (pass.new.part ≡ pass.old.part) }
+    {
+        let mut guard = self.book().lock(rt);
+        let book = &mut *guard;
+        book.keeps();
+        book.admit(self, pass)?;
+        book.clear_all(alloc, self, pass)?;
+        book.keeps();
+        Ok(())
+    }
+
+    /// Sends every batch that was begun and not sent, in order, each as a job.
+    ///
+    /// # Errors
+    /// `Stopped`, `Behind`, `LogFull`, `OutOfMemory`, `LogRefused`. The pass then tells what it told before.
+    pub fn dispatch(
+        &self,
+        rt: &impl Wait,
+        alloc: Global,
+        pass: &mut Pass<L>,
+    ) -> Result<Vec<Job>, CallFault>
+        ensures made { IfOk result (λ jobs. WasMade (service L.rules L.parts L.answer) pass.old.part call.Dispatch (reply.Sent jobs.items) pass.new.part) }
+        ensures tickets { OnOk result (pass.new.part.tickets ≡ pass.old.part.tickets) }
+        ensures fault { IfErr result (WasRefused (service L.rules L.parts L.answer) pass.old.part call.Dispatch None) }
+        ensures unchanged { OnErr result (pass.new.part ≡ pass.old.part) }
+    {
+        let mut guard = self.book().lock(rt);
+        let book = &mut *guard;
+        book.keeps();
+        book.admit(self, pass)?;
+        let jobs = book.dispatch(alloc, self, pass)?;
+        book.keeps();
+        Ok(jobs)
+    }
+}

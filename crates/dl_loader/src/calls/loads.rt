@@ -1,0 +1,75 @@
+//! The loads of keys.
+
+ghost use Rattle.std.specs.Prelude.{◌≡◌, false, IfErr, IfOk, None, OnErr, length, map};
+ghost use Rattle.dl_loader.specs.declared.event.Call.TheVariants as call;
+ghost use Rattle.dl_loader.specs.declared.event.Reply.TheVariants as reply;
+ghost use Rattle.dl_loader.specs.Made.{WasMade, WasRefused};
+ghost use Rattle.dl_loader.specs.Pass.{Gave, GaveAll};
+ghost use Rattle.dl_loader.specs.Service.{service};
+
+use crate::fault::CallFault;
+use crate::loader::Loader;
+use crate::name::LoaderName;
+use crate::pass::Pass;
+use crate::ticket::Ticket;
+use dl_desk::FetchKey;
+use std::alloc::Global;
+use std::sync::Wait;
+
+impl<L: LoaderName> Loader<L> {
+    /// Loads a key. The ticket will show its outcome (DataLoader: `load`).
+    ///
+    /// # Errors
+    /// `Stopped`, `Behind`, `LogFull`, `CellsFull`, `OutOfMemory`, `LogRefused`. The pass then tells what it
+    /// told before.
+    pub fn load<'a>(
+        &'a self,
+        rt: &impl Wait,
+        alloc: Global,
+        pass: &mut Pass<L>,
+        key: &FetchKey,
+    ) -> Result<Ticket<'a, L>, CallFault>
+        ensures made { IfOk result (λ ticket. WasMade (service L.rules L.parts L.answer) pass.old.part (call.Load key.now) (reply.Loaded ticket.reply) pass.new.part) }
+        ensures number { IfOk result (λ ticket. ticket.number ≡ length pass.old.part.tickets) }
+        ensures gave { IfOk result (λ ticket. Gave pass.new.part ticket false) }
+        ensures fault { IfErr result (WasRefused (service L.rules L.parts L.answer) pass.old.part (call.Load key.now) None) }
+        ensures unchanged { OnErr result (pass.new.part ≡ pass.old.part) }
+    {
+        let mut guard = self.book().lock(rt);
+        let book = &mut *guard;
+        book.keeps();
+        book.admit(self, pass)?;
+        let number = pass.tickets();
+        let reply = book.load(alloc, self, pass, key)?;
+        book.keeps();
+        Ok(book.ticket(self, number, reply))
+    }
+
+    /// Loads keys in order, as one call, and answers a ticket for each (DataLoader: `loadMany`).
+    ///
+    /// # Errors
+    /// `Stopped`, `Behind`, `LogFull`, `CellsFull`, `OutOfMemory`, `LogRefused`. The pass then tells what it
+    /// told before.
+    pub fn load_many<'a>(
+        &'a self,
+        rt: &impl Wait,
+        alloc: Global,
+        pass: &mut Pass<L>,
+        keys: &[FetchKey],
+    ) -> Result<Vec<Ticket<'a, L>>, CallFault>
+        ensures made { IfOk result (λ tickets. WasMade (service L.rules L.parts L.answer) pass.old.part (call.LoadMany keys.now) (reply.Many (map (λ t. t.reply) tickets.items)) pass.new.part) }
+        ensures gave { IfOk result (λ tickets. GaveAll pass.new.part (length pass.old.part.tickets) tickets.items) }
+        ensures fault { IfErr result (WasRefused (service L.rules L.parts L.answer) pass.old.part (call.LoadMany keys.now) None) }
+        ensures unchanged { OnErr result (pass.new.part ≡ pass.old.part) }
+    {
+        let mut guard = self.book().lock(rt);
+        let book = &mut *guard;
+        book.keeps();
+        book.admit(self, pass)?;
+        let mut tickets = Vec::with_capacity(alloc, keys.len())?;
+        let replies = book.load_many(alloc, self, pass, keys)?;
+        book.keeps();
+        book.make_tickets(self, pass, replies.as_slice(), &mut tickets);
+        Ok(tickets)
+    }
+}
