@@ -24,3 +24,9 @@ pub mod KeyEvents
 pub mod GivenDues
 pub mod BatchEnds
 mod Called
+mod Counting
+pub mod CellsEnded
+mod AccountLemmas
+mod ClosingLemmas
+mod Sources
+mod HistoryLemmas

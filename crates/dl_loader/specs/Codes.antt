@@ -12,6 +12,7 @@ use Rattle.dl_loader.specs.Entries.{Told, told, Read, read, Line, Called, Saw}
 use Rattle.dl_loader.specs.declared.pass.Given.{Given}
 use Rattle.dl_loader.specs.contracts.pass.Given as given
 use Rattle.dl_loader.specs.Pass.{Part, part, Pass, Hold, hold}
+use Rattle.dl_loader.specs.Agrees.{Account, account}
 
 -- an event, by its place and itself
 abbrev pub told_code : Coded Told
@@ -48,3 +49,7 @@ pass_code = code_by (Part × ℕ) (coded× part_code coded_ℕ) (λ p. (p.part, 
 -- a ticket, by its number, its reply and what it knows
 abbrev pub hold_code : Coded Hold
 hold_code = code_by (ℕ × (LoadReply × Option Ending)) (coded× coded_ℕ (coded× reply.the_row.coded (coded_option ending.the_row.coded))) (λ t. (t.number, (t.reply, t.known))) (λ p. hold p.0 p.1.0 p.1.1) (λ _. refl)
+
+-- an account, by its caller and its entries
+abbrev pub account_code : Coded Account
+account_code = code_by (ℕ × List Line) (coded× coded_ℕ (coded_list line_code)) (λ a. (a.caller, a.entries)) (λ p. account p.0 p.1) (λ _. refl)

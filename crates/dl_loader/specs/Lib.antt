@@ -16,3 +16,6 @@ pub mod EventReplies
 pub mod Made
 pub mod EndedUpTo
 pub mod Dues
+pub mod Agrees
+pub mod Closing
+pub mod Closed

@@ -1,7 +1,10 @@
 -- What a loader is opened with.
-use Rattle.std.specs.Prelude.{◌≡◌, ℕ, ◌<◌, ◌≤◌}
+use Rattle.std.specs.Prelude.{◌≡◌, ℕ, ◌<◌, ◌≤◌, List}
 use Rattle.dl_cells.specs.Cells.{RowName, row_len}
+use Rattle.dl_desk.specs.Key.{Key}
 use Rattle.dl_desk.specs.Limits.{Limits, Rules}
+use Rattle.dl_source.specs.declared.source.BatchAnswer.{BatchAnswer}
+use Rattle.dl_loader.specs.Service.{AnswersEach}
 use Rattle.dl_loader.specs.declared.fault.StartFault.{StartFault}
 use Rattle.dl_loader.specs.declared.fault.StartFault.TheVariants.{NoCallers, TooManyCallers, OutOfMemory}
 use Rattle.dl_loader.specs.declared.opening.TheConstants.{MOST_CALLERS}
@@ -34,11 +37,13 @@ RefusedAs callers NoCallers = callers ≡ 0
 RefusedAs callers TooManyCallers = MOST_CALLERS < callers
 RefusedAs callers OutOfMemory = AreCallers callers
 
--- what holds of the fields of a loader: it goes by its rules, and its rows are its own, with room for all calls
--- and cells
-pub record IsLoader (limits : Limits) (log outcomes : RowName) (rules : Rules) (own_log own_outcomes : RowName) : Type 0 where
+-- what holds of the fields of a loader: it goes by its rules, it has its number of callers, its rows are its own,
+-- with room for all calls and cells, and its source answers each key
+pub record IsLoader (limits : Limits) (callers : ℕ) (log outcomes : RowName) (rules : Rules) (parts : ℕ) (own_log own_outcomes : RowName) (answer : List Key → BatchAnswer) : Type 0 where
   pub limits_are : limits ≡ rules.limits
+  pub callers_are : callers ≡ parts
   pub log_is : log ≡ own_log
   pub outcomes_are : outcomes ≡ own_outcomes
   pub calls_fit : row_len own_log ≡ limits.max_calls
   pub cells_fit : row_len own_outcomes ≡ limits.max_cells
+  pub answers : AnswersEach answer

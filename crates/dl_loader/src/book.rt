@@ -7,6 +7,7 @@ ghost use Rattle.dl_loader.specs.Book.{Keeps, locked};
 ghost use Rattle.dl_loader.specs.Entries.{cell_of_load, front_of};
 ghost use Rattle.dl_loader.specs.Refusals.{unready};
 
+mod closing;
 mod ends;
 mod keys;
 mod loads;

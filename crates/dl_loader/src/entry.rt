@@ -2,9 +2,11 @@
 
 ghost use Rattle.std.specs.Prelude.{◌≡◌, ◌<◌, IfErr, IfOk, IfSome, IsSome, IsSomeAnd};
 ghost use Rattle.dl_cells.specs.Cells.{cell_of, row_len};
+ghost use Rattle.dl_loader.specs.Agrees.{Meets};
 ghost use Rattle.dl_loader.specs.Entries.{told, read, ending_known, kind_of, Called, Saw};
 
 use crate::event::{Ending, Event};
+use crate::journal::Journal;
 use crate::name::LoaderName;
 use dl_cells::{CellRow, Reader};
 use std::marker::{Model, PhantomData};
@@ -73,6 +75,17 @@ impl<L: LoaderName> Stored<L> {
         self.at
     }
 
+    /// The event, which lies in its cell of the log. It takes no memory.
+    pub(crate) fn event<'a>(&self, row: &'a CellRow<Event>) -> &'a Event
+        requires { row.now ≡ L.log }
+        ensures { result.now ≡ self.now.event }
+    {
+        match row.look(u32::from(self.at), &mut self.reader.again()) {
+            Some(event) => event,
+            None => unreachable!(),
+        }
+    }
+
     /// A second one that tells the same. It takes no memory.
     pub(crate) fn again(&self) -> Stored<L>
         ensures { result ≡ self.now }
@@ -132,6 +145,13 @@ impl<L: LoaderName> Seen<L> {
             reader,
             of: PhantomData,
         }
+    }
+
+    /// The cell.
+    pub(crate) fn cell(&self) -> u32
+        ensures { result ≡ self.now.cell }
+    {
+        self.cell
     }
 
     /// The place of the event that gave the outcome.
@@ -209,6 +229,16 @@ impl<L: LoaderName> Entry<L> {
                 cell: seen.cell,
                 at: u32::from(seen.ended_at),
             },
+        }
+    }
+
+    /// What the journal has at the entry's place, or of its cell, is what the entry tells.
+    pub(crate) fn agree(&self, journal: &Journal<L>)
+        ensures { Meets journal.now.history journal.now.cells self.now }
+    {
+        match &self.kind {
+            Kind::Call(stored) => journal.agree_call(stored),
+            Kind::Saw(seen) => journal.agree_read(seen),
         }
     }
 }

@@ -2,6 +2,7 @@
 
 ghost use Rattle.std.specs.Prelude.{◌≡◌};
 ghost use Rattle.dl_loader.specs.declared.fault.CallFault.TheVariants as call;
+ghost use Rattle.dl_loader.specs.declared.fault.CloseFault.TheVariants as close;
 ghost use Rattle.dl_loader.specs.declared.fault.StartFault.TheVariants as start;
 ghost use Rattle.dl_loader.specs.Refusals.{call_fault};
 
@@ -71,6 +72,34 @@ pub enum CallFault {
 #[derive(Clone, Copy, Debug, PartialEq, Eq, Error)]
 #[error("the loader is stopped")]
 pub struct Stopped;
+
+/// Why a loader can't be closed, the first cause that applies. The loader and the passes are then handed back.
+#[derive(Clone, Copy, Debug, PartialEq, Eq, Error)]
+pub enum CloseFault {
+    /// Not each caller has exactly one of the passes.
+    #[error("{got} of {want} callers have their pass there")]
+    PassesMissing { want: u32, got: u32 },
+    /// A pass has seen more of a history than this one has.
+    #[error("a pass has seen {front} events, and the history has {len}")]
+    Behind { front: u32, len: u32 },
+    /// A cell refused its outcome, and a pass has an outcome of it.
+    #[error("cell {cell} refused its outcome")]
+    Unshown { cell: u32 },
+    /// A batch has not ended, sent or not.
+    #[error("batch {batch} has not ended")]
+    Unsettled { batch: u32 },
+    /// A growth was refused.
+    #[error("out of memory")]
+    OutOfMemory,
+}
+
+impl From<AllocError> for CloseFault {
+    ghost from_gives = { λ _ fault. fault ≡ close.OutOfMemory };
+
+    fn from(_: AllocError) -> CloseFault {
+        CloseFault::OutOfMemory
+    }
+}
 
 impl From<AllocError> for CallFault {
     ghost from_gives = { λ _ fault. fault ≡ call.OutOfMemory };

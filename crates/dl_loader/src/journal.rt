@@ -8,6 +8,8 @@ ghost use Rattle.dl_loader.specs.Entries.{front_of};
 ghost use Rattle.dl_loader.specs.Pass.{with_call};
 ghost use Rattle.dl_loader.specs.Journal.{AreBlank, waiting, ended, refused};
 
+mod closing;
+
 use crate::entry::Stored;
 use crate::event::Ending;
 use crate::name::LoaderName;

@@ -5,6 +5,7 @@
 //! knows of the history stands in its [`Pass`].
 #![tactic(auto)]
 
+mod account;
 mod ask;
 mod book;
 mod calls;
@@ -12,6 +13,7 @@ mod dues;
 mod entry;
 mod event;
 mod fault;
+mod history;
 mod journal;
 pub mod laws;
 mod lists;
@@ -29,7 +31,8 @@ pub use ask::Ask;
 pub use book::Book;
 pub use entry::{Entry, EntryKind};
 pub use event::{Call, Ending, Event, GiveUp, Reply};
-pub use fault::{CallFault, StartFault, Stopped};
+pub use fault::{CallFault, CloseFault, StartFault, Stopped};
+pub use history::{Events, History};
 pub use lists::{Jobs, Replies};
 pub use loader::Loader;
 pub use name::LoaderName;

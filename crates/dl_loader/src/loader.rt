@@ -7,6 +7,8 @@ ghost use Rattle.dl_loader.specs.declared.fault.StartFault.TheVariants.{OutOfMem
 ghost use Rattle.dl_loader.specs.Entries.{cell_of_load, ending_known};
 ghost use Rattle.dl_loader.specs.Pass.{Gave, fresh, with_saw};
 
+mod close;
+
 use crate::book::Book;
 use crate::event::{Ending, Event};
 use crate::fault::{StartFault, Stopped};
@@ -26,6 +28,7 @@ use std::sync::{Condvar, Mutex, Wait};
 #[derive(Drop)]
 pub struct Loader<L: LoaderName> {
     limits: Limits,
+    callers: u32,
     pub(crate) log: CellRow<Event>,
     outcomes: CellRow<Ending>,
     book: Mutex<Book<L>>,
@@ -40,7 +43,7 @@ impl<L: LoaderName> Model for Loader<L> {
 
     ghost view = { λ l. l.limits };
 
-    ghost invariant = { λ l. IsLoader l.limits l.log l.outcomes L.rules L.log L.outcomes };
+    ghost invariant = { λ l. IsLoader l.limits l.callers l.log l.outcomes L.rules L.parts L.log L.outcomes L.answer };
 }
 
 impl<L: LoaderName> Loader<L> {
@@ -72,6 +75,7 @@ impl<L: LoaderName> Loader<L> {
         let book = Book::new(alloc, limits, calls);
         let loader = Loader {
             limits,
+            callers,
             log,
             outcomes,
             book: Mutex::new(book),

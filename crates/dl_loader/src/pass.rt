@@ -1,10 +1,12 @@
 //! Passes: what a caller knows of the history.
 
 ghost use Rattle.std.specs.Prelude.{◌≡◌, ◌+◌, ◌<◌, ◌≤◌, Bool, false, IfSome, IsSome, OnErr, OnOk, Some, [], length, slice_get};
+ghost use Rattle.dl_loader.specs.Agrees.{IsAccount, account_of, places_of};
 ghost use Rattle.dl_loader.specs.Entries.{calls_of, cell_of_load, cells_of, ending_known, front_of};
 ghost use Rattle.dl_loader.specs.Lists.{Among};
 ghost use Rattle.dl_loader.specs.Pass.{Gave, given, part, with_call, with_saw, with_ticket};
 
+use crate::account::Account;
 use crate::entry::{Entry, Seen, Stored};
 use crate::name::LoaderName;
 use crate::ticket::Ticket;
@@ -76,6 +78,22 @@ impl<L: LoaderName> Pass<L> {
         ensures below { self.now.part.caller < L.parts }
     {
         self.caller
+    }
+
+    /// Takes the pass apart: its account, and its part of the ledger. It takes no memory.
+    pub(crate) fn into_account(self) -> (Account<L>, Share<L>)
+        ensures account { result.0 ≡ account_of self.part }
+        ensures is_account { IsAccount L.parts result.0 }
+        ensures one_part { result.1.parts ≡ 1 }
+        ensures counted { result.1.amount ≡ length (places_of result.0.entries) }
+    {
+        let Pass {
+            caller,
+            entries,
+            share,
+            ..
+        } = self;
+        (Account::new(caller, entries), share)
     }
 
     /// The calls that were made and the outcomes that were read, in order.

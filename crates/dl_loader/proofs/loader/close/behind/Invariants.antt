@@ -1,0 +1,7 @@
+use Rattle.std.proofs.Common.{take}
+use Rattle.dl_loader.specs.Agrees.{accounts_of}
+use Rattle.dl_loader.proofs.ClosingLemmas.{IsFound}
+use Rattle.dl_loader.proofs.loader.close.behind.Given as goal
+
+abbrev pub invariant-loop-pass : goal.invariant-loop-pass
+invariant-loop-pass g l = IsFound l.len (accounts_of (take l.pass-index l.passes)) l.found

@@ -1,0 +1,6 @@
+use Rattle.std.proofs.Common.{◌≡◌, ◌≤◌, take}
+use Rattle.dl_loader.specs.Agrees.{accounts_by, accounts_of}
+use Rattle.dl_loader.proofs.loader.close.passes_of.Given as goal
+
+abbrev pub invariant-loop-pass : goal.invariant-loop-pass
+invariant-loop-pass g l = (l.own ≡ accounts_by l.caller (accounts_of (take l.pass-index l.passes))) × (l.own ≤ l.pass-index)

@@ -1,0 +1,97 @@
+-- When a loader may be closed, and why it is refused.
+use Rattle.std.specs.Prelude.{◌≡◌, ℕ, zero, suc, ◌+◌, ◌<◌, ◌≤◌, Bool, false, List, [], ◌∷◌, length, Option, None, Some, IsSome, filter, flat_map, nat_eq, nat_le, slice_get, ◌||◌, if◌then◌else◌}
+use Rattle.dl_desk.specs.Events.{atoms}
+use Rattle.dl_desk.specs.History.{begun, end_of}
+use Rattle.dl_loader.specs.Agrees.{Account, account, accounts_by, HasEach}
+use Rattle.dl_loader.specs.Book.{Locked}
+use Rattle.dl_loader.specs.Entries.{Line, Called, Saw, front_of}
+use Rattle.dl_loader.specs.History.{log}
+use Rattle.dl_loader.specs.Journal.{Cell, is_refused}
+use Rattle.dl_loader.specs.Lists.{Every, Among, one_if}
+use Rattle.dl_loader.specs.declared.fault.CloseFault.{CloseFault}
+use Rattle.dl_loader.specs.declared.fault.CloseFault.TheVariants.{PassesMissing, Behind, Unshown, Unsettled, OutOfMemory}
+use Rattle.dl_loader.specs.declared.event.Event.{Event}
+
+-- ---- passes
+
+-- how many of the first callers have exactly one of the accounts
+abbrev pub present : ℕ → List Account → ℕ
+present zero accounts = 0
+present (suc n) accounts = present n accounts + one_if (nat_eq (accounts_by n accounts) 1)
+
+-- no account has seen more events than there are
+abbrev pub NoneBehind : ℕ → List Account → Type 0
+NoneBehind len accounts = (a : Account) → Among a accounts → front_of a.entries ≤ len
+
+-- Of the accounts that have seen more events than there are, this is the least caller's, with this front.
+pub record IsBehind (len : ℕ) (accounts : List Account) (caller front : ℕ) : Type 0 where
+  pub entries : List Line
+  pub among : Among (account caller entries) accounts
+  pub front_is : front ≡ front_of entries
+  pub beyond : len < front
+  pub least : (a : Account) → Among a accounts → len < front_of a.entries → caller ≤ a.caller
+
+-- what was found of accounts that have seen more than so many events, and one account more with its front
+abbrev pub earlier : ℕ → Option (ℕ × ℕ) → ℕ → ℕ → Option (ℕ × ℕ)
+earlier len None caller front = if nat_le front len then None else Some (caller, front)
+earlier len (Some found) caller front = if nat_le front len || nat_le found.0 caller then Some found else Some (caller, front)
+
+-- ---- cells that refused their outcome
+
+abbrev pub cell_refused : Option Cell → Bool
+cell_refused None = false
+cell_refused (Some x) = is_refused x.mark
+
+abbrev pub read_in : Line → List ℕ
+read_in (Called t) = []
+read_in (Saw r) = r.cell ∷ []
+
+-- the cells whose outcome stands among the entries of the accounts
+abbrev pub reads_of : List Account → List ℕ
+reads_of accounts = flat_map (λ a. flat_map read_in a.entries) accounts
+
+-- those of the numbers whose cells refused their outcome
+abbrev pub refused_in : List Cell → List ℕ → List ℕ
+refused_in cells ns = filter (λ c. cell_refused (slice_get cells c)) ns
+
+-- the cells that refused their outcome and of which the accounts have one
+abbrev pub unshown : List Cell → List Account → List ℕ
+unshown cells accounts = refused_in cells (reads_of accounts)
+
+-- the least of the numbers, if there are any
+abbrev pub IsLeastOf : Option ℕ → List ℕ → Type 0
+IsLeastOf None ns = ns ≡ []
+IsLeastOf (Some n) ns = Among n ns × Every (λ m. n ≤ m) ns
+
+-- ---- batches that have no end
+
+-- the batch has ended
+abbrev pub HasEnd : List Event → ℕ → Type 0
+HasEnd history b = IsSome (end_of (atoms (log history)) b)
+
+-- each batch has ended
+abbrev pub AllEnded : List Event → Type 0
+AllEnded history = (b : ℕ) → b < begun (atoms (log history)) → HasEnd history b
+
+-- the batch was begun, and is the least that has no end
+pub record IsFirstOpen (history : List Event) (b : ℕ) : Type 0 where
+  pub is_begun : b < begun (atoms (log history))
+  pub no_end : end_of (atoms (log history)) b ≡ None
+  pub first : (n : ℕ) → n < b → HasEnd history n
+
+-- ---- refusals
+
+-- a loader with this book may be closed with the accounts
+pub record MayClose (callers : ℕ) (b : Locked) (accounts : List Account) : Type 0 where
+  pub each : HasEach callers accounts
+  pub seen : NoneBehind (length b.history) accounts
+  pub shown : unshown b.cells accounts ≡ []
+  pub ended : AllEnded b.history
+
+-- why it is refused: the first cause that applies, but for want of memory
+abbrev pub RefusesClose : ℕ → Locked → List Account → CloseFault → Type 0
+RefusesClose callers b accounts (PassesMissing want got) = (want ≡ callers) × (got ≡ present callers accounts) × (got < want)
+RefusesClose callers b accounts (Behind front len) = HasEach callers accounts × (len ≡ length b.history) × (caller : ℕ) × IsBehind len accounts caller front
+RefusesClose callers b accounts (Unshown cell) = HasEach callers accounts × NoneBehind (length b.history) accounts × IsLeastOf (Some cell) (unshown b.cells accounts)
+RefusesClose callers b accounts (Unsettled batch) = HasEach callers accounts × NoneBehind (length b.history) accounts × (unshown b.cells accounts ≡ []) × IsFirstOpen b.history batch
+RefusesClose callers b accounts OutOfMemory = Unit {0}

@@ -1,0 +1,171 @@
+//! The close of a loader.
+
+ghost use Rattle.std.specs.Prelude.{◌≡◌, ◌≤◌, [], IfErr, IfNone, IfOk, IfSome, OnOk, length, vec_capacity};
+ghost use Rattle.dl_loader.specs.Agrees.{Agrees, HasEach, accounts_by, accounts_of};
+ghost use Rattle.dl_loader.specs.Book.{Keeps, Locked};
+ghost use Rattle.dl_loader.specs.Closing.{AllEnded, IsBehind, MayClose, NoneBehind, RefusesClose, earlier, present};
+ghost use Rattle.dl_loader.specs.History.{IsLegal};
+ghost use Rattle.dl_loader.specs.Lists.{Every};
+ghost use Rattle.dl_loader.specs.Service.{service};
+
+use crate::account::Account;
+use crate::book::Book;
+use crate::fault::CloseFault;
+use crate::history::History;
+use crate::loader::Loader;
+use crate::name::LoaderName;
+use crate::pass::Pass;
+use dl_desk::Limits;
+use std::alloc::Global;
+use std::sync::Mutex;
+
+impl<L: LoaderName> Loader<L> {
+    /// Closes the loader: its history, and with it the entries of the passes, which are their callers' parts of
+    /// the history. A stopped loader can be closed too.
+    ///
+    /// # Errors
+    /// The first cause of [`CloseFault`] that applies, with the loader and the passes as they were.
+    pub fn close(
+        self,
+        alloc: Global,
+        passes: Vec<Pass<L>>,
+    ) -> Result<History<L>, (CloseFault, Loader<L>, Vec<Pass<L>>)>
+        ensures legal { IfOk result (λ h. IsLegal (service L.rules L.parts L.answer) h.events) }
+        ensures accounts { IfOk result (λ h. h.accounts ≡ accounts_of passes.items) }
+        ensures each { IfOk result (λ h. HasEach L.parts h.accounts) }
+        ensures agree { IfOk result (λ h. Every (Agrees h.events) h.accounts) }
+        ensures ended { IfOk result (λ h. AllEnded h.events) }
+        ensures fault { IfErr result (λ e. (b : Locked) × Keeps (service L.rules L.parts L.answer) b × RefusesClose L.parts b (accounts_of passes.items) e.0) }
+        ensures loader { IfErr result (λ e. e.1 ≡ self) }
+        ensures passes { IfErr result (λ e. e.2.items ≡ passes.items) }
+    {
+        let Loader {
+            limits,
+            callers,
+            log,
+            outcomes,
+            book,
+            changed,
+        } = self;
+        let book = book.into_inner();
+        book.keeps();
+        match room(alloc, limits, callers, &book, passes.as_slice()) {
+            Ok(accounts) => {
+                let history = History::of(log, outcomes, book, passes, accounts);
+                history.keeps();
+                Ok(history)
+            }
+            Err(fault) => {
+                let loader = Loader {
+                    limits,
+                    callers,
+                    log,
+                    outcomes,
+                    book: Mutex::new(book),
+                    changed,
+                };
+                Err((fault, loader, passes))
+            }
+        }
+    }
+}
+
+// Room for the accounts of the passes, where the loader may be closed with them.
+fn room<L: LoaderName>(
+    alloc: Global,
+    limits: Limits,
+    callers: u32,
+    book: &Book<L>,
+    passes: &[Pass<L>],
+) -> Result<Vec<Account<L>>, CloseFault>
+    requires limits { limits ≡ L.rules.limits }
+    requires callers { callers ≡ L.parts }
+    ensures may { OnOk result (MayClose L.parts book.now (accounts_of passes.now)) }
+    ensures none { IfOk result (λ accounts. accounts.items ≡ []) }
+    ensures room { IfOk result (λ accounts. length passes.now ≤ vec_capacity accounts) }
+    ensures fault { IfErr result (RefusesClose L.parts book.now (accounts_of passes.now)) }
+{
+    check(limits, callers, book, passes)?;
+    Ok(Vec::with_capacity(alloc, passes.len())?)
+}
+
+// Whether the loader may be closed with these passes, but for want of memory.
+fn check<L: LoaderName>(
+    limits: Limits,
+    callers: u32,
+    book: &Book<L>,
+    passes: &[Pass<L>],
+) -> Result<(), CloseFault>
+    requires limits { limits ≡ L.rules.limits }
+    requires callers { callers ≡ L.parts }
+    ensures may { OnOk result (MayClose L.parts book.now (accounts_of passes.now)) }
+    ensures fault { IfErr result (RefusesClose L.parts book.now (accounts_of passes.now)) }
+{
+    let got = present(callers, passes);
+    if got < callers {
+        return Err(CloseFault::PassesMissing { want: callers, got });
+    }
+    let len = book.len();
+    if let Some((_, front)) = behind(len, passes) {
+        let len = len as u32;
+        return Err(CloseFault::Behind { front, len });
+    }
+    if let Some(cell) = book.unshown(passes) {
+        return Err(CloseFault::Unshown { cell });
+    }
+    match book.open_batch(limits) {
+        Some(batch) => Err(CloseFault::Unsettled { batch }),
+        None => Ok(()),
+    }
+}
+
+// How many of the first callers have exactly one of the passes.
+fn present<L: LoaderName>(callers: u32, passes: &[Pass<L>]) -> u32
+    ensures { result ≡ present callers (accounts_of passes.now) }
+{
+    let mut got = 0;
+    for caller in 0..callers {
+        if passes_of(caller, passes) == 1 {
+            got += 1;
+        }
+    }
+    got
+}
+
+// How many of the passes are the caller's.
+fn passes_of<L: LoaderName>(caller: u32, passes: &[Pass<L>]) -> usize
+    ensures { result ≡ accounts_by caller (accounts_of passes.now) }
+{
+    let mut own = 0;
+    for pass in passes {
+        if pass.caller() == caller {
+            own += 1;
+        }
+    }
+    own
+}
+
+// The least caller whose pass has seen more than so many events, and the front of that pass.
+fn behind<L: LoaderName>(len: usize, passes: &[Pass<L>]) -> Option<(u32, u32)>
+    ensures some { IfSome result (λ found. IsBehind len (accounts_of passes.now) found.0 found.1) }
+    ensures none { IfNone result (NoneBehind len (accounts_of passes.now)) }
+{
+    let mut found = None;
+    for pass in passes {
+        found = earlier(len, found, pass.caller(), pass.front());
+    }
+    found
+}
+
+// What was found, or the caller of one pass more with its front, where that is the lesser one.
+fn earlier(len: usize, found: Option<(u32, u32)>, caller: u32, front: u32) -> Option<(u32, u32)>
+    ensures { result ≡ earlier len found caller front }
+{
+    if front as usize <= len {
+        return found;
+    }
+    match found {
+        Some((other, _)) if other <= caller => found,
+        _ => Some((caller, front)),
+    }
+}
