@@ -9,6 +9,8 @@ mod desk;
 #[cfg(test)]
 mod generated;
 #[cfg(test)]
+mod loader;
+#[cfg(test)]
 mod program;
 #[cfg(test)]
 mod queue;

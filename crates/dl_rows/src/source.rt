@@ -7,12 +7,12 @@ use std::alloc::{AllocError, Global};
 use std::process::Abort;
 use std::test::Fail;
 
-const USERS: &str =
+pub(crate) const USERS: &str =
     r#"[{"name":"user","rows":[["u1",{"best":"u2","friends":["u2","u3"],"name":"Ada"}],["u2",{"best":"u1","friends":[],"name":"Bob"}],["u3",{"name":"Cy"}]],"errors":[["u9","gone"]],"breaks":[["u13","db down"]]}]"#;
 
 const TWO_BREAKS: &str = r#"[{"name":"t","rows":[],"breaks":[["x","p"],["y","q"]]}]"#;
 
-fn tables(alloc: Global, text: &str) -> Result<Tables, Fail> {
+pub(crate) fn tables(alloc: Global, text: &str) -> Result<Tables, Fail> {
     let value = Value::from_str(alloc, text)?;
     Ok(Tables::from_value(alloc, &value)?)
 }
@@ -27,7 +27,7 @@ fn job(alloc: Global, batch: u32, table: &str, ids: &[&str]) -> Result<Job, Fail
     Ok(Job { batch, keys })
 }
 
-fn outcome_text(alloc: Global, outcome: &Outcome) -> Result<String, AllocError> {
+pub(crate) fn outcome_text(alloc: Global, outcome: &Outcome) -> Result<String, AllocError> {
     match outcome {
         Outcome::Value(value) => value.to_text(alloc),
         Outcome::KeyError(text) => format!(in alloc; "error {}", text.as_str()),

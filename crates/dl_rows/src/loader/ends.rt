@@ -1,0 +1,84 @@
+//! Ends of batches that are refused, and a loader that is stopped.
+
+ghost use Rattle.std.specs.Prelude.{◌≡◌, List};
+ghost use Rattle.dl_desk.specs.Key.{Key};
+
+use super::loads::{assert_job, only_job, settle_job};
+use super::user;
+use dl_desk::{FetchKey, Job, Keys};
+use dl_loader::{CallFault, GiveUp, Loader, LoaderName, Pass};
+use dl_source::{Source, fetch_job};
+use std::alloc::Global;
+use std::process::Abort;
+use std::slice;
+use std::sync::Wait;
+use std::test::Fail;
+
+/// A batch ends only once it is sent, only by its own keys, and only once; a stopped loader takes no calls.
+pub(super) fn try_ends<L: LoaderName, S: Source, R: Abort + Wait>(
+    rt: &R,
+    alloc: Global,
+    source: &S,
+    loader: &Loader<L>,
+    pass: &mut Pass<L>,
+) -> Result<(), Fail>
+    requires source { (keys : List Key) → S.answer source.now keys ≡ L.answer keys }
+{
+    let key = user(alloc, "u1")?;
+    let other = user(alloc, "u2")?;
+    let _ticket = loader.load(rt, alloc, pass, &key)?;
+    assert_no_fail(rt, alloc, loader, pass, 0, &key, CallFault::NotSent)?;
+    let job = only_job(rt, alloc, loader, pass, &key)?;
+    assert_no_fail(rt, alloc, loader, pass, 0, &other, CallFault::WrongKeys)?;
+    assert_no_fail(rt, alloc, loader, pass, 5, &key, CallFault::NoBatch)?;
+    let copy = job.try_copy()?;
+    settle_job(rt, alloc, source, loader, pass, job)?;
+    assert_no_settle(rt, alloc, source, loader, pass, copy, &key)?;
+    loader.stop(rt);
+    let refused = loader.clear(rt, alloc, pass, &key);
+    assert_eq!(rt; refused, Err(CallFault::Stopped));
+    Ok(())
+}
+
+/// A `fail` of the batch by this key is refused so, and its job comes back.
+fn assert_no_fail<L: LoaderName, R: Abort + Wait>(
+    rt: &R,
+    alloc: Global,
+    loader: &Loader<L>,
+    pass: &mut Pass<L>,
+    batch: u32,
+    key: &FetchKey,
+    want: CallFault,
+) -> Result<(), Fail> {
+    let keys = Keys::copy_of(alloc, slice::from_ref(key))?;
+    let Err((fault, job)) = loader.fail(rt, alloc, pass, Job { batch, keys }, GiveUp::Memory) else {
+        return Err("the batch was failed".into());
+    };
+    assert_eq!(rt; fault, want);
+    assert_job(rt, &job, batch, key);
+    Ok(())
+}
+
+/// A settle of the first batch, which has this key, is refused, since the batch was settled before. What was
+/// fetched comes back.
+fn assert_no_settle<L: LoaderName, S: Source, R: Abort + Wait>(
+    rt: &R,
+    alloc: Global,
+    source: &S,
+    loader: &Loader<L>,
+    pass: &mut Pass<L>,
+    job: Job,
+    key: &FetchKey,
+) -> Result<(), Fail>
+    requires source { (keys : List Key) → S.answer source.now keys ≡ L.answer keys }
+{
+    let Ok(fetched) = fetch_job(alloc, source, job) else {
+        return Err("no memory".into());
+    };
+    let Err((fault, back)) = loader.settle(rt, alloc, pass, fetched) else {
+        return Err("the batch was settled again".into());
+    };
+    assert_eq!(rt; fault, CallFault::SettledBefore);
+    assert_job(rt, &back.into_job(), 0, key);
+    Ok(())
+}

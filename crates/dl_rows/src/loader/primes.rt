@@ -1,0 +1,70 @@
+//! A key that is primed, and loads of it.
+
+use super::loads::assert_shows;
+use super::{assert_entries, user};
+use dl_desk::{FetchKey, Json, LoadReply, Outcome, has_float};
+use dl_loader::{EntryKind, Loader, LoaderName, Pass, PrimeReply};
+use serde_json::Value;
+use std::alloc::Global;
+use std::process::Abort;
+use std::sync::Wait;
+use std::test::Fail;
+
+/// A primed key is held with its outcome: a load hits it, and a second prime changes nothing.
+pub(super) fn prime_and_load<L: LoaderName, R: Abort + Wait>(
+    rt: &R,
+    alloc: Global,
+    loader: &Loader<L>,
+    pass: &mut Pass<L>,
+) -> Result<(), Fail> {
+    let key = user(alloc, "u1")?;
+    let primed = loader.prime(rt, alloc, pass, &key, one(rt, alloc)?)?;
+    assert_eq!(rt;
+        primed,
+        PrimeReply::Primed {
+            cell: 0,
+            shown: true
+        }
+    );
+    let mut ticket = loader.load(rt, alloc, pass, &key)?;
+    assert_eq!(rt; ticket.reply(), LoadReply::Hit(0));
+    assert_shows(rt, alloc, &mut ticket, "1")?;
+    pass.saw(&mut ticket);
+    assert_entries(
+        rt,
+        pass,
+        &[
+            EntryKind::Call { at: 0 },
+            EntryKind::Call { at: 1 },
+            EntryKind::Saw { cell: 0, at: 0 },
+        ],
+    );
+    let again = loader.prime(rt, alloc, pass, &key, one(rt, alloc)?)?;
+    assert_eq!(rt; again, PrimeReply::Kept);
+    load_both(rt, alloc, loader, pass, key)
+}
+
+/// A load of the primed key and of another.
+fn load_both<L: LoaderName, R: Abort + Wait>(
+    rt: &R,
+    alloc: Global,
+    loader: &Loader<L>,
+    pass: &mut Pass<L>,
+    key: FetchKey,
+) -> Result<(), Fail> {
+    let keys = [key, user(alloc, "u2")?];
+    let tickets = loader.load_many(rt, alloc, pass, &keys)?;
+    let want = [LoadReply::Hit(0), LoadReply::Fresh { cell: 1, batch: 0 }];
+    assert_eq!(rt; tickets.len(), want.len());
+    for (ticket, want) in tickets.iter().zip(want.iter()) {
+        assert_eq!(rt; ticket.reply(), *want);
+    }
+    Ok(())
+}
+
+/// The value 1.
+fn one(rt: &impl Abort, alloc: Global) -> Result<Outcome, Fail> {
+    let value = Value::from_str(alloc, "1")?;
+    assert!(rt; !has_float(&value));
+    Ok(Outcome::Value(Json::new(alloc, value)?))
+}
