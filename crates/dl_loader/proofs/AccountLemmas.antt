@@ -3,7 +3,7 @@ use Rattle.std.proofs.Common.{◌≡◌, ◌∙◌, sym, ap, subst, ℕ, zero, s
 use Rattle.std.proofs.lemmas.List.{take-append-drop, length-map, map-append, length_push}
 use Rattle.std.proofs.lemmas.List.Elements.{filter-append}
 use Rattle.std.proofs.lemmas.List.Sums.{sum_by-cons, sum_by_push}
-use Rattle.dl_cells.specs.Cells.{RowName}
+use Rattle.dl_cells.specs.Cells.{RowName, row_len}
 use Rattle.dl_desk.specs.History.{held, cells, load_replies, loaded}
 use Rattle.dl_desk.specs.Events.{atoms}
 use Rattle.dl_desk.specs.Events as desk
@@ -135,7 +135,7 @@ read_is (Some x) Ended shows read stands some refused meets =
     let same : shows ≡ Some x = stands.1 in
     let found : x ≡ read = rw same at meets in
     ap (λ (y : Ending). Some y) found
-read_is (Some x) Refused shows read stands some refused meets = absurd (let bad : true ≡ false = refused in cc)
+read_is (Some x) (Refused kept) shows read stands some refused meets = absurd (let bad : true ≡ false = refused in cc)
 
 read_tells : (s : Service) (b : Locked) (r : Read) → Keeps s b → AnswersEach s.answer → AllEnded b.history → r.cell < cells (atoms (log b.history)) → cell_refused (slice_get b.cells r.cell) ≡ false
     → IfSome (slice_get b.cells r.cell) (λ x. IfSome x.shows (λ e. e ≡ r.ending)) → ending_of b.history r.cell ≡ Some r.ending
@@ -314,12 +314,13 @@ pub accounts_long : (passes : List Pass) (accounts : List Account) → accounts 
 accounts_long passes accounts are = ap length are ∙ length-map passes (λ (p : Pass). account_of p.part)
 
 -- what holds of the fields of a history, where a loader that may be closed with the passes left it
-pub history_is : {X : Type 0} (f : X → ℕ) (all : Option X) (s : Service) (b now : Locked) (passes : List Pass) (accounts : List Account) (log outcomes own_log own_outcomes : RowName) → log ≡ own_log → outcomes ≡ own_outcomes → Keeps s b → AnswersEach s.answer
+pub history_is : {X : Type 0} (f : X → ℕ) (all : Option X) (s : Service) (b now : Locked) (passes : List Pass) (accounts : List Account) (log outcomes own_log own_outcomes : RowName) → log ≡ own_log → outcomes ≡ own_outcomes → length b.cells ≤ row_len own_outcomes → Keeps s b → AnswersEach s.answer
     → MayClose s.callers b (accounts_of passes) → accounts ≡ accounts_of passes → Every (Fits s.callers b.history b.cells) accounts → MatchOption all (length passes ≡ 0) (λ x. f x ≡ sum_by (λ a. length (places_of a.entries)) accounts)
     → MatchOption all (length b.history ≡ 0) (λ x. f x ≡ length b.history) → now ≡ b → IsHistory s.callers log outcomes own_log own_outcomes now accounts
-history_is f all s b now passes accounts log outcomes own_log own_outcomes log_is outcomes_are kept answers may are fits amount counted same = rw same (record {
+history_is f all s b now passes accounts log outcomes own_log own_outcomes log_is outcomes_are cells_fit kept answers may are fits amount counted same = rw same (record {
   log_is = log_is;
   outcomes_are = outcomes_are;
+  cells_fit = cells_fit;
   callers_are = every_callers s.callers b.history b.cells accounts fits;
   each = rw are may.each;
   agree = passes_agree f all s b passes accounts kept answers may are fits amount counted;

@@ -1,11 +1,12 @@
 -- Lists of cells: with more that wait, and with one that is set.
 use Rattle.std.proofs.Common.{◌≡◌, ◌∙◌, sym, ap, subst, ℕ, zero, suc, ◌+◌, ◌-◌, ◌<◌, ◌≤◌, ◌⊎◌, inl, inr, Bool, true, false, List, [], ◌∷◌, ◌++◌, length, set, Option, Some, None, MatchBool, slice_get, refl, arith, append_assoc}
+use Rattle.std.specs.Global.{Box}
 use Rattle.std.specs.List.{repeat}
 use Rattle.std.proofs.Math.Seq.{set-append_seam}
 use Rattle.dl_loader.specs.declared.event.Ending.{Ending}
 use Rattle.dl_loader.specs.declared.state.Mark.{Mark}
 use Rattle.dl_loader.specs.declared.state.Mark.TheVariants.{Waiting, Ended, Refused}
-use Rattle.dl_loader.specs.Journal.{Cell, waiting, ended, refused}
+use Rattle.dl_loader.specs.Journal.{Cell, waiting, ended, refused, Refuses}
 use Rattle.dl_loader.specs.Book.{ShowsEnd}
 
 -- ---- more elements
@@ -79,9 +80,9 @@ waiting_shows end x none is = let P : Cell → Type 0 = λ y. ShowsEnd end y.mar
 pub ended_shows : (end : Ending) → ShowsEnd (Some end) (ended end).mark (ended end).shows
 ended_shows end = (refl, refl)
 
--- and so does one that refused it, whatever else it shows
-pub refused_shows : (end : Ending) (other : Option Ending) → ShowsEnd (Some end) (refused other).mark (refused other).shows
-refused_shows end other = refl
+-- and one that refused it keeps it, whatever else it shows
+pub refused_shows : (end : Ending) (kept : Box Ending) (other : Option Ending) → kept.value ≡ end → ShowsEnd (Some end) (refused kept other).mark (refused kept other).shows
+refused_shows end kept other same = ap (λ (e : Ending). Some e) (sym same)
 
 -- a cell that shows an end shows an equal one
 pub shows_same : (old new : Option Ending) (x : Cell) → new ≡ old → ShowsEnd old x.mark x.shows → ShowsEnd new x.mark x.shows
@@ -93,13 +94,13 @@ cell mark shows = record { mark = mark; shows = shows }
 open_at : (mark : Mark) (shows : Option Ending) → ShowsEnd None mark shows → cell mark shows ≡ waiting
 open_at Waiting shows is = ap (cell Waiting) is.1
 open_at Ended shows is = absurd (let bad : false ≡ true = is.0 in cc)
-open_at Refused shows is = absurd (let bad : false ≡ true = is in cc)
+open_at (Refused kept) shows is = absurd (let bad : ◌≡◌ {A = Option Ending} None (Some kept.value) = is in cc)
 
 -- a cell that shows that it has no end waits
 pub open_waits : (x : Cell) → ShowsEnd None x.mark x.shows → x ≡ waiting
 open_waits x shows = open_at x.mark x.shows shows
 
 -- the cells after one was given its end, whether it took it or refused it
-pub gets_end : (took : Bool) (old new : List Cell) (c : ℕ) (end : Ending) → MatchBool took (new ≡ set old c (ended end)) ((other : Option Ending) × (new ≡ set old c (refused other))) → (x : Cell) × (new ≡ set old c x) × ShowsEnd (Some end) x.mark x.shows
+pub gets_end : (took : Bool) (old new : List Cell) (c : ℕ) (end : Ending) → MatchBool took (new ≡ set old c (ended end)) (Refuses old new c end) → (x : Cell) × (new ≡ set old c x) × ShowsEnd (Some end) x.mark x.shows
 gets_end true old new c end is = (ended end, is, ended_shows end)
-gets_end false old new c end is = (refused is.0, is.1, refused_shows end is.0)
+gets_end false old new c end is = (refused is.0 is.1, is.3, refused_shows end is.0 is.1 is.2)

@@ -1,5 +1,6 @@
 -- The dues of cells, given one by one.
 use Rattle.std.proofs.Common.{◌≡◌, ◌∙◌, sym, ap, subst, ℕ, zero, suc, ◌+◌, ◌<◌, ◌≤◌, ◌⊎◌, inl, inr, Bool, cond, List, [], ◌∷◌, ◌++◌, length, map, set, take, Option, Some, None, MatchBool, slice_get, get_or, option_map, refl, arith}
+use Rattle.std.specs.Global.{Box}
 use Rattle.std.proofs.lemmas.List.{length-set, take_more}
 use Rattle.std.proofs.lemmas.List.Sums.{count_by-le-length, sum_by-cons}
 use Rattle.std.proofs.lemmas.Option.{slice_get_within, slice_get_read, slice_get-map}
@@ -7,7 +8,7 @@ use Rattle.dl_desk.specs.declared.outcome.Outcome.{Outcome}
 use Rattle.dl_loader.specs.declared.dues.Due.{Due}
 use Rattle.dl_loader.specs.declared.event.Call.{Call}
 use Rattle.dl_loader.specs.declared.event.Ending.{Ending}
-use Rattle.dl_loader.specs.Journal.{Cell, waiting, ended, refused, is_refused, refusals}
+use Rattle.dl_loader.specs.Journal.{Cell, waiting, ended, refused, Refuses, is_refused, refusals}
 use Rattle.dl_loader.specs.Book.{ShowsEnd}
 use Rattle.dl_loader.specs.Dues.{outcome_by, AreDue, CanEnd, AreGiven}
 use Rattle.dl_loader.proofs.Logs.{get-snoc, get-append_at}
@@ -114,7 +115,7 @@ given_there ys before now d e x y j given none shows got (inr new) =
 
 -- one more was given, whether its cell took it or refused it
 pub given_more : (all ys : List Due) (before now then : List Cell) (d : Due) (took : Bool) → CanEnd (map (λ x. x.cell) all) before → ys ≡ take (length ys) all → length ys < length all → d ≡ get_or all (length ys) d → AreGiven ys before now
-    → MatchBool took (then ≡ set now d.cell (ended d.ending.value)) ((other : Option Ending) × (then ≡ set now d.cell (refused other))) → AreGiven (ys ++ d ∷ []) before then
+    → MatchBool took (then ≡ set now d.cell (ended d.ending.value)) (Refuses now then d.cell d.ending.value) → AreGiven (ys ++ d ∷ []) before then
 given_more all ys before now then d took can front low is given ends =
     let got = gets_end took now then d.cell d.ending.value ends in
     let x : Cell = got.0 in
@@ -152,8 +153,8 @@ refusals-set (z ∷ xs) (suc i) x y got =
 pub taken_count : (now then : List Cell) (c : ℕ) (end : Ending) → slice_get now c ≡ Some waiting → then ≡ set now c (ended end) → refusals then ≡ refusals now
 taken_count now then c end waits is = let step = refusals-set now c waiting (ended end) waits in rw is (omega arith)
 
-pub refused_count : (now then : List Cell) (c : ℕ) (other : Option Ending) → slice_get now c ≡ Some waiting → then ≡ set now c (refused other) → refusals then ≡ refusals now + 1
-refused_count now then c other waits is = let step = refusals-set now c waiting (refused other) waits in rw is (omega arith)
+pub refused_count : (now then : List Cell) (c : ℕ) (end : Ending) → slice_get now c ≡ Some waiting → Refuses now then c end → refusals then ≡ refusals now + 1
+refused_count now then c end waits is = let step = refusals-set now c waiting (refused is.0 is.1) waits in rw is.3 (omega arith)
 
 -- no more refused than there are cells
 pub refusals-le : (xs : List Cell) → refusals xs ≤ length xs

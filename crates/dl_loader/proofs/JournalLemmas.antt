@@ -1,12 +1,13 @@
 -- What holds of a journal once it has one event more, or a cell has its end.
 use Rattle.std.proofs.Common.{◌≡◌, ◌∙◌, sym, ap, ℕ, ◌+◌, ◌<◌, ◌⊎◌, Bool, true, false, List, [], ◌∷◌, ◌++◌, length, set, Option, Some, MatchBool, slice_get, refl, arith, inl, inr, length-append}
+use Rattle.std.specs.Global.{Box}
 use Rattle.std.proofs.lemmas.List.{map-set}
 use Rattle.dl_cells.specs.Cells.{RowName}
 use Rattle.dl_loader.specs.declared.event.Ending.{Ending}
 use Rattle.dl_loader.specs.declared.state.Mark.TheVariants.{Ended, Refused}
 use Rattle.dl_loader.specs.declared.state.State.{State}
 use Rattle.dl_loader.specs.Entries.{Told}
-use Rattle.dl_loader.specs.Journal.{Cell, ended, refused, IsJournal, cell_by, cells_by}
+use Rattle.dl_loader.specs.Journal.{Cell, ended, refused, Refuses, IsJournal, cell_by, cells_by}
 use Rattle.dl_loader.proofs.Logs.{get-snoc}
 
 -- each event stands at its place, with one event more
@@ -24,11 +25,11 @@ journal_event {outcomes} {counted} {log} {states} more longer t old grown count 
 }
 
 -- the cells, once a state has its end
-pub cells_ended : (states : List State) (c : ℕ) (s : State) (e : Ending) (took : Bool) → MatchBool took ((s.mark ≡ Ended) × (s.reader.known ≡ Some e)) (s.mark ≡ Refused)
-    → MatchBool took (cells_by (set states c s) ≡ set (cells_by states) c (ended e)) ((other : Option Ending) × (cells_by (set states c s) ≡ set (cells_by states) c (refused other)))
+pub cells_ended : (states : List State) (c : ℕ) (s : State) (e : Ending) (took : Bool) → MatchBool took ((s.mark ≡ Ended) × (s.reader.known ≡ Some e)) ((kept : Box Ending) × (s.mark ≡ Refused kept) × (kept.value ≡ e))
+    → MatchBool took (cells_by (set states c s) ≡ set (cells_by states) c (ended e)) (Refuses (cells_by states) (cells_by (set states c s)) c e)
 cells_ended states c s e true is =
     let cell : cell_by s ≡ ended e = rw (is.0, is.1) refl in
     map-set cell_by states c s ∙ ap (λ (x : Cell). set (cells_by states) c x) cell
 cells_ended states c s e false is =
-    let cell : cell_by s ≡ refused s.reader.known = rw is refl in
-    (s.reader.known, map-set cell_by states c s ∙ ap (λ (x : Cell). set (cells_by states) c x) cell)
+    let cell : cell_by s ≡ refused is.0 s.reader.known = rw is.1 refl in
+    (is.0, s.reader.known, is.2, map-set cell_by states c s ∙ ap (λ (x : Cell). set (cells_by states) c x) cell)

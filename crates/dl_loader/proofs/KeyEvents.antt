@@ -26,7 +26,7 @@ use Rattle.dl_loader.specs.declared.event.Reply.{Reply}
 use Rattle.dl_loader.specs.declared.event.Reply.TheVariants.{Done, Sent}
 use Rattle.dl_loader.specs.Service.{Service}
 use Rattle.dl_loader.specs.History.{log, primed, IsNext}
-use Rattle.dl_loader.specs.Journal.{Cell, waiting, ended, refused, is_refused, refusals}
+use Rattle.dl_loader.specs.Journal.{Cell, waiting, ended, refused, Refuses, is_refused, refusals}
 use Rattle.dl_loader.specs.Book.{Locked, locked, ShowsEnd, Keeps}
 use Rattle.dl_loader.specs.Pass.{Part}
 use Rattle.dl_loader.specs.Refusals.{unready}
@@ -185,7 +185,7 @@ pub primed_kept : (s : Service) (b : Locked) (p : Part) (es now : List Event) (k
     → now ≡ es ++ event caller (Prime k o) reply ∷ [] → mids ≡ xs ++ repeat 1 (waiting ∷ [])
     → new.rules ≡ d.book.rules → Commits d call new
     → end ≡ record { at = at; outcome = given } → at ≡ length es → o ≡ given
-    → MatchBool took (ys ≡ set mids c (ended end)) ((other : Option Ending) × (ys ≡ set mids c (refused other)))
+    → MatchBool took (ys ≡ set mids c (ended end)) (Refuses mids ys c end)
     → Keeps s (locked now new ys stopped)
 primed_kept s b p es now k j o caller c reply r d call old new xs mids ys stopped took end at given view ready kept is fresh accepted history cells rules stands ending place copy ends =
     let H = atoms (log es) in
@@ -207,13 +207,13 @@ refusals-snoc xs x = fold-append (λ (n : ℕ) (y : Cell). n + cond (is_refused 
 
 -- one more where the new cell refused it
 pub primed_refusals : (xs mids ys : List Cell) (c n : ℕ) (took : Bool) (end : Ending) → mids ≡ xs ++ repeat 1 (waiting ∷ []) → c ≡ length xs → n ≡ cond took 0 1
-    → MatchBool took (ys ≡ set mids c (ended end)) ((other : Option Ending) × (ys ≡ set mids c (refused other)))
+    → MatchBool took (ys ≡ set mids c (ended end)) (Refuses mids ys c end)
     → refusals ys ≡ refusals xs + n
 primed_refusals xs mids ys c n true end cells new many ends =
     let all = ended_new xs mids ys c (ended end) cells new ends in
     let count = refusals-snoc xs (ended end) in
     ap refusals all ∙ (count ∙ ap (λ m. refusals xs + m) (sym many))
 primed_refusals xs mids ys c n false end cells new many ends =
-    let all = ended_new xs mids ys c (refused ends.0) cells new ends.1 in
-    let count = refusals-snoc xs (refused ends.0) in
+    let all = ended_new xs mids ys c (refused ends.0 ends.1) cells new ends.3 in
+    let count = refusals-snoc xs (refused ends.0 ends.1) in
     ap refusals all ∙ (count ∙ ap (λ m. refusals xs + m) (sym many))

@@ -27,6 +27,7 @@ mod Called
 mod Counting
 pub mod CellsEnded
 mod AccountLemmas
+mod CellOutcomes
 mod ClosingLemmas
 mod Sources
 mod HistoryLemmas

@@ -22,14 +22,19 @@ abbrev pub locked : List Event → Book → List Cell → Bool → Locked
 locked history desk cells stopped = record { history = history; desk = desk; cells = cells; stopped = stopped }
 
 -- A cell that has no end shows nothing. One that has an end shows its outcome with the place of its end, or
--- is marked as one that refused it.
+-- refused it, and then its mark keeps it.
 abbrev pub ShowsEnd : Option Ending → Mark → Option Ending → Type 0
 ShowsEnd end Waiting shows = (end ≡ None) × (shows ≡ None)
 ShowsEnd end Ended shows = IsSome end × (shows ≡ end)
-ShowsEnd end Refused shows = IsSome end
+ShowsEnd end (Refused kept) shows = end ≡ Some kept.value
+
+-- the same of a cell that is there, and that is no end where there is none
+abbrev pub ShownAs : Option Cell → Option Ending → Type 0
+ShownAs None end = end ≡ None
+ShownAs (Some x) end = ShowsEnd end x.mark x.shows
 
 -- What a book keeps: its history is legal and no longer than it may be, its memo and batches are those of the
--- history, it has each cell that was begun, and each of them shows its end.
+-- history, it has each cell that was begun, and each of them shows its end or keeps it.
 pub record Keeps (service : Service) (b : Locked) : Type 0 where
   pub legal : IsLegal service b.history
   pub calls_fit : length b.history ≤ service.rules.limits.max_calls

@@ -1,6 +1,6 @@
 -- What contracts see of a history that a closed loader leaves.
-use Rattle.std.specs.Prelude.{◌≡◌, ℕ, ◌<◌, List}
-use Rattle.dl_cells.specs.Cells.{RowName}
+use Rattle.std.specs.Prelude.{◌≡◌, ℕ, ◌<◌, ◌≤◌, List, length}
+use Rattle.dl_cells.specs.Cells.{RowName, row_len}
 use Rattle.dl_loader.specs.Agrees.{Account, HasEach, Agrees}
 use Rattle.dl_loader.specs.Book.{Locked}
 use Rattle.dl_loader.specs.Closing.{AllEnded}
@@ -16,11 +16,12 @@ pub record Closed : Type 0 where
 abbrev pub closed : Locked → List Account → Closed
 closed b accounts = record { events = b.history; accounts = accounts; book = b }
 
--- what holds of the fields of a history: its rows are the loader's, each caller and nobody else has an account, which
--- agrees with the events, and each batch has ended
+-- what holds of the fields of a history: its rows are the loader's, with room for all cells, each caller and nobody
+-- else has an account, which agrees with the events, and each batch has ended
 pub record IsHistory (callers : ℕ) (log outcomes own_log own_outcomes : RowName) (b : Locked) (accounts : List Account) : Type 0 where
   pub log_is : log ≡ own_log
   pub outcomes_are : outcomes ≡ own_outcomes
+  pub cells_fit : length b.cells ≤ row_len own_outcomes
   pub callers_are : Every (λ a. a.caller < callers) accounts
   pub each : HasEach callers accounts
   pub agree : Every (Agrees b.history) accounts

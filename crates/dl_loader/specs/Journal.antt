@@ -1,5 +1,6 @@
 -- What contracts see of the events and the cells of a loader, and what holds of the fields behind them.
-use Rattle.std.specs.Prelude.{◌≡◌, ℕ, Bool, true, false, count_by, ◌+◌, List, length, map, Option, Some, None, slice_get}
+use Rattle.std.specs.Prelude.{◌≡◌, ℕ, Bool, true, false, count_by, ◌+◌, List, length, map, set, Option, Some, None, slice_get}
+use Rattle.std.specs.Global.{Box}
 use Rattle.dl_cells.specs.Cells.{RowName, cell_of, Reading}
 use Rattle.dl_loader.specs.Entries.{Told}
 use Rattle.dl_loader.specs.declared.event.Event.{Event}
@@ -8,7 +9,8 @@ use Rattle.dl_loader.specs.declared.state.Mark.{Mark}
 use Rattle.dl_loader.specs.declared.state.Mark.TheVariants.{Waiting, Ended, Refused}
 use Rattle.dl_loader.specs.declared.state.State.{State}
 
--- how a cell stands: whether it took the outcome that it was given, and what it is known to show
+-- how a cell stands: whether it took the end that it was given, or else which one it refused, and what it is known to
+-- show
 pub record Cell : Type 0 where
   pub mark : Mark
   pub shows : Option Ending
@@ -21,18 +23,22 @@ waiting = record { mark = Waiting; shows = None }
 abbrev pub ended : Ending → Cell
 ended e = record { mark = Ended; shows = Some e }
 
--- a cell that had something else
-abbrev pub refused : Option Ending → Cell
-refused other = record { mark = Refused; shows = other }
+-- a cell that had something else, with the end that it refused
+abbrev pub refused : Box Ending → Option Ending → Cell
+refused kept other = record { mark = Refused kept; shows = other }
 
 abbrev pub is_refused : Mark → Bool
 is_refused Waiting = false
 is_refused Ended = false
-is_refused Refused = true
+is_refused (Refused kept) = true
 
 -- how many cells refused their outcome
 abbrev pub refusals : List Cell → ℕ
 refusals cells = count_by (λ x. is_refused x.mark) cells
+
+-- the cells once one of them refused this end
+abbrev pub Refuses : List Cell → List Cell → ℕ → Ending → Type 0
+Refuses before now c end = (kept : Box Ending) × (other : Option Ending) × (kept.value ≡ end) × (now ≡ set before c (refused kept other))
 
 -- the events in order, the cells that were begun, and for how many more of both there is room
 pub record Journal : Type 0 where

@@ -26,7 +26,7 @@ use std::sync::ledger;
 /// What lies behind the lock of a loader: its desk, its history and cells, and whether it is stopped.
 ///
 /// Whenever the lock is free, the memo and the batches of the desk are those of the history, the history is
-/// legal, and each cell that has an end shows it or is marked as one that refused it.
+/// legal, and each cell that has an end shows it, or refused it, and then the book keeps it.
 #[derive(Drop)]
 pub struct Book<L: LoaderName> {
     desk: Desk,

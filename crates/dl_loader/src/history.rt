@@ -1,9 +1,11 @@
 //! Histories: what closed loaders leave.
 
-ghost use Rattle.std.specs.Prelude.{◌≡◌, ◌+◌, ◌<◌, ◌≤◌, [], IfOk, MatchOption, length, sum_by, vec_capacity};
+ghost use Rattle.std.specs.Prelude.{◌≡◌, ◌+◌, ◌<◌, ◌≤◌, [], IfOk, MatchOption, length, option_copied, sum_by, vec_capacity};
+ghost use Rattle.dl_cells.specs.Cells.{row_len};
+ghost use Rattle.dl_desk.specs.Events.{outcome};
 ghost use Rattle.dl_loader.specs.Agrees.{Agrees, Fits, HasEach, account, accounts_of, entries_of, places_of};
 ghost use Rattle.dl_loader.specs.Closing.{AllEnded, MayClose};
-ghost use Rattle.dl_loader.specs.History.{IsLegal};
+ghost use Rattle.dl_loader.specs.History.{IsLegal, log};
 ghost use Rattle.dl_loader.specs.Lists.{Every, places};
 ghost use Rattle.dl_loader.specs.Service.{AnswersEach, service};
 
@@ -16,6 +18,7 @@ use crate::event::{Ending, Event};
 use crate::name::LoaderName;
 use crate::pass::Pass;
 use dl_cells::CellRow;
+use dl_desk::Outcome;
 pub use events::Events;
 use std::alloc::{AllocError, Global};
 use std::marker::Model;
@@ -67,6 +70,13 @@ impl<L: LoaderName> History<L> {
         Events::new(&self.log, &self.book)
     }
 
+    /// The outcome of a cell, and none where there is no such cell. It takes no memory.
+    pub fn outcome(&self, cell: u32) -> Option<&Outcome>
+        ensures { option_copied result ≡ outcome (log self.now.events) cell }
+    {
+        self.book.outcome(&self.outcomes, cell)
+    }
+
     /// The entries of a caller, in order, and none where there is no such caller. It takes no memory.
     pub fn entries(&self, caller: u32) -> &[Entry<L>]
         ensures entries { result.now ≡ entries_of caller self.now.accounts }
@@ -97,6 +107,7 @@ impl<L: LoaderName> History<L> {
     ) -> History<L>
         requires log { log ≡ L.log }
         requires outcomes { outcomes ≡ L.outcomes }
+        requires in_row { length book.cells ≤ row_len L.outcomes }
         requires answers { AnswersEach L.answer }
         requires may { MayClose L.parts book (accounts_of passes.items) }
         requires none { room.items ≡ [] }

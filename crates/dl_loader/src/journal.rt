@@ -1,12 +1,11 @@
 //! The history and the cells of a loader, as they are known under its lock.
 
-ghost use Rattle.std.specs.Prelude.{◌≡◌, ◌+◌, ◌<◌, ◌≤◌, ◌∷◌, ◌++◌, [], MatchBool, None, OnOk, Option, Some, length, set, slice_get};
+ghost use Rattle.std.specs.Prelude.{◌≡◌, ◌+◌, ◌<◌, ◌≤◌, ◌∷◌, ◌++◌, [], MatchBool, None, OnOk, Some, length, set, slice_get};
 ghost use Rattle.std.specs.List.{repeat};
 ghost use Rattle.dl_cells.specs.Cells.{cell_of, row_len};
-ghost use Rattle.dl_loader.specs.declared.event.Ending.{Ending};
 ghost use Rattle.dl_loader.specs.Entries.{front_of};
 ghost use Rattle.dl_loader.specs.Pass.{with_call};
-ghost use Rattle.dl_loader.specs.Journal.{AreBlank, waiting, ended, refused};
+ghost use Rattle.dl_loader.specs.Journal.{AreBlank, Refuses, waiting, ended};
 
 mod closing;
 
@@ -135,7 +134,7 @@ impl<L: LoaderName> Journal<L> {
         requires in_row { cell < row_len L.outcomes }
         requires waits { slice_get self.old.cells cell ≡ Some waiting }
         ensures history { self.new.history ≡ self.old.history }
-        ensures ended { MatchBool result (self.new.cells ≡ set self.old.cells cell (ended ending.value)) ((other : Option Ending) × (self.new.cells ≡ set self.old.cells cell (refused other))) }
+        ensures ended { MatchBool result (self.new.cells ≡ set self.old.cells cell (ended ending.value)) (Refuses self.old.cells self.new.cells cell ending.value) }
         ensures room { self.new.spare ≡ self.old.spare }
     {
         self.states[cell as usize].end(row, cell, ending)

@@ -1,7 +1,8 @@
 //! What a book knows for the close of its loader.
 
 ghost use Rattle.std.specs.Prelude.{◌≡◌, ◌<◌, ◌≤◌, IfNone, IfSome, MatchBool, None, length, option_copied, slice_get};
-ghost use Rattle.dl_desk.specs.Events.{atoms};
+ghost use Rattle.dl_cells.specs.Cells.{row_len};
+ghost use Rattle.dl_desk.specs.Events.{atoms, outcome};
 ghost use Rattle.dl_desk.specs.History.{begun, end_of};
 ghost use Rattle.dl_loader.specs.Agrees.{Meets, accounts_of};
 ghost use Rattle.dl_loader.specs.Closing.{AllEnded, HasEnd, IsFirstOpen, IsLeastOf, unshown};
@@ -10,11 +11,11 @@ ghost use Rattle.dl_loader.specs.Lists.{Every};
 
 use crate::book::Book;
 use crate::entry::Entry;
-use crate::event::Event;
+use crate::event::{Ending, Event};
 use crate::name::LoaderName;
 use crate::pass::Pass;
 use dl_cells::CellRow;
-use dl_desk::{BatchState, Limits};
+use dl_desk::{BatchState, Limits, Outcome};
 use std::sync::ledger::Share;
 
 impl<L: LoaderName> Book<L> {
@@ -31,6 +32,16 @@ impl<L: LoaderName> Book<L> {
         ensures { option_copied result ≡ slice_get self.now.history at }
     {
         self.journal.event(row, at)
+    }
+
+    /// The outcome of a cell, if it was begun and has an end. It takes no memory.
+    pub(crate) fn outcome<'a>(&'a self, row: &'a CellRow<Ending>, cell: u32) -> Option<&'a Outcome>
+        requires row { row.now ≡ L.outcomes }
+        requires in_row { length self.now.cells ≤ row_len L.outcomes }
+        ensures { option_copied result ≡ outcome (log self.now.history) cell }
+    {
+        self.keeps();
+        self.journal.outcome(row, cell)
     }
 
     /// What the book has at the entries' places, or of their cells, is what the entries tell.

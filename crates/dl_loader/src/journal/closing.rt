@@ -1,17 +1,21 @@
 //! What a journal knows of the entries of passes, for the close of its loader.
 
-ghost use Rattle.std.specs.Prelude.{◌≡◌, ◌∷◌, ◌++◌, [], ℕ, IfSome, List, Some, flat_map, length, option_copied, slice_get};
+ghost use Rattle.std.specs.Prelude.{◌≡◌, ◌≤◌, ◌∷◌, ◌++◌, [], ℕ, IfSome, List, Option, Some, flat_map, length, option_copied, option_map, slice_get};
+ghost use Rattle.dl_cells.specs.Cells.{row_len};
+ghost use Rattle.dl_loader.specs.declared.event.Ending.{Ending};
 ghost use Rattle.dl_loader.specs.Agrees.{Meets, accounts_of};
+ghost use Rattle.dl_loader.specs.Book.{ShownAs};
 ghost use Rattle.dl_loader.specs.Closing.{IsLeastOf, cell_refused, read_in, refused_in, unshown};
 ghost use Rattle.dl_loader.specs.Lists.{Every};
 
 use crate::entry::{Entry, EntryKind, Seen, Stored};
-use crate::event::Event;
+use crate::event::{Ending, Event};
 use crate::journal::Journal;
 use crate::name::LoaderName;
 use crate::pass::Pass;
 use crate::state::Mark;
 use dl_cells::CellRow;
+use dl_desk::Outcome;
 use std::sync::ledger::Share;
 
 impl<L: LoaderName> Journal<L> {
@@ -79,7 +83,7 @@ impl<L: LoaderName> Journal<L> {
         ensures { result ≡ cell_refused (slice_get self.now.cells cell) }
     {
         match self.states.get(cell as usize) {
-            Some(state) => matches!(state.mark, Mark::Refused),
+            Some(state) => matches!(state.mark, Mark::Refused(_)),
             None => false,
         }
     }
@@ -91,6 +95,18 @@ impl<L: LoaderName> Journal<L> {
     {
         match self.log.get(at) {
             Some(stored) => Some(stored.event(row)),
+            None => None,
+        }
+    }
+
+    /// The outcome that a cell was given, if it was begun and given one. It takes no memory.
+    pub(crate) fn outcome<'a>(&'a self, row: &'a CellRow<Ending>, cell: u32) -> Option<&'a Outcome>
+        requires row { row.now ≡ L.outcomes }
+        requires in_row { length self.now.cells ≤ row_len L.outcomes }
+        ensures { (end : Option Ending) → ShownAs (slice_get self.now.cells cell) end → option_copied result ≡ option_map (λ e. e.outcome) end }
+    {
+        match self.states.get(cell as usize) {
+            Some(state) => state.outcome(row, cell),
             None => None,
         }
     }

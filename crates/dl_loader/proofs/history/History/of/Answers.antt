@@ -12,4 +12,4 @@ count-requires g c =
 pub invariant_of-result : goal.invariant_of-result
 invariant_of-result g c =
     let gathered = c.gather-accounts in
-    history_is (λ all. all.amount) gathered.result.1 (service g.L.LoaderName.rules g.L.Ledger.parts g.L.LoaderName.answer) c.args.book c.count.new.book c.args.passes.items gathered.result.0.items c.args.log c.args.outcomes g.L.LoaderName.log g.L.LoaderName.outcomes c.requires.log c.requires.outcomes c.keeps.ensures c.requires.answers c.requires.may gathered.ensures.accounts gathered.ensures.fits gathered.ensures.amount c.count.ensures.counted c.count.ensures.same
+    history_is (λ all. all.amount) gathered.result.1 (service g.L.LoaderName.rules g.L.Ledger.parts g.L.LoaderName.answer) c.args.book c.count.new.book c.args.passes.items gathered.result.0.items c.args.log c.args.outcomes g.L.LoaderName.log g.L.LoaderName.outcomes c.requires.log c.requires.outcomes c.requires.in_row c.keeps.ensures c.requires.answers c.requires.may gathered.ensures.accounts gathered.ensures.fits gathered.ensures.amount c.count.ensures.counted c.count.ensures.same

@@ -1,0 +1,49 @@
+-- What a book tells of a cell's outcome: what the cell shows or keeps is what the history gives it.
+use Rattle.std.proofs.Common.{◌≡◌, ◌∙◌, sym, ap, subst, ℕ, ◌<◌, ◌≤◌, ◌⊎◌, inl, inr, Bool, List, length, Option, Some, None, option_map, slice_get, refl, arith}
+use Rattle.std.proofs.lemmas.Bool.{cases_lt}
+use Rattle.dl_desk.specs.Book.{Book}
+use Rattle.dl_desk.specs.Events.{Placed, atoms, ending, outcome, outcome_given}
+use Rattle.dl_desk.specs.declared.outcome.Outcome.{Outcome}
+use Rattle.dl_loader.specs.declared.event.Event.{Event}
+use Rattle.dl_loader.specs.declared.event.Ending.{Ending}
+use Rattle.dl_loader.specs.Service.{Service}
+use Rattle.dl_loader.specs.History.{log, end_with, ending_of}
+use Rattle.dl_loader.specs.Journal.{Cell}
+use Rattle.dl_loader.specs.Book.{Locked, locked, ShownAs, Keeps}
+use Rattle.dl_loader.proofs.Logs.{get-inside}
+use Rattle.dl_loader.proofs.Endings.{none_unbegun}
+
+-- what the history gives a cell is the outcome of the end that it has
+pub outcome_of_end : (es : List Event) (c : ℕ) → outcome (log es) c ≡ option_map (λ e. e.outcome) (ending_of es c)
+outcome_of_end es c = by (ending (log es) c) refl
+  where
+    given : (at : ℕ) (o : Option Outcome) → o ≡ option_map (λ (e : Ending). e.outcome) (end_with (Some at) o)
+    given at None = refl
+    given at (Some o) = refl
+
+    by : (p : Option Placed) → ending (log es) c ≡ p → outcome (log es) c ≡ option_map (λ (e : Ending). e.outcome) (ending_of es c)
+    by None is = rw is refl
+    by (Some p) is = rw is (given p.place (outcome_given (atoms (log es)) c p.event.gave))
+
+-- a book has each cell that was begun, as it ended
+pub shown_as : (s : Service) (b : Locked) (c : ℕ) → Keeps s b → ShownAs (slice_get b.cells c) (ending_of b.history c)
+shown_as s b c kept = by (slice_get b.cells c) refl
+  where
+    past : slice_get b.cells c ≡ None → (c < length b.cells) ⊎ (length b.cells ≤ c) → ending_of b.history c ≡ None
+    past none (inl low) = absurd (get-inside b.cells c low none)
+    past none (inr high) =
+        let all = kept.all_cells in
+        let begun = kept.desk.cells in
+        none_unbegun s b.history c kept.legal (omega arith)
+
+    by : (o : Option Cell) → slice_get b.cells c ≡ o → ShownAs o (ending_of b.history c)
+    by None none = past none (cases_lt c (length b.cells))
+    by (Some x) some = kept.ends c x some
+
+-- what a book tells of a cell is what the history gives it
+pub book_outcome : (s : Service) (es : List Event) (d : Book) (xs : List Cell) (stopped : Bool) (b : Locked) (c : ℕ) (got : Option Outcome) → locked es d xs stopped ≡ b → Keeps s b
+    → ((end : Option Ending) → ShownAs (slice_get xs c) end → got ≡ option_map (λ e. e.outcome) end) → got ≡ outcome (log b.history) c
+book_outcome s es d xs stopped b c got view kept tells =
+    let cells : xs ≡ b.cells = ap (λ (x : Locked). x.cells) view in
+    let shown : ShownAs (slice_get xs c) (ending_of b.history c) = subst (λ (ys : List Cell). ShownAs (slice_get ys c) (ending_of b.history c)) (sym cells) (shown_as s b c kept) in
+    tells (ending_of b.history c) shown ∙ sym (outcome_of_end b.history c)
