@@ -1,6 +1,6 @@
 -- What the book of a loader keeps after a call on a key, a clear of all keys and a dispatch, told by what the
 -- record of the event and the desk promise.
-use Rattle.std.proofs.Common.{◌≡◌, ◌∙◌, sym, ap, subst, ℕ, ◌+◌, ◌<◌, Bool, true, false, cond, List, [], ◌∷◌, ◌++◌, length, set, Option, Some, None, MatchBool, slice_get, refl, arith}
+use Rattle.std.proofs.Common.{◌≡◌, ◌∙◌, sym, ap, subst, ℕ, ◌+◌, ◌<◌, Bool, true, false, cond, List, [], ◌∷◌, ◌++◌, length, set, Some, None, MatchBool, slice_get, refl, arith}
 use Rattle.std.specs.List.{repeat}
 use Rattle.std.proofs.lemmas.List.Sums.{fold-append}
 use Rattle.dl_desk.specs.Key.{Key}

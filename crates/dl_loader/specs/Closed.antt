@@ -1,6 +1,8 @@
 -- What contracts see of a history that a closed loader leaves.
 use Rattle.std.specs.Prelude.{◌≡◌, ℕ, ◌<◌, ◌≤◌, List, length}
 use Rattle.dl_cells.specs.Cells.{RowName, row_len}
+use Rattle.dl_desk.specs.Key.{Key}
+use Rattle.dl_desk.specs.declared.reply.End.{End}
 use Rattle.dl_loader.specs.Agrees.{Account, HasEach, Agrees}
 use Rattle.dl_loader.specs.Book.{Locked}
 use Rattle.dl_loader.specs.Closing.{AllEnded}
@@ -15,6 +17,11 @@ pub record Closed : Type 0 where
 
 abbrev pub closed : Locked → List Account → Closed
 closed b accounts = record { events = b.history; accounts = accounts; book = b }
+
+-- a batch that has ended: the keys of its members in order, and how it ended
+pub record EndedBatch : Type 0 where
+  pub keys : List Key
+  pub end : End
 
 -- what holds of the fields of a history: its rows are the loader's, with room for all cells, each caller and nobody
 -- else has an account, which agrees with the events, and each batch has ended

@@ -9,6 +9,7 @@ ghost use Rattle.dl_loader.specs.History.{IsLegal, log};
 ghost use Rattle.dl_loader.specs.Lists.{Every, places};
 ghost use Rattle.dl_loader.specs.Service.{AnswersEach, service};
 
+mod batches;
 mod events;
 
 use crate::account::Account;
@@ -17,6 +18,7 @@ use crate::entry::{Entry, EntryKind};
 use crate::event::{Ending, Event};
 use crate::name::LoaderName;
 use crate::pass::Pass;
+pub use batches::{Batches, EndedBatch};
 use dl_cells::CellRow;
 use dl_desk::Outcome;
 pub use events::Events;
@@ -68,6 +70,13 @@ impl<L: LoaderName> History<L> {
         ensures { result ≡ self.now.events }
     {
         Events::new(&self.log, &self.book)
+    }
+
+    /// The batches, each with its keys and whether it was settled. It takes no memory.
+    pub fn batches(&self) -> Batches<'_, L>
+        ensures { result ≡ self.now.events }
+    {
+        Batches::new(&self.book)
     }
 
     /// The outcome of a cell, and none where there is no such cell. It takes no memory.

@@ -32,7 +32,7 @@ pub use book::Book;
 pub use entry::{Entry, EntryKind};
 pub use event::{Call, Ending, Event, GiveUp, Reply};
 pub use fault::{CallFault, CloseFault, StartFault, Stopped};
-pub use history::{Events, History};
+pub use history::{Batches, EndedBatch, Events, History};
 pub use lists::{Jobs, Replies};
 pub use loader::Loader;
 pub use name::LoaderName;

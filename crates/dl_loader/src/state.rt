@@ -14,7 +14,7 @@ use dl_cells::{CellRow, Reader};
 use dl_desk::Outcome;
 
 /// Whether a cell took the outcome that it was given.
-#[derive(Debug, Drop)]
+#[derive(Drop)]
 pub(crate) enum Mark {
     /// It was given none.
     Waiting,

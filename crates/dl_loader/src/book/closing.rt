@@ -1,21 +1,22 @@
 //! What a book knows for the close of its loader.
 
-ghost use Rattle.std.specs.Prelude.{◌≡◌, ◌<◌, ◌≤◌, IfNone, IfSome, MatchBool, None, length, option_copied, slice_get};
+ghost use Rattle.std.specs.Prelude.{◌≡◌, ◌<◌, ◌≤◌, IfNone, IfSome, MatchBool, None, Some, length, option_copied, slice_get};
 ghost use Rattle.dl_cells.specs.Cells.{row_len};
 ghost use Rattle.dl_desk.specs.Events.{atoms, outcome};
 ghost use Rattle.dl_desk.specs.History.{begun, end_of};
 ghost use Rattle.dl_loader.specs.Agrees.{Meets, accounts_of};
 ghost use Rattle.dl_loader.specs.Closing.{AllEnded, HasEnd, IsFirstOpen, IsLeastOf, unshown};
-ghost use Rattle.dl_loader.specs.History.{log};
+ghost use Rattle.dl_loader.specs.History.{keys_of, log};
 ghost use Rattle.dl_loader.specs.Lists.{Every};
 
 use crate::book::Book;
 use crate::entry::Entry;
 use crate::event::{Ending, Event};
+use crate::history::EndedBatch;
 use crate::name::LoaderName;
 use crate::pass::Pass;
 use dl_cells::CellRow;
-use dl_desk::{BatchState, Limits, Outcome};
+use dl_desk::{BatchState, End, Limits, Outcome};
 use std::sync::ledger::Share;
 
 impl<L: LoaderName> Book<L> {
@@ -83,6 +84,24 @@ impl<L: LoaderName> Book<L> {
     {
         let view = self.desk.batch(batch)?;
         Some(matches!(view.state(), BatchState::Settled | BatchState::Failed))
+    }
+
+    /// The batch of a number, if it was begun, where each batch has ended. It takes no memory.
+    pub(crate) fn ended_batch(&self, batch: u32) -> Option<EndedBatch<'_>>
+        requires { AllEnded self.now.history }
+        ensures begun { IfSome result (λ b. batch < begun (atoms (log self.now.history))) }
+        ensures keys { IfSome result (λ b. b.keys ≡ keys_of (atoms (log self.now.history)) batch) }
+        ensures end { IfSome result (λ b. end_of (atoms (log self.now.history)) batch ≡ Some b.end) }
+        ensures none { IfNone result (begun (atoms (log self.now.history)) ≤ batch) }
+    {
+        self.keeps();
+        let view = self.desk.batch(batch)?;
+        let end = match view.state() {
+            BatchState::Settled => End::Settled,
+            BatchState::Failed => End::Failed,
+            BatchState::Collecting | BatchState::Sent => unreachable!(),
+        };
+        Some(EndedBatch::new(view.keys(), end))
     }
 
     /// All parts of the ledger have counted as many calls as there are events.
