@@ -316,11 +316,12 @@ accounts_long passes accounts are = ap length are ∙ length-map passes (λ (p :
 -- what holds of the fields of a history, where a loader that may be closed with the passes left it
 pub history_is : {X : Type 0} (f : X → ℕ) (all : Option X) (s : Service) (b now : Locked) (passes : List Pass) (accounts : List Account) (log outcomes own_log own_outcomes : RowName) → log ≡ own_log → outcomes ≡ own_outcomes → length b.cells ≤ row_len own_outcomes → Keeps s b → AnswersEach s.answer
     → MayClose s.callers b (accounts_of passes) → accounts ≡ accounts_of passes → Every (Fits s.callers b.history b.cells) accounts → MatchOption all (length passes ≡ 0) (λ x. f x ≡ sum_by (λ a. length (places_of a.entries)) accounts)
-    → MatchOption all (length b.history ≡ 0) (λ x. f x ≡ length b.history) → now ≡ b → IsHistory s.callers log outcomes own_log own_outcomes now accounts
+    → MatchOption all (length b.history ≡ 0) (λ x. f x ≡ length b.history) → now ≡ b → IsHistory s.callers log outcomes own_log own_outcomes s.answer now accounts
 history_is f all s b now passes accounts log outcomes own_log own_outcomes log_is outcomes_are cells_fit kept answers may are fits amount counted same = rw same (record {
   log_is = log_is;
   outcomes_are = outcomes_are;
   cells_fit = cells_fit;
+  answers = answers;
   callers_are = every_callers s.callers b.history b.cells accounts fits;
   each = rw are may.each;
   agree = passes_agree f all s b passes accounts kept answers may are fits amount counted;

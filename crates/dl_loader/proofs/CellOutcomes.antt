@@ -1,17 +1,20 @@
 -- What a book tells of a cell's outcome: what the cell shows or keeps is what the history gives it.
-use Rattle.std.proofs.Common.{◌≡◌, ◌∙◌, sym, ap, subst, ℕ, ◌<◌, ◌≤◌, ◌⊎◌, inl, inr, Bool, List, length, Option, Some, None, option_map, slice_get, refl, arith}
+use Rattle.std.proofs.Common.{◌≡◌, ◌∙◌, sym, ap, subst, ℕ, ◌<◌, ◌≤◌, ◌⊎◌, inl, inr, Bool, true, false, List, length, Option, Some, None, IsSome, MatchOption, option_map, slice_get, refl, arith}
 use Rattle.std.proofs.lemmas.Bool.{cases_lt}
 use Rattle.dl_desk.specs.Book.{Book}
 use Rattle.dl_desk.specs.Events.{Placed, atoms, ending, outcome, outcome_given}
+use Rattle.dl_desk.specs.History.{cells}
 use Rattle.dl_desk.specs.declared.outcome.Outcome.{Outcome}
 use Rattle.dl_loader.specs.declared.event.Event.{Event}
 use Rattle.dl_loader.specs.declared.event.Ending.{Ending}
-use Rattle.dl_loader.specs.Service.{Service}
-use Rattle.dl_loader.specs.History.{log, end_with, ending_of}
+use Rattle.dl_loader.specs.Closing.{AllEnded}
+use Rattle.dl_loader.specs.Service.{Service, AnswersEach}
+use Rattle.dl_loader.specs.History.{IsLegal, log, end_with, ending_of}
 use Rattle.dl_loader.specs.Journal.{Cell}
 use Rattle.dl_loader.specs.Book.{Locked, locked, ShownAs, Keeps}
 use Rattle.dl_loader.proofs.Logs.{get-inside}
 use Rattle.dl_loader.proofs.Endings.{none_unbegun}
+use Rattle.dl_loader.proofs.CellsEnded.{shows_end}
 
 -- what the history gives a cell is the outcome of the end that it has
 pub outcome_of_end : (es : List Event) (c : ℕ) → outcome (log es) c ≡ option_map (λ e. e.outcome) (ending_of es c)
@@ -47,3 +50,21 @@ book_outcome s es d xs stopped b c got view kept tells =
     let cells : xs ≡ b.cells = ap (λ (x : Locked). x.cells) view in
     let shown : ShownAs (slice_get xs c) (ending_of b.history c) = subst (λ (ys : List Cell). ShownAs (slice_get ys c) (ending_of b.history c)) (sym cells) (shown_as s b c kept) in
     tells (ending_of b.history c) shown ∙ sym (outcome_of_end b.history c)
+
+-- where each batch has ended, a cell has an outcome exactly where it was begun
+pub outcome_begun : {X : Type 0} (f : X → Outcome) (r : Option X) (s : Service) (es : List Event) (c : ℕ) → AnswersEach s.answer → IsLegal s es → AllEnded es → option_map f r ≡ outcome (log es) c
+    → MatchOption r (cells (atoms (log es)) ≤ c) (λ x. c < cells (atoms (log es)))
+outcome_begun {X} f r s es c answers legal all given = by r (given ∙ outcome_of_end es c) (cases_lt c (cells (atoms (log es))))
+  where
+    some : (e : Option Ending) → IsSome e → ◌≡◌ {A = Option Outcome} None (option_map (λ (x : Ending). x.outcome) e) → ⊥
+    some None is none = absurd (let bad : false ≡ true = is in cc)
+    some (Some x) is none = absurd (let bad : ◌≡◌ {A = Option Outcome} None (Some x.outcome) = none in cc)
+
+    by : (o : Option X) → option_map f o ≡ option_map (λ (x : Ending). x.outcome) (ending_of es c) → (c < cells (atoms (log es))) ⊎ (cells (atoms (log es)) ≤ c) → MatchOption o (cells (atoms (log es)) ≤ c) (λ x. c < cells (atoms (log es)))
+    by None is (inl low) = absurd (some (ending_of es c) (shows_end s es c answers legal all low) is)
+    by None is (inr high) = high
+    by (Some x) is (inl low) = low
+    by (Some x) is (inr high) =
+        let none : ending_of es c ≡ None = none_unbegun s es c legal high in
+        let bad : ◌≡◌ {A = Option Outcome} (Some (f x)) None = is ∙ ap (option_map (λ (y : Ending). y.outcome)) none in
+        absurd (let same : ◌≡◌ {A = Option Outcome} (Some (f x)) None = bad in cc)

@@ -2,7 +2,8 @@
 
 ghost use Rattle.std.specs.Prelude.{◌≡◌, ◌+◌, ◌<◌, ◌≤◌, [], IfOk, MatchOption, length, option_copied, sum_by, vec_capacity};
 ghost use Rattle.dl_cells.specs.Cells.{row_len};
-ghost use Rattle.dl_desk.specs.Events.{outcome};
+ghost use Rattle.dl_desk.specs.Events.{atoms, outcome};
+ghost use Rattle.dl_desk.specs.History.{cells};
 ghost use Rattle.dl_loader.specs.Agrees.{Agrees, Fits, HasEach, account, accounts_of, entries_of, places_of};
 ghost use Rattle.dl_loader.specs.Closing.{AllEnded, MayClose};
 ghost use Rattle.dl_loader.specs.History.{IsLegal, log};
@@ -50,7 +51,7 @@ impl<L: LoaderName> Model for History<L> {
 
     ghost view = { λ h. closed h.book h.accounts.items };
 
-    ghost invariant = { λ h. IsHistory L.parts h.log h.outcomes L.log L.outcomes h.book h.accounts.items };
+    ghost invariant = { λ h. IsHistory L.parts h.log h.outcomes L.log L.outcomes L.answer h.book h.accounts.items };
 }
 
 impl<L: LoaderName> History<L> {
@@ -79,10 +80,12 @@ impl<L: LoaderName> History<L> {
         Batches::new(&self.book)
     }
 
-    /// The outcome of a cell, and none where there is no such cell. It takes no memory.
+    /// The outcome of a cell, and none exactly where there is no such cell. It takes no memory.
     pub fn outcome(&self, cell: u32) -> Option<&Outcome>
-        ensures { option_copied result ≡ outcome (log self.now.events) cell }
+        ensures given { option_copied result ≡ outcome (log self.now.events) cell }
+        ensures begun { MatchOption result (cells (atoms (log self.now.events)) ≤ cell) (λ _. cell < cells (atoms (log self.now.events))) }
     {
+        self.keeps();
         self.book.outcome(&self.outcomes, cell)
     }
 
