@@ -13,6 +13,7 @@ use dl_desk::{End, FetchKey};
 use std::marker::Model;
 
 /// A batch of a history. Contracts see the keys of its members, and how it ended.
+#[derive(Drop)]
 pub struct EndedBatch<'a> {
     keys: &'a [FetchKey],
     end: End,
@@ -54,6 +55,7 @@ impl<'a> EndedBatch<'a> {
 }
 
 /// The batches of a history, each of which has ended. Contracts see the history.
+#[derive(Drop)]
 pub struct Batches<'a, L: LoaderName> {
     book: &'a Book<L>,
 }
