@@ -25,7 +25,7 @@ pub record EndedBatch : Type 0 where
   pub keys : List Key
   pub end : End
 
--- what holds of the fields of a history: its rows are the loader's, with room for all cells, its source answered each
+-- what holds of the fields of a history: its rows are the loader's, with room for all cells, its source answers each
 -- key, each caller and nobody else has an account, which agrees with the events, and each batch has ended
 pub record IsHistory (callers : ℕ) (log outcomes own_log own_outcomes : RowName) (answer : List Key → BatchAnswer) (b : Locked) (accounts : List Account) : Type 0 where
   pub log_is : log ≡ own_log
