@@ -3,13 +3,15 @@
 ghost use Rattle.std.specs.Prelude.{◌≡◌, List};
 ghost use Rattle.dl_desk.specs.Key.{Key};
 
+mod closes;
 mod ends;
 mod loads;
 mod primes;
+mod steps;
 
 use crate::source::{USERS, tables};
-use dl_desk::{FetchKey, Limits};
-use dl_loader::{CallFault, EntryKind, Loader, LoaderName, Opening, Pass, StartFault};
+use dl_desk::Limits;
+use dl_loader::{Loader, LoaderName, Opening, StartFault};
 use dl_source::Source;
 use std::alloc::Global;
 use std::marker::Brand;
@@ -39,8 +41,23 @@ fn a_load_to_its_end(rt: HostRuntime) -> Result<(), Fail> {
 }
 
 #[test]
+fn a_close_once_a_batch_has_failed(rt: HostRuntime) -> Result<(), Fail> {
+    one_caller(&rt, rt.alloc(), Limits::new(2, 8, 16)?, Row::Failed)
+}
+
+#[test]
+fn a_close_with_a_batch_that_has_not_ended(rt: HostRuntime) -> Result<(), Fail> {
+    one_caller(&rt, rt.alloc(), Limits::new(2, 8, 16)?, Row::Unsettled)
+}
+
+#[test]
 fn ends_that_are_refused(rt: HostRuntime) -> Result<(), Fail> {
     one_caller(&rt, rt.alloc(), Limits::new(2, 8, 16)?, Row::Ends)
+}
+
+#[test]
+fn a_wait_at_a_stopped_loader(rt: HostRuntime) -> Result<(), Fail> {
+    one_caller(&rt, rt.alloc(), Limits::new(2, 8, 16)?, Row::Stopped)
 }
 
 #[test]
@@ -53,7 +70,10 @@ fn a_primed_key(rt: HostRuntime) -> Result<(), Fail> {
 enum Row {
     FullLog,
     Load,
+    Failed,
+    Unsettled,
     Ends,
+    Stopped,
     Prime,
 }
 
@@ -86,48 +106,16 @@ fn make_calls<L: LoaderName, S: Source, R: Abort + Wait>(
     requires ledger { opening.ledger ≡ L.name }
 {
     let (loader, mut passes) = Loader::<L>::start(alloc, opening)?;
-    let Some(mut pass) = passes.pop() else {
+    let Some(pass) = passes.pop() else {
         return Err("no pass".into());
     };
     match row {
-        Row::FullLog => fill_log(rt, alloc, &loader, &mut pass),
-        Row::Load => loads::load_to_the_end(rt, alloc, source, &loader, &mut pass),
-        Row::Ends => ends::try_ends(rt, alloc, source, &loader, &mut pass),
-        Row::Prime => primes::prime_and_load(rt, alloc, &loader, &mut pass),
-    }
-}
-
-/// Two calls fill the log, and a third is refused.
-fn fill_log<L: LoaderName, R: Abort + Wait>(
-    rt: &R,
-    alloc: Global,
-    loader: &Loader<L>,
-    pass: &mut Pass<L>,
-) -> Result<(), Fail> {
-    let key = user(alloc, "u1")?;
-    loader.clear(rt, alloc, pass, &key)?;
-    loader.clear(rt, alloc, pass, &key)?;
-    let refused = loader.clear(rt, alloc, pass, &key);
-    assert_eq!(rt; refused, Err(CallFault::LogFull { limit: 2 }));
-    assert_entries(
-        rt,
-        pass,
-        &[EntryKind::Call { at: 0 }, EntryKind::Call { at: 1 }],
-    );
-    assert_eq!(rt; pass.front(), 2);
-    assert_eq!(rt; pass.calls(), 2);
-    Ok(())
-}
-
-/// The key of a user.
-fn user(alloc: Global, id: &str) -> Result<FetchKey, Fail> {
-    Ok(FetchKey::new(alloc, "user", id)?)
-}
-
-/// The pass has these entries.
-fn assert_entries<L: LoaderName>(rt: &impl Abort, pass: &Pass<L>, want: &[EntryKind]) {
-    assert_eq!(rt; pass.entries().len(), want.len());
-    for (entry, want) in pass.entries().iter().zip(want.iter()) {
-        assert_eq!(rt; entry.kind(), *want);
+        Row::FullLog => closes::fill_log(rt, alloc, loader, pass),
+        Row::Load => loads::load_to_the_end(rt, alloc, source, loader, pass),
+        Row::Failed => closes::close_failed(rt, alloc, loader, pass),
+        Row::Unsettled => closes::close_unsettled(rt, alloc, loader, pass),
+        Row::Ends => ends::try_ends(rt, alloc, source, loader, pass),
+        Row::Stopped => ends::wait_stopped(rt, alloc, loader, pass),
+        Row::Prime => primes::prime_and_load(rt, alloc, loader, pass),
     }
 }

@@ -1,12 +1,11 @@
-//! Ends of batches that are refused, and a loader that is stopped.
+//! Ends of batches that are refused, and loaders that are stopped.
 
 ghost use Rattle.std.specs.Prelude.{◌≡◌, List};
 ghost use Rattle.dl_desk.specs.Key.{Key};
 
-use super::loads::{assert_job, only_job, settle_job};
-use super::user;
+use super::steps::{assert_ends, assert_job, close, not_closed, only_job, settle_job, user};
 use dl_desk::{FetchKey, Job, Keys};
-use dl_loader::{CallFault, GiveUp, Loader, LoaderName, Pass};
+use dl_loader::{CallFault, CloseFault, GiveUp, Loader, LoaderName, Pass, Stopped};
 use dl_source::{Source, fetch_job};
 use std::alloc::Global;
 use std::process::Abort;
@@ -14,8 +13,25 @@ use std::slice;
 use std::sync::Wait;
 use std::test::Fail;
 
-/// A batch ends only once it is sent, only by its own keys, and only once; a stopped loader takes no calls.
+/// A batch ends only once it is sent, only by its own keys, and only once. A stopped loader takes no calls, and
+/// is closed.
 pub(super) fn try_ends<L: LoaderName, S: Source, R: Abort + Wait>(
+    rt: &R,
+    alloc: Global,
+    source: &S,
+    loader: Loader<L>,
+    mut pass: Pass<L>,
+) -> Result<(), Fail>
+    requires source { (keys : List Key) → S.answer source.now keys ≡ L.answer keys }
+{
+    refuse_ends(rt, alloc, source, &loader, &mut pass)?;
+    let history = close(alloc, loader, pass)?;
+    assert_eq!(rt; history.events().len(), 3);
+    assert_ends(rt, alloc, &history, &[(0, true)])
+}
+
+/// The calls before the close.
+fn refuse_ends<L: LoaderName, S: Source, R: Abort + Wait>(
     rt: &R,
     alloc: Global,
     source: &S,
@@ -37,6 +53,23 @@ pub(super) fn try_ends<L: LoaderName, S: Source, R: Abort + Wait>(
     loader.stop(rt);
     let refused = loader.clear(rt, alloc, pass, &key);
     assert_eq!(rt; refused, Err(CallFault::Stopped));
+    Ok(())
+}
+
+/// At a stopped loader a wait for a cell that has not ended is given up.
+pub(super) fn wait_stopped<L: LoaderName, R: Abort + Wait>(
+    rt: &R,
+    alloc: Global,
+    loader: Loader<L>,
+    mut pass: Pass<L>,
+) -> Result<(), Fail> {
+    let key = user(alloc, "u1")?;
+    let mut ticket = loader.load(rt, alloc, &mut pass, &key)?;
+    loader.stop(rt);
+    assert_eq!(rt; loader.wait(rt, &mut pass, &mut ticket), Err(Stopped));
+    drop(ticket);
+    assert_eq!(rt; pass.entries().len(), 1);
+    not_closed(rt, alloc, loader, pass, CloseFault::Unsettled { batch: 0 })?;
     Ok(())
 }
 

@@ -1,17 +1,29 @@
 //! A key that is primed, and loads of it.
 
-use super::loads::assert_shows;
-use super::{assert_entries, user};
+use super::steps::{assert_entries, assert_replies, assert_shows, not_closed, user};
 use dl_desk::{FetchKey, Json, LoadReply, Outcome, has_float};
-use dl_loader::{EntryKind, Loader, LoaderName, Pass, PrimeReply};
+use dl_loader::{CloseFault, EntryKind, Loader, LoaderName, Pass, PrimeReply};
 use serde_json::Value;
 use std::alloc::Global;
 use std::process::Abort;
 use std::sync::Wait;
 use std::test::Fail;
 
-/// A primed key is held with its outcome: a load hits it, and a second prime changes nothing.
+/// A primed key is held with its outcome: a load hits it, and a second prime changes nothing. The batch of
+/// another key keeps the loader from being closed.
 pub(super) fn prime_and_load<L: LoaderName, R: Abort + Wait>(
+    rt: &R,
+    alloc: Global,
+    loader: Loader<L>,
+    mut pass: Pass<L>,
+) -> Result<(), Fail> {
+    load_primed(rt, alloc, &loader, &mut pass)?;
+    not_closed(rt, alloc, loader, pass, CloseFault::Unsettled { batch: 0 })?;
+    Ok(())
+}
+
+/// The calls before the close.
+fn load_primed<L: LoaderName, R: Abort + Wait>(
     rt: &R,
     alloc: Global,
     loader: &Loader<L>,
@@ -32,7 +44,7 @@ pub(super) fn prime_and_load<L: LoaderName, R: Abort + Wait>(
     pass.saw(&mut ticket);
     assert_entries(
         rt,
-        pass,
+        pass.entries(),
         &[
             EntryKind::Call { at: 0 },
             EntryKind::Call { at: 1 },
@@ -55,10 +67,7 @@ fn load_both<L: LoaderName, R: Abort + Wait>(
     let keys = [key, user(alloc, "u2")?];
     let tickets = loader.load_many(rt, alloc, pass, &keys)?;
     let want = [LoadReply::Hit(0), LoadReply::Fresh { cell: 1, batch: 0 }];
-    assert_eq!(rt; tickets.len(), want.len());
-    for (ticket, want) in tickets.iter().zip(want.iter()) {
-        assert_eq!(rt; ticket.reply(), *want);
-    }
+    assert_replies(rt, tickets.as_slice(), &want);
     Ok(())
 }
 
