@@ -2,7 +2,7 @@
 use Rattle.std.specs.Prelude.{ℕ, codes, List}
 use Rattle.dl_desk.specs.Limits.{IsLimit}
 use Rattle.dl_bench.specs.declared.command.Command.{Command}
-use Rattle.dl_bench.specs.declared.command.Command.TheVariants.{Loads, Many, Hits, Clears, Rounds, Script, Tables}
+use Rattle.dl_bench.specs.declared.command.Command.TheVariants.{Loads, Many, Hits, Clears, Rounds, Script, Tables, Loader}
 
 -- each number of the command may be a limit of a loader
 abbrev pub IsSized : Command → Type 0
@@ -13,6 +13,7 @@ IsSized (Clears keys) = IsLimit keys
 IsSized (Rounds keys batch) = IsLimit keys × IsLimit batch
 IsSized (Script keys) = IsLimit keys
 IsSized (Tables keys batch) = IsLimit keys × IsLimit batch
+IsSized (Loader keys batch) = IsLimit keys × IsLimit batch
 
 -- the word that names the workload
 abbrev pub workload : Command → List ℕ
@@ -23,3 +24,4 @@ workload (Clears _) = codes "clears"
 workload (Rounds _ _) = codes "rounds"
 workload (Script _) = codes "script"
 workload (Tables _ _) = codes "tables"
+workload (Loader _ _) = codes "loader"

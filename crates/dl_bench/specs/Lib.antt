@@ -4,3 +4,4 @@ pub mod Steps
 pub mod Trials
 pub mod Texts
 pub mod Answers
+pub mod Shared

@@ -55,6 +55,10 @@ added rules history (s ∷ ss) c = added rules (left_by rules history s) ss (add
 abbrev pub limits_of : ℕ → Limits
 limits_of batch = record { max_batch = batch; max_cells = LARGEST_LIMIT; max_calls = LARGEST_LIMIT }
 
+-- how a loader with these limits makes batches, which may mix tables
+abbrev pub rules_of : ℕ → Rules
+rules_of batch = mixed (limits_of batch)
+
 -- the counts with what steps add on a new desk with this limit of a batch
 abbrev pub added_anew : ℕ → List Step → Counts → Counts
 added_anew batch steps c = added (mixed (limits_of batch)) [] steps c

@@ -25,12 +25,15 @@ pub enum Command {
     Script { keys: u32 },
     /// Reads tables with a row for each key, and fetches the keys, a batch at a time.
     Tables { keys: u32, batch: u32 },
+    /// One caller of a shared loader: for each batch of keys it loads them in one call, dispatches, settles,
+    /// and reads each outcome.
+    Loader { keys: u32, batch: u32 },
 }
 
 /// Why words are no command.
 #[derive(Clone, Copy, Debug, PartialEq, Eq, Error)]
 pub enum CommandFault {
-    #[error("usage: dl_bench loads|many|rounds|tables N B, or dl_bench hits|clears|script N")]
+    #[error("usage: dl_bench loads|many|rounds|tables|loader N B, or dl_bench hits|clears|script N")]
     Usage,
     #[error("N and B are numbers from 1 to 65536, the largest limit of a loader")]
     Size,
@@ -59,6 +62,10 @@ impl Command {
             }),
             [_, "script", keys] => Ok(Command::Script { keys: size(keys)? }),
             [_, "tables", keys, batch] => Ok(Command::Tables {
+                keys: size(keys)?,
+                batch: size(batch)?,
+            }),
+            [_, "loader", keys, batch] => Ok(Command::Loader {
                 keys: size(keys)?,
                 batch: size(batch)?,
             }),

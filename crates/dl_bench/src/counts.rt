@@ -3,8 +3,10 @@
 ghost use Rattle.std.specs.Prelude.{◌≡◌};
 ghost use Rattle.dl_bench.specs.Answers.{answered};
 ghost use Rattle.dl_bench.specs.Counted.{count, counted};
+ghost use Rattle.dl_bench.specs.Shared.{event_counted, kind_counted};
 
 use dl_desk::LoadReply;
+use dl_loader::{Call, EntryKind, Event, Reply};
 use dl_source::BatchAnswer;
 
 /// Loads that began a cell and loads that were hits, batches begun, jobs sent, batches settled, lines
@@ -55,6 +57,32 @@ impl Counts {
             self.outcomes = self
                 .outcomes
                 .saturating_add(outcomes.as_slice().len() as u64);
+        }
+    }
+
+    /// Counts the loads or the jobs of an event's reply, and the batch that its call settles.
+    pub fn event(&mut self, event: &Event)
+        ensures { self.new ≡ event_counted event.now self.old }
+    {
+        if let Call::Settle { .. } = &event.call {
+            self.settled = self.settled.saturating_add(1);
+        }
+        match &event.reply {
+            Reply::Loaded(reply) => self.load(*reply),
+            Reply::Many(replies) => self.loads(replies.as_slice()),
+            Reply::Sent(jobs) => {
+                self.jobs = self.jobs.saturating_add(jobs.as_slice().len() as u64);
+            }
+            Reply::Primed(_) | Reply::Kept | Reply::Done => {}
+        }
+    }
+
+    /// Counts the outcome of an entry that is one.
+    pub fn entry(&mut self, kind: EntryKind)
+        ensures { self.new ≡ kind_counted kind self.old }
+    {
+        if let EntryKind::Saw { .. } = kind {
+            self.outcomes = self.outcomes.saturating_add(1);
         }
     }
 }

@@ -1,9 +1,10 @@
-//! Runs one workload on a desk, and prints counts of what it did and no time, so that the same
+//! Runs one workload on a desk or a shared loader, and prints counts of what it did and no time, so that the same
 //! words always print the same.
 #![tactic(auto)]
 
 mod command;
 mod counts;
+mod shared;
 mod trial;
 mod workloads;
 
@@ -13,8 +14,9 @@ use anyhow::Result;
 use std::alloc::Global;
 use std::env;
 use std::io::Print;
+use std::sync::Wait;
 
-fn run(alloc: Global, command: Command) -> Result<Counts> {
+fn run(rt: &impl Wait, alloc: Global, command: Command) -> Result<Counts> {
     match command {
         Command::Loads { keys, batch } => workloads::loads(alloc, keys, batch),
         Command::Many { keys, batch } => workloads::many(alloc, keys, batch),
@@ -23,6 +25,7 @@ fn run(alloc: Global, command: Command) -> Result<Counts> {
         Command::Rounds { keys, batch } => workloads::rounds(alloc, keys, batch),
         Command::Script { keys } => workloads::script(alloc, keys),
         Command::Tables { keys, batch } => workloads::tables(alloc, keys, batch),
+        Command::Loader { keys, batch } => shared::loader(rt, alloc, keys, batch),
     }
 }
 
@@ -44,6 +47,6 @@ fn main(rt: HostRuntime) -> Result<()> {
         words.push(argument.as_str())?;
     }
     let command = Command::from_words(words.as_slice())?;
-    let counts = run(rt.alloc(), command)?;
+    let counts = run(&rt, rt.alloc(), command)?;
     print(&rt, &counts)
 }

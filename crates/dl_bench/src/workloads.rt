@@ -26,7 +26,7 @@ use std::alloc::{AllocError, Global};
 const LOADED_TWICE: u32 = 32_768;
 
 /// The limit of a batch, beside the largest other limits.
-fn limits(batch: u32) -> Result<Limits, LimitFault>
+pub fn limits(batch: u32) -> Result<Limits, LimitFault>
     ensures { IfOk result (λ l. l ≡ limits_of batch) }
 {
     Limits::new(batch, LARGEST_LIMIT, LARGEST_LIMIT)
@@ -41,7 +41,7 @@ fn key_of(alloc: Global, number: u32) -> Result<FetchKey>
 }
 
 /// The keys of the first numbers.
-fn keys_of(alloc: Global, count: u32) -> Result<Vec<FetchKey>>
+pub fn keys_of(alloc: Global, count: u32) -> Result<Vec<FetchKey>>
     ensures { IfOk result (λ keys. keys.items ≡ users 0 count) }
 {
     let mut keys = Vec::with_capacity(alloc, count as usize)?;
@@ -167,13 +167,20 @@ fn tree_of(alloc: Global, keys: u32) -> Result<String, AllocError>
     Ok(text)
 }
 
+/// Tables with a row for each key, read from their text.
+pub fn tables_of(alloc: Global, keys: u32) -> Result<Tables>
+    ensures { IfOk result (λ named. (tree : Data) × (read_text (tree_text keys) ≡ Some tree) × Spells tree named) }
+{
+    let text = tree_of(alloc, keys)?;
+    Ok(Tables::from_value(alloc, &Value::from_str(alloc, text.as_str())?)?)
+}
+
 /// Reads tables with a row for each key, fetches the keys, a batch at a time, and counts their outcomes.
 pub fn tables(alloc: Global, keys: u32, batch: u32) -> Result<Counts>
     ensures { IfOk result (λ counts. (tree : Data) × (named : NamedTables) × (read_text (tree_text keys) ≡ Some tree) × Spells tree named × (counts ≡ asked named (parts batch (users 0 keys)) none)) }
 {
     let limits = limits(batch)?;
-    let text = tree_of(alloc, keys)?;
-    let tables = Tables::from_value(alloc, &Value::from_str(alloc, text.as_str())?)?;
+    let tables = tables_of(alloc, keys)?;
     let counts = fetch_each(alloc, &tables, &keys_of(alloc, keys)?, limits.max_batch())?;
     Ok(counts)
 }

@@ -9,6 +9,7 @@ use dl_cells::CellRow;
 use std::marker::Model;
 
 /// The events of a history, in order. Contracts see the list.
+#[derive(Drop)]
 pub struct Events<'a, L: LoaderName> {
     log: &'a CellRow<Event>,
     book: &'a Book<L>,
