@@ -3,7 +3,7 @@
 use super::steps::{
     assert_ends, assert_entries, assert_replies, close, fail_job, not_closed, only_job, user,
 };
-use dl_desk::LoadReply;
+use dl_desk::{BatchFault, LoadReply, Outcome};
 use dl_loader::{CallFault, CloseFault, EntryKind, Loader, LoaderName, Pass};
 use std::alloc::Global;
 use std::process::Abort;
@@ -48,7 +48,23 @@ pub(super) fn close_failed<L: LoaderName, R: Abort + Wait>(
 ) -> Result<(), Fail> {
     let (loader, pass) = fail_first(rt, alloc, loader, pass)?;
     let history = close(alloc, loader, pass)?;
-    assert_ends(rt, alloc, &history, &[(0, false)])
+    assert_ends(rt, alloc, &history, &[(0, false)])?;
+    assert!(rt;
+        matches!(
+            history.outcome(0),
+            Some(Outcome::BatchFailed(BatchFault::Memory))
+        )
+    );
+    assert!(rt; history.outcome(1).is_none());
+    let batches = history.batches();
+    let Some(batch) = batches.get(0) else {
+        return Err("no batch".into());
+    };
+    assert!(rt; !batch.is_settled());
+    let keys = [user(alloc, "u1")?];
+    assert_eq!(rt; batch.keys(), keys.as_slice());
+    assert!(rt; batches.get(1).is_none());
+    Ok(())
 }
 
 /// After the batch that failed a second one is begun, and the loader isn't closed.
