@@ -31,3 +31,4 @@ mod CellOutcomes
 mod ClosingLemmas
 mod Sources
 mod HistoryLemmas
+pub mod Crossing
