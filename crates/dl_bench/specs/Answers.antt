@@ -1,5 +1,5 @@
 -- What answers of tables add to counts.
-use Rattle.std.specs.Prelude.{ℕ, List, [], ◌∷◌, length}
+use Rattle.std.specs.Prelude.{List, [], ◌∷◌, length}
 use Rattle.dl_desk.specs.Key.{Key}
 use Rattle.dl_source.specs.Listing.{NamedTables}
 use Rattle.dl_source.specs.Answer.{answer_of}

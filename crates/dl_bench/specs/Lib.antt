@@ -5,3 +5,4 @@ pub mod Trials
 pub mod Texts
 pub mod Answers
 pub mod Shared
+pub mod Alike

@@ -2,6 +2,7 @@
 //! words always print the same.
 #![tactic(auto)]
 
+mod alike;
 mod command;
 mod counts;
 mod shared;

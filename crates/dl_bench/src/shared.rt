@@ -1,21 +1,18 @@
 //! Workloads on a shared loader.
 
-ghost use Rattle.std.specs.Prelude.{◌≡◌, ◌≤◌, ◌++◌, [], ◌∷◌, List, Some, IfOk, OnOk};
+ghost use Rattle.std.specs.Prelude.{◌≡◌, ◌≤◌, ◌++◌, [], ◌∷◌, List, IfOk, OnOk};
 ghost use Rattle.dl_desk.specs.Key.{Key};
-ghost use Rattle.dl_source.specs.Answer.{answer_of};
-ghost use Rattle.dl_source.specs.Listing.{NamedTables};
-ghost use Rattle.dl_source.specs.Spelling.{Spells};
 ghost use Rattle.dl_loader.specs.Agrees.{entries_of};
 ghost use Rattle.dl_loader.specs.Pass.{Hold};
-ghost use Rattle.serde_json.specs.Data.{Data};
-ghost use Rattle.serde_json.specs.Read.{read as read_text};
+ghost use Rattle.serde_json.specs.Data.{null};
+ghost use Rattle.dl_bench.specs.Alike.{answer_alike};
 ghost use Rattle.dl_bench.specs.Counted.{none};
 ghost use Rattle.dl_bench.specs.Shared.{GaveEach, GaveOnce, Leaves, events_counted, lines_counted, loaded};
 ghost use Rattle.dl_bench.specs.Steps.{rules_of, parts, users};
-ghost use Rattle.dl_bench.specs.Texts.{tree_text};
 
+use crate::alike::Alike;
 use crate::counts::Counts;
-use crate::workloads::{keys_of, limits, tables_of};
+use crate::workloads::{keys_of, limits};
 use anyhow::Result;
 use dl_desk::{FetchKey, Job};
 use dl_loader::{History, Loader, LoaderName, Opening, Pass, Ticket};
@@ -24,17 +21,17 @@ use std::alloc::Global;
 use std::marker::Brand;
 use std::sync::Wait;
 
-/// One caller of a loader over tables with a row for each key: for each batch of keys it loads them in one
-/// call, dispatches, settles what was sent by what the tables answer, and reads each outcome. At the end it
+/// One caller of a loader over a source that answers every key `null`: for each batch of keys it loads them in
+/// one call, dispatches, settles what was sent by what the source answers, and reads each outcome. At the end it
 /// closes the loader.
 pub fn loader<R: Wait>(rt: &R, alloc: Global, keys: u32, batch: u32) -> Result<Counts>
-    ensures { IfOk result (λ counts. (tree : Data) × (named : NamedTables) × (read_text (tree_text keys) ≡ Some tree) × Spells tree named × Leaves (rules_of batch) (answer_of named) (parts batch (users 0 keys)) counts) }
+    ensures { IfOk result (λ counts. Leaves (rules_of batch) (answer_alike null) (parts batch (users 0 keys)) counts) }
 {
     let limits = limits(batch)?;
-    let tables = tables_of(alloc, keys)?;
+    let source = Alike::null(alloc)?;
     let keys = keys_of(alloc, keys)?;
-    let opening = Opening::new(alloc, &tables, limits, 1)?;
-    one_caller::<Brand, _, _>(rt, alloc, &tables, opening, &keys, limits.max_batch())
+    let opening = Opening::new(alloc, &source, limits, 1)?;
+    one_caller::<Brand, _, _>(rt, alloc, &source, opening, &keys, limits.max_batch())
 }
 
 /// The calls of one caller on the loader of an opening, which `L` stands for, and what the history that they

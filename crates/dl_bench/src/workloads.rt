@@ -168,7 +168,7 @@ fn tree_of(alloc: Global, keys: u32) -> Result<String, AllocError>
 }
 
 /// Tables with a row for each key, read from their text.
-pub fn tables_of(alloc: Global, keys: u32) -> Result<Tables>
+fn tables_of(alloc: Global, keys: u32) -> Result<Tables>
     ensures { IfOk result (λ named. (tree : Data) × (read_text (tree_text keys) ≡ Some tree) × Spells tree named) }
 {
     let text = tree_of(alloc, keys)?;

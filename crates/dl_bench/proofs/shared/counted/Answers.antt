@@ -1,4 +1,4 @@
-use Rattle.std.proofs.Common.{◌≡◌, ◌∙◌, sym, ap, ◌+◌, ◌<◌, Some, None, option_copied, drop, length, slice_get, rules, arith}
+use Rattle.std.proofs.Common.{◌≡◌, ◌∙◌, sym, ap, ◌+◌, ◌<◌, Some, option_copied, drop, length, slice_get, rules, arith}
 use Rattle.dl_bench.specs.Shared.{events_counted}
 use Rattle.dl_bench.proofs.Sharing.{events_next, some_at}
 use Rattle.dl_bench.proofs.shared.counted.Goals as goal

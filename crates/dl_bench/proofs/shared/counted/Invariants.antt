@@ -1,4 +1,4 @@
-use Rattle.std.proofs.Common.{◌≡◌, drop, length}
+use Rattle.std.proofs.Common.{◌≡◌, drop}
 use Rattle.dl_loader.specs.Agrees.{entries_of}
 use Rattle.dl_bench.specs.Counted.{none}
 use Rattle.dl_bench.specs.Shared.{events_counted, lines_counted}

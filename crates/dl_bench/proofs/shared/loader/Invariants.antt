@@ -1,9 +1,9 @@
-use Rattle.dl_source.specs.Answer.{answer_of}
+use Rattle.dl_bench.specs.Alike.{answer_alike}
 use Rattle.dl_bench.proofs.shared.loader.Given as goal
 
 -- the type names the loader after its opening
 abbrev pub ghosts-one_caller-L-LoaderName : goal.ghosts-one_caller-L-LoaderName
-ghosts-one_caller-L-LoaderName g a = record { log = a.opening.log; outcomes = a.opening.outcomes; rules = a.opening.rules; answer = answer_of a.opening.source }
+ghosts-one_caller-L-LoaderName g a = record { log = a.opening.log; outcomes = a.opening.outcomes; rules = a.opening.rules; answer = answer_alike a.opening.source }
 
 abbrev pub ghosts-one_caller-L-Ledger : goal.ghosts-one_caller-L-Ledger
 ghosts-one_caller-L-Ledger g a = record { name = a.opening.ledger; parts = a.opening.callers }

@@ -1,11 +1,11 @@
-use Rattle.std.proofs.Common.{◌≡◌, ◌∙◌, sym, ap, map, ◌+◌, ◌*◌, ◌<◌, ◌≤◌, min, List, [], ◌∷◌, ◌++◌, length, Some, None, refl, rules, arith}
+use Rattle.std.proofs.Common.{◌≡◌, ◌∙◌, sym, ap, map, ◌+◌, ◌*◌, ◌≤◌, min, List, [], ◌∷◌, ◌++◌, length, Some, None, rules, arith}
 use Rattle.std.specs.Int.{div_ceil}
 use Rattle.std.specs.Slice.Iter.{chunks_rest, chunks_steps}
 use Rattle.std.proofs.lemmas.List.{length_push, length-drop}
 use Rattle.dl_loader.specs.Agrees.{account, accounts_of}
 use Rattle.dl_loader.specs.Pass.{Pass}
 use Rattle.dl_bench.specs.Shared.{loaded}
-use Rattle.dl_bench.specs.Steps.{first_parts, parts}
+use Rattle.dl_bench.specs.Steps.{parts}
 use Rattle.dl_bench.proofs.Parts.{part_next, parts_count}
 use Rattle.dl_bench.proofs.Sharing.{leaves, loads_more, only_pass}
 use Rattle.dl_bench.proofs.shared.one_caller.Goals as goal

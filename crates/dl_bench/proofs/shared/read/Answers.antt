@@ -1,6 +1,4 @@
-use Rattle.std.proofs.Common.{◌≡◌, ◌∙◌, sym, ap}
-use Rattle.dl_loader.specs.Pass.{Hold}
-use Rattle.dl_loader.specs.Entries.{cell_of_load}
+use Rattle.std.proofs.Common.{◌∙◌}
 use Rattle.dl_bench.proofs.Sharing.{gave_again, gave_read, loaded_read}
 use Rattle.dl_bench.proofs.shared.read.Goals as goal
 

@@ -1,4 +1,4 @@
-use Rattle.std.proofs.Common.{◌≡◌, ◌∙◌}
+use Rattle.std.proofs.Common.{◌∙◌}
 use Rattle.dl_bench.proofs.Sharing.{each_gave, loaded_round}
 use Rattle.dl_bench.proofs.shared.round.Goals as goal
 

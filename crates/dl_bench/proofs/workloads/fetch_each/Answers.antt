@@ -1,11 +1,10 @@
-use Rattle.std.proofs.Common.{◌≡◌, ◌∙◌, ap, ◌+◌, ◌*◌, ◌<◌, ◌≤◌, min, [], ◌∷◌, ◌++◌, length, Some, None, rules, arith}
+use Rattle.std.proofs.Common.{◌≡◌, ◌∙◌, ap, ◌+◌, ◌*◌, ◌≤◌, min, [], ◌∷◌, ◌++◌, length, Some, None, arith}
 use Rattle.std.specs.Int.{div_ceil}
 use Rattle.std.specs.Slice.Iter.{chunks_rest, chunks_steps}
 use Rattle.std.proofs.lemmas.List.{length_push, length-drop}
 use Rattle.dl_source.specs.Answer.{answer_of}
-use Rattle.dl_bench.specs.Answers.{answered, asked}
+use Rattle.dl_bench.specs.Answers.{answered}
 use Rattle.dl_bench.specs.Counted.{none}
-use Rattle.dl_bench.specs.Steps.{first_parts, parts}
 use Rattle.dl_bench.proofs.StepLists.{asked_more}
 use Rattle.dl_bench.proofs.Parts.{part_next, parts_count}
 use Rattle.dl_bench.proofs.workloads.fetch_each.Goals as goal

@@ -1,7 +1,6 @@
 use Rattle.std.proofs.Common.{◌≡◌, ◌∙◌, ap, ℕ, List}
 use Rattle.dl_desk.specs.Key.{Key}
 use Rattle.dl_desk.specs.Limits.{Limits}
-use Rattle.dl_bench.specs.declared.counts.Counts.{Counts}
 use Rattle.dl_bench.specs.Answers.{asked}
 use Rattle.dl_bench.specs.Counted.{none}
 use Rattle.dl_bench.specs.Steps.{parts, users}

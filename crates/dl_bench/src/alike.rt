@@ -1,0 +1,54 @@
+//! A source that answers every key alike.
+
+ghost use Rattle.std.specs.Prelude.{◌≡◌, IfOk};
+ghost use Rattle.serde_json.specs.Data.{null};
+
+use dl_desk::{FetchKey, Json, Outcome, Outcomes};
+use dl_source::{BatchAnswer, Source};
+use serde_json::Value;
+use std::alloc::{AllocError, Global};
+use std::marker::Model;
+
+/// A source whose outcome for each key is one and the same value. Contracts see the value.
+#[derive(Drop)]
+pub struct Alike {
+    value: Json,
+}
+
+impl Model for Alike {
+    ghost use Rattle.serde_json.specs.Data.{Data};
+    ghost use Rattle.dl_desk.specs.Json.{data_code};
+
+    ghost Value = { Data };
+
+    ghost coded = { data_code };
+
+    ghost view = { λ a. a.value };
+}
+
+impl Alike {
+    /// The source that answers `null`. The error is want of memory.
+    pub fn null(alloc: Global) -> Result<Alike, AllocError>
+        ensures { IfOk result (λ a. a ≡ null) }
+    {
+        let value = Json::new(alloc, Value::Null)?;
+        Ok(Alike { value })
+    }
+}
+
+impl Source for Alike {
+    ghost use Rattle.dl_bench.specs.Alike.{answer_alike, answer_fits};
+
+    ghost answer = { answer_alike };
+
+    ghost fits = { answer_fits };
+
+    /// The value for each key, shared.
+    fn fetch(&self, alloc: Global, keys: &[FetchKey]) -> Result<BatchAnswer, AllocError> {
+        let mut outcomes = Vec::with_capacity(alloc, keys.len())?;
+        for _key in keys {
+            outcomes.push(Outcome::Value(self.value.try_copy()?))?;
+        }
+        Ok(BatchAnswer::Each(Outcomes::new(outcomes)))
+    }
+}
