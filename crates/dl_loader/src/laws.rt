@@ -1,9 +1,11 @@
-//! One event, made on the locked book.
+//! One event, made on the locked book, and what all looks of one cell have in common.
 
 ghost use Rattle.std.specs.Prelude.{◌≡◌, ◌+◌, List, None, IfErr, IfOk, IfSome, OnErr, OnOk};
+ghost use Rattle.dl_cells.specs.Cells.{Agrees};
 ghost use Rattle.dl_desk.specs.Key.{Key};
 ghost use Rattle.dl_loader.specs.Asks.{call_asked, job_asked, source_asked};
 ghost use Rattle.dl_loader.specs.Book.{Keeps};
+ghost use Rattle.dl_loader.specs.Entries.{cell_of_load};
 ghost use Rattle.dl_loader.specs.Journal.{refusals};
 ghost use Rattle.dl_loader.specs.Made.{Makes};
 ghost use Rattle.dl_loader.specs.Refusals.{refusal, IsRefusal, unready};
@@ -17,6 +19,7 @@ use crate::lists::{Jobs, Replies};
 use crate::loader::Loader;
 use crate::name::LoaderName;
 use crate::pass::Pass;
+use crate::ticket::Ticket;
 use dl_source::Source;
 use std::alloc::Global;
 
@@ -47,6 +50,15 @@ pub fn event<'a, L: LoaderName, S: Source>(
         Ok(made) => Ok(made),
         Err(fault) => Err((fault, ask)),
     }
+}
+
+/// All looks of one cell show one outcome: what two tickets of it have shown is the same, with the same place
+/// of the event that gave it, whichever threads looked.
+pub fn looks_agree<L: LoaderName>(one: &Ticket<'_, L>, other: &Ticket<'_, L>)
+    requires cell { cell_of_load other.now.reply ≡ cell_of_load one.now.reply }
+    ensures { IfSome other.now.known (Agrees one.now.known) }
+{
+    one.agree(other);
 }
 
 // Makes the event that is asked for.

@@ -1,7 +1,7 @@
 //! Tickets: what a caller holds of a load.
 
 ghost use Rattle.std.specs.Prelude.{◌≡◌, ◌<◌, IfNone, IfSome, IsSome, None, Some};
-ghost use Rattle.dl_cells.specs.Cells.{cell_of, row_len};
+ghost use Rattle.dl_cells.specs.Cells.{Agrees, cell_of, row_len};
 ghost use Rattle.dl_loader.specs.Entries.{cell_of_load, ending_known, read};
 ghost use Rattle.dl_loader.specs.Pass.{Shows, hold};
 
@@ -96,6 +96,14 @@ impl<'a, L: LoaderName> Ticket<'a, L> {
     {
         let ending = self.look_ending()?;
         Some(&ending.outcome)
+    }
+
+    /// Two tickets of one cell that know its outcome know the same one, whichever threads looked.
+    pub(crate) fn agree(&self, other: &Ticket<'_, L>)
+        requires { cell_of_load other.now.reply ≡ cell_of_load self.now.reply }
+        ensures { IfSome other.now.known (Agrees self.now.known) }
+    {
+        self.reader.agree(&other.reader);
     }
 
     /// The number of the ticket among those of its pass.
