@@ -1,8 +1,10 @@
 -- What of a shared loader may cross threads, as a set for `search`. The laws of the types below that hold a JSON value
 -- are proved here, since such a value is a tree of its own kind, whose laws `search` doesn't find by itself.
 use denote.RattleType.{RattleType}
+use denote.Ref.{NamedLft}
+use denote.Struct.Field.{shr_ref_field}
 use denote.Param.SendFields.{declared_send, declared_sync, as_row_send, as_row_sync}
-use denote.Param.Send.{IsSend, IsSync, sendable}
+use denote.Param.Send.{IsSend, IsSync, sendable, shr_send}
 use Rattle.std.below.core.proofs.ledger.Book.TheSendSync as counts
 use Rattle.std.below.core.proofs.chan.Condvar.TheSendSync as changed
 use Rattle.std.specs.declared.sync.ledger.Ledger as ledger
@@ -28,6 +30,7 @@ use Rattle.std.specs.contracts.vec.Vec as Vec
 use Rattle.std.specs.contracts.sync.Mutex as Mutex
 use Rattle.std.specs.contracts.sync.Condvar as Condvar
 use Rattle.std.specs.contracts.sync.ledger.Book as Counts
+use Rattle.dl_cells.specs.contracts.reader.Reader as Reader
 use Rattle.dl_cells.specs.contracts.row.CellRow as Row
 use Rattle.dl_desk.specs.contracts.desk.Desk as Desk
 use Rattle.dl_desk.specs.contracts.limits.Limits as Limits
@@ -39,6 +42,8 @@ use Rattle.dl_loader.specs.contracts.book.Book.TheInside as book
 use Rattle.dl_loader.specs.contracts.loader.Loader as Loader
 use Rattle.dl_loader.specs.contracts.loader.Loader.TheInside as loader
 use Rattle.dl_loader.specs.contracts.state.State as State
+use Rattle.dl_loader.specs.contracts.ticket.Ticket as Ticket
+use Rattle.dl_loader.specs.contracts.ticket.Ticket.TheInside as ticket
 use Rattle.dl_cells.proofs.reader.Reader.TheSendSync as reader
 use Rattle.dl_cells.proofs.row.CellRow.TheSendSync as row
 use Rattle.dl_desk.proofs.desk.Desk.TheSendSync as desk
@@ -134,4 +139,11 @@ module _ (T : RattleType) (n : name.Ghosts T.Denot) (l : ledger.Ghosts T.Denot) 
   pub Loader-sync : IsSync (Loader.the_row T n l)
   Loader-sync = search (loader_sync, sendable) depth 10
 
-pub ruleset crosses = (Loader-sync, pass.the_send, key.the_sync)
+  module _ (a : NamedLft) where
+    ticket_send : IsSend (ticket.the_row a T n l)
+    ticket_send = declared_send (ticket.the_type a T n l) (as_row_send (shr_ref_field a (Row.the_row Ending.the_row) tt) (shr_send _ _ _ outcomes_sync), (search (as_row_send, sendable) depth 10, (search (as_row_send, sendable) depth 10, (as_row_send (Reader.the_field Ending.the_row) (search (reader.the_send) depth 10), (search (as_row_send, sendable) depth 10, tt)))))
+
+    pub Ticket-send : IsSend (Ticket.the_row a T n l)
+    Ticket-send = search (ticket_send, sendable) depth 10
+
+pub ruleset crosses = (Loader-sync, Ticket-send, pass.the_send, key.the_sync)

@@ -32,3 +32,4 @@ mod ClosingLemmas
 mod Sources
 mod HistoryLemmas
 pub mod Crossing
+pub mod Captured

@@ -109,6 +109,14 @@ impl From<AllocError> for CallFault {
     }
 }
 
+impl From<Stopped> for CallFault {
+    ghost from_gives = { λ _ fault. fault ≡ call.Stopped };
+
+    fn from(_: Stopped) -> CallFault {
+        CallFault::Stopped
+    }
+}
+
 impl From<DeskFault> for CallFault {
     ghost from_gives = { λ desk fault. fault ≡ call_fault desk };
 
