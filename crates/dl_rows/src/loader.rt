@@ -8,6 +8,8 @@ mod ends;
 mod loads;
 mod primes;
 mod steps;
+mod threads;
+mod using;
 
 use crate::source::{USERS, tables};
 use dl_desk::Limits;
@@ -63,6 +65,21 @@ fn a_wait_at_a_stopped_loader(rt: HostRuntime) -> Result<(), Fail> {
 #[test]
 fn a_primed_key(rt: HostRuntime) -> Result<(), Fail> {
     one_caller(&rt, rt.alloc(), Limits::new(2, 8, 16)?, Row::Prime)
+}
+
+#[test]
+fn two_callers_of_one_key(rt: HostRuntime) -> Result<(), Fail> {
+    let users = tables(rt.alloc(), USERS)?;
+    let opening = Opening::new(rt.alloc(), &users, Limits::new(2, 8, 16)?, 2)?;
+    threads::load_by_two::<Brand, _, _>(&rt, rt.alloc(), &users, opening)
+}
+
+#[test]
+fn callers_on_threads_of_their_own(rt: HostRuntime) -> Result<(), Fail> {
+    let users = tables(rt.alloc(), USERS)?;
+    let opening = Opening::new(rt.alloc(), &users, Limits::new(2, 8, 16)?, 2)?;
+    let key = steps::user(rt.alloc(), "u1")?;
+    using::load_by_each::<Brand, _, _>(&rt, rt.alloc(), &users, opening, &key)
 }
 
 /// The rows of calls that one caller makes.

@@ -1,0 +1,142 @@
+//! One key that two callers load, each on a thread of its own.
+
+ghost use Rattle.std.specs.Prelude.{◌≡◌, false, IfOk, List, OnOk};
+ghost use Rattle.dl_desk.specs.Key.{Key};
+ghost use Rattle.dl_loader.specs.Pass.{Gave};
+
+use super::steps::{ADA, assert_ends, assert_entries, assert_shows, only_job, settle_job, user};
+use dl_desk::{FetchKey, LoadReply};
+use dl_loader::{CallFault, EntryKind, History, Loader, LoaderName, Opening, Pass, Reply, Ticket};
+use dl_source::Source;
+use std::alloc::Global;
+use std::process::Abort;
+use std::sync::Wait;
+use std::test::Fail;
+use std::thread::{Threads, join};
+
+/// Two callers load a key, each on a thread of its own. Then the first of them ends the batch, both read the
+/// outcome, and the loader is closed.
+pub(super) fn load_by_two<L: LoaderName + Send + Sync, S: Source, R: Abort + Threads + Wait + Sync>(
+    rt: &R,
+    alloc: Global,
+    source: &S,
+    opening: Opening<'_, S>,
+) -> Result<(), Fail>
+    requires source { opening.source ≡ source.now }
+    requires rules { opening.rules ≡ L.rules }
+    requires callers { opening.callers ≡ L.parts }
+    requires answer { (keys : List Key) → S.answer opening.source keys ≡ L.answer keys }
+    requires log { opening.log ≡ L.log }
+    requires outcomes { opening.outcomes ≡ L.outcomes }
+    requires ledger { opening.ledger ≡ L.name }
+{
+    let (loader, mut passes) = Loader::<L>::start(alloc, opening)?;
+    let (Some(other), Some(one)) = (passes.pop(), passes.pop()) else {
+        return Err("no passes".into());
+    };
+    let (one, other) = read_by_two(rt, alloc, source, &loader, one, other)?;
+    passes.push(one)?;
+    passes.push(other)?;
+    match loader.close(alloc, passes) {
+        Ok(history) => assert_history(rt, alloc, &history),
+        Err((fault, _, _)) => Err(fault.into()),
+    }
+}
+
+/// The calls before the close.
+fn read_by_two<L: LoaderName + Send + Sync, S: Source, R: Abort + Threads + Wait + Sync>(
+    rt: &R,
+    alloc: Global,
+    source: &S,
+    loader: &Loader<L>,
+    one: Pass<L>,
+    other: Pass<L>,
+) -> Result<(Pass<L>, Pass<L>), Fail>
+    requires source { (keys : List Key) → S.answer source.now keys ≡ L.answer keys }
+{
+    let key = user(alloc, "u1")?;
+    let (one, other) = start_threads(rt, alloc, loader, &key, one, other)?;
+    let (mut one, mut first) = one;
+    let (mut other, mut second) = other;
+    let job = only_job(rt, alloc, loader, &mut one, &key)?;
+    settle_job(rt, alloc, source, loader, &mut one, job)?;
+    read(rt, alloc, loader, &mut one, &mut first)?;
+    read(rt, alloc, loader, &mut other, &mut second)?;
+    Ok((one, other))
+}
+
+/// Two callers load the key, each on a thread of its own.
+fn start_threads<'a, L: LoaderName + Send + Sync, R: Threads + Wait + Sync>(
+    rt: &R,
+    alloc: Global,
+    loader: &'a Loader<L>,
+    key: &FetchKey,
+    one: Pass<L>,
+    other: Pass<L>,
+) -> Result<((Pass<L>, Ticket<'a, L>), (Pass<L>, Ticket<'a, L>)), CallFault>
+    ensures one { IfOk result (λ r. Gave r.0.0.part r.0.1 false) }
+    ensures other { IfOk result (λ r. Gave r.1.0.part r.1.1 false) }
+{
+    let (one, other) = join(
+        rt,
+        move || -> Result<(Pass<L>, Ticket<'_, L>), CallFault>
+            ensures { IfOk result (λ r. Gave r.0.part r.1 false) }
+        { load(rt, alloc, loader, one, key) },
+        move || -> Result<(Pass<L>, Ticket<'_, L>), CallFault>
+            ensures { IfOk result (λ r. Gave r.0.part r.1 false) }
+        { load(rt, alloc, loader, other, key) },
+    );
+    Ok((one?, other?))
+}
+
+/// Loads the key, and gives the pass back with the ticket.
+fn load<'a, L: LoaderName, R: Wait>(
+    rt: &R,
+    alloc: Global,
+    loader: &'a Loader<L>,
+    mut pass: Pass<L>,
+    key: &FetchKey,
+) -> Result<(Pass<L>, Ticket<'a, L>), CallFault>
+    ensures { IfOk result (λ r. Gave r.0.part r.1 false) }
+{
+    let ticket = loader.load(rt, alloc, &mut pass, key)?;
+    Ok((pass, ticket))
+}
+
+/// Waits for the ticket's outcome, which is the user's row.
+fn read<L: LoaderName, R: Abort + Wait>(
+    rt: &R,
+    alloc: Global,
+    loader: &Loader<L>,
+    pass: &mut Pass<L>,
+    ticket: &mut Ticket<'_, L>,
+) -> Result<(), Fail>
+    requires { Gave pass.old.part ticket.old false }
+{
+    loader.wait(rt, pass, ticket)?;
+    assert_shows(rt, alloc, ticket, ADA)
+}
+
+/// The four events, the first two of which are the loads, in whichever order.
+fn assert_history<L: LoaderName>(
+    rt: &impl Abort,
+    alloc: Global,
+    history: &History<L>,
+) -> Result<(), Fail> {
+    let events = history.events();
+    assert_eq!(rt; events.len(), 4);
+    let replies = [LoadReply::Fresh { cell: 0, batch: 0 }, LoadReply::Hit(0)];
+    for (at, want) in replies.iter().enumerate() {
+        let Some(event) = events.get(at) else {
+            return Err("no event".into());
+        };
+        assert!(rt; matches!(&event.reply, Reply::Loaded(reply) if *reply == *want));
+    }
+    assert_ends(rt, alloc, history, &[(0, true)])?;
+    assert_eq!(rt; history.entries(0).len(), 4);
+    let Some(last) = history.entries(1).last() else {
+        return Err("no entries".into());
+    };
+    assert_eq!(rt; last.kind(), EntryKind::Saw { cell: 0, at: 3 });
+    Ok(())
+}
