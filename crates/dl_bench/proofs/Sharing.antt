@@ -1,6 +1,7 @@
 -- What a caller's calls and reads leave among its entries and its tickets.
-use Rattle.std.proofs.Common.{◌≡◌, ◌∙◌, sym, ap, subst, ℕ, zero, suc, ◌+◌, ◌<◌, Bool, true, false, cond, List, [], ◌∷◌, ◌++◌, append_assoc, append-nil, length, length-append, map, drop, get_or, set, Option, Some, None, slice_get, refl, arith, inl, inr, ◌⊎◌}
-use Rattle.std.proofs.lemmas.List.{length-map}
+use Rattle.std.proofs.Common.{All, ◌≡◌, ◌∙◌, sym, ap, subst, ℕ, zero, suc, ◌+◌, ◌<◌, Bool, true, false, cond, List, [], ◌∷◌, ◌++◌, append_assoc, append-nil, length, length-append, map, take, drop, get_or, set, Option, Some, None, slice_get, refl, arith, inl, inr, ◌⊎◌}
+use Rattle.std.proofs.lemmas.List.{length-map, map_more}
+use Rattle.std.proofs.lemmas.List.Elements.{All-nil, All-cons, All-head, All-tail, All-get_or, All-set}
 use Rattle.std.proofs.Math.Dec.{eqb, eqb-zero-suc}
 use Rattle.dl_desk.specs.Key.{Key}
 use Rattle.dl_desk.specs.Limits.{Rules}
@@ -13,11 +14,11 @@ use Rattle.dl_loader.specs.declared.event.Reply.{Reply}
 use Rattle.dl_loader.specs.declared.pass.Given.{Given}
 use Rattle.dl_loader.specs.Entries.{Line, cell_of_load}
 use Rattle.dl_loader.specs.Made.{WasMade, event_of, loads_of}
-use Rattle.dl_loader.specs.declared.event.Call.TheVariants.{LoadMany, Dispatch, Settle, Fail}
+use Rattle.dl_loader.specs.declared.event.Call.TheVariants.{Load, LoadMany, Dispatch, Settle, Fail}
 use Rattle.dl_source.specs.declared.source.BatchAnswer.TheVariants.{Each, Break}
 use Rattle.dl_desk.specs.declared.outcome.BatchFault.TheVariants.{Source}
 use Rattle.dl_loader.specs.Asks.{end_by}
-use Rattle.dl_loader.specs.Agrees.{Account, Agrees, HasEach, account, accounts_by, entries_of}
+use Rattle.dl_loader.specs.Agrees.{Account, Agrees, HasEach, account, accounts_by, accounts_of, entries_of}
 use Rattle.dl_loader.specs.Closing.{AllEnded}
 use Rattle.dl_loader.specs.History.{IsLegal}
 use Rattle.dl_loader.specs.Lists.{Every}
@@ -28,7 +29,7 @@ use Rattle.std.proofs.lemmas.List.FromFn.{map-range_with_len_more}
 use Rattle.dl_bench.specs.Steps.{first_parts}
 use Rattle.dl_bench.specs.declared.counts.Counts.{Counts}
 use Rattle.dl_bench.specs.Counted.{none}
-use Rattle.dl_bench.specs.Shared.{GaveEach, GaveOnce, Leaves, event_counted, events_counted, lines_counted, loaded, loaded_by, loaded_in}
+use Rattle.dl_bench.specs.Shared.{GaveEach, GaveOnce, Leaves, LeavesEach, alone, event_counted, events_counted, lines_counted, loaded, loaded_by, loaded_in}
 
 -- ---- loads
 
@@ -53,6 +54,12 @@ loaded_made s old call reply new (before, now, k, l, front, makes) =
     ap (λ (p : Part). loaded p.entries) makes.part
     ∙ (ap loaded (tickets_entries called (loads_of reply))
     ∙ loaded-snoc old.entries _)
+
+-- one key more of those that are loaded one by one
+pub loaded_next : (s : Service) (ks : List Key) (i : ℕ) (k : Key) (lists : List (List Key)) (old new : Part) (reply : Reply) → i < length ks → k ≡ get_or ks i k → WasMade s old (Load k) reply new → loaded old.entries ≡ lists ++ alone (take i ks) → loaded new.entries ≡ lists ++ alone (take (i + 1) ks)
+loaded_next s ks i k lists old new reply low is made before =
+    let next : alone (take (i + 1) ks) ≡ alone (take i ks) ++ (k ∷ []) ∷ [] = map_more (λ (x : Key). x ∷ []) ks i k low ∙ ap (λ (x : Key). alone (take i ks) ++ (x ∷ []) ∷ []) (sym is) in
+    loaded_made s old (Load k) reply new made ∙ (ap (λ zs. zs ++ (k ∷ []) ∷ []) before ∙ (append_assoc lists (alone (take i ks)) ((k ∷ []) ∷ []) ∙ ap (λ zs. lists ++ zs) (sym next)))
 
 -- the same of a call that loads nothing
 pub loaded_same : (s : Service) (old : Part) (call : Call) (reply : Reply) (new : Part) → WasMade s old call reply new → loaded_by call ≡ [] → loaded new.entries ≡ loaded old.entries
@@ -176,3 +183,56 @@ loaded_end s old b (Break text) reply new made = loaded_same s old (Fail b (Sour
 pub loaded_round : (s : Service) (ks : List Key) (many sent : Reply) (t : Service) (old a b d new : Part) → WasMade s old (LoadMany ks) many a → WasMade t a Dispatch sent b → loaded d.entries ≡ loaded b.entries → loaded new.entries ≡ loaded d.entries → loaded new.entries ≡ loaded old.entries ++ ks ∷ []
 loaded_round s ks many sent t old a b d new loads sends settles reads =
     reads ∙ (settles ∙ (loaded_same t a Dispatch sent b sends refl ∙ loaded_made s old (LoadMany ks) many a loads))
+
+-- ---- callers on threads of their own
+
+-- each new pass has loaded nothing
+pub fresh_loaded : (passes : List Pass) (k n : ℕ) → map (λ p. p.part) passes ≡ fresh k n → All (λ p. loaded p.part.entries ≡ []) passes
+fresh_loaded [] k n is = All-nil (λ (p : Pass). loaded p.part.entries ≡ [])
+fresh_loaded (p ∷ passes) k zero is = absurd (let bad : p.part ∷ map (λ (x : Pass). x.part) passes ≡ [] = is in cc)
+fresh_loaded (p ∷ passes) k (suc n) is =
+    let whole : p.part ∷ map (λ (x : Pass). x.part) passes ≡ part k [] [] ∷ fresh (k + 1) n = is in
+    let first : p.part ≡ part k [] [] = cc in
+    let rest : map (λ (x : Pass). x.part) passes ≡ fresh (k + 1) n = cc in
+    All-cons (λ (x : Pass). loaded x.part.entries ≡ []) p passes (ap (λ (q : Part). loaded q.entries) first) (fresh_loaded passes (k + 1) n rest)
+
+fresh-len : (k n : ℕ) → length (fresh k n) ≡ n
+fresh-len k zero = refl
+fresh-len k (suc n) = ap suc (fresh-len (k + 1) n)
+
+-- there is a new pass for each caller
+pub fresh_len : (passes : List Pass) (n : ℕ) → map (λ p. p.part) passes ≡ fresh 0 n → length passes ≡ n
+fresh_len passes n is = sym (length-map passes (λ (p : Pass). p.part)) ∙ (ap length is ∙ fresh-len 0 n)
+
+-- what the passes loaded stands in their accounts
+accounts_loaded : (passes : List Pass) (lists : List (List Key)) → All (λ p. loaded p.part.entries ≡ lists) passes → Every (λ a. loaded a.entries ≡ lists) (accounts_of passes)
+accounts_loaded [] lists all = tt
+accounts_loaded (p ∷ passes) lists all =
+    let P : Pass → Type 0 = λ q. loaded q.part.entries ≡ lists in
+    (All-head P p passes all, accounts_loaded passes lists (All-tail P p passes all))
+
+-- a pass that had loaded nothing has loaded what was loaded since
+pub loaded_since : (passes : List Pass) (i : ℕ) (old new : Pass) (lists : List (List Key)) → All (λ p. loaded p.part.entries ≡ []) passes → i < length passes → old ≡ get_or passes i old → loaded new.part.entries ≡ loaded old.part.entries ++ lists → loaded new.part.entries ≡ lists
+loaded_since passes i old new lists none low is more =
+    let P : Pass → Type 0 = λ p. loaded p.part.entries ≡ [] in
+    let before : loaded old.part.entries ≡ [] = ap (λ (p : Pass). loaded p.part.entries) is ∙ All-get_or P passes i old low none in
+    more ∙ ap (λ zs. zs ++ lists) before
+
+-- what a closed loader of many callers leaves, of whom the first made calls that load nothing
+pub leaves_each : (rules : Rules) (callers : ℕ) (answer : List Key → BatchAnswer) (lists : List (List Key)) (passes : List Pass) (old new : Pass) (events : List Event) (accounts : List Account) (counts : Counts)
+    → All (λ p. loaded p.part.entries ≡ lists) passes → 0 < length passes → old ≡ get_or passes 0 old → loaded new.part.entries ≡ loaded old.part.entries
+    → IsLegal (service rules callers answer) events → accounts ≡ accounts_of (set passes 0 new) → HasEach callers accounts → Every (Agrees events) accounts → AllEnded events → counts ≡ events_counted events none → LeavesEach rules callers answer lists counts
+leaves_each rules callers answer lists passes old new events accounts counts all some is same legal of_passes each agree ended counted =
+    let P : Pass → Type 0 = λ p. loaded p.part.entries ≡ lists in
+    let Q : List Account → Type 0 = Every (λ a. loaded a.entries ≡ lists) in
+    let first : loaded new.part.entries ≡ lists = same ∙ (ap (λ (p : Pass). loaded p.part.entries) is ∙ All-get_or P passes 0 old some all) in
+    record {
+      events = events;
+      accounts = accounts;
+      legal = legal;
+      ended = ended;
+      each = each;
+      agree = agree;
+      loads = subst Q (sym of_passes) (accounts_loaded (set passes 0 new) lists (All-set P passes 0 new first all));
+      counts_are = counted;
+    }

@@ -2,7 +2,7 @@
 use Rattle.std.specs.Prelude.{ℕ, codes, List}
 use Rattle.dl_desk.specs.Limits.{IsLimit}
 use Rattle.dl_bench.specs.declared.command.Command.{Command}
-use Rattle.dl_bench.specs.declared.command.Command.TheVariants.{Loads, Many, Hits, Clears, Rounds, Script, Tables, Loader}
+use Rattle.dl_bench.specs.declared.command.Command.TheVariants.{Loads, Many, Hits, Clears, Rounds, Script, Tables, Loader, Threads}
 
 -- each number of the command may be a limit of a loader
 abbrev pub IsSized : Command → Type 0
@@ -14,6 +14,7 @@ IsSized (Rounds keys batch) = IsLimit keys × IsLimit batch
 IsSized (Script keys) = IsLimit keys
 IsSized (Tables keys batch) = IsLimit keys × IsLimit batch
 IsSized (Loader keys batch) = IsLimit keys × IsLimit batch
+IsSized (Threads keys callers) = IsLimit keys × IsLimit callers
 
 -- the word that names the workload
 abbrev pub workload : Command → List ℕ
@@ -25,3 +26,4 @@ workload (Rounds _ _) = codes "rounds"
 workload (Script _) = codes "script"
 workload (Tables _ _) = codes "tables"
 workload (Loader _ _) = codes "loader"
+workload (Threads _ _) = codes "threads"

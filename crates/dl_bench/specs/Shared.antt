@@ -1,5 +1,5 @@
 -- What the history of a closed loader, and what its callers know of it, add to counts.
-use Rattle.std.specs.Prelude.{◌≡◌, ℕ, Bool, Some, slice_get, List, [], ◌∷◌, ◌++◌, length}
+use Rattle.std.specs.Prelude.{◌≡◌, ℕ, Bool, Some, slice_get, List, [], ◌∷◌, ◌++◌, length, map}
 use Rattle.dl_desk.specs.Key.{Key}
 use Rattle.dl_desk.specs.Limits.{Rules}
 use Rattle.dl_source.specs.declared.source.BatchAnswer.{BatchAnswer}
@@ -10,10 +10,11 @@ use Rattle.dl_loader.specs.declared.event.Reply.{Reply}
 use Rattle.dl_loader.specs.declared.event.Reply.TheVariants.{Loaded, Many, Primed, Kept, Done, Sent}
 use Rattle.dl_loader.specs.declared.entry.EntryKind.{EntryKind}
 use Rattle.dl_loader.specs.declared.entry.EntryKind.TheVariants as kind
-use Rattle.dl_loader.specs.Agrees.{Agrees, account}
+use Rattle.dl_loader.specs.Agrees.{Account, Agrees, HasEach, account}
 use Rattle.dl_loader.specs.Closing.{AllEnded}
 use Rattle.dl_loader.specs.Entries.{Line, Called, Saw, kind_of}
 use Rattle.dl_loader.specs.History.{IsLegal}
+use Rattle.dl_loader.specs.Lists.{Every}
 use Rattle.dl_loader.specs.Pass.{Part, Hold, Gave}
 use Rattle.dl_loader.specs.Service.{service}
 use Rattle.dl_bench.specs.declared.counts.Counts.{Counts}
@@ -62,9 +63,9 @@ lines_counted (l ∷ ls) c = lines_counted ls (kind_counted (kind_of l) c)
 
 -- ---- what a caller did
 
--- the keys of a call that loads several
+-- the keys of a call that loads
 abbrev pub loaded_by : Call → List (List Key)
-loaded_by (Load k) = []
+loaded_by (Load k) = (k ∷ []) ∷ []
 loaded_by (LoadMany ks) = ks ∷ []
 loaded_by (Prime k o) = []
 loaded_by (Clear k) = []
@@ -101,3 +102,20 @@ pub record Leaves (rules : Rules) (answer : List Key → BatchAnswer) (lists : L
   pub agrees : Agrees events (account 0 entries)
   pub loads : loaded entries ≡ lists
   pub counts_are : counts ≡ lines_counted entries (events_counted events none)
+
+-- each key by itself
+abbrev pub alone : List Key → List (List Key)
+alone ks = map (λ k. k ∷ []) ks
+
+-- A loader was closed whose callers each loaded these lists of keys, in order, on threads of their own. Its history
+-- is legal, and each batch in it has ended; each caller has one account, which is its part of the history, and in
+-- which the lists were loaded; the counts are what the history adds.
+pub record LeavesEach (rules : Rules) (callers : ℕ) (answer : List Key → BatchAnswer) (lists : List (List Key)) (counts : Counts) : Type 0 where
+  pub events : List Event
+  pub accounts : List Account
+  pub legal : IsLegal (service rules callers answer) events
+  pub ended : AllEnded events
+  pub each : HasEach callers accounts
+  pub agree : Every (Agrees events) accounts
+  pub loads : Every (λ a. loaded a.entries ≡ lists) accounts
+  pub counts_are : counts ≡ events_counted events none

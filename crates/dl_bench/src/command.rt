@@ -8,7 +8,7 @@ ghost use Rattle.dl_bench.specs.Asked.{IsSized, workload};
 use dl_desk::LARGEST_LIMIT;
 use thiserror::Error;
 
-/// A workload and its size: how many keys, and the most keys of a batch.
+/// A workload and its size: how many keys, and the most keys of a batch or how many callers.
 #[derive(Clone, Copy, Debug, PartialEq, Eq)]
 pub enum Command {
     /// Loads the keys one by one, then dispatches.
@@ -28,14 +28,17 @@ pub enum Command {
     /// One caller of a shared loader: for each batch of keys it loads them in one call, dispatches, settles,
     /// and reads each outcome.
     Loader { keys: u32, batch: u32 },
+    /// Callers of a shared loader, each on a thread of its own: each loads the keys one by one. Then the first
+    /// dispatches, and settles.
+    Threads { keys: u32, callers: u32 },
 }
 
 /// Why words are no command.
 #[derive(Clone, Copy, Debug, PartialEq, Eq, Error)]
 pub enum CommandFault {
-    #[error("usage: dl_bench loads|many|rounds|tables|loader N B, or dl_bench hits|clears|script N")]
+    #[error("usage: dl_bench loads|many|rounds|tables|loader N B, dl_bench hits|clears|script N, or dl_bench threads N C")]
     Usage,
-    #[error("N and B are numbers from 1 to 65536, the largest limit of a loader")]
+    #[error("N, B and C are numbers from 1 to 65536, the largest limit of a loader")]
     Size,
 }
 
@@ -68,6 +71,10 @@ impl Command {
             [_, "loader", keys, batch] => Ok(Command::Loader {
                 keys: size(keys)?,
                 batch: size(batch)?,
+            }),
+            [_, "threads", keys, callers] => Ok(Command::Threads {
+                keys: size(keys)?,
+                callers: size(callers)?,
             }),
             _ => Err(CommandFault::Usage),
         }

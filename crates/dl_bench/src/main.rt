@@ -6,6 +6,7 @@ mod alike;
 mod command;
 mod counts;
 mod shared;
+mod threads;
 mod trial;
 mod workloads;
 
@@ -16,8 +17,9 @@ use std::alloc::Global;
 use std::env;
 use std::io::Print;
 use std::sync::Wait;
+use std::thread::Threads;
 
-fn run(rt: &impl Wait, alloc: Global, command: Command) -> Result<Counts> {
+fn run<R: Threads + Wait + Sync>(rt: &R, alloc: Global, command: Command) -> Result<Counts> {
     match command {
         Command::Loads { keys, batch } => workloads::loads(alloc, keys, batch),
         Command::Many { keys, batch } => workloads::many(alloc, keys, batch),
@@ -27,6 +29,7 @@ fn run(rt: &impl Wait, alloc: Global, command: Command) -> Result<Counts> {
         Command::Script { keys } => workloads::script(alloc, keys),
         Command::Tables { keys, batch } => workloads::tables(alloc, keys, batch),
         Command::Loader { keys, batch } => shared::loader(rt, alloc, keys, batch),
+        Command::Threads { keys, callers } => threads::threads(rt, alloc, keys, callers),
     }
 }
 

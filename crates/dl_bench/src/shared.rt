@@ -90,7 +90,7 @@ fn round<L: LoaderName, S: Source, R: Wait>(
 }
 
 /// Settles each job by what the source answers to its keys.
-fn settle_each<L: LoaderName, S: Source, R: Wait>(
+pub fn settle_each<L: LoaderName, S: Source, R: Wait>(
     rt: &R,
     alloc: Global,
     source: &S,
@@ -160,9 +160,9 @@ fn read<L: LoaderName, R: Wait>(
     Ok(())
 }
 
-/// What a history and the first caller's entries add to counts.
-fn counted<L: LoaderName>(history: &History<L>) -> Counts
-    ensures { result ≡ lines_counted (entries_of 0 history.now.accounts) (events_counted history.now.events none) }
+/// What the events of a history add to counts.
+pub fn count_events<L: LoaderName>(history: &History<L>) -> Counts
+    ensures { result ≡ events_counted history.now.events none }
 {
     let mut counts = Counts::default();
     let events = history.events();
@@ -172,6 +172,14 @@ fn counted<L: LoaderName>(history: &History<L>) -> Counts
             None => unreachable!(),
         }
     }
+    counts
+}
+
+/// What a history and the first caller's entries add to counts.
+fn counted<L: LoaderName>(history: &History<L>) -> Counts
+    ensures { result ≡ lines_counted (entries_of 0 history.now.accounts) (events_counted history.now.events none) }
+{
+    let mut counts = count_events(history);
     for entry in history.entries(0) {
         counts.entry(entry.kind());
     }

@@ -1,7 +1,7 @@
 use Rattle.std.proofs.Common.{◌≡◌, ◌∙◌, sym, ap, ◌+◌, ◌<◌, Some, option_copied, drop, length, slice_get, rules, arith}
 use Rattle.dl_bench.specs.Shared.{events_counted}
 use Rattle.dl_bench.proofs.Sharing.{events_next, some_at}
-use Rattle.dl_bench.proofs.shared.counted.Goals as goal
+use Rattle.dl_bench.proofs.shared.count_events.Goals as goal
 
 pub loop-at-preserved : goal.loop-at-preserved
 loop-at-preserved g c =
