@@ -4,8 +4,8 @@ use denote.Param.{param}
 use denote.Ref.{ShrRef}
 use denote.Slice.{ShrSlice}
 use denote.Struct.Tuple.{TupleAt}
-use denote.Param.Send.{IsSync, sendable, param_sync, arg_sync, shr_sync, shr_slice_sync}
-use Rattle.std.proofs.Crossing.{crosses}
+use denote.Param.Send.{param_sync, arg_sync, shr_sync, shr_slice_sync}
+use Rattle.std.proofs.Crossing.{sync}
 use Rattle.std.proofs.lemmas.List.{length_push}
 use Rattle.std.proofs.lemmas.List.Elements.{All-push}
 use Rattle.std.proofs.lemmas.Iterator.Adapters.{YieldsList-from_vec}
@@ -22,10 +22,6 @@ use Rattle.dl_bench.specs.Shared.{alone, loaded}
 use Rattle.dl_bench.proofs.Sharing.{loaded_since}
 use Rattle.dl_bench.proofs.threads.load_by_each.Goals as goal
 
--- the heap is captured by reference
-Global-sync : IsSync Heap.the_row
-Global-sync = search (crosses, sendable) depth 10
-
 -- a closure may be called on each thread where what it captures may be shared
 pub map_vec-requires-sync-F : goal.map_vec-requires-sync-F
 map_vec-requires-sync-F g c κs within =
@@ -33,7 +29,7 @@ map_vec-requires-sync-F g c κs within =
     let n = g.L.LoaderName in
     let l = g.L.Ledger in
     let Ts = ShrRef _ _ (param 1 g.row.R) ∷ ShrRef _ _ Heap.the_row ∷ ShrRef _ _ (Loader.the_row L n l) ∷ ShrSlice _ _ FetchKey.the_row ∷ [] in
-    param_sync 4 _ (arg_sync _ yes (TupleAt _ Ts) (captures_sync _ Ts (shr_sync _ _ _ c.type_bounds.sync-R, (shr_sync _ _ _ Global-sync, (shr_sync _ _ _ (Loader-sync L n l), (shr_slice_sync _ _ _ key.the_sync, tt))))))
+    param_sync 4 _ (arg_sync _ yes (TupleAt _ Ts) (captures_sync _ Ts (shr_sync _ _ _ c.type_bounds.sync-R, (shr_sync _ _ _ sync, (shr_sync _ _ _ (Loader-sync L n l), (shr_slice_sync _ _ _ key.the_sync, tt))))))
 
 pub loop-result-preserved : goal.loop-result-preserved
 loop-result-preserved g c =

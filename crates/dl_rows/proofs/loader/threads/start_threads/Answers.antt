@@ -1,27 +1,26 @@
-use Rattle.std.proofs.Common.{rules, ◌≡◌, List, IfOk, false, ℕ, ◌+◌, ◌-◌, ◌*◌, ◌<◌, ◌≤◌, length, ◌/◌, ◌%◌, Bool, true, nat_eq, nat_lt, [], ◌∷◌, ◌++◌, slice_index_or, slice_set, bit_and, bit_or, Fits, w8, w32, w64, Bor, MutBor}
+use Rattle.std.proofs.Common.{[], ◌∷◌}
 use denote.Exit.{yes}
 use denote.Param.{param}
+use denote.Param.Send.{IsSend, param_send, arg_send, shr_send}
 use denote.Ref.{ShrRef}
 use denote.Struct.Tuple.{TupleAt, tuple_name}
-use Rattle.std.proofs.result.Result.TheSendSync as result
-use Rattle.dl_loader.proofs.fault.CallFault.TheSendSync as fault
-use denote.Param.Send.{IsSend, IsSync, sendable, param_send, arg_send, recorded_send, struct_send, shr_send}
 use Rattle.std.proofs.Crossing.{send}
+use Rattle.std.proofs.result.Result.TheSendSync as result
 use Rattle.std.specs.contracts.alloc.Global as Heap
+use Rattle.std.specs.contracts.result.Result as Result
 use Rattle.dl_desk.specs.contracts.key.FetchKey as FetchKey
+use Rattle.dl_desk.proofs.key.FetchKey.TheSendSync as key
+use Rattle.dl_loader.specs.contracts.fault.CallFault as CallFault
 use Rattle.dl_loader.specs.contracts.loader.Loader as Loader
 use Rattle.dl_loader.specs.contracts.pass.Pass as Pass
 use Rattle.dl_loader.specs.contracts.ticket.Ticket as Ticket
-use Rattle.std.specs.contracts.result.Result as Result
-use Rattle.dl_loader.specs.contracts.fault.CallFault as CallFault
-use Rattle.dl_loader.proofs.Crossing.{Loader-sync}
+use Rattle.dl_loader.proofs.fault.CallFault.TheSendSync as fault
 use Rattle.dl_loader.proofs.pass.Pass.TheSendSync as pass
-use Rattle.dl_desk.proofs.key.FetchKey.TheSendSync as key
-use Rattle.dl_loader.proofs.Crossing.{Ticket-send}
 use Rattle.dl_loader.proofs.Captured.{captures_send}
+use Rattle.dl_loader.proofs.Crossing.{Loader-sync, Ticket-send}
 use Rattle.dl_rows.proofs.loader.threads.start_threads.Goals as goal
 
--- src/using.rt:39:24
+-- what the first caller's thread is given may be sent
 pub join-one-requires-send-F : goal.join-one-requires-send-F
 join-one-requires-send-F g c κs within =
     let L = param 0 g.row.L in
@@ -30,7 +29,7 @@ join-one-requires-send-F g c κs within =
     let Ts = ShrRef _ _ (param 1 g.row.R) ∷ Heap.the_row ∷ ShrRef _ _ (Loader.the_row L n l) ∷ Pass.the_row L n l ∷ ShrRef _ _ FetchKey.the_row ∷ [] in
     param_send 1 _ (arg_send _ yes (TupleAt _ Ts) (captures_send _ Ts (shr_send _ _ _ c.type_bounds.sync-R, (send, (shr_send _ _ _ (Loader-sync L n l), (pass.the_send L n l, (shr_send _ _ _ key.the_sync, tt)))))))
 
--- src/using.rt:39:24
+-- and so may what it gives back
 pub join-one-requires-send-A : goal.join-one-requires-send-A
 join-one-requires-send-A g c κs within =
     let L = param 0 g.row.L in
