@@ -86,14 +86,6 @@ impl Jobs {
         Ok(Jobs { jobs: copies })
     }
 
-    /// The jobs, to move them on.
-    pub fn into_vec(self) -> Vec<Job>
-        ensures { result.items ≡ self }
-    {
-        let Jobs { jobs } = self;
-        jobs
-    }
-
     /// The jobs, in order.
     pub fn as_slice(&self) -> &[Job]
         ensures { result.now ≡ self.now }

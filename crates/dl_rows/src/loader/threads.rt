@@ -6,6 +6,7 @@ ghost use Rattle.dl_loader.specs.Pass.{Gave};
 
 use super::steps::{ADA, assert_ends, assert_entries, assert_shows, only_job, settle_job, user};
 use dl_desk::{FetchKey, LoadReply};
+use dl_loader::laws::looks_agree;
 use dl_loader::{CallFault, EntryKind, History, Loader, LoaderName, Opening, Pass, Reply, Ticket};
 use dl_source::Source;
 use std::alloc::Global;
@@ -62,6 +63,8 @@ fn read_by_two<L: LoaderName + Send + Sync, S: Source, R: Abort + Threads + Wait
     settle_job(rt, alloc, source, loader, &mut one, job)?;
     read(rt, alloc, loader, &mut one, &mut first)?;
     read(rt, alloc, loader, &mut other, &mut second)?;
+    assert_eq!(rt; first.cell(), second.cell());
+    looks_agree(&first, &second);
     Ok((one, other))
 }
 
