@@ -1,5 +1,1 @@
-pub mod StepLists
-pub mod Making
-pub mod Parts
-pub mod Texts
-pub mod Sharing
+mod Tickets

@@ -1,36 +1,19 @@
 //! A source that answers every key alike.
 
-ghost use Rattle.std.specs.Prelude.{◌≡◌, IfOk};
-ghost use Rattle.serde_json.specs.Data.{null};
-
 use dl_desk::{FetchKey, Json, Outcome, Outcomes};
 use dl_source::{BatchAnswer, Source};
 use serde_json::Value;
 use std::alloc::{AllocError, Global};
-use std::marker::Model;
 
-/// A source whose outcome for each key is one and the same value. Contracts see the value.
+/// A source whose outcome for each key is one and the same value.
 #[derive(Drop)]
 pub struct Alike {
     value: Json,
 }
 
-impl Model for Alike {
-    ghost use Rattle.serde_json.specs.Data.{Data};
-    ghost use Rattle.dl_desk.specs.Json.{data_code};
-
-    ghost Value = { Data };
-
-    ghost coded = { data_code };
-
-    ghost view = { λ a. a.value };
-}
-
 impl Alike {
     /// The source that answers `null`. The error is want of memory.
-    pub fn null(alloc: Global) -> Result<Alike, AllocError>
-        ensures { IfOk result (λ a. a ≡ null) }
-    {
+    pub fn null(alloc: Global) -> Result<Alike, AllocError> {
         let value = Json::new(alloc, Value::Null)?;
         Ok(Alike { value })
     }

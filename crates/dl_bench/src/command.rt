@@ -1,10 +1,5 @@
 //! What the words of the command line ask for.
 
-ghost use Rattle.std.specs.Prelude.{◌≡◌, Some, map, slice_get, IfOk};
-ghost use Rattle.std.specs.Str.Parse.{digits_value, without_leading_plus};
-ghost use Rattle.dl_desk.specs.Limits.{IsLimit};
-ghost use Rattle.dl_bench.specs.Asked.{IsSized, workload};
-
 use dl_desk::LARGEST_LIMIT;
 use thiserror::Error;
 
@@ -44,10 +39,7 @@ pub enum CommandFault {
 
 impl Command {
     /// The command of these words, of which the first is the program's name.
-    pub fn from_words(words: &[&str]) -> Result<Command, CommandFault>
-        ensures workload { IfOk result (λ command. slice_get (map (λ word. word.now) words.now) 1 ≡ Some (workload command)) }
-        ensures sizes { IfOk result IsSized }
-    {
+    pub fn from_words(words: &[&str]) -> Result<Command, CommandFault> {
         match words {
             [_, "loads", keys, batch] => Ok(Command::Loads {
                 keys: size(keys)?,
@@ -82,10 +74,7 @@ impl Command {
 }
 
 /// The number that a word spells in decimal.
-fn size(word: &str) -> Result<u32, CommandFault>
-    ensures value { IfOk result (λ n. n ≡ digits_value 10 (without_leading_plus word.now)) }
-    ensures limit { IfOk result IsLimit }
-{
+fn size(word: &str) -> Result<u32, CommandFault> {
     match word.parse::<u32>() {
         Ok(number) if (1..=LARGEST_LIMIT).contains(&number) => Ok(number),
         _ => Err(CommandFault::Size),

@@ -1,16 +1,11 @@
 //! Counts of what a workload did.
 
-ghost use Rattle.std.specs.Prelude.{◌≡◌};
-ghost use Rattle.dl_bench.specs.Answers.{answered};
-ghost use Rattle.dl_bench.specs.Counted.{count, counted};
-ghost use Rattle.dl_bench.specs.Shared.{event_counted, kind_counted};
-
 use dl_desk::LoadReply;
-use dl_loader::{Call, EntryKind, Event, Reply};
+use dl_loader::{Call, EntryKind, Event, History, LoaderName, Reply};
 use dl_source::BatchAnswer;
 
 /// Loads that began a cell and loads that were hits, batches begun, jobs sent, batches settled, lines
-/// printed, outcomes fetched, and the batch of the newest cell.
+/// printed, outcomes fetched or read, and the batch of the newest cell.
 #[derive(Clone, Copy, Debug, Default, PartialEq, Eq)]
 pub struct Counts {
     pub cells: u64,
@@ -24,10 +19,20 @@ pub struct Counts {
 }
 
 impl Counts {
+    /// What the events of a history add to counts.
+    pub fn of_history<L: LoaderName>(history: &History<L>) -> Counts {
+        let mut counts = Counts::default();
+        let events = history.events();
+        for at in 0..events.len() {
+            if let Some(event) = events.get(at) {
+                counts.event(event);
+            }
+        }
+        counts
+    }
+
     /// Counts a load, and a batch where it isn't that of the newest cell.
-    pub fn load(&mut self, reply: LoadReply)
-        ensures { self.new ≡ count reply self.old }
-    {
+    pub fn load(&mut self, reply: LoadReply) {
         match reply {
             LoadReply::Hit(_) => self.hits = self.hits.saturating_add(1),
             LoadReply::Fresh { batch, .. } => {
@@ -41,18 +46,14 @@ impl Counts {
     }
 
     /// Counts loads.
-    pub fn loads(&mut self, replies: &[LoadReply])
-        ensures { self.new ≡ counted replies.now self.old }
-    {
+    pub fn loads(&mut self, replies: &[LoadReply]) {
         for reply in replies {
             self.load(*reply);
         }
     }
 
     /// Counts the outcomes of an answer.
-    pub fn answer(&mut self, answer: &BatchAnswer)
-        ensures { self.new ≡ answered answer.now self.old }
-    {
+    pub fn answer(&mut self, answer: &BatchAnswer) {
         if let BatchAnswer::Each(outcomes) = answer {
             self.outcomes = self
                 .outcomes
@@ -60,10 +61,15 @@ impl Counts {
         }
     }
 
+    /// Counts the outcome of an entry that is one.
+    pub fn entry(&mut self, kind: EntryKind) {
+        if let EntryKind::Saw { .. } = kind {
+            self.outcomes = self.outcomes.saturating_add(1);
+        }
+    }
+
     /// Counts the loads or the jobs of an event's reply, and the batch that its call settles.
-    pub fn event(&mut self, event: &Event)
-        ensures { self.new ≡ event_counted event.now self.old }
-    {
+    fn event(&mut self, event: &Event) {
         if let Call::Settle { .. } = &event.call {
             self.settled = self.settled.saturating_add(1);
         }
@@ -74,15 +80,6 @@ impl Counts {
                 self.jobs = self.jobs.saturating_add(jobs.as_slice().len() as u64);
             }
             Reply::Primed(_) | Reply::Kept | Reply::Done => {}
-        }
-    }
-
-    /// Counts the outcome of an entry that is one.
-    pub fn entry(&mut self, kind: EntryKind)
-        ensures { self.new ≡ kind_counted kind self.old }
-    {
-        if let EntryKind::Saw { .. } = kind {
-            self.outcomes = self.outcomes.saturating_add(1);
         }
     }
 }

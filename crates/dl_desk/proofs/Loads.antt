@@ -19,16 +19,6 @@ pub record Loading (book : Book) (desk : Desk) (done : List Key) (replies : List
   pub answers : (history : List Atom) → StandsFor book history → replies ≡ load_replies book.rules history done
   pub within : desk.prepared.cells ≤ desk.prepared.rules.limits.max_cells
 
--- at the start nothing is prepared
-pub loading_none : (book : Book) (desk : Desk) → desk.book ≡ book → desk.prepared ≡ book → desk.prepared.cells ≤ desk.prepared.rules.limits.max_cells → Loading book desk [] []
-loading_none book desk shown same within = record {
-  shown = shown;
-  rules = ap (λ (b : Book). b.rules) same;
-  stands = λ history stands. let P : Book → Type 0 = λ b. StandsFor b history in subst P (sym same) stands;
-  answers = λ history stands. refl;
-  within = within;
-}
-
 -- What a step says of a load that was accepted.
 pub record Loaded (old new : Desk) (k : Key) (reply : LoadReply) : Type 0 where
   pub shown : new.book ≡ old.book

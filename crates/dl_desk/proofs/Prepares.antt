@@ -100,10 +100,6 @@ batches_shown begun sent cells most n m xs ys is added =
     let inside : begun ≤ length xs = rw length-map at is.all_stored in
     rw (added.is, map-set_unseen front added.grown n added.before added.then added.at added.shown) (take-grown front begun xs added.grown inside added.grows)
 
--- and when an empty batch is added
-pub grown_shown : (begun sent cells most : ℕ) (xs ys : List Stored) → IsStored begun sent cells most (map front xs) → Grows xs ys → take begun (map front ys) ≡ take begun (map front xs)
-grown_shown begun sent cells most xs ys is grows = take-grown front begun xs ys (rw length-map at is.all_stored) grows
-
 -- two books with the same parts
 pub same_book : (rules : Rules) (cells sent : ℕ) (memo memo' : List (Key × ℕ)) (batches batches' : List Batch) → memo' ≡ memo → batches' ≡ batches
     → ◌≡◌ {A = Book} (record { rules = rules; cells = cells; sent = sent; memo = memo'; batches = batches' }) (record { rules = rules; cells = cells; sent = sent; memo = memo; batches = batches })

@@ -1,16 +1,14 @@
 -- The jobs of a dispatch.
-use Rattle.std.proofs.Common.{◌≡◌, ◌∙◌, sym, subst, ℕ, zero, suc, ◌+◌, ◌-◌, ◌<◌, ◌≤◌, List, [], ◌∷◌, ◌++◌, length, map, take, Some, slice_get, refl, arith}
+use Rattle.std.proofs.Common.{◌≡◌, ℕ, zero, suc, ◌+◌, ◌-◌, ◌<◌, ◌≤◌, List, [], ◌∷◌, ◌++◌, length, map, take, Some, slice_get, refl, arith}
 use Rattle.std.proofs.lemmas.Option.{slice_get-map}
 use Rattle.dl_desk.specs.Key.{Key}
-use Rattle.dl_desk.specs.Limits.{Rules}
-use Rattle.dl_desk.specs.History.{Atom, Dispatch, begun, sent, members, jobs_from, jobs, IsLegal}
+use Rattle.dl_desk.specs.History.{Atom, begun, sent, members, jobs_from, jobs}
 use Rattle.dl_desk.specs.Stored.{Stored}
 use Rattle.dl_desk.specs.Book.{Batch, Book, StandsFor}
 use Rattle.dl_desk.specs.Prepared.{members_at, book_jobs}
 use Rattle.dl_desk.specs.declared.reply.Job.{Job}
 use Rattle.dl_desk.proofs.Facts.{sent-le}
 use Rattle.dl_desk.proofs.Rooms.{members_at-are}
-use Rattle.dl_desk.proofs.HeldLemmas.{held-same}
 
 jobs_of : ℕ → List (Key × ℕ) → Job
 jobs_of b ms = record { batch = b; keys = map (λ m. m.0) ms }
@@ -27,24 +25,6 @@ book_jobs-from book history stands b (suc n) fits =
 pub book_jobs-are : (book : Book) (history : List Atom) → StandsFor book history → book_jobs book book.sent (length book.batches - book.sent) ≡ jobs history
 book_jobs-are book history stands =
     rw (stands.sent, stands.count) (book_jobs-from book history stands (sent history) (begun history - sent history) (let s = sent-le history in omega arith))
-
--- the book after a dispatch: all batches are sent
-pub record IsSent (old new : Book) : Type 0 where
-  pub rules : new.rules ≡ old.rules
-  pub cells : new.cells ≡ old.cells
-  pub sent : new.sent ≡ length old.batches
-  pub memo : new.memo ≡ old.memo
-  pub batches : new.batches ≡ old.batches
-
-pub stands_sent : (old new : Book) (history : List Atom) → StandsFor old history → IsSent old new → StandsFor new (Dispatch (jobs history) ∷ history)
-stands_sent old new history stands is = record {
-  legal = let P : Rules → Type 0 = λ r. IsLegal r (Dispatch (jobs history) ∷ history) in subst P (sym is.rules) (refl, stands.legal);
-  memo = λ k. rw is.memo (stands.memo k ∙ sym (held-same (Dispatch (jobs history)) history k refl (λ batch. refl)));
-  cells = is.cells ∙ stands.cells;
-  sent = is.sent ∙ stands.count;
-  count = rw is.batches stands.count;
-  batches = λ b low. rw is.batches (stands.batches b low);
-}
 
 -- one more job
 pub book_jobs-more : (book : Book) (from n : ℕ) (done : List Job) (keys : List Key) → from ≤ n → done ≡ book_jobs book from (n - from) → keys ≡ map (λ m. m.0) (members_at book n)

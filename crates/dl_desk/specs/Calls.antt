@@ -5,6 +5,8 @@ use Rattle.dl_desk.specs.Key.{Key, key_eq}
 use Rattle.dl_desk.specs.Limits.{Rules}
 use Rattle.dl_desk.specs.History.{Atom, Prime, Clear, ClearAll, Dispatch, Settle, Fail, begun, sent, cells, held, end_of, loaded, prime_reply, jobs}
 use Rattle.dl_desk.specs.declared.fault.DeskFault.{DeskFault}
+use Rattle.dl_desk.specs.declared.reply.End.{End}
+use Rattle.dl_desk.specs.declared.reply.End.TheVariants.{Settled, Failed}
 use Rattle.dl_desk.specs.declared.fault.DeskFault.TheVariants.{NoBatch, NotSent, SettledBefore, CellsFull, OutOfMemory}
 
 -- a call of a desk; a load is a loadMany of its one key
@@ -53,3 +55,8 @@ after rules history ClearsAll = ClearAll ∷ history
 after rules history Sends = Dispatch (jobs history) ∷ history
 after rules history (Settles b) = Settle b ∷ history
 after rules history (Fails b) = Fail b ∷ history
+
+-- the atom of a batch's end
+abbrev pub ended_so : End → ℕ → Atom
+ended_so Settled b = Settle b
+ended_so Failed b = Fail b

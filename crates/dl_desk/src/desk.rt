@@ -107,8 +107,8 @@ impl Desk {
         self.touched = self.prepared.begun;
     }
 
-    /// Shows what is prepared.
-    fn show(&mut self)
+    /// Makes the call that was prepared last, if one was: shows what is prepared. It takes no memory.
+    pub fn make_prepared(&mut self)
         ensures rules { self.new.book.rules ≡ self.old.book.rules }
         ensures book { self.new.book ≡ self.old.prepared }
         ensures prepared { self.new.prepared ≡ self.old.prepared }

@@ -24,7 +24,7 @@ pub use json::{Json, has_float};
 pub use key::{FetchKey, ID_BYTES, Keys, TABLE_BYTES};
 pub use limits::{LARGEST_LIMIT, Limits};
 pub use message::Message;
-pub use outcome::{BatchFault, Outcome, Outcomes};
+pub use outcome::{BatchAnswer, BatchFault, Outcome, Outcomes};
 pub use ready::Ready;
 pub use reply::{BatchState, DeskPrime, DeskReply, End, Job, LoadReply};
 pub use text::Text;

@@ -1,4 +1,4 @@
-//! What a key's load ends with.
+//! What a key's load ends with, and what a source answers.
 
 ghost use Rattle.std.specs.Prelude.{◌≡◌, IfOk};
 
@@ -96,4 +96,13 @@ impl Outcomes {
         let Outcomes { outcomes } = self;
         outcomes
     }
+}
+
+/// What a source answers to a list of keys.
+#[derive(Debug, Drop)]
+pub enum BatchAnswer {
+    /// An outcome for each key, in the order of the keys.
+    Each(Outcomes),
+    /// Why the whole list has no answer.
+    Break(Message),
 }

@@ -2,12 +2,12 @@
 use Rattle.std.proofs.Common.{◌≡◌, sym, subst, ℕ, ◌<◌, ◌≤◌, Bool, true, false, cond, List, length, Option, Some, None, nat_lt, nat_le, refl}
 use Rattle.std.proofs.lemmas.Bool.{ltb-false, leb-false}
 use Rattle.dl_desk.specs.Book.{Book}
-use Rattle.dl_loader.specs.declared.event.Event.{Event}
+use Rattle.dl_history.specs.declared.event.Event.{Event}
 use Rattle.dl_loader.specs.declared.fault.CallFault.{CallFault}
 use Rattle.dl_loader.specs.declared.fault.CallFault.TheVariants.{Stopped, Behind, LogFull}
-use Rattle.dl_loader.specs.Service.{Service}
-use Rattle.dl_loader.specs.Entries.{front_of}
-use Rattle.dl_loader.specs.Journal.{Cell}
+use Rattle.dl_history.specs.Service.{Service}
+use Rattle.dl_history.specs.Entries.{front_of}
+use Rattle.dl_history.specs.Journal.{Cell}
 use Rattle.dl_loader.specs.Book.{Locked, locked}
 use Rattle.dl_loader.specs.Pass.{Part}
 use Rattle.dl_loader.specs.Refusals.{unready}

@@ -1,67 +1,55 @@
 -- The end of a batch: when it is refused, and what it leaves.
-use Rattle.std.proofs.Common.{◌≡◌, ◌∙◌, sym, ap, subst, ℕ, zero, suc, ◌+◌, ◌<◌, ◌≤◌, ◌⊎◌, inl, inr, Bool, true, false, cond, List, [], ◌∷◌, ◌++◌, length, map, Option, Some, None, IsSome, IfSome, Result, Ok, Err, slice_get, option_map, is_some, nat_lt, nat_le, Decides, refl, arith}
+use Rattle.std.proofs.Common.{◌≡◌, ◌∙◌, sym, ap, subst, ℕ, zero, suc, ◌+◌, ◌<◌, ◌≤◌, ◌⊎◌, inl, inr, Bool, true, false, cond, List, [], ◌∷◌, ◌++◌, length, map, Option, Some, None, IsSome, slice_get, option_map, is_some, nat_le, Decides, refl, arith}
 use Rattle.std.specs.Option.{option_or}
-use Rattle.std.proofs.lemmas.Bool.{ltb-false, leb-true, leb-false, le-leb, lt-leb, ltb-true}
+use Rattle.std.proofs.lemmas.Bool.{leb-false}
 use Rattle.std.proofs.lemmas.Option.{slice_get_within}
 use Rattle.std.proofs.lemmas.List.{length-map, length_push}
 use Rattle.std.proofs.lemmas.Slice.Eq.{slice_eq-Decides}
 use Rattle.dl_desk.specs.Key.{Key, key_eq}
-use Rattle.dl_desk.specs.Limits.{Rules}
 use Rattle.dl_desk.specs.Events.{atoms}
-use Rattle.std.specs.Result.{IsOk, IfErr, OnOk}
 use Rattle.dl_desk.specs.History.{Atom, Begun, begins, cells, count_cell, is_number, add_member, begun, sent, end_of, members, MayEnd}
 use Rattle.dl_desk.specs.History as atom
-use Rattle.dl_desk.specs.Book.{Book, StandsFor, Seen, state_by, batch_seen}
+use Rattle.dl_desk.specs.Book.{Book, StandsFor, state_by}
 use Rattle.dl_desk.specs.Calls.{unfit}
+use Rattle.dl_desk.specs.Prepared.{MayEndIn}
 use Rattle.dl_desk.specs.declared.fault.DeskFault.{DeskFault}
 use Rattle.dl_desk.specs.declared.fault.DeskFault.TheVariants as desk_fault
 use Rattle.dl_desk.specs.declared.outcome.Outcome.{Outcome}
 use Rattle.dl_desk.specs.declared.outcome.Outcome.TheVariants.{BatchFailed}
 use Rattle.dl_desk.specs.declared.outcome.BatchFault.{BatchFault}
 use Rattle.dl_desk.specs.declared.reply.End.{End}
-use Rattle.dl_desk.specs.declared.reply.End.TheVariants as end
-use Rattle.dl_desk.specs.declared.reply.Job.{Job}
 use Rattle.dl_desk.specs.declared.reply.BatchState.{BatchState}
 use Rattle.dl_desk.specs.declared.reply.BatchState.TheVariants.{Collecting, Sent, Settled, Failed}
-use Rattle.dl_desk.proofs.Facts.{sent-le, end_of-unsent}
+use Rattle.dl_desk.proofs.Facts.{sent-le}
 use Rattle.dl_desk.proofs.KeyLemmas.{key_eq-same, key_eq-refl}
-use Rattle.dl_source.specs.declared.source.BatchAnswer.{BatchAnswer}
-use Rattle.dl_source.specs.declared.source.BatchAnswer.TheVariants.{Each, Break}
+use Rattle.dl_desk.specs.declared.outcome.BatchAnswer.{BatchAnswer}
+use Rattle.dl_desk.specs.declared.outcome.BatchAnswer.TheVariants.{Each}
 use Rattle.dl_loader.specs.declared.dues.Due.{Due}
-use Rattle.dl_loader.specs.declared.event.Call.{Call}
-use Rattle.dl_loader.specs.declared.event.Call.TheVariants.{Settle, Fail}
-use Rattle.dl_loader.specs.declared.event.Event.{Event}
-use Rattle.dl_loader.specs.declared.event.Reply.TheVariants.{Done}
-use Rattle.dl_loader.specs.declared.event.Ending.{Ending}
+use Rattle.dl_history.specs.declared.event.Call.{Call}
+use Rattle.dl_history.specs.declared.event.Call.TheVariants.{Settle, Fail}
+use Rattle.dl_history.specs.declared.event.Event.{Event}
+use Rattle.dl_history.specs.declared.event.Reply.TheVariants.{Done}
+use Rattle.dl_history.specs.declared.event.Ending.{Ending}
 use Rattle.dl_loader.specs.declared.fault.CallFault.{CallFault}
-use Rattle.dl_loader.specs.declared.fault.CallFault.TheVariants.{NoBatch, NotSent, SettledBefore, WrongKeys}
-use Rattle.dl_loader.specs.Asks.{end_by}
+use Rattle.dl_loader.specs.declared.fault.CallFault.TheVariants.{SettledBefore, WrongKeys}
 use Rattle.dl_loader.specs.Book.{Locked, locked, Keeps}
 use Rattle.dl_loader.specs.Dues.{end_refusal, outcome_by, AreDue, CanEnd, AreGiven}
 use Rattle.dl_loader.specs.EndedUpTo.{EndedUpTo}
-use Rattle.dl_loader.specs.History.{log, keys_of, MayBeMade, reply_to, IsLegal, IsNext, ending_of}
-use Rattle.dl_loader.specs.Journal.{Cell, waiting}
+use Rattle.dl_history.specs.History.{log, keys_of, MayBeMade, reply_to, IsLegal, IsNext, ending_of}
+use Rattle.dl_history.specs.Journal.{Cell, waiting}
 use Rattle.dl_loader.specs.Made.{event_of}
 use Rattle.dl_loader.specs.Pass.{Part}
-use Rattle.dl_loader.specs.Refusals.{call_fault, same_keys, unready, refusal}
-use Rattle.dl_loader.specs.Service.{Service}
+use Rattle.dl_loader.specs.Refusals.{call_fault, same_keys, unready}
+use Rattle.dl_history.specs.Service.{Service}
 use Rattle.dl_loader.proofs.Admitted.{ready_facts}
-use Rattle.dl_loader.proofs.BatchEndings.{settled_end, failed_end}
-use Rattle.dl_loader.proofs.CellLists.{shows_same}
-use Rattle.dl_loader.proofs.Endings.{member_open, member_begun, members_distinct}
+use Rattle.dl_history.proofs.BatchEndings.{settled_end, failed_end}
+use Rattle.dl_history.proofs.CellLists.{shows_same}
+use Rattle.dl_history.proofs.Endings.{member_open, member_begun, members_distinct}
 use Rattle.dl_loader.proofs.GivenDues.{get_mapped, unmapped}
 use Rattle.dl_loader.proofs.Kept.{begun_cells}
 use Rattle.dl_loader.proofs.KeptEnds.{cell_waits, keeps_settled, keeps_failed}
 
 -- ---- when an end is refused
-
--- where the pass may make an event, an end is refused for its batch or its keys alone
-pub refusal_fail : (s : Service) (b : Locked) (p : Part) (job : Job) (fault : BatchFault) → unready s b p ≡ None → refusal s b p (Fail job.batch fault) (Some job) ≡ end_refusal (atoms (log b.history)) job.batch job.keys
-refusal_fail s b p job fault ready = rw ready refl
-
-pub refusal_end : (s : Service) (b : Locked) (p : Part) (job : Job) (answer : BatchAnswer) → unready s b p ≡ None → refusal s b p (end_by job.batch answer) (Some job) ≡ end_refusal (atoms (log b.history)) job.batch job.keys
-refusal_end s b p job (Each os) ready = rw ready refl
-refusal_end s b p job (Break text) ready = rw ready refl
 
 none_both : (x : Option DeskFault) (y : Option CallFault) → option_or (option_map call_fault x) y ≡ None → (x ≡ None) × (y ≡ None)
 none_both None y none = (refl, none)
@@ -97,27 +85,7 @@ own_keys history b ks none =
     let both = none_both (unfit history b) (cond (same_keys ks (keys_of history b)) None (Some WrongKeys)) none in
     keys_same ks (keys_of history b) (same_at (same_keys ks (keys_of history b)) both.1)
 
--- the desk does not refuse the end of a batch that may end
-pub unfit_may : (history : List Atom) (b : ℕ) → MayEnd history b → unfit history b ≡ None
-unfit_may history b may =
-    let low = sent-le history in
-    let is_sent = may.is_sent in
-    let l : b < begun history = omega arith in
-    rw (lt-leb (begun history) b l, lt-leb (sent history) b is_sent, may.no_end) refl
-
 -- ---- the refusal by what a batch shows
-
-pub unbegun_refusal : (history : List Atom) (b : ℕ) (ks : List Key) → begun history ≤ b → end_refusal history b ks ≡ Some NoBatch
-unbegun_refusal history b ks past = rw (le-leb (begun history) b past) refl
-
-collecting_at : (history : List Atom) (b : ℕ) (ks : List Key) (t : Bool) (o : Option End) → b < begun history → nat_lt b (sent history) ≡ t → state_by t o ≡ Collecting → end_refusal history b ks ≡ Some NotSent
-collecting_at history b ks t (Some end.Settled) l low is = absurd (let bad : Settled ≡ Collecting = is in cc)
-collecting_at history b ks t (Some end.Failed) l low is = absurd (let bad : Failed ≡ Collecting = is in cc)
-collecting_at history b ks true None l low is = absurd (let bad : Sent ≡ Collecting = is in cc)
-collecting_at history b ks false None l low is = rw (lt-leb (begun history) b l, le-leb (sent history) b (ltb-false b (sent history) low)) refl
-
-pub collecting_refusal : (history : List Atom) (b : ℕ) (ks : List Key) → b < begun history → state_by (nat_lt b (sent history)) (end_of history b) ≡ Collecting → end_refusal history b ks ≡ Some NotSent
-collecting_refusal history b ks l is = collecting_at history b ks (nat_lt b (sent history)) (end_of history b) l refl is
 
 -- the state of a batch that has ended
 abbrev pub HasEndedIn : BatchState → Type 0
@@ -129,38 +97,6 @@ ended_at true None (inl is) = absurd (let bad : Sent ≡ Settled = is in cc)
 ended_at true None (inr is) = absurd (let bad : Sent ≡ Failed = is in cc)
 ended_at false None (inl is) = absurd (let bad : Collecting ≡ Settled = is in cc)
 ended_at false None (inr is) = absurd (let bad : Collecting ≡ Failed = is in cc)
-
-ended_is_sent : (rules : Rules) (history : List Atom) (b : ℕ) (t : Bool) → atom.IsLegal rules history → nat_le (sent history) b ≡ t → is_some (end_of history b) ≡ true → t ≡ false
-ended_is_sent rules history b false legal low some = refl
-ended_is_sent rules history b true legal low some =
-    let none : end_of history b ≡ None = end_of-unsent rules history legal b (leb-true (sent history) b low) in
-    let gone : is_some (end_of history b) ≡ false = rw none refl in
-    absurd (let bad : false ≡ true = sym gone ∙ some in cc)
-
-pub ended_refusal : (rules : Rules) (history : List Atom) (b : ℕ) (ks : List Key) → atom.IsLegal rules history → b < begun history → HasEndedIn (state_by (nat_lt b (sent history)) (end_of history b)) → end_refusal history b ks ≡ Some SettledBefore
-ended_refusal rules history b ks legal l is =
-    let some = ended_at (nat_lt b (sent history)) (end_of history b) is in
-    let past : nat_le (sent history) b ≡ false = ended_is_sent rules history b (nat_le (sent history) b) legal refl some in
-    rw (lt-leb (begun history) b l, past, some) refl
-
-sent_at : (history : List Atom) (b : ℕ) (t : Bool) (o : Option End) → nat_lt b (sent history) ≡ t → end_of history b ≡ o → state_by t o ≡ Sent → MayEnd history b
-sent_at history b t (Some end.Settled) low end_is is = absurd (let bad : Settled ≡ Sent = is in cc)
-sent_at history b t (Some end.Failed) low end_is is = absurd (let bad : Failed ≡ Sent = is in cc)
-sent_at history b false None low end_is is = absurd (let bad : Collecting ≡ Sent = is in cc)
-sent_at history b true None low end_is is = record { is_sent = ltb-true b (sent history) low; no_end = end_is }
-
-pub sent_may : (history : List Atom) (b : ℕ) → state_by (nat_lt b (sent history)) (end_of history b) ≡ Sent → MayEnd history b
-sent_may history b is = sent_at history b (nat_lt b (sent history)) (end_of history b) refl refl is
-
-pub wrong_refusal : (history : List Atom) (b : ℕ) (ks : List Key) → MayEnd history b → same_keys ks (keys_of history b) ≡ false → end_refusal history b ks ≡ Some WrongKeys
-wrong_refusal history b ks may other = rw (unfit_may history b may, other) refl
-
-pub no_refusal : (history : List Atom) (b : ℕ) (ks : List Key) → MayEnd history b → same_keys ks (keys_of history b) ≡ true → end_refusal history b ks ≡ None
-no_refusal history b ks may same = rw (unfit_may history b may, same) refl
-
--- as many cells as keys
-pub cells_count : (history : List Atom) (b : ℕ) (ks : List Key) → ks ≡ keys_of history b → length (map (λ m. m.1) (members history b)) ≡ length ks
-cells_count history b ks own = rw own (length-map (members history b) (λ m. m.1) ∙ sym (length-map (members history b) (λ m. m.0)))
 
 -- ---- what an end leaves
 
@@ -288,53 +224,44 @@ few_end_view s view b n cs is kept own =
     let fit : view.desk.cells ≤ s.rules.limits.max_cells = kept.cells_fit in
     omega arith
 
--- the refusal of an end of a batch that shows an end
-pub ended_seen : (s : Service) (view b : Locked) (n : ℕ) (ks : List Key) (seen : Seen) (shown : Option Seen) (state : BatchState) → view ≡ b → Keeps s view → shown ≡ Some seen
-    → IfSome shown (λ v. (h : List Atom) → StandsFor view.desk h → (n < begun h) × (v ≡ batch_seen h n)) → state ≡ seen.state → HasEndedIn state → end_refusal (atoms (log b.history)) n ks ≡ Some SettledBefore
-ended_seen s view b n ks seen shown state is kept got tells own ended =
-    let P : Option Seen → Type 0 = λ o. IfSome o (λ v. (h : List Atom) → StandsFor view.desk h → (n < begun h) × (v ≡ batch_seen h n)) in
+-- a batch that may end may end in the book of a desk that stands for the history
+pub may_end_in : (s : Service) (view b : Locked) (n : ℕ) → view ≡ b → Keeps s view → MayEnd (atoms (log b.history)) n → MayEndIn view.desk n
+may_end_in s view b n is kept may =
     let H = atoms (log view.history) in
-    let here : (h : List Atom) → StandsFor view.desk h → (n < begun h) × (seen ≡ batch_seen h n) = subst P got tells in
-    let told = here H kept.desk in
-    let now : state ≡ state_by (nat_lt n (sent H)) (end_of H n) = own ∙ ap (λ (v : Seen). v.state) told.1 in
-    let refusal : end_refusal H n ks ≡ Some SettledBefore = ended_refusal view.desk.rules H n ks kept.desk.legal told.0 (subst HasEndedIn now ended) in
-    subst (λ (v : Locked). end_refusal (atoms (log v.history)) n ks ≡ Some SettledBefore) is refusal
-
--- the desk can't refuse the end of a batch that may end
-pub ok_end : {T : Type 0} (view b : Locked) (s : Service) (n : ℕ) (r : Result T DeskFault) → view ≡ b → Keeps s view → MayEnd (atoms (log b.history)) n
-    → IfErr r (λ fault. (h : List Atom) → StandsFor view.desk h → unfit h n ≡ Some fault) → IsOk r
-ok_end view b s n (Ok x) is kept may fault = refl
-ok_end view b s n (Err e) is kept may fault =
-    let here : MayEnd (atoms (log view.history)) n = subst (λ (v : Locked). MayEnd (atoms (log v.history)) n) (sym is) may in
-    let none = unfit_may (atoms (log view.history)) n here in
-    absurd (let bad : ◌≡◌ {A = Option DeskFault} None (Some e) = sym none ∙ fault (atoms (log view.history)) kept.desk in cc)
-
-on_ok : {T E : Type 0} {P : Type 0} (r : Result T E) → IsOk r → OnOk r P → P
-on_ok (Ok x) ok holds = holds
-on_ok (Err e) ok holds = absurd (let bad : false ≡ true = ok in cc)
+    let here : MayEnd H n = subst (λ (v : Locked). MayEnd (atoms (log v.history)) n) (sym is) may in
+    let low = sent-le H in
+    let sent_is = here.is_sent in
+    let count = kept.desk.count in
+    let sent_are = kept.desk.sent in
+    let begun_is : n < begun H = omega arith in
+    record {
+      is_begun = omega arith;
+      is_sent = omega arith;
+      no_end = rw (kept.desk.batches n begun_is) here.no_end;
+    }
 
 -- what the book keeps after its settle
-pub settle_kept : {T : Type 0} (s : Service) (view b : Locked) (later : List Event) (p : Part) (n : ℕ) (os : List Outcome) (new : Book) (cs : List ℕ) (ys : List Cell) (r : Result T DeskFault) → view ≡ b → Keeps s view → p.caller < s.callers → unready s b p ≡ None
+pub settle_kept : (s : Service) (view b : Locked) (later : List Event) (p : Part) (n : ℕ) (os : List Outcome) (new : Book) (cs : List ℕ) (ys : List Cell) → view ≡ b → Keeps s view → p.caller < s.callers → unready s b p ≡ None
     → MayBeMade s.answer (atoms (log b.history)) (Settle n os) → cs ≡ map (λ m. m.1) (members (atoms (log b.history)) n) → later ≡ view.history ++ event_of p (Settle n os) Done ∷ [] → new.rules ≡ view.desk.rules
-    → IfErr r (λ fault. (h : List Atom) → StandsFor view.desk h → unfit h n ≡ Some fault) → OnOk r ((h : List Atom) → StandsFor view.desk h → StandsFor new (atom.Settle n ∷ h))
+    → ((h : List Atom) → StandsFor view.desk h → StandsFor new (atom.Settle n ∷ h))
     → (dues : List Due) × AreDue (Settle n os) (length view.history) cs dues × AreGiven dues view.cells ys → Keeps s (locked later new ys view.stopped)
-settle_kept s view b later p n os new cs ys r is kept caller ready may cells grown rules fault stands given =
+settle_kept s view b later p n os new cs ys is kept caller ready may cells grown rules stands given =
     let same : (X : Locked → Type 0) → X b → X view = λ X x. subst X (sym is) x in
     let own = same (λ v. MayBeMade s.answer (atoms (log v.history)) (Settle n os)) may in
     let calls = (ready_facts s view p (same (λ v. unready s v p ≡ None) ready)).1 in
-    let now = on_ok r (ok_end view b s n r is kept may.0 fault) stands (atoms (log view.history)) kept.desk in
+    let now = stands (atoms (log view.history)) kept.desk in
     settle_keeps s view.history later p n os view.desk new cs view.cells ys view.stopped kept caller own calls grown rules now (same (λ v. cs ≡ map (λ m. m.1) (members (atoms (log v.history)) n)) cells) given
 
 -- and after its fail
-pub fail_kept : {T : Type 0} (s : Service) (view b : Locked) (later : List Event) (p : Part) (n : ℕ) (why : BatchFault) (new : Book) (cs : List ℕ) (ys : List Cell) (r : Result T DeskFault) → view ≡ b → Keeps s view → p.caller < s.callers → unready s b p ≡ None
+pub fail_kept : (s : Service) (view b : Locked) (later : List Event) (p : Part) (n : ℕ) (why : BatchFault) (new : Book) (cs : List ℕ) (ys : List Cell) → view ≡ b → Keeps s view → p.caller < s.callers → unready s b p ≡ None
     → MayBeMade s.answer (atoms (log b.history)) (Fail n why) → cs ≡ map (λ m. m.1) (members (atoms (log b.history)) n) → later ≡ view.history ++ event_of p (Fail n why) Done ∷ [] → new.rules ≡ view.desk.rules
-    → IfErr r (λ fault. (h : List Atom) → StandsFor view.desk h → unfit h n ≡ Some fault) → OnOk r ((h : List Atom) → StandsFor view.desk h → StandsFor new (atom.Fail n ∷ h))
+    → ((h : List Atom) → StandsFor view.desk h → StandsFor new (atom.Fail n ∷ h))
     → (dues : List Due) × AreDue (Fail n why) (length view.history) cs dues × AreGiven dues view.cells ys → Keeps s (locked later new ys view.stopped)
-fail_kept s view b later p n why new cs ys r is kept caller ready may cells grown rules fault stands given =
+fail_kept s view b later p n why new cs ys is kept caller ready may cells grown rules stands given =
     let same : (X : Locked → Type 0) → X b → X view = λ X x. subst X (sym is) x in
     let own = same (λ v. MayBeMade s.answer (atoms (log v.history)) (Fail n why)) may in
     let calls = (ready_facts s view p (same (λ v. unready s v p ≡ None) ready)).1 in
-    let now = on_ok r (ok_end view b s n r is kept may.0 fault) stands (atoms (log view.history)) kept.desk in
+    let now = stands (atoms (log view.history)) kept.desk in
     fail_keeps s view.history later p n why view.desk new cs view.cells ys view.stopped kept caller own calls grown rules now (same (λ v. cs ≡ map (λ m. m.1) (members (atoms (log v.history)) n)) cells) given
 
 -- what a source answered to the keys of a batch that may end is what the loader's source answers to them

@@ -16,12 +16,12 @@ use Rattle.dl_desk.specs.declared.reply.DeskPrime.{DeskPrime}
 use Rattle.dl_desk.specs.declared.reply.DeskPrime.TheVariants.{Primed, Kept}
 use Rattle.dl_desk.specs.declared.outcome.Outcome.{Outcome}
 use Rattle.dl_desk.proofs.Counts.{cells-loaded}
-use Rattle.dl_loader.specs.declared.event.Event.{Event}
-use Rattle.dl_loader.specs.declared.event.Call.TheVariants as call
-use Rattle.dl_loader.specs.declared.event.Reply.{Reply}
-use Rattle.dl_loader.specs.declared.event.Reply.TheVariants as reply
-use Rattle.dl_loader.specs.Service.{Service}
-use Rattle.dl_loader.specs.History.{log, primed, reply_to, IsNext}
+use Rattle.dl_history.specs.declared.event.Event.{Event}
+use Rattle.dl_history.specs.declared.event.Call.TheVariants as call
+use Rattle.dl_history.specs.declared.event.Reply.{Reply}
+use Rattle.dl_history.specs.declared.event.Reply.TheVariants as reply
+use Rattle.dl_history.specs.Service.{Service}
+use Rattle.dl_history.specs.History.{log, primed, reply_to, IsNext}
 use Rattle.dl_loader.specs.Begun.{begun_by, cells_begun}
 
 -- ---- an atom that begins no cell

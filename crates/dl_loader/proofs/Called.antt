@@ -1,19 +1,19 @@
 -- What is known outside the lock of a call that was made under it.
 use Rattle.std.proofs.Common.{◌≡◌, ◌∙◌, ap, subst, ◌≤◌, [], ◌∷◌, ◌++◌, length, List, refl}
 use Rattle.dl_desk.specs.Events.{atoms}
-use Rattle.dl_loader.specs.Service.{Service}
-use Rattle.dl_loader.specs.History.{log, reply_to, IsLegal}
-use Rattle.dl_loader.specs.Entries.{front_of}
+use Rattle.dl_history.specs.Service.{Service}
+use Rattle.dl_history.specs.History.{log, reply_to, IsLegal}
+use Rattle.dl_history.specs.Entries.{front_of}
 use Rattle.dl_loader.specs.Pass.{Part, with_call, with_tickets}
 use Rattle.dl_loader.specs.Book.{Locked, Keeps}
 use Rattle.dl_loader.specs.Made.{event_of, loads_of, Makes, WasMade}
-use Rattle.dl_loader.specs.declared.event.Event.{Event}
-use Rattle.dl_loader.specs.declared.event.Call.{Call}
-use Rattle.dl_loader.specs.declared.event.Reply.{Reply}
+use Rattle.dl_history.specs.declared.event.Event.{Event}
+use Rattle.dl_history.specs.declared.event.Call.{Call}
+use Rattle.dl_history.specs.declared.event.Reply.{Reply}
 use Rattle.dl_loader.specs.EventReplies.{told_by}
 use Rattle.dl_loader.specs.declared.reply.PrimeReply.{PrimeReply}
 use Rattle.dl_loader.specs.declared.reply.PrimeReply.TheVariants as prime
-use Rattle.dl_loader.proofs.Logs.{legal_at}
+use Rattle.dl_history.proofs.Logs.{legal_at}
 
 -- the reply is the one that the history gives
 pub replied : (s : Service) (b now : Locked) (p new : Part) (call : Call) (r : Reply) → Keeps s now → Makes b p call r now new → r ≡ reply_to s.rules (atoms (log b.history)) call

@@ -1,25 +1,23 @@
 -- The tests of a close, one pass, one entry or one batch after another.
-use Rattle.std.proofs.Common.{◌≡◌, ◌∙◌, sym, ap, subst, ℕ, zero, suc, ◌+◌, ◌<◌, ◌≤◌, min, ◌⊎◌, inl, inr, Bool, true, false, cond, ◌||◌, List, [], ◌∷◌, ◌++◌, length, take, filter, flat_map, Option, Some, None, MatchOption, slice_get, get_or, nat_eq, nat_le, nat_lt, refl, arith, append_assoc}
-use Rattle.std.proofs.lemmas.Bool.{cases_lt, cases_eq, eqb-true, leb-true, leb-false}
-use Rattle.std.proofs.lemmas.Bool.Decides.{nat_tests}
+use Rattle.std.proofs.Common.{◌≡◌, ◌∙◌, sym, ap, subst, ℕ, zero, suc, ◌+◌, ◌<◌, ◌≤◌, min, ◌⊎◌, inl, inr, Bool, true, false, cond, ◌||◌, List, [], ◌∷◌, ◌++◌, length, take, filter, flat_map, Option, Some, None, MatchOption, slice_get, get_or, nat_eq, nat_le, refl, arith, append_assoc}
+use Rattle.std.proofs.lemmas.Bool.{cases_lt, eqb-true, leb-true, leb-false}
 use Rattle.std.proofs.lemmas.List.{append-nil, map-append, take_more, take_all}
 use Rattle.std.proofs.lemmas.List.Elements.{filter-append}
 use Rattle.std.proofs.lemmas.List.Concat.{flat_map-append}
-use Rattle.std.proofs.lemmas.List.Sums.{sum_by-cons}
 use Rattle.dl_desk.specs.History.{Atom, Begun, begins, cells, count_cell, batch_of, is_named, count_batch, begun}
 use Rattle.dl_desk.specs.Events.{atoms}
 use Rattle.dl_loader.specs.Book.{Locked, Keeps}
-use Rattle.dl_loader.specs.History.{log, IsLegal}
-use Rattle.dl_loader.specs.declared.event.Event.{Event}
-use Rattle.dl_loader.specs.Service.{Service}
-use Rattle.dl_loader.specs.Agrees.{Account, account, account_of, accounts_of, accounts_by, HasEach}
-use Rattle.dl_loader.specs.Closing.{present, NoneBehind, IsBehind, earlier, cell_refused, refused_in, read_in, unshown, IsLeastOf, HasEnd, AllEnded}
-use Rattle.dl_loader.specs.Entries.{Line, front_of}
-use Rattle.dl_loader.specs.Journal.{Cell}
-use Rattle.dl_loader.specs.Lists.{Every, Among, one_if}
+use Rattle.dl_history.specs.History.{log, IsLegal, HasEnd, AllEnded}
+use Rattle.dl_history.specs.declared.event.Event.{Event}
+use Rattle.dl_history.specs.Service.{Service}
+use Rattle.dl_history.specs.Agrees.{Account, account, accounts_by, HasEach, NoneBehind, refused_in, read_in, unshown}
+use Rattle.dl_loader.specs.Closing.{account_of, accounts_of, present, IsBehind, earlier, IsLeastOf}
+use Rattle.dl_history.specs.Journal.{cell_refused, Cell}
+use Rattle.dl_history.specs.Entries.{Line, front_of}
+use Rattle.dl_history.specs.Lists.{Among, one_if}
 use Rattle.dl_loader.specs.Pass.{Pass}
-use Rattle.dl_loader.proofs.ListLemmas.{among_longer, every_append, every_weaker}
-use Rattle.dl_loader.proofs.Logs.{get-append_at, get-snoc}
+use Rattle.dl_history.proofs.ListLemmas.{among_longer, every_append, every_weaker}
+use Rattle.dl_history.proofs.Logs.{get-append_at, get-snoc}
 
 -- ---- how many callers have exactly one pass
 
@@ -153,10 +151,6 @@ found_next len passes i p found now caller front low at before caller_is front_i
 
 -- ---- the least of the cells that refused
 
--- the first number that was found
-pub least_first : (ns : List ℕ) (c : ℕ) → IsLeastOf None ns → IsLeastOf (Some c) (ns ++ c ∷ [])
-least_first ns c none = rw none ((0, refl), (omega arith, tt))
-
 -- the lesser of what was found and one more
 pub least_lesser : (ns : List ℕ) (n c : ℕ) → IsLeastOf (Some n) ns → IsLeastOf (Some (min n c)) (ns ++ c ∷ [])
 least_lesser ns n c found = (by (cases_lt c n), every_append (λ m. min n c ≤ m) ns (c ∷ []) (every_weaker (λ m. n ≤ m) (λ m. min n c ≤ m) ns (λ m low. omega arith) found.1) (omega arith, tt))
@@ -168,14 +162,6 @@ least_lesser ns n c found = (by (cases_lt c n), every_append (λ m. min n c ≤ 
 -- nothing more leaves what was found
 pub least_same : (ns : List ℕ) (found : Option ℕ) → IsLeastOf found ns → IsLeastOf found (ns ++ [])
 least_same ns found least = subst (λ (ms : List ℕ). IsLeastOf found ms) (sym (append-nil ns)) least
-
--- a cell that did not refuse leaves what was found
-pub least_shown : (ns : List ℕ) (states : List Cell) (c : ℕ) (found : Option ℕ) → cell_refused (slice_get states c) ≡ false → IsLeastOf found ns → IsLeastOf found (ns ++ refused_in states (c ∷ []))
-least_shown ns states c found shown least = rw shown (least_same ns found least)
-
--- one that refused is one more
-pub least_refused : (ns : List ℕ) (states : List Cell) (c n : ℕ) → cell_refused (slice_get states c) ≡ true → IsLeastOf (Some n) (ns ++ c ∷ []) → IsLeastOf (Some n) (ns ++ refused_in states (c ∷ []))
-least_refused ns states c n refused least = rw refused least
 
 -- what was found, with one element's cells more
 least_step : {X : Type 0} (f : X → List ℕ) (states : List Cell) (ns : List ℕ) (xs : List X) (x : X) (found now : Option ℕ) → IsLeastOf found (ns ++ refused_in states (flat_map f xs))
@@ -240,62 +226,3 @@ no_events s (e ∷ es) legal none = let next = legal.at 0 e refl in let low = ne
 pub none_counted : {X : Type 0} (P Q : X → Type 0) (all : Option X) (s : Service) (es : List Event) → all ≡ None → MatchOption all (s.callers ≡ 0) P → IsLegal s es → MatchOption all (length es ≡ 0) Q
 none_counted P Q None s es is parts legal = no_events s es legal parts
 none_counted {X} P Q (Some x) s es is parts legal = absurd (let bad : ◌≡◌ {A = Option X} (Some x) None = is in cc)
-
--- ---- as many accounts as callers
-
--- how many of the accounts are of callers below a number
-abbrev accounts_below : ℕ → List Account → ℕ
-accounts_below n [] = 0
-accounts_below n (a ∷ accounts) = one_if (nat_lt a.caller n) + accounts_below n accounts
-
-one_below : (c n : ℕ) → one_if (nat_lt c (suc n)) ≡ one_if (nat_lt c n) + one_if (nat_eq n c)
-one_below c n = by (cases_lt c n) (cases_eq n c)
-  where
-    by : (c < n) ⊎ (n ≤ c) → (n ≡ c) ⊎ (n ≡ c → ⊥) → one_if (nat_lt c (suc n)) ≡ one_if (nat_lt c n) + one_if (nat_eq n c)
-    by (inl less) same =
-        let now : nat_lt c (suc n) ≡ true = grind (arith, nat_tests) in
-        let before : nat_lt c n ≡ true = grind (arith, nat_tests) in
-        let other : nat_eq n c ≡ false = grind (arith, nat_tests) in
-        rw (now, before, other) (omega arith)
-    by (inr more) (inl same) =
-        let now : nat_lt c (suc n) ≡ true = grind (arith, nat_tests) in
-        let before : nat_lt c n ≡ false = grind (arith, nat_tests) in
-        let own : nat_eq n c ≡ true = grind (arith, nat_tests) in
-        rw (now, before, own) (omega arith)
-    by (inr more) (inr apart) =
-        let now : nat_lt c (suc n) ≡ false = grind (arith, nat_tests) in
-        let before : nat_lt c n ≡ false = grind (arith, nat_tests) in
-        let other : nat_eq n c ≡ false = grind (arith, nat_tests) in
-        rw (now, before, other) (omega arith)
-
-below_more : (n : ℕ) (accounts : List Account) → accounts_below (suc n) accounts ≡ accounts_below n accounts + accounts_by n accounts
-below_more n [] = refl
-below_more n (a ∷ accounts) =
-    let rest = below_more n accounts in
-    let one = one_below a.caller n in
-    let by = sum_by-cons (λ (b : Account). one_if (nat_eq n b.caller)) a accounts in
-    omega arith
-
-below_each : (n m : ℕ) (accounts : List Account) → HasEach n accounts → m ≤ n → accounts_below m accounts ≡ m
-below_each n zero accounts each low = none accounts
-  where
-    none : (others : List Account) → accounts_below 0 others ≡ 0
-    none [] = refl
-    none (a ∷ others) = let rest = none others in let zero_low : nat_lt a.caller 0 ≡ false = grind (arith, nat_tests) in rw zero_low (omega arith)
-below_each n (suc m) accounts each low =
-    let rest = below_each n m accounts each (omega arith) in
-    let one = each m (omega arith) in
-    let more = below_more m accounts in
-    omega arith
-
-below_all : (n : ℕ) (accounts : List Account) → Every (λ a. a.caller < n) accounts → accounts_below n accounts ≡ length accounts
-below_all n [] every = refl
-below_all n (a ∷ accounts) every =
-    let rest = below_all n accounts every.1 in
-    let low = every.0 in
-    let below : nat_lt a.caller n ≡ true = grind (arith, nat_tests) in
-    rw below (omega arith)
-
--- where each caller has one account and each account is a caller's, there are as many
-pub accounts_count : (n : ℕ) (accounts : List Account) → HasEach n accounts → Every (λ a. a.caller < n) accounts → length accounts ≡ n
-accounts_count n accounts each every = sym (below_all n accounts every) ∙ below_each n n accounts each (omega arith)

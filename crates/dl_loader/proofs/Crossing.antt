@@ -1,134 +1,38 @@
--- What of a shared loader may cross threads, as a set for `search`. The laws of the types below that hold a JSON value
--- are proved here, since such a value is a tree of its own kind, whose laws `search` doesn't find by itself.
+-- What of a shared loader may cross threads.
 use denote.RattleType.{RattleType}
 use denote.Ref.{NamedLft}
 use denote.Struct.Field.{shr_ref_field}
 use denote.Param.SendFields.{declared_send, declared_sync, as_row_send, as_row_sync}
 use denote.Param.Send.{IsSend, IsSync, sendable, shr_send}
-use Rattle.std.below.core.proofs.ledger.Book.TheSendSync as counts
 use Rattle.std.below.core.proofs.chan.Condvar.TheSendSync as changed
 use Rattle.std.specs.declared.sync.ledger.Ledger as ledger
-use Rattle.dl_loader.specs.declared.name.LoaderName as name
-use Rattle.std.proofs.Crossing.{Vec-send, crosses as owners_cross}
-use Rattle.std.proofs.MapsCrossing.{crosses as maps_cross}
-use Rattle.serde_json.proofs.value.Value.TheLaws.TheKnot.{crosses as values_cross}
-use Rattle.dl_desk.proofs.key.FetchKey.TheSendSync as key
-use Rattle.dl_desk.proofs.key.Keys.TheSendSync as keys
-use Rattle.dl_desk.proofs.message.Message.TheSendSync as message
-use Rattle.dl_desk.proofs.outcome.BatchFault.TheSendSync as fault
-use Rattle.dl_loader.proofs.event.Reply.TheSendSync as reply
-use Rattle.dl_desk.specs.contracts.json.Json as Json
-use Rattle.dl_desk.specs.contracts.outcome.Outcome as Outcome
-use Rattle.dl_desk.specs.contracts.outcome.Outcomes as Outcomes
-use Rattle.dl_loader.specs.contracts.event.Call as Call
-use Rattle.dl_loader.specs.contracts.event.Event as Event
-use Rattle.dl_loader.specs.contracts.event.Ending as Ending
-use Rattle.dl_loader.specs.contracts.state.Mark as Mark
-use Rattle.std.specs.contracts.alloc.Global as Heap
-use Rattle.std.specs.contracts.impls.GlobalAllocator.TheImpl.{ghosts}
-use Rattle.std.specs.contracts.vec.Vec as Vec
+use Rattle.dl_history.specs.declared.name.LoaderName as name
+use Rattle.std.proofs.Crossing.{crosses as owners_cross}
+use Rattle.dl_history.specs.contracts.event.Event as Event
+use Rattle.dl_history.specs.contracts.event.Ending as Ending
 use Rattle.std.specs.contracts.sync.Mutex as Mutex
-use Rattle.std.specs.contracts.sync.Condvar as Condvar
-use Rattle.std.specs.contracts.sync.ledger.Book as Counts
 use Rattle.dl_cells.specs.contracts.reader.Reader as Reader
 use Rattle.dl_cells.specs.contracts.row.CellRow as Row
 use Rattle.dl_desk.specs.contracts.desk.Desk as Desk
 use Rattle.dl_desk.specs.contracts.limits.Limits as Limits
-use Rattle.dl_loader.specs.contracts.entry.Stored as Stored
-use Rattle.dl_loader.specs.contracts.journal.Journal as Journal
-use Rattle.dl_loader.specs.contracts.journal.Journal.TheInside as journal
+use Rattle.dl_history.specs.contracts.journal.Journal as Journal
 use Rattle.dl_loader.specs.contracts.book.Book as Book
 use Rattle.dl_loader.specs.contracts.book.Book.TheInside as book
 use Rattle.dl_loader.specs.contracts.loader.Loader as Loader
 use Rattle.dl_loader.specs.contracts.loader.Loader.TheInside as loader
-use Rattle.dl_loader.specs.contracts.state.State as State
 use Rattle.dl_loader.specs.contracts.ticket.Ticket as Ticket
 use Rattle.dl_loader.specs.contracts.ticket.Ticket.TheInside as ticket
 use Rattle.dl_cells.proofs.reader.Reader.TheSendSync as reader
-use Rattle.dl_cells.proofs.row.CellRow.TheSendSync as row
 use Rattle.dl_desk.proofs.desk.Desk.TheSendSync as desk
 use Rattle.dl_desk.proofs.limits.Limits.TheSendSync as limits
-use Rattle.dl_loader.proofs.entry.Stored.TheSendSync as stored
-use Rattle.dl_loader.proofs.pass.Pass.TheSendSync as pass
-
-pub Json-send : IsSend Json.the_row
-Json-send = search (values_cross, owners_cross, maps_cross, sendable) depth 40
-
-pub Json-sync : IsSync Json.the_row
-Json-sync = search (values_cross, owners_cross, maps_cross, sendable) depth 40
-
-pub Outcome-send : IsSend Outcome.the_row
-Outcome-send = search (Json-send, owners_cross, sendable) depth 40
-
-pub Outcome-sync : IsSync Outcome.the_row
-Outcome-sync = search (Json-sync, owners_cross, sendable) depth 40
-
-pub Outcome-field-send : IsSend Outcome.the_field.row
-Outcome-field-send = search (Json-send, message.the_send, fault.the_field_send, owners_cross, sendable) depth 40
-
-pub Outcome-field-sync : IsSync Outcome.the_field.row
-Outcome-field-sync = search (Json-sync, message.the_sync, fault.the_field_sync, owners_cross, sendable) depth 40
-
-pub Ending-send : IsSend Ending.the_row
-Ending-send = search (Outcome-field-send, owners_cross, sendable) depth 40
-
-pub Ending-sync : IsSync Ending.the_row
-Ending-sync = search (Outcome-field-sync, owners_cross, sendable) depth 40
-
-pub Outcomes-send : IsSend Outcomes.the_row
-Outcomes-send = search (Outcome-send, owners_cross, sendable) depth 40
-
-pub Outcomes-sync : IsSync Outcomes.the_row
-Outcomes-sync = search (Outcome-sync, owners_cross, sendable) depth 40
-
-pub Call-send : IsSend Call.the_row
-Call-send = search (key.the_send, keys.the_send, fault.the_field_send, Outcome-field-send, Outcomes-send, owners_cross, sendable) depth 40 fits 20000
-
-pub Call-sync : IsSync Call.the_row
-Call-sync = search (key.the_sync, keys.the_sync, fault.the_field_sync, Outcome-field-sync, Outcomes-sync, owners_cross, sendable) depth 40 fits 20000
-
-pub Call-field-send : IsSend Call.the_field.row
-Call-field-send = search (key.the_send, keys.the_send, fault.the_field_send, Outcome-field-send, Outcomes-send, owners_cross, sendable) depth 40 fits 20000
-
-pub Call-field-sync : IsSync Call.the_field.row
-Call-field-sync = search (key.the_sync, keys.the_sync, fault.the_field_sync, Outcome-field-sync, Outcomes-sync, owners_cross, sendable) depth 40 fits 20000
-
-pub Event-send : IsSend Event.the_row
-Event-send = search (Call-field-send, reply.the_field_send, owners_cross, sendable) depth 40
-
-pub Event-sync : IsSync Event.the_row
-Event-sync = search (Call-field-sync, reply.the_field_sync, owners_cross, sendable) depth 40
-
-pub Mark-field-send : IsSend Mark.the_field.row
-Mark-field-send = search (Ending-send, owners_cross, sendable) depth 40
-
-pub State-send : IsSend State.the_row
-State-send = search (Mark-field-send, reader.the_send, owners_cross, sendable) depth 40
+use Rattle.dl_history.proofs.Crossing.{Journal-send, log_sync, outcomes_sync}
 
 module _ (T : RattleType) (n : name.Ghosts T.Denot) (l : ledger.Ghosts T.Denot) where
-  stored_send : IsSend (Stored.the_row T n l)
-  stored_send = search (stored.the_send) depth 10
-
-  counts_send : IsSend (Counts.the_row T l)
-  counts_send = search (counts.the_send) depth 10
-
-  journal_send : IsSend (journal.the_row T n l)
-  journal_send = declared_send (journal.the_type T n l) (as_row_send (Vec.the_field (Stored.the_row T n l) Heap.the_row ghosts) (Vec-send _ stored_send), (as_row_send (Vec.the_field State.the_row Heap.the_row ghosts) (Vec-send _ State-send), (as_row_send (Counts.the_field T l) counts_send, tt)))
-
-  pub Journal-send : IsSend (Journal.the_row T n l)
-  Journal-send = search (journal_send, sendable) depth 10
-
   book_send : IsSend (book.the_row T n l)
-  book_send = declared_send (book.the_type T n l) (as_row_send Desk.the_field (search (desk.the_send) depth 10), (as_row_send (Journal.the_field T n l) Journal-send, (search (as_row_send, sendable) depth 10, tt)))
+  book_send = declared_send (book.the_type T n l) (as_row_send Desk.the_field (search (desk.the_send) depth 10), (as_row_send (Journal.the_field T n l) (Journal-send T n l), (search (as_row_send, sendable) depth 10, tt)))
 
   pub Book-send : IsSend (Book.the_row T n l)
   Book-send = search (book_send, sendable) depth 10
-
-  log_sync : IsSync (Row.the_row Event.the_row)
-  log_sync = search (row.the_sync, Event-send, Event-sync) depth 10
-
-  outcomes_sync : IsSync (Row.the_row Ending.the_row)
-  outcomes_sync = search (row.the_sync, Ending-send, Ending-sync) depth 10
 
   lock_sync : IsSync (Mutex.the_row (Book.the_row T n l))
   lock_sync = search (Book-send, owners_cross) depth 10
@@ -145,5 +49,3 @@ module _ (T : RattleType) (n : name.Ghosts T.Denot) (l : ledger.Ghosts T.Denot) 
 
     pub Ticket-send : IsSend (Ticket.the_row a T n l)
     Ticket-send = search (ticket_send, sendable) depth 10
-
-pub ruleset crosses = (Loader-sync, Ticket-send, pass.the_send, key.the_sync)

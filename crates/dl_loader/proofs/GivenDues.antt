@@ -1,18 +1,18 @@
 -- The dues of cells, given one by one.
 use Rattle.std.proofs.Common.{◌≡◌, ◌∙◌, sym, ap, subst, ℕ, zero, suc, ◌+◌, ◌<◌, ◌≤◌, ◌⊎◌, inl, inr, Bool, cond, List, [], ◌∷◌, ◌++◌, length, map, set, take, Option, Some, None, MatchBool, slice_get, get_or, option_map, refl, arith}
 use Rattle.std.proofs.lemmas.List.{length-set, take_more}
-use Rattle.std.proofs.lemmas.List.Sums.{count_by-le-length, sum_by-cons}
+use Rattle.std.proofs.lemmas.List.Sums.{sum_by-cons}
 use Rattle.std.proofs.lemmas.Option.{slice_get_within, slice_get_read, slice_get-map}
 use Rattle.dl_desk.specs.declared.outcome.Outcome.{Outcome}
 use Rattle.dl_loader.specs.declared.dues.Due.{Due}
-use Rattle.dl_loader.specs.declared.event.Call.{Call}
-use Rattle.dl_loader.specs.declared.event.Ending.{Ending}
-use Rattle.dl_loader.specs.Journal.{Cell, waiting, ended, refused, Refuses, is_refused, refusals}
-use Rattle.dl_loader.specs.Book.{ShowsEnd}
+use Rattle.dl_history.specs.declared.event.Call.{Call}
+use Rattle.dl_history.specs.declared.event.Ending.{Ending}
+use Rattle.dl_history.specs.Journal.{Cell, waiting, ended, refused, Refuses, is_refused, refusals}
+use Rattle.dl_history.specs.Kept.{ShowsEnd}
 use Rattle.dl_loader.specs.Dues.{outcome_by, AreDue, CanEnd, AreGiven}
-use Rattle.dl_loader.proofs.Logs.{get-snoc, get-append_at}
-use Rattle.dl_loader.proofs.ListLemmas.{get_longer}
-use Rattle.dl_loader.proofs.CellLists.{get-set_same, get-set_other, gets_end}
+use Rattle.dl_history.proofs.Logs.{get-snoc, get-append_at}
+use Rattle.dl_history.proofs.ListLemmas.{get_longer}
+use Rattle.dl_history.proofs.CellLists.{get-set_same, get-set_other, gets_end}
 
 -- ---- elements of lists
 
@@ -26,10 +26,6 @@ unmapped {X} {Y} f (x ∷ xs) zero y got = (x, refl, let two : ◌≡◌ {A = Op
 unmapped f (x ∷ xs) (suc i) y got = unmapped f xs i y got
 
 -- ---- the dues of cells
-
--- none are due to no cells
-pub due_none : (call : Call) (at : ℕ) → AreDue call at [] []
-due_none call at = record { cells_are = refl; ends_are = λ j d got. absurd (let bad : ◌≡◌ {A = Option Due} None (Some d) = got in cc) }
 
 map-snoc : {X Y : Type 0} (f : X → Y) (xs : List X) (x : X) → map f (xs ++ x ∷ []) ≡ map f xs ++ f x ∷ []
 map-snoc f [] x = refl
@@ -51,14 +47,6 @@ due_more call at n cells dues longer d o due count low is brings outcome place g
     }
 
 -- ---- one given after another
-
--- none were given
-pub given_none : (before : List Cell) → AreGiven [] before before
-given_none before = record {
-  long = refl;
-  ended = λ j d x got shown. absurd (let bad : ◌≡◌ {A = Option Due} None (Some d) = got in cc);
-  others = λ c none. refl;
-}
 
 map-same : {X : Type 0} (xs : List X) → map (λ x. x) xs ≡ xs
 map-same [] = refl
@@ -154,10 +142,6 @@ taken_count now then c end waits is = let step = refusals-set now c waiting (end
 
 pub refused_count : (now then : List Cell) (c : ℕ) (end : Ending) → slice_get now c ≡ Some waiting → Refuses now then c end → refusals then ≡ refusals now + 1
 refused_count now then c end waits is = let step = refusals-set now c waiting (refused is.0 is.1) waits in rw is.3 (omega arith)
-
--- no more refused than there are cells
-pub refusals-le : (xs : List Cell) → refusals xs ≤ length xs
-refusals-le xs = count_by-le-length (λ x. is_refused x.mark) xs
 
 -- the counts after one more was given
 pub refused_next : (was now then n : ℕ) → now ≡ was + n → then ≡ now + 1 → then ≡ was + (n + 1)

@@ -1,26 +1,19 @@
 -- Tickets that are handed out for loads.
-use Rattle.std.proofs.Common.{◌≡◌, ◌∙◌, sym, ap, subst, ℕ, zero, suc, ◌+◌, ◌-◌, ◌<◌, ◌⊎◌, inl, inr, false, List, [], ◌∷◌, ◌++◌, length, map, take, Option, Some, None, option_map, slice_get, get_or, refl, arith, length-append}
+use Rattle.std.proofs.Common.{◌≡◌, ◌∙◌, sym, ap, subst, ℕ, zero, suc, ◌+◌, ◌-◌, ◌<◌, ◌⊎◌, inl, inr, false, List, [], ◌∷◌, ◌++◌, length, map, take, Some, option_map, slice_get, get_or, refl, arith, length-append}
 use Rattle.std.proofs.lemmas.List.{map-append, length-map, append_assoc, take_more}
 use Rattle.std.proofs.lemmas.Option.{slice_get-map}
 use Rattle.dl_desk.specs.Key.{Key}
 use Rattle.dl_desk.specs.declared.reply.LoadReply.{LoadReply}
 use Rattle.dl_loader.specs.declared.pass.Given.{Given}
-use Rattle.dl_loader.specs.declared.event.Call.TheVariants.{Load, LoadMany}
-use Rattle.dl_loader.specs.declared.event.Reply.TheVariants.{Loaded, Many}
+use Rattle.dl_history.specs.declared.event.Call.TheVariants.{Load, LoadMany}
+use Rattle.dl_history.specs.declared.event.Reply.TheVariants.{Loaded, Many}
 use Rattle.dl_loader.specs.Book.{Locked}
 use Rattle.dl_loader.specs.Made.{event_of, Makes}
-use Rattle.dl_loader.specs.Entries.{cell_of_load}
+use Rattle.dl_history.specs.Entries.{cell_of_load}
 use Rattle.dl_loader.specs.Pass.{Part, Hold, given, with_call, with_ticket, with_tickets, Gave, AreTickets, GaveAll}
-use Rattle.dl_loader.proofs.Logs.{get-append_at, get-snoc}
+use Rattle.dl_history.proofs.Logs.{get-append_at, get-snoc}
 
 -- ---- tickets in order
-
--- no tickets for no loads
-pub tickets_none : (first : ℕ) (ts : List Hold) → ts ≡ [] → AreTickets first [] ts
-tickets_none first ts none = record {
-  replies_are = rw none refl;
-  numbered = λ i t got. absurd (let bad : ◌≡◌ {A = Option Hold} None (Some t) = rw none at got in cc);
-}
 
 -- one ticket more, for the load at a place
 pub tickets_more : (first i : ℕ) (rs : List LoadReply) (d r : LoadReply) (ts us : List Hold) (t : Hold) → i < length rs → get_or rs i d ≡ r → AreTickets first (take i rs) ts → us ≡ ts ++ t ∷ [] → t.number ≡ first + length ts → t.reply ≡ r → AreTickets first (take (i + 1) rs) us

@@ -7,31 +7,20 @@ use Rattle.dl_desk.specs.Events.{Nothing, atoms}
 use Rattle.dl_desk.specs.Calls.{Primes, after}
 use Rattle.dl_desk.specs.Book.{Book, StandsFor}
 use Rattle.dl_desk.specs.declared.outcome.Outcome.{Outcome}
-use Rattle.dl_loader.specs.declared.event.Event.{Event}
-use Rattle.dl_loader.specs.declared.event.Ending.{Ending}
-use Rattle.dl_loader.specs.declared.event.Call.TheVariants.{Prime}
-use Rattle.dl_loader.specs.declared.event.Reply.TheVariants.{Primed}
-use Rattle.dl_loader.specs.Service.{Service}
-use Rattle.dl_loader.specs.History.{log, gave, call_of, IsNext, ending_of}
-use Rattle.dl_loader.specs.Journal.{Cell, waiting}
-use Rattle.dl_loader.specs.Book.{locked, ShowsEnd, Keeps}
-use Rattle.dl_loader.proofs.Logs.{get-snoc, atoms_next, legal_more}
-use Rattle.dl_loader.proofs.Endings.{others_stay, new_open, primed_cell, primed_end, primed_others}
-use Rattle.dl_loader.proofs.CellLists.{get-append_cases, get-repeat, length-repeat_one, waiting_shows, shows_same}
+use Rattle.dl_history.specs.declared.event.Event.{Event}
+use Rattle.dl_history.specs.declared.event.Ending.{Ending}
+use Rattle.dl_history.specs.declared.event.Call.TheVariants.{Prime}
+use Rattle.dl_history.specs.declared.event.Reply.TheVariants.{Primed}
+use Rattle.dl_history.specs.Service.{Service}
+use Rattle.dl_history.specs.History.{log, gave, call_of, IsNext, ending_of}
+use Rattle.dl_history.specs.Journal.{Cell, waiting}
+use Rattle.dl_loader.specs.Book.{locked, Keeps}
+use Rattle.dl_history.specs.Kept.{ShowsEnd}
+use Rattle.dl_history.proofs.Logs.{get-snoc, atoms_next, legal_more}
+use Rattle.dl_history.proofs.Endings.{others_stay, new_open, primed_cell, primed_end, primed_others}
+use Rattle.dl_history.proofs.CellLists.{get-append_cases, get-repeat, length-repeat_one, waiting_shows, shows_same}
 
 -- ---- every event
-
--- whether the loader is stopped changes nothing
-pub keeps_stopped : (s : Service) (es : List Event) (d : Book) (xs : List Cell) (stopped now : Bool) → Keeps s (locked es d xs stopped) → Keeps s (locked es d xs now)
-keeps_stopped s es d xs stopped now kept = record {
-  legal = kept.legal;
-  calls_fit = kept.calls_fit;
-  rules = kept.rules;
-  desk = kept.desk;
-  all_cells = kept.all_cells;
-  cells_fit = kept.cells_fit;
-  ends = kept.ends;
-}
 
 -- the cells that were begun are those that the history tells
 pub begun_cells : (s : Service) (es : List Event) (d : Book) (xs : List Cell) (stopped : Bool) → Keeps s (locked es d xs stopped) → length xs ≡ cells (atoms (log es))

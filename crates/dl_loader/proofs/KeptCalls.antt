@@ -3,7 +3,7 @@ use Rattle.std.proofs.Common.{◌≡◌, ◌∙◌, sym, ap, subst, ℕ, ◌+◌
 use Rattle.std.specs.List.{repeat}
 use Rattle.dl_desk.specs.Key.{Key}
 use Rattle.dl_desk.specs.Limits.{Rules}
-use Rattle.dl_desk.specs.History.{Atom, begins, load_reply, load_replies, prime_reply, jobs}
+use Rattle.dl_desk.specs.History.{begins, load_reply, load_replies, prime_reply, jobs}
 use Rattle.dl_desk.specs.History as atom
 use Rattle.dl_desk.specs.Events.{Nothing, atoms}
 use Rattle.dl_desk.specs.Calls.{DeskCall, Loads, Primes, refusal, after}
@@ -11,16 +11,17 @@ use Rattle.dl_desk.specs.Book.{Book, StandsFor}
 use Rattle.dl_desk.specs.declared.outcome.Outcome.{Outcome}
 use Rattle.dl_desk.specs.declared.reply.LoadReply.{LoadReply}
 use Rattle.dl_desk.specs.declared.reply.DeskPrime.TheVariants as prime
-use Rattle.dl_loader.specs.declared.event.Event.{Event}
-use Rattle.dl_loader.specs.declared.event.Call.TheVariants.{Load, LoadMany, Prime, Clear, ClearAll, Dispatch}
-use Rattle.dl_loader.specs.declared.event.Reply.TheVariants.{Loaded, Many, Primed, Kept}
-use Rattle.dl_loader.specs.Service.{Service}
-use Rattle.dl_loader.specs.History.{log, gave, reply_to, call_of, IsNext}
-use Rattle.dl_loader.specs.Journal.{Cell, waiting}
-use Rattle.dl_loader.specs.Book.{locked, ShowsEnd, Keeps}
+use Rattle.dl_history.specs.declared.event.Event.{Event}
+use Rattle.dl_history.specs.declared.event.Call.TheVariants.{Load, LoadMany, Prime, Clear, ClearAll, Dispatch}
+use Rattle.dl_history.specs.declared.event.Reply.TheVariants.{Loaded, Many, Primed, Kept}
+use Rattle.dl_history.specs.Service.{Service}
+use Rattle.dl_history.specs.History.{log, gave, reply_to, call_of, IsNext}
+use Rattle.dl_history.specs.Journal.{Cell, waiting}
+use Rattle.dl_loader.specs.Book.{locked, Keeps}
+use Rattle.dl_history.specs.Kept.{ShowsEnd}
 use Rattle.dl_loader.specs.Begun.{begun_by, cells_begun}
 use Rattle.dl_loader.proofs.Begun.{same_cells, loads_count, loads_fit, kept_count, primed_count, primed_fits, primed_reply, kept_reply}
-use Rattle.dl_loader.proofs.CellLists.{repeat_none}
+use Rattle.dl_history.proofs.CellLists.{repeat_none}
 use Rattle.dl_loader.proofs.Kept.{keeps_quiet, keeps_primed}
 
 -- ---- a call that begins no cell

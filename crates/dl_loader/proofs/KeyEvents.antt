@@ -4,37 +4,33 @@ use Rattle.std.proofs.Common.{◌≡◌, ◌∙◌, sym, ap, subst, ℕ, ◌+◌
 use Rattle.std.specs.List.{repeat}
 use Rattle.std.proofs.lemmas.List.Sums.{fold-append}
 use Rattle.dl_desk.specs.Key.{Key}
-use Rattle.dl_desk.specs.Limits.{Rules}
 use Rattle.dl_desk.specs.History.{Atom, prime_reply, jobs}
 use Rattle.dl_desk.specs.History as atom
 use Rattle.dl_desk.specs.Events.{atoms}
-use Rattle.dl_desk.specs.Calls.{DeskCall, Primes, Clears, ClearsAll, Sends, refusal, after}
-use Rattle.dl_desk.specs.Book.{Book, Desk, StandsFor}
-use Rattle.dl_desk.specs.Ready.{IsReplyTo, IsReadyFor}
+use Rattle.dl_desk.specs.Calls.{Primes, Clears, ClearsAll, Sends, refusal, after}
+use Rattle.dl_desk.specs.Book.{Book, StandsFor}
 use Rattle.dl_desk.specs.declared.outcome.Outcome.{Outcome}
-use Rattle.dl_desk.specs.declared.ready.Ready.{Ready}
 use Rattle.dl_desk.specs.declared.reply.DeskPrime.{DeskPrime}
 use Rattle.dl_desk.specs.declared.reply.DeskPrime.TheVariants as prime
-use Rattle.dl_desk.specs.declared.reply.DeskReply.{DeskReply}
 use Rattle.dl_desk.specs.declared.reply.DeskReply.TheVariants as desk
 use Rattle.dl_desk.specs.declared.reply.Job.{Job}
-use Rattle.dl_loader.specs.declared.event.Event.{Event}
-use Rattle.dl_loader.specs.declared.event.Ending.{Ending}
-use Rattle.dl_loader.specs.declared.event.Call.{Call}
-use Rattle.dl_loader.specs.declared.event.Call.TheVariants.{Prime, Clear, ClearAll, Dispatch}
-use Rattle.dl_loader.specs.declared.event.Reply.{Reply}
-use Rattle.dl_loader.specs.declared.event.Reply.TheVariants.{Done, Sent}
-use Rattle.dl_loader.specs.Service.{Service}
-use Rattle.dl_loader.specs.History.{log, primed, IsNext}
-use Rattle.dl_loader.specs.Journal.{Cell, waiting, ended, refused, Refuses, is_refused, refusals}
-use Rattle.dl_loader.specs.Book.{Locked, locked, ShowsEnd, Keeps}
+use Rattle.dl_history.specs.declared.event.Event.{Event}
+use Rattle.dl_history.specs.declared.event.Ending.{Ending}
+use Rattle.dl_history.specs.declared.event.Call.{Call}
+use Rattle.dl_history.specs.declared.event.Call.TheVariants.{Prime, Clear, ClearAll, Dispatch}
+use Rattle.dl_history.specs.declared.event.Reply.{Reply}
+use Rattle.dl_history.specs.declared.event.Reply.TheVariants.{Done, Sent}
+use Rattle.dl_history.specs.Service.{Service}
+use Rattle.dl_history.specs.History.{log, primed, IsNext}
+use Rattle.dl_history.specs.Journal.{Cell, waiting, ended, refused, Refuses, is_refused, refusals}
+use Rattle.dl_loader.specs.Book.{Locked, locked, Keeps}
+use Rattle.dl_history.specs.Kept.{ShowsEnd}
 use Rattle.dl_loader.specs.Pass.{Part}
 use Rattle.dl_loader.specs.Refusals.{unready}
-use Rattle.dl_loader.specs.Replies.{jobs_in, primed_in}
 use Rattle.dl_loader.proofs.Admitted.{ready_room}
-use Rattle.dl_loader.proofs.Logs.{get-append_at}
-use Rattle.dl_loader.proofs.Endings.{primed_cell}
-use Rattle.dl_loader.proofs.CellLists.{repeat_none, set_last, gets_end}
+use Rattle.dl_history.proofs.Logs.{get-append_at}
+use Rattle.dl_history.proofs.Endings.{primed_cell}
+use Rattle.dl_history.proofs.CellLists.{repeat_none, set_last, gets_end}
 use Rattle.dl_loader.proofs.Kept.{begun_cells}
 use Rattle.dl_loader.proofs.KeptCalls.{keeps_clear, keeps_clear_all, keeps_dispatch, keeps_prime_held, keeps_prime_new}
 
@@ -73,97 +69,68 @@ clear_all_kept s b p es now caller old new xs ys stopped view ready kept own bel
     let next : IsNext s es e = record { caller = omega arith; reply = refl; made = tt } in
     recorded s es now e new xs ys stopped history cells (keeps_clear_all s es e old new xs stopped kept next refl (ready_room s b p es old xs stopped view ready) rules (stands (atoms (log es)) kept.desk))
 
--- ---- a call that the desk has prepared
+-- ---- a dispatch
 
--- the facts of a desk whose book is a loader's: it stands for the history
-desk_stands : (s : Service) (es : List Event) (old : Book) (xs : List Cell) (stopped : Bool) (d : Book) → d ≡ old → Keeps s (locked es old xs stopped) → StandsFor d (atoms (log es))
-desk_stands s es old xs stopped d same kept = subst (λ (x : Book). StandsFor x (atoms (log es))) (sym same) kept.desk
-
--- a commit of what is ready leaves a desk that stands for the history with the call
-abbrev pub Commits : Desk → Ready → Book → Type 0
-Commits d ready new = (call : DeskCall) → IsReadyFor d call ready → (h : List Atom) → StandsFor d.book h → StandsFor new (after d.book.rules h call)
-
--- the jobs of the reply to a dispatch
-jobs_of : (rules : Rules) (h : List Atom) (r : DeskReply) → IsReplyTo rules h Sends r → jobs_in r ≡ jobs h
-jobs_of rules h (desk.Loads replies) is = absurd is
-jobs_of rules h (desk.Primed r) is = absurd is
-jobs_of rules h (desk.Sent sent) is = is
-
--- after a dispatch
-pub dispatch_kept : (s : Service) (b : Locked) (p : Part) (es now : List Event) (js : List Job) (caller : ℕ) (d : Desk) (call : Ready) (old new : Book) (xs ys : List Cell) (stopped : Bool)
+-- after a dispatch that the desk has prepared
+pub dispatch_kept : (s : Service) (b : Locked) (p : Part) (es now : List Event) (js : List Job) (caller : ℕ) (old new : Book) (xs ys : List Cell) (stopped : Bool)
     → locked es old xs stopped ≡ b → unready s b p ≡ None → Keeps s (locked es old xs stopped) → caller ≡ p.caller → p.caller < s.callers
-    → d.book ≡ old → IsReadyFor d Sends call → js ≡ jobs_in call.reply
+    → ((h : List Atom) → StandsFor old h → js ≡ jobs h)
     → now ≡ es ++ event caller Dispatch (Sent js) ∷ [] → ys ≡ xs ++ repeat 0 (waiting ∷ [])
-    → new.rules ≡ d.book.rules → Commits d call new
+    → new.rules ≡ old.rules → StandsFor new (after old.rules (atoms (log es)) Sends)
     → Keeps s (locked now new ys stopped)
-dispatch_kept s b p es now js caller d call old new xs ys stopped view ready kept own below same is_ready copies history cells rules stands =
-    let H = atoms (log es) in
+dispatch_kept s b p es now js caller old new xs ys stopped view ready kept own below sent history cells rules stands =
     let e : Event = event caller Dispatch (Sent js) in
-    let for_history : StandsFor d.book H = desk_stands s es old xs stopped d.book same kept in
-    let all : js ≡ jobs H = copies ∙ jobs_of d.book.rules H call.reply (is_ready.reply H for_history) in
-    let next : IsNext s es e = record { caller = omega arith; reply = ap Sent all; made = tt } in
-    let rules_now : new.rules ≡ old.rules = rules ∙ ap (λ (x : Book). x.rules) same in
-    recorded s es now e new xs ys stopped history cells (keeps_dispatch s es e old new xs stopped kept next refl (ready_room s b p es old xs stopped view ready) rules_now (stands Sends is_ready H for_history))
+    let next : IsNext s es e = record { caller = omega arith; reply = ap Sent (sent (atoms (log es)) kept.desk); made = tt } in
+    recorded s es now e new xs ys stopped history cells (keeps_dispatch s es e old new xs stopped kept next refl (ready_room s b p es old xs stopped view ready) rules stands)
 
 -- ---- a prime
 
--- the desk's reply to a prime
-primed_of : (rules : Rules) (h : List Atom) (k : Key) (r : DeskReply) → IsReplyTo rules h (Primes k) r → primed_in r ≡ prime_reply h k
-primed_of rules h k (desk.Loads replies) is = absurd is
-primed_of rules h k (desk.Primed r) is = is
-primed_of rules h k (desk.Sent sent) is = absurd is
-
 -- An event that a prime of a key is to make: with the pass's caller, a copy of the key, and the reply that the
--- desk has ready.
-pub record IsPrime (s : Service) (p : Part) (k j : Key) (caller : ℕ) (reply : Reply) (r : DeskPrime) (d : Desk) (call : Ready) (old : Book) : Type 0 where
+-- desk has prepared.
+pub record IsPrime (s : Service) (p : Part) (k j : Key) (caller : ℕ) (reply : Reply) (r : DeskPrime) (old : Book) : Type 0 where
   pub own : caller ≡ p.caller
   pub below : p.caller < s.callers
   pub copy : k ≡ j
   pub replies : reply ≡ primed r
-  pub told : r ≡ primed_in call.reply
-  pub same : d.book ≡ old
-  pub is_ready : IsReadyFor d (Primes j) call
+  pub told : (h : List Atom) → StandsFor old h → r ≡ prime_reply h j
 
-prime_told : (s : Service) (p : Part) (es : List Event) (k j : Key) (caller : ℕ) (reply : Reply) (r : DeskPrime) (d : Desk) (call : Ready) (old : Book) (xs : List Cell) (stopped : Bool)
-    → Keeps s (locked es old xs stopped) → IsPrime s p k j caller reply r d call old → r ≡ prime_reply (atoms (log es)) k
-prime_told s p es k j caller reply r d call old xs stopped kept is =
+prime_told : (s : Service) (p : Part) (es : List Event) (k j : Key) (caller : ℕ) (reply : Reply) (r : DeskPrime) (old : Book) (xs : List Cell) (stopped : Bool)
+    → Keeps s (locked es old xs stopped) → IsPrime s p k j caller reply r old → r ≡ prime_reply (atoms (log es)) k
+prime_told s p es k j caller reply r old xs stopped kept is =
     let H = atoms (log es) in
-    let by_desk : primed_in call.reply ≡ prime_reply H j = primed_of d.book.rules H j call.reply (is.is_ready.reply H (desk_stands s es old xs stopped d.book is.same kept)) in
-    is.told ∙ (by_desk ∙ sym (ap (prime_reply H) is.copy))
+    is.told H kept.desk ∙ sym (ap (prime_reply H) is.copy)
 
-prime_next : (s : Service) (p : Part) (es : List Event) (k j : Key) (o : Outcome) (caller : ℕ) (reply : Reply) (r : DeskPrime) (d : Desk) (call : Ready) (old : Book) (xs : List Cell) (stopped : Bool)
-    → Keeps s (locked es old xs stopped) → IsPrime s p k j caller reply r d call old → IsNext s es (event caller (Prime k o) reply)
-prime_next s p es k j o caller reply r d call old xs stopped kept is =
+prime_next : (s : Service) (p : Part) (es : List Event) (k j : Key) (o : Outcome) (caller : ℕ) (reply : Reply) (r : DeskPrime) (old : Book) (xs : List Cell) (stopped : Bool)
+    → Keeps s (locked es old xs stopped) → IsPrime s p k j caller reply r old → IsNext s es (event caller (Prime k o) reply)
+prime_next s p es k j o caller reply r old xs stopped kept is =
     let own = is.own in
     let below = is.below in
-    let told = prime_told s p es k j caller reply r d call old xs stopped kept is in
+    let told = prime_told s p es k j caller reply r old xs stopped kept is in
     record { caller = omega arith; reply = is.replies ∙ ap primed told; made = tt }
 
-prime_stands : (s : Service) (p : Part) (es : List Event) (k j : Key) (caller : ℕ) (reply : Reply) (r : DeskPrime) (d : Desk) (call : Ready) (old new : Book) (xs : List Cell) (stopped : Bool)
-    → Keeps s (locked es old xs stopped) → IsPrime s p k j caller reply r d call old → Commits d call new → StandsFor new (atom.Prime k (prime_reply (atoms (log es)) k) ∷ atoms (log es))
-prime_stands s p es k j caller reply r d call old new xs stopped kept is stands =
+prime_stands : (s : Service) (p : Part) (es : List Event) (k j : Key) (caller : ℕ) (reply : Reply) (r : DeskPrime) (old new : Book) (xs : List Cell) (stopped : Bool)
+    → Keeps s (locked es old xs stopped) → IsPrime s p k j caller reply r old → StandsFor new (after old.rules (atoms (log es)) (Primes j)) → StandsFor new (atom.Prime k (prime_reply (atoms (log es)) k) ∷ atoms (log es))
+prime_stands s p es k j caller reply r old new xs stopped kept is stands =
     let H = atoms (log es) in
-    let now : StandsFor new (atom.Prime j (prime_reply H j) ∷ H) = stands (Primes j) is.is_ready H (desk_stands s es old xs stopped d.book is.same kept) in
-    subst (λ (x : Key). StandsFor new (atom.Prime x (prime_reply H x) ∷ H)) (sym is.copy) now
+    subst (λ (x : Key). StandsFor new (atom.Prime x (prime_reply H x) ∷ H)) (sym is.copy) stands
 
 -- after a prime of a key that is held
-pub held_kept : (s : Service) (b : Locked) (p : Part) (es now : List Event) (k j : Key) (o : Outcome) (caller : ℕ) (reply : Reply) (r : DeskPrime) (d : Desk) (call : Ready) (old new : Book) (xs ys : List Cell) (stopped : Bool)
-    → locked es old xs stopped ≡ b → unready s b p ≡ None → Keeps s (locked es old xs stopped) → IsPrime s p k j caller reply r d call old → r ≡ prime.Kept
+pub held_kept : (s : Service) (b : Locked) (p : Part) (es now : List Event) (k j : Key) (o : Outcome) (caller : ℕ) (reply : Reply) (r : DeskPrime) (old new : Book) (xs ys : List Cell) (stopped : Bool)
+    → locked es old xs stopped ≡ b → unready s b p ≡ None → Keeps s (locked es old xs stopped) → IsPrime s p k j caller reply r old → r ≡ prime.Kept
     → now ≡ es ++ event caller (Prime k o) reply ∷ [] → ys ≡ xs ++ repeat 0 (waiting ∷ [])
-    → new.rules ≡ d.book.rules → Commits d call new
+    → new.rules ≡ old.rules → StandsFor new (after old.rules (atoms (log es)) (Primes j))
     → Keeps s (locked now new ys stopped)
-held_kept s b p es now k j o caller reply r d call old new xs ys stopped view ready kept is held history cells rules stands =
+held_kept s b p es now k j o caller reply r old new xs ys stopped view ready kept is held history cells rules stands =
     let e : Event = event caller (Prime k o) reply in
-    let next : IsNext s es e = prime_next s p es k j o caller reply r d call old xs stopped kept is in
-    let rules_now : new.rules ≡ old.rules = rules ∙ ap (λ (x : Book). x.rules) is.same in
-    let stands_now = prime_stands s p es k j caller reply r d call old new xs stopped kept is stands in
-    recorded s es now e new xs ys stopped history cells (keeps_prime_held s es e k o old new xs stopped kept next refl (is.replies ∙ ap primed held) (ready_room s b p es old xs stopped view ready) rules_now stands_now)
+    let next : IsNext s es e = prime_next s p es k j o caller reply r old xs stopped kept is in
+    let stands_now = prime_stands s p es k j caller reply r old new xs stopped kept is stands in
+    recorded s es now e new xs ys stopped history cells (keeps_prime_held s es e k o old new xs stopped kept next refl (is.replies ∙ ap primed held) (ready_room s b p es old xs stopped view ready) rules stands_now)
 
 -- a new cell is the next one
-pub primed_next : (s : Service) (p : Part) (es : List Event) (k j : Key) (o : Outcome) (caller c : ℕ) (reply : Reply) (r : DeskPrime) (d : Desk) (call : Ready) (old : Book) (xs : List Cell) (stopped : Bool)
-    → Keeps s (locked es old xs stopped) → IsPrime s p k j caller reply r d call old → r ≡ prime.Primed c → c ≡ length xs
-primed_next s p es k j o caller c reply r d call old xs stopped kept is new =
-    let next = prime_next s p es k j o caller reply r d call old xs stopped kept is in
+pub primed_next : (s : Service) (p : Part) (es : List Event) (k j : Key) (o : Outcome) (caller c : ℕ) (reply : Reply) (r : DeskPrime) (old : Book) (xs : List Cell) (stopped : Bool)
+    → Keeps s (locked es old xs stopped) → IsPrime s p k j caller reply r old → r ≡ prime.Primed c → c ≡ length xs
+primed_next s p es k j o caller c reply r old xs stopped kept is new =
+    let next = prime_next s p es k j o caller reply r old xs stopped kept is in
     let counted = primed_cell s es (event caller (Prime k o) reply) k o c next refl (is.replies ∙ ap primed new) in
     counted ∙ sym (begun_cells s es old xs stopped kept)
 
@@ -179,25 +146,24 @@ ending_is : (end : Ending) (at n : ℕ) (o given : Outcome) → end ≡ record {
 ending_is end at n o given is place copy = rw (is, place, copy) refl
 
 -- after a prime of a key that is not held, whose cell has its end
-pub primed_kept : (s : Service) (b : Locked) (p : Part) (es now : List Event) (k j : Key) (o : Outcome) (caller c : ℕ) (reply : Reply) (r : DeskPrime) (d : Desk) (call : Ready) (old new : Book) (xs mids ys : List Cell) (stopped took : Bool) (end : Ending) (at : ℕ) (given : Outcome)
-    → locked es old xs stopped ≡ b → unready s b p ≡ None → Keeps s (locked es old xs stopped) → IsPrime s p k j caller reply r d call old → r ≡ prime.Primed c
+pub primed_kept : (s : Service) (b : Locked) (p : Part) (es now : List Event) (k j : Key) (o : Outcome) (caller c : ℕ) (reply : Reply) (r : DeskPrime) (old new : Book) (xs mids ys : List Cell) (stopped took : Bool) (end : Ending) (at : ℕ) (given : Outcome)
+    → locked es old xs stopped ≡ b → unready s b p ≡ None → Keeps s (locked es old xs stopped) → IsPrime s p k j caller reply r old → r ≡ prime.Primed c
     → ((h : List Atom) → StandsFor old h → refusal old.rules h (Primes j) ≡ None)
     → now ≡ es ++ event caller (Prime k o) reply ∷ [] → mids ≡ xs ++ repeat 1 (waiting ∷ [])
-    → new.rules ≡ d.book.rules → Commits d call new
+    → new.rules ≡ old.rules → StandsFor new (after old.rules (atoms (log es)) (Primes j))
     → end ≡ record { at = at; outcome = given } → at ≡ length es → o ≡ given
     → MatchBool took (ys ≡ set mids c (ended end)) (Refuses mids ys c end)
     → Keeps s (locked now new ys stopped)
-primed_kept s b p es now k j o caller c reply r d call old new xs mids ys stopped took end at given view ready kept is fresh accepted history cells rules stands ending place copy ends =
+primed_kept s b p es now k j o caller c reply r old new xs mids ys stopped took end at given view ready kept is fresh accepted history cells rules stands ending place copy ends =
     let H = atoms (log es) in
     let e : Event = event caller (Prime k o) reply in
-    let next : IsNext s es e = prime_next s p es k j o caller reply r d call old xs stopped kept is in
-    let last : c ≡ length xs = primed_next s p es k j o caller c reply r d call old xs stopped kept is fresh in
-    let rules_now : new.rules ≡ old.rules = rules ∙ ap (λ (x : Book). x.rules) is.same in
-    let stands_now = prime_stands s p es k j caller reply r d call old new xs stopped kept is stands in
+    let next : IsNext s es e = prime_next s p es k j o caller reply r old xs stopped kept is in
+    let last : c ≡ length xs = primed_next s p es k j o caller c reply r old xs stopped kept is fresh in
+    let stands_now = prime_stands s p es k j caller reply r old new xs stopped kept is stands in
     let none : refusal old.rules H (Primes k) ≡ None = subst (λ (x : Key). refusal old.rules H (Primes x) ≡ None) (sym is.copy) (accepted H kept.desk) in
     let cell = gets_end took mids ys c end ends in
     let shows = subst (λ (x : Ending). ShowsEnd (Some x) cell.0.mark cell.0.shows) (ending_is end at (length es) o given ending place copy) cell.2 in
-    let all : Keeps s (locked (es ++ e ∷ []) new ys stopped) = keeps_prime_new s es e k o c old new xs ys cell.0 stopped kept next refl (is.replies ∙ ap primed fresh) (ready_room s b p es old xs stopped view ready) rules_now stands_now none shows (ended_new xs mids ys c cell.0 cells last cell.1) in
+    let all : Keeps s (locked (es ++ e ∷ []) new ys stopped) = keeps_prime_new s es e k o c old new xs ys cell.0 stopped kept next refl (is.replies ∙ ap primed fresh) (ready_room s b p es old xs stopped view ready) rules stands_now none shows (ended_new xs mids ys c cell.0 cells last cell.1) in
     subst (λ (hs : List Event). Keeps s (locked hs new ys stopped)) (sym history) all
 
 -- ---- how many cells refused their outcome

@@ -1,52 +1,13 @@
 -- What holds of a pass once it has one call, one ticket or one outcome more.
-use Rattle.std.proofs.Common.{◌≡◌, ◌∙◌, sym, ap, subst, ℕ, zero, suc, ◌+◌, ◌-◌, ◌<◌, ◌≤◌, max, true, false, not, List, [], ◌∷◌, ◌++◌, length, set, Option, Some, None, slice_get, get_or, refl, arith, append_assoc, length-append}
+use Rattle.std.proofs.Common.{◌≡◌, ◌∙◌, sym, ap, ℕ, zero, suc, ◌+◌, ◌-◌, ◌<◌, ◌≤◌, max, true, false, not, List, [], ◌∷◌, ◌++◌, length, set, Option, Some, None, slice_get, get_or, refl, arith, length-append}
 use Rattle.std.proofs.lemmas.List.{append-nil, length-set}
 use Rattle.std.proofs.lemmas.Option.{get_or_from_slice_get, slice_get_within}
 use Rattle.dl_loader.specs.declared.pass.Given.{Given}
-use Rattle.dl_loader.specs.Lists.{Every, Among, one_if}
-use Rattle.dl_loader.specs.Entries.{Told, Read, Line, Called, Saw, calls_in, calls_of, IsOwn, line_front, front_of, Ordered, answered, cells_in, cells_of, Answered}
+use Rattle.dl_history.specs.Lists.{Every, Among, one_if}
+use Rattle.dl_history.specs.Entries.{Told, Read, Line, Called, Saw, calls_of, IsOwn, front_of, cells_of}
 use Rattle.dl_loader.specs.Pass.{Pass, IsPass, viewed, part, given, unseen_of, with_saw}
-use Rattle.dl_loader.proofs.ListLemmas.{among_longer, total-append, every_append, every_weaker, every_at, every_set}
-
--- ---- entries, with one more
-
-pub calls_of-append : (xs ys : List Line) → calls_of (xs ++ ys) ≡ calls_of xs ++ calls_of ys
-calls_of-append [] ys = refl
-calls_of-append (x ∷ xs) ys = rw (calls_of-append xs ys) (sym (append_assoc (calls_in x) (calls_of xs) (calls_of ys)))
-
-pub cells_of-append : (xs ys : List Line) → cells_of (xs ++ ys) ≡ cells_of xs ++ cells_of ys
-cells_of-append [] ys = refl
-cells_of-append (x ∷ xs) ys = rw (cells_of-append xs ys) (sym (append_assoc (cells_in x) (cells_of xs) (cells_of ys)))
-
--- no more calls than entries
-pub calls_few : (xs : List Line) → length (calls_of xs) ≤ length xs
-calls_few [] = omega arith
-calls_few (Called t ∷ xs) = let rest = calls_few xs in omega arith
-calls_few (Saw r ∷ xs) = let rest = calls_few xs in omega arith
-
-pub front_of-push : (xs : List Line) (l : Line) → front_of (xs ++ l ∷ []) ≡ max (front_of xs) (line_front l)
-front_of-push [] l = omega arith
-front_of-push (x ∷ xs) l = let rest = front_of-push xs l in omega arith
-
-pub ordered_call : (k : ℕ) (xs : List Line) (t : Told) → k ≤ t.at → front_of xs ≤ t.at → Ordered k xs → Ordered k (xs ++ Called t ∷ [])
-ordered_call k [] t low past ordered = (low, tt)
-ordered_call k (x ∷ xs) t low past ordered =
-    (ordered.0, ordered_call (max k (line_front x)) xs t (omega arith) (omega arith) ordered.1)
-
-pub ordered_saw : (k : ℕ) (xs : List Line) (r : Read) → Ordered k xs → Ordered k (xs ++ Saw r ∷ [])
-ordered_saw k [] r ordered = (tt, tt)
-ordered_saw k (x ∷ xs) r ordered = (ordered.0, ordered_saw (max k (line_front x)) xs r ordered.1)
-
-pub answered_call : (cs : List ℕ) (xs : List Line) (t : Told) → Answered cs xs → Answered cs (xs ++ Called t ∷ [])
-answered_call cs [] t answered = (tt, tt)
-answered_call cs (x ∷ xs) t answered = (answered.0, answered_call (cs ++ cells_in x) xs t answered.1)
-
-pub answered_saw : (cs : List ℕ) (xs : List Line) (r : Read) → Among r.cell (cs ++ cells_of xs) → Answered cs xs → Answered cs (xs ++ Saw r ∷ [])
-answered_saw cs [] r among answered = let P : List ℕ → Type 0 = λ c. Among r.cell c in (subst P (append-nil cs) among, tt)
-answered_saw cs (x ∷ xs) r among answered =
-    let P : List ℕ → Type 0 = λ c. Among r.cell c in
-    let there = subst P (sym (append_assoc cs (cells_in x) (cells_of xs))) among in
-    (answered.0, answered_saw (cs ++ cells_in x) xs r there answered.1)
+use Rattle.dl_history.proofs.ListLemmas.{among_longer, total-append, every_append, every_weaker, every_at, every_set}
+use Rattle.dl_history.proofs.EntryLists.{calls_of-append, cells_of-append, calls_few, front_of-push, ordered_call, ordered_saw, answered_call, answered_saw}
 
 -- tickets of cells with which calls were answered still are
 given_longer : (xs ys : List Line) (gs : List Given) → Every (λ g. Among g.cell (cells_of xs)) gs → Every (λ g. Among g.cell (cells_of (xs ++ ys))) gs

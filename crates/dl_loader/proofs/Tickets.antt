@@ -4,8 +4,8 @@ use Rattle.std.proofs.lemmas.List.{take_more}
 use Rattle.std.proofs.lemmas.List.Sums.{sum_by-append, sum_by-cons}
 use Rattle.dl_desk.specs.declared.reply.LoadReply.{LoadReply}
 use Rattle.dl_loader.specs.Begun.{begun_by, cells_begun}
-use Rattle.dl_loader.specs.Entries.{cell_of_load, cells_of}
-use Rattle.dl_loader.specs.Lists.{Every, Among}
+use Rattle.dl_history.specs.Entries.{cell_of_load, cells_of}
+use Rattle.dl_history.specs.Lists.{Every, Among}
 use Rattle.dl_loader.specs.Pass.{Part, with_ticket, with_tickets}
 
 -- one ticket more

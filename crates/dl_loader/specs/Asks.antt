@@ -3,16 +3,16 @@ use Rattle.std.specs.Prelude.{ℕ, Option, Some, None}
 use Rattle.dl_desk.specs.declared.outcome.BatchFault.{BatchFault}
 use Rattle.dl_desk.specs.declared.outcome.BatchFault.TheVariants as fault
 use Rattle.dl_desk.specs.declared.reply.Job.{Job}
-use Rattle.dl_source.specs.declared.source.BatchAnswer.{BatchAnswer}
-use Rattle.dl_source.specs.declared.source.BatchAnswer.TheVariants.{Each, Break}
+use Rattle.dl_desk.specs.declared.outcome.BatchAnswer.{BatchAnswer}
+use Rattle.dl_desk.specs.declared.outcome.BatchAnswer.TheVariants.{Each, Break}
 use Rattle.dl_source.specs.declared.source.Source.{Ghosts}
 use Rattle.dl_source.specs.Fetched.{source_of, job_of, answer_of}
 use Rattle.dl_loader.specs.declared.ask.Ask.{Ask}
 use Rattle.dl_loader.specs.declared.ask.Ask.TheVariants as ask
-use Rattle.dl_loader.specs.declared.event.Call.{Call}
-use Rattle.dl_loader.specs.declared.event.Call.TheVariants.{Load, LoadMany, Prime, Clear, ClearAll, Dispatch, Settle, Fail}
-use Rattle.dl_loader.specs.declared.event.GiveUp.{GiveUp}
-use Rattle.dl_loader.specs.declared.event.GiveUp.TheVariants.{Memory, Unsent}
+use Rattle.dl_history.specs.declared.event.Call.{Call}
+use Rattle.dl_history.specs.declared.event.Call.TheVariants.{Load, LoadMany, Prime, Clear, ClearAll, Dispatch, Settle, Fail}
+use Rattle.dl_loader.specs.declared.ask.GiveUp.{GiveUp}
+use Rattle.dl_loader.specs.declared.ask.GiveUp.TheVariants.{Memory, Unsent}
 
 -- the end that an answer brings to a batch: its outcomes, or a failure with the text of its break
 abbrev pub end_by : ℕ → BatchAnswer → Call

@@ -1,14 +1,10 @@
 -- What contracts see of a loader's book, which lies behind its lock, and what the book keeps.
-use Rattle.std.specs.Prelude.{◌≡◌, ℕ, ◌≤◌, Bool, List, length, Option, None, Some, IsSome, slice_get}
-use Rattle.dl_desk.specs.Events.{atoms}
-use Rattle.dl_desk.specs.Book.{Book, StandsFor}
-use Rattle.dl_loader.specs.Service.{Service}
-use Rattle.dl_loader.specs.History.{log, IsLegal, ending_of}
-use Rattle.dl_loader.specs.Journal.{Cell}
-use Rattle.dl_loader.specs.declared.event.Event.{Event}
-use Rattle.dl_loader.specs.declared.event.Ending.{Ending}
-use Rattle.dl_loader.specs.declared.state.Mark.{Mark}
-use Rattle.dl_loader.specs.declared.state.Mark.TheVariants.{Waiting, Ended, Refused}
+use Rattle.std.specs.Prelude.{Bool, List}
+use Rattle.dl_desk.specs.Book.{Book}
+use Rattle.dl_history.specs.Service.{Service}
+use Rattle.dl_history.specs.Journal.{Cell}
+use Rattle.dl_history.specs.Kept.{Kept, kept, IsKept}
+use Rattle.dl_history.specs.declared.event.Event.{Event}
 
 -- What contracts see of a book: the history, the desk with its memo and batches, each cell that was begun,
 -- and whether the loader is stopped.
@@ -21,25 +17,10 @@ pub record Locked : Type 0 where
 abbrev pub locked : List Event → Book → List Cell → Bool → Locked
 locked history desk cells stopped = record { history = history; desk = desk; cells = cells; stopped = stopped }
 
--- A cell that has no end shows nothing. One that has an end shows its outcome with the place of its end, or
--- refused it, and then its mark keeps it.
-abbrev pub ShowsEnd : Option Ending → Mark → Option Ending → Type 0
-ShowsEnd end Waiting shows = (end ≡ None) × (shows ≡ None)
-ShowsEnd end Ended shows = IsSome end × (shows ≡ end)
-ShowsEnd end (Refused kept) shows = end ≡ Some kept.value
+-- a book without whether the loader is stopped
+abbrev pub kept_of : Locked → Kept
+kept_of b = kept b.history b.desk b.cells
 
--- the same of a cell that is there, and that is no end where there is none
-abbrev pub ShownAs : Option Cell → Option Ending → Type 0
-ShownAs None end = end ≡ None
-ShownAs (Some x) end = ShowsEnd end x.mark x.shows
-
--- What a book keeps: its history is legal and no longer than it may be, its memo and batches are those of the
--- history, it has each cell that was begun, and each of them shows its end or keeps it.
-pub record Keeps (service : Service) (b : Locked) : Type 0 where
-  pub legal : IsLegal service b.history
-  pub calls_fit : length b.history ≤ service.rules.limits.max_calls
-  pub rules : b.desk.rules ≡ service.rules
-  pub desk : StandsFor b.desk (atoms (log b.history))
-  pub all_cells : length b.cells ≡ b.desk.cells
-  pub cells_fit : b.desk.cells ≤ service.rules.limits.max_cells
-  pub ends : (c : ℕ) (x : Cell) → slice_get b.cells c ≡ Some x → ShowsEnd (ending_of b.history c) x.mark x.shows
+-- What a book keeps: its history is legal, and its desk and its cells are those of the history.
+abbrev pub Keeps : Service → Locked → Type 0
+Keeps service b = IsKept service (kept_of b)

@@ -1,27 +1,30 @@
 -- When a loader may be closed, and why it is refused.
-use Rattle.std.specs.Prelude.{◌≡◌, ℕ, zero, suc, ◌+◌, ◌<◌, ◌≤◌, Bool, false, List, [], ◌∷◌, length, Option, None, Some, IsSome, filter, flat_map, nat_eq, nat_le, slice_get, ◌||◌, if◌then◌else◌}
+use Rattle.std.specs.Prelude.{◌≡◌, ℕ, zero, suc, ◌+◌, ◌<◌, ◌≤◌, List, [], length, Option, None, Some, nat_eq, nat_le, ◌||◌, if◌then◌else◌, map}
 use Rattle.dl_desk.specs.Events.{atoms}
 use Rattle.dl_desk.specs.History.{begun, end_of}
-use Rattle.dl_loader.specs.Agrees.{Account, account, accounts_by, HasEach}
+use Rattle.dl_history.specs.Agrees.{Account, account, accounts_by, HasEach, NoneBehind, unshown}
 use Rattle.dl_loader.specs.Book.{Locked}
-use Rattle.dl_loader.specs.Entries.{Line, Called, Saw, front_of}
-use Rattle.dl_loader.specs.History.{log}
-use Rattle.dl_loader.specs.Journal.{Cell, is_refused}
-use Rattle.dl_loader.specs.Lists.{Every, Among, one_if}
+use Rattle.dl_history.specs.Entries.{Line, front_of}
+use Rattle.dl_history.specs.History.{log, HasEnd, AllEnded}
+use Rattle.dl_history.specs.Lists.{Every, Among, one_if}
 use Rattle.dl_loader.specs.declared.fault.CloseFault.{CloseFault}
 use Rattle.dl_loader.specs.declared.fault.CloseFault.TheVariants.{PassesMissing, Behind, Unshown, Unsettled, OutOfMemory}
-use Rattle.dl_loader.specs.declared.event.Event.{Event}
+use Rattle.dl_history.specs.declared.event.Event.{Event}
+use Rattle.dl_loader.specs.Pass.{Part, Pass}
 
 -- ---- passes
+
+-- the account that a pass leaves
+abbrev pub account_of : Part → Account
+account_of p = account p.caller p.entries
+
+abbrev pub accounts_of : List Pass → List Account
+accounts_of passes = map (λ p. account_of p.part) passes
 
 -- how many of the first callers have exactly one of the accounts
 abbrev pub present : ℕ → List Account → ℕ
 present zero accounts = 0
 present (suc n) accounts = present n accounts + one_if (nat_eq (accounts_by n accounts) 1)
-
--- no account has seen more events than there are
-abbrev pub NoneBehind : ℕ → List Account → Type 0
-NoneBehind len accounts = (a : Account) → Among a accounts → front_of a.entries ≤ len
 
 -- Of the accounts that have seen more events than there are, this is the least caller's, with this front.
 pub record IsBehind (len : ℕ) (accounts : List Account) (caller front : ℕ) : Type 0 where
@@ -38,40 +41,12 @@ earlier len (Some found) caller front = if nat_le front len || nat_le found.0 ca
 
 -- ---- cells that refused their outcome
 
-abbrev pub cell_refused : Option Cell → Bool
-cell_refused None = false
-cell_refused (Some x) = is_refused x.mark
-
-abbrev pub read_in : Line → List ℕ
-read_in (Called t) = []
-read_in (Saw r) = r.cell ∷ []
-
--- the cells whose outcome stands among the entries of the accounts
-abbrev pub reads_of : List Account → List ℕ
-reads_of accounts = flat_map (λ a. flat_map read_in a.entries) accounts
-
--- those of the numbers whose cells refused their outcome
-abbrev pub refused_in : List Cell → List ℕ → List ℕ
-refused_in cells ns = filter (λ c. cell_refused (slice_get cells c)) ns
-
--- the cells that refused their outcome and of which the accounts have one
-abbrev pub unshown : List Cell → List Account → List ℕ
-unshown cells accounts = refused_in cells (reads_of accounts)
-
 -- the least of the numbers, if there are any
 abbrev pub IsLeastOf : Option ℕ → List ℕ → Type 0
 IsLeastOf None ns = ns ≡ []
 IsLeastOf (Some n) ns = Among n ns × Every (λ m. n ≤ m) ns
 
 -- ---- batches that have no end
-
--- the batch has ended
-abbrev pub HasEnd : List Event → ℕ → Type 0
-HasEnd history b = IsSome (end_of (atoms (log history)) b)
-
--- each batch has ended
-abbrev pub AllEnded : List Event → Type 0
-AllEnded history = (b : ℕ) → b < begun (atoms (log history)) → HasEnd history b
 
 -- the batch was begun, and is the least that has no end
 pub record IsFirstOpen (history : List Event) (b : ℕ) : Type 0 where

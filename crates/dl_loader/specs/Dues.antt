@@ -7,13 +7,13 @@ use Rattle.dl_desk.specs.Calls.{unfit}
 use Rattle.dl_desk.specs.declared.outcome.Outcome.{Outcome}
 use Rattle.dl_desk.specs.declared.outcome.Outcome.TheVariants.{BatchFailed}
 use Rattle.dl_loader.specs.declared.dues.Due.{Due}
-use Rattle.dl_loader.specs.declared.event.Call.{Call}
-use Rattle.dl_loader.specs.declared.event.Call.TheVariants.{Settle, Fail}
+use Rattle.dl_history.specs.declared.event.Call.{Call}
+use Rattle.dl_history.specs.declared.event.Call.TheVariants.{Settle, Fail}
 use Rattle.dl_loader.specs.declared.fault.CallFault.{CallFault}
 use Rattle.dl_loader.specs.declared.fault.CallFault.TheVariants.{WrongKeys}
-use Rattle.dl_loader.specs.History.{keys_of}
-use Rattle.dl_loader.specs.Journal.{Cell, waiting}
-use Rattle.dl_loader.specs.Book.{ShowsEnd}
+use Rattle.dl_history.specs.History.{keys_of}
+use Rattle.dl_history.specs.Journal.{Cell, waiting}
+use Rattle.dl_history.specs.Kept.{ShowsEnd}
 use Rattle.dl_loader.specs.Refusals.{call_fault, same_keys}
 
 -- The refusal of an end of a batch by a job with these keys: the batch may not end, or its keys are others.

@@ -1,10 +1,10 @@
 -- How far the cells of a batch's members have got their ends.
 use Rattle.std.specs.Prelude.{◌≡◌, ℕ, ◌<◌, List, length, Some, slice_get}
 use Rattle.dl_desk.specs.Key.{Key}
-use Rattle.dl_loader.specs.History.{ending_of}
-use Rattle.dl_loader.specs.Journal.{Cell}
-use Rattle.dl_loader.specs.Book.{ShowsEnd}
-use Rattle.dl_loader.specs.declared.event.Event.{Event}
+use Rattle.dl_history.specs.History.{ending_of}
+use Rattle.dl_history.specs.Journal.{Cell}
+use Rattle.dl_history.specs.Kept.{ShowsEnd}
+use Rattle.dl_history.specs.declared.event.Event.{Event}
 
 -- The cells of the members below a place show the ends that they have after the events, and each other cell
 -- is as it was.

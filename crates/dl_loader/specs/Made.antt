@@ -2,13 +2,13 @@
 use Rattle.std.specs.Prelude.{◌≡◌, ℕ, ◌≤◌, List, [], ◌∷◌, ◌++◌, length, Option}
 use Rattle.dl_desk.specs.declared.reply.Job.{Job}
 use Rattle.dl_desk.specs.declared.reply.LoadReply.{LoadReply}
-use Rattle.dl_loader.specs.declared.event.Event.{Event}
-use Rattle.dl_loader.specs.declared.event.Call.{Call}
-use Rattle.dl_loader.specs.declared.event.Reply.{Reply}
-use Rattle.dl_loader.specs.declared.event.Reply.TheVariants.{Loaded, Many, Primed, Kept, Done, Sent}
+use Rattle.dl_history.specs.declared.event.Event.{Event}
+use Rattle.dl_history.specs.declared.event.Call.{Call}
+use Rattle.dl_history.specs.declared.event.Reply.{Reply}
+use Rattle.dl_history.specs.declared.event.Reply.TheVariants.{Loaded, Many, Primed, Kept, Done, Sent}
 use Rattle.dl_loader.specs.Pass.{Part, with_call, with_tickets}
-use Rattle.dl_loader.specs.Service.{Service}
-use Rattle.dl_loader.specs.Entries.{front_of}
+use Rattle.dl_history.specs.Service.{Service}
+use Rattle.dl_history.specs.Entries.{front_of}
 use Rattle.dl_loader.specs.Book.{Locked, Keeps}
 use Rattle.dl_loader.specs.Refusals.{IsRefusal}
 use Rattle.dl_loader.specs.declared.fault.CallFault.{CallFault}

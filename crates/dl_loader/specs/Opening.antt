@@ -3,8 +3,8 @@ use Rattle.std.specs.Prelude.{◌≡◌, ℕ, ◌<◌, ◌≤◌, List}
 use Rattle.dl_cells.specs.Cells.{RowName, row_len}
 use Rattle.dl_desk.specs.Key.{Key}
 use Rattle.dl_desk.specs.Limits.{Limits, Rules}
-use Rattle.dl_source.specs.declared.source.BatchAnswer.{BatchAnswer}
-use Rattle.dl_loader.specs.Service.{AnswersEach}
+use Rattle.dl_desk.specs.declared.outcome.BatchAnswer.{BatchAnswer}
+use Rattle.dl_history.specs.Service.{AnswersEach}
 use Rattle.dl_loader.specs.declared.fault.StartFault.{StartFault}
 use Rattle.dl_loader.specs.declared.fault.StartFault.TheVariants.{NoCallers, TooManyCallers, OutOfMemory}
 use Rattle.dl_loader.specs.declared.opening.TheConstants.{MOST_CALLERS}

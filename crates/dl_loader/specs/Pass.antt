@@ -2,11 +2,11 @@
 use Rattle.std.specs.Prelude.{◌≡◌, ℕ, zero, suc, ◌+◌, ◌-◌, ◌<◌, ◌≤◌, min, Bool, true, false, not, List, [], ◌∷◌, ◌++◌, length, map, set, Option, Some, slice_get}
 use Rattle.dl_desk.specs.declared.outcome.Outcome.{Outcome}
 use Rattle.dl_desk.specs.declared.reply.LoadReply.{LoadReply}
-use Rattle.dl_loader.specs.declared.event.Event.{Event}
-use Rattle.dl_loader.specs.declared.event.Ending.{Ending}
+use Rattle.dl_history.specs.declared.event.Event.{Event}
+use Rattle.dl_history.specs.declared.event.Ending.{Ending}
 use Rattle.dl_loader.specs.declared.pass.Given.{Given}
-use Rattle.dl_loader.specs.Lists.{Every, Among, total, one_if}
-use Rattle.dl_loader.specs.Entries.{told, Line, Called, Saw, read, calls_of, IsOwn, front_of, Ordered, cell_of_load, cells_of, Answered}
+use Rattle.dl_history.specs.Lists.{Every, Among, total, one_if}
+use Rattle.dl_history.specs.Entries.{told, Line, Called, Saw, read, calls_of, IsOwn, front_of, Ordered, cell_of_load, cells_of, Answered}
 
 -- ---- passes
 

@@ -9,12 +9,12 @@ use Rattle.dl_desk.specs.Calls as desk
 use Rattle.dl_desk.specs.declared.fault.DeskFault.{DeskFault}
 use Rattle.dl_desk.specs.declared.fault.DeskFault.TheVariants as desk_fault
 use Rattle.dl_desk.specs.declared.reply.Job.{Job}
-use Rattle.dl_loader.specs.Service.{Service}
-use Rattle.dl_loader.specs.History.{log, keys_of, call_of}
-use Rattle.dl_loader.specs.Entries.{front_of}
+use Rattle.dl_history.specs.Service.{Service}
+use Rattle.dl_history.specs.History.{log, keys_of, call_of}
+use Rattle.dl_history.specs.Entries.{front_of}
 use Rattle.dl_loader.specs.Pass.{Part}
 use Rattle.dl_loader.specs.Book.{Locked}
-use Rattle.dl_loader.specs.declared.event.Call.{Call}
+use Rattle.dl_history.specs.declared.event.Call.{Call}
 use Rattle.dl_loader.specs.declared.fault.CallFault.{CallFault}
 use Rattle.dl_loader.specs.declared.fault.CallFault.TheVariants.{Stopped, Behind, LogFull, NoBatch, NotSent, SettledBefore, WrongKeys, CellsFull, OutOfMemory, LogRefused}
 

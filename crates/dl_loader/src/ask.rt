@@ -1,6 +1,5 @@
 //! The event calls of a loader, as values.
 
-use crate::event::{Call, GiveUp};
 use dl_desk::{FetchKey, Job, Outcome};
 use dl_source::{Fetched, Source};
 
@@ -23,4 +22,13 @@ pub enum Ask<'a, S: Source> {
     Settle(Fetched<'a, S>),
     /// `fail`
     Fail(Job, GiveUp),
+}
+
+/// Why a batch that was sent is failed without an answer.
+#[derive(Clone, Copy, Debug, PartialEq, Eq)]
+pub enum GiveUp {
+    /// Memory ran out before the batch was answered.
+    Memory,
+    /// The batch was never handed to a worker.
+    Unsent,
 }

@@ -2,9 +2,9 @@
 
 ghost use Rattle.std.specs.Prelude.{◌≡◌, ◌<◌, ◌≤◌, [], false, true, IfErr, None, OnOk, Some, length};
 ghost use Rattle.dl_desk.specs.Limits.{mixed};
-ghost use Rattle.dl_loader.specs.Service.{service};
+ghost use Rattle.dl_history.specs.Service.{service};
 ghost use Rattle.dl_loader.specs.Book.{Keeps, locked};
-ghost use Rattle.dl_loader.specs.Entries.{cell_of_load, front_of};
+ghost use Rattle.dl_history.specs.Entries.{cell_of_load, front_of};
 ghost use Rattle.dl_loader.specs.Refusals.{unready};
 
 mod closing;
@@ -13,12 +13,11 @@ mod keys;
 mod loads;
 
 use crate::fault::CallFault;
-use crate::journal::Journal;
 use crate::loader::Loader;
-use crate::name::LoaderName;
 use crate::pass::Pass;
 use crate::ticket::{Ticket, load_cell};
 use dl_desk::{Desk, Limits, LoadReply};
+use dl_history::{Journal, LoaderName};
 use std::alloc::Global;
 use std::marker::Model;
 use std::sync::ledger;
@@ -36,9 +35,9 @@ pub struct Book<L: LoaderName> {
 
 impl<L: LoaderName> Model for Book<L> {
     ghost use Rattle.std.specs.Coded.{codes};
-    ghost use Rattle.dl_loader.specs.contracts.event.Event as event;
-    ghost use Rattle.dl_loader.specs.contracts.event.Ending as ending;
-    ghost use Rattle.dl_loader.specs.Service.{service};
+    ghost use Rattle.dl_history.specs.contracts.event.Event as event;
+    ghost use Rattle.dl_history.specs.contracts.event.Ending as ending;
+    ghost use Rattle.dl_history.specs.Service.{service};
     ghost use Rattle.dl_loader.specs.Book.{Locked, locked, Keeps};
 
     ghost Value = { Locked };

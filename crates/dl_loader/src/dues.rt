@@ -3,13 +3,11 @@
 ghost use Rattle.std.specs.Prelude.{◌≡◌, ℕ, ◌+◌, ◌<◌, ◌≤◌, IfOk, IsSome, Some, length, map};
 ghost use Rattle.dl_cells.specs.Cells.{row_len};
 ghost use Rattle.dl_loader.specs.Dues.{AreDue, AreGiven, CanEnd, outcome_by};
-ghost use Rattle.dl_loader.specs.Journal.{refusals};
+ghost use Rattle.dl_history.specs.Journal.{refusals};
 
-use crate::event::{Call, Ending};
-use crate::journal::Journal;
-use crate::name::LoaderName;
 use dl_cells::CellRow;
 use dl_desk::{Outcome, Outcomes};
+use dl_history::{Call, Ending, Journal, LoaderName};
 use std::alloc::{AllocError, Global};
 
 /// The end that a cell is due.

@@ -5,21 +5,19 @@ ghost use Rattle.dl_cells.specs.Cells.{Agrees};
 ghost use Rattle.dl_desk.specs.Key.{Key};
 ghost use Rattle.dl_loader.specs.Asks.{call_asked, job_asked, source_asked};
 ghost use Rattle.dl_loader.specs.Book.{Keeps};
-ghost use Rattle.dl_loader.specs.Entries.{cell_of_load};
-ghost use Rattle.dl_loader.specs.Journal.{refusals};
+ghost use Rattle.dl_history.specs.Entries.{cell_of_load};
+ghost use Rattle.dl_history.specs.Journal.{refusals};
 ghost use Rattle.dl_loader.specs.Made.{Makes};
-ghost use Rattle.dl_loader.specs.Refusals.{refusal, IsRefusal, unready};
-ghost use Rattle.dl_loader.specs.Service.{service};
+ghost use Rattle.dl_loader.specs.Refusals.{refusal, IsRefusal};
+ghost use Rattle.dl_history.specs.Service.{service};
 
 use crate::ask::Ask;
 use crate::book::Book;
-use crate::event::Reply;
 use crate::fault::CallFault;
-use crate::lists::{Jobs, Replies};
 use crate::loader::Loader;
-use crate::name::LoaderName;
 use crate::pass::Pass;
 use crate::ticket::Ticket;
+use dl_history::{Jobs, LoaderName, Replies, Reply};
 use dl_source::Source;
 use std::alloc::Global;
 

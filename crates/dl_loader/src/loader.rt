@@ -1,23 +1,24 @@
 //! The shared loader.
 
-ghost use Rattle.std.specs.Prelude.{◌≡◌, ◌≤◌, ◌<◌, ◌+◌, ◌-◌, Bool, IfErr, IfOk, IfSome, IsSome, List, None, OnErr, OnOk, Some, map};
+ghost use Rattle.std.specs.Prelude.{◌≡◌, ◌<◌, ◌-◌, Bool, IfErr, IfOk, IfSome, IsSome, List, None, OnErr, OnOk, Some, map};
 ghost use Rattle.dl_cells.specs.Cells.{row_len};
 ghost use Rattle.dl_desk.specs.Key.{Key};
 ghost use Rattle.dl_loader.specs.declared.fault.StartFault.TheVariants.{OutOfMemory};
-ghost use Rattle.dl_loader.specs.Entries.{cell_of_load, ending_known};
+ghost use Rattle.dl_history.specs.Entries.{cell_of_load, ending_known};
 ghost use Rattle.dl_loader.specs.Pass.{Gave, fresh, with_saw};
 
+mod accounts;
 mod close;
+pub(crate) mod unshown;
 
 use crate::book::Book;
-use crate::event::{Ending, Event};
 use crate::fault::{StartFault, Stopped};
-use crate::name::LoaderName;
 use crate::opening::Opening;
 use crate::pass::Pass;
 use crate::ticket::Ticket;
 use dl_cells::CellRow;
 use dl_desk::Limits;
+use dl_history::{Ending, Event, LoaderName};
 use dl_source::Source;
 use std::alloc::{AllocError, Global};
 use std::marker::Model;

@@ -1,37 +1,25 @@
 //! What the replies to loads bring: cells, and tickets for their caller.
 
 ghost use Rattle.std.specs.Prelude.{◌≡◌, ◌-◌, ◌<◌, ◌≤◌, [], length, vec_capacity};
-ghost use Rattle.dl_loader.specs.Begun.{cells_begun};
-ghost use Rattle.dl_loader.specs.Entries.{cell_of_load, cells_of};
-ghost use Rattle.dl_loader.specs.Lists.{Among, Every};
+ghost use Rattle.dl_loader.specs.Begun.{begun_by, cells_begun};
+ghost use Rattle.dl_history.specs.Entries.{cell_of_load, cells_of};
+ghost use Rattle.dl_history.specs.Lists.{Among, Every};
 ghost use Rattle.dl_loader.specs.Pass.{AreTickets, with_tickets};
-ghost use Rattle.dl_loader.specs.Replies.{loads_in};
 
 use crate::book::Book;
 use crate::loader::Loader;
-use crate::name::LoaderName;
 use crate::pass::Pass;
 use crate::ticket::{Ticket, load_cell};
-use dl_desk::{DeskReply, LoadReply};
-use std::alloc::Global;
+use dl_desk::LoadReply;
+use dl_history::LoaderName;
 
-/// The replies to loads, where the reply is to loads.
-pub(crate) fn loads_in(reply: &DeskReply) -> &[LoadReply]
-    ensures { result.now ≡ loads_in reply.now }
+/// How many cells a load began.
+pub(crate) fn begun_by(reply: LoadReply) -> u32
+    ensures { result ≡ begun_by reply }
 {
     match reply {
-        DeskReply::Loads(replies) => replies.as_slice(),
-        DeskReply::Primed(_) | DeskReply::Sent(_) => &[],
-    }
-}
-
-/// The replies to loads by value, where the reply is to loads. It takes no memory.
-pub(crate) fn into_loads(alloc: Global, reply: DeskReply) -> Vec<LoadReply>
-    ensures { result.items ≡ loads_in reply }
-{
-    match reply {
-        DeskReply::Loads(replies) => replies,
-        DeskReply::Primed(_) | DeskReply::Sent(_) => Vec::new(alloc),
+        LoadReply::Hit(_) => 0,
+        LoadReply::Fresh { .. } => 1,
     }
 }
 

@@ -4,10 +4,10 @@ ghost use Rattle.std.specs.Prelude.{◌≡◌, IfOk, IfErr, OnOk};
 ghost use Rattle.dl_desk.specs.Limits.{mixed};
 ghost use Rattle.dl_loader.specs.Opening.{AreCallers, RefusedAs};
 
-use crate::event::{Ending, Event};
 use crate::fault::StartFault;
 use dl_cells::CellRow;
 use dl_desk::Limits;
+use dl_history::{Ending, Event};
 use dl_source::Source;
 use std::alloc::Global;
 use std::marker::Model;

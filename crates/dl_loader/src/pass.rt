@@ -1,18 +1,17 @@
 //! Passes: what a caller knows of the history.
 
-ghost use Rattle.std.specs.Prelude.{◌≡◌, ◌+◌, ◌<◌, ◌≤◌, Bool, false, IfSome, IsSome, OnErr, OnOk, Some, [], length, slice_get};
-ghost use Rattle.dl_loader.specs.Agrees.{IsAccount, account_of, places_of};
-ghost use Rattle.dl_loader.specs.Entries.{calls_of, cell_of_load, cells_of, ending_known, front_of};
-ghost use Rattle.dl_loader.specs.Lists.{Among};
+ghost use Rattle.std.specs.Prelude.{◌≡◌, ◌+◌, ◌<◌, ◌≤◌, ◌∷◌, ◌++◌, Bool, false, IfSome, IsSome, OnErr, OnOk, Some, [], length, slice_get};
+ghost use Rattle.dl_history.specs.Agrees.{IsAccount, places_of};
+ghost use Rattle.dl_loader.specs.Closing.{account_of};
+ghost use Rattle.dl_history.specs.Entries.{calls_of, cell_of_load, cells_of, ending_known, front_of};
+ghost use Rattle.dl_history.specs.Lists.{Among};
 ghost use Rattle.dl_loader.specs.Pass.{Gave, given, part, with_call, with_saw, with_ticket};
 
-use crate::account::Account;
-use crate::entry::{Entry, Seen, Stored};
-use crate::name::LoaderName;
 use crate::ticket::Ticket;
+use dl_history::{Account, Entry, Journal, LoaderName, Seen, Stored};
 use std::alloc::{AllocError, Global};
 use std::marker::Model;
-use std::sync::ledger::{Book, Share};
+use std::sync::ledger::Share;
 
 /// A ticket that a pass gave.
 #[derive(Clone, Copy, Debug)]
@@ -139,18 +138,22 @@ impl<L: LoaderName> Pass<L> {
         self.tickets.reserve(more)
     }
 
-    /// Adds a call, which counts in the book of calls. It takes no memory.
-    pub(crate) fn add_call(&mut self, stored: Stored<L>, calls: &mut Book<L>)
+    /// Adds a call, which is the journal's next event and counts there. It takes no memory.
+    pub(crate) fn add_call(&mut self, stored: Stored<L>, journal: &mut Journal<L>)
+        requires place { stored.at ≡ length journal.old.history }
+        requires journal_room { 0 < journal.old.spare }
         requires room { 0 < self.old.spare }
-        requires after { front_of self.old.part.entries ≤ stored.at }
+        requires after { front_of self.old.part.entries ≤ length journal.old.history }
         requires own { stored.event.caller ≡ self.old.part.caller }
-        ensures part { self.new.part ≡ with_call self.old.part stored.at stored.event }
+        ensures history { journal.new.history ≡ journal.old.history ++ stored.event ∷ [] }
+        ensures cells { journal.new.cells ≡ journal.old.cells }
+        ensures journal_room { journal.old.spare ≤ journal.new.spare + 1 }
+        ensures part { self.new.part ≡ with_call self.old.part (length journal.old.history) stored.event }
         ensures room { self.old.spare ≤ self.new.spare + 1 }
-        ensures counted { calls.new.total ≡ calls.old.total + 1 }
     {
         self.front = u32::from(stored.at()) + 1;
         self.calls += 1;
-        calls.add(&mut self.share, 1);
+        journal.add(stored.again(), &mut self.share);
         self.entries.push_reserved(Entry::call(stored));
     }
 

@@ -5,24 +5,21 @@ ghost use Rattle.std.specs.List.{repeat};
 ghost use Rattle.dl_cells.specs.Cells.{row_len};
 ghost use Rattle.dl_loader.specs.declared.fault.CallFault.TheVariants.{LogRefused, OutOfMemory};
 ghost use Rattle.dl_loader.specs.declared.dues.Due.{Due};
-ghost use Rattle.dl_loader.specs.declared.event.Reply.TheVariants.{Done};
+ghost use Rattle.dl_history.specs.declared.event.Reply.TheVariants.{Done};
 ghost use Rattle.dl_loader.specs.Dues.{AreDue, AreGiven, CanEnd, outcome_by};
-ghost use Rattle.dl_loader.specs.Entries.{front_of};
-ghost use Rattle.dl_loader.specs.Journal.{AreBlank, refusals, waiting};
+ghost use Rattle.dl_history.specs.Entries.{front_of};
+ghost use Rattle.dl_history.specs.Journal.{AreBlank, refusals, waiting};
 ghost use Rattle.dl_loader.specs.Made.{event_of, with_event};
 ghost use Rattle.dl_loader.specs.Pass.{with_call};
 
 use crate::dues::{dues, give};
-use crate::entry::Stored;
-use crate::event::{Call, Ending, Event, Reply};
 use crate::fault::CallFault;
-use crate::journal::Journal;
 use crate::loader::Loader;
-use crate::name::LoaderName;
 use crate::pass::Pass;
 use crate::reply::Settled;
 use dl_cells::{CellRow, Reader};
 use dl_desk::LARGEST_LIMIT;
+use dl_history::{Call, Ending, Event, Journal, LoaderName, Reply, Stored};
 use std::alloc::{AllocError, Global};
 
 impl<L: LoaderName> Loader<L> {
@@ -63,7 +60,7 @@ impl<L: LoaderName> Loader<L> {
         let stored = Stored::store(&self.log, place, &mut reader, event).map_err(
             |_| CallFault::LogRefused,
         )?;
-        journal.add(stored, pass);
+        pass.add_call(stored, journal);
         journal.add_cells(readers);
         Ok(())
     }

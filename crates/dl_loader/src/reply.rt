@@ -1,9 +1,9 @@
 //! What event calls answer, where it is neither a ticket nor a job.
 
-ghost use Rattle.std.specs.Prelude.{◌≡◌, ◌≤◌, ◌+◌};
+ghost use Rattle.std.specs.Prelude.{◌≡◌};
 ghost use Rattle.dl_loader.specs.EventReplies.{refused_by, told_by};
 
-use crate::event::Reply;
+use dl_history::Reply;
 
 /// What a prime answers.
 #[derive(Clone, Copy, Debug, PartialEq, Eq)]

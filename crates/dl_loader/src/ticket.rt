@@ -2,14 +2,12 @@
 
 ghost use Rattle.std.specs.Prelude.{◌≡◌, ◌<◌, IfNone, IfSome, IsSome, None, Some};
 ghost use Rattle.dl_cells.specs.Cells.{Agrees, cell_of, row_len};
-ghost use Rattle.dl_loader.specs.Entries.{cell_of_load, ending_known, read};
+ghost use Rattle.dl_history.specs.Entries.{cell_of_load, ending_known, read};
 ghost use Rattle.dl_loader.specs.Pass.{Shows, hold};
 
-use crate::entry::Seen;
-use crate::event::Ending;
-use crate::name::LoaderName;
 use dl_cells::{CellRow, Reader};
 use dl_desk::{LoadReply, Outcome};
+use dl_history::{Ending, LoaderName, Seen};
 use std::marker::{Model, PhantomData};
 
 /// A caller's hold on the cell of a load, which shows the outcome once the cell has ended. Contracts
@@ -26,7 +24,7 @@ pub struct Ticket<'a, L: LoaderName> {
 impl<'a, L: LoaderName> Model for Ticket<'a, L> {
     ghost use Rattle.std.specs.Prelude.{◌≡◌, ◌<◌};
     ghost use Rattle.dl_cells.specs.Cells.{cell_of, row_len};
-    ghost use Rattle.dl_loader.specs.Entries.{cell_of_load};
+    ghost use Rattle.dl_history.specs.Entries.{cell_of_load};
     ghost use Rattle.dl_loader.specs.Pass.{Hold, hold};
     ghost use Rattle.dl_loader.specs.Codes.{hold_code};
 

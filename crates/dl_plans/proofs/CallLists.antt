@@ -1,15 +1,15 @@
 -- Reading a list of calls one by one.
-use Rattle.std.proofs.Common.{◌≡◌, ℕ, zero, suc, ◌+◌, ◌<◌, ◌≤◌, List, [], ◌∷◌, ◌++◌, length, get_or, take, map, Some, None, refl, sym, ap, ◌∙◌, arith}
-use Rattle.std.proofs.lemmas.List.{take_more, take_all, map-append}
+use Rattle.std.proofs.Common.{◌≡◌, ℕ, zero, suc, ◌+◌, ◌<◌, List, [], ◌∷◌, ◌++◌, length, get_or, take, map, Some, None, refl, sym, ap, ◌∙◌, arith}
+use Rattle.std.proofs.lemmas.List.{take_more, map-append}
 use Rattle.std.specs.List.{AllByRecursion}
 use Rattle.serde_json.proofs.Views.{get_item_within}
 use Rattle.serde_json.specs.Data.{Data}
 use Rattle.serde_json.specs.Find.{get_item}
-use Rattle.serde_json.specs.View.{view, items_of, items_view}
+use Rattle.serde_json.specs.View.{view, items_view}
 use Rattle.serde_json.specs.declared.value.Value.{Value}
 use Rattle.dl_plans.proofs.CallLaws.{call_is, call_again}
 use Rattle.dl_plans.specs.Faults.{IsNoCall}
-use Rattle.dl_plans.specs.Read.{AreCalls, IsFirstBad}
+use Rattle.dl_plans.specs.Read.{IsFirstBad}
 use Rattle.dl_plans.specs.Reading.{call_in}
 use Rattle.dl_plans.specs.Script.{call_tree, IsCall}
 use Rattle.dl_plans.specs.declared.fault.PlanFault.TheVariants.{BadCall}
@@ -33,10 +33,6 @@ spell_more vs i v cs c h is so_far found =
     let trees : map view (take i vs ++ v ∷ []) ≡ map call_tree (cs ++ c ∷ []) =
     map-append view (take i vs) (v ∷ []) ∙ rw (so_far.trees, p.tree) (sym (map-append call_tree cs (c ∷ []))) in
     record { trees = ap (map view) front ∙ trees; calls = all_more cs c so_far.calls p.is }
-
--- all calls
-pub spell_all : (vs : List Value) (i : ℕ) (cs : List ScriptCall) → length vs ≤ i → Spell (take i vs) cs → AreCalls (items_view vs) cs
-spell_all vs i cs h so_far = let all : take i vs ≡ vs = take_all i vs h in record { list = ap items_of (ap (map view) (sym all) ∙ so_far.trees); calls = so_far.calls }
 
 no_item : (d : Data) → None ≡ Some d → ⊥
 no_item d h = cc

@@ -1,12 +1,12 @@
 //! Reading documents.
 
-ghost use Rattle.std.specs.Prelude.{◌≡◌, ◌⊎◌, ℕ, IfOk, IfErr, OnOk, MatchOption, IsTrue, ◌↔◌, string_bytes};
+ghost use Rattle.std.specs.Prelude.{◌≡◌, ◌⊎◌, IfOk, IfErr, OnOk, MatchOption, IsTrue, ◌↔◌, string_bytes};
 ghost use Rattle.std.specs.BTreeMap.{keys};
 ghost use Rattle.std.specs.List.{list_all};
 ghost use Rattle.serde_json.specs.Data.{Data};
 ghost use Rattle.serde_json.specs.View.{view, items_view};
 ghost use Rattle.dl_plans.specs.Document.{IsTextOf, IsScript, Spells, SpellsScript, has_only_known, is_known};
-ghost use Rattle.dl_plans.specs.Faults.{Applies, Causes, IsLeast, IsBadTop, IsBadAt};
+ghost use Rattle.dl_plans.specs.Faults.{Applies, Causes, IsLeast, IsBadTop};
 ghost use Rattle.dl_plans.specs.Read.{HasTop, AreCalls, IsFirstBad};
 
 use crate::call;

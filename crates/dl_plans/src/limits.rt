@@ -1,7 +1,6 @@
 //! Reading the limits of a document.
 
-ghost use Rattle.std.specs.Prelude.{◌≡◌, ◌+◌, ◌⊎◌, pos, IfOk, IfErr, MatchOption};
-ghost use Rattle.std.specs.Option.{ok_or};
+ghost use Rattle.std.specs.Prelude.{◌≡◌, pos, IfOk, IfErr, MatchOption};
 ghost use Rattle.serde_json.specs.View.{view};
 ghost use Rattle.dl_desk.specs.Limits.{IsLimit, IsNoLimit};
 ghost use Rattle.dl_plans.specs.Document.{whole, number_at};

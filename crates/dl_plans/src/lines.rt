@@ -1,6 +1,6 @@
 //! Writing the lines of replies and refusals.
 
-ghost use Rattle.std.specs.Prelude.{◌≡◌, ◌≢◌, ◌++◌, IfOk, OnOk, codes, string_bytes};
+ghost use Rattle.std.specs.Prelude.{◌≡◌, ◌≢◌, ◌++◌, IfOk, OnOk, string_bytes};
 ghost use Rattle.serde_json.specs.Written.{compact_text};
 ghost use Rattle.dl_plans.specs.Lines.{done_line, load_line, many_lines, prime_line, job_line, sent_lines, refused_line};
 ghost use Rattle.dl_plans.specs.Script.{key_tree};

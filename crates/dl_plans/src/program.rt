@@ -1,8 +1,7 @@
 //! Running the program over a reader and a writer.
 
-ghost use Rattle.std.specs.Prelude.{◌≡◌, ◌≢◌, ◌⊎◌, IfOk, IfErr, IfSome, OnOk, OnErr, take, string_bytes};
+ghost use Rattle.std.specs.Prelude.{◌≡◌, ◌≢◌, ◌⊎◌, IfOk, IfErr, IfSome, OnOk, take, string_bytes};
 ghost use Rattle.std.specs.Io.KnownBytes.{Appends, Keeps};
-ghost use Rattle.dl_plans.specs.Faults.{Applies, IsLeast};
 ghost use Rattle.dl_plans.specs.Run.{Answers, Writes, WritesFront, AppendsFront, IsRefused};
 
 use crate::document::{MOST_BYTES, read_input};

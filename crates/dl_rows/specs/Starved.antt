@@ -2,8 +2,8 @@
 use Rattle.std.specs.Prelude.{ℕ, List, codes}
 use Rattle.dl_desk.specs.Key.{Key}
 use Rattle.dl_source.specs.Source.{IsFor}
-use Rattle.dl_source.specs.declared.source.BatchAnswer.{BatchAnswer}
-use Rattle.dl_source.specs.declared.source.BatchAnswer.TheVariants.{Break}
+use Rattle.dl_desk.specs.declared.outcome.BatchAnswer.{BatchAnswer}
+use Rattle.dl_desk.specs.declared.outcome.BatchAnswer.TheVariants.{Break}
 
 abbrev pub answer_of : {S : Type 0} → S → List Key → BatchAnswer
 answer_of s keys = Break (codes "starved")

@@ -1,8 +1,9 @@
-//! Scripts made up at random, run by the desk and by the slow program, which must print the same.
+//! Scripts made up at random, run by the desk and by the reference loader, which must print the same.
 
 ghost use Rattle.std.specs.Prelude.{◌<◌};
 
-use crate::slow::{Call, Rules, lines_of};
+use crate::lines::lines_of;
+use crate::reference::mixed;
 use dl_desk::{FetchKey, Keys, Limits};
 use dl_plans::{Calls, Script, ScriptCall, run_script};
 use std::alloc::Global;
@@ -40,79 +41,60 @@ impl Numbers {
     }
 
     /// A list of up to three keys.
-    fn keys(&mut self, alloc: Global) -> Result<Vec<FetchKey>, Fail> {
+    fn keys(&mut self, alloc: Global) -> Result<Keys, Fail> {
         let mut keys = Vec::new(alloc);
         for _ in 0..self.below(4) {
             keys.push(self.key(alloc)?)?;
         }
-        Ok(keys)
+        Ok(Keys::new(alloc, keys)?)
     }
 
-    /// A call of a batch that may not be there, for the slow program and for a script.
-    fn end(&mut self) -> (Call, ScriptCall) {
+    /// A call of a batch that may not be there.
+    fn end(&mut self) -> ScriptCall {
         let number = self.below(6);
         if self.below(2) == 0 {
-            (Call::Settle(number), ScriptCall::Settle(number))
+            ScriptCall::Settle(number)
         } else {
-            (Call::Fail(number), ScriptCall::Fail(number))
+            ScriptCall::Fail(number)
         }
     }
 
-    /// A call, for the slow program and for a script.
-    fn call(&mut self, alloc: Global) -> Result<(Call, ScriptCall), Fail> {
+    /// A call of a script.
+    fn call(&mut self, alloc: Global) -> Result<ScriptCall, Fail> {
         Ok(match self.below(16) {
-            0..=5 => {
-                let key = self.key(alloc)?;
-                (Call::Load(key.try_copy()?), ScriptCall::Load(key))
-            }
-            6..=7 => {
-                let keys = self.keys(alloc)?;
-                let shared = Keys::copy_of(alloc, keys.as_slice())?;
-                (Call::LoadMany(keys), ScriptCall::LoadMany(shared))
-            }
-            8 => {
-                let key = self.key(alloc)?;
-                (Call::Prime(key.try_copy()?), ScriptCall::Prime(key))
-            }
-            9 => {
-                let key = self.key(alloc)?;
-                (Call::Clear(key.try_copy()?), ScriptCall::Clear(key))
-            }
-            10 => (Call::ClearAll, ScriptCall::ClearAll),
-            11..=12 => (Call::Dispatch, ScriptCall::Dispatch),
+            0..=5 => ScriptCall::Load(self.key(alloc)?),
+            6..=7 => ScriptCall::LoadMany(self.keys(alloc)?),
+            8 => ScriptCall::Prime(self.key(alloc)?),
+            9 => ScriptCall::Clear(self.key(alloc)?),
+            10 => ScriptCall::ClearAll,
+            11..=12 => ScriptCall::Dispatch,
             _ => self.end(),
+        })
+    }
+
+    /// A script of 30 calls.
+    fn script(&mut self, alloc: Global) -> Result<Script, Fail> {
+        let limits = Limits::new(1 + self.below(3), 4 + self.below(12), 65_536)?;
+        let mut calls = Vec::new(alloc);
+        for _ in 0..30 {
+            calls.push(self.call(alloc)?)?;
+        }
+        Ok(Script {
+            limits,
+            calls: Calls::new(calls),
         })
     }
 }
 
-/// What the slow program and the desk print for the calls of one seed.
-fn both_texts(alloc: Global, seed: u64) -> Result<(String, String), Fail> {
-    let mut numbers = Numbers { state: seed };
-    let limits = Limits::new(1 + numbers.below(3), 4 + numbers.below(12), 65_536)?;
-    let mut calls = Vec::new(alloc);
-    let mut script_calls = Vec::new(alloc);
-    for _ in 0..30 {
-        let (call, script_call) = numbers.call(alloc)?;
-        calls.push(call)?;
-        script_calls.push(script_call)?;
-    }
-    let rules = Rules {
-        limits,
-        tables: None,
-    };
-    let script = Script {
-        limits,
-        calls: Calls::new(script_calls),
-    };
-    let slow = lines_of(alloc, &rules, calls.as_slice())?;
-    Ok((slow, run_script(alloc, &script)?))
-}
-
 #[test]
-fn the_desk_prints_what_the_slow_program_prints(rt: HostRuntime) -> Result<(), Fail> {
+fn the_desk_prints_what_the_reference_loader_prints(rt: HostRuntime) -> Result<(), Fail> {
+    let alloc = rt.alloc();
     for seed in 0..300u64 {
-        let (slow, desk) = both_texts(rt.alloc(), seed)?;
-        assert_eq!(rt; desk.as_str(), slow.as_str(), "at seed {seed}");
+        let mut numbers = Numbers { state: seed };
+        let script = numbers.script(alloc)?;
+        let want = lines_of(alloc, &mixed(script.limits), script.calls.as_slice())?;
+        let text = run_script(alloc, &script)?;
+        assert_eq!(rt; text.as_str(), want.as_str(), "at seed {seed}");
     }
     Ok(())
 }

@@ -1,5 +1,5 @@
-//! Tests of what crosses crates, and worked rows of calls: one file for each crate that it exercises.
-//! The plain slow program, which reviews the definitions of histories, stands here too.
+//! Tests of the crates below the shared loader, and worked rows of their calls: one file for each crate that it
+//! exercises.
 #![tactic(auto)]
 
 #[cfg(test)]
@@ -9,15 +9,12 @@ mod desk;
 #[cfg(test)]
 mod generated;
 #[cfg(test)]
-mod loader;
+mod lines;
 #[cfg(test)]
 mod program;
 #[cfg(test)]
-mod queue;
+mod reference;
 #[cfg(test)]
 mod scripts;
-pub mod slow;
-#[cfg(test)]
-mod slow_rows;
 #[cfg(test)]
 mod source;

@@ -1,61 +1,77 @@
 //! `dl_plans` on call scripts: the text that a document gives, and the refusals of others.
 
 use dl_desk::LimitFault;
-use dl_plans::{Input, PlanFault, RunError, read_input, run_script};
+use dl_plans::{Input, PlanFault, RunError, Script, read_input, run_script};
 use std::alloc::Global;
 use std::test::Fail;
 
-/// Documents and the text that each gives.
-const OUTPUTS: [(&str, &str); 13] = [
+/// A script whose batches of one key end in any order, and whose keys are then loaded again.
+pub(crate) const ENDS: &str =
+    r#"{"script":1,"maxBatchSize":1,"calls":[{"load":["t","a"]},{"load":["t","b"]},{"dispatch":true},{"settle":1},{"fail":0},{"load":["t","a"]},{"load":["t","b"]},{"dispatch":true}]}"#;
+
+/// Worked rows: what each shows, a script's document, and the text that the script gives.
+pub(crate) const ROWS: [(&str, &str, &str); 13] = [
     (
+        "a second load hits",
         r#"{"script":1,"maxBatchSize":2,"calls":[{"load":["t","a"]},{"load":["t","a"]}]}"#,
         "fresh 0 0\nhit 0\n",
     ),
     (
+        "a full batch is followed by a new one",
         r#"{"script":1,"maxBatchSize":2,"calls":[{"load":["t","a"]},{"load":["t","b"]},{"load":["t","c"]},{"dispatch":true}]}"#,
         "fresh 0 0\nfresh 1 0\nfresh 2 1\nsent 2\njob 0 [\"t\",\"a\"] [\"t\",\"b\"]\njob 1 [\"t\",\"c\"]\n",
     ),
     (
+        "calls on nothing reply",
         r#"{"script":1,"maxBatchSize":2,"calls":[{"dispatch":true},{"loadMany":[]}]}"#,
         "sent 0\nmany 0\n",
     ),
     (
+        "a batch holds a key once",
         r#"{"script":1,"maxBatchSize":2,"calls":[{"load":["t","a"]},{"clear":["t","a"]},{"load":["t","a"]},{"load":["t","b"]}]}"#,
         "fresh 0 0\nok\nfresh 1 1\nfresh 2 1\n",
     ),
     (
+        "a primed key is held",
         r#"{"script":1,"maxBatchSize":2,"calls":[{"prime":["t","a"]},{"load":["t","a"]},{"prime":["t","a"]}]}"#,
         "primed 0\nhit 0\nkept\n",
     ),
     (
+        "a pending key is kept until all are cleared",
         r#"{"script":1,"maxBatchSize":2,"calls":[{"load":["t","a"]},{"prime":["t","a"]},{"clearAll":true},{"prime":["t","a"]}]}"#,
         "fresh 0 0\nkept\nok\nprimed 1\n",
     ),
     (
+        "a late failure keeps a newer cell",
         r#"{"script":1,"maxBatchSize":2,"calls":[{"load":["t","a"]},{"dispatch":true},{"clear":["t","a"]},{"load":["t","a"]},{"fail":0},{"load":["t","a"]}]}"#,
         "fresh 0 0\nsent 1\njob 0 [\"t\",\"a\"]\nok\nfresh 1 1\nok\nhit 1\n",
     ),
     (
+        "a failed batch is forgotten",
         r#"{"script":1,"maxBatchSize":2,"calls":[{"load":["t","a"]},{"dispatch":true},{"fail":0},{"load":["t","a"]}]}"#,
         "fresh 0 0\nsent 1\njob 0 [\"t\",\"a\"]\nok\nfresh 1 1\n",
     ),
     (
+        "a batch ends once after it was sent",
         r#"{"script":1,"maxBatchSize":2,"calls":[{"load":["t","a"]},{"settle":0},{"dispatch":true},{"settle":0},{"load":["t","a"]},{"settle":0},{"fail":0},{"settle":5}]}"#,
         "fresh 0 0\nrefused NotSent\nsent 1\njob 0 [\"t\",\"a\"]\nok\nhit 0\nrefused SettledBefore\nrefused SettledBefore\nrefused NoBatch\n",
     ),
     (
+        "a call that needs too many cells adds nothing",
         r#"{"script":1,"maxBatchSize":2,"maxCells":2,"calls":[{"load":["t","a"]},{"loadMany":[["t","b"],["t","c"],["t","b"]]},{"loadMany":[["t","b"],["t","b"],["t","a"]]},{"prime":["t","c"]}]}"#,
         "fresh 0 0\nrefused CellsFull 2\nmany 3\nfresh 1 0\nhit 1\nhit 0\nrefused CellsFull 2\n",
     ),
     (
+        "a load is refused where the cells are full",
         r#"{"script":1,"maxCells":1,"calls":[{"load":["t","a"]},{"load":["t","b"]},{"load":["t","a"]}]}"#,
         "fresh 0 0\nrefused CellsFull 1\nhit 0\n",
     ),
     (
-        r#"{"script":1,"maxBatchSize":1,"calls":[{"load":["t","a"]},{"load":["t","b"]},{"dispatch":true},{"settle":1},{"fail":0},{"load":["t","a"]},{"load":["t","b"]},{"dispatch":true}]}"#,
+        "ends come in any order",
+        ENDS,
         "fresh 0 0\nfresh 1 1\nsent 2\njob 0 [\"t\",\"a\"]\njob 1 [\"t\",\"b\"]\nok\nok\nfresh 2 2\nhit 1\nsent 1\njob 2 [\"t\",\"a\"]\n",
     ),
-    (r#"{"script":1,"calls":[]}"#, ""),
+    ("no calls give nothing", r#"{"script":1,"calls":[]}"#, ""),
 ];
 
 /// Documents that are refused, with the fault and its line.
@@ -105,20 +121,21 @@ const REFUSALS: [(&str, PlanFault, &str); 11] = [
     ),
 ];
 
-/// The text that a document gives, if it is one and memory suffices.
-fn text_of(alloc: Global, document: &[u8]) -> Result<String, RunError> {
-    match read_input(alloc, document).map_err(RunError::Refused)? {
-        Input::Script(script) => { run_script(alloc, &script).map_err(|_| RunError::OutOfMemory) }
+/// The script of a document.
+pub(crate) fn script(alloc: Global, document: &str) -> Result<Script, Fail> {
+    match read_input(alloc, document.as_bytes())? {
+        Input::Script(script) => Ok(script),
     }
 }
 
 #[test]
-fn a_script_gives_its_text(rt: HostRuntime) {
-    for (document, want) in OUTPUTS {
-        let text = text_of(rt.alloc(), document.as_bytes());
-        let same = matches!(&text, Ok(text) if text.as_str() == want);
-        assert!(rt; same, "of {document}: {text:?}");
+fn a_script_gives_its_text(rt: HostRuntime) -> Result<(), Fail> {
+    for (about, document, want) in ROWS {
+        let script = script(rt.alloc(), document)?;
+        let text = run_script(rt.alloc(), &script)?;
+        assert_eq!(rt; text.as_str(), want, "{about}");
     }
+    Ok(())
 }
 
 #[test]

@@ -1,21 +1,14 @@
 //! Tables read from JSON, and what they answer.
 
 use dl_desk::{BatchFault, FetchKey, Job, Json, Keys, Message, Outcome, has_float};
+use dl_fixtures::{USERS, outcome_text, tables};
 use dl_source::{BatchAnswer, Source, TEXT_BYTES, TableFault, Tables, fetch_job};
 use serde_json::Value;
 use std::alloc::{AllocError, Global};
 use std::process::Abort;
 use std::test::Fail;
 
-pub(crate) const USERS: &str =
-    r#"[{"name":"user","rows":[["u1",{"best":"u2","friends":["u2","u3"],"name":"Ada"}],["u2",{"best":"u1","friends":[],"name":"Bob"}],["u3",{"name":"Cy"}]],"errors":[["u9","gone"]],"breaks":[["u13","db down"]]}]"#;
-
 const TWO_BREAKS: &str = r#"[{"name":"t","rows":[],"breaks":[["x","p"],["y","q"]]}]"#;
-
-pub(crate) fn tables(alloc: Global, text: &str) -> Result<Tables, Fail> {
-    let value = Value::from_str(alloc, text)?;
-    Ok(Tables::from_value(alloc, &value)?)
-}
 
 // A job for keys of one table.
 fn job(alloc: Global, batch: u32, table: &str, ids: &[&str]) -> Result<Job, Fail> {
@@ -25,22 +18,6 @@ fn job(alloc: Global, batch: u32, table: &str, ids: &[&str]) -> Result<Job, Fail
     }
     let keys = Keys::new(alloc, keys)?;
     Ok(Job { batch, keys })
-}
-
-pub(crate) fn outcome_text(alloc: Global, outcome: &Outcome) -> Result<String, AllocError> {
-    match outcome {
-        Outcome::Value(value) => value.to_text(alloc),
-        Outcome::KeyError(text) => format!(in alloc; "error {}", text.as_str()),
-        Outcome::BatchFailed(fault) => fault_text(alloc, fault),
-    }
-}
-
-fn fault_text(alloc: Global, fault: &BatchFault) -> Result<String, AllocError> {
-    match fault {
-        BatchFault::Source(text) => format!(in alloc; "batch {}", text.as_str()),
-        BatchFault::Memory => String::from_str(alloc, "memory"),
-        BatchFault::Unsent => String::from_str(alloc, "unsent"),
-    }
 }
 
 // Each outcome on a line of its own, or the text of the break.
@@ -65,34 +42,60 @@ fn asked(alloc: Global, tables: &Tables, table: &str, ids: &[&str]) -> Result<St
     }
 }
 
-#[test]
-fn each_key_has_its_own_outcome(rt: HostRuntime) -> Result<(), Fail> {
-    let users = tables(rt.alloc(), USERS)?;
-    let errors = asked(rt.alloc(), &users, "user", &["u9", "u4"])?;
-    assert_eq!(rt; errors.as_str(), "error gone\nerror no row\n");
-    let missing = asked(rt.alloc(), &users, "shop", &["s"])?;
-    assert_eq!(rt; missing.as_str(), "error no table\n");
-    let row = asked(rt.alloc(), &users, "user", &["u2"])?;
-    assert_eq!(rt;
-        row.as_str(),
-        "{\"best\":\"u1\",\"friends\":[],\"name\":\"Bob\"}\n"
-    );
-    Ok(())
+/// Keys of one table, and what the tables answer for them.
+struct Row {
+    about: &'static str,
+    tables: &'static str,
+    table: &'static str,
+    ids: &'static [&'static str],
+    want: &'static str,
 }
 
-#[test]
-fn a_key_that_breaks_fails_its_batch(rt: HostRuntime) -> Result<(), Fail> {
-    let users = tables(rt.alloc(), USERS)?;
-    let broken = asked(rt.alloc(), &users, "user", &["u1", "u13"])?;
-    assert_eq!(rt; broken.as_str(), "break db down");
-    Ok(())
-}
+const ROWS: [Row; 5] = [
+    Row {
+        about: "a key with an error, and one with no row",
+        tables: USERS,
+        table: "user",
+        ids: &["u9", "u4"],
+        want: "error gone\nerror no row\n",
+    },
+    Row {
+        about: "a key of no table",
+        tables: USERS,
+        table: "shop",
+        ids: &["s"],
+        want: "error no table\n",
+    },
+    Row {
+        about: "a key with a row",
+        tables: USERS,
+        table: "user",
+        ids: &["u2"],
+        want: "{\"best\":\"u1\",\"friends\":[],\"name\":\"Bob\"}\n",
+    },
+    Row {
+        about: "a key that breaks fails its batch",
+        tables: USERS,
+        table: "user",
+        ids: &["u1", "u13"],
+        want: "break db down",
+    },
+    Row {
+        about: "the first key that breaks gives the text",
+        tables: TWO_BREAKS,
+        table: "t",
+        ids: &["y", "x"],
+        want: "break q",
+    },
+];
 
 #[test]
-fn the_first_key_that_breaks_gives_the_text(rt: HostRuntime) -> Result<(), Fail> {
-    let two = tables(rt.alloc(), TWO_BREAKS)?;
-    let first = asked(rt.alloc(), &two, "t", &["y", "x"])?;
-    assert_eq!(rt; first.as_str(), "break q");
+fn keys_are_answered(rt: HostRuntime) -> Result<(), Fail> {
+    for row in &ROWS {
+        let tables = tables(rt.alloc(), row.tables)?;
+        let answer = asked(rt.alloc(), &tables, row.table, row.ids)?;
+        assert_eq!(rt; answer.as_str(), row.want, "{}", row.about);
+    }
     Ok(())
 }
 
@@ -136,59 +139,42 @@ fn a_fetched_job_gives_its_answer_away(rt: HostRuntime) -> Result<(), Fail> {
     Ok(())
 }
 
-fn assert_refused(
-    rt: &impl Abort,
-    alloc: Global,
-    text: &str,
-    want: TableFault,
-) -> Result<(), Fail> {
-    let value = Value::from_str(alloc, text)?;
-    let fault = Tables::from_value(alloc, &value).err();
-    assert_eq!(rt; fault, Some(want), "{text}");
-    Ok(())
-}
+/// Trees that spell no tables, and the first fault of each.
+const REFUSED: [(&str, TableFault); 10] = [
+    (r#"[{"name":"","rows":5}]"#, TableFault::Shape),
+    (r#"[{"name":"t","rows":[["a",1,2]]}]"#, TableFault::Shape),
+    (r#"[{"name":"t","rows":[],"row":[]}]"#, TableFault::Shape),
+    (r#"[{"name":"t"}]"#, TableFault::Shape),
+    (r#"[{"name":"","rows":[["a",1.5]]}]"#, TableFault::BadKey),
+    (
+        r#"[{"name":"t","rows":[["a",{"n":1.5}]]}]"#,
+        TableFault::NotWhole,
+    ),
+    (
+        r#"[{"name":"t","rows":[["a",1.5]]},{"name":"t","rows":[["",1]]}]"#,
+        TableFault::BadKey,
+    ),
+    (
+        r#"[{"name":"t","rows":[["u1",1],["u1",2]]}]"#,
+        TableFault::DuplicateKey,
+    ),
+    (
+        r#"[{"name":"t","rows":[["u1",1]],"breaks":[["u1","down"]]}]"#,
+        TableFault::DuplicateKey,
+    ),
+    (
+        r#"[{"name":"t","rows":[["a",1],["a",2]]},{"name":"t","rows":[]}]"#,
+        TableFault::DuplicateTable,
+    ),
+];
 
 #[test]
-fn refuses_other_shapes(rt: HostRuntime) -> Result<(), Fail> {
-    let alloc = rt.alloc();
-    assert_refused(&rt, alloc, r#"[{"name":"","rows":5}]"#, TableFault::Shape)?;
-    assert_refused(
-        &rt,
-        alloc,
-        r#"[{"name":"t","rows":[["a",1,2]]}]"#,
-        TableFault::Shape,
-    )?;
-    assert_refused(
-        &rt,
-        alloc,
-        r#"[{"name":"t","rows":[],"row":[]}]"#,
-        TableFault::Shape,
-    )?;
-    assert_refused(&rt, alloc, r#"[{"name":"t"}]"#, TableFault::Shape)?;
-    Ok(())
-}
-
-#[test]
-fn refuses_keys_and_numbers(rt: HostRuntime) -> Result<(), Fail> {
-    let alloc = rt.alloc();
-    let bad = r#"[{"name":"","rows":[["a",1.5]]}]"#;
-    assert_refused(&rt, alloc, bad, TableFault::BadKey)?;
-    let other = r#"[{"name":"t","rows":[["a",{"n":1.5}]]}]"#;
-    assert_refused(&rt, alloc, other, TableFault::NotWhole)?;
-    let later = r#"[{"name":"t","rows":[["a",1.5]]},{"name":"t","rows":[["",1]]}]"#;
-    assert_refused(&rt, alloc, later, TableFault::BadKey)?;
-    Ok(())
-}
-
-#[test]
-fn refuses_repetitions(rt: HostRuntime) -> Result<(), Fail> {
-    let alloc = rt.alloc();
-    let twice = r#"[{"name":"t","rows":[["u1",1],["u1",2]]}]"#;
-    assert_refused(&rt, alloc, twice, TableFault::DuplicateKey)?;
-    let across = r#"[{"name":"t","rows":[["u1",1]],"breaks":[["u1","down"]]}]"#;
-    assert_refused(&rt, alloc, across, TableFault::DuplicateKey)?;
-    let both = r#"[{"name":"t","rows":[["a",1],["a",2]]},{"name":"t","rows":[]}]"#;
-    assert_refused(&rt, alloc, both, TableFault::DuplicateTable)?;
+fn other_trees_are_refused(rt: HostRuntime) -> Result<(), Fail> {
+    for (text, want) in REFUSED {
+        let value = Value::from_str(rt.alloc(), text)?;
+        let fault = Tables::from_value(rt.alloc(), &value).err();
+        assert_eq!(rt; fault, Some(want), "{text}");
+    }
     Ok(())
 }
 

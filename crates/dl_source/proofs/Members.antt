@@ -1,9 +1,9 @@
--- The names of an object's members, and the parts of a list of two.
-use Rattle.std.proofs.Common.{◌≡◌, ◌≢◌, ℕ, List, [], ◌∷◌, Bool, ◌&&◌, Option, None, length, ap, refl, String, string_bytes, map, get_or, arith}
+-- The names of an object's members, and which lists are pairs.
+use Rattle.std.proofs.Common.{◌≡◌, ◌≢◌, ℕ, List, [], ◌∷◌, Bool, ◌&&◌, Option, None, length, ap, refl, String, string_bytes, map}
 use Rattle.std.specs.declared.alloc.Global.{Global}
 use Rattle.std.specs.List.{list_all}
-use Rattle.serde_json.specs.Data.{Data, no_items, item}
-use Rattle.serde_json.specs.View.{view, items_view, members_view}
+use Rattle.serde_json.specs.Data.{Data}
+use Rattle.serde_json.specs.View.{items_view, members_view}
 use Rattle.serde_json.specs.declared.value.Value.{Value}
 use Rattle.dl_source.specs.declared.tables.Entry.{Entry}
 use Rattle.dl_source.specs.Spelling.{names_all}
@@ -20,10 +20,3 @@ no_pair entry_of [] h = refl
 no_pair entry_of (v ∷ []) h = refl
 no_pair entry_of (v ∷ w ∷ []) h = absurd (h refl)
 no_pair entry_of (v ∷ w ∷ x ∷ vs) h = refl
-
--- the parts of a list of two
-pub two_items : (vs : List Value) (d : Value) → length vs ≡ 2 → items_view vs ≡ item (view (get_or vs 0 d)) (item (view (get_or vs 1 d)) no_items)
-two_items [] d h = absurd (omega arith)
-two_items (v ∷ []) d h = absurd (omega arith)
-two_items (v ∷ w ∷ []) d h = refl
-two_items (v ∷ w ∷ x ∷ vs) d h = absurd (omega arith)

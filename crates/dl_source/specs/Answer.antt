@@ -6,8 +6,8 @@ use Rattle.dl_desk.specs.Key.{Key}
 use Rattle.dl_desk.specs.declared.outcome.Outcome.{Outcome}
 use Rattle.dl_desk.specs.declared.outcome.Outcome.TheVariants.{Value, KeyError}
 use Rattle.dl_source.specs.Listing.{Listing, NamedTables}
-use Rattle.dl_source.specs.declared.source.BatchAnswer.{BatchAnswer}
-use Rattle.dl_source.specs.declared.source.BatchAnswer.TheVariants as batch
+use Rattle.dl_desk.specs.declared.outcome.BatchAnswer.{BatchAnswer}
+use Rattle.dl_desk.specs.declared.outcome.BatchAnswer.TheVariants as batch
 use Rattle.dl_source.specs.declared.tables.Entry.{Entry}
 use Rattle.dl_source.specs.declared.tables.Entry.TheVariants.{Row, Error, Break}
 

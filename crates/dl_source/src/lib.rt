@@ -9,9 +9,10 @@ mod reading;
 mod source;
 mod tables;
 
+pub use dl_desk::BatchAnswer;
 pub use fault::TableFault;
 pub use fetch::fetch_job;
 pub use fetched::Fetched;
 pub use reading::TEXT_BYTES;
-pub use source::{BatchAnswer, Source};
+pub use source::Source;
 pub use tables::{Entry, Tables};

@@ -2,20 +2,11 @@
 
 ghost use Rattle.std.specs.Prelude.{◌≡◌, List, IfOk};
 ghost use Rattle.dl_desk.specs.Key.{Key};
-ghost use Rattle.dl_source.specs.declared.source.BatchAnswer.{BatchAnswer};
+ghost use Rattle.dl_desk.specs.declared.outcome.BatchAnswer.{BatchAnswer};
 ghost use Rattle.dl_source.specs.Source.{IsFor};
 
-use dl_desk::{FetchKey, Message, Outcomes};
+use dl_desk::{BatchAnswer, FetchKey};
 use std::alloc::{AllocError, Global};
-
-/// What a source answers to a list of keys.
-#[derive(Debug, Drop)]
-pub enum BatchAnswer {
-    /// An outcome for each key, in the order of the keys.
-    Each(Outcomes),
-    /// Why the whole list has no answer.
-    Break(Message),
-}
 
 /// Where outcomes come from. A source answers by one function of the keys: asked twice, it answers
 /// the same.

@@ -9,8 +9,8 @@ ghost use Rattle.dl_source.specs.Faults.{is_not_whole, lists, repeats, has_other
 use crate::fault::TableFault;
 use crate::listed::{ListedEntry, ListedTable};
 use crate::reading::{content_fault, read_tables, repeats_name};
-use crate::source::{BatchAnswer, Source};
-use dl_desk::{FetchKey, Json, Message, Outcome, Outcomes};
+use crate::source::Source;
+use dl_desk::{BatchAnswer, FetchKey, Json, Message, Outcome, Outcomes};
 use indexmap::IndexMap;
 use serde_json::Value;
 use std::alloc::{AllocError, Global};

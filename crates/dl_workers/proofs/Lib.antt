@@ -1,6 +1,6 @@
 mod Accounts
+pub mod Endings
 mod Finish
 mod Jobs
-pub mod SeatLists
 mod Steps
 mod Totals

@@ -25,11 +25,6 @@ idle_snoc : (views : List Account) (w : Account) → IdleIsEmpty views → (w.se
 idle_snoc views w idle own j u at none =
     ⊎_elim (λ there. idle j u there none) (λ here. subst IsEmpty here (own (ap (λ (a : Account). a.seats) here ∙ none))) (at_snoc views w u j at)
 
--- what the only pass knows
-only : (P : Account → Type 0) → P (account 1 1 [] []) → (j : ℕ) (u : Account) → get_elem? (account 1 1 [] [] ∷ []) j ≡ some u → P u
-only P first zero u at = subst P (some-injective (account 1 1 [] []) u at) first
-only P first (suc j) u at = absurd (some-ne-none u (sym at))
-
 -- where a change keeps the number of all seats, the others still know it
 knows_set : (views : List Account) (pass : ℕ) (w : Account) → KnowsAll views → total_seats (set views pass w) ≡ total_seats views → (0 < w.seats → w.all ≡ total_seats views) → KnowsAll (set views pass w)
 knows_set views pass w knows same own j u at some_seat =
@@ -169,11 +164,3 @@ learns pass v some_seat whole items views b at test =
     let taken = sum_by-whole (λ (a : Account). a.seats) (λ (a : Account). count_by test a.taken) views pass v at all (λ j u there none. ap (count_by test) (b.idle j u there none).1) in
     let balance = b.balance test in
     omega (arith, count_by-append test v.taken items)
-
--- of an empty channel with one pass, which stands for one seat of one
-pub begins : IsLossless [] (account 1 1 [] [] ∷ [])
-begins = record {
-  knows = λ j u at some_seat. only (λ a. a.all ≡ 1) refl j u at;
-  idle = λ j u at none. absurd (let one = only (λ a. a.seats ≡ 1) refl j u at in omega arith);
-  balance = λ test. refl;
-}

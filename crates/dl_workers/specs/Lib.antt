@@ -3,3 +3,4 @@ pub mod Lossless
 pub mod QueueFaults
 pub mod Seats
 pub mod Balance
+pub mod Ending

@@ -1,4 +1,5 @@
-//! The queue that carries jobs from the callers that dispatch them to the workers that fetch them.
+//! The queue that carries jobs from the callers that dispatch them to the workers that fetch them, and the step
+//! that ends a job's batch by what a source answers, which is the same wherever a job is fetched: [`end_job`].
 //!
 //! A [`JobQueue`] is a bounded channel under a rule, which holds under every schedule: each item
 //! that was sent was taken or is still in the channel, as often as it was sent. Items are jobs and
@@ -17,11 +18,13 @@
 #![tactic(auto)]
 
 mod deal;
+mod ending;
 mod fault;
 mod queue;
 mod rule;
 mod seats;
 
+pub use ending::{end_job, end_jobs};
 pub use fault::QueueFault;
 pub use queue::{JobQueue, LARGEST_CAPACITY, MOST_SEATS, Tally};
 pub use seats::{Sender, Taker};

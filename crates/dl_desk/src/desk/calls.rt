@@ -12,8 +12,11 @@ use crate::reply::{DeskPrime, Job, LoadReply};
 use std::alloc::{AllocError, Global};
 
 impl Desk {
-    /// Prepares loads of the keys, in order.
-    pub(super) fn prepare_loads(
+    /// Prepares loads of the keys, in order, as [`prepare_load`](Desk::prepare_load) does one.
+    ///
+    /// # Errors
+    /// As [`load_many`](Desk::load_many).
+    pub fn prepare_loads(
         &mut self,
         alloc: Global,
         keys: &[FetchKey],
@@ -33,6 +36,23 @@ impl Desk {
         Ok(replies)
     }
 
+    /// Prepares the load of a key: makes its growths, and changes nothing that can be seen.
+    /// [`make_prepared`](Desk::make_prepared) then makes the call.
+    ///
+    /// # Errors
+    /// As [`load`](Desk::load).
+    pub fn prepare_load(&mut self, alloc: Global, key: &FetchKey) -> Result<LoadReply, DeskFault>
+        ensures book { self.new.book ≡ self.old.book }
+        ensures rules { self.new.prepared.rules ≡ self.old.book.rules }
+        ensures reply { IfOk result (λ reply. (history : List Atom) → StandsFor self.old.book history → reply ≡ load_reply self.old.book.rules history key.now) }
+        ensures stands { OnOk result ((history : List Atom) → StandsFor self.old.book history → StandsFor self.new.prepared (after self.old.book.rules history (Loads (key.now ∷ [])))) }
+        ensures accepted { OnOk result ((history : List Atom) → StandsFor self.old.book history → refusal self.old.book.rules history (Loads (key.now ∷ [])) ≡ None) }
+        ensures fault { IfErr result (λ fault. (history : List Atom) → StandsFor self.old.book history → IsRefusal self.old.book.rules history (Loads (key.now ∷ [])) fault) }
+    {
+        self.discard();
+        self.load_step(alloc, key)
+    }
+
     /// Loads a key: the cell that is held for it, or a new one in a batch (DataLoader: `load`).
     ///
     /// # Errors
@@ -45,9 +65,8 @@ impl Desk {
         ensures fault { IfErr result (λ fault. (history : List Atom) → StandsFor self.old.book history → IsRefusal self.old.book.rules history (Loads (key.now ∷ [])) fault) }
         ensures err { OnErr result (self.new.book ≡ self.old.book) }
     {
-        self.discard();
-        let reply = self.load_step(alloc, key)?;
-        self.show();
+        let reply = self.prepare_load(alloc, key)?;
+        self.make_prepared();
         Ok(reply)
     }
 
@@ -69,12 +88,15 @@ impl Desk {
         ensures err { OnErr result (self.new.book ≡ self.old.book) }
     {
         let replies = self.prepare_loads(alloc, keys)?;
-        self.show();
+        self.make_prepared();
         Ok(replies)
     }
 
-    /// Prepares a prime of the key.
-    pub(super) fn prepare_prime(&mut self, key: &FetchKey) -> Result<DeskPrime, DeskFault>
+    /// Prepares a prime of the key, as [`prepare_load`](Desk::prepare_load) does a load.
+    ///
+    /// # Errors
+    /// As [`prime`](Desk::prime).
+    pub fn prepare_prime(&mut self, key: &FetchKey) -> Result<DeskPrime, DeskFault>
         ensures book { self.new.book ≡ self.old.book }
         ensures rules { self.new.prepared.rules ≡ self.old.book.rules }
         ensures reply { IfOk result (λ reply. (history : List Atom) → StandsFor self.old.book history → reply ≡ prime_reply history key.now) }
@@ -100,12 +122,12 @@ impl Desk {
         ensures err { OnErr result (self.new.book ≡ self.old.book) }
     {
         let reply = self.prepare_prime(key)?;
-        self.show();
+        self.make_prepared();
         Ok(reply)
     }
 
-    /// Prepares a dispatch.
-    pub(super) fn prepare_dispatch(&mut self, alloc: Global) -> Result<Vec<Job>, AllocError>
+    /// Prepares a dispatch, as [`prepare_load`](Desk::prepare_load) does a load. The error is want of memory.
+    pub fn prepare_dispatch(&mut self, alloc: Global) -> Result<Vec<Job>, AllocError>
         ensures book { self.new.book ≡ self.old.book }
         ensures rules { self.new.prepared.rules ≡ self.old.book.rules }
         ensures reply { IfOk result (λ sent. (history : List Atom) → StandsFor self.old.book history → sent.items ≡ jobs history) }
@@ -126,7 +148,7 @@ impl Desk {
         ensures err { OnErr result (self.new.book ≡ self.old.book) }
     {
         let jobs = self.prepare_dispatch(alloc)?;
-        self.show();
+        self.make_prepared();
         Ok(jobs)
     }
 

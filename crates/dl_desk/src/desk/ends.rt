@@ -1,34 +1,65 @@
 //! The ends of batches.
 
-ghost use Rattle.std.specs.Prelude.{◌≡◌, ◌<◌, ◌∷◌, [], length, List, None, OnOk, IfErr, OnErr};
+ghost use Rattle.std.specs.Prelude.{◌≡◌, ◌<◌, ◌∷◌, [], length, List, None, Some, IfOk, OnOk, IfErr, OnErr};
 ghost use Rattle.std.specs.Map.{lookup};
 ghost use Rattle.dl_desk.specs.Key.{key_eq};
 ghost use Rattle.dl_desk.specs.History.{Atom};
-ghost use Rattle.dl_desk.specs.Calls.{Settles, Fails, refusal, IsRefusal, after};
-ghost use Rattle.dl_desk.specs.Book.{StandsFor};
+ghost use Rattle.dl_desk.specs.Calls.{Settles, Fails, refusal, after, ended_so, unfit};
+ghost use Rattle.dl_desk.specs.Book.{StandsFor, batch_seen};
 ghost use Rattle.dl_desk.specs.Prepared.{RefusesEnd, MayEndIn, Forgets, set_end};
 
-use crate::desk::Desk;
+use crate::desk::{BatchView, Desk};
 use crate::fault::DeskFault;
 use crate::reply::End;
 use crate::stored;
 
 impl Desk {
-    /// Whether the batch may end, with what is prepared.
-    fn check_end(&self, number: u32) -> Result<(), DeskFault>
-        ensures ok { OnOk result (MayEndIn self.now.prepared number) }
-        ensures fault { IfErr result (RefusesEnd self.now.prepared number) }
+    /// The batch of a number, where it may end. It takes no memory.
+    ///
+    /// # Errors
+    /// `NoBatch`, `NotSent`, `SettledBefore`, in this order.
+    pub fn ending(&self, number: u32) -> Result<BatchView<'_>, DeskFault>
+        ensures view { IfOk result (λ view. (history : List Atom) → StandsFor self.now.book history → view ≡ batch_seen history number) }
+        ensures may { OnOk result (MayEndIn self.now.book number) }
+        ensures accepted { OnOk result ((history : List Atom) → StandsFor self.now.book history → unfit history number ≡ None) }
+        ensures fault { IfErr result (λ fault. (history : List Atom) → StandsFor self.now.book history → unfit history number ≡ Some fault) }
     {
-        if number >= self.prepared.begun {
+        self.check_end(number)?;
+        Ok(self.view(number))
+    }
+
+    /// Whether the batch may end.
+    fn check_end(&self, number: u32) -> Result<(), DeskFault>
+        ensures ok { OnOk result (MayEndIn self.now.book number) }
+        ensures fault { IfErr result (RefusesEnd self.now.book number) }
+    {
+        if number >= self.shown.begun {
             return Err(DeskFault::NoBatch);
         }
-        if number >= self.prepared.sent {
+        if number >= self.shown.sent {
             return Err(DeskFault::NotSent);
         }
         if self.batches[number as usize].ended().is_some() {
             return Err(DeskFault::SettledBefore);
         }
         Ok(())
+    }
+
+    /// Ends a batch that may end. A failed batch's keys are forgotten where the memo still holds the
+    /// batch's own cell. It takes no memory.
+    pub fn end(&mut self, number: u32, end: End)
+        requires { MayEndIn self.old.book number }
+        ensures rules { self.new.book.rules ≡ self.old.book.rules }
+        ensures stands { (history : List Atom) → StandsFor self.old.book history → StandsFor self.new.book (ended_so end number ∷ history) }
+    {
+        self.discard();
+        match end {
+            End::Settled => self.mark(number, End::Settled),
+            End::Failed => {
+                self.forget_own(number);
+                self.mark(number, End::Failed);
+            }
+        }
     }
 
     /// Forgets the keys of a batch that are held with the batch's own cells.
@@ -63,9 +94,8 @@ impl Desk {
         ensures fault { IfErr result (λ fault. (history : List Atom) → StandsFor self.old.book history → refusal self.old.book.rules history (Settles number) ≡ Some fault) }
         ensures err { OnErr result (self.new.book ≡ self.old.book) }
     {
-        self.discard();
         self.check_end(number)?;
-        self.mark(number, End::Settled);
+        self.end(number, End::Settled);
         Ok(())
     }
 
@@ -81,10 +111,8 @@ impl Desk {
         ensures fault { IfErr result (λ fault. (history : List Atom) → StandsFor self.old.book history → refusal self.old.book.rules history (Fails number) ≡ Some fault) }
         ensures err { OnErr result (self.new.book ≡ self.old.book) }
     {
-        self.discard();
         self.check_end(number)?;
-        self.forget_own(number);
-        self.mark(number, End::Failed);
+        self.end(number, End::Failed);
         Ok(())
     }
 }

@@ -66,7 +66,7 @@ impl Desk {
         ensures reply { (call : DeskCall) → IsReadyFor self.old call ready → (history : List Atom) → StandsFor self.old.book history → IsReplyTo self.old.book.rules history call result }
         ensures stands { (call : DeskCall) → IsReadyFor self.old call ready → (history : List Atom) → StandsFor self.old.book history → StandsFor self.new.book (after self.old.book.rules history call) }
     {
-        self.show();
+        self.make_prepared();
         ready.reply
     }
 }

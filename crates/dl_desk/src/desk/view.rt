@@ -1,6 +1,6 @@
 //! What a desk shows of its memo and its batches.
 
-ghost use Rattle.std.specs.Prelude.{◌≡◌, ◌<◌, ◌≤◌, List, map, IfSome, IfNone};
+ghost use Rattle.std.specs.Prelude.{◌≡◌, ◌<◌, ◌≤◌, List, length, map, IfSome, IfNone};
 ghost use Rattle.std.specs.List.{zip};
 ghost use Rattle.std.specs.Iterator.Adapters.{zip_first, zip_second};
 ghost use Rattle.std.specs.Slice.Iter.{iter_rest};
@@ -85,6 +85,14 @@ impl Desk {
         if number >= self.shown.begun {
             return None;
         }
+        Some(self.view(number))
+    }
+
+    /// The batch of a number that was begun.
+    pub(super) fn view(&self, number: u32) -> BatchView<'_>
+        requires { number < length self.now.book.batches }
+        ensures { (history : List Atom) → StandsFor self.now.book history → result ≡ batch_seen history number }
+    {
         let batch = &self.batches[number as usize];
         let (keys, cells) = batch.shown();
         let state = match batch.ended() {
@@ -93,6 +101,6 @@ impl Desk {
             None if number < self.shown.sent => BatchState::Sent,
             None => BatchState::Collecting,
         };
-        Some(BatchView { keys, cells, state })
+        BatchView { keys, cells, state }
     }
 }

@@ -1,22 +1,20 @@
 //! What a book knows for the close of its loader.
 
-ghost use Rattle.std.specs.Prelude.{◌≡◌, ◌<◌, ◌≤◌, IfNone, IfSome, MatchBool, None, Some, length, option_copied, slice_get};
-ghost use Rattle.dl_cells.specs.Cells.{row_len};
-ghost use Rattle.dl_desk.specs.Events.{atoms, outcome};
+ghost use Rattle.std.specs.Prelude.{◌≡◌, ◌<◌, ◌≤◌, IfNone, IfSome, MatchBool, None, length};
+ghost use Rattle.dl_desk.specs.Events.{atoms};
 ghost use Rattle.dl_desk.specs.History.{begun, end_of};
-ghost use Rattle.dl_loader.specs.Agrees.{Meets, accounts_of};
-ghost use Rattle.dl_loader.specs.Closing.{AllEnded, HasEnd, IsFirstOpen, IsLeastOf, unshown};
-ghost use Rattle.dl_loader.specs.History.{keys_of, log};
-ghost use Rattle.dl_loader.specs.Lists.{Every};
+ghost use Rattle.dl_history.specs.Agrees.{Meets, unshown};
+ghost use Rattle.dl_history.specs.History.{AllEnded, HasEnd, log};
+ghost use Rattle.dl_history.specs.Kept.{kept};
+ghost use Rattle.dl_history.specs.Lists.{Every};
+ghost use Rattle.dl_loader.specs.Book.{kept_of};
+ghost use Rattle.dl_loader.specs.Closing.{IsFirstOpen, IsLeastOf, accounts_of};
 
 use crate::book::Book;
-use crate::entry::Entry;
-use crate::event::{Ending, Event};
-use crate::history::EndedBatch;
-use crate::name::LoaderName;
+use crate::loader::unshown::least_unshown;
 use crate::pass::Pass;
-use dl_cells::CellRow;
-use dl_desk::{BatchState, End, Limits, Outcome};
+use dl_desk::{BatchState, Desk, Limits};
+use dl_history::{Entry, Journal, LoaderName};
 use std::sync::ledger::Share;
 
 impl<L: LoaderName> Book<L> {
@@ -25,24 +23,6 @@ impl<L: LoaderName> Book<L> {
         ensures { result ≡ length self.now.history }
     {
         self.journal.len()
-    }
-
-    /// The event at a place, if there is one. It takes no memory.
-    pub(crate) fn event<'a>(&self, row: &'a CellRow<Event>, at: usize) -> Option<&'a Event>
-        requires { row.now ≡ L.log }
-        ensures { option_copied result ≡ slice_get self.now.history at }
-    {
-        self.journal.event(row, at)
-    }
-
-    /// The outcome of a cell, if it was begun and has an end. It takes no memory.
-    pub(crate) fn outcome<'a>(&'a self, row: &'a CellRow<Ending>, cell: u32) -> Option<&'a Outcome>
-        requires row { row.now ≡ L.outcomes }
-        requires in_row { length self.now.cells ≤ row_len L.outcomes }
-        ensures { option_copied result ≡ outcome (log self.now.history) cell }
-    {
-        self.keeps();
-        self.journal.outcome(row, cell)
     }
 
     /// What the book has at the entries' places, or of their cells, is what the entries tell.
@@ -56,7 +36,7 @@ impl<L: LoaderName> Book<L> {
     pub(crate) fn unshown(&self, passes: &[Pass<L>]) -> Option<u32>
         ensures { IsLeastOf result (unshown self.now.cells (accounts_of passes.now)) }
     {
-        self.journal.unshown(passes)
+        least_unshown(&self.journal, passes)
     }
 
     /// The least batch that has not ended, sent or not.
@@ -86,24 +66,6 @@ impl<L: LoaderName> Book<L> {
         Some(matches!(view.state(), BatchState::Settled | BatchState::Failed))
     }
 
-    /// The batch of a number, if it was begun, where each batch has ended. It takes no memory.
-    pub(crate) fn ended_batch(&self, batch: u32) -> Option<EndedBatch<'_>>
-        requires { AllEnded self.now.history }
-        ensures begun { IfSome result (λ b. batch < begun (atoms (log self.now.history))) }
-        ensures keys { IfSome result (λ b. b.keys ≡ keys_of (atoms (log self.now.history)) batch) }
-        ensures end { IfSome result (λ b. end_of (atoms (log self.now.history)) batch ≡ Some b.end) }
-        ensures none { IfNone result (begun (atoms (log self.now.history)) ≤ batch) }
-    {
-        self.keeps();
-        let view = self.desk.batch(batch)?;
-        let end = match view.state() {
-            BatchState::Settled => End::Settled,
-            BatchState::Failed => End::Failed,
-            BatchState::Collecting | BatchState::Sent => unreachable!(),
-        };
-        Some(EndedBatch::new(view.keys(), end))
-    }
-
     /// All parts of the ledger have counted as many calls as there are events.
     pub(crate) fn audit(&mut self, all: &mut Share<L>)
         requires { all.old.parts ≡ L.parts }
@@ -111,5 +73,13 @@ impl<L: LoaderName> Book<L> {
         ensures counted { all.old.amount ≡ length self.old.history }
     {
         self.journal.audit(all);
+    }
+
+    /// Takes the book apart: the desk and the journal, which are those of the history. It takes no memory.
+    pub(crate) fn into_parts(self) -> (Desk, Journal<L>)
+        ensures kept { kept result.1.history result.0.book result.1.cells ≡ kept_of self }
+    {
+        let Book { desk, journal, .. } = self;
+        (desk, journal)
     }
 }

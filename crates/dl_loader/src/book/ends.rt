@@ -1,30 +1,30 @@
 //! The ends of batches.
 
-ghost use Rattle.std.specs.Prelude.{◌≡◌, ℕ, ◌+◌, ◌<◌, ◌≤◌, ◌⊎◌, IfErr, IfOk, IsSome, List, None, OnErr, OnOk, Some, length, map};
+ghost use Rattle.std.specs.Prelude.{◌≡◌, ◌+◌, ◌<◌, ◌⊎◌, IfErr, IfOk, List, None, OnErr, OnOk, Some, length, map};
 ghost use Rattle.dl_desk.specs.Key.{Key};
 ghost use Rattle.dl_desk.specs.Events.{atoms};
 ghost use Rattle.dl_desk.specs.History.{members};
 ghost use Rattle.dl_source.specs.Fetched.{answer_of, job_of, source_of};
-ghost use Rattle.dl_loader.specs.declared.event.Call.TheVariants.{Settle, Fail};
-ghost use Rattle.dl_loader.specs.declared.event.Reply.TheVariants.{Done};
+ghost use Rattle.dl_history.specs.declared.event.Call.TheVariants.{Settle, Fail};
+ghost use Rattle.dl_history.specs.declared.event.Reply.TheVariants.{Done};
 ghost use Rattle.dl_loader.specs.declared.fault.CallFault.TheVariants.{LogRefused, OutOfMemory};
 ghost use Rattle.dl_loader.specs.Asks.{end_by, fault_of};
 ghost use Rattle.dl_loader.specs.Dues.{end_refusal};
-ghost use Rattle.dl_loader.specs.History.{MayBeMade, log};
-ghost use Rattle.dl_loader.specs.Journal.{refusals};
+ghost use Rattle.dl_history.specs.History.{MayBeMade, log};
+ghost use Rattle.dl_history.specs.Journal.{refusals};
 ghost use Rattle.dl_loader.specs.Made.{Makes};
 ghost use Rattle.dl_loader.specs.Refusals.{IsRefusal, refusal, unready};
-ghost use Rattle.dl_loader.specs.Service.{service};
+ghost use Rattle.dl_history.specs.Service.{service};
 
+use crate::ask::GiveUp;
 use crate::book::Book;
 use crate::dues::copy_outcomes;
-use crate::event::{Call, GiveUp};
 use crate::fault::CallFault;
 use crate::loader::Loader;
-use crate::name::LoaderName;
 use crate::pass::Pass;
 use crate::reply::Settled;
-use dl_desk::{BatchFault, BatchState, FetchKey, Job, Outcomes};
+use dl_desk::{BatchFault, End, FetchKey, Job, Outcomes};
+use dl_history::{Call, LoaderName};
 use dl_source::{BatchAnswer, Fetched, Source};
 use std::alloc::Global;
 
@@ -97,12 +97,7 @@ impl<L: LoaderName> Book<L> {
         ensures accepted { OnOk result (end_refusal (atoms (log self.now.history)) batch keys.now ≡ None) }
         ensures fault { IfErr result (λ fault. (fault ≡ OutOfMemory) ⊎ (end_refusal (atoms (log self.now.history)) batch keys.now ≡ Some fault)) }
     {
-        let view = self.desk.batch(batch).ok_or(CallFault::NoBatch)?;
-        match view.state() {
-            BatchState::Sent => {}
-            BatchState::Collecting => return Err(CallFault::NotSent),
-            BatchState::Settled | BatchState::Failed => return Err(CallFault::SettledBefore),
-        }
+        let view = self.desk.ending(batch)?;
         if keys != view.keys() {
             return Err(CallFault::WrongKeys);
         }
@@ -131,7 +126,7 @@ impl<L: LoaderName> Book<L> {
     {
         let call = Call::Settle { batch, outcomes };
         let settled = loader.record_end(alloc, &mut self.journal, pass, cells, call)?;
-        self.desk.settle(batch).unwrap();
+        self.desk.end(batch, End::Settled);
         Ok(settled)
     }
 
@@ -156,7 +151,7 @@ impl<L: LoaderName> Book<L> {
     {
         let call = Call::Fail { batch, fault };
         let settled = loader.record_end(alloc, &mut self.journal, pass, cells, call)?;
-        self.desk.fail(batch).unwrap();
+        self.desk.end(batch, End::Failed);
         Ok(settled)
     }
 }

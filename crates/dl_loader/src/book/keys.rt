@@ -1,25 +1,22 @@
 //! The calls on keys, and the dispatch.
 
 ghost use Rattle.std.specs.Prelude.{◌≡◌, ◌+◌, IfErr, IfOk, None, OnErr, OnOk};
-ghost use Rattle.dl_loader.specs.declared.event.Call.TheVariants as made;
-ghost use Rattle.dl_loader.specs.declared.event.Reply.TheVariants as reply;
+ghost use Rattle.dl_history.specs.declared.event.Call.TheVariants as made;
+ghost use Rattle.dl_history.specs.declared.event.Reply.TheVariants as reply;
 ghost use Rattle.dl_loader.specs.EventReplies.{refused_by, told_by};
-ghost use Rattle.dl_loader.specs.History.{primed};
-ghost use Rattle.dl_loader.specs.Service.{service};
-ghost use Rattle.dl_loader.specs.Journal.{refusals};
+ghost use Rattle.dl_history.specs.History.{primed};
+ghost use Rattle.dl_history.specs.Service.{service};
+ghost use Rattle.dl_history.specs.Journal.{refusals};
 ghost use Rattle.dl_loader.specs.Made.{Makes};
 ghost use Rattle.dl_loader.specs.Refusals.{IsRefusal, refusal, unready};
-ghost use Rattle.dl_loader.specs.Replies.{jobs_in, primed_in};
 
 use crate::book::Book;
-use crate::event::{Call, Ending, Event, Reply};
 use crate::fault::CallFault;
-use crate::lists::Jobs;
 use crate::loader::Loader;
-use crate::name::LoaderName;
 use crate::pass::Pass;
 use crate::reply::PrimeReply;
-use dl_desk::{DeskPrime, DeskReply, FetchKey, Job, Outcome};
+use dl_desk::{DeskPrime, FetchKey, Job, Outcome};
+use dl_history::{Call, Ending, Event, Jobs, LoaderName, Reply};
 use std::alloc::{AllocError, Global};
 
 impl<L: LoaderName> Book<L> {
@@ -95,14 +92,15 @@ impl<L: LoaderName> Book<L> {
         ensures fault { IfErr result (IsRefusal (service L.rules L.parts L.answer) self.old pass.old.part made.Dispatch None) }
         ensures unchanged { OnErr result ((self.new ≡ self.old) × (pass.new.part ≡ pass.old.part)) }
     {
-        let ready = self.desk.ready_dispatch(alloc)?;
+        let jobs = self.desk.prepare_dispatch(alloc)?;
         let event = Event {
             caller: pass.caller(),
             call: Call::Dispatch,
-            reply: Reply::Sent(Jobs::copy_of(alloc, jobs_in(ready.reply()))?),
+            reply: Reply::Sent(Jobs::copy_of(alloc, jobs.as_slice())?),
         };
         loader.record(alloc, &mut self.journal, pass, event, 0, 0)?;
-        Ok(into_jobs(alloc, self.desk.commit(ready)))
+        self.desk.make_prepared();
+        Ok(jobs)
     }
 
     /// Makes the event of a prime: a key that isn't held gets a cell that ends with the outcome.
@@ -126,8 +124,7 @@ impl<L: LoaderName> Book<L> {
         ensures unchanged { OnErr result ((self.new ≡ self.old) × (pass.new.part ≡ pass.old.part)) }
     {
         let call = Call::Prime(key.try_copy()?, outcome.try_copy()?);
-        let ready = self.desk.ready_prime(key)?;
-        let primed = primed_in(ready.reply());
+        let primed = self.desk.prepare_prime(key)?;
         let event = Event {
             caller: pass.caller(),
             call,
@@ -136,47 +133,17 @@ impl<L: LoaderName> Book<L> {
         match primed {
             DeskPrime::Kept => {
                 loader.record(alloc, &mut self.journal, pass, event, 0, 0)?;
-                self.desk.commit(ready);
+                self.desk.make_prepared();
                 Ok(PrimeReply::Kept)
             }
             DeskPrime::Primed(cell) => {
                 let ending = new_ending(alloc, loader.place(&self.journal), outcome)?;
                 loader.record(alloc, &mut self.journal, pass, event, 1, 0)?;
-                self.desk.commit(ready);
+                self.desk.make_prepared();
                 let shown = self.journal.end(loader.outcomes(), cell, ending);
                 Ok(PrimeReply::Primed { cell, shown })
             }
         }
-    }
-}
-
-// The jobs, where the reply is to a dispatch.
-fn jobs_in(reply: &DeskReply) -> &[Job]
-    ensures { result.now ≡ jobs_in reply.now }
-{
-    match reply {
-        DeskReply::Sent(jobs) => jobs.as_slice(),
-        DeskReply::Loads(_) | DeskReply::Primed(_) => &[],
-    }
-}
-
-// The same jobs, to move them on. It takes no memory.
-fn into_jobs(alloc: Global, reply: DeskReply) -> Vec<Job>
-    ensures { result.items ≡ jobs_in reply }
-{
-    match reply {
-        DeskReply::Sent(jobs) => jobs,
-        DeskReply::Loads(_) | DeskReply::Primed(_) => Vec::new(alloc),
-    }
-}
-
-// The reply to a prime, where the reply is to one.
-fn primed_in(reply: &DeskReply) -> DeskPrime
-    ensures { result ≡ primed_in reply.now }
-{
-    match reply {
-        DeskReply::Primed(primed) => *primed,
-        DeskReply::Loads(_) | DeskReply::Sent(_) => DeskPrime::Kept,
     }
 }
 

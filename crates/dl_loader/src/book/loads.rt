@@ -1,25 +1,22 @@
 //! The loads of keys, as events.
 
 ghost use Rattle.std.specs.Prelude.{◌≡◌, IfErr, IfOk, None, OnErr, OnOk};
-ghost use Rattle.dl_loader.specs.declared.event.Call.TheVariants.{Load, LoadMany};
-ghost use Rattle.dl_loader.specs.declared.event.Reply.TheVariants.{Loaded, Many};
-ghost use Rattle.dl_loader.specs.Service.{service};
-ghost use Rattle.dl_loader.specs.Journal.{refusals};
+ghost use Rattle.dl_history.specs.declared.event.Call.TheVariants.{Load, LoadMany};
+ghost use Rattle.dl_history.specs.declared.event.Reply.TheVariants.{Loaded, Many};
+ghost use Rattle.dl_history.specs.Service.{service};
+ghost use Rattle.dl_history.specs.Journal.{refusals};
 ghost use Rattle.dl_loader.specs.Made.{Makes};
 ghost use Rattle.dl_loader.specs.Refusals.{IsRefusal, refusal, unready};
 
 use crate::book::Book;
-use crate::event::{Call, Event, Reply};
 use crate::fault::CallFault;
-use crate::lists::Replies;
 use crate::loader::Loader;
-use crate::loads::{add_tickets, into_loads, loads_in};
-use crate::name::LoaderName;
+use crate::loads::{add_tickets, begun_by};
 use crate::pass::Pass;
 use crate::ticket::load_cell;
 use dl_desk::{FetchKey, Keys, LoadReply};
+use dl_history::{Call, Event, LoaderName, Replies, Reply};
 use std::alloc::Global;
-use std::slice;
 
 impl<L: LoaderName> Book<L> {
     /// Loads a key, as an event of the pass, which gets a ticket.
@@ -40,17 +37,14 @@ impl<L: LoaderName> Book<L> {
         ensures fault { IfErr result (IsRefusal (service L.rules L.parts L.answer) self.old pass.old.part (Load key.now) None) }
         ensures unchanged { OnErr result ((self.new ≡ self.old) × (pass.new.part ≡ pass.old.part)) }
     {
-        let ready = self.desk.ready_loads(alloc, slice::from_ref(key))?;
-        let loads = loads_in(ready.reply());
-        let reply = loads[0];
+        let reply = self.desk.prepare_load(alloc, key)?;
         let event = Event {
             caller: pass.caller(),
             call: Call::Load(key.try_copy()?),
             reply: Reply::Loaded(reply),
         };
-        let cells = loader.new_cells(loads);
-        loader.record(alloc, &mut self.journal, pass, event, cells, 1)?;
-        self.desk.commit(ready);
+        loader.record(alloc, &mut self.journal, pass, event, begun_by(reply), 1)?;
+        self.desk.make_prepared();
         pass.add_ticket(load_cell(reply));
         Ok(reply)
     }
@@ -74,8 +68,8 @@ impl<L: LoaderName> Book<L> {
         ensures fault { IfErr result (IsRefusal (service L.rules L.parts L.answer) self.old pass.old.part (LoadMany keys.now) None) }
         ensures unchanged { OnErr result ((self.new ≡ self.old) × (pass.new.part ≡ pass.old.part)) }
     {
-        let ready = self.desk.ready_loads(alloc, keys)?;
-        let loads = loads_in(ready.reply());
+        let replies = self.desk.prepare_loads(alloc, keys)?;
+        let loads = replies.as_slice();
         let event = Event {
             caller: pass.caller(),
             call: Call::LoadMany(Keys::copy_of(alloc, keys)?),
@@ -83,8 +77,8 @@ impl<L: LoaderName> Book<L> {
         };
         let cells = loader.new_cells(loads);
         loader.record(alloc, &mut self.journal, pass, event, cells, loads.len())?;
-        let replies = into_loads(alloc, self.desk.commit(ready));
-        add_tickets(pass, replies.as_slice());
+        self.desk.make_prepared();
+        add_tickets(pass, loads);
         Ok(replies)
     }
 }

@@ -3,19 +3,19 @@
 ghost use Rattle.std.specs.Prelude.{◌≡◌, ◌+◌, IfErr, IfOk, List, OnErr, OnOk, Some, length};
 ghost use Rattle.dl_desk.specs.Key.{Key};
 ghost use Rattle.dl_source.specs.Fetched.{answer_of, job_of, source_of};
-ghost use Rattle.dl_loader.specs.declared.event.Call.TheVariants as call;
-ghost use Rattle.dl_loader.specs.declared.event.Reply.TheVariants as reply;
+ghost use Rattle.dl_history.specs.declared.event.Call.TheVariants as call;
+ghost use Rattle.dl_history.specs.declared.event.Reply.TheVariants as reply;
 ghost use Rattle.dl_loader.specs.Asks.{end_by, fault_of};
 ghost use Rattle.dl_loader.specs.Made.{WasMade, WasRefused};
-ghost use Rattle.dl_loader.specs.Service.{service};
+ghost use Rattle.dl_history.specs.Service.{service};
 
-use crate::event::GiveUp;
+use crate::ask::GiveUp;
 use crate::fault::CallFault;
 use crate::loader::Loader;
-use crate::name::LoaderName;
 use crate::pass::Pass;
 use crate::reply::Settled;
 use dl_desk::Job;
+use dl_history::LoaderName;
 use dl_source::{Fetched, Source};
 use std::alloc::Global;
 use std::sync::Wait;

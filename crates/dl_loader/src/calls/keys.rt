@@ -1,18 +1,18 @@
 //! The calls on keys, and the dispatch.
 
-ghost use Rattle.std.specs.Prelude.{◌≡◌, ◌≤◌, false, true, None, IfErr, IfOk, List, OnErr, OnOk, length, map};
-ghost use Rattle.dl_loader.specs.declared.event.Call.TheVariants as call;
-ghost use Rattle.dl_loader.specs.declared.event.Reply.TheVariants as reply;
+ghost use Rattle.std.specs.Prelude.{◌≡◌, None, IfErr, IfOk, OnErr, OnOk};
+ghost use Rattle.dl_history.specs.declared.event.Call.TheVariants as call;
+ghost use Rattle.dl_history.specs.declared.event.Reply.TheVariants as reply;
 ghost use Rattle.dl_loader.specs.EventReplies.{told_by};
 ghost use Rattle.dl_loader.specs.Made.{WasMade, WasRefused};
-ghost use Rattle.dl_loader.specs.Service.{service};
+ghost use Rattle.dl_history.specs.Service.{service};
 
 use crate::fault::CallFault;
 use crate::loader::Loader;
-use crate::name::LoaderName;
 use crate::pass::Pass;
 use crate::reply::PrimeReply;
 use dl_desk::{FetchKey, Job, Outcome};
+use dl_history::LoaderName;
 use std::alloc::Global;
 use std::sync::Wait;
 

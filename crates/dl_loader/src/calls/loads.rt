@@ -1,18 +1,18 @@
 //! The loads of keys.
 
 ghost use Rattle.std.specs.Prelude.{◌≡◌, false, IfErr, IfOk, None, OnErr, length, map};
-ghost use Rattle.dl_loader.specs.declared.event.Call.TheVariants as call;
-ghost use Rattle.dl_loader.specs.declared.event.Reply.TheVariants as reply;
+ghost use Rattle.dl_history.specs.declared.event.Call.TheVariants as call;
+ghost use Rattle.dl_history.specs.declared.event.Reply.TheVariants as reply;
 ghost use Rattle.dl_loader.specs.Made.{WasMade, WasRefused};
 ghost use Rattle.dl_loader.specs.Pass.{Gave, GaveAll};
-ghost use Rattle.dl_loader.specs.Service.{service};
+ghost use Rattle.dl_history.specs.Service.{service};
 
 use crate::fault::CallFault;
 use crate::loader::Loader;
-use crate::name::LoaderName;
 use crate::pass::Pass;
 use crate::ticket::Ticket;
 use dl_desk::FetchKey;
+use dl_history::LoaderName;
 use std::alloc::Global;
 use std::sync::Wait;
 

@@ -1,21 +1,20 @@
 //! The close of a loader.
 
 ghost use Rattle.std.specs.Prelude.{◌≡◌, ◌≤◌, [], IfErr, IfNone, IfOk, IfSome, OnOk, length, vec_capacity};
-ghost use Rattle.dl_loader.specs.Agrees.{Agrees, HasEach, accounts_by, accounts_of};
+ghost use Rattle.dl_history.specs.Agrees.{Agrees, HasEach, accounts_by, NoneBehind};
+ghost use Rattle.dl_loader.specs.Closing.{accounts_of, IsBehind, MayClose, RefusesClose, earlier, present};
 ghost use Rattle.dl_loader.specs.Book.{Keeps, Locked};
-ghost use Rattle.dl_loader.specs.Closing.{AllEnded, IsBehind, MayClose, NoneBehind, RefusesClose, earlier, present};
-ghost use Rattle.dl_loader.specs.History.{IsLegal};
-ghost use Rattle.dl_loader.specs.Lists.{Every};
-ghost use Rattle.dl_loader.specs.Service.{service};
+ghost use Rattle.dl_history.specs.History.{AllEnded, IsLegal};
+ghost use Rattle.dl_history.specs.Lists.{Every};
+ghost use Rattle.dl_history.specs.Service.{service};
 
-use crate::account::Account;
 use crate::book::Book;
 use crate::fault::CloseFault;
-use crate::history::History;
 use crate::loader::Loader;
-use crate::name::LoaderName;
+use crate::loader::accounts::history_of;
 use crate::pass::Pass;
 use dl_desk::Limits;
+use dl_history::{Account, History, LoaderName};
 use std::alloc::Global;
 use std::sync::Mutex;
 
@@ -51,7 +50,7 @@ impl<L: LoaderName> Loader<L> {
         book.keeps();
         match room(alloc, limits, callers, &book, passes.as_slice()) {
             Ok(accounts) => {
-                let history = History::of(log, outcomes, book, passes, accounts);
+                let history = history_of(log, outcomes, book, passes, accounts);
                 history.keeps();
                 Ok(history)
             }

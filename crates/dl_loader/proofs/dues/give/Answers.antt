@@ -1,7 +1,7 @@
 use Rattle.std.proofs.Common.{◌∙◌, ◌++◌, [], ◌∷◌, length, rules, length-append}
 use Rattle.std.proofs.lemmas.Iterator.Adapters.{YieldsList-from_vec}
 use Rattle.std.proofs.lemmas.Iterator.Consumers.{YieldsList-turn, YieldsList-so_far}
-use Rattle.dl_loader.specs.Journal.{refusals}
+use Rattle.dl_history.specs.Journal.{refusals}
 use Rattle.dl_loader.proofs.GivenDues.{front_is, next_waits, next_inside, given_more, taken_count, refused_count, refused_next, few_next, few_still}
 use Rattle.dl_loader.proofs.dues.give.Goals as goal
 

@@ -1,5 +1,5 @@
 use Rattle.std.proofs.Common.{◌≡◌, ◌+◌, ◌≤◌, length}
-use Rattle.dl_loader.specs.Journal.{refusals}
+use Rattle.dl_history.specs.Journal.{refusals}
 use Rattle.dl_loader.specs.Dues.{AreGiven}
 use Rattle.dl_loader.proofs.dues.give.Given as goal
 

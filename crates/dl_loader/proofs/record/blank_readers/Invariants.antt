@@ -1,5 +1,5 @@
 use Rattle.std.proofs.Common.{◌≡◌, length}
-use Rattle.dl_loader.specs.Journal.{AreBlank}
+use Rattle.dl_history.specs.Journal.{AreBlank}
 use Rattle.dl_loader.proofs.record.blank_readers.Given as goal
 
 abbrev pub invariant-loop-more : goal.invariant-loop-more

@@ -1,4 +1,4 @@
-use Rattle.dl_loader.specs.Service.{service}
+use Rattle.dl_history.specs.Service.{service}
 use Rattle.dl_loader.proofs.KeyEvents.{clear_all_kept}
 use Rattle.dl_loader.proofs.book.Book.clear_all.Goals as goal
 

@@ -1,5 +1,5 @@
 use Rattle.std.proofs.Common.{ap, arith}
-use Rattle.dl_loader.specs.Service.{service}
+use Rattle.dl_history.specs.Service.{service}
 use Rattle.dl_loader.proofs.ClosingLemmas.{all_ended}
 use Rattle.dl_loader.proofs.book.Book.open_batch.Goals as goal
 

@@ -1,5 +1,5 @@
 use Rattle.std.proofs.Common.{ℕ, ◌<◌}
-use Rattle.dl_loader.specs.Closing.{HasEnd}
+use Rattle.dl_history.specs.History.{HasEnd}
 use Rattle.dl_loader.proofs.book.Book.open_batch.Given as goal
 
 abbrev pub invariant-loop-batch : goal.invariant-loop-batch

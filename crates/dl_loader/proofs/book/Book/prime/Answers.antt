@@ -1,62 +1,57 @@
-use Rattle.std.proofs.Common.{◌+◌, ◌∙◌, ap, cond, refl}
-use Rattle.dl_loader.specs.Service.{service}
+use Rattle.std.proofs.Common.{◌+◌, ◌∙◌, ap, cond, refl, subst, sym}
+use Rattle.dl_desk.specs.Book.{Book, StandsFor}
+use Rattle.dl_desk.specs.Calls.{Primes, after}
+use Rattle.dl_desk.specs.Events.{atoms}
+use Rattle.dl_history.specs.History.{log}
+use Rattle.dl_history.specs.Service.{service}
 use Rattle.dl_loader.specs.Book.{Locked}
-use Rattle.dl_loader.specs.Journal.{refusals}
-use Rattle.dl_loader.specs.Replies.{primed_in}
+use Rattle.dl_history.specs.Journal.{refusals}
 use Rattle.dl_loader.proofs.KeyEvents.{held_kept, primed_next, primed_waits, primed_kept, primed_refusals}
 use Rattle.dl_loader.proofs.book.Book.prime.Goals as goal
 
 pub invariant_of-self-in-Kept : goal.invariant_of-self-in-Kept
 invariant_of-self-in-Kept g c =
-    held_kept (service g.L.LoaderName.rules g.L.Ledger.parts g.L.LoaderName.answer) c.args.self.now c.args.pass.now.part c.self.inside.journal.history c.record.new.journal.history c.in_ok-try_copy.field-0 c.args.key.now c.in_ok-try_copy-2.field-0 c.caller.result c.prime_reply.result c.primed_in-primed.result c.ready_prime.new.self c.in_ok-ready.ready c.self.inside.desk.book c.commit.new.self.book c.self.inside.journal.cells c.record.new.journal.cells c.self.inside.stopped
+    held_kept (service g.L.LoaderName.rules g.L.Ledger.parts g.L.LoaderName.answer) c.args.self.now c.args.pass.now.part c.self.inside.journal.history c.record.new.journal.history c.in_ok-try_copy.field-0 c.args.key.now c.in_ok-try_copy-2.field-0 c.caller.result c.prime_reply.result c.in_ok-primed.primed c.self.inside.desk.book c.make_prepared.new.self.book c.self.inside.journal.cells c.record.new.journal.cells c.self.inside.stopped
     c.self.view_is c.requires.ready c.self.invariant (record {
       own = c.caller.ensures.caller;
       below = c.caller.ensures.below;
       copy = c.in_ok-try_copy.ensures;
       replies = c.prime_reply.ensures;
-      told = c.primed_in-primed.ensures ∙ ap primed_in c.reply.ensures;
-      same = c.in_ok-ready.ensures.book;
-      is_ready = c.in_ok-ready.ensures.ready;
-    }) c.in-Kept.is c.in_ok-record-in-Kept.ensures.history c.in_ok-record-in-Kept.ensures.cells c.commit.ensures.rules c.commit.ensures.stands
+      told = c.in_ok-primed.ensures.reply;
+    }) c.in-Kept.is c.in_ok-record-in-Kept.ensures.history c.in_ok-record-in-Kept.ensures.cells (c.make_prepared.ensures.rules ∙ ap (λ (x : Book). x.rules) c.prepare_prime.ensures.book) (subst (λ (x : Book). StandsFor x (after c.self.inside.desk.book.rules (atoms (log c.self.inside.journal.history)) (Primes c.args.key.now))) (sym c.make_prepared.ensures.book) (c.in_ok-primed.ensures.stands (atoms (log c.self.inside.journal.history)) c.self.invariant.desk))
 
 pub end-shown-requires-clause-waits : goal.end-shown-requires-clause-waits
 end-shown-requires-clause-waits g c =
-    let last = primed_next (service g.L.LoaderName.rules g.L.Ledger.parts g.L.LoaderName.answer) c.args.pass.now.part c.self.inside.journal.history c.in_ok-try_copy.field-0 c.args.key.now c.in_ok-try_copy-2.field-0 c.caller.result c.in-Primed.cell c.prime_reply.result c.primed_in-primed.result c.ready_prime.new.self c.in_ok-ready.ready c.self.inside.desk.book c.self.inside.journal.cells c.self.inside.stopped
+    let last = primed_next (service g.L.LoaderName.rules g.L.Ledger.parts g.L.LoaderName.answer) c.args.pass.now.part c.self.inside.journal.history c.in_ok-try_copy.field-0 c.args.key.now c.in_ok-try_copy-2.field-0 c.caller.result c.in-Primed.cell c.prime_reply.result c.in_ok-primed.primed c.self.inside.desk.book c.self.inside.journal.cells c.self.inside.stopped
     c.self.invariant (record {
       own = c.caller.ensures.caller;
       below = c.caller.ensures.below;
       copy = c.in_ok-try_copy.ensures;
       replies = c.prime_reply.ensures;
-      told = c.primed_in-primed.ensures ∙ ap primed_in c.reply.ensures;
-      same = c.in_ok-ready.ensures.book;
-      is_ready = c.in_ok-ready.ensures.ready;
+      told = c.in_ok-primed.ensures.reply;
     }) c.in-Primed.is in
     primed_waits c.self.inside.journal.cells c.record-in-Primed.new.journal.cells c.in-Primed.cell c.in_ok-record-in-Primed.ensures.cells last
 
 pub invariant_of-self-in-Primed : goal.invariant_of-self-in-Primed
 invariant_of-self-in-Primed g c =
-    primed_kept (service g.L.LoaderName.rules g.L.Ledger.parts g.L.LoaderName.answer) c.args.self.now c.args.pass.now.part c.self.inside.journal.history c.end-shown.new.self.history c.in_ok-try_copy.field-0 c.args.key.now c.in_ok-try_copy-2.field-0 c.caller.result c.in-Primed.cell c.prime_reply.result c.primed_in-primed.result c.ready_prime.new.self c.in_ok-ready.ready c.self.inside.desk.book c.commit-in-Primed.new.self.book c.self.inside.journal.cells c.record-in-Primed.new.journal.cells c.end-shown.new.self.cells c.self.inside.stopped c.end-shown.result c.in_ok-ending-in-Primed.ending.value c.place.result c.args.outcome.now
+    primed_kept (service g.L.LoaderName.rules g.L.Ledger.parts g.L.LoaderName.answer) c.args.self.now c.args.pass.now.part c.self.inside.journal.history c.end-shown.new.self.history c.in_ok-try_copy.field-0 c.args.key.now c.in_ok-try_copy-2.field-0 c.caller.result c.in-Primed.cell c.prime_reply.result c.in_ok-primed.primed c.self.inside.desk.book c.make_prepared-in-Primed.new.self.book c.self.inside.journal.cells c.record-in-Primed.new.journal.cells c.end-shown.new.self.cells c.self.inside.stopped c.end-shown.result c.in_ok-ending-in-Primed.ending.value c.place.result c.args.outcome.now
     c.self.view_is c.requires.ready c.self.invariant (record {
       own = c.caller.ensures.caller;
       below = c.caller.ensures.below;
       copy = c.in_ok-try_copy.ensures;
       replies = c.prime_reply.ensures;
-      told = c.primed_in-primed.ensures ∙ ap primed_in c.reply.ensures;
-      same = c.in_ok-ready.ensures.book;
-      is_ready = c.in_ok-ready.ensures.ready;
-    }) c.in-Primed.is c.in_ok-ready.ensures.accepted (c.end-shown.ensures.history ∙ c.in_ok-record-in-Primed.ensures.history) c.in_ok-record-in-Primed.ensures.cells c.commit-in-Primed.ensures.rules c.commit-in-Primed.ensures.stands c.in_ok-ending-in-Primed.ensures c.place.ensures c.in_ok-try_copy-2.ensures c.end-shown.ensures.ended
+      told = c.in_ok-primed.ensures.reply;
+    }) c.in-Primed.is c.in_ok-primed.ensures.accepted (c.end-shown.ensures.history ∙ c.in_ok-record-in-Primed.ensures.history) c.in_ok-record-in-Primed.ensures.cells (c.make_prepared-in-Primed.ensures.rules ∙ ap (λ (x : Book). x.rules) c.prepare_prime.ensures.book) (subst (λ (x : Book). StandsFor x (after c.self.inside.desk.book.rules (atoms (log c.self.inside.journal.history)) (Primes c.args.key.now))) (sym c.make_prepared-in-Primed.ensures.book) (c.in_ok-primed.ensures.stands (atoms (log c.self.inside.journal.history)) c.self.invariant.desk)) c.in_ok-ending-in-Primed.ensures c.place.ensures c.in_ok-try_copy-2.ensures c.end-shown.ensures.ended
 
 pub returns-in_ok-record-in-Primed-clause-refused : goal.returns-in_ok-record-in-Primed-clause-refused
 returns-in_ok-record-in-Primed-clause-refused g c =
-    let last = primed_next (service g.L.LoaderName.rules g.L.Ledger.parts g.L.LoaderName.answer) c.args.pass.now.part c.self.inside.journal.history c.in_ok-try_copy.field-0 c.args.key.now c.in_ok-try_copy-2.field-0 c.caller.result c.in-Primed.cell c.prime_reply.result c.primed_in-primed.result c.ready_prime.new.self c.in_ok-ready.ready c.self.inside.desk.book c.self.inside.journal.cells c.self.inside.stopped
+    let last = primed_next (service g.L.LoaderName.rules g.L.Ledger.parts g.L.LoaderName.answer) c.args.pass.now.part c.self.inside.journal.history c.in_ok-try_copy.field-0 c.args.key.now c.in_ok-try_copy-2.field-0 c.caller.result c.in-Primed.cell c.prime_reply.result c.in_ok-primed.primed c.self.inside.desk.book c.self.inside.journal.cells c.self.inside.stopped
     c.self.invariant (record {
       own = c.caller.ensures.caller;
       below = c.caller.ensures.below;
       copy = c.in_ok-try_copy.ensures;
       replies = c.prime_reply.ensures;
-      told = c.primed_in-primed.ensures ∙ ap primed_in c.reply.ensures;
-      same = c.in_ok-ready.ensures.book;
-      is_ready = c.in_ok-ready.ensures.ready;
+      told = c.in_ok-primed.ensures.reply;
     }) c.in-Primed.is in
     let count = primed_refusals c.self.inside.journal.cells c.record-in-Primed.new.journal.cells c.end-shown.new.self.cells c.in-Primed.cell (cond c.end-shown.result 0 1) c.end-shown.result c.in_ok-ending-in-Primed.ending.value c.in_ok-record-in-Primed.ensures.cells last refl c.end-shown.ensures.ended in
     count ∙ ap (λ (x : Locked). refusals x.cells + cond c.end-shown.result 0 1) c.self.view_is

@@ -1,8 +1,8 @@
 use Rattle.std.proofs.Common.{◌∙◌, ap, sym}
-use Rattle.dl_source.specs.declared.source.BatchAnswer.TheVariants.{Break}
+use Rattle.dl_desk.specs.declared.outcome.BatchAnswer.TheVariants.{Break}
 use Rattle.dl_desk.specs.Events.{atoms}
 use Rattle.dl_source.specs.Fetched.{job_of, source_of}
-use Rattle.dl_loader.specs.History.{log}
+use Rattle.dl_history.specs.History.{log}
 use Rattle.dl_loader.proofs.BatchEnds.{may_end, answered_own, settle_may}
 use Rattle.dl_loader.proofs.book.Book.settle.Goals as goal
 

@@ -1,7 +1,7 @@
 use Rattle.std.proofs.Common.{refl}
-use Rattle.dl_loader.specs.declared.event.Call.TheVariants as call
-use Rattle.dl_loader.specs.declared.event.Reply.TheVariants as reply
-use Rattle.dl_loader.specs.Service.{Service, service}
+use Rattle.dl_history.specs.declared.event.Call.TheVariants as call
+use Rattle.dl_history.specs.declared.event.Reply.TheVariants as reply
+use Rattle.dl_history.specs.Service.{Service, service}
 use Rattle.dl_loader.proofs.Called.{was_made, no_tickets}
 use Rattle.dl_loader.proofs.loader.Loader.clear.Goals as goal
 

@@ -1,5 +1,5 @@
 use Rattle.std.proofs.Common.{◌∙◌}
-use Rattle.dl_loader.specs.Service.{Service, service}
+use Rattle.dl_history.specs.Service.{Service, service}
 use Rattle.dl_loader.proofs.CellsGiven.{load_begun}
 use Rattle.dl_loader.proofs.HandedOut.{gave_load}
 use Rattle.dl_loader.proofs.loader.Loader.load.Goals as goal

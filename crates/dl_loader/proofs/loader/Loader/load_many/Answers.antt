@@ -1,5 +1,5 @@
 use Rattle.std.proofs.Common.{◌≡◌, ap, length, arith}
-use Rattle.dl_loader.specs.Service.{Service, service}
+use Rattle.dl_history.specs.Service.{Service, service}
 use Rattle.dl_loader.proofs.CellsGiven.{loads_begun, loads_long}
 use Rattle.dl_loader.proofs.HandedOut.{tickets_last, gave_loads}
 use Rattle.dl_loader.proofs.loader.Loader.load_many.Goals as goal

@@ -1,6 +1,6 @@
-use Rattle.dl_loader.specs.declared.event.Call.TheVariants as call
+use Rattle.dl_history.specs.declared.event.Call.TheVariants as call
 use Rattle.dl_loader.specs.EventReplies.{told_by}
-use Rattle.dl_loader.specs.Service.{Service, service}
+use Rattle.dl_history.specs.Service.{Service, service}
 use Rattle.dl_loader.proofs.Called.{was_made, no_tickets, primed_none}
 use Rattle.dl_loader.proofs.loader.Loader.prime.Goals as goal
 

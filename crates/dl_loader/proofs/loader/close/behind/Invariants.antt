@@ -1,5 +1,5 @@
 use Rattle.std.proofs.Common.{take}
-use Rattle.dl_loader.specs.Agrees.{accounts_of}
+use Rattle.dl_loader.specs.Closing.{accounts_of}
 use Rattle.dl_loader.proofs.ClosingLemmas.{IsFound}
 use Rattle.dl_loader.proofs.loader.close.behind.Given as goal
 

@@ -1,6 +1,6 @@
 use Rattle.std.proofs.Common.{ℕ, subst}
-use Rattle.dl_loader.specs.Agrees.{accounts_of}
-use Rattle.dl_loader.specs.Closing.{NoneBehind}
+use Rattle.dl_loader.specs.Closing.{accounts_of}
+use Rattle.dl_history.specs.Agrees.{NoneBehind}
 use Rattle.dl_loader.proofs.ClosingLemmas.{each_present}
 use Rattle.dl_loader.proofs.loader.close.check.Goals as goal
 

@@ -1,5 +1,5 @@
 use Rattle.std.proofs.Common.{◌≡◌, ◌≤◌}
-use Rattle.dl_loader.specs.Agrees.{accounts_of}
+use Rattle.dl_loader.specs.Closing.{accounts_of}
 use Rattle.dl_loader.specs.Closing.{present}
 use Rattle.dl_loader.proofs.loader.close.present.Given as goal
 

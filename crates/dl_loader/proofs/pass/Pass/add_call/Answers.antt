@@ -14,4 +14,6 @@ invariant_of-self g c =
     let from = c.from.ensures in
     let at = c.at.ensures in
     let small = c.at.type_inv in
-    pass_call {entries2 = c.push_reserved.new.self.items} c.args.self.now c.args.stored c.call.result c.self.view_is c.self.invariant c.requires.room c.requires.after c.requires.own c.push_reserved.ensures.items c.call.ensures (omega arith) (omega arith) refl c.add.ensures.parts c.add.ensures.amount c.push_reserved.ensures.capacity
+    let place = c.requires.place in
+    let after = c.requires.after in
+    pass_call {entries2 = c.push_reserved.new.self.items} c.args.self.now c.args.stored c.call.result c.self.view_is c.self.invariant c.requires.room (omega arith) c.requires.own c.push_reserved.ensures.items c.call.ensures (omega arith) (omega arith) refl c.add.ensures.parts c.add.ensures.counted c.push_reserved.ensures.capacity

@@ -1,0 +1,34 @@
+//! The tables of users that the worked rows read from, and how an outcome is written in them.
+
+use dl_desk::{BatchFault, Outcome};
+use dl_source::Tables;
+use serde_json::Value;
+use std::alloc::{AllocError, Global};
+use std::test::Fail;
+
+/// Three users, one whose row is an error, and one that breaks the source.
+pub const USERS: &str =
+    r#"[{"name":"user","rows":[["u1",{"best":"u2","friends":["u2","u3"],"name":"Ada"}],["u2",{"best":"u1","friends":[],"name":"Bob"}],["u3",{"name":"Cy"}]],"errors":[["u9","gone"]],"breaks":[["u13","db down"]]}]"#;
+
+/// The tables of a text.
+pub fn tables(alloc: Global, text: &str) -> Result<Tables, Fail> {
+    let value = Value::from_str(alloc, text)?;
+    Ok(Tables::from_value(alloc, &value)?)
+}
+
+/// The text of an outcome: of a value its JSON, else what failed and why.
+pub fn outcome_text(alloc: Global, outcome: &Outcome) -> Result<String, AllocError> {
+    match outcome {
+        Outcome::Value(value) => value.to_text(alloc),
+        Outcome::KeyError(text) => format!(in alloc; "error {}", text.as_str()),
+        Outcome::BatchFailed(fault) => fault_text(alloc, fault),
+    }
+}
+
+fn fault_text(alloc: Global, fault: &BatchFault) -> Result<String, AllocError> {
+    match fault {
+        BatchFault::Source(text) => format!(in alloc; "batch {}", text.as_str()),
+        BatchFault::Memory => String::from_str(alloc, "memory"),
+        BatchFault::Unsent => String::from_str(alloc, "unsent"),
+    }
+}

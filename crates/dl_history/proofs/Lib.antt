@@ -1,0 +1,19 @@
+pub mod ListLemmas
+pub mod EntryLists
+pub mod Logs
+pub mod CellBatches
+pub mod LogEnds
+pub mod Endings
+pub mod BatchEndings
+pub mod Outcomes
+mod JournalLemmas
+pub mod CellLists
+pub mod BlankReaders
+pub mod CellsBegun
+pub mod CellsEnded
+mod CellOutcomes
+pub mod Counting
+pub mod AccountCounts
+pub mod Agreement
+mod HistoryLemmas
+pub mod Crossing

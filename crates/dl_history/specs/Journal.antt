@@ -1,0 +1,72 @@
+-- What contracts see of the events and the cells of a loader, and what holds of the fields behind them.
+use Rattle.std.specs.Prelude.{◌≡◌, ℕ, Bool, true, false, count_by, ◌+◌, List, length, map, set, Option, Some, None, slice_get}
+use Rattle.std.specs.Global.{Box}
+use Rattle.dl_cells.specs.Cells.{RowName, cell_of, Reading}
+use Rattle.dl_history.specs.Entries.{Told}
+use Rattle.dl_history.specs.declared.event.Event.{Event}
+use Rattle.dl_history.specs.declared.event.Ending.{Ending}
+use Rattle.dl_history.specs.declared.state.Mark.{Mark}
+use Rattle.dl_history.specs.declared.state.Mark.TheVariants.{Waiting, Ended, Refused}
+use Rattle.dl_history.specs.declared.state.State.{State}
+
+-- how a cell stands: whether it took the end that it was given, or else which one it refused, and what it is known to
+-- show
+pub record Cell : Type 0 where
+  pub mark : Mark
+  pub shows : Option Ending
+
+-- a cell that has no end
+abbrev pub waiting : Cell
+waiting = record { mark = Waiting; shows = None }
+
+-- a cell that took its outcome
+abbrev pub ended : Ending → Cell
+ended e = record { mark = Ended; shows = Some e }
+
+-- a cell that had something else, with the end that it refused
+abbrev pub refused : Box Ending → Option Ending → Cell
+refused kept other = record { mark = Refused kept; shows = other }
+
+abbrev pub is_refused : Mark → Bool
+is_refused Waiting = false
+is_refused Ended = false
+is_refused (Refused kept) = true
+
+abbrev pub cell_refused : Option Cell → Bool
+cell_refused None = false
+cell_refused (Some x) = is_refused x.mark
+
+-- how many cells refused their outcome
+abbrev pub refusals : List Cell → ℕ
+refusals cells = count_by (λ x. is_refused x.mark) cells
+
+-- the cells once one of them refused this end
+abbrev pub Refuses : List Cell → List Cell → ℕ → Ending → Type 0
+Refuses before now c end = (kept : Box Ending) × (other : Option Ending) × (kept.value ≡ end) × (now ≡ set before c (refused kept other))
+
+-- the events in order, the cells that were begun, and for how many more of both there is room
+pub record Journal : Type 0 where
+  pub history : List Event
+  pub cells : List Cell
+  pub spare : ℕ
+
+-- the events, in order
+abbrev pub events_of : List Told → List Event
+events_of ts = map (λ t. t.event) ts
+
+abbrev pub cell_by : State → Cell
+cell_by s = record { mark = s.mark; shows = s.reader.known }
+
+-- the cells as the states have them
+abbrev pub cells_by : List State → List Cell
+cells_by states = map cell_by states
+
+-- each event is counted and stands at its place, and each state is of its own cell
+pub record IsJournal (outcomes : RowName) (counted : ℕ) (log : List Told) (states : List State) : Type 0 where
+  pub counted_is : counted ≡ length log
+  pub places : (k : ℕ) (t : Told) → slice_get log k ≡ Some t → t.at ≡ k
+  pub own_cells : (c : ℕ) (s : State) → slice_get states c ≡ Some s → s.reader.cell ≡ cell_of outcomes c
+
+-- readers, in order, of the cells from one on, of which they know nothing
+pub record AreBlank (outcomes : RowName) (from : ℕ) (readers : List (Reading Ending)) : Type 0 where
+  pub at : (k : ℕ) (r : Reading Ending) → slice_get readers k ≡ Some r → (r.cell ≡ cell_of outcomes (from + k)) × (r.known ≡ None)

@@ -1,0 +1,10 @@
+pub mod Service
+pub mod History
+pub mod Lists
+pub mod Entries
+pub mod Lines
+pub mod Agrees
+pub mod Journal
+pub mod Kept
+pub mod Closed
+pub mod Codes

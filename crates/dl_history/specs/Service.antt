@@ -1,0 +1,28 @@
+-- What a loader serves by.
+use Rattle.std.specs.Prelude.{◌≡◌, ℕ, List, [], None, length}
+use Rattle.dl_desk.specs.Key.{Key}
+use Rattle.dl_desk.specs.Limits.{Rules}
+use Rattle.dl_desk.specs.declared.outcome.BatchAnswer.{BatchAnswer}
+use Rattle.dl_desk.specs.declared.outcome.BatchAnswer.TheVariants.{Each, Break}
+use Rattle.dl_desk.specs.declared.outcome.Outcome.{Outcome}
+
+-- What a loader serves by: how it makes batches, how many callers it has, and the one function by
+-- which its source answers.
+pub record Service : Type 0 where
+  pub rules : Rules
+  pub callers : ℕ
+  pub answer : List Key → BatchAnswer
+
+abbrev pub service : Rules → ℕ → (List Key → BatchAnswer) → Service
+service rules callers answer = record { rules = rules; callers = callers; answer = answer }
+
+-- an answer that does not break has an outcome for each key
+abbrev pub AnswersEach : (List Key → BatchAnswer) → Type 0
+AnswersEach answer = (ks : List Key) (os : List Outcome) → answer ks ≡ Each os → length os ≡ length ks
+
+-- no rules and no source, for a type that names no loader
+abbrev pub no_rules : Rules
+no_rules = record { limits = record { max_batch = 0; max_cells = 0; max_calls = 0 }; tables = None }
+
+abbrev pub no_answer : List Key → BatchAnswer
+no_answer keys = Break []

@@ -1,0 +1,244 @@
+//! The entries of a pass: calls that were made, and outcomes that were read.
+
+ghost use Rattle.std.specs.Prelude.{◌≡◌, ◌<◌, IfErr, IfOk, IfSome, IsSome, IsSomeAnd};
+ghost use Rattle.dl_cells.specs.Cells.{cell_of, row_len};
+ghost use Rattle.dl_history.specs.Agrees.{Meets};
+ghost use Rattle.dl_history.specs.Entries.{told, read, ending_known, kind_of, Called, Saw};
+
+use crate::event::{Ending, Event};
+use crate::journal::Journal;
+use crate::name::LoaderName;
+use dl_cells::{CellRow, Reader};
+use std::marker::{Model, PhantomData};
+
+/// What an entry of a pass is.
+#[derive(Clone, Copy, Debug, PartialEq, Eq)]
+pub enum EntryKind {
+    /// The caller's event at this place of the history.
+    Call { at: u32 },
+    /// The outcome of a cell, which the event at this place gave it.
+    Saw { cell: u32, at: u32 },
+}
+
+/// An event that lies in the log, and its place there. Contracts see both.
+#[derive(Drop)]
+pub struct Stored<L: LoaderName> {
+    at: u16,
+    reader: Reader<Event>,
+    of: PhantomData<L>,
+}
+
+impl<L: LoaderName> Model for Stored<L> {
+    ghost use Rattle.std.specs.Prelude.{◌≡◌, ◌<◌, Some};
+    ghost use Rattle.dl_cells.specs.Cells.{cell_of, row_len};
+    ghost use Rattle.dl_history.specs.Entries.{Told, told, event_known};
+    ghost use Rattle.dl_history.specs.Codes.{told_code};
+
+    ghost Value = { Told };
+
+    ghost coded = { told_code };
+
+    ghost view = { λ e. told e.at (event_known e.reader.known) };
+
+    ghost invariant = { λ e. (e.at < row_len L.log) × (e.reader.cell ≡ cell_of L.log e.at) × (e.reader.known ≡ Some (event_known e.reader.known)) };
+}
+
+impl<L: LoaderName> Stored<L> {
+    /// Puts an event into its cell of the log. Where the log has another event there, hands the event
+    /// back. Either way the reader knows from then on what the cell has. It takes no memory.
+    pub fn store(
+        row: &CellRow<Event>,
+        at: u16,
+        reader: &mut Reader<Event>,
+        event: Box<Event>,
+    ) -> Result<Stored<L>, Box<Event>>
+        requires row { row.now ≡ L.log }
+        requires in_row { at < row_len L.log }
+        requires of_cell { reader.old.cell ≡ cell_of L.log at }
+        ensures cell { reader.new.cell ≡ reader.old.cell }
+        ensures known { IsSome reader.new.known }
+        ensures stored { IfOk result (λ stored. stored ≡ told at event.value) }
+        ensures back { IfErr result (λ back. back.value ≡ event.value) }
+    {
+        row.show(u32::from(at), reader, event)?;
+        Ok(Stored {
+            at,
+            reader: reader.again(),
+            of: PhantomData,
+        })
+    }
+
+    /// The place in the log.
+    pub fn at(&self) -> u16
+        ensures { result ≡ self.now.at }
+    {
+        self.at
+    }
+
+    /// The event, which lies in its cell of the log. It takes no memory.
+    pub fn event<'a>(&self, row: &'a CellRow<Event>) -> &'a Event
+        requires { row.now ≡ L.log }
+        ensures { result.now ≡ self.now.event }
+    {
+        match row.look(u32::from(self.at), &mut self.reader.again()) {
+            Some(event) => event,
+            None => unreachable!(),
+        }
+    }
+
+    /// A second one that tells the same. It takes no memory.
+    pub fn again(&self) -> Stored<L>
+        ensures { result ≡ self.now }
+    {
+        Stored {
+            at: self.at,
+            reader: self.reader.again(),
+            of: PhantomData,
+        }
+    }
+
+    /// Two that were stored at one place tell the same event, whichever threads hold them.
+    pub fn agree(&self, other: &Stored<L>)
+        requires { other.now.at ≡ self.now.at }
+        ensures { self.now ≡ other.now }
+    {
+        self.reader.agree(&other.reader);
+    }
+}
+
+/// An outcome that was read of a cell. Contracts see the cell, the outcome, and the place of the event
+/// that gave it.
+#[derive(Drop)]
+pub struct Seen<L: LoaderName> {
+    cell: u32,
+    ended_at: u16,
+    reader: Reader<Ending>,
+    of: PhantomData<L>,
+}
+
+impl<L: LoaderName> Model for Seen<L> {
+    ghost use Rattle.std.specs.Prelude.{◌≡◌, ◌<◌, Some};
+    ghost use Rattle.dl_cells.specs.Cells.{cell_of, row_len};
+    ghost use Rattle.dl_history.specs.Entries.{Read, read, ending_known};
+    ghost use Rattle.dl_history.specs.Codes.{read_code};
+
+    ghost Value = { Read };
+
+    ghost coded = { read_code };
+
+    ghost view = { λ s. read s.cell (ending_known s.reader.known) };
+
+    ghost invariant = { λ s. (s.cell < row_len L.outcomes) × (s.ended_at ≡ (ending_known s.reader.known).at) × (s.reader.cell ≡ cell_of L.outcomes s.cell) × (s.reader.known ≡ Some (ending_known s.reader.known)) };
+}
+
+impl<L: LoaderName> Seen<L> {
+    /// The outcome that a reader of a cell knows, which the event at `at` gave the cell.
+    pub fn of(cell: u32, at: u16, reader: Reader<Ending>) -> Seen<L>
+        requires in_row { cell < row_len L.outcomes }
+        requires of_cell { reader.cell ≡ cell_of L.outcomes cell }
+        requires known { IsSomeAnd reader.known (λ ending. ending.at ≡ at) }
+        ensures { result ≡ read cell (ending_known reader.known) }
+    {
+        Seen {
+            cell,
+            ended_at: at,
+            reader,
+            of: PhantomData,
+        }
+    }
+
+    /// The cell.
+    pub fn cell(&self) -> u32
+        ensures { result ≡ self.now.cell }
+    {
+        self.cell
+    }
+
+    /// The place of the event that gave the outcome.
+    pub fn ended_at(&self) -> u16
+        ensures { result ≡ self.now.ending.at }
+    {
+        self.ended_at
+    }
+
+    /// A reader of the cell that knows an outcome knows this one, whichever threads hold the two.
+    pub fn agree(&self, reader: &Reader<Ending>)
+        requires { reader.now.cell ≡ cell_of L.outcomes self.now.cell }
+        ensures { IfSome reader.now.known (λ ending. ending ≡ self.now.ending) }
+    {
+        self.reader.agree(reader);
+    }
+}
+
+/// An entry of a pass: a call that was made, or an outcome that was read.
+#[derive(Drop)]
+pub struct Entry<L: LoaderName> {
+    kind: Kind<L>,
+}
+
+// What an entry is.
+#[derive(Drop)]
+enum Kind<L: LoaderName> {
+    // A call that was made.
+    Call(Stored<L>),
+    // An outcome that was read.
+    Saw(Seen<L>),
+}
+
+impl<L: LoaderName> Model for Entry<L> {
+    ghost use Rattle.dl_history.specs.Entries.{Line};
+    ghost use Rattle.dl_history.specs.Codes.{line_code};
+
+    ghost Value = { Line };
+
+    ghost coded = { line_code };
+
+    ghost use Rattle.dl_history.specs.Lines.{line_of};
+
+    ghost view = { λ e. line_of e.kind };
+}
+
+impl<L: LoaderName> Entry<L> {
+    /// The entry of a call that was made.
+    pub fn call(stored: Stored<L>) -> Entry<L>
+        ensures { result ≡ Called stored }
+    {
+        Entry {
+            kind: Kind::Call(stored),
+        }
+    }
+
+    /// The entry of an outcome that was read.
+    pub fn saw(seen: Seen<L>) -> Entry<L>
+        ensures { result ≡ Saw seen }
+    {
+        Entry {
+            kind: Kind::Saw(seen),
+        }
+    }
+
+    /// What the entry is.
+    pub fn kind(&self) -> EntryKind
+        ensures { result ≡ kind_of self.now }
+    {
+        match &self.kind {
+            Kind::Call(stored) => EntryKind::Call {
+                at: u32::from(stored.at),
+            },
+            Kind::Saw(seen) => EntryKind::Saw {
+                cell: seen.cell,
+                at: u32::from(seen.ended_at),
+            },
+        }
+    }
+
+    /// What the journal has at the entry's place, or of its cell, is what the entry tells.
+    pub fn agree(&self, journal: &Journal<L>)
+        ensures { Meets journal.now.history journal.now.cells self.now }
+    {
+        match &self.kind {
+            Kind::Call(stored) => journal.agree_call(stored),
+            Kind::Saw(seen) => journal.agree_read(seen),
+        }
+    }
+}

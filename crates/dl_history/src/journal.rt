@@ -1,0 +1,146 @@
+//! The history and the cells of a loader, as they are known under its lock.
+
+ghost use Rattle.std.specs.Prelude.{◌≡◌, ◌+◌, ◌<◌, ◌≤◌, ◌∷◌, ◌++◌, [], MatchBool, None, OnOk, Some, length, set, slice_get};
+ghost use Rattle.std.specs.List.{repeat};
+ghost use Rattle.dl_cells.specs.Cells.{cell_of, row_len};
+ghost use Rattle.dl_history.specs.Journal.{AreBlank, Refuses, waiting, ended};
+
+mod reading;
+
+use crate::entry::Stored;
+use crate::event::Ending;
+use crate::name::LoaderName;
+use crate::state::State;
+use dl_cells::{CellRow, Reader};
+use std::alloc::{AllocError, Global};
+use std::marker::Model;
+use std::sync::ledger;
+use std::sync::ledger::Share;
+
+/// The events of a loader in order, the cells that were begun, and the count of the events. Contracts see
+/// the history, the cells, and for how many more of both there is room.
+#[derive(Drop)]
+pub struct Journal<L: LoaderName> {
+    log: Vec<Stored<L>>,
+    states: Vec<State>,
+    calls: ledger::Book<L>,
+}
+
+impl<L: LoaderName> Model for Journal<L> {
+    ghost use Rattle.std.specs.Coded.{codes};
+    ghost use Rattle.std.specs.Prelude.{◌-◌, length, min, vec_capacity};
+    ghost use Rattle.dl_history.specs.contracts.event.Event as event;
+    ghost use Rattle.dl_history.specs.contracts.event.Ending as ending;
+    ghost use Rattle.dl_history.specs.Journal.{Journal, IsJournal, events_of, cells_by};
+
+    ghost Value = { Journal };
+
+    ghost coded = { Prim.hlevel (codes, event.the_row.coded, ending.the_row.coded) };
+
+    ghost view = { λ j. record {
+      history = events_of j.log.items;
+      cells = cells_by j.states.items;
+      spare = min (vec_capacity j.log - length j.log.items) (vec_capacity j.states - length j.states.items);
+    } };
+
+    ghost invariant = { λ j. IsJournal L.outcomes j.calls.total j.log.items j.states.items };
+}
+
+impl<L: LoaderName> Journal<L> {
+    /// The journal of a loader that had no call. It takes no memory.
+    pub fn new(alloc: Global, calls: ledger::Book<L>) -> Journal<L>
+        requires { calls.total ≡ 0 }
+        ensures history { result.history ≡ [] }
+        ensures cells { result.cells ≡ [] }
+    {
+        Journal {
+            log: Vec::new(alloc),
+            states: Vec::new(alloc),
+            calls,
+        }
+    }
+
+    /// How many events there are.
+    pub fn len(&self) -> usize
+        ensures { result ≡ length self.now.history }
+    {
+        self.log.len()
+    }
+
+    /// How many cells were begun.
+    pub fn cells(&self) -> usize
+        ensures { result ≡ length self.now.cells }
+    {
+        self.states.len()
+    }
+
+    /// Makes room for one event more and so many cells. The error is want of memory, and changes nothing.
+    pub fn reserve(&mut self, cells: usize) -> Result<(), AllocError>
+        ensures history { self.new.history ≡ self.old.history }
+        ensures cells { self.new.cells ≡ self.old.cells }
+        ensures room { OnOk result (cells + 1 ≤ self.new.spare) }
+    {
+        let more = cells.checked_add(1).ok_or(AllocError)?;
+        self.log.reserve(more)?;
+        self.states.reserve(more)
+    }
+
+    /// Adds the next event, which the share of its caller counts. It takes no memory.
+    pub fn add(&mut self, stored: Stored<L>, share: &mut Share<L>)
+        requires place { stored.at ≡ length self.old.history }
+        requires room { 0 < self.old.spare }
+        requires part { 0 < share.old.parts }
+        ensures history { self.new.history ≡ self.old.history ++ stored.event ∷ [] }
+        ensures cells { self.new.cells ≡ self.old.cells }
+        ensures room { self.old.spare ≤ self.new.spare + 1 }
+        ensures parts { share.new.parts ≡ share.old.parts }
+        ensures counted { share.new.amount ≡ share.old.amount + 1 }
+    {
+        self.log.push_reserved(stored);
+        self.calls.add(share, 1);
+    }
+
+    /// Adds the next cell, which has no end yet. It takes no memory.
+    pub fn add_cell(&mut self, reader: Reader<Ending>)
+        requires cell { reader.cell ≡ cell_of L.outcomes (length self.old.cells) }
+        requires unknown { reader.known ≡ None }
+        requires room { 0 < self.old.spare }
+        ensures history { self.new.history ≡ self.old.history }
+        ensures cells { self.new.cells ≡ self.old.cells ++ waiting ∷ [] }
+        ensures room { self.old.spare ≤ self.new.spare + 1 }
+    {
+        self.states.push_reserved(State::new(reader));
+    }
+
+    /// Adds the next cells, which have no end yet. It takes no memory.
+    pub fn add_cells(&mut self, readers: Vec<Reader<Ending>>)
+        requires blank { AreBlank L.outcomes (length self.old.cells) readers.items }
+        requires room { length readers.items ≤ self.old.spare }
+        ensures history { self.new.history ≡ self.old.history }
+        ensures cells { self.new.cells ≡ self.old.cells ++ repeat (length readers.items) (waiting ∷ []) }
+    {
+        for reader in readers {
+            self.add_cell(reader);
+        }
+    }
+
+    /// Gives a cell its outcome, and tells whether the cell took it. It takes no memory.
+    pub fn end(&mut self, row: &CellRow<Ending>, cell: u32, ending: Box<Ending>) -> bool
+        requires row { row.now ≡ L.outcomes }
+        requires in_row { cell < row_len L.outcomes }
+        requires waits { slice_get self.old.cells cell ≡ Some waiting }
+        ensures history { self.new.history ≡ self.old.history }
+        ensures ended { MatchBool result (self.new.cells ≡ set self.old.cells cell (ended ending.value)) (Refuses self.old.cells self.new.cells cell ending.value) }
+        ensures room { self.new.spare ≡ self.old.spare }
+    {
+        self.states[cell as usize].end(row, cell, ending)
+    }
+
+    /// A reader of a cell that was begun, which knows what the cell shows.
+    pub fn reader(&self, cell: u32) -> Reader<Ending>
+        requires { cell < length self.now.cells }
+        ensures cell { result.cell ≡ cell_of L.outcomes cell }
+    {
+        self.states[cell as usize].reader.again()
+    }
+}

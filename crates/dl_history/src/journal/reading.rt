@@ -1,0 +1,89 @@
+//! What a journal tells: its events, the outcomes of its cells, and what it holds against the entries of passes.
+
+ghost use Rattle.std.specs.Prelude.{◌≡◌, ◌≤◌, IfSome, Option, length, option_copied, option_map, slice_get};
+ghost use Rattle.dl_cells.specs.Cells.{row_len};
+ghost use Rattle.dl_history.specs.declared.event.Ending.{Ending};
+ghost use Rattle.dl_history.specs.Agrees.{Meets};
+ghost use Rattle.dl_history.specs.Journal.{cell_refused};
+ghost use Rattle.dl_history.specs.Kept.{ShownAs};
+ghost use Rattle.dl_history.specs.Lists.{Every};
+
+use crate::entry::{Entry, Seen, Stored};
+use crate::event::{Ending, Event};
+use crate::journal::Journal;
+use crate::name::LoaderName;
+use crate::state::Mark;
+use dl_cells::CellRow;
+use dl_desk::Outcome;
+use std::sync::ledger::Share;
+
+impl<L: LoaderName> Journal<L> {
+    /// The event at the place of a call, if there is one, is the call's.
+    pub(crate) fn agree_call(&self, stored: &Stored<L>)
+        ensures { IfSome (slice_get self.now.history stored.now.at) (λ event. event ≡ stored.now.event) }
+    {
+        if let Some(own) = self.log.get(stored.at() as usize) {
+            own.agree(stored);
+        }
+    }
+
+    /// What a cell that was read is known to show, if it was begun, is what was read.
+    pub(crate) fn agree_read(&self, seen: &Seen<L>)
+        ensures { IfSome (slice_get self.now.cells seen.now.cell) (λ cell. IfSome cell.shows (λ ending. ending ≡ seen.now.ending)) }
+    {
+        if let Some(state) = self.states.get(seen.cell() as usize) {
+            state.agree(seen);
+        }
+    }
+
+    /// What the journal has at the entries' places, or of their cells, is what the entries tell.
+    pub fn agree(&self, entries: &[Entry<L>])
+        ensures { Every (Meets self.now.history self.now.cells) entries.now }
+    {
+        for entry in entries {
+            entry.agree(self);
+        }
+    }
+
+    /// Whether a cell refused its outcome.
+    pub fn has_refused(&self, cell: u32) -> bool
+        ensures { result ≡ cell_refused (slice_get self.now.cells cell) }
+    {
+        match self.states.get(cell as usize) {
+            Some(state) => matches!(state.mark, Mark::Refused(_)),
+            None => false,
+        }
+    }
+
+    /// The event at a place, if there is one. It takes no memory.
+    pub fn event<'a>(&self, row: &'a CellRow<Event>, at: usize) -> Option<&'a Event>
+        requires { row.now ≡ L.log }
+        ensures { option_copied result ≡ slice_get self.now.history at }
+    {
+        match self.log.get(at) {
+            Some(stored) => Some(stored.event(row)),
+            None => None,
+        }
+    }
+
+    /// The outcome that a cell was given, if it was begun and given one. It takes no memory.
+    pub fn outcome<'a>(&'a self, row: &'a CellRow<Ending>, cell: u32) -> Option<&'a Outcome>
+        requires row { row.now ≡ L.outcomes }
+        requires in_row { length self.now.cells ≤ row_len L.outcomes }
+        ensures { (end : Option Ending) → ShownAs (slice_get self.now.cells cell) end → option_copied result ≡ option_map (λ e. e.outcome) end }
+    {
+        match self.states.get(cell as usize) {
+            Some(state) => state.outcome(row, cell),
+            None => None,
+        }
+    }
+
+    /// All parts of the ledger have counted as many calls as there are events.
+    pub fn audit(&mut self, all: &mut Share<L>)
+        requires { all.old.parts ≡ L.parts }
+        ensures same { self.new ≡ self.old }
+        ensures counted { all.old.amount ≡ length self.old.history }
+    {
+        self.calls.audit(all);
+    }
+}

@@ -1,0 +1,23 @@
+//! Histories of shared loaders: events and their outcomes, what each caller knows of them, when a history is legal
+//! and when a caller's entries agree with it, and the history that a closed loader leaves.
+//!
+//! A loader keeps its history in a [`Journal`] while it is open, and gives it to a [`History`] when it is closed.
+#![tactic(auto)]
+
+mod account;
+mod entry;
+mod event;
+mod history;
+mod journal;
+mod lists;
+mod name;
+mod state;
+
+pub use account::Account;
+pub use entry::{Entry, EntryKind, Seen, Stored};
+pub use event::{Call, Ending, Event, Reply};
+pub use history::{Batches, EndedBatch, Events, History};
+pub use journal::Journal;
+pub use lists::{Jobs, Replies};
+pub use name::LoaderName;
+pub use state::{Mark, State};

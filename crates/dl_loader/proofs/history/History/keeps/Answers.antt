@@ -1,7 +1,0 @@
-use Rattle.std.proofs.Common.{subst}
-use Rattle.dl_loader.specs.Agrees.{HasEach}
-use Rattle.dl_loader.specs.Closed.{Closed}
-use Rattle.dl_loader.proofs.history.History.keeps.Goals as goal
-
-pub returns-clause-each : goal.returns-clause-each
-returns-clause-each g c = subst (λ (h : Closed). HasEach g.L.Ledger.parts h.accounts) c.self.view_is c.self.invariant.each

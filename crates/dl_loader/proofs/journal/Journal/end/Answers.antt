@@ -1,6 +1,0 @@
-use Rattle.std.proofs.Common.{ap}
-use Rattle.dl_loader.proofs.JournalLemmas.{cells_ended}
-use Rattle.dl_loader.proofs.journal.Journal.end.Goals as goal
-
-pub returns-clause-ended : goal.returns-clause-ended
-returns-clause-ended g c = rw (← ap (λ j. j.cells) c.self.view_is) (cells_ended c.self.inside.states.items c.args.cell c.end.new.self c.args.ending.value c.end.result c.end.ensures.ended)

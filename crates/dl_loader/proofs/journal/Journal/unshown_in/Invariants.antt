@@ -1,6 +1,0 @@
-use Rattle.std.proofs.Common.{ℕ, List, ◌++◌, take, flat_map}
-use Rattle.dl_loader.specs.Closing.{IsLeastOf, read_in, refused_in}
-use Rattle.dl_loader.proofs.journal.Journal.unshown_in.Given as goal
-
-abbrev pub invariant-loop-entry : goal.invariant-loop-entry
-invariant-loop-entry g l = (ns : List ℕ) → IsLeastOf l.fn.found ns → IsLeastOf l.least (ns ++ refused_in l.self.cells (flat_map read_in (take l.entry-index l.entries)))

@@ -1,0 +1,118 @@
+//! How a program uses the shared loader: callers on threads of their own load one key, and the loader is closed.
+
+ghost use Rattle.std.specs.Prelude.{◌≡◌, List};
+ghost use Rattle.dl_desk.specs.Key.{Key};
+
+use super::steps::ADA;
+use dl_desk::FetchKey;
+use dl_fixtures::outcome_text;
+use dl_loader::{CallFault, EntryKind, History, Loader, LoaderName, MOST_CALLERS, Opening, Pass};
+use dl_source::Source;
+use dl_workers::end_jobs;
+use std::alloc::Global;
+use std::process::Abort;
+use std::sync::Wait;
+use std::test::Fail;
+use std::thread::Threads;
+use std::{slice, thread};
+
+/// Each caller of an opening loads the key on a thread of its own, and the loader is closed.
+pub(super) fn load_by_each<
+    L: LoaderName + Send + Sync,
+    S: Source + Sync,
+    R: Abort + Threads + Wait + Sync,
+>(rt: &R, alloc: Global, source: &S, opening: Opening<'_, S>, key: &FetchKey) -> Result<(), Fail>
+    requires source { opening.source ≡ source.now }
+    requires rules { opening.rules ≡ L.rules }
+    requires callers { opening.callers ≡ L.parts }
+    requires answer { (keys : List Key) → S.answer opening.source keys ≡ L.answer keys }
+    requires log { opening.log ≡ L.log }
+    requires outcomes { opening.outcomes ≡ L.outcomes }
+    requires ledger { opening.ledger ≡ L.name }
+{
+    let (loader, mut passes) = Loader::<L>::start(alloc, opening)?;
+    start_threads(rt, alloc, source, &loader, passes.as_mut_slice(), key);
+    match loader.close(alloc, passes) {
+        Ok(history) => assert_history(rt, alloc, &history, key),
+        Err((fault, _, _)) => Err(fault.into()),
+    }
+}
+
+/// Each caller loads the key on a thread of its own.
+fn start_threads<L: LoaderName + Send + Sync, S: Source + Sync, R: Threads + Wait + Sync>(
+    rt: &R,
+    alloc: Global,
+    source: &S,
+    loader: &Loader<L>,
+    passes: &mut [Pass<L>],
+    key: &FetchKey,
+)
+    requires { (keys : List Key) → S.answer source.now keys ≡ L.answer keys }
+{
+    thread::for_each_mut(
+        rt,
+        passes,
+        MOST_CALLERS as usize,
+        &|_: usize, pass: &mut Pass<L>|
+            requires { (keys : List Key) → S.answer source.now keys ≡ L.answer keys }
+        { load_or_stop(rt, alloc, source, loader, pass, key) },
+    );
+}
+
+/// One caller loads the key. Where a call is refused the loader is stopped, so that no other caller waits for ever.
+fn load_or_stop<L: LoaderName, S: Source, R: Wait>(
+    rt: &R,
+    alloc: Global,
+    source: &S,
+    loader: &Loader<L>,
+    pass: &mut Pass<L>,
+    key: &FetchKey,
+)
+    requires { (keys : List Key) → S.answer source.now keys ≡ L.answer keys }
+{
+    if load(rt, alloc, source, loader, pass, key).is_err() {
+        loader.stop(rt);
+    }
+}
+
+/// Loads the key, ends each batch that waits to be sent, and waits for the key's outcome.
+fn load<L: LoaderName, S: Source, R: Wait>(
+    rt: &R,
+    alloc: Global,
+    source: &S,
+    loader: &Loader<L>,
+    pass: &mut Pass<L>,
+    key: &FetchKey,
+) -> Result<(), CallFault>
+    requires { (keys : List Key) → S.answer source.now keys ≡ L.answer keys }
+{
+    let mut ticket = loader.load(rt, alloc, pass, key)?;
+    let jobs = loader.dispatch(rt, alloc, pass)?;
+    end_jobs(rt, alloc, loader, source, pass, jobs)?;
+    loader.wait(rt, pass, &mut ticket)?;
+    Ok(())
+}
+
+/// The history has one batch, which has the key alone and is settled, and both callers have read the outcome.
+fn assert_history<L: LoaderName>(
+    rt: &impl Abort,
+    alloc: Global,
+    history: &History<L>,
+    key: &FetchKey,
+) -> Result<(), Fail> {
+    let batches = history.batches();
+    let (Some(batch), Some(outcome)) = (batches.get(0), history.outcome(0)) else {
+        return Err("no batch".into());
+    };
+    assert!(rt; batch.is_settled());
+    assert_eq!(rt; batch.keys(), slice::from_ref(key));
+    assert!(rt; batches.get(1).is_none());
+    assert_eq!(rt; outcome_text(alloc, outcome)?.as_str(), ADA);
+    for caller in 0..2 {
+        let Some(last) = history.entries(caller).last() else {
+            return Err("no entries".into());
+        };
+        assert!(rt; matches!(last.kind(), EntryKind::Saw { cell: 0, .. }));
+    }
+    Ok(())
+}

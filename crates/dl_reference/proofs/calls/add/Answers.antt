@@ -1,0 +1,5 @@
+use Rattle.dl_reference.proofs.Told.{history_of-push}
+use Rattle.dl_reference.proofs.calls.add.Goals as goal
+
+pub returns : goal.returns
+returns c = rw c.in_ok-push.ensures.items (history_of-push c.args.history.now.items c.args.atom)

@@ -1,0 +1,35 @@
+-- The history that a list of atoms tells.
+use Rattle.std.specs.Prelude.{ℕ, nat_eq, List, [], ◌∷◌, Option, Some, None, if◌then◌else◌}
+use Rattle.dl_desk.specs.History as desk
+use Rattle.dl_desk.specs.declared.reply.End.{End}
+use Rattle.dl_desk.specs.declared.reply.End.TheVariants.{Settled, Failed}
+use Rattle.dl_reference.specs.declared.atom.Atom.{Atom}
+use Rattle.dl_reference.specs.declared.atom.Atom.TheVariants.{Load, Prime, Clear, ClearAll, Dispatch, Settle, Fail}
+
+-- the atom of the definitions
+abbrev pub told : Atom → desk.Atom
+told (Load k r) = desk.Load k r
+told (Prime k r) = desk.Prime k r
+told (Clear k) = desk.Clear k
+told ClearAll = desk.ClearAll
+told (Dispatch js) = desk.Dispatch js.items
+told (Settle b) = desk.Settle b
+told (Fail b) = desk.Fail b
+
+abbrev pub history_onto : List desk.Atom → List Atom → List desk.Atom
+history_onto before [] = before
+history_onto before (a ∷ later) = history_onto (told a ∷ before) later
+
+-- the history of atoms that stand in their order: the definitions have the newest first
+abbrev pub history_of : List Atom → List desk.Atom
+history_of atoms = history_onto [] atoms
+
+-- how an atom ends the batch, if it does
+abbrev pub ended_by : desk.Atom → ℕ → Option End
+ended_by (desk.Load k r) b = None
+ended_by (desk.Prime k r) b = None
+ended_by (desk.Clear k) b = None
+ended_by desk.ClearAll b = None
+ended_by (desk.Dispatch js) b = None
+ended_by (desk.Settle n) b = if nat_eq b n then Some Settled else None
+ended_by (desk.Fail n) b = if nat_eq b n then Some Failed else None

@@ -1,9 +1,0 @@
-use Rattle.dl_source.specs.Answer.{answer_of}
-use Rattle.dl_rows.proofs.loader.callers_on_threads_of_their_own.Given as goal
-
--- the type names the loader after its opening
-abbrev pub ghosts-load_by_each-L-LoaderName : goal.ghosts-load_by_each-L-LoaderName
-ghosts-load_by_each-L-LoaderName g a = record { log = a.opening.log; outcomes = a.opening.outcomes; rules = a.opening.rules; answer = answer_of a.opening.source }
-
-abbrev pub ghosts-load_by_each-L-Ledger : goal.ghosts-load_by_each-L-Ledger
-ghosts-load_by_each-L-Ledger g a = record { name = a.opening.ledger; parts = a.opening.callers }

@@ -1,9 +1,0 @@
-use Rattle.dl_source.specs.Answer.{answer_of}
-use Rattle.dl_rows.proofs.loader.two_callers_of_one_key.Given as goal
-
--- the type names the loader after its opening
-abbrev pub ghosts-load_by_two-L-LoaderName : goal.ghosts-load_by_two-L-LoaderName
-ghosts-load_by_two-L-LoaderName g a = record { log = a.opening.log; outcomes = a.opening.outcomes; rules = a.opening.rules; answer = answer_of a.opening.source }
-
-abbrev pub ghosts-load_by_two-L-Ledger : goal.ghosts-load_by_two-L-Ledger
-ghosts-load_by_two-L-Ledger g a = record { name = a.opening.ledger; parts = a.opening.callers }

@@ -1,0 +1,24 @@
+-- Ends of jobs, one after another.
+use Rattle.std.proofs.Common.{◌≡◌, ◌∙◌, sym, subst, refl, ◌<◌, List, [], ◌∷◌, ◌++◌, length, map, take}
+use Rattle.std.proofs.lemmas.List.{map-id}
+use Rattle.dl_desk.specs.declared.reply.Job.{Job}
+use Rattle.dl_loader.specs.Pass.{Part}
+use Rattle.dl_history.specs.Service.{Service}
+use Rattle.dl_workers.specs.Ending.{WasEnded, WereEnded, WereEndedBefore}
+
+-- one job more
+pub ended_more : (s : Service) (old now new : Part) (jobs : List Job) (job : Job)
+    → WereEnded s old jobs now → WasEnded s now job new → WereEnded s old (jobs ++ job ∷ []) new
+ended_more s old now new [] job same ended = let P : Part → Type 0 = λ p. WasEnded s p job new in (new, subst P same ended, refl)
+ended_more s old now new (x ∷ jobs) job (next, first, rest) ended = (next, first, ended_more s next now new jobs job rest ended)
+
+front : (so_far jobs : List Job) → map (λ job. job) so_far ≡ take (length so_far) jobs → so_far ≡ take (length so_far) jobs
+front so_far jobs is = sym (map-id so_far) ∙ is
+
+-- the jobs so far are those before the next one
+pub ended_before : (s : Service) (old now new : Part) (so_far jobs : List Job)
+    → WereEnded s old so_far now → map (λ job. job) so_far ≡ take (length so_far) jobs → length so_far < length jobs → new ≡ now
+    → WereEndedBefore s old jobs new
+ended_before s old now new so_far jobs ended is low same =
+    let P : List Job → Type 0 = λ js. WereEnded s old js new in
+    (length so_far, low, subst P (front so_far jobs is) (rw same ended))

@@ -1,0 +1,28 @@
+use Rattle.std.proofs.Common.{◌∙◌, Result, Ok, Err, OnErr, rules}
+use Rattle.std.proofs.lemmas.Iterator.Adapters.{YieldsList-from_vec}
+use Rattle.std.proofs.lemmas.Iterator.Consumers.{YieldsList-turn, YieldsList-so_far}
+use Rattle.dl_history.specs.Service.{Service, service}
+use Rattle.dl_workers.proofs.Endings.{ended_before, ended_more}
+use Rattle.dl_workers.proofs.ending.end_jobs.Goals as goal
+
+pub loop-job-preserved : goal.loop-job-preserved
+loop-job-preserved g c = record {
+  can_next = tt;
+  is_finite = tt;
+  ended = ended_more _ _ _ _ c.loop-job.yielded c.in-Some.job c.loop-job.invariant.ended c.in_ok-end_job.ensures.ended;
+  tickets = c.end_job.ensures.tickets ∙ c.loop-job.invariant.tickets;
+}
+
+on_err : {A E P : Type 0} (r : Result A E) → P → OnErr r P
+on_err (Ok x) p = tt
+on_err (Err e) p = p
+
+pub returns-in_err-end_job-clause-stopped : goal.returns-in_err-end_job-clause-stopped
+returns-in_err-end_job-clause-stopped g c =
+    let s : Service = service g.L.LoaderName.rules g.L.Ledger.parts g.L.LoaderName.answer in
+    let all = YieldsList-from_vec c.args.jobs.items (search rules) (search rules) in
+    let turn = YieldsList-turn all c.loop-job.yielded _ c.loop-job.yielded_by _ c.next.new.self c.in-Some.job c.in-Some.is c.next.ensures.steps in
+    let so_far = YieldsList-so_far all c.loop-job.yielded _ c.loop-job.yielded_by in
+    on_err c.from_residual.result
+    (ended_before s c.args.pass.now.part c.loop-job.pass.part c.end_job.new.pass.part c.loop-job.yielded c.args.jobs.items
+    c.loop-job.invariant.ended so_far turn.0 c.in_err-end_job.ensures.unchanged)

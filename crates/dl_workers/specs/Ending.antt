@@ -1,0 +1,40 @@
+-- How a caller ends the batch of a job: by what the loader's source answers to the job's keys, or as one that
+-- failed for want of memory.
+use Rattle.std.specs.Prelude.{◌≡◌, ◌⊎◌, ℕ, ◌<◌, List, [], ◌∷◌, length, take, Some}
+use Rattle.dl_desk.specs.declared.outcome.BatchFault.TheVariants.{Memory}
+use Rattle.dl_desk.specs.declared.reply.Job.{Job}
+use Rattle.dl_loader.specs.Asks.{end_by}
+use Rattle.dl_loader.specs.Made.{WasMade, WasRefused}
+use Rattle.dl_loader.specs.Pass.{Part}
+use Rattle.dl_history.specs.Service.{Service}
+use Rattle.dl_history.specs.declared.event.Call.{Call}
+use Rattle.dl_history.specs.declared.event.Call.TheVariants.{Fail}
+use Rattle.dl_history.specs.declared.event.Reply.TheVariants.{Done}
+use Rattle.dl_loader.specs.declared.fault.CallFault.{CallFault}
+
+-- the end of a job's batch by the source's answer to the job's keys
+abbrev pub end_answered : Service → Job → Call
+end_answered service job = end_by job.batch (service.answer job.keys)
+
+-- its end where there is no memory for that
+abbrev pub end_unanswered : Job → Call
+end_unanswered job = Fail job.batch Memory
+
+-- one call was made, which is one of the two
+abbrev pub WasEnded : Service → Part → Job → Part → Type 0
+WasEnded service old job new =
+    WasMade service old (end_answered service job) Done new ⊎ WasMade service old (end_unanswered job) Done new
+
+-- one of the two was refused so
+abbrev pub WasNotEnded : Service → Part → Job → CallFault → Type 0
+WasNotEnded service p job fault =
+    WasRefused service p (end_answered service job) (Some job) fault ⊎ WasRefused service p (end_unanswered job) (Some job) fault
+
+-- such a call was made for each of the jobs, in order, and no other
+abbrev pub WereEnded : Service → Part → List Job → Part → Type 0
+WereEnded service old [] new = new ≡ old
+WereEnded service old (job ∷ jobs) new = (next : Part) × WasEnded service old job next × WereEnded service next jobs new
+
+-- such a call was made for each of the jobs before one of them, in order, and no other
+abbrev pub WereEndedBefore : Service → Part → List Job → Part → Type 0
+WereEndedBefore service old jobs new = (n : ℕ) × (n < length jobs) × WereEnded service old (take n jobs) new

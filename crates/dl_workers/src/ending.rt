@@ -1,0 +1,88 @@
+//! The ends of jobs' batches by what a source answers.
+
+ghost use Rattle.std.specs.Prelude.{◌≡◌, ◌+◌, IfErr, IfOk, List, OnErr, OnOk, length};
+ghost use Rattle.dl_desk.specs.Key.{Key};
+ghost use Rattle.dl_history.specs.Service.{service};
+ghost use Rattle.dl_workers.specs.Ending.{WasEnded, WasNotEnded, WereEnded, WereEndedBefore};
+
+use dl_desk::Job;
+use dl_loader::{CallFault, GiveUp, Loader, LoaderName, Pass, Settled};
+use dl_source::{Source, fetch_job};
+use std::alloc::Global;
+use std::sync::Wait;
+
+/// Ends the batch of a job by what the loader's source answers to its keys, or, where there is no memory for
+/// that, as one that failed for want of memory.
+///
+/// # Errors
+/// Those of [`Loader::settle`] and of [`Loader::fail`]; `OutOfMemory` only where there is no memory for the
+/// failure either. The pass then tells what it told before.
+pub fn end_job<L: LoaderName, S: Source>(
+    rt: &impl Wait,
+    alloc: Global,
+    loader: &Loader<L>,
+    source: &S,
+    pass: &mut Pass<L>,
+    job: Job,
+) -> Result<Settled, CallFault>
+    requires source { (keys : List Key) → S.answer source.now keys ≡ L.answer keys }
+    ensures ended { OnOk result (WasEnded (service L.rules L.parts L.answer) pass.old.part job pass.new.part) }
+    ensures each { IfOk result (λ settled. settled.shown + settled.refused ≡ length job.keys) }
+    ensures fault { IfErr result (WasNotEnded (service L.rules L.parts L.answer) pass.old.part job) }
+    ensures unchanged { OnErr result (pass.new.part ≡ pass.old.part) }
+    ensures tickets { pass.new.part.tickets ≡ pass.old.part.tickets }
+{
+    match fetch_job(alloc, source, job) {
+        Ok(fetched) => match loader.settle(rt, alloc, pass, fetched) {
+            Ok(settled) => Ok(settled),
+            Err((CallFault::OutOfMemory, fetched)) => {
+                give_up(rt, alloc, loader, pass, fetched.into_job())
+            }
+            Err((fault, _)) => Err(fault),
+        },
+        Err((job, _)) => give_up(rt, alloc, loader, pass, job),
+    }
+}
+
+/// Ends the batches of jobs, each as [`end_job`] does, in order.
+///
+/// # Errors
+/// The first that [`end_job`] answers. The pass then tells of the jobs before that one alone.
+pub fn end_jobs<L: LoaderName, S: Source>(
+    rt: &impl Wait,
+    alloc: Global,
+    loader: &Loader<L>,
+    source: &S,
+    pass: &mut Pass<L>,
+    jobs: Vec<Job>,
+) -> Result<(), CallFault>
+    requires source { (keys : List Key) → S.answer source.now keys ≡ L.answer keys }
+    ensures ended { OnOk result (WereEnded (service L.rules L.parts L.answer) pass.old.part jobs.items pass.new.part) }
+    ensures stopped { OnErr result (WereEndedBefore (service L.rules L.parts L.answer) pass.old.part jobs.items pass.new.part) }
+    ensures tickets { pass.new.part.tickets ≡ pass.old.part.tickets }
+{
+    for job in jobs {
+        end_job(rt, alloc, loader, source, pass, job)?;
+    }
+    Ok(())
+}
+
+// Ends the batch of a job as one that failed for want of memory.
+fn give_up<L: LoaderName>(
+    rt: &impl Wait,
+    alloc: Global,
+    loader: &Loader<L>,
+    pass: &mut Pass<L>,
+    job: Job,
+) -> Result<Settled, CallFault>
+    ensures ended { OnOk result (WasEnded (service L.rules L.parts L.answer) pass.old.part job pass.new.part) }
+    ensures each { IfOk result (λ settled. settled.shown + settled.refused ≡ length job.keys) }
+    ensures fault { IfErr result (WasNotEnded (service L.rules L.parts L.answer) pass.old.part job) }
+    ensures unchanged { OnErr result (pass.new.part ≡ pass.old.part) }
+    ensures tickets { pass.new.part.tickets ≡ pass.old.part.tickets }
+{
+    match loader.fail(rt, alloc, pass, job, GiveUp::Memory) {
+        Ok(settled) => Ok(settled),
+        Err((fault, _)) => Err(fault),
+    }
+}
