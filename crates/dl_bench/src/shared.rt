@@ -1,7 +1,8 @@
 //! A workload of one caller of a shared loader.
 
-ghost use Rattle.std.specs.Prelude.{◌≡◌, List};
-ghost use Rattle.dl_desk.specs.Key.{Key};
+ghost use Rattle.dl_history.specs.Service.{Answers};
+ghost use Rattle.dl_loader.specs.Opening.{Names};
+ghost use Rattle.std.specs.Prelude.{◌≡◌};
 
 use crate::alike::Alike;
 use crate::counts::Counts;
@@ -36,12 +37,7 @@ fn one_caller<L: LoaderName, S: Source, R: Wait>(
     limits: Limits,
 ) -> Result<Counts>
     requires source { opening.source ≡ source.now }
-    requires rules { opening.rules ≡ L.rules }
-    requires callers { opening.callers ≡ L.parts }
-    requires answer { (keys : List Key) → S.answer opening.source keys ≡ L.answer keys }
-    requires log { opening.log ≡ L.log }
-    requires outcomes { opening.outcomes ≡ L.outcomes }
-    requires ledger { opening.ledger ≡ L.name }
+    requires names { Names S.answer opening L.service L.parts L.log L.outcomes L.name }
 {
     let (loader, mut passes) = Loader::<L>::start(alloc, opening)?;
     let Some(mut pass) = passes.pop() else {
@@ -72,7 +68,7 @@ fn round<L: LoaderName, S: Source, R: Wait>(
     pass: &mut Pass<L>,
     keys: &[FetchKey],
 ) -> Result<()>
-    requires { (keys : List Key) → S.answer source.now keys ≡ L.answer keys }
+    requires { Answers (S.answer source.now) L.service }
 {
     let tickets = loader.load_many(rt, alloc, pass, keys)?;
     let jobs = loader.dispatch(rt, alloc, pass)?;

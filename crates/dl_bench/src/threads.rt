@@ -1,7 +1,7 @@
 //! A workload of callers on threads of their own, who share one loader.
 
-ghost use Rattle.std.specs.Prelude.{◌≡◌, List};
-ghost use Rattle.dl_desk.specs.Key.{Key};
+ghost use Rattle.dl_loader.specs.Opening.{Names};
+ghost use Rattle.std.specs.Prelude.{◌≡◌};
 
 use crate::alike::Alike;
 use crate::counts::Counts;
@@ -44,12 +44,7 @@ fn each_caller<L: LoaderName + Send + Sync, S: Source, R: Threads + Wait + Sync>
     keys: &[FetchKey],
 ) -> Result<Counts>
     requires source { opening.source ≡ source.now }
-    requires rules { opening.rules ≡ L.rules }
-    requires callers { opening.callers ≡ L.parts }
-    requires answer { (keys : List Key) → S.answer opening.source keys ≡ L.answer keys }
-    requires log { opening.log ≡ L.log }
-    requires outcomes { opening.outcomes ≡ L.outcomes }
-    requires ledger { opening.ledger ≡ L.name }
+    requires names { Names S.answer opening L.service L.parts L.log L.outcomes L.name }
 {
     let (loader, passes) = Loader::<L>::start(alloc, opening)?;
     let mut passes = load_by_each(rt, alloc, &loader, passes, keys)?;

@@ -1,7 +1,7 @@
 -- What of a history may cross threads. The laws of the types below that hold a JSON value are proved here, since such
 -- a value is a tree of its own kind, whose laws `search` doesn't find by itself.
 use denote.RattleType.{RattleType}
-use denote.Param.SendFields.{declared_send, as_row_send}
+use denote.Param.SendFields.{declared_send, declared_sync, as_row_send, as_row_sync}
 use denote.Param.Send.{IsSend, IsSync, sendable}
 use Rattle.std.below.core.proofs.ledger.Book.TheSendSync as counts
 use Rattle.std.specs.declared.sync.ledger.Ledger as ledger
@@ -29,7 +29,11 @@ use Rattle.dl_cells.specs.contracts.row.CellRow as Row
 use Rattle.dl_history.specs.contracts.entry.Stored as Stored
 use Rattle.dl_history.specs.contracts.journal.Journal as Journal
 use Rattle.dl_history.specs.contracts.journal.Journal.TheInside as journal
+use Rattle.dl_history.specs.contracts.rows.Rows as Rows
+use Rattle.dl_history.specs.contracts.rows.Rows.TheInside as rows
 use Rattle.dl_history.specs.contracts.state.State as State
+use Rattle.dl_desk.specs.contracts.limits.Limits as Limits
+use Rattle.dl_desk.proofs.limits.Limits.TheSendSync as limits
 use Rattle.dl_cells.proofs.reader.Reader.TheSendSync as reader
 use Rattle.dl_cells.proofs.row.CellRow.TheSendSync as row
 use Rattle.dl_history.proofs.entry.Stored.TheSendSync as stored
@@ -100,3 +104,9 @@ module _ (T : RattleType) (n : name.Ghosts T.Denot) (l : ledger.Ghosts T.Denot) 
 
   pub Journal-send : IsSend (Journal.the_row T n l)
   Journal-send = search (journal_send, sendable) depth 10
+
+  rows_sync : IsSync (rows.the_row T n l)
+  rows_sync = declared_sync (rows.the_type T n l) (as_row_sync Limits.the_field (search (limits.the_sync) depth 10), (as_row_sync (Row.the_field Event.the_row) log_sync, (as_row_sync (Row.the_field Ending.the_row) outcomes_sync, (search (as_row_sync, sendable) depth 10, tt))))
+
+  pub Rows-sync : IsSync (Rows.the_row T n l)
+  Rows-sync = search (rows_sync, sendable) depth 10

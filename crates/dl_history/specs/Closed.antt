@@ -1,6 +1,5 @@
 -- What contracts see of a history that a closed loader leaves.
-use Rattle.std.specs.Prelude.{◌≡◌, ◌<◌, ◌≤◌, List, length}
-use Rattle.dl_cells.specs.Cells.{RowName, row_len}
+use Rattle.std.specs.Prelude.{◌<◌, List}
 use Rattle.dl_desk.specs.Key.{Key}
 use Rattle.dl_desk.specs.declared.reply.End.{End}
 use Rattle.dl_history.specs.Agrees.{Account, HasEach, Agrees}
@@ -23,13 +22,9 @@ pub record EndedBatch : Type 0 where
   pub keys : List Key
   pub end : End
 
--- what holds of the fields of a history: its rows are the loader's, with room for all cells, the desk and the cells are
--- those of the events, its source answers each key, each caller and nobody else has an account, which agrees with the
+-- what holds of the fields of a history: the desk and the cells are those of the events, its source answers each key, each caller and nobody else has an account, which agrees with the
 -- events, and each batch has ended
-pub record IsHistory (service : Service) (log outcomes own_log own_outcomes : RowName) (b : Kept) (accounts : List Account) : Type 0 where
-  pub log_is : log ≡ own_log
-  pub outcomes_are : outcomes ≡ own_outcomes
-  pub cells_fit : length b.cells ≤ row_len own_outcomes
+pub record IsHistory (service : Service) (b : Kept) (accounts : List Account) : Type 0 where
   pub kept : IsKept service b
   pub answers : AnswersEach service.answer
   pub callers_are : Every (λ a. a.caller < service.callers) accounts

@@ -4,6 +4,7 @@ pub mod Lists
 pub mod Entries
 pub mod Lines
 pub mod Agrees
+pub mod Rows
 pub mod Journal
 pub mod Kept
 pub mod Closed

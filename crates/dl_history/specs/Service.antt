@@ -20,9 +20,10 @@ service rules callers answer = record { rules = rules; callers = callers; answer
 abbrev pub AnswersEach : (List Key → BatchAnswer) → Type 0
 AnswersEach answer = (ks : List Key) (os : List Outcome) → answer ks ≡ Each os → length os ≡ length ks
 
--- no rules and no source, for a type that names no loader
-abbrev pub no_rules : Rules
-no_rules = record { limits = record { max_batch = 0; max_cells = 0; max_calls = 0 }; tables = None }
+-- a source with this function is the one that the service is by
+abbrev pub Answers : (List Key → BatchAnswer) → Service → Type 0
+Answers source service = (keys : List Key) → source keys ≡ service.answer keys
 
-abbrev pub no_answer : List Key → BatchAnswer
-no_answer keys = Break []
+-- what serves nothing, for a type that names no loader
+abbrev pub no_service : Service
+no_service = service (record { limits = record { max_batch = 0; max_cells = 0; max_calls = 0 }; tables = None }) 0 (λ keys. Break [])

@@ -1,25 +1,25 @@
 //! Histories: what closed loaders leave.
 
 ghost use Rattle.std.specs.Prelude.{◌≡◌, ◌<◌, ◌≤◌, [], IfNone, IfOk, IfSome, MatchOption, Some, length, option_copied, slice_get};
-ghost use Rattle.dl_cells.specs.Cells.{row_len};
 ghost use Rattle.dl_desk.specs.Events.{atoms, outcome};
 ghost use Rattle.dl_desk.specs.History.{begun, cells, end_of};
+ghost use Rattle.dl_desk.specs.Limits.{AreLimits};
 ghost use Rattle.dl_history.specs.Agrees.{Agrees, HasEach, account, entries_of, places_of};
 ghost use Rattle.dl_history.specs.History.{AllEnded, IsLegal, keys_of, log};
 ghost use Rattle.dl_history.specs.Kept.{IsKept, kept};
 ghost use Rattle.dl_history.specs.Lists.{Every, places};
-ghost use Rattle.dl_history.specs.Service.{AnswersEach, service};
+ghost use Rattle.dl_history.specs.Service.{AnswersEach};
 
 mod batches;
 mod events;
 
 use crate::account::Account;
 use crate::entry::{Entry, EntryKind};
-use crate::event::{Ending, Event};
+use crate::event::Event;
 use crate::journal::Journal;
 use crate::name::LoaderName;
+use crate::rows::Rows;
 pub use batches::{Batches, EndedBatch};
-use dl_cells::CellRow;
 use dl_desk::{BatchState, Desk, End, Outcome};
 pub use events::Events;
 use std::alloc::{AllocError, Global};
@@ -30,8 +30,7 @@ use std::marker::Model;
 /// It is legal, each caller's entries are its part of it, and each batch in it has ended.
 #[derive(Drop)]
 pub struct History<L: LoaderName> {
-    log: CellRow<Event>,
-    outcomes: CellRow<Ending>,
+    rows: Rows<L>,
     desk: Desk,
     journal: Journal<L>,
     accounts: Vec<Account<L>>,
@@ -43,7 +42,6 @@ impl<L: LoaderName> Model for History<L> {
     ghost use Rattle.dl_history.specs.Codes.{account_code};
     ghost use Rattle.dl_history.specs.Closed.{Closed, IsHistory, closed};
     ghost use Rattle.dl_history.specs.Kept.{kept};
-    ghost use Rattle.dl_history.specs.Service.{service};
 
     ghost Value = { Closed };
 
@@ -51,49 +49,45 @@ impl<L: LoaderName> Model for History<L> {
 
     ghost view = { λ h. closed h.journal.history h.accounts.items };
 
-    ghost invariant = { λ h. IsHistory (service L.rules L.parts L.answer) h.log h.outcomes L.log L.outcomes (kept h.journal.history h.desk.book h.journal.cells) h.accounts.items };
+    ghost invariant = { λ h. IsHistory L.service (kept h.journal.history h.desk.book h.journal.cells) h.accounts.items };
 }
 
 impl<L: LoaderName> History<L> {
     /// The history that a loader leaves: its rows, its desk and its journal, and the accounts of its callers. It
     /// takes no memory. Whoever calls it closes the loader.
     pub fn of(
-        log: CellRow<Event>,
-        outcomes: CellRow<Ending>,
+        rows: Rows<L>,
         desk: Desk,
         journal: Journal<L>,
         accounts: Vec<Account<L>>,
     ) -> History<L>
-        requires log { log ≡ L.log }
-        requires outcomes { outcomes ≡ L.outcomes }
-        requires in_row { length journal.cells ≤ row_len L.outcomes }
-        requires kept { IsKept (service L.rules L.parts L.answer) (kept journal.history desk.book journal.cells) }
-        requires answers { AnswersEach L.answer }
-        requires callers { Every (λ a. a.caller < L.parts) accounts.items }
-        requires each { HasEach L.parts accounts.items }
+        requires kept { IsKept L.service (kept journal.history desk.book journal.cells) }
+        requires answers { AnswersEach L.service.answer }
+        requires callers { Every (λ a. a.caller < L.service.callers) accounts.items }
+        requires each { HasEach L.service.callers accounts.items }
         requires agree { Every (Agrees journal.history) accounts.items }
         requires ended { AllEnded journal.history }
         ensures events { result.events ≡ journal.history }
         ensures accounts { result.accounts ≡ accounts.items }
     {
         History {
-            log,
-            outcomes,
+            rows,
             desk,
             journal,
             accounts,
         }
     }
 
-    /// What every history keeps: it is legal, each caller has an account that agrees with it, and each batch
-    /// has ended.
+    /// What every history keeps: its loader's limits are limits, it is legal, each caller has an account that agrees
+    /// with it, and each batch has ended.
     pub fn keeps(&self)
-        ensures legal { IsLegal (service L.rules L.parts L.answer) self.now.events }
-        ensures each { HasEach L.parts self.now.accounts }
+        ensures limits { AreLimits L.service.rules.limits }
+        ensures legal { IsLegal L.service self.now.events }
+        ensures each { HasEach L.service.callers self.now.accounts }
         ensures agree { Every (Agrees self.now.events) self.now.accounts }
         ensures ended { AllEnded self.now.events }
     {
-        let _ = &self.journal;
+        let _ = self.rows.limits().max_calls();
     }
 
     /// The events, in order. It takes no memory.
@@ -116,14 +110,14 @@ impl<L: LoaderName> History<L> {
         ensures begun { MatchOption result (cells (atoms (log self.now.events)) ≤ cell) (λ _. cell < cells (atoms (log self.now.events))) }
     {
         self.keeps();
-        self.journal.outcome(&self.outcomes, cell)
+        self.journal.outcome(&self.rows, cell)
     }
 
     /// The entries of a caller, in order, and none where there is no such caller. It takes no memory.
     pub fn entries(&self, caller: u32) -> &[Entry<L>]
         ensures entries { result.now ≡ entries_of caller self.now.accounts }
-        ensures agree { caller < L.parts → Agrees self.now.events (account caller result.now) }
-        ensures none { L.parts ≤ caller → result.now ≡ [] }
+        ensures agree { caller < L.service.callers → Agrees self.now.events (account caller result.now) }
+        ensures none { L.service.callers ≤ caller → result.now ≡ [] }
     {
         entries_of(self.accounts.as_slice(), caller)
     }
@@ -148,7 +142,7 @@ impl<L: LoaderName> History<L> {
     fn event(&self, at: usize) -> Option<&Event>
         ensures { option_copied result ≡ slice_get self.now.events at }
     {
-        self.journal.event(&self.log, at)
+        self.journal.event(&self.rows, at)
     }
 
     // The batch of a number, if it was begun.

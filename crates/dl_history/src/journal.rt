@@ -2,16 +2,19 @@
 
 ghost use Rattle.std.specs.Prelude.{◌≡◌, ◌+◌, ◌<◌, ◌≤◌, ◌∷◌, ◌++◌, [], MatchBool, None, OnOk, Some, length, set, slice_get};
 ghost use Rattle.std.specs.List.{repeat};
-ghost use Rattle.dl_cells.specs.Cells.{cell_of, row_len};
+ghost use Rattle.dl_cells.specs.Cells.{cell_of};
 ghost use Rattle.dl_history.specs.Journal.{AreBlank, Refuses, waiting, ended};
 
+mod append;
 mod reading;
 
 use crate::entry::Stored;
 use crate::event::Ending;
 use crate::name::LoaderName;
+use crate::rows::Rows;
 use crate::state::State;
-use dl_cells::{CellRow, Reader};
+pub use append::AppendFault;
+use dl_cells::Reader;
 use std::alloc::{AllocError, Global};
 use std::marker::Model;
 use std::sync::ledger;
@@ -67,15 +70,15 @@ impl<L: LoaderName> Journal<L> {
         self.log.len()
     }
 
-    /// How many cells were begun.
-    pub fn cells(&self) -> usize
+    // How many cells were begun.
+    fn cells(&self) -> usize
         ensures { result ≡ length self.now.cells }
     {
         self.states.len()
     }
 
-    /// Makes room for one event more and so many cells. The error is want of memory, and changes nothing.
-    pub fn reserve(&mut self, cells: usize) -> Result<(), AllocError>
+    // Makes room for one event more and so many cells. The error is want of memory, and changes nothing.
+    fn reserve(&mut self, cells: usize) -> Result<(), AllocError>
         ensures history { self.new.history ≡ self.old.history }
         ensures cells { self.new.cells ≡ self.old.cells }
         ensures room { OnOk result (cells + 1 ≤ self.new.spare) }
@@ -85,8 +88,8 @@ impl<L: LoaderName> Journal<L> {
         self.states.reserve(more)
     }
 
-    /// Adds the next event, which the share of its caller counts. It takes no memory.
-    pub fn add(&mut self, stored: Stored<L>, share: &mut Share<L>)
+    // Adds the next event, which the share of its caller counts. It takes no memory.
+    fn add(&mut self, stored: Stored<L>, share: &mut Share<L>)
         requires place { stored.at ≡ length self.old.history }
         requires room { 0 < self.old.spare }
         requires part { 0 < share.old.parts }
@@ -100,8 +103,8 @@ impl<L: LoaderName> Journal<L> {
         self.calls.add(share, 1);
     }
 
-    /// Adds the next cell, which has no end yet. It takes no memory.
-    pub fn add_cell(&mut self, reader: Reader<Ending>)
+    // Adds the next cell, which has no end yet. It takes no memory.
+    fn add_cell(&mut self, reader: Reader<Ending>)
         requires cell { reader.cell ≡ cell_of L.outcomes (length self.old.cells) }
         requires unknown { reader.known ≡ None }
         requires room { 0 < self.old.spare }
@@ -112,8 +115,8 @@ impl<L: LoaderName> Journal<L> {
         self.states.push_reserved(State::new(reader));
     }
 
-    /// Adds the next cells, which have no end yet. It takes no memory.
-    pub fn add_cells(&mut self, readers: Vec<Reader<Ending>>)
+    // Adds the next cells, which have no end yet. It takes no memory.
+    fn add_cells(&mut self, readers: Vec<Reader<Ending>>)
         requires blank { AreBlank L.outcomes (length self.old.cells) readers.items }
         requires room { length readers.items ≤ self.old.spare }
         ensures history { self.new.history ≡ self.old.history }
@@ -125,15 +128,14 @@ impl<L: LoaderName> Journal<L> {
     }
 
     /// Gives a cell its outcome, and tells whether the cell took it. It takes no memory.
-    pub fn end(&mut self, row: &CellRow<Ending>, cell: u32, ending: Box<Ending>) -> bool
-        requires row { row.now ≡ L.outcomes }
-        requires in_row { cell < row_len L.outcomes }
+    pub fn end(&mut self, rows: &Rows<L>, cell: u32, ending: Box<Ending>) -> bool
+        requires in_row { cell < L.service.rules.limits.max_cells }
         requires waits { slice_get self.old.cells cell ≡ Some waiting }
         ensures history { self.new.history ≡ self.old.history }
         ensures ended { MatchBool result (self.new.cells ≡ set self.old.cells cell (ended ending.value)) (Refuses self.old.cells self.new.cells cell ending.value) }
         ensures room { self.new.spare ≡ self.old.spare }
     {
-        self.states[cell as usize].end(row, cell, ending)
+        self.states[cell as usize].end(rows.outcomes(), cell, ending)
     }
 
     /// A reader of a cell that was begun, which knows what the cell shows.

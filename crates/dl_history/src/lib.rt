@@ -11,13 +11,15 @@ mod history;
 mod journal;
 mod lists;
 mod name;
+mod rows;
 mod state;
 
 pub use account::Account;
 pub use entry::{Entry, EntryKind, Seen, Stored};
 pub use event::{Call, Ending, Event, Reply};
 pub use history::{Batches, EndedBatch, Events, History};
-pub use journal::Journal;
+pub use journal::{AppendFault, Journal};
 pub use lists::{Jobs, Replies};
 pub use name::LoaderName;
+pub use rows::Rows;
 pub use state::{Mark, State};

@@ -1,11 +1,7 @@
 //! Names of loaders.
 
-ghost use Rattle.std.specs.Prelude.{List};
 ghost use Rattle.dl_cells.specs.Cells.{RowName, no_row};
-ghost use Rattle.dl_desk.specs.Key.{Key};
-ghost use Rattle.dl_desk.specs.Limits.{Rules};
-ghost use Rattle.dl_desk.specs.declared.outcome.BatchAnswer.{BatchAnswer};
-ghost use Rattle.dl_history.specs.Service.{no_rules, no_answer};
+ghost use Rattle.dl_history.specs.Service.{Service, no_service};
 
 use std::marker::Brand;
 use std::sync::ledger::Ledger;
@@ -20,11 +16,8 @@ pub trait LoaderName: Ledger {
     // The row that the outcomes of cells lie in.
     ghost outcomes: { RowName };
 
-    // How batches are made.
-    ghost rules: { Rules };
-
-    // The one function of the source.
-    ghost answer: { List Key → BatchAnswer };
+    // What the loader serves by: how it makes batches, its callers, and the one function of its source.
+    ghost service: { Service };
 }
 
 impl LoaderName for Brand {
@@ -32,7 +25,5 @@ impl LoaderName for Brand {
 
     ghost outcomes = { no_row };
 
-    ghost rules = { no_rules };
-
-    ghost answer = { no_answer };
+    ghost service = { no_service };
 }

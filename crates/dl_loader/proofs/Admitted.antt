@@ -10,7 +10,10 @@ use Rattle.dl_history.specs.Entries.{front_of}
 use Rattle.dl_history.specs.Journal.{Cell}
 use Rattle.dl_loader.specs.Book.{Locked, locked}
 use Rattle.dl_loader.specs.Pass.{Part}
-use Rattle.dl_loader.specs.Refusals.{unready}
+use Rattle.dl_desk.specs.declared.reply.Job.{Job}
+use Rattle.dl_history.specs.declared.event.Call.{Call}
+use Rattle.std.specs.Option.{option_or}
+use Rattle.dl_loader.specs.Refusals.{unready, refusal}
 
 ready_at : (limit front len : ℕ) (stopped behind full : Bool) → nat_lt len front ≡ behind → nat_le limit len ≡ full
     → cond stopped (Some Stopped) (cond behind (Some (Behind front len)) (cond full (Some (LogFull limit)) None)) ≡ None → (front ≤ len) × (len < limit)
@@ -18,6 +21,10 @@ ready_at limit front len true behind full b f none = absurd (let bad : ◌≡◌
 ready_at limit front len false true full b f none = absurd (let bad : ◌≡◌ {A = Option CallFault} (Some (Behind front len)) None = none in cc)
 ready_at limit front len false false true b f none = absurd (let bad : ◌≡◌ {A = Option CallFault} (Some (LogFull limit)) None = none in cc)
 ready_at limit front len false false false b f none = (ltb-false len front b, leb-false limit len f)
+
+none_or : {X : Type 0} (x y : Option X) → option_or x y ≡ None → x ≡ None
+none_or None y none = refl
+none_or (Some x) y none = none
 
 -- a pass that may make an event has seen no more than there is, and the history has room
 pub ready_facts : (s : Service) (b : Locked) (p : Part) → unready s b p ≡ None → (front_of p.entries ≤ length b.history) × (length b.history < s.rules.limits.max_calls)
@@ -27,3 +34,7 @@ ready_facts s b p none =
 -- so the history that the book was seen to have is not full
 pub ready_room : (s : Service) (b : Locked) (p : Part) (es : List Event) (d : Book) (xs : List Cell) (stopped : Bool) → locked es d xs stopped ≡ b → unready s b p ≡ None → length es < s.rules.limits.max_calls
 ready_room s b p es d xs stopped view ready = (ready_facts s (locked es d xs stopped) p (subst (λ (x : Locked). unready s x p ≡ None) (sym view) ready)).1
+
+-- so a pass whose call was accepted has seen no more than there is
+pub accepted_after : (s : Service) (b : Locked) (p : Part) (call : Call) (job : Option Job) → refusal s b p call job ≡ None → front_of p.entries ≤ length b.history
+accepted_after s b p call job none = (ready_facts s b p (none_or (unready s b p) _ none)).0

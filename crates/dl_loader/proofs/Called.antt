@@ -1,9 +1,11 @@
 -- What is known outside the lock of a call that was made under it.
-use Rattle.std.proofs.Common.{◌≡◌, ◌∙◌, ap, subst, ◌≤◌, [], ◌∷◌, ◌++◌, length, List, refl}
+use Rattle.std.proofs.Common.{◌≡◌, ◌∙◌, ap, subst, [], ◌∷◌, ◌++◌, length, List, Option, None, refl}
 use Rattle.dl_desk.specs.Events.{atoms}
 use Rattle.dl_history.specs.Service.{Service}
 use Rattle.dl_history.specs.History.{log, reply_to, IsLegal}
-use Rattle.dl_history.specs.Entries.{front_of}
+use Rattle.dl_desk.specs.declared.reply.Job.{Job}
+use Rattle.dl_loader.specs.Refusals.{refusal}
+use Rattle.dl_loader.proofs.Admitted.{accepted_after}
 use Rattle.dl_loader.specs.Pass.{Part, with_call, with_tickets}
 use Rattle.dl_loader.specs.Book.{Locked, Keeps}
 use Rattle.dl_loader.specs.Made.{event_of, loads_of, Makes, WasMade}
@@ -21,9 +23,9 @@ replied s b now p new call r kept made =
     let legal : IsLegal s (b.history ++ event_of p call r ∷ []) = subst (λ (es : List Event). IsLegal s es) made.history kept.legal in
     (legal_at s b.history [] (event_of p call r) legal).reply
 
--- a call made at a book is one that was made, whatever the book
-pub was_made : (s : Service) (b now : Locked) (p new : Part) (call : Call) (r : Reply) → Keeps s b → Keeps s now → front_of p.entries ≤ length b.history → Makes b p call r now new → WasMade s p call r new
-was_made s b now p new call r before kept after made = (b, now, before, kept, after, made)
+-- a call that a book accepted and made is one that was made, whatever the book
+pub was_made : (s : Service) (b now : Locked) (p new : Part) (call : Call) (job : Option Job) (r : Reply) → Keeps s b → Keeps s now → refusal s b p call job ≡ None → Makes b p call r now new → WasMade s p call r new
+was_made s b now p new call job r before kept accepted made = (b, now, before, kept, accepted_after s b p call job accepted, made)
 
 -- a call that is no load gives no ticket
 pub no_tickets : (b now : Locked) (p new : Part) (call : Call) (r : Reply) → Makes b p call r now new → loads_of r ≡ [] → new.tickets ≡ p.tickets

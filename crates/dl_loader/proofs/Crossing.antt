@@ -8,13 +8,12 @@ use Rattle.std.below.core.proofs.chan.Condvar.TheSendSync as changed
 use Rattle.std.specs.declared.sync.ledger.Ledger as ledger
 use Rattle.dl_history.specs.declared.name.LoaderName as name
 use Rattle.std.proofs.Crossing.{crosses as owners_cross}
-use Rattle.dl_history.specs.contracts.event.Event as Event
 use Rattle.dl_history.specs.contracts.event.Ending as Ending
 use Rattle.std.specs.contracts.sync.Mutex as Mutex
 use Rattle.dl_cells.specs.contracts.reader.Reader as Reader
 use Rattle.dl_cells.specs.contracts.row.CellRow as Row
 use Rattle.dl_desk.specs.contracts.desk.Desk as Desk
-use Rattle.dl_desk.specs.contracts.limits.Limits as Limits
+use Rattle.dl_history.specs.contracts.rows.Rows as Rows
 use Rattle.dl_history.specs.contracts.journal.Journal as Journal
 use Rattle.dl_loader.specs.contracts.book.Book as Book
 use Rattle.dl_loader.specs.contracts.book.Book.TheInside as book
@@ -24,8 +23,7 @@ use Rattle.dl_loader.specs.contracts.ticket.Ticket as Ticket
 use Rattle.dl_loader.specs.contracts.ticket.Ticket.TheInside as ticket
 use Rattle.dl_cells.proofs.reader.Reader.TheSendSync as reader
 use Rattle.dl_desk.proofs.desk.Desk.TheSendSync as desk
-use Rattle.dl_desk.proofs.limits.Limits.TheSendSync as limits
-use Rattle.dl_history.proofs.Crossing.{Journal-send, log_sync, outcomes_sync}
+use Rattle.dl_history.proofs.Crossing.{Journal-send, Rows-sync, outcomes_sync}
 
 module _ (T : RattleType) (n : name.Ghosts T.Denot) (l : ledger.Ghosts T.Denot) where
   book_send : IsSend (book.the_row T n l)
@@ -38,7 +36,7 @@ module _ (T : RattleType) (n : name.Ghosts T.Denot) (l : ledger.Ghosts T.Denot) 
   lock_sync = search (Book-send, owners_cross) depth 10
 
   loader_sync : IsSync (loader.the_row T n l)
-  loader_sync = declared_sync (loader.the_type T n l) (as_row_sync Limits.the_field (search (limits.the_sync) depth 10), (search (as_row_sync, sendable) depth 10, (as_row_sync (Row.the_field Event.the_row) log_sync, (as_row_sync (Row.the_field Ending.the_row) outcomes_sync, (as_row_sync (Mutex.the_field (Book.the_row T n l)) lock_sync, (search (changed.the_sync, owners_cross, sendable) depth 20, tt))))))
+  loader_sync = declared_sync (loader.the_type T n l) (search (as_row_sync, sendable) depth 10, (as_row_sync (Rows.the_field T n l) (Rows-sync T n l), (as_row_sync (Mutex.the_field (Book.the_row T n l)) lock_sync, (search (changed.the_sync, owners_cross, sendable) depth 20, tt))))
 
   pub Loader-sync : IsSync (Loader.the_row T n l)
   Loader-sync = search (loader_sync, sendable) depth 10

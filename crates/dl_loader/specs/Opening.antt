@@ -4,7 +4,7 @@ use Rattle.dl_cells.specs.Cells.{RowName, row_len}
 use Rattle.dl_desk.specs.Key.{Key}
 use Rattle.dl_desk.specs.Limits.{Limits, Rules}
 use Rattle.dl_desk.specs.declared.outcome.BatchAnswer.{BatchAnswer}
-use Rattle.dl_history.specs.Service.{AnswersEach}
+use Rattle.dl_history.specs.Service.{Service, Answers, AnswersEach, service}
 use Rattle.dl_loader.specs.declared.fault.StartFault.{StartFault}
 use Rattle.dl_loader.specs.declared.fault.StartFault.TheVariants.{NoCallers, TooManyCallers, OutOfMemory}
 use Rattle.dl_loader.specs.declared.opening.TheConstants.{MOST_CALLERS}
@@ -37,13 +37,23 @@ RefusedAs callers NoCallers = callers ≡ 0
 RefusedAs callers TooManyCallers = MOST_CALLERS < callers
 RefusedAs callers OutOfMemory = AreCallers callers
 
--- what holds of the fields of a loader: it goes by its rules, it has its number of callers, its rows are its own,
--- with room for all calls and cells, and its source answers each key
-pub record IsLoader (limits : Limits) (callers : ℕ) (log outcomes : RowName) (rules : Rules) (parts : ℕ) (own_log own_outcomes : RowName) (answer : List Key → BatchAnswer) : Type 0 where
-  pub limits_are : limits ≡ rules.limits
-  pub callers_are : callers ≡ parts
-  pub log_is : log ≡ own_log
-  pub outcomes_are : outcomes ≡ own_outcomes
-  pub calls_fit : row_len own_log ≡ limits.max_calls
-  pub cells_fit : row_len own_outcomes ≡ limits.max_cells
-  pub answers : AnswersEach answer
+-- what the loader of an opening will serve by, where sources answer so
+abbrev pub service_of : {S : Type 0} → (S → List Key → BatchAnswer) → Unstarted S → Service
+service_of answer opening = service opening.rules opening.callers (answer opening.source)
+
+-- A type's name stands for the loader of the opening: what it serves by, its rows, and the ledger that counts its events.
+pub record Names {S : Type 0} (answer : S → List Key → BatchAnswer) (opening : Unstarted S) (own : Service) (parts : ℕ) (log outcomes : RowName) (ledger : ℕ) : Type 0 where
+  pub rules : opening.rules ≡ own.rules
+  pub callers : opening.callers ≡ own.callers
+  pub answers : Answers (answer opening.source) own
+  pub parts_are : opening.callers ≡ parts
+  pub log_is : opening.log ≡ log
+  pub outcomes_are : opening.outcomes ≡ outcomes
+  pub ledger_is : opening.ledger ≡ ledger
+
+-- what holds of the fields of a loader: it has its number of callers, each with a part of the ledger, and its source
+-- answers each key
+pub record IsLoader (callers parts : ℕ) (own : Service) : Type 0 where
+  pub callers_are : callers ≡ own.callers
+  pub parts_are : parts ≡ own.callers
+  pub answers : AnswersEach own.answer

@@ -15,6 +15,8 @@ use Rattle.dl_history.specs.Entries.{front_of}
 use Rattle.dl_loader.specs.Pass.{Part}
 use Rattle.dl_loader.specs.Book.{Locked}
 use Rattle.dl_history.specs.declared.event.Call.{Call}
+use Rattle.dl_history.specs.declared.journal.append.AppendFault.{AppendFault}
+use Rattle.dl_history.specs.declared.journal.append.AppendFault.TheVariants as append
 use Rattle.dl_loader.specs.declared.fault.CallFault.{CallFault}
 use Rattle.dl_loader.specs.declared.fault.CallFault.TheVariants.{Stopped, Behind, LogFull, NoBatch, NotSent, SettledBefore, WrongKeys, CellsFull, OutOfMemory, LogRefused}
 
@@ -25,6 +27,11 @@ call_fault desk_fault.NotSent = NotSent
 call_fault desk_fault.SettledBefore = SettledBefore
 call_fault (desk_fault.CellsFull limit) = CellsFull limit
 call_fault desk_fault.OutOfMemory = OutOfMemory
+
+-- the journal's refusal as the loader's
+abbrev pub append_fault : AppendFault → CallFault
+append_fault append.OutOfMemory = OutOfMemory
+append_fault append.LogRefused = LogRefused
 
 -- Why a pass may make no event at all: the loader is stopped, the pass has seen more events than there are, or
 -- the history is full.
@@ -52,6 +59,6 @@ refusal service b p call job =
     (option_or (option_map call_fault (desk.refusal service.rules (atoms (log b.history)) (call_of call)))
     (wrong_keys (atoms (log b.history)) job))
 
--- the call is refused so: for its cause, for want of memory, or because the log refused the event
+-- The call is refused so: for its cause, for want of memory, or, where it has no cause, because the log refused its event.
 abbrev pub IsRefusal : Service → Locked → Part → Call → Option Job → CallFault → Type 0
-IsRefusal service b p call job fault = (fault ≡ OutOfMemory) ⊎ (fault ≡ LogRefused) ⊎ (refusal service b p call job ≡ Some fault)
+IsRefusal service b p call job fault = (fault ≡ OutOfMemory) ⊎ ((fault ≡ LogRefused) × (refusal service b p call job ≡ None)) ⊎ (refusal service b p call job ≡ Some fault)

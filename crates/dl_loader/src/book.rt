@@ -2,7 +2,6 @@
 
 ghost use Rattle.std.specs.Prelude.{◌≡◌, ◌<◌, ◌≤◌, [], false, true, IfErr, None, OnOk, Some, length};
 ghost use Rattle.dl_desk.specs.Limits.{mixed};
-ghost use Rattle.dl_history.specs.Service.{service};
 ghost use Rattle.dl_loader.specs.Book.{Keeps, locked};
 ghost use Rattle.dl_history.specs.Entries.{cell_of_load, front_of};
 ghost use Rattle.dl_loader.specs.Refusals.{unready};
@@ -13,11 +12,10 @@ mod keys;
 mod loads;
 
 use crate::fault::CallFault;
-use crate::loader::Loader;
 use crate::pass::Pass;
 use crate::ticket::{Ticket, load_cell};
 use dl_desk::{Desk, Limits, LoadReply};
-use dl_history::{Journal, LoaderName};
+use dl_history::{Journal, LoaderName, Rows};
 use std::alloc::Global;
 use std::marker::Model;
 use std::sync::ledger;
@@ -37,7 +35,6 @@ impl<L: LoaderName> Model for Book<L> {
     ghost use Rattle.std.specs.Coded.{codes};
     ghost use Rattle.dl_history.specs.contracts.event.Event as event;
     ghost use Rattle.dl_history.specs.contracts.event.Ending as ending;
-    ghost use Rattle.dl_history.specs.Service.{service};
     ghost use Rattle.dl_loader.specs.Book.{Locked, locked, Keeps};
 
     ghost Value = { Locked };
@@ -46,13 +43,13 @@ impl<L: LoaderName> Model for Book<L> {
 
     ghost view = { λ b. locked b.journal.history b.desk.book b.journal.cells b.stopped };
 
-    ghost invariant = { λ b. Keeps (service L.rules L.parts L.answer) (locked b.journal.history b.desk.book b.journal.cells b.stopped) };
+    ghost invariant = { λ b. Keeps L.service (locked b.journal.history b.desk.book b.journal.cells b.stopped) };
 }
 
 impl<L: LoaderName> Book<L> {
     /// The book of a loader that had no call. It takes no memory.
     pub(crate) fn new(alloc: Global, limits: Limits, calls: ledger::Book<L>) -> Book<L>
-        requires rules { mixed limits ≡ L.rules }
+        requires rules { mixed limits ≡ L.service.rules }
         requires none_counted { calls.total ≡ 0 }
         ensures history { result.history ≡ [] }
         ensures not_stopped { result.stopped ≡ false }
@@ -64,15 +61,13 @@ impl<L: LoaderName> Book<L> {
         }
     }
 
-    /// Whether a pass may make an event now.
-    ///
-    /// # Errors
-    /// The first of these causes that applies: `Stopped`, `Behind`, `LogFull`.
-    pub(crate) fn admit(&self, loader: &Loader<L>, pass: &Pass<L>) -> Result<(), CallFault>
-        ensures ok { OnOk result (unready (service L.rules L.parts L.answer) self.now pass.now.part ≡ None) }
-        ensures fault { IfErr result (λ fault. unready (service L.rules L.parts L.answer) self.now pass.now.part ≡ Some fault) }
+    // Whether a pass may make an event now. The error is the first of these causes that applies: `Stopped`, `Behind`,
+    // `LogFull`.
+    fn admit(&self, rows: &Rows<L>, pass: &Pass<L>) -> Result<(), CallFault>
+        ensures ok { OnOk result (unready L.service self.now pass.now.part ≡ None) }
+        ensures fault { IfErr result (λ fault. unready L.service self.now pass.now.part ≡ Some fault) }
         ensures after { OnOk result (front_of pass.now.part.entries ≤ length self.now.history) }
-        ensures room { OnOk result (length self.now.history < L.rules.limits.max_calls) }
+        ensures room { OnOk result (length self.now.history < L.service.rules.limits.max_calls) }
     {
         if self.stopped {
             return Err(CallFault::Stopped);
@@ -85,7 +80,7 @@ impl<L: LoaderName> Book<L> {
                 len: len as u32,
             });
         }
-        let limit = loader.limits().max_calls();
+        let limit = rows.limits().max_calls();
         if limit as usize <= len {
             return Err(CallFault::LogFull { limit });
         }
@@ -95,7 +90,7 @@ impl<L: LoaderName> Book<L> {
     /// A ticket of this number for a load that was replied so. It takes no memory.
     pub(crate) fn ticket<'a>(
         &self,
-        loader: &'a Loader<L>,
+        rows: &'a Rows<L>,
         number: usize,
         reply: LoadReply,
     ) -> Ticket<'a, L>
@@ -104,7 +99,7 @@ impl<L: LoaderName> Book<L> {
         ensures reply { result.reply ≡ reply }
     {
         let reader = self.journal.reader(load_cell(reply));
-        Ticket::new(loader.outcomes(), number, reply, reader)
+        Ticket::new(rows.outcomes(), number, reply, reader)
     }
 
     /// Stops the loader: no pass may make an event from then on.
@@ -123,7 +118,7 @@ impl<L: LoaderName> Book<L> {
 
     /// What every book keeps: its history is legal, and all else is that of the history.
     pub fn keeps(&self)
-        ensures { Keeps (service L.rules L.parts L.answer) self.now }
+        ensures { Keeps L.service self.now }
     {
         let _ = &self.desk;
     }

@@ -1,13 +1,11 @@
 //! What the cells of a batch's members are due when the batch ends.
 
 ghost use Rattle.std.specs.Prelude.{◌≡◌, ℕ, ◌+◌, ◌<◌, ◌≤◌, IfOk, IsSome, Some, length, map};
-ghost use Rattle.dl_cells.specs.Cells.{row_len};
 ghost use Rattle.dl_loader.specs.Dues.{AreDue, AreGiven, CanEnd, outcome_by};
 ghost use Rattle.dl_history.specs.Journal.{refusals};
 
-use dl_cells::CellRow;
 use dl_desk::{Outcome, Outcomes};
-use dl_history::{Call, Ending, Journal, LoaderName};
+use dl_history::{Call, Ending, Journal, LoaderName, Rows};
 use std::alloc::{AllocError, Global};
 
 /// The end that a cell is due.
@@ -50,13 +48,8 @@ pub(crate) fn dues(
 }
 
 /// Gives the cells their dues, and tells how many of them refused. It takes no memory.
-pub(crate) fn give<L: LoaderName>(
-    journal: &mut Journal<L>,
-    row: &CellRow<Ending>,
-    dues: Vec<Due>,
-) -> usize
-    requires row { row.now ≡ L.outcomes }
-    requires in_row { length journal.old.cells ≤ row_len L.outcomes }
+pub(crate) fn give<L: LoaderName>(journal: &mut Journal<L>, rows: &Rows<L>, dues: Vec<Due>) -> usize
+    requires fits { length journal.old.cells ≤ L.service.rules.limits.max_cells }
     requires can { CanEnd (map (λ d. d.cell) dues.items) journal.old.cells }
     ensures history { journal.new.history ≡ journal.old.history }
     ensures given { AreGiven dues.items journal.old.cells journal.new.cells }
@@ -66,7 +59,7 @@ pub(crate) fn give<L: LoaderName>(
     let mut refused = 0;
     for due in dues {
         let Due { cell, ending } = due;
-        if !journal.end(row, cell, ending) {
+        if !journal.end(rows, cell, ending) {
             refused += 1;
         }
     }

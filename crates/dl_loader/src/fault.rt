@@ -4,9 +4,10 @@ ghost use Rattle.std.specs.Prelude.{◌≡◌};
 ghost use Rattle.dl_loader.specs.declared.fault.CallFault.TheVariants as call;
 ghost use Rattle.dl_loader.specs.declared.fault.CloseFault.TheVariants as close;
 ghost use Rattle.dl_loader.specs.declared.fault.StartFault.TheVariants as start;
-ghost use Rattle.dl_loader.specs.Refusals.{call_fault};
+ghost use Rattle.dl_loader.specs.Refusals.{append_fault, call_fault};
 
 use dl_desk::DeskFault;
+use dl_history::AppendFault;
 use std::alloc::AllocError;
 use thiserror::Error;
 
@@ -106,6 +107,17 @@ impl From<AllocError> for CallFault {
 
     fn from(_: AllocError) -> CallFault {
         CallFault::OutOfMemory
+    }
+}
+
+impl From<AppendFault> for CallFault {
+    ghost from_gives = { λ append fault. fault ≡ append_fault append };
+
+    fn from(fault: AppendFault) -> CallFault {
+        match fault {
+            AppendFault::OutOfMemory => CallFault::OutOfMemory,
+            AppendFault::LogRefused => CallFault::LogRefused,
+        }
     }
 }
 

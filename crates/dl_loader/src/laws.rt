@@ -1,15 +1,14 @@
 //! One event, made on the locked book, and what all looks of one cell have in common.
 
-ghost use Rattle.std.specs.Prelude.{◌≡◌, ◌+◌, List, None, IfErr, IfOk, IfSome, OnErr, OnOk};
+ghost use Rattle.dl_history.specs.Service.{Answers};
+ghost use Rattle.std.specs.Prelude.{◌≡◌, ◌+◌, None, IfErr, IfOk, IfSome, OnErr, OnOk};
 ghost use Rattle.dl_cells.specs.Cells.{Agrees};
-ghost use Rattle.dl_desk.specs.Key.{Key};
 ghost use Rattle.dl_loader.specs.Asks.{call_asked, job_asked, source_asked};
 ghost use Rattle.dl_loader.specs.Book.{Keeps};
 ghost use Rattle.dl_history.specs.Entries.{cell_of_load};
 ghost use Rattle.dl_history.specs.Journal.{refusals};
 ghost use Rattle.dl_loader.specs.Made.{Makes};
 ghost use Rattle.dl_loader.specs.Refusals.{refusal, IsRefusal};
-ghost use Rattle.dl_history.specs.Service.{service};
 
 use crate::ask::Ask;
 use crate::book::Book;
@@ -17,7 +16,7 @@ use crate::fault::CallFault;
 use crate::loader::Loader;
 use crate::pass::Pass;
 use crate::ticket::Ticket;
-use dl_history::{Jobs, LoaderName, Replies, Reply};
+use dl_history::{Jobs, LoaderName, Replies, Reply, Rows};
 use dl_source::Source;
 use std::alloc::Global;
 
@@ -33,16 +32,16 @@ pub fn event<'a, L: LoaderName, S: Source>(
     pass: &mut Pass<L>,
     ask: Ask<'a, S>,
 ) -> Result<(Reply, u32), (CallFault, Ask<'a, S>)>
-    requires source { IfSome (source_asked ask) (λ source. (keys : List Key) → S.answer source keys ≡ L.answer keys) }
+    requires source { IfSome (source_asked ask) (λ source. Answers (S.answer source) L.service) }
     ensures made { IfOk result (λ r. Makes book.old pass.old.part (call_asked ask.entry) r.0 book.new pass.new.part) }
-    ensures accepted { OnOk result (refusal (service L.rules L.parts L.answer) book.old pass.old.part (call_asked ask.entry) (job_asked ask.entry) ≡ None) }
+    ensures accepted { OnOk result (refusal L.service book.old pass.old.part (call_asked ask.entry) (job_asked ask.entry) ≡ None) }
     ensures refused { IfOk result (λ r. refusals book.new.cells ≡ refusals book.old.cells + r.1) }
-    ensures fault { IfErr result (λ e. IsRefusal (service L.rules L.parts L.answer) book.old pass.old.part (call_asked ask.entry) (job_asked ask.entry) e.0) }
+    ensures fault { IfErr result (λ e. IsRefusal L.service book.old pass.old.part (call_asked ask.entry) (job_asked ask.entry) e.0) }
     ensures back { IfErr result (λ e. e.1 ≡ ask.entry) }
     ensures unchanged { OnErr result ((book.new ≡ book.old) × (pass.new.part ≡ pass.old.part)) }
-    ensures keeps { Keeps (service L.rules L.parts L.answer) book.new }
+    ensures keeps { Keeps L.service book.new }
 {
-    let made = make(alloc, loader, book, pass, &ask);
+    let made = make(alloc, &loader.rows, book, pass, &ask);
     book.keeps();
     match made {
         Ok(made) => Ok(made),
@@ -62,47 +61,46 @@ pub fn looks_agree<L: LoaderName>(one: &Ticket<'_, L>, other: &Ticket<'_, L>)
 // Makes the event that is asked for.
 fn make<L: LoaderName, S: Source>(
     alloc: Global,
-    loader: &Loader<L>,
+    rows: &Rows<L>,
     book: &mut Book<L>,
     pass: &mut Pass<L>,
     ask: &Ask<'_, S>,
 ) -> Result<(Reply, u32), CallFault>
-    requires source { IfSome (source_asked ask.now) (λ source. (keys : List Key) → S.answer source keys ≡ L.answer keys) }
+    requires source { IfSome (source_asked ask.now) (λ source. Answers (S.answer source) L.service) }
     ensures made { IfOk result (λ r. Makes book.old pass.old.part (call_asked ask.now) r.0 book.new pass.new.part) }
-    ensures accepted { OnOk result (refusal (service L.rules L.parts L.answer) book.old pass.old.part (call_asked ask.now) (job_asked ask.now) ≡ None) }
+    ensures accepted { OnOk result (refusal L.service book.old pass.old.part (call_asked ask.now) (job_asked ask.now) ≡ None) }
     ensures refused { IfOk result (λ r. refusals book.new.cells ≡ refusals book.old.cells + r.1) }
-    ensures fault { IfErr result (IsRefusal (service L.rules L.parts L.answer) book.old pass.old.part (call_asked ask.now) (job_asked ask.now)) }
+    ensures fault { IfErr result (IsRefusal L.service book.old pass.old.part (call_asked ask.now) (job_asked ask.now)) }
     ensures unchanged { OnErr result ((book.new ≡ book.old) × (pass.new.part ≡ pass.old.part)) }
 {
-    book.admit(loader, pass)?;
     match ask {
         Ask::Load(key) => {
-            let reply = book.load(alloc, loader, pass, key)?;
+            let reply = book.load(alloc, rows, pass, key)?;
             Ok((Reply::Loaded(reply), 0))
         }
         Ask::LoadMany(keys) => {
-            let replies = book.load_many(alloc, loader, pass, keys)?;
+            let replies = book.load_many(alloc, rows, pass, keys)?;
             Ok((Reply::Many(Replies::new(replies)), 0))
         }
-        Ask::Prime(key, outcome) => Ok(book.prime(alloc, loader, pass, key, outcome)?.told()),
+        Ask::Prime(key, outcome) => Ok(book.prime(alloc, rows, pass, key, outcome)?.told()),
         Ask::Clear(key) => {
-            book.clear(alloc, loader, pass, key)?;
+            book.clear(alloc, rows, pass, key)?;
             Ok((Reply::Done, 0))
         }
         Ask::ClearAll => {
-            book.clear_all(alloc, loader, pass)?;
+            book.clear_all(alloc, rows, pass)?;
             Ok((Reply::Done, 0))
         }
         Ask::Dispatch => {
-            let jobs = book.dispatch(alloc, loader, pass)?;
+            let jobs = book.dispatch(alloc, rows, pass)?;
             Ok((Reply::Sent(Jobs::new(jobs)), 0))
         }
         Ask::Settle(fetched) => {
-            let settled = book.settle(alloc, loader, pass, fetched)?;
+            let settled = book.settle(alloc, rows, pass, fetched)?;
             Ok((Reply::Done, settled.refused))
         }
         Ask::Fail(job, give_up) => {
-            let settled = book.fail(alloc, loader, pass, job, *give_up)?;
+            let settled = book.fail(alloc, rows, pass, job, *give_up)?;
             Ok((Reply::Done, settled.refused))
         }
     }

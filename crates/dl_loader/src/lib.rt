@@ -15,7 +15,6 @@ mod loader;
 mod loads;
 mod opening;
 mod pass;
-mod record;
 mod reply;
 mod ticket;
 

@@ -1,10 +1,9 @@
 //! The shared loader.
 
-ghost use Rattle.std.specs.Prelude.{◌≡◌, ◌<◌, ◌-◌, Bool, IfErr, IfOk, IfSome, IsSome, List, None, OnErr, OnOk, Some, map};
-ghost use Rattle.dl_cells.specs.Cells.{row_len};
-ghost use Rattle.dl_desk.specs.Key.{Key};
+ghost use Rattle.std.specs.Prelude.{◌≡◌, Bool, IfErr, IfOk, IfSome, IsSome, None, OnErr, OnOk, Some, map};
 ghost use Rattle.dl_loader.specs.declared.fault.StartFault.TheVariants.{OutOfMemory};
 ghost use Rattle.dl_history.specs.Entries.{cell_of_load, ending_known};
+ghost use Rattle.dl_loader.specs.Opening.{Names};
 ghost use Rattle.dl_loader.specs.Pass.{Gave, fresh, with_saw};
 
 mod accounts;
@@ -16,24 +15,20 @@ use crate::fault::{StartFault, Stopped};
 use crate::opening::Opening;
 use crate::pass::Pass;
 use crate::ticket::Ticket;
-use dl_cells::CellRow;
-use dl_desk::Limits;
-use dl_history::{Ending, Event, LoaderName};
+use dl_history::{LoaderName, Rows};
 use dl_source::Source;
 use std::alloc::{AllocError, Global};
 use std::marker::Model;
 use std::sync::ledger::Share;
-use std::sync::{Condvar, Mutex, Wait};
+use std::sync::{Condvar, Mutex, MutexGuard, Wait};
 
 /// A loader that threads share by reference. Each of its callers has a [`Pass`].
 #[derive(Drop)]
 pub struct Loader<L: LoaderName> {
-    limits: Limits,
     callers: u32,
-    pub(crate) log: CellRow<Event>,
-    outcomes: CellRow<Ending>,
-    book: Mutex<Book<L>>,
-    changed: Condvar,
+    pub(crate) rows: Rows<L>,
+    pub(crate) book: Mutex<Book<L>>,
+    pub(crate) changed: Condvar,
 }
 
 impl<L: LoaderName> Model for Loader<L> {
@@ -42,9 +37,9 @@ impl<L: LoaderName> Model for Loader<L> {
 
     ghost Value = { Limits };
 
-    ghost view = { λ l. l.limits };
+    ghost view = { λ l. l.rows };
 
-    ghost invariant = { λ l. IsLoader l.limits l.callers l.log l.outcomes L.rules L.parts L.log L.outcomes L.answer };
+    ghost invariant = { λ l. IsLoader l.callers L.parts L.service };
 }
 
 impl<L: LoaderName> Loader<L> {
@@ -54,13 +49,8 @@ impl<L: LoaderName> Loader<L> {
         alloc: Global,
         opening: Opening<'_, S>,
     ) -> Result<(Loader<L>, Vec<Pass<L>>), StartFault>
-        requires rules { opening.rules ≡ L.rules }
-        requires callers { opening.callers ≡ L.parts }
-        requires answer { (keys : List Key) → S.answer opening.source keys ≡ L.answer keys }
-        requires log { opening.log ≡ L.log }
-        requires outcomes { opening.outcomes ≡ L.outcomes }
-        requires ledger { opening.ledger ≡ L.name }
-        ensures passes { IfOk result (λ r. map (λ p. p.part) r.1.items ≡ fresh 0 L.parts) }
+        requires names { Names S.answer opening L.service L.parts L.log L.outcomes L.name }
+        ensures passes { IfOk result (λ r. map (λ p. p.part) r.1.items ≡ fresh 0 L.service.callers) }
         ensures fault { IfErr result (λ fault. fault ≡ OutOfMemory) }
     {
         let Opening {
@@ -75,21 +65,30 @@ impl<L: LoaderName> Loader<L> {
         let passes = deal(alloc, callers, all)?;
         let book = Book::new(alloc, limits, calls);
         let loader = Loader {
-            limits,
             callers,
-            log,
-            outcomes,
+            rows: Rows::new(limits, log, outcomes),
             book: Mutex::new(book),
             changed: Condvar::new(),
         };
         Ok((loader, passes))
     }
 
+    /// The book, which lies behind the loader's lock. Whoever has it keeps all others from their calls, and its own
+    /// calls of the loader would wait for ever; the law of one event is stated over it.
+    pub fn lock(&self, rt: &impl Wait) -> MutexGuard<'_, Book<L>> {
+        self.book.lock(rt)
+    }
+
+    /// The rows that the loader's history and outcomes lie in.
+    pub fn rows(&self) -> &Rows<L> {
+        &self.rows
+    }
+
     /// Stops the loader: from then on no pass may make an event, and no wait for a cell that has not ended
     /// goes on.
     pub fn stop(&self, rt: &impl Wait) {
         self.book.lock(rt).stop();
-        self.wake();
+        self.changed.notify_all();
     }
 
     /// Waits until the ticket shows its outcome, and adds that to the pass, once: where it is among the
@@ -141,31 +140,6 @@ impl<L: LoaderName> Loader<L> {
         }
         unreachable!()
     }
-
-    /// Wakes those that wait for a ticket.
-    pub(crate) fn wake(&self) {
-        self.changed.notify_all();
-    }
-
-    /// The lock round the book.
-    pub(crate) fn book(&self) -> &Mutex<Book<L>> {
-        &self.book
-    }
-
-    /// The limits.
-    pub(crate) fn limits(&self) -> Limits
-        ensures { result ≡ L.rules.limits }
-    {
-        self.limits
-    }
-
-    /// The row that the outcomes lie in, which has as many cells as may be begun.
-    pub(crate) fn outcomes(&self) -> &CellRow<Ending>
-        ensures row { result.now ≡ L.outcomes }
-        ensures cells { row_len L.outcomes ≡ L.rules.limits.max_cells }
-    {
-        &self.outcomes
-    }
 }
 
 /// A pass for each caller, each with one part of the ledger.
@@ -174,10 +148,10 @@ fn deal<L: LoaderName>(
     callers: u32,
     mut all: Share<L>,
 ) -> Result<Vec<Pass<L>>, AllocError>
-    requires callers { callers ≡ L.parts }
-    requires parts { all.parts ≡ L.parts }
+    requires callers { callers ≡ L.service.callers }
+    requires parts { all.parts ≡ callers }
     requires amount { all.amount ≡ 0 }
-    ensures { IfOk result (λ passes. map (λ p. p.part) passes.items ≡ fresh 0 L.parts) }
+    ensures { IfOk result (λ passes. map (λ p. p.part) passes.items ≡ fresh 0 L.service.callers) }
 {
     let mut passes = Vec::with_capacity(alloc, callers as usize)?;
     for caller in 0..callers {

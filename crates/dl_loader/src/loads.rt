@@ -7,11 +7,10 @@ ghost use Rattle.dl_history.specs.Lists.{Among, Every};
 ghost use Rattle.dl_loader.specs.Pass.{AreTickets, with_tickets};
 
 use crate::book::Book;
-use crate::loader::Loader;
 use crate::pass::Pass;
 use crate::ticket::{Ticket, load_cell};
 use dl_desk::LoadReply;
-use dl_history::LoaderName;
+use dl_history::{LoaderName, Rows};
 
 /// How many cells a load began.
 pub(crate) fn begun_by(reply: LoadReply) -> u32
@@ -37,17 +36,15 @@ pub(crate) fn cells_begun(replies: &[LoadReply]) -> usize
     cells
 }
 
-impl<L: LoaderName> Loader<L> {
-    /// How many cells the loads began, where these are no more than may be begun.
-    pub(crate) fn new_cells(&self, replies: &[LoadReply]) -> u32
-        requires { cells_begun replies.now ≤ L.rules.limits.max_cells }
-        ensures { result ≡ cells_begun replies.now }
-    {
-        let most = self.limits().max_cells() as usize;
-        let cells = cells_begun(replies);
-        prove!(cells <= most);
-        cells as u32
-    }
+/// How many cells the loads began, where these are no more than may be begun.
+pub(crate) fn new_cells<L: LoaderName>(rows: &Rows<L>, replies: &[LoadReply]) -> u32
+    requires { cells_begun replies.now ≤ L.service.rules.limits.max_cells }
+    ensures { result ≡ cells_begun replies.now }
+{
+    let most = rows.limits().max_cells() as usize;
+    let cells = cells_begun(replies);
+    prove!(cells <= most);
+    cells as u32
 }
 
 impl<L: LoaderName> Book<L> {
@@ -55,7 +52,7 @@ impl<L: LoaderName> Book<L> {
     /// them. It takes no memory.
     pub(crate) fn make_tickets<'a>(
         &self,
-        loader: &'a Loader<L>,
+        rows: &'a Rows<L>,
         pass: &Pass<L>,
         replies: &[LoadReply],
         tickets: &mut Vec<Ticket<'a, L>>,
@@ -69,7 +66,7 @@ impl<L: LoaderName> Book<L> {
         let first = pass.tickets() - replies.len();
         for reply in replies {
             let number = first + tickets.len();
-            tickets.push_reserved(self.ticket(loader, number, *reply));
+            tickets.push_reserved(self.ticket(rows, number, *reply));
         }
     }
 }

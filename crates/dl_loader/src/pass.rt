@@ -1,14 +1,16 @@
 //! Passes: what a caller knows of the history.
 
-ghost use Rattle.std.specs.Prelude.{◌≡◌, ◌+◌, ◌<◌, ◌≤◌, ◌∷◌, ◌++◌, Bool, false, IfSome, IsSome, OnErr, OnOk, Some, [], length, slice_get};
+ghost use Rattle.std.specs.Prelude.{◌≡◌, ◌+◌, ◌<◌, ◌≤◌, Bool, false, IfSome, IsSome, OnErr, OnOk, Some, [], length, slice_get};
 ghost use Rattle.dl_history.specs.Agrees.{IsAccount, places_of};
 ghost use Rattle.dl_loader.specs.Closing.{account_of};
 ghost use Rattle.dl_history.specs.Entries.{calls_of, cell_of_load, cells_of, ending_known, front_of};
 ghost use Rattle.dl_history.specs.Lists.{Among};
-ghost use Rattle.dl_loader.specs.Pass.{Gave, given, part, with_call, with_saw, with_ticket};
+ghost use Rattle.dl_loader.specs.Pass.{Gave, given, part, with_saw, with_ticket};
+
+mod events;
 
 use crate::ticket::Ticket;
-use dl_history::{Account, Entry, Journal, LoaderName, Seen, Stored};
+use dl_history::{Account, Entry, LoaderName, Seen};
 use std::alloc::{AllocError, Global};
 use std::marker::Model;
 use std::sync::ledger::Share;
@@ -49,13 +51,13 @@ impl<L: LoaderName> Model for Pass<L> {
 
     ghost view = { λ p. viewed p.caller p.unseen (vec_capacity p.entries) (vec_capacity p.tickets) p.entries.items p.tickets.items };
 
-    ghost invariant = { λ p. IsPass L.parts p.caller p.front p.calls p.share.parts p.share.amount p.unseen (vec_capacity p.entries) (vec_capacity p.tickets) p.entries.items p.tickets.items };
+    ghost invariant = { λ p. IsPass L.service.callers p.caller p.front p.calls p.share.parts p.share.amount p.unseen (vec_capacity p.entries) (vec_capacity p.tickets) p.entries.items p.tickets.items };
 }
 
 impl<L: LoaderName> Pass<L> {
     /// The pass of a caller that has made no call. It takes no memory.
     pub(crate) fn fresh(alloc: Global, caller: u32, share: Share<L>) -> Pass<L>
-        requires caller { caller < L.parts }
+        requires caller { caller < L.service.callers }
         requires part { share.parts ≡ 1 }
         requires amount { share.amount ≡ 0 }
         ensures { result.part ≡ part caller [] [] }
@@ -74,7 +76,7 @@ impl<L: LoaderName> Pass<L> {
     /// The caller, counted from 0.
     pub fn caller(&self) -> u32
         ensures caller { result ≡ self.now.part.caller }
-        ensures below { self.now.part.caller < L.parts }
+        ensures below { self.now.part.caller < L.service.callers }
     {
         self.caller
     }
@@ -82,7 +84,7 @@ impl<L: LoaderName> Pass<L> {
     /// Takes the pass apart: its account, and its part of the ledger. It takes no memory.
     pub(crate) fn into_account(self) -> (Account<L>, Share<L>)
         ensures account { result.0 ≡ account_of self.part }
-        ensures is_account { IsAccount L.parts result.0 }
+        ensures is_account { IsAccount L.service.callers result.0 }
         ensures one_part { result.1.parts ≡ 1 }
         ensures counted { result.1.amount ≡ length (places_of result.0.entries) }
     {
@@ -136,25 +138,6 @@ impl<L: LoaderName> Pass<L> {
         let entries = unseen.checked_add(more).ok_or(AllocError)?;
         self.entries.reserve(entries)?;
         self.tickets.reserve(more)
-    }
-
-    /// Adds a call, which is the journal's next event and counts there. It takes no memory.
-    pub(crate) fn add_call(&mut self, stored: Stored<L>, journal: &mut Journal<L>)
-        requires place { stored.at ≡ length journal.old.history }
-        requires journal_room { 0 < journal.old.spare }
-        requires room { 0 < self.old.spare }
-        requires after { front_of self.old.part.entries ≤ length journal.old.history }
-        requires own { stored.event.caller ≡ self.old.part.caller }
-        ensures history { journal.new.history ≡ journal.old.history ++ stored.event ∷ [] }
-        ensures cells { journal.new.cells ≡ journal.old.cells }
-        ensures journal_room { journal.old.spare ≤ journal.new.spare + 1 }
-        ensures part { self.new.part ≡ with_call self.old.part (length journal.old.history) stored.event }
-        ensures room { self.old.spare ≤ self.new.spare + 1 }
-    {
-        self.front = u32::from(stored.at()) + 1;
-        self.calls += 1;
-        journal.add(stored.again(), &mut self.share);
-        self.entries.push_reserved(Entry::call(stored));
     }
 
     /// Adds a ticket of a cell, and answers its number. It takes no memory.

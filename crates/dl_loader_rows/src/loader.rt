@@ -1,7 +1,7 @@
 //! The shared loader of `dl_loader`: worked rows of its calls, each on a loader of its own.
 
-ghost use Rattle.std.specs.Prelude.{◌≡◌, List};
-ghost use Rattle.dl_desk.specs.Key.{Key};
+ghost use Rattle.dl_loader.specs.Opening.{Names};
+ghost use Rattle.std.specs.Prelude.{◌≡◌};
 
 mod closes;
 mod ends;
@@ -115,12 +115,7 @@ fn make_calls<L: LoaderName, S: Source, R: Abort + Wait>(
     row: Row,
 ) -> Result<(), Fail>
     requires source { opening.source ≡ source.now }
-    requires rules { opening.rules ≡ L.rules }
-    requires callers { opening.callers ≡ L.parts }
-    requires answer { (keys : List Key) → S.answer opening.source keys ≡ L.answer keys }
-    requires log { opening.log ≡ L.log }
-    requires outcomes { opening.outcomes ≡ L.outcomes }
-    requires ledger { opening.ledger ≡ L.name }
+    requires names { Names S.answer opening L.service L.parts L.log L.outcomes L.name }
 {
     let (loader, mut passes) = Loader::<L>::start(alloc, opening)?;
     let Some(pass) = passes.pop() else {

@@ -1,8 +1,7 @@
 //! The ends of jobs' batches by what a source answers.
 
-ghost use Rattle.std.specs.Prelude.{◌≡◌, ◌+◌, IfErr, IfOk, List, OnErr, OnOk, length};
-ghost use Rattle.dl_desk.specs.Key.{Key};
-ghost use Rattle.dl_history.specs.Service.{service};
+ghost use Rattle.std.specs.Prelude.{◌≡◌, ◌+◌, IfErr, IfOk, OnErr, OnOk, length};
+ghost use Rattle.dl_history.specs.Service.{Answers};
 ghost use Rattle.dl_workers.specs.Ending.{WasEnded, WasNotEnded, WereEnded, WereEndedBefore};
 
 use dl_desk::Job;
@@ -25,10 +24,10 @@ pub fn end_job<L: LoaderName, S: Source>(
     pass: &mut Pass<L>,
     job: Job,
 ) -> Result<Settled, CallFault>
-    requires source { (keys : List Key) → S.answer source.now keys ≡ L.answer keys }
-    ensures ended { OnOk result (WasEnded (service L.rules L.parts L.answer) pass.old.part job pass.new.part) }
+    requires source { Answers (S.answer source.now) L.service }
+    ensures ended { OnOk result (WasEnded L.service pass.old.part job pass.new.part) }
     ensures each { IfOk result (λ settled. settled.shown + settled.refused ≡ length job.keys) }
-    ensures fault { IfErr result (WasNotEnded (service L.rules L.parts L.answer) pass.old.part job) }
+    ensures fault { IfErr result (WasNotEnded L.service pass.old.part job) }
     ensures unchanged { OnErr result (pass.new.part ≡ pass.old.part) }
     ensures tickets { pass.new.part.tickets ≡ pass.old.part.tickets }
 {
@@ -56,9 +55,9 @@ pub fn end_jobs<L: LoaderName, S: Source>(
     pass: &mut Pass<L>,
     jobs: Vec<Job>,
 ) -> Result<(), CallFault>
-    requires source { (keys : List Key) → S.answer source.now keys ≡ L.answer keys }
-    ensures ended { OnOk result (WereEnded (service L.rules L.parts L.answer) pass.old.part jobs.items pass.new.part) }
-    ensures stopped { OnErr result (WereEndedBefore (service L.rules L.parts L.answer) pass.old.part jobs.items pass.new.part) }
+    requires source { Answers (S.answer source.now) L.service }
+    ensures ended { OnOk result (WereEnded L.service pass.old.part jobs.items pass.new.part) }
+    ensures stopped { OnErr result (WereEndedBefore L.service pass.old.part jobs.items pass.new.part) }
     ensures tickets { pass.new.part.tickets ≡ pass.old.part.tickets }
 {
     for job in jobs {
@@ -75,9 +74,9 @@ fn give_up<L: LoaderName>(
     pass: &mut Pass<L>,
     job: Job,
 ) -> Result<Settled, CallFault>
-    ensures ended { OnOk result (WasEnded (service L.rules L.parts L.answer) pass.old.part job pass.new.part) }
+    ensures ended { OnOk result (WasEnded L.service pass.old.part job pass.new.part) }
     ensures each { IfOk result (λ settled. settled.shown + settled.refused ≡ length job.keys) }
-    ensures fault { IfErr result (WasNotEnded (service L.rules L.parts L.answer) pass.old.part job) }
+    ensures fault { IfErr result (WasNotEnded L.service pass.old.part job) }
     ensures unchanged { OnErr result (pass.new.part ≡ pass.old.part) }
     ensures tickets { pass.new.part.tickets ≡ pass.old.part.tickets }
 {

@@ -13,8 +13,8 @@ ghost use Rattle.dl_loader.specs.Closing.{IsFirstOpen, IsLeastOf, accounts_of};
 use crate::book::Book;
 use crate::loader::unshown::least_unshown;
 use crate::pass::Pass;
-use dl_desk::{BatchState, Desk, Limits};
-use dl_history::{Entry, Journal, LoaderName};
+use dl_desk::{BatchState, Desk};
+use dl_history::{Entry, Journal, LoaderName, Rows};
 use std::sync::ledger::Share;
 
 impl<L: LoaderName> Book<L> {
@@ -40,12 +40,12 @@ impl<L: LoaderName> Book<L> {
     }
 
     /// The least batch that has not ended, sent or not.
-    pub(crate) fn open_batch(&self, limits: Limits) -> Option<u32>
-        requires { limits ≡ L.rules.limits }
+    pub(crate) fn open_batch(&self, rows: &Rows<L>) -> Option<u32>
         ensures open { IfSome result (IsFirstOpen self.now.history) }
         ensures ended { IfNone result (AllEnded self.now.history) }
     {
         self.keeps();
+        let limits = rows.limits();
         for batch in 0..limits.max_cells() {
             match self.has_ended(batch) {
                 Some(true) => {}

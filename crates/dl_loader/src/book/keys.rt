@@ -5,45 +5,43 @@ ghost use Rattle.dl_history.specs.declared.event.Call.TheVariants as made;
 ghost use Rattle.dl_history.specs.declared.event.Reply.TheVariants as reply;
 ghost use Rattle.dl_loader.specs.EventReplies.{refused_by, told_by};
 ghost use Rattle.dl_history.specs.History.{primed};
-ghost use Rattle.dl_history.specs.Service.{service};
 ghost use Rattle.dl_history.specs.Journal.{refusals};
 ghost use Rattle.dl_loader.specs.Made.{Makes};
-ghost use Rattle.dl_loader.specs.Refusals.{IsRefusal, refusal, unready};
+ghost use Rattle.dl_loader.specs.Refusals.{IsRefusal, refusal};
 
 use crate::book::Book;
 use crate::fault::CallFault;
-use crate::loader::Loader;
 use crate::pass::Pass;
 use crate::reply::PrimeReply;
 use dl_desk::{DeskPrime, FetchKey, Job, Outcome};
-use dl_history::{Call, Ending, Event, Jobs, LoaderName, Reply};
+use dl_history::{Call, Ending, Event, Jobs, LoaderName, Reply, Rows};
 use std::alloc::{AllocError, Global};
 
 impl<L: LoaderName> Book<L> {
     /// Makes the event of a clear: the memo forgets the key, if it is held.
     ///
     /// # Errors
-    /// `OutOfMemory`, `LogRefused`. The book and the pass then tell what they told before.
+    /// `Stopped`, `Behind`, `LogFull`, `OutOfMemory`, `LogRefused`. The book and the pass then tell what they told before.
     pub(crate) fn clear(
         &mut self,
         alloc: Global,
-        loader: &Loader<L>,
+        rows: &Rows<L>,
         pass: &mut Pass<L>,
         key: &FetchKey,
     ) -> Result<(), CallFault>
-        requires ready { unready (service L.rules L.parts L.answer) self.old pass.old.part ≡ None }
         ensures made { OnOk result (Makes self.old pass.old.part (made.Clear key.now) reply.Done self.new pass.new.part) }
-        ensures accepted { OnOk result (refusal (service L.rules L.parts L.answer) self.old pass.old.part (made.Clear key.now) None ≡ None) }
+        ensures accepted { OnOk result (refusal L.service self.old pass.old.part (made.Clear key.now) None ≡ None) }
         ensures refused { OnOk result (refusals self.new.cells ≡ refusals self.old.cells) }
-        ensures fault { IfErr result (IsRefusal (service L.rules L.parts L.answer) self.old pass.old.part (made.Clear key.now) None) }
+        ensures fault { IfErr result (IsRefusal L.service self.old pass.old.part (made.Clear key.now) None) }
         ensures unchanged { OnErr result ((self.new ≡ self.old) × (pass.new.part ≡ pass.old.part)) }
     {
+        self.admit(rows, pass)?;
         let event = Event {
             caller: pass.caller(),
             call: Call::Clear(key.try_copy()?),
             reply: Reply::Done,
         };
-        loader.record(alloc, &mut self.journal, pass, event, 0, 0)?;
+        pass.make_event(alloc, rows, &mut self.journal, event, 0, 0)?;
         self.desk.clear(key);
         Ok(())
     }
@@ -51,26 +49,26 @@ impl<L: LoaderName> Book<L> {
     /// Makes the event of a clearAll: the memo forgets all keys.
     ///
     /// # Errors
-    /// `OutOfMemory`, `LogRefused`. The book and the pass then tell what they told before.
+    /// `Stopped`, `Behind`, `LogFull`, `OutOfMemory`, `LogRefused`. The book and the pass then tell what they told before.
     pub(crate) fn clear_all(
         &mut self,
         alloc: Global,
-        loader: &Loader<L>,
+        rows: &Rows<L>,
         pass: &mut Pass<L>,
     ) -> Result<(), CallFault>
-        requires ready { unready (service L.rules L.parts L.answer) self.old pass.old.part ≡ None }
         ensures made { OnOk result (Makes self.old pass.old.part made.ClearAll reply.Done self.new pass.new.part) }
-        ensures accepted { OnOk result (refusal (service L.rules L.parts L.answer) self.old pass.old.part made.ClearAll None ≡ None) }
+        ensures accepted { OnOk result (refusal L.service self.old pass.old.part made.ClearAll None ≡ None) }
         ensures refused { OnOk result (refusals self.new.cells ≡ refusals self.old.cells) }
-        ensures fault { IfErr result (IsRefusal (service L.rules L.parts L.answer) self.old pass.old.part made.ClearAll None) }
+        ensures fault { IfErr result (IsRefusal L.service self.old pass.old.part made.ClearAll None) }
         ensures unchanged { OnErr result ((self.new ≡ self.old) × (pass.new.part ≡ pass.old.part)) }
     {
+        self.admit(rows, pass)?;
         let event = Event {
             caller: pass.caller(),
             call: Call::ClearAll,
             reply: Reply::Done,
         };
-        loader.record(alloc, &mut self.journal, pass, event, 0, 0)?;
+        pass.make_event(alloc, rows, &mut self.journal, event, 0, 0)?;
         self.desk.clear_all();
         Ok(())
     }
@@ -78,27 +76,27 @@ impl<L: LoaderName> Book<L> {
     /// Makes the event of a dispatch: every batch that was begun and not sent is sent, each as a job.
     ///
     /// # Errors
-    /// `OutOfMemory`, `LogRefused`. The book and the pass then tell what they told before.
+    /// `Stopped`, `Behind`, `LogFull`, `OutOfMemory`, `LogRefused`. The book and the pass then tell what they told before.
     pub(crate) fn dispatch(
         &mut self,
         alloc: Global,
-        loader: &Loader<L>,
+        rows: &Rows<L>,
         pass: &mut Pass<L>,
     ) -> Result<Vec<Job>, CallFault>
-        requires ready { unready (service L.rules L.parts L.answer) self.old pass.old.part ≡ None }
         ensures made { IfOk result (λ jobs. Makes self.old pass.old.part made.Dispatch (reply.Sent jobs.items) self.new pass.new.part) }
-        ensures accepted { OnOk result (refusal (service L.rules L.parts L.answer) self.old pass.old.part made.Dispatch None ≡ None) }
+        ensures accepted { OnOk result (refusal L.service self.old pass.old.part made.Dispatch None ≡ None) }
         ensures refused { OnOk result (refusals self.new.cells ≡ refusals self.old.cells) }
-        ensures fault { IfErr result (IsRefusal (service L.rules L.parts L.answer) self.old pass.old.part made.Dispatch None) }
+        ensures fault { IfErr result (IsRefusal L.service self.old pass.old.part made.Dispatch None) }
         ensures unchanged { OnErr result ((self.new ≡ self.old) × (pass.new.part ≡ pass.old.part)) }
     {
+        self.admit(rows, pass)?;
         let jobs = self.desk.prepare_dispatch(alloc)?;
         let event = Event {
             caller: pass.caller(),
             call: Call::Dispatch,
             reply: Reply::Sent(Jobs::copy_of(alloc, jobs.as_slice())?),
         };
-        loader.record(alloc, &mut self.journal, pass, event, 0, 0)?;
+        pass.make_event(alloc, rows, &mut self.journal, event, 0, 0)?;
         self.desk.make_prepared();
         Ok(jobs)
     }
@@ -106,23 +104,23 @@ impl<L: LoaderName> Book<L> {
     /// Makes the event of a prime: a key that isn't held gets a cell that ends with the outcome.
     ///
     /// # Errors
-    /// `CellsFull` where the key isn't held and all cells are begun; `OutOfMemory`, `LogRefused`. The book and
-    /// the pass then tell what they told before.
+    /// `Stopped`, `Behind`, `LogFull`; `CellsFull` where the key isn't held and all cells are begun; `OutOfMemory`,
+    /// `LogRefused`. The book and the pass then tell what they told before.
     pub(crate) fn prime(
         &mut self,
         alloc: Global,
-        loader: &Loader<L>,
+        rows: &Rows<L>,
         pass: &mut Pass<L>,
         key: &FetchKey,
         outcome: &Outcome,
     ) -> Result<PrimeReply, CallFault>
-        requires ready { unready (service L.rules L.parts L.answer) self.old pass.old.part ≡ None }
         ensures made { IfOk result (λ r. Makes self.old pass.old.part (made.Prime key.now outcome.now) (told_by r) self.new pass.new.part) }
-        ensures accepted { OnOk result (refusal (service L.rules L.parts L.answer) self.old pass.old.part (made.Prime key.now outcome.now) None ≡ None) }
+        ensures accepted { OnOk result (refusal L.service self.old pass.old.part (made.Prime key.now outcome.now) None ≡ None) }
         ensures refused { IfOk result (λ r. refusals self.new.cells ≡ refusals self.old.cells + refused_by r) }
-        ensures fault { IfErr result (IsRefusal (service L.rules L.parts L.answer) self.old pass.old.part (made.Prime key.now outcome.now) None) }
+        ensures fault { IfErr result (IsRefusal L.service self.old pass.old.part (made.Prime key.now outcome.now) None) }
         ensures unchanged { OnErr result ((self.new ≡ self.old) × (pass.new.part ≡ pass.old.part)) }
     {
+        self.admit(rows, pass)?;
         let call = Call::Prime(key.try_copy()?, outcome.try_copy()?);
         let primed = self.desk.prepare_prime(key)?;
         let event = Event {
@@ -132,15 +130,15 @@ impl<L: LoaderName> Book<L> {
         };
         match primed {
             DeskPrime::Kept => {
-                loader.record(alloc, &mut self.journal, pass, event, 0, 0)?;
+                pass.make_event(alloc, rows, &mut self.journal, event, 0, 0)?;
                 self.desk.make_prepared();
                 Ok(PrimeReply::Kept)
             }
             DeskPrime::Primed(cell) => {
-                let ending = new_ending(alloc, loader.place(&self.journal), outcome)?;
-                loader.record(alloc, &mut self.journal, pass, event, 1, 0)?;
+                let ending = new_ending(alloc, self.journal.next_place(rows), outcome)?;
+                pass.make_event(alloc, rows, &mut self.journal, event, 1, 0)?;
                 self.desk.make_prepared();
-                let shown = self.journal.end(loader.outcomes(), cell, ending);
+                let shown = self.journal.end(rows, cell, ending);
                 Ok(PrimeReply::Primed { cell, shown })
             }
         }

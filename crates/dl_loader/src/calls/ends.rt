@@ -1,13 +1,12 @@
 //! The ends of batches.
 
-ghost use Rattle.std.specs.Prelude.{◌≡◌, ◌+◌, IfErr, IfOk, List, OnErr, OnOk, Some, length};
-ghost use Rattle.dl_desk.specs.Key.{Key};
+ghost use Rattle.dl_history.specs.Service.{Answers};
+ghost use Rattle.std.specs.Prelude.{◌≡◌, ◌+◌, IfErr, IfOk, OnErr, OnOk, Some, length};
 ghost use Rattle.dl_source.specs.Fetched.{answer_of, job_of, source_of};
 ghost use Rattle.dl_history.specs.declared.event.Call.TheVariants as call;
 ghost use Rattle.dl_history.specs.declared.event.Reply.TheVariants as reply;
 ghost use Rattle.dl_loader.specs.Asks.{end_by, fault_of};
 ghost use Rattle.dl_loader.specs.Made.{WasMade, WasRefused};
-ghost use Rattle.dl_history.specs.Service.{service};
 
 use crate::ask::GiveUp;
 use crate::fault::CallFault;
@@ -34,11 +33,11 @@ impl<L: LoaderName> Loader<L> {
         pass: &mut Pass<L>,
         fetched: Fetched<'s, S>,
     ) -> Result<Settled, (CallFault, Fetched<'s, S>)>
-        requires source { (keys : List Key) → S.answer (source_of fetched) keys ≡ L.answer keys }
-        ensures made { OnOk result (WasMade (service L.rules L.parts L.answer) pass.old.part (end_by (job_of fetched.entry).batch (answer_of fetched.entry)) reply.Done pass.new.part) }
+        requires source { Answers (S.answer (source_of fetched)) L.service }
+        ensures made { OnOk result (WasMade L.service pass.old.part (end_by (job_of fetched.entry).batch (answer_of fetched.entry)) reply.Done pass.new.part) }
         ensures tickets { OnOk result (pass.new.part.tickets ≡ pass.old.part.tickets) }
         ensures each { IfOk result (λ settled. settled.shown + settled.refused ≡ length (job_of fetched.entry).keys) }
-        ensures fault { IfErr result (λ e. WasRefused (service L.rules L.parts L.answer) pass.old.part (end_by (job_of fetched.entry).batch (answer_of fetched.entry)) (Some (job_of fetched.entry)) e.0) }
+        ensures fault { IfErr result (λ e. WasRefused L.service pass.old.part (end_by (job_of fetched.entry).batch (answer_of fetched.entry)) (Some (job_of fetched.entry)) e.0) }
         ensures back { IfErr result (λ e. e.1 ≡ fetched.entry) }
         ensures unchanged { OnErr result (pass.new.part ≡ pass.old.part) }
     {
@@ -61,10 +60,10 @@ impl<L: LoaderName> Loader<L> {
         job: Job,
         give_up: GiveUp,
     ) -> Result<Settled, (CallFault, Job)>
-        ensures made { OnOk result (WasMade (service L.rules L.parts L.answer) pass.old.part (call.Fail job.batch (fault_of give_up)) reply.Done pass.new.part) }
+        ensures made { OnOk result (WasMade L.service pass.old.part (call.Fail job.batch (fault_of give_up)) reply.Done pass.new.part) }
         ensures tickets { OnOk result (pass.new.part.tickets ≡ pass.old.part.tickets) }
         ensures each { IfOk result (λ settled. settled.shown + settled.refused ≡ length job.keys) }
-        ensures fault { IfErr result (λ e. WasRefused (service L.rules L.parts L.answer) pass.old.part (call.Fail job.batch (fault_of give_up)) (Some job) e.0) }
+        ensures fault { IfErr result (λ e. WasRefused L.service pass.old.part (call.Fail job.batch (fault_of give_up)) (Some job) e.0) }
         ensures back { IfErr result (λ e. e.1 ≡ job) }
         ensures unchanged { OnErr result (pass.new.part ≡ pass.old.part) }
     {
@@ -82,20 +81,19 @@ impl<L: LoaderName> Loader<L> {
         pass: &mut Pass<L>,
         fetched: &Fetched<'_, S>,
     ) -> Result<Settled, CallFault>
-        requires source { (keys : List Key) → S.answer (source_of fetched.now) keys ≡ L.answer keys }
-        ensures made { OnOk result (WasMade (service L.rules L.parts L.answer) pass.old.part (end_by (job_of fetched.now).batch (answer_of fetched.now)) reply.Done pass.new.part) }
+        requires source { Answers (S.answer (source_of fetched.now)) L.service }
+        ensures made { OnOk result (WasMade L.service pass.old.part (end_by (job_of fetched.now).batch (answer_of fetched.now)) reply.Done pass.new.part) }
         ensures tickets { OnOk result (pass.new.part.tickets ≡ pass.old.part.tickets) }
         ensures each { IfOk result (λ settled. settled.shown + settled.refused ≡ length (job_of fetched.now).keys) }
-        ensures fault { IfErr result (WasRefused (service L.rules L.parts L.answer) pass.old.part (end_by (job_of fetched.now).batch (answer_of fetched.now)) (Some (job_of fetched.now))) }
+        ensures fault { IfErr result (WasRefused L.service pass.old.part (end_by (job_of fetched.now).batch (answer_of fetched.now)) (Some (job_of fetched.now))) }
         ensures unchanged { OnErr result (pass.new.part ≡ pass.old.part) }
     {
-        let mut guard = self.book().lock(rt);
+        let mut guard = self.book.lock(rt);
         let book = &mut *guard;
         book.keeps();
-        book.admit(self, pass)?;
-        let settled = book.settle(alloc, self, pass, fetched)?;
+        let settled = book.settle(alloc, &self.rows, pass, fetched)?;
         book.keeps();
-        self.wake();
+        self.changed.notify_all();
         Ok(settled)
     }
 
@@ -108,19 +106,18 @@ impl<L: LoaderName> Loader<L> {
         job: &Job,
         give_up: GiveUp,
     ) -> Result<Settled, CallFault>
-        ensures made { OnOk result (WasMade (service L.rules L.parts L.answer) pass.old.part (call.Fail job.now.batch (fault_of give_up)) reply.Done pass.new.part) }
+        ensures made { OnOk result (WasMade L.service pass.old.part (call.Fail job.now.batch (fault_of give_up)) reply.Done pass.new.part) }
         ensures tickets { OnOk result (pass.new.part.tickets ≡ pass.old.part.tickets) }
         ensures each { IfOk result (λ settled. settled.shown + settled.refused ≡ length job.now.keys) }
-        ensures fault { IfErr result (WasRefused (service L.rules L.parts L.answer) pass.old.part (call.Fail job.now.batch (fault_of give_up)) (Some job.now)) }
+        ensures fault { IfErr result (WasRefused L.service pass.old.part (call.Fail job.now.batch (fault_of give_up)) (Some job.now)) }
         ensures unchanged { OnErr result (pass.new.part ≡ pass.old.part) }
     {
-        let mut guard = self.book().lock(rt);
+        let mut guard = self.book.lock(rt);
         let book = &mut *guard;
         book.keeps();
-        book.admit(self, pass)?;
-        let settled = book.fail(alloc, self, pass, job, give_up)?;
+        let settled = book.fail(alloc, &self.rows, pass, job, give_up)?;
         book.keeps();
-        self.wake();
+        self.changed.notify_all();
         Ok(settled)
     }
 }

@@ -5,7 +5,6 @@ ghost use Rattle.dl_history.specs.declared.event.Call.TheVariants as call;
 ghost use Rattle.dl_history.specs.declared.event.Reply.TheVariants as reply;
 ghost use Rattle.dl_loader.specs.EventReplies.{told_by};
 ghost use Rattle.dl_loader.specs.Made.{WasMade, WasRefused};
-ghost use Rattle.dl_history.specs.Service.{service};
 
 use crate::fault::CallFault;
 use crate::loader::Loader;
@@ -31,16 +30,15 @@ impl<L: LoaderName> Loader<L> {
         key: &FetchKey,
         outcome: Outcome,
     ) -> Result<PrimeReply, CallFault>
-        ensures made { IfOk result (λ r. WasMade (service L.rules L.parts L.answer) pass.old.part (call.Prime key.now outcome) (told_by r) pass.new.part) }
+        ensures made { IfOk result (λ r. WasMade L.service pass.old.part (call.Prime key.now outcome) (told_by r) pass.new.part) }
         ensures tickets { OnOk result (pass.new.part.tickets ≡ pass.old.part.tickets) }
-        ensures fault { IfErr result (WasRefused (service L.rules L.parts L.answer) pass.old.part (call.Prime key.now outcome) None) }
+        ensures fault { IfErr result (WasRefused L.service pass.old.part (call.Prime key.now outcome) None) }
         ensures unchanged { OnErr result (pass.new.part ≡ pass.old.part) }
     {
-        let mut guard = self.book().lock(rt);
+        let mut guard = self.book.lock(rt);
         let book = &mut *guard;
         book.keeps();
-        book.admit(self, pass)?;
-        let reply = book.prime(alloc, self, pass, key, &outcome)?;
+        let reply = book.prime(alloc, &self.rows, pass, key, &outcome)?;
         book.keeps();
         Ok(reply)
     }
@@ -56,16 +54,15 @@ impl<L: LoaderName> Loader<L> {
         pass: &mut Pass<L>,
         key: &FetchKey,
     ) -> Result<(), CallFault>
-        ensures made { OnOk result (WasMade (service L.rules L.parts L.answer) pass.old.part (call.Clear key.now) reply.Done pass.new.part) }
+        ensures made { OnOk result (WasMade L.service pass.old.part (call.Clear key.now) reply.Done pass.new.part) }
         ensures tickets { OnOk result (pass.new.part.tickets ≡ pass.old.part.tickets) }
-        ensures fault { IfErr result (WasRefused (service L.rules L.parts L.answer) pass.old.part (call.Clear key.now) None) }
+        ensures fault { IfErr result (WasRefused L.service pass.old.part (call.Clear key.now) None) }
         ensures unchanged { OnErr result (pass.new.part ≡ pass.old.part) }
     {
-        let mut guard = self.book().lock(rt);
+        let mut guard = self.book.lock(rt);
         let book = &mut *guard;
         book.keeps();
-        book.admit(self, pass)?;
-        book.clear(alloc, self, pass, key)?;
+        book.clear(alloc, &self.rows, pass, key)?;
         book.keeps();
         Ok(())
     }
@@ -80,16 +77,15 @@ impl<L: LoaderName> Loader<L> {
         alloc: Global,
         pass: &mut Pass<L>,
     ) -> Result<(), CallFault>
-        ensures made { OnOk result (WasMade (service L.rules L.parts L.answer) pass.old.part call.ClearAll reply.Done pass.new.part) }
+        ensures made { OnOk result (WasMade L.service pass.old.part call.ClearAll reply.Done pass.new.part) }
         ensures tickets { OnOk result (pass.new.part.tickets ≡ pass.old.part.tickets) }
-        ensures fault { IfErr result (WasRefused (service L.rules L.parts L.answer) pass.old.part call.ClearAll None) }
+        ensures fault { IfErr result (WasRefused L.service pass.old.part call.ClearAll None) }
         ensures unchanged { OnErr result (pass.new.part ≡ pass.old.part) }
     {
-        let mut guard = self.book().lock(rt);
+        let mut guard = self.book.lock(rt);
         let book = &mut *guard;
         book.keeps();
-        book.admit(self, pass)?;
-        book.clear_all(alloc, self, pass)?;
+        book.clear_all(alloc, &self.rows, pass)?;
         book.keeps();
         Ok(())
     }
@@ -104,16 +100,15 @@ impl<L: LoaderName> Loader<L> {
         alloc: Global,
         pass: &mut Pass<L>,
     ) -> Result<Vec<Job>, CallFault>
-        ensures made { IfOk result (λ jobs. WasMade (service L.rules L.parts L.answer) pass.old.part call.Dispatch (reply.Sent jobs.items) pass.new.part) }
+        ensures made { IfOk result (λ jobs. WasMade L.service pass.old.part call.Dispatch (reply.Sent jobs.items) pass.new.part) }
         ensures tickets { OnOk result (pass.new.part.tickets ≡ pass.old.part.tickets) }
-        ensures fault { IfErr result (WasRefused (service L.rules L.parts L.answer) pass.old.part call.Dispatch None) }
+        ensures fault { IfErr result (WasRefused L.service pass.old.part call.Dispatch None) }
         ensures unchanged { OnErr result (pass.new.part ≡ pass.old.part) }
     {
-        let mut guard = self.book().lock(rt);
+        let mut guard = self.book.lock(rt);
         let book = &mut *guard;
         book.keeps();
-        book.admit(self, pass)?;
-        let jobs = book.dispatch(alloc, self, pass)?;
+        let jobs = book.dispatch(alloc, &self.rows, pass)?;
         book.keeps();
         Ok(jobs)
     }

@@ -5,7 +5,6 @@ ghost use Rattle.dl_history.specs.declared.event.Call.TheVariants as call;
 ghost use Rattle.dl_history.specs.declared.event.Reply.TheVariants as reply;
 ghost use Rattle.dl_loader.specs.Made.{WasMade, WasRefused};
 ghost use Rattle.dl_loader.specs.Pass.{Gave, GaveAll};
-ghost use Rattle.dl_history.specs.Service.{service};
 
 use crate::fault::CallFault;
 use crate::loader::Loader;
@@ -29,20 +28,19 @@ impl<L: LoaderName> Loader<L> {
         pass: &mut Pass<L>,
         key: &FetchKey,
     ) -> Result<Ticket<'a, L>, CallFault>
-        ensures made { IfOk result (λ ticket. WasMade (service L.rules L.parts L.answer) pass.old.part (call.Load key.now) (reply.Loaded ticket.reply) pass.new.part) }
+        ensures made { IfOk result (λ ticket. WasMade L.service pass.old.part (call.Load key.now) (reply.Loaded ticket.reply) pass.new.part) }
         ensures number { IfOk result (λ ticket. ticket.number ≡ length pass.old.part.tickets) }
         ensures gave { IfOk result (λ ticket. Gave pass.new.part ticket false) }
-        ensures fault { IfErr result (WasRefused (service L.rules L.parts L.answer) pass.old.part (call.Load key.now) None) }
+        ensures fault { IfErr result (WasRefused L.service pass.old.part (call.Load key.now) None) }
         ensures unchanged { OnErr result (pass.new.part ≡ pass.old.part) }
     {
-        let mut guard = self.book().lock(rt);
+        let mut guard = self.book.lock(rt);
         let book = &mut *guard;
         book.keeps();
-        book.admit(self, pass)?;
         let number = pass.tickets();
-        let reply = book.load(alloc, self, pass, key)?;
+        let reply = book.load(alloc, &self.rows, pass, key)?;
         book.keeps();
-        Ok(book.ticket(self, number, reply))
+        Ok(book.ticket(&self.rows, number, reply))
     }
 
     /// Loads keys in order, as one call, and answers a ticket for each (DataLoader: `loadMany`).
@@ -57,19 +55,18 @@ impl<L: LoaderName> Loader<L> {
         pass: &mut Pass<L>,
         keys: &[FetchKey],
     ) -> Result<Vec<Ticket<'a, L>>, CallFault>
-        ensures made { IfOk result (λ tickets. WasMade (service L.rules L.parts L.answer) pass.old.part (call.LoadMany keys.now) (reply.Many (map (λ t. t.reply) tickets.items)) pass.new.part) }
+        ensures made { IfOk result (λ tickets. WasMade L.service pass.old.part (call.LoadMany keys.now) (reply.Many (map (λ t. t.reply) tickets.items)) pass.new.part) }
         ensures gave { IfOk result (λ tickets. GaveAll pass.new.part (length pass.old.part.tickets) tickets.items) }
-        ensures fault { IfErr result (WasRefused (service L.rules L.parts L.answer) pass.old.part (call.LoadMany keys.now) None) }
+        ensures fault { IfErr result (WasRefused L.service pass.old.part (call.LoadMany keys.now) None) }
         ensures unchanged { OnErr result (pass.new.part ≡ pass.old.part) }
     {
-        let mut guard = self.book().lock(rt);
+        let mut guard = self.book.lock(rt);
         let book = &mut *guard;
         book.keeps();
-        book.admit(self, pass)?;
         let mut tickets = Vec::with_capacity(alloc, keys.len())?;
-        let replies = book.load_many(alloc, self, pass, keys)?;
+        let replies = book.load_many(alloc, &self.rows, pass, keys)?;
         book.keeps();
-        book.make_tickets(self, pass, replies.as_slice(), &mut tickets);
+        book.make_tickets(&self.rows, pass, replies.as_slice(), &mut tickets);
         Ok(tickets)
     }
 }

@@ -1,7 +1,6 @@
 //! The accounts of the passes of a loader that is closed, and the history that it leaves.
 
 ghost use Rattle.std.specs.Prelude.{◌≡◌, ◌+◌, ◌≤◌, [], MatchOption, length, sum_by, vec_capacity};
-ghost use Rattle.dl_cells.specs.Cells.{row_len};
 ghost use Rattle.dl_history.specs.Agrees.{Fits, places_of};
 ghost use Rattle.dl_history.specs.Lists.{Every};
 ghost use Rattle.dl_history.specs.Service.{AnswersEach};
@@ -9,24 +8,20 @@ ghost use Rattle.dl_loader.specs.Closing.{MayClose, accounts_of};
 
 use crate::book::Book;
 use crate::pass::Pass;
-use dl_cells::CellRow;
-use dl_history::{Account, Ending, Event, History, LoaderName};
+use dl_history::{Account, History, LoaderName, Rows};
 use std::sync::ledger::Share;
 
 /// The history of a loader that may be closed with these passes. It takes no memory beside the room for
 /// their accounts.
 pub(crate) fn history_of<L: LoaderName>(
-    log: CellRow<Event>,
-    outcomes: CellRow<Ending>,
+    rows: Rows<L>,
     mut book: Book<L>,
     passes: Vec<Pass<L>>,
     room: Vec<Account<L>>,
 ) -> History<L>
-    requires log { log ≡ L.log }
-    requires outcomes { outcomes ≡ L.outcomes }
-    requires in_row { length book.cells ≤ row_len L.outcomes }
-    requires answers { AnswersEach L.answer }
-    requires may { MayClose L.parts book (accounts_of passes.items) }
+    requires parts { L.parts ≡ L.service.callers }
+    requires answers { AnswersEach L.service.answer }
+    requires may { MayClose L.service.callers book (accounts_of passes.items) }
     requires none { room.items ≡ [] }
     requires fits { length passes.items ≤ vec_capacity room }
     ensures events { result.events ≡ book.history }
@@ -36,7 +31,7 @@ pub(crate) fn history_of<L: LoaderName>(
     let (accounts, all) = gather(&book, passes, room);
     count(&mut book, all);
     let (desk, journal) = book.into_parts();
-    History::of(log, outcomes, desk, journal, accounts)
+    History::of(rows, desk, journal, accounts)
 }
 
 // The accounts of the passes, of which each entry tells what the book has, and their parts of the ledger.
@@ -48,7 +43,7 @@ fn gather<L: LoaderName>(
     requires none { room.items ≡ [] }
     requires fits { length passes.items ≤ vec_capacity room }
     ensures accounts { result.0.items ≡ accounts_of passes.items }
-    ensures fits { Every (Fits L.parts book.now.history book.now.cells) result.0.items }
+    ensures fits { Every (Fits L.service.callers book.now.history book.now.cells) result.0.items }
     ensures parts { MatchOption result.1 (length passes.items ≡ 0) (λ all. all.parts ≡ length passes.items) }
     ensures amount { MatchOption result.1 (length passes.items ≡ 0) (λ all. all.amount ≡ sum_by (λ a. length (places_of a.entries)) result.0.items) }
 {
@@ -79,7 +74,8 @@ fn joined<L: LoaderName>(all: Option<Share<L>>, share: Share<L>) -> Share<L>
 
 // The parts of the ledger, if there are any, have counted as many calls as there are events.
 fn count<L: LoaderName>(book: &mut Book<L>, all: Option<Share<L>>)
-    requires { MatchOption all (L.parts ≡ 0) (λ all. all.parts ≡ L.parts) }
+    requires parts { L.parts ≡ L.service.callers }
+    requires all { MatchOption all (L.service.callers ≡ 0) (λ all. all.parts ≡ L.service.callers) }
     ensures same { book.new ≡ book.old }
     ensures counted { MatchOption all (length book.old.history ≡ 0) (λ all. all.amount ≡ length book.old.history) }
 {

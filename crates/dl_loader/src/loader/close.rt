@@ -6,15 +6,13 @@ ghost use Rattle.dl_loader.specs.Closing.{accounts_of, IsBehind, MayClose, Refus
 ghost use Rattle.dl_loader.specs.Book.{Keeps, Locked};
 ghost use Rattle.dl_history.specs.History.{AllEnded, IsLegal};
 ghost use Rattle.dl_history.specs.Lists.{Every};
-ghost use Rattle.dl_history.specs.Service.{service};
 
 use crate::book::Book;
 use crate::fault::CloseFault;
 use crate::loader::Loader;
 use crate::loader::accounts::history_of;
 use crate::pass::Pass;
-use dl_desk::Limits;
-use dl_history::{Account, History, LoaderName};
+use dl_history::{Account, History, LoaderName, Rows};
 use std::alloc::Global;
 use std::sync::Mutex;
 
@@ -29,37 +27,33 @@ impl<L: LoaderName> Loader<L> {
         alloc: Global,
         passes: Vec<Pass<L>>,
     ) -> Result<History<L>, (CloseFault, Loader<L>, Vec<Pass<L>>)>
-        ensures legal { IfOk result (λ h. IsLegal (service L.rules L.parts L.answer) h.events) }
+        ensures legal { IfOk result (λ h. IsLegal L.service h.events) }
         ensures accounts { IfOk result (λ h. h.accounts ≡ accounts_of passes.items) }
-        ensures each { IfOk result (λ h. HasEach L.parts h.accounts) }
+        ensures each { IfOk result (λ h. HasEach L.service.callers h.accounts) }
         ensures agree { IfOk result (λ h. Every (Agrees h.events) h.accounts) }
         ensures ended { IfOk result (λ h. AllEnded h.events) }
-        ensures fault { IfErr result (λ e. (b : Locked) × Keeps (service L.rules L.parts L.answer) b × RefusesClose L.parts b (accounts_of passes.items) e.0) }
+        ensures fault { IfErr result (λ e. (b : Locked) × Keeps L.service b × RefusesClose L.service.callers b (accounts_of passes.items) e.0) }
         ensures loader { IfErr result (λ e. e.1 ≡ self) }
         ensures passes { IfErr result (λ e. e.2.items ≡ passes.items) }
     {
         let Loader {
-            limits,
             callers,
-            log,
-            outcomes,
+            rows,
             book,
             changed,
         } = self;
         let book = book.into_inner();
         book.keeps();
-        match room(alloc, limits, callers, &book, passes.as_slice()) {
+        match room(alloc, &rows, callers, &book, passes.as_slice()) {
             Ok(accounts) => {
-                let history = history_of(log, outcomes, book, passes, accounts);
+                let history = history_of(rows, book, passes, accounts);
                 history.keeps();
                 Ok(history)
             }
             Err(fault) => {
                 let loader = Loader {
-                    limits,
                     callers,
-                    log,
-                    outcomes,
+                    rows,
                     book: Mutex::new(book),
                     changed,
                 };
@@ -72,33 +66,31 @@ impl<L: LoaderName> Loader<L> {
 // Room for the accounts of the passes, where the loader may be closed with them.
 fn room<L: LoaderName>(
     alloc: Global,
-    limits: Limits,
+    rows: &Rows<L>,
     callers: u32,
     book: &Book<L>,
     passes: &[Pass<L>],
 ) -> Result<Vec<Account<L>>, CloseFault>
-    requires limits { limits ≡ L.rules.limits }
-    requires callers { callers ≡ L.parts }
-    ensures may { OnOk result (MayClose L.parts book.now (accounts_of passes.now)) }
+    requires callers { callers ≡ L.service.callers }
+    ensures may { OnOk result (MayClose L.service.callers book.now (accounts_of passes.now)) }
     ensures none { IfOk result (λ accounts. accounts.items ≡ []) }
     ensures room { IfOk result (λ accounts. length passes.now ≤ vec_capacity accounts) }
-    ensures fault { IfErr result (RefusesClose L.parts book.now (accounts_of passes.now)) }
+    ensures fault { IfErr result (RefusesClose L.service.callers book.now (accounts_of passes.now)) }
 {
-    check(limits, callers, book, passes)?;
+    check(rows, callers, book, passes)?;
     Ok(Vec::with_capacity(alloc, passes.len())?)
 }
 
 // Whether the loader may be closed with these passes, but for want of memory.
 fn check<L: LoaderName>(
-    limits: Limits,
+    rows: &Rows<L>,
     callers: u32,
     book: &Book<L>,
     passes: &[Pass<L>],
 ) -> Result<(), CloseFault>
-    requires limits { limits ≡ L.rules.limits }
-    requires callers { callers ≡ L.parts }
-    ensures may { OnOk result (MayClose L.parts book.now (accounts_of passes.now)) }
-    ensures fault { IfErr result (RefusesClose L.parts book.now (accounts_of passes.now)) }
+    requires callers { callers ≡ L.service.callers }
+    ensures may { OnOk result (MayClose L.service.callers book.now (accounts_of passes.now)) }
+    ensures fault { IfErr result (RefusesClose L.service.callers book.now (accounts_of passes.now)) }
 {
     let got = present(callers, passes);
     if got < callers {
@@ -112,7 +104,7 @@ fn check<L: LoaderName>(
     if let Some(cell) = book.unshown(passes) {
         return Err(CloseFault::Unshown { cell });
     }
-    match book.open_batch(limits) {
+    match book.open_batch(rows) {
         Some(batch) => Err(CloseFault::Unsettled { batch }),
         None => Ok(()),
     }

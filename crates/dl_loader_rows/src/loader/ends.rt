@@ -1,8 +1,7 @@
 //! Ends of batches that are refused, and loaders that are stopped.
 
-ghost use Rattle.std.specs.Prelude.{◌≡◌, List};
-ghost use Rattle.dl_desk.specs.Key.{Key};
 
+ghost use Rattle.dl_history.specs.Service.{Answers};
 use super::steps::{assert_ends, assert_job, close, not_closed, only_job, settle_job, user};
 use dl_desk::{FetchKey, Job, Keys};
 use dl_loader::{CallFault, CloseFault, GiveUp, Loader, LoaderName, Pass, Stopped};
@@ -22,7 +21,7 @@ pub(super) fn try_ends<L: LoaderName, S: Source, R: Abort + Wait>(
     loader: Loader<L>,
     mut pass: Pass<L>,
 ) -> Result<(), Fail>
-    requires source { (keys : List Key) → S.answer source.now keys ≡ L.answer keys }
+    requires source { Answers (S.answer source.now) L.service }
 {
     refuse_ends(rt, alloc, source, &loader, &mut pass)?;
     let history = close(alloc, loader, pass)?;
@@ -38,7 +37,7 @@ fn refuse_ends<L: LoaderName, S: Source, R: Abort + Wait>(
     loader: &Loader<L>,
     pass: &mut Pass<L>,
 ) -> Result<(), Fail>
-    requires source { (keys : List Key) → S.answer source.now keys ≡ L.answer keys }
+    requires source { Answers (S.answer source.now) L.service }
 {
     let key = user(alloc, "u1")?;
     let other = user(alloc, "u2")?;
@@ -103,7 +102,7 @@ fn assert_no_settle<L: LoaderName, S: Source, R: Abort + Wait>(
     job: Job,
     key: &FetchKey,
 ) -> Result<(), Fail>
-    requires source { (keys : List Key) → S.answer source.now keys ≡ L.answer keys }
+    requires source { Answers (S.answer source.now) L.service }
 {
     let Ok(fetched) = fetch_job(alloc, source, job) else {
         return Err("no memory".into());

@@ -1,8 +1,7 @@
 //! One load, until its outcome is read, its key forgotten and the loader closed.
 
-ghost use Rattle.std.specs.Prelude.{◌≡◌, List};
-ghost use Rattle.dl_desk.specs.Key.{Key};
 
+ghost use Rattle.dl_history.specs.Service.{Answers};
 use super::steps::{
     ADA, assert_ends, assert_entries, assert_shows, close, only_job, settle_job, user,
 };
@@ -33,7 +32,7 @@ pub(super) fn load_to_the_end<L: LoaderName, S: Source, R: Abort + Wait>(
     loader: Loader<L>,
     mut pass: Pass<L>,
 ) -> Result<(), Fail>
-    requires source { (keys : List Key) → S.answer source.now keys ≡ L.answer keys }
+    requires source { Answers (S.answer source.now) L.service }
 {
     make_calls(rt, alloc, source, &loader, &mut pass)?;
     let history = close(alloc, loader, pass)?;
@@ -48,7 +47,7 @@ fn make_calls<L: LoaderName, S: Source, R: Abort + Wait>(
     loader: &Loader<L>,
     pass: &mut Pass<L>,
 ) -> Result<(), Fail>
-    requires source { (keys : List Key) → S.answer source.now keys ≡ L.answer keys }
+    requires source { Answers (S.answer source.now) L.service }
 {
     let key = user(alloc, "u1")?;
     load_and_read(rt, alloc, source, loader, pass, &key)?;
@@ -70,7 +69,7 @@ fn load_and_read<L: LoaderName, S: Source, R: Abort + Wait>(
     pass: &mut Pass<L>,
     key: &FetchKey,
 ) -> Result<(), Fail>
-    requires source { (keys : List Key) → S.answer source.now keys ≡ L.answer keys }
+    requires source { Answers (S.answer source.now) L.service }
 {
     let mut ticket = loader.load(rt, alloc, pass, key)?;
     assert_eq!(rt; ticket.reply(), LoadReply::Fresh { cell: 0, batch: 0 });

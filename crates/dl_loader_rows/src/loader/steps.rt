@@ -1,7 +1,7 @@
 //! What the rows of calls share: calls with their answers, and what is asked of a history.
 
-ghost use Rattle.std.specs.Prelude.{◌≡◌, IsSome, List, OnOk};
-ghost use Rattle.dl_desk.specs.Key.{Key};
+ghost use Rattle.dl_history.specs.Service.{Answers};
+ghost use Rattle.std.specs.Prelude.{◌≡◌, IsSome, OnOk};
 
 use dl_desk::{FetchKey, Job, LoadReply};
 use dl_fixtures::outcome_text;
@@ -57,7 +57,7 @@ pub(super) fn settle_job<L: LoaderName, S: Source, R: Abort + Wait>(
     pass: &mut Pass<L>,
     job: Job,
 ) -> Result<(), Fail>
-    requires source { (keys : List Key) → S.answer source.now keys ≡ L.answer keys }
+    requires source { Answers (S.answer source.now) L.service }
     ensures { OnOk result (pass.new.part.tickets ≡ pass.old.part.tickets) }
 {
     let Ok(fetched) = fetch_job(alloc, source, job) else {

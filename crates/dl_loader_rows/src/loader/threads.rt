@@ -1,7 +1,8 @@
 //! One key that two callers load, each on a thread of its own.
 
-ghost use Rattle.std.specs.Prelude.{◌≡◌, false, IfOk, List, OnOk};
-ghost use Rattle.dl_desk.specs.Key.{Key};
+ghost use Rattle.dl_history.specs.Service.{Answers};
+ghost use Rattle.dl_loader.specs.Opening.{Names};
+ghost use Rattle.std.specs.Prelude.{◌≡◌, false, IfOk};
 ghost use Rattle.dl_loader.specs.Pass.{Gave};
 
 use super::steps::{ADA, assert_ends, assert_entries, assert_shows, only_job, settle_job, user};
@@ -24,12 +25,7 @@ pub(super) fn load_by_two<L: LoaderName + Send + Sync, S: Source, R: Abort + Thr
     opening: Opening<'_, S>,
 ) -> Result<(), Fail>
     requires source { opening.source ≡ source.now }
-    requires rules { opening.rules ≡ L.rules }
-    requires callers { opening.callers ≡ L.parts }
-    requires answer { (keys : List Key) → S.answer opening.source keys ≡ L.answer keys }
-    requires log { opening.log ≡ L.log }
-    requires outcomes { opening.outcomes ≡ L.outcomes }
-    requires ledger { opening.ledger ≡ L.name }
+    requires names { Names S.answer opening L.service L.parts L.log L.outcomes L.name }
 {
     let (loader, mut passes) = Loader::<L>::start(alloc, opening)?;
     let (Some(other), Some(one)) = (passes.pop(), passes.pop()) else {
@@ -53,7 +49,7 @@ fn read_by_two<L: LoaderName + Send + Sync, S: Source, R: Abort + Threads + Wait
     one: Pass<L>,
     other: Pass<L>,
 ) -> Result<(Pass<L>, Pass<L>), Fail>
-    requires source { (keys : List Key) → S.answer source.now keys ≡ L.answer keys }
+    requires source { Answers (S.answer source.now) L.service }
 {
     let key = user(alloc, "u1")?;
     let (one, other) = start_threads(rt, alloc, loader, &key, one, other)?;

@@ -1,7 +1,8 @@
 //! How a program uses the shared loader: callers on threads of their own load one key, and the loader is closed.
 
-ghost use Rattle.std.specs.Prelude.{◌≡◌, List};
-ghost use Rattle.dl_desk.specs.Key.{Key};
+ghost use Rattle.dl_history.specs.Service.{Answers};
+ghost use Rattle.dl_loader.specs.Opening.{Names};
+ghost use Rattle.std.specs.Prelude.{◌≡◌};
 
 use super::steps::ADA;
 use dl_desk::FetchKey;
@@ -23,12 +24,7 @@ pub(super) fn load_by_each<
     R: Abort + Threads + Wait + Sync,
 >(rt: &R, alloc: Global, source: &S, opening: Opening<'_, S>, key: &FetchKey) -> Result<(), Fail>
     requires source { opening.source ≡ source.now }
-    requires rules { opening.rules ≡ L.rules }
-    requires callers { opening.callers ≡ L.parts }
-    requires answer { (keys : List Key) → S.answer opening.source keys ≡ L.answer keys }
-    requires log { opening.log ≡ L.log }
-    requires outcomes { opening.outcomes ≡ L.outcomes }
-    requires ledger { opening.ledger ≡ L.name }
+    requires names { Names S.answer opening L.service L.parts L.log L.outcomes L.name }
 {
     let (loader, mut passes) = Loader::<L>::start(alloc, opening)?;
     start_threads(rt, alloc, source, &loader, passes.as_mut_slice(), key);
@@ -47,14 +43,14 @@ fn start_threads<L: LoaderName + Send + Sync, S: Source + Sync, R: Threads + Wai
     passes: &mut [Pass<L>],
     key: &FetchKey,
 )
-    requires { (keys : List Key) → S.answer source.now keys ≡ L.answer keys }
+    requires { Answers (S.answer source.now) L.service }
 {
     thread::for_each_mut(
         rt,
         passes,
         MOST_CALLERS as usize,
         &|_: usize, pass: &mut Pass<L>|
-            requires { (keys : List Key) → S.answer source.now keys ≡ L.answer keys }
+            requires { Answers (S.answer source.now) L.service }
         { load_or_stop(rt, alloc, source, loader, pass, key) },
     );
 }
@@ -68,7 +64,7 @@ fn load_or_stop<L: LoaderName, S: Source, R: Wait>(
     pass: &mut Pass<L>,
     key: &FetchKey,
 )
-    requires { (keys : List Key) → S.answer source.now keys ≡ L.answer keys }
+    requires { Answers (S.answer source.now) L.service }
 {
     if load(rt, alloc, source, loader, pass, key).is_err() {
         loader.stop(rt);
@@ -84,7 +80,7 @@ fn load<L: LoaderName, S: Source, R: Wait>(
     pass: &mut Pass<L>,
     key: &FetchKey,
 ) -> Result<(), CallFault>
-    requires { (keys : List Key) → S.answer source.now keys ≡ L.answer keys }
+    requires { Answers (S.answer source.now) L.service }
 {
     let mut ticket = loader.load(rt, alloc, pass, key)?;
     let jobs = loader.dispatch(rt, alloc, pass)?;

@@ -11,7 +11,7 @@ end-requires-clause-in_row g c =
     let turn = YieldsList-turn all c.loop-due.yielded _ c.loop-due.yielded_by _ c.next.new.self c.in-Some.due c.in-Some.is c.next.ensures.steps in
     let front = front_is c.loop-due.yielded c.args.dues.items (YieldsList-so_far all c.loop-due.yielded _ c.loop-due.yielded_by) in
     let waits = next_waits c.args.dues.items c.loop-due.yielded c.args.journal.now.cells c.loop-due.journal.cells c.in-Some.due c.requires.can front turn.0 turn.1 c.loop-due.invariant.given in
-    next_inside c.args.dues.items c.loop-due.yielded c.args.journal.now.cells c.loop-due.journal.cells c.in-Some.due _ c.requires.in_row c.loop-due.invariant.given waits
+    next_inside c.args.dues.items c.loop-due.yielded c.args.journal.now.cells c.loop-due.journal.cells c.in-Some.due _ c.requires.fits c.loop-due.invariant.given waits
 
 pub end-requires-clause-waits : goal.end-requires-clause-waits
 end-requires-clause-waits g c =

@@ -19,7 +19,7 @@ on_err (Err e) p = p
 
 pub returns-in_err-end_job-clause-stopped : goal.returns-in_err-end_job-clause-stopped
 returns-in_err-end_job-clause-stopped g c =
-    let s : Service = service g.L.LoaderName.rules g.L.Ledger.parts g.L.LoaderName.answer in
+    let s : Service = g.L.LoaderName.service in
     let all = YieldsList-from_vec c.args.jobs.items (search rules) (search rules) in
     let turn = YieldsList-turn all c.loop-job.yielded _ c.loop-job.yielded_by _ c.next.new.self c.in-Some.job c.in-Some.is c.next.ensures.steps in
     let so_far = YieldsList-so_far all c.loop-job.yielded _ c.loop-job.yielded_by in

@@ -7,6 +7,6 @@ abbrev pub invariant-loop-job : goal.invariant-loop-job
 invariant-loop-job g l = record {
   can_next : (goal.iterator-loop-job g).can_next l.job-iterator;
   is_finite : (goal.iterator-loop-job g).is_finite l.job-iterator;
-  ended : WereEnded (service g.L.LoaderName.rules g.L.Ledger.parts g.L.LoaderName.answer) l.fn.pass.part l.yielded l.pass.part;
+  ended : WereEnded g.L.LoaderName.service l.fn.pass.part l.yielded l.pass.part;
   tickets : l.pass.part.tickets ≡ l.fn.pass.part.tickets;
 }

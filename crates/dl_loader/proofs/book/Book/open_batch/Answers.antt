@@ -1,11 +1,10 @@
 use Rattle.std.proofs.Common.{ap, arith}
-use Rattle.dl_history.specs.Service.{service}
 use Rattle.dl_loader.proofs.ClosingLemmas.{all_ended}
 use Rattle.dl_loader.proofs.book.Book.open_batch.Goals as goal
 
 pub returns-clause-ended : goal.returns-clause-ended
 returns-clause-ended g c =
-    let limits = ap (λ l. l.max_cells) c.requires in
+    let limits = ap (λ l. l.max_cells) c.limits-limits.ensures.own in
     let end = c.max_cells-batch-end.ensures.value in
     let past = c.loop-batch-test.false in
-    all_ended (service g.L.LoaderName.rules g.L.Ledger.parts g.L.LoaderName.answer) c.args.self.now c.loop-batch.batch c.keeps.ensures (omega arith) c.loop-batch.invariant
+    all_ended g.L.LoaderName.service c.args.self.now c.loop-batch.batch c.keeps.ensures (omega arith) c.loop-batch.invariant

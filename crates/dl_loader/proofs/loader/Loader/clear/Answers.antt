@@ -1,14 +1,14 @@
-use Rattle.std.proofs.Common.{refl}
+use Rattle.std.proofs.Common.{None, refl}
 use Rattle.dl_history.specs.declared.event.Call.TheVariants as call
 use Rattle.dl_history.specs.declared.event.Reply.TheVariants as reply
-use Rattle.dl_history.specs.Service.{Service, service}
+use Rattle.dl_history.specs.Service.{Service}
 use Rattle.dl_loader.proofs.Called.{was_made, no_tickets}
 use Rattle.dl_loader.proofs.loader.Loader.clear.Goals as goal
 
 pub returns-clause-made : goal.returns-clause-made
 returns-clause-made g c =
-    let s : Service = service g.L.LoaderName.rules g.L.Ledger.parts g.L.LoaderName.answer in
-    was_made s c.deref_mut-book.result.now c.clear.new.self c.args.pass.now.part c.clear.new.pass.part (call.Clear c.args.key.now) reply.Done c.keeps.ensures c.keeps-2.ensures c.in_ok-admit.ensures.after c.in_ok-clear.ensures.made
+    let s : Service = g.L.LoaderName.service in
+    was_made s c.deref_mut-book.result.now c.clear.new.self c.args.pass.now.part c.clear.new.pass.part (call.Clear c.args.key.now) None reply.Done c.keeps.ensures c.keeps-2.ensures c.in_ok-clear.ensures.accepted c.in_ok-clear.ensures.made
 
 pub returns-clause-tickets : goal.returns-clause-tickets
 returns-clause-tickets g c = no_tickets c.deref_mut-book.result.now c.clear.new.self c.args.pass.now.part c.clear.new.pass.part (call.Clear c.args.key.now) reply.Done c.in_ok-clear.ensures.made refl

@@ -1,17 +1,20 @@
-use Rattle.std.proofs.Common.{◌≡◌, ap, length, arith}
-use Rattle.dl_history.specs.Service.{Service, service}
+use Rattle.std.proofs.Common.{None, ◌≡◌, ap, length, arith}
+use Rattle.dl_history.specs.Service.{Service}
+use Rattle.dl_history.specs.declared.event.Call.TheVariants as call
+use Rattle.dl_history.specs.declared.event.Reply.TheVariants as reply
+use Rattle.dl_loader.proofs.Called.{was_made}
 use Rattle.dl_loader.proofs.CellsGiven.{loads_begun, loads_long}
 use Rattle.dl_loader.proofs.HandedOut.{tickets_last, gave_loads}
 use Rattle.dl_loader.proofs.loader.Loader.load_many.Goals as goal
 
 pub make_tickets-requires-clause-begun : goal.make_tickets-requires-clause-begun
 make_tickets-requires-clause-begun g c =
-    let s : Service = service g.L.LoaderName.rules g.L.Ledger.parts g.L.LoaderName.answer in
+    let s : Service = g.L.LoaderName.service in
     rw c.as_slice.ensures.value (loads_begun s c.deref_mut-book.result.now c.load_many.new.self c.args.pass.now.part c.load_many.new.pass.part c.args.keys.now c.in_ok-replies.replies.items c.keeps.ensures c.keeps-2.ensures c.in_ok-replies.ensures.made)
 
 pub make_tickets-requires-clause-room : goal.make_tickets-requires-clause-room
 make_tickets-requires-clause-room g c =
-    let s : Service = service g.L.LoaderName.rules g.L.Ledger.parts g.L.LoaderName.answer in
+    let s : Service = g.L.LoaderName.service in
     let many = loads_long s c.deref_mut-book.result.now c.load_many.new.self c.args.pass.now.part c.load_many.new.pass.part c.args.keys.now c.in_ok-replies.replies.items c.keeps-2.ensures c.in_ok-replies.ensures.made in
     let shown : length c.as_slice.result.now ≡ length c.in_ok-replies.replies.items = ap length c.as_slice.ensures.value in
     let room = c.in_ok-tickets.ensures.capacity in
@@ -22,6 +25,11 @@ make_tickets-requires-clause-last g c =
     let last = tickets_last c.deref_mut-book.result.now c.load_many.new.self c.args.pass.now.part c.load_many.new.pass.part c.args.keys.now c.in_ok-replies.replies.items c.in_ok-replies.ensures.made in
     let shown : length c.as_slice.result.now ≡ length c.in_ok-replies.replies.items = ap length c.as_slice.ensures.value in
     omega arith
+
+pub returns-clause-made : goal.returns-clause-made
+returns-clause-made g c =
+    let s : Service = g.L.LoaderName.service in
+    rw (c.make_tickets.ensures.replies_are, c.as_slice.ensures.value) (was_made s c.deref_mut-book.result.now c.load_many.new.self c.args.pass.now.part c.load_many.new.pass.part (call.LoadMany c.args.keys.now) None (reply.Many c.in_ok-replies.replies.items) c.keeps.ensures c.keeps-2.ensures c.in_ok-replies.ensures.accepted c.in_ok-replies.ensures.made)
 
 pub returns-clause-gave : goal.returns-clause-gave
 returns-clause-gave g c =

@@ -1,15 +1,15 @@
-use Rattle.std.proofs.Common.{refl}
+use Rattle.std.proofs.Common.{Some, refl}
 use Rattle.dl_history.specs.declared.event.Reply.TheVariants as reply
 use Rattle.dl_source.specs.Fetched.{answer_of, job_of}
 use Rattle.dl_loader.specs.Asks.{end_by}
-use Rattle.dl_history.specs.Service.{Service, service}
+use Rattle.dl_history.specs.Service.{Service}
 use Rattle.dl_loader.proofs.Called.{was_made, no_tickets}
 use Rattle.dl_loader.proofs.loader.Loader.settle_now.Goals as goal
 
 pub returns-clause-made : goal.returns-clause-made
 returns-clause-made g c =
-    let s : Service = service g.L.LoaderName.rules g.L.Ledger.parts g.L.LoaderName.answer in
-    was_made s c.deref_mut-book.result.now c.settle.new.self c.args.pass.now.part c.settle.new.pass.part (end_by (job_of c.args.fetched.now).batch (answer_of c.args.fetched.now)) reply.Done c.keeps.ensures c.keeps-2.ensures c.in_ok-admit.ensures.after c.in_ok-settled.ensures.made
+    let s : Service = g.L.LoaderName.service in
+    was_made s c.deref_mut-book.result.now c.settle.new.self c.args.pass.now.part c.settle.new.pass.part (end_by (job_of c.args.fetched.now).batch (answer_of c.args.fetched.now)) (Some (job_of c.args.fetched.now)) reply.Done c.keeps.ensures c.keeps-2.ensures c.in_ok-settled.ensures.accepted c.in_ok-settled.ensures.made
 
 pub returns-clause-tickets : goal.returns-clause-tickets
 returns-clause-tickets g c = no_tickets c.deref_mut-book.result.now c.settle.new.self c.args.pass.now.part c.settle.new.pass.part (end_by (job_of c.args.fetched.now).batch (answer_of c.args.fetched.now)) reply.Done c.in_ok-settled.ensures.made refl

@@ -9,7 +9,7 @@ invariant-loop-pass g l = record {
   can_next : (goal.iterator-loop-pass g).can_next l.pass-iterator;
   is_finite : (goal.iterator-loop-pass g).is_finite l.pass-iterator;
   accounts : l.accounts.items ≡ accounts_of l.yielded;
-  fits : Every (Fits g.L.Ledger.parts l.book.history l.book.cells) l.accounts.items;
+  fits : Every (Fits g.L.LoaderName.service.callers l.book.history l.book.cells) l.accounts.items;
   parts : MatchOption l.all (length l.yielded ≡ 0) (λ all. all.parts ≡ length l.yielded);
   amount : MatchOption l.all (length l.yielded ≡ 0) (λ all. all.amount ≡ sum_by (λ a. length (places_of a.entries)) l.accounts.items);
   room : length l.fn.passes.items ≤ vec_capacity l.accounts;

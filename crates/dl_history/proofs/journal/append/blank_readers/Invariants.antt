@@ -1,6 +1,6 @@
 use Rattle.std.proofs.Common.{◌≡◌, length}
 use Rattle.dl_history.specs.Journal.{AreBlank}
-use Rattle.dl_loader.proofs.record.blank_readers.Given as goal
+use Rattle.dl_history.proofs.journal.append.blank_readers.Given as goal
 
 abbrev pub invariant-loop-more : goal.invariant-loop-more
 invariant-loop-more l = record {

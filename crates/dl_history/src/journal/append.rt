@@ -1,0 +1,118 @@
+//! One event more in a journal.
+
+ghost use Rattle.std.specs.Prelude.{◌≡◌, ◌+◌, ◌<◌, ◌≤◌, ◌∷◌, ◌++◌, [], IfOk, OnErr, OnOk, length};
+ghost use Rattle.std.specs.List.{repeat};
+ghost use Rattle.dl_cells.specs.Cells.{row_len};
+ghost use Rattle.dl_history.specs.declared.journal.append.AppendFault.TheVariants.{OutOfMemory};
+ghost use Rattle.dl_history.specs.Entries.{told};
+ghost use Rattle.dl_history.specs.Journal.{AreBlank, waiting};
+
+use crate::entry::Stored;
+use crate::event::{Ending, Event};
+use crate::journal::Journal;
+use crate::name::LoaderName;
+use crate::rows::Rows;
+use dl_cells::{CellRow, Reader};
+use dl_desk::LARGEST_LIMIT;
+use std::alloc::{AllocError, Global};
+use std::sync::ledger::Share;
+
+/// Why a journal takes no event.
+#[derive(Clone, Copy, Debug, PartialEq, Eq)]
+pub enum AppendFault {
+    /// A growth was refused.
+    OutOfMemory,
+    /// The log has another event at the next place. It never comes: who appends holds the lock. No proof excludes it,
+    /// since none knows that a cell of the log is empty.
+    LogRefused,
+}
+
+impl From<AllocError> for AppendFault {
+    ghost from_gives = { λ _ fault. fault ≡ OutOfMemory };
+
+    fn from(_: AllocError) -> AppendFault {
+        AppendFault::OutOfMemory
+    }
+}
+
+impl<L: LoaderName> Journal<L> {
+    /// Adds an event, which the share of its caller counts, with as many cells as it begins, and answers what the
+    /// caller knows of it. All growths are made first, then the event is stored in the log, and after that nothing can
+    /// be refused.
+    ///
+    /// # Errors
+    /// `OutOfMemory`, `LogRefused`. The journal and the share then tell what they told before.
+    pub fn append(
+        &mut self,
+        alloc: Global,
+        rows: &Rows<L>,
+        share: &mut Share<L>,
+        event: Event,
+        cells: u32,
+    ) -> Result<Stored<L>, AppendFault>
+        requires room { length self.old.history < L.service.rules.limits.max_calls }
+        requires cells_room { length self.old.cells + cells ≤ L.service.rules.limits.max_cells }
+        requires part { 0 < share.old.parts }
+        ensures history { OnOk result (self.new.history ≡ self.old.history ++ event ∷ []) }
+        ensures cells { OnOk result (self.new.cells ≡ self.old.cells ++ repeat cells (waiting ∷ [])) }
+        ensures stored { IfOk result (λ stored. stored ≡ told (length self.old.history) event) }
+        ensures counted { OnOk result (share.new.amount ≡ share.old.amount + 1) }
+        ensures parts { share.new.parts ≡ share.old.parts }
+        ensures unchanged { OnErr result ((self.new.history ≡ self.old.history) × (self.new.cells ≡ self.old.cells) × (share.new ≡ share.old)) }
+    {
+        let place = self.next_place(rows);
+        let first = self.next_cell(rows, cells);
+        let readers = blank_readers(alloc, rows.outcomes(), first, cells)?;
+        let mut reader = rows.log().reader(u32::from(place))?;
+        let event = Box::new(alloc, event).map_err(AllocError::from)?;
+        self.reserve(cells as usize)?;
+        let stored = Stored::store(rows.log(), place, &mut reader, event).map_err(
+            |_| AppendFault::LogRefused,
+        )?;
+        self.add(stored.again(), share);
+        self.add_cells(readers);
+        Ok(stored)
+    }
+
+    /// The place of the next event.
+    pub fn next_place(&self, rows: &Rows<L>) -> u16
+        requires { length self.now.history < L.service.rules.limits.max_calls }
+        ensures { result ≡ length self.now.history }
+    {
+        let most = rows.limits().max_calls() as usize;
+        let place = self.len();
+        prove!(place < most);
+        place as u16
+    }
+
+    // The next cell, from which on there are numbers for so many cells.
+    fn next_cell(&self, rows: &Rows<L>, cells: u32) -> u32
+        requires { length self.now.cells + cells ≤ L.service.rules.limits.max_cells }
+        ensures first { result ≡ length self.now.cells }
+        ensures fits { result + cells ≤ LARGEST_LIMIT }
+    {
+        let most = rows.limits().max_cells() as usize;
+        let first = self.cells();
+        prove!(first <= most);
+        first as u32
+    }
+}
+
+// Readers, in order, of so many cells from one on, which know nothing of them.
+fn blank_readers(
+    alloc: Global,
+    row: &CellRow<Ending>,
+    from: u32,
+    count: u32,
+) -> Result<Vec<Reader<Ending>>, AllocError>
+    requires in_row { from + count ≤ row_len row.now }
+    requires fits { from + count ≤ LARGEST_LIMIT }
+    ensures count { IfOk result (λ readers. length readers.items ≡ count) }
+    ensures blank { IfOk result (λ readers. AreBlank row.now from readers.items) }
+{
+    let mut readers = Vec::with_capacity(alloc, count as usize)?;
+    for more in 0..count {
+        readers.push(row.reader(from + more)?)?;
+    }
+    Ok(readers)
+}

@@ -1,0 +1,75 @@
+//! The rows of a loader.
+
+ghost use Rattle.std.specs.Prelude.{◌≡◌};
+ghost use Rattle.dl_cells.specs.Cells.{row_len};
+
+use crate::event::{Ending, Event};
+use crate::name::LoaderName;
+use dl_cells::CellRow;
+use dl_desk::Limits;
+use std::marker::{Model, PhantomData};
+
+/// Where the events of a loader and the outcomes of its cells lie, and how many of both there may be. Contracts
+/// see the limits.
+#[derive(Drop)]
+pub struct Rows<L: LoaderName> {
+    limits: Limits,
+    log: CellRow<Event>,
+    outcomes: CellRow<Ending>,
+    of: PhantomData<L>,
+}
+
+impl<L: LoaderName> Model for Rows<L> {
+    ghost use Rattle.dl_desk.specs.Limits.{Limits};
+    ghost use Rattle.dl_history.specs.Rows.{AreRows};
+
+    ghost Value = { Limits };
+
+    ghost view = { λ r. r.limits };
+
+    ghost invariant = { λ r. AreRows r.limits L.service.rules.limits r.log r.outcomes L.log L.outcomes };
+}
+
+impl<L: LoaderName> Rows<L> {
+    /// The rows of the loader that `L` stands for, which have room for all that these limits let it have. It takes
+    /// no memory.
+    pub fn new(limits: Limits, log: CellRow<Event>, outcomes: CellRow<Ending>) -> Rows<L>
+        requires limits { limits ≡ L.service.rules.limits }
+        requires log { log ≡ L.log }
+        requires outcomes { outcomes ≡ L.outcomes }
+        requires calls_fit { row_len L.log ≡ limits.max_calls }
+        requires cells_fit { row_len L.outcomes ≡ limits.max_cells }
+        ensures { result ≡ limits }
+    {
+        Rows {
+            limits,
+            log,
+            outcomes,
+            of: PhantomData,
+        }
+    }
+
+    /// The limits.
+    pub fn limits(&self) -> Limits
+        ensures own { result ≡ L.service.rules.limits }
+        ensures view { result ≡ self.now }
+    {
+        self.limits
+    }
+
+    /// The row that the events lie in.
+    pub fn log(&self) -> &CellRow<Event>
+        ensures row { result.now ≡ L.log }
+        ensures calls { row_len L.log ≡ L.service.rules.limits.max_calls }
+    {
+        &self.log
+    }
+
+    /// The row that the outcomes of cells lie in.
+    pub fn outcomes(&self) -> &CellRow<Ending>
+        ensures row { result.now ≡ L.outcomes }
+        ensures cells { row_len L.outcomes ≡ L.service.rules.limits.max_cells }
+    {
+        &self.outcomes
+    }
+}
