@@ -1,8 +1,8 @@
 //! A workload of one caller of a shared loader.
 
+ghost use Rattle.std.specs.Prelude.{◌≡◌};
 ghost use Rattle.dl_history.specs.Service.{Answers};
 ghost use Rattle.dl_loader.specs.Opening.{Names};
-ghost use Rattle.std.specs.Prelude.{◌≡◌};
 
 use crate::alike::Alike;
 use crate::counts::Counts;

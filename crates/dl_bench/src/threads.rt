@@ -1,7 +1,7 @@
 //! A workload of callers on threads of their own, who share one loader.
 
-ghost use Rattle.dl_loader.specs.Opening.{Names};
 ghost use Rattle.std.specs.Prelude.{◌≡◌};
+ghost use Rattle.dl_loader.specs.Opening.{Names};
 
 use crate::alike::Alike;
 use crate::counts::Counts;

@@ -13,6 +13,8 @@ pub mod KeyEvents
 pub mod GivenDues
 pub mod BatchEnds
 mod Called
+pub mod AddedLemmas
+pub mod StillGiven
 mod AccountLemmas
 mod ClosingLemmas
 mod Sources

@@ -16,6 +16,7 @@ pub mod Refusals
 pub mod Begun
 pub mod EventReplies
 pub mod Made
+pub mod Added
 pub mod EndedUpTo
 pub mod Dues
 pub mod Closing

@@ -1,10 +1,12 @@
 //! The shared loader of `dl_loader`: worked rows of its calls, each on a loader of its own.
 
-ghost use Rattle.dl_loader.specs.Opening.{Names};
 ghost use Rattle.std.specs.Prelude.{◌≡◌};
+ghost use Rattle.dl_loader.specs.Opening.{Names};
 
 mod closes;
 mod ends;
+mod full;
+mod law;
 mod loads;
 mod primes;
 mod steps;
@@ -68,6 +70,16 @@ fn a_primed_key(rt: HostRuntime) -> Result<(), Fail> {
 }
 
 #[test]
+fn a_loader_whose_cells_are_all_begun(rt: HostRuntime) -> Result<(), Fail> {
+    one_caller(&rt, rt.alloc(), Limits::new(1, 1, 8)?, Row::Full)
+}
+
+#[test]
+fn a_load_by_the_law(rt: HostRuntime) -> Result<(), Fail> {
+    one_caller(&rt, rt.alloc(), Limits::new(2, 8, 16)?, Row::Law)
+}
+
+#[test]
 fn two_callers_of_one_key(rt: HostRuntime) -> Result<(), Fail> {
     let users = tables(rt.alloc(), USERS)?;
     let opening = Opening::new(rt.alloc(), &users, Limits::new(2, 8, 16)?, 2)?;
@@ -92,6 +104,8 @@ enum Row {
     Ends,
     Stopped,
     Prime,
+    Full,
+    Law,
 }
 
 /// Makes the calls of a row on a loader over the users' tables.
@@ -129,5 +143,7 @@ fn make_calls<L: LoaderName, S: Source, R: Abort + Wait>(
         Row::Ends => ends::try_ends(rt, alloc, source, loader, pass),
         Row::Stopped => ends::wait_stopped(rt, alloc, loader, pass),
         Row::Prime => primes::prime_and_load(rt, alloc, loader, pass),
+        Row::Full => full::begin_too_many(rt, alloc, &loader, pass),
+        Row::Law => law::load_by_the_law::<S, _, _>(rt, alloc, &loader, pass),
     }
 }

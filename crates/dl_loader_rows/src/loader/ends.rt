@@ -1,7 +1,7 @@
 //! Ends of batches that are refused, and loaders that are stopped.
 
-
 ghost use Rattle.dl_history.specs.Service.{Answers};
+
 use super::steps::{assert_ends, assert_job, close, not_closed, only_job, settle_job, user};
 use dl_desk::{FetchKey, Job, Keys};
 use dl_loader::{CallFault, CloseFault, GiveUp, Loader, LoaderName, Pass, Stopped};

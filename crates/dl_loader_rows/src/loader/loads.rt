@@ -1,7 +1,7 @@
 //! One load, until its outcome is read, its key forgotten and the loader closed.
 
-
 ghost use Rattle.dl_history.specs.Service.{Answers};
+
 use super::steps::{
     ADA, assert_ends, assert_entries, assert_shows, close, only_job, settle_job, user,
 };

@@ -1,7 +1,7 @@
 //! What the rows of calls share: calls with their answers, and what is asked of a history.
 
-ghost use Rattle.dl_history.specs.Service.{Answers};
 ghost use Rattle.std.specs.Prelude.{◌≡◌, IsSome, OnOk};
+ghost use Rattle.dl_history.specs.Service.{Answers};
 
 use dl_desk::{FetchKey, Job, LoadReply};
 use dl_fixtures::outcome_text;

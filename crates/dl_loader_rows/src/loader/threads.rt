@@ -1,8 +1,8 @@
 //! One key that two callers load, each on a thread of its own.
 
+ghost use Rattle.std.specs.Prelude.{◌≡◌, false, IfOk};
 ghost use Rattle.dl_history.specs.Service.{Answers};
 ghost use Rattle.dl_loader.specs.Opening.{Names};
-ghost use Rattle.std.specs.Prelude.{◌≡◌, false, IfOk};
 ghost use Rattle.dl_loader.specs.Pass.{Gave};
 
 use super::steps::{ADA, assert_ends, assert_entries, assert_shows, only_job, settle_job, user};

@@ -1,8 +1,8 @@
 //! How a program uses the shared loader: callers on threads of their own load one key, and the loader is closed.
 
+ghost use Rattle.std.specs.Prelude.{◌≡◌};
 ghost use Rattle.dl_history.specs.Service.{Answers};
 ghost use Rattle.dl_loader.specs.Opening.{Names};
-ghost use Rattle.std.specs.Prelude.{◌≡◌};
 
 use super::steps::ADA;
 use dl_desk::FetchKey;

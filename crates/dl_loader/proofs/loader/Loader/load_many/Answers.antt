@@ -1,4 +1,5 @@
-use Rattle.std.proofs.Common.{None, ◌≡◌, ap, length, arith}
+use Rattle.std.proofs.Common.{None, ◌≡◌, ◌∙◌, ap, sym, length, arith}
+use Rattle.std.proofs.lemmas.List.{length-map}
 use Rattle.dl_history.specs.Service.{Service}
 use Rattle.dl_history.specs.declared.event.Call.TheVariants as call
 use Rattle.dl_history.specs.declared.event.Reply.TheVariants as reply
@@ -34,3 +35,9 @@ returns-clause-made g c =
 pub returns-clause-gave : goal.returns-clause-gave
 returns-clause-gave g c =
     gave_loads c.deref_mut-book.result.now c.load_many.new.self c.args.pass.now.part c.load_many.new.pass.part c.args.keys.now c.in_ok-replies.replies.items c.make_tickets.new.tickets.items c.in_ok-replies.ensures.made (rw c.as_slice.ensures.value at c.make_tickets.ensures)
+
+pub returns-clause-each : goal.returns-clause-each
+returns-clause-each g c =
+    let many = loads_long g.L.LoaderName.service c.deref_mut-book.result.now c.load_many.new.self c.args.pass.now.part c.load_many.new.pass.part c.args.keys.now c.in_ok-replies.replies.items c.keeps-2.ensures c.in_ok-replies.ensures.made in
+    let are = rw c.as_slice.ensures.value at c.make_tickets.ensures in
+    sym (length-map c.make_tickets.new.tickets.items (λ t. t.reply)) ∙ (ap length are.replies_are ∙ many)

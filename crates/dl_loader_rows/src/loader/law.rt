@@ -1,0 +1,37 @@
+//! One event by the law, on the locked book.
+
+use super::steps::{assert_entries, user};
+use dl_desk::LoadReply;
+use dl_loader::{Ask, EntryKind, Loader, LoaderName, Pass, Reply, laws};
+use dl_source::Source;
+use std::alloc::Global;
+use std::process::Abort;
+use std::sync::Wait;
+use std::test::Fail;
+
+/// A load that is made by the law is the first event, and the next call's is the second.
+pub(super) fn load_by_the_law<S: Source, L: LoaderName, R: Abort + Wait>(
+    rt: &R,
+    alloc: Global,
+    loader: &Loader<L>,
+    mut pass: Pass<L>,
+) -> Result<(), Fail> {
+    let key = user(alloc, "u1")?;
+    let ask: Ask<'_, S> = Ask::Load(&key);
+    let mut book = loader.lock(rt);
+    let made = laws::event(alloc, loader, &mut *book, &mut pass, ask).ok();
+    drop(book);
+    assert!(rt;
+        matches!(
+            made,
+            Some((Reply::Loaded(LoadReply::Fresh { cell: 0, batch: 0 }), 0))
+        )
+    );
+    loader.clear_all(rt, alloc, &mut pass)?;
+    assert_entries(
+        rt,
+        pass.entries(),
+        &[EntryKind::Call { at: 0 }, EntryKind::Call { at: 1 }],
+    );
+    Ok(())
+}
