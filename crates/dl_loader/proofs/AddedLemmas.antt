@@ -52,7 +52,7 @@ saw_adds old new number cell e is = (ap (λ (p : Part). p.caller) is, Saw (read 
 pub seen_once : (p : Part) (t : Hold) (seen : Bool) → Gave p t false → Gave p t seen → seen ≡ false
 seen_once p t seen unseen gave =
     let same : given (cell_of_load t.reply) seen ≡ given (cell_of_load t.reply) false =
-        (let two : ◌≡◌ {A = Option Given} (Some (given (cell_of_load t.reply) seen)) (Some (given (cell_of_load t.reply) false)) = sym gave ∙ unseen in cc) in
+    (let two : ◌≡◌ {A = Option Given} (Some (given (cell_of_load t.reply) seen)) (Some (given (cell_of_load t.reply) false)) = sym gave ∙ unseen in cc) in
     ap (λ (g : Given). g.seen) same
 
 -- a ticket that was given stays given while the tickets stay

@@ -40,7 +40,8 @@ pub enum CallFault {
     /// The loader was stopped.
     #[error("the loader is stopped")]
     Stopped,
-    /// The pass has seen more of a history than this one has.
+    /// The pass has seen more of a history than this one has. It never comes in a run; no proof excludes it, since what a
+    /// pass has seen is held against the history only at the close. Treat it as a bug.
     #[error("a pass has seen {front} events, and the history has {len}")]
     Behind { front: u32, len: u32 },
     /// The history has as many events as it may have.
@@ -64,7 +65,8 @@ pub enum CallFault {
     /// A growth was refused.
     #[error("out of memory")]
     OutOfMemory,
-    /// The history's own cell refused the event.
+    /// The history's own cell refused the event. It never comes in a run; no proof excludes it, since none says that a
+    /// set on an empty cell succeeds. Treat it as a bug.
     #[error("the history refused the event")]
     LogRefused,
 }
@@ -80,10 +82,12 @@ pub enum CloseFault {
     /// Not each caller has exactly one of the passes.
     #[error("{got} of {want} callers have their pass there")]
     PassesMissing { want: u32, got: u32 },
-    /// A pass has seen more of a history than this one has.
+    /// A pass has seen more of a history than this one has. It never comes in a run; no proof excludes it, since nothing
+    /// says that a pass was used with one loader alone. Treat it as a bug.
     #[error("a pass has seen {front} events, and the history has {len}")]
     Behind { front: u32, len: u32 },
-    /// A cell refused its outcome, and a pass has an outcome of it.
+    /// A cell refused its outcome, and a pass has an outcome of it. It never comes in a run; no proof excludes it, since
+    /// none says that a set on an empty cell succeeds. Treat it as a bug.
     #[error("cell {cell} refused its outcome")]
     Unshown { cell: u32 },
     /// A batch has not ended, sent or not.

@@ -8,7 +8,8 @@ use dl_history::Reply;
 /// What a prime answers.
 #[derive(Clone, Copy, Debug, PartialEq, Eq)]
 pub enum PrimeReply {
-    /// The key wasn't held and has a new cell, which shows the outcome, or refused it.
+    /// The key wasn't held and has a new cell, which shows the outcome. That it refused it, `shown: false`, never comes
+    /// in a run; no proof excludes it, since none says that a set on an empty cell succeeds. Treat it as a bug.
     Primed { cell: u32, shown: bool },
     /// The key is held: nothing changed (DataLoader: `prime`).
     Kept,
@@ -33,6 +34,7 @@ impl PrimeReply {
 pub struct Settled {
     /// How many cells show their outcome.
     pub shown: u32,
-    /// How many cells refused it.
+    /// How many cells refused it. Above 0 it never comes in a run; no proof excludes it, since none says that a set on
+    /// an empty cell succeeds. Treat it as a bug.
     pub refused: u32,
 }
