@@ -1,5 +1,6 @@
 -- The accounts of a loader that is closed: each agrees with the history.
-use Rattle.std.proofs.Common.{◌≡◌, ◌∙◌, sym, ap, ℕ, ◌+◌, ◌-◌, ◌<◌, ◌≤◌, max, Bool, true, false, cond, List, [], ◌∷◌, ◌++◌, length, filter, flat_map, Option, Some, None, IfSome, IsSome, slice_get, sum_by, refl, arith}
+use Rattle.std.proofs.Common.{◌≡◌, ◌∙◌, sym, ap, ℕ, ◌+◌, ◌-◌, ◌<◌, ◌≤◌, max, Bool, true, false, cond, List, [], ◌∷◌, ◌++◌, length, filter, flat_map, Option}
+use Rattle.std.proofs.Common.{Some, None, IfSome, IsSome, slice_get, sum_by, refl, arith}
 use Rattle.std.proofs.lemmas.List.Elements.{filter-append}
 use Rattle.dl_desk.specs.History.{cells}
 use Rattle.dl_desk.specs.Events.{atoms}
@@ -34,7 +35,8 @@ call_tells es t low meets = by (slice_get es t.at) refl meets
     by (Some e) some f = ap (λ (x : Event). Some x) f
 
 -- a cell that has an end and did not refuse it shows it
-read_is : (end : Option Ending) (mark : Mark) (shows : Option Ending) (read : Ending) → ShowsEnd end mark shows → IsSome end → is_refused mark ≡ false → IfSome shows (λ e. e ≡ read) → end ≡ Some read
+read_is : (end : Option Ending) (mark : Mark) (shows : Option Ending) (read : Ending) → ShowsEnd end mark shows → IsSome end → is_refused mark ≡ false
+    → IfSome shows (λ e. e ≡ read) → end ≡ Some read
 read_is None mark shows read stands some refused meets = absurd (let bad : false ≡ true = some in cc)
 read_is (Some x) Waiting shows read stands some refused meets = absurd (let bad : ◌≡◌ {A = Option Ending} (Some x) None = stands.0 in cc)
 read_is (Some x) Ended shows read stands some refused meets =
@@ -43,16 +45,19 @@ read_is (Some x) Ended shows read stands some refused meets =
     ap (λ (y : Ending). Some y) found
 read_is (Some x) (Refused kept) shows read stands some refused meets = absurd (let bad : true ≡ false = refused in cc)
 
-read_tells : (s : Service) (b : Kept) (r : Read) → IsKept s b → AnswersEach s.answer → AllEnded b.history → r.cell < cells (atoms (log b.history)) → cell_refused (slice_get b.cells r.cell) ≡ false
+read_tells : (s : Service) (b : Kept) (r : Read) → IsKept s b → AnswersEach s.answer → AllEnded b.history → r.cell < cells (atoms (log b.history))
+    → cell_refused (slice_get b.cells r.cell) ≡ false
     → IfSome (slice_get b.cells r.cell) (λ x. IfSome x.shows (λ e. e ≡ r.ending)) → ending_of b.history r.cell ≡ Some r.ending
 read_tells s b r kept each all low shown meets = by (slice_get b.cells r.cell) refl shown meets
   where
     many : length b.cells ≡ cells (atoms (log b.history))
     many = kept.all_cells ∙ kept.desk.cells
 
-    by : (o : Option Cell) → slice_get b.cells r.cell ≡ o → cell_refused o ≡ false → IfSome o (λ x. IfSome x.shows (λ e. e ≡ r.ending)) → ending_of b.history r.cell ≡ Some r.ending
+    by : (o : Option Cell) → slice_get b.cells r.cell ≡ o → cell_refused o ≡ false → IfSome o (λ x. IfSome x.shows (λ e. e ≡ r.ending))
+        → ending_of b.history r.cell ≡ Some r.ending
     by None none f g = absurd (get-inside b.cells r.cell (let m = many in omega arith) none)
-    by (Some x) some f g = read_is (ending_of b.history r.cell) x.mark x.shows r.ending (kept.ends r.cell x some) (shows_end s b.history r.cell each kept.legal all low) f g
+    by (Some x) some f g =
+        read_is (ending_of b.history r.cell) x.mark x.shows r.ending (kept.ends r.cell x some) (shows_end s b.history r.cell each kept.legal all low) f g
 
 -- ---- the entries of an account
 
@@ -77,8 +82,10 @@ one_shown states c none = by (cell_refused (slice_get states c)) refl none
     by false is f = refl
 
 -- each entry tells what the history has
-entries_tell : (s : Service) (b : Kept) (cs : List ℕ) (entries : List Line) → IsKept s b → AnswersEach s.answer → AllEnded b.history → AllBelow (cells (atoms (log b.history))) cs
-    → front_of entries ≤ length b.history → NoneRefused b.cells (flat_map read_in entries) → Answered cs entries → Every (Meets b.history b.cells) entries → Every (Tells b.history) entries
+entries_tell : (s : Service) (b : Kept) (cs : List ℕ) (entries : List Line) → IsKept s b → AnswersEach s.answer → AllEnded b.history
+    → AllBelow (cells (atoms (log b.history))) cs
+    → front_of entries ≤ length b.history → NoneRefused b.cells (flat_map read_in entries) → Answered cs entries → Every (Meets b.history b.cells) entries
+    → Every (Tells b.history) entries
 entries_tell s b cs [] kept each all low front shown answered meets = tt
 entries_tell s b cs (Called t ∷ ls) kept each all low front shown answered meets =
     let tells = call_tells b.history t (omega arith) meets.0 in
@@ -91,8 +98,11 @@ entries_tell s b cs (Called t ∷ ls) kept each all low front shown answered mee
 entries_tell s b cs (Saw r ∷ ls) kept each all low front shown answered meets =
     let parts = none_refused_parts b.cells (r.cell ∷ []) (flat_map read_in ls) shown in
     let own = every_among (λ c. c < cells (atoms (log b.history))) cs r.cell answered.0 low in
-    let more = every_append_both (λ c. c < cells (atoms (log b.history))) cs [] low tt in
-    (read_tells s b r kept each all own (one_shown b.cells r.cell parts.0) meets.0, entries_tell s b (cs ++ []) ls kept each all more (omega arith) parts.1 answered.1 meets.1)
+    let more = every_append_both (λ c. c < cells (atoms (log b.history))) cs [] low tt in (
+      read_tells s b r kept each all own (one_shown b.cells r.cell parts.0) meets.0,
+      entries_tell s b (cs ++ []) ls kept each all more (omega arith) parts.1
+          answered.1 meets.1,
+    )
 
 -- ---- the places of an account's calls
 
@@ -102,13 +112,15 @@ rises_from j k (p ∷ ps) low rises = (let above = rises.0 in omega arith, rises
 
 places_rise : (k : ℕ) (entries : List Line) → Ordered k entries → Rises k (places_of entries)
 places_rise k [] ordered = tt
-places_rise k (Called t ∷ ls) ordered = (ordered.0, rises_from (t.at + 1) (max k (t.at + 1)) (places_of ls) (omega arith) (places_rise (max k (t.at + 1)) ls ordered.1))
+places_rise k (Called t ∷ ls) ordered =
+    (ordered.0, rises_from (t.at + 1) (max k (t.at + 1)) (places_of ls) (omega arith) (places_rise (max k (t.at + 1)) ls ordered.1))
 places_rise k (Saw r ∷ ls) ordered = rises_from k (max k (r.ending.at + 1)) (places_of ls) (omega arith) (places_rise (max k (r.ending.at + 1)) ls ordered.1)
 
 stands_there : (es : List Event) (n : ℕ) (t : Told) → slice_get es t.at ≡ Some t.event → t.event.caller ≡ n → StandsAt (λ (e : Event). e.caller) n es (t.at - 0)
 stands_there es n t tells own = let same : t.at - 0 ≡ t.at = omega arith in record { element = t.event; there = rw same tells; own = own }
 
-places_stand : (es : List Event) (n : ℕ) (entries : List Line) → Every (Tells es) entries → Every (IsOwn n) (calls_of entries) → Stand (λ (e : Event). e.caller) n 0 es (places_of entries)
+places_stand : (es : List Event) (n : ℕ) (entries : List Line) → Every (Tells es) entries → Every (IsOwn n) (calls_of entries)
+    → Stand (λ (e : Event). e.caller) n 0 es (places_of entries)
 places_stand es n [] tells own = tt
 places_stand es n (Called t ∷ ls) tells own = (stands_there es n t tells.0 own.0, places_stand es n ls tells.1 own.1)
 places_stand es n (Saw r ∷ ls) tells own = places_stand es n ls tells.1 own
@@ -120,7 +132,8 @@ record Told_by (callers : ℕ) (es : List Event) (a : Account) : Type 0 where
   is_account : IsAccount callers a
   tells : Every (Tells es) a.entries
 
-all_tell : (s : Service) (b : Kept) (accounts : List Account) → IsKept s b → AnswersEach s.answer → AllEnded b.history → Every (λ a. front_of a.entries ≤ length b.history) accounts → NoneRefused b.cells (reads_of accounts)
+all_tell : (s : Service) (b : Kept) (accounts : List Account) → IsKept s b → AnswersEach s.answer → AllEnded b.history
+    → Every (λ a. front_of a.entries ≤ length b.history) accounts → NoneRefused b.cells (reads_of accounts)
     → Every (Fits s.callers b.history b.cells) accounts → Every (Told_by s.callers b.history) accounts
 all_tell s b [] kept each all front shown fits = tt
 all_tell s b (a ∷ accounts) kept each all front shown fits =
@@ -129,28 +142,49 @@ all_tell s b (a ∷ accounts) kept each all front shown fits =
     let tells = entries_tell s b [] a.entries kept each all tt front.0 parts.0 is_account.answered_are fits.0.meets in
     (record { is_account = is_account; tells = tells }, all_tell s b accounts kept each all front.1 parts.1 fits.1)
 
-all_own : (callers : ℕ) (es : List Event) (accounts : List Account) → Every (Told_by callers es) accounts → Every (λ a. AreOwn (λ (e : Event). e.caller) es a.caller (places_of a.entries)) accounts
+all_own : (callers : ℕ) (es : List Event) (accounts : List Account) → Every (Told_by callers es) accounts
+    → Every (λ a. AreOwn (λ (e : Event). e.caller) es a.caller (places_of a.entries)) accounts
 all_own callers es [] told = tt
 all_own callers es (a ∷ accounts) told =
-    let is_account = told.0.is_account in
-    (record { rises = places_rise 0 a.entries is_account.ordered; stand = places_stand es a.caller a.entries told.0.tells is_account.own }, all_own callers es accounts told.1)
+    let is_account = told.0.is_account in (
+      record {
+        rises = places_rise 0 a.entries is_account.ordered;
+        stand =
+            places_stand es a.caller a.entries told.0.tells is_account.own;
+      },
+      all_own callers es accounts told.1,
+    )
 
-all_agree : (callers : ℕ) (es : List Event) (accounts : List Account) → Every (Told_by callers es) accounts → Every (λ a. places_of a.entries ≡ places (λ (e : Event). e.caller) a.caller 0 es) accounts → Every (Agrees es) accounts
+all_agree : (callers : ℕ) (es : List Event) (accounts : List Account) → Every (Told_by callers es) accounts
+    → Every (λ a. places_of a.entries ≡ places (λ (e : Event). e.caller) a.caller 0 es) accounts → Every (Agrees es) accounts
 all_agree callers es [] told places = tt
 all_agree callers es (a ∷ accounts) told places =
-    let is_account = told.0.is_account in
-    (record { places_are = places.0; tells = told.0.tells; answered_are = is_account.answered_are; ordered = is_account.ordered }, all_agree callers es accounts told.1 places.1)
+    let is_account = told.0.is_account in (
+      record {
+        places_are = places.0;
+        tells = told.0.tells;
+        answered_are = is_account.answered_are;
+        ordered =
+            is_account.ordered;
+      },
+      all_agree callers es accounts told.1 places.1,
+    )
 
 -- each event's caller has one account
-all_once : (s : Service) (es : List Event) (accounts : List Account) → IsLegal s es → HasEach s.callers accounts → Every (λ (e : Event). accounts_by e.caller accounts ≡ 1) es
-all_once s es accounts legal each = every_from (λ (e : Event). accounts_by e.caller accounts ≡ 1) es (λ k e got. let next = legal.at k e got in each e.caller next.caller)
+all_once : (s : Service) (es : List Event) (accounts : List Account) → IsLegal s es → HasEach s.callers accounts
+    → Every (λ (e : Event). accounts_by e.caller accounts ≡ 1) es
+all_once s es accounts legal each =
+    every_from (λ (e : Event). accounts_by e.caller accounts ≡ 1) es (λ k e got. let next = legal.at k e got in each e.caller next.caller)
 
 -- Where the accounts fit the book, none has seen more than there is, none has an outcome of a cell that refused it,
 -- each batch has ended, and the calls are as many as the events, each account agrees with the history.
-pub accounts_agree : (s : Service) (b : Kept) (accounts : List Account) → IsKept s b → AnswersEach s.answer → HasEach s.callers accounts → NoneBehind (length b.history) accounts → unshown b.cells accounts ≡ [] → AllEnded b.history
-    → Every (Fits s.callers b.history b.cells) accounts → sum_by (λ a. length (places_of a.entries)) accounts ≡ length b.history → Every (Agrees b.history) accounts
+pub accounts_agree : (s : Service) (b : Kept) (accounts : List Account) → IsKept s b → AnswersEach s.answer → HasEach s.callers accounts
+    → NoneBehind (length b.history) accounts → unshown b.cells accounts ≡ [] → AllEnded b.history
+    → Every (Fits s.callers b.history b.cells) accounts → sum_by (λ a. length (places_of a.entries)) accounts ≡ length b.history
+    → Every (Agrees b.history) accounts
 accounts_agree s b accounts kept answers each seen shown all fits count =
     let fronts = every_from (λ (a : Account). front_of a.entries ≤ length b.history) accounts (λ k a got. seen a (k, got)) in
     let told = all_tell s b accounts kept answers all fronts shown fits in
-    let places = each_is_its_part (λ (e : Event). e.caller) b.history (λ (a : Account). a.caller) (λ (a : Account). places_of a.entries) accounts (all_own s.callers b.history accounts told) (all_once s b.history accounts kept.legal each) count in
+    let places = each_is_its_part (λ (e : Event). e.caller) b.history (λ (a : Account). a.caller) (λ (a : Account). places_of a.entries) accounts
+    (all_own s.callers b.history accounts told) (all_once s b.history accounts kept.legal each) count in
     all_agree s.callers b.history accounts told places

@@ -1,5 +1,6 @@
 -- What the end of a batch does to what its members' cells show.
-use Rattle.std.proofs.Common.{◌≡◌, ◌∙◌, sym, ap, ℕ, zero, suc, ◌<◌, true, false, List, [], ◌∷◌, ◌++◌, length, map, Option, Some, None, slice_get, nat_eq, refl, arith}
+use Rattle.std.proofs.Common.{◌≡◌, ◌∙◌, sym, ap, ℕ, zero, suc, ◌<◌, true, false, List, [], ◌∷◌, ◌++◌, length, map, Option, Some, None, slice_get, nat_eq, refl}
+use Rattle.std.proofs.Common.{arith}
 use Rattle.std.specs.List.{zip}
 use Rattle.std.specs.Map.{lookup}
 use Rattle.std.proofs.lemmas.Bool.{eq-eqb, ne_eqb}
@@ -25,7 +26,8 @@ rising_rest : (x : Key × ℕ) (ms : List (Key × ℕ)) → Rising (x ∷ ms) �
 rising_rest x ms rising i j m n low first second = rising (suc i) (suc j) m n (omega arith) first second
 
 -- the outcome beside a member's cell is the one at the member's place
-beside_member : (ms : List (Key × ℕ)) (os : List Outcome) (i : ℕ) (m : Key × ℕ) (o : Outcome) → Rising ms → slice_get ms i ≡ Some m → slice_get os i ≡ Some o → lookup (nat_eq m.1) (zip (map (λ (n : Key × ℕ). n.1) ms) os) ≡ Some o
+beside_member : (ms : List (Key × ℕ)) (os : List Outcome) (i : ℕ) (m : Key × ℕ) (o : Outcome) → Rising ms → slice_get ms i ≡ Some m → slice_get os i ≡ Some o
+    → lookup (nat_eq m.1) (zip (map (λ (n : Key × ℕ). n.1) ms) os) ≡ Some o
 beside_member [] os i m o rising got given = absurd (let bad : ◌≡◌ {A = Option (Key × ℕ)} None (Some m) = got in cc)
 beside_member (x ∷ ms) [] i m o rising got given = absurd (let bad : ◌≡◌ {A = Option Outcome} None (Some o) = given in cc)
 beside_member (x ∷ ms) (p ∷ os) zero m o rising got given =
@@ -43,27 +45,33 @@ other_batch : (history : List Atom) (b c n : ℕ) → NoCell (members history b)
 other_batch history b c n none is = ne_eqb n b (λ e. let h = cell_member history c b (rw e at is) in none h.place h.member h.at h.is)
 
 -- each member's cell shows the outcome at the member's place
-pub settled_end : (s : Service) (es : List Event) (e : Event) (b : ℕ) (os : List Outcome) (i : ℕ) (m : Key × ℕ) (o : Outcome) → IsLegal s es → IsNext s es e → e.call ≡ Settle b os → slice_get (members (atoms (log es)) b) i ≡ Some m → slice_get os i ≡ Some o → ending_of (es ++ e ∷ []) m.1 ≡ Some (record { at = length es; outcome = o })
+pub settled_end : (s : Service) (es : List Event) (e : Event) (b : ℕ) (os : List Outcome) (i : ℕ) (m : Key × ℕ) (o : Outcome) → IsLegal s es → IsNext s es e
+    → e.call ≡ Settle b os → slice_get (members (atoms (log es)) b) i ≡ Some m → slice_get os i ≡ Some o
+    → ending_of (es ++ e ∷ []) m.1 ≡ Some (record { at = length es; outcome = o })
 settled_end s es e b os i m o legal next is got given =
     let H = atoms (log es) in
     let batch : cell_batch H m.1 ≡ Some b = member_cell s.rules H b i m (legal_atoms s es legal) got in
     let now : ends b (made e.call e.reply) ≡ true = rw (next.reply, is) (eq-eqb b b refl) in
     let newest_is = ending_batch s.rules (as_made e) (log es) m.1 b (legal_next s es e legal next) batch now in
-    shows_newest es e m.1 o newest_is (rw (next.reply, is, batch) (beside_member (members H b) os i m o (members-rise s.rules H b (legal_atoms s es legal)) got given))
+    shows_newest es e m.1 o newest_is
+    (rw (next.reply, is, batch) (beside_member (members H b) os i m o (members-rise s.rules H b (legal_atoms s es legal)) got given))
 
 -- the settle spares each cell that is no member's
-pub settled_spares : (s : Service) (es : List Event) (e : Event) (b : ℕ) (os : List Outcome) (c : ℕ) → IsNext s es e → e.call ≡ Settle b os → NoCell (members (atoms (log es)) b) c → Spares (atoms (log es)) (made e.call e.reply) c
+pub settled_spares : (s : Service) (es : List Event) (e : Event) (b : ℕ) (os : List Outcome) (c : ℕ) → IsNext s es e → e.call ≡ Settle b os
+    → NoCell (members (atoms (log es)) b) c → Spares (atoms (log es)) (made e.call e.reply) c
 settled_spares s es e b os c next is none = record {
   not_primed = rw (next.reply, is) refl;
   not_ended = λ n batch. rw (next.reply, is) (other_batch (atoms (log es)) b c n none batch);
 }
 
 -- each other cell shows what it showed
-pub settled_others : (s : Service) (es : List Event) (e : Event) (b : ℕ) (os : List Outcome) (c : ℕ) → IsLegal s es → IsNext s es e → e.call ≡ Settle b os → NoCell (members (atoms (log es)) b) c → ending_of (es ++ e ∷ []) c ≡ ending_of es c
+pub settled_others : (s : Service) (es : List Event) (e : Event) (b : ℕ) (os : List Outcome) (c : ℕ) → IsLegal s es → IsNext s es e → e.call ≡ Settle b os
+    → NoCell (members (atoms (log es)) b) c → ending_of (es ++ e ∷ []) c ≡ ending_of es c
 settled_others s es e b os c legal next is none = spared_stays s es e c legal next (settled_spares s es e b os c next is none)
 
 -- where the source answers each key, a settle has as many outcomes as its batch has members
-pub settled_length : (s : Service) (es : List Event) (e : Event) (b : ℕ) (os : List Outcome) → AnswersEach s.answer → IsNext s es e → e.call ≡ Settle b os → length os ≡ length (members (atoms (log es)) b)
+pub settled_length : (s : Service) (es : List Event) (e : Event) (b : ℕ) (os : List Outcome) → AnswersEach s.answer → IsNext s es e → e.call ≡ Settle b os
+    → length os ≡ length (members (atoms (log es)) b)
 settled_length s es e b os each next is =
     let H = atoms (log es) in
     let may : MayBeMade s.answer H (Settle b os) = rw is at next.made in
@@ -74,7 +82,9 @@ settled_length s es e b os each next is =
 -- ---- a fail
 
 -- each member's cell shows the batch's fault
-pub failed_end : (s : Service) (es : List Event) (e : Event) (b : ℕ) (fault : BatchFault) (i : ℕ) (m : Key × ℕ) → IsLegal s es → IsNext s es e → e.call ≡ Fail b fault → slice_get (members (atoms (log es)) b) i ≡ Some m → ending_of (es ++ e ∷ []) m.1 ≡ Some (record { at = length es; outcome = BatchFailed fault })
+pub failed_end : (s : Service) (es : List Event) (e : Event) (b : ℕ) (fault : BatchFault) (i : ℕ) (m : Key × ℕ) → IsLegal s es → IsNext s es e
+    → e.call ≡ Fail b fault → slice_get (members (atoms (log es)) b) i ≡ Some m
+    → ending_of (es ++ e ∷ []) m.1 ≡ Some (record { at = length es; outcome = BatchFailed fault })
 failed_end s es e b fault i m legal next is got =
     let H = atoms (log es) in
     let batch : cell_batch H m.1 ≡ Some b = member_cell s.rules H b i m (legal_atoms s es legal) got in
@@ -83,12 +93,14 @@ failed_end s es e b fault i m legal next is got =
     shows_newest es e m.1 (BatchFailed fault) newest_is (rw (next.reply, is) refl)
 
 -- the fail spares each cell that is no member's
-pub failed_spares : (s : Service) (es : List Event) (e : Event) (b : ℕ) (fault : BatchFault) (c : ℕ) → IsNext s es e → e.call ≡ Fail b fault → NoCell (members (atoms (log es)) b) c → Spares (atoms (log es)) (made e.call e.reply) c
+pub failed_spares : (s : Service) (es : List Event) (e : Event) (b : ℕ) (fault : BatchFault) (c : ℕ) → IsNext s es e → e.call ≡ Fail b fault
+    → NoCell (members (atoms (log es)) b) c → Spares (atoms (log es)) (made e.call e.reply) c
 failed_spares s es e b fault c next is none = record {
   not_primed = rw (next.reply, is) refl;
   not_ended = λ n batch. rw (next.reply, is) (other_batch (atoms (log es)) b c n none batch);
 }
 
 -- each other cell shows what it showed
-pub failed_others : (s : Service) (es : List Event) (e : Event) (b : ℕ) (fault : BatchFault) (c : ℕ) → IsLegal s es → IsNext s es e → e.call ≡ Fail b fault → NoCell (members (atoms (log es)) b) c → ending_of (es ++ e ∷ []) c ≡ ending_of es c
+pub failed_others : (s : Service) (es : List Event) (e : Event) (b : ℕ) (fault : BatchFault) (c : ℕ) → IsLegal s es → IsNext s es e → e.call ≡ Fail b fault
+    → NoCell (members (atoms (log es)) b) c → ending_of (es ++ e ∷ []) c ≡ ending_of es c
 failed_others s es e b fault c legal next is none = spared_stays s es e c legal next (failed_spares s es e b fault c next is none)

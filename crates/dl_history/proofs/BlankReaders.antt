@@ -17,7 +17,8 @@ length-repeat zero x = refl
 length-repeat (suc n) x = ap suc (length-repeat n x)
 
 -- the reader of a turn
-pub blank_turn : (row : RowName) (from n : ℕ) (readers : List (Reading Ending)) (r : Reading Ending) → AreBlank row from readers → n < length readers → r ≡ get_or readers n r → (r.cell ≡ cell_of row (from + n)) × (r.known ≡ None)
+pub blank_turn : (row : RowName) (from n : ℕ) (readers : List (Reading Ending)) (r : Reading Ending) → AreBlank row from readers → n < length readers
+    → r ≡ get_or readers n r → (r.cell ≡ cell_of row (from + n)) × (r.known ≡ None)
 blank_turn row from n readers r blank within is = blank.at n r (slice_get_read readers (length readers) n r refl within is)
 
 -- how many cells there are, with so many more
@@ -25,7 +26,8 @@ pub length-begun : {X : Type 0} (before now : List X) (n : ℕ) (x : X) → now 
 length-begun before now n x grown = ap length grown ∙ (length-append before (repeat n (x ∷ [])) ∙ ap (λ k. length before + k) (length-repeat n x))
 
 -- one cell more, after so many
-pub begun_more : {X Y : Type 0} (before now next : List X) (ys : List Y) (y : Y) (x : X) → now ≡ before ++ repeat (length ys) (x ∷ []) → next ≡ now ++ x ∷ [] → next ≡ before ++ repeat (length (ys ++ y ∷ [])) (x ∷ [])
+pub begun_more : {X Y : Type 0} (before now next : List X) (ys : List Y) (y : Y) (x : X) → now ≡ before ++ repeat (length ys) (x ∷ []) → next ≡ now ++ x ∷ []
+    → next ≡ before ++ repeat (length (ys ++ y ∷ [])) (x ∷ [])
 begun_more {X} before now next ys y x grown more =
     let longer : length (ys ++ y ∷ []) ≡ suc (length ys) = omega (arith, length-append ys (y ∷ [])) in
     more ∙ (ap (λ (xs : List X). xs ++ x ∷ []) grown ∙ (append_assoc before (repeat (length ys) (x ∷ [])) (x ∷ [])

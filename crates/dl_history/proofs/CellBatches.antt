@@ -1,10 +1,12 @@
 -- The batch of a cell and the members of a batch, and that both stay once the batch is sent.
-use Rattle.std.proofs.Common.{◌≡◌, ◌∙◌, sym, ap, subst, ℕ, zero, suc, ◌<◌, ◌≤◌, ◌⊎◌, inl, inr, Bool, true, false, not, ◌&&◌, cond, List, [], ◌∷◌, ◌++◌, length, Option, Some, None, slice_get, nat_eq, nat_le, nat_lt, refl, arith}
+use Rattle.std.proofs.Common.{◌≡◌, ◌∙◌, sym, ap, subst, ℕ, zero, suc, ◌<◌, ◌≤◌, ◌⊎◌, inl, inr, Bool, true, false, not, ◌&&◌, cond, List, [], ◌∷◌, ◌++◌, length}
+use Rattle.std.proofs.Common.{Option, Some, None, slice_get, nat_eq, nat_le, nat_lt, refl, arith}
 use Rattle.std.proofs.lemmas.Bool.{and_parts, eqb-true, eq-eqb, ne_eqb, leb-true, cases_eq, cases_order}
 use Rattle.std.proofs.lemmas.Option.{slice_get_within}
 use Rattle.dl_desk.specs.Key.{Key}
 use Rattle.dl_desk.specs.Limits.{Rules, limit_of}
-use Rattle.dl_desk.specs.History.{Atom, Load, Prime, Clear, ClearAll, Dispatch, Settle, Fail, Begun, begins, cells, is_number, add_member, members, sent, begun, has_member, greatest, serves, is_open, room_in, room, load_reply, load_replies, MayEnd, IsAnswered, IsLegal}
+use Rattle.dl_desk.specs.History.{Atom, Load, Prime, Clear, ClearAll, Dispatch, Settle, Fail, Begun, begins, cells, is_number, add_member, members, sent, begun}
+use Rattle.dl_desk.specs.History.{has_member, greatest, serves, is_open, room_in, room, load_reply, load_replies, MayEnd, IsAnswered, IsLegal}
 use Rattle.dl_desk.specs.Events.{Made, One, Many, with_loads, with_made, IsReplied, ends_batch, ends, batch_at, cell_batch}
 use Rattle.dl_desk.specs.declared.reply.LoadReply.{LoadReply}
 use Rattle.dl_desk.proofs.Facts.{fresh_cell, sent-le}
@@ -60,7 +62,8 @@ some-is_number : (b : ℕ) (o : Option ℕ) → o ≡ Some b → is_number b o �
 some-is_number b None e = absurd (let bad : ◌≡◌ {A = Option ℕ} None (Some b) = e in cc)
 some-is_number b (Some n) e = let two : ◌≡◌ {A = Option ℕ} (Some n) (Some b) = e in let same : b ≡ n = cc in eq-eqb b n same
 
-cell_member_step : (history : List Atom) (c b : ℕ) (o : Option Begun) → (cell_batch history c ≡ Some b → HasCell (members history b) c) → batch_at c o (cell_batch history c) ≡ Some b → HasCell (add_member b o (members history b)) c
+cell_member_step : (history : List Atom) (c b : ℕ) (o : Option Begun) → (cell_batch history c ≡ Some b → HasCell (members history b) c)
+    → batch_at c o (cell_batch history c) ≡ Some b → HasCell (add_member b o (members history b)) c
 cell_member_step history c b None rest is = rest is
 cell_member_step history c b (Some g) rest is = by (nat_eq c g.cell) refl is
   where
@@ -68,7 +71,8 @@ cell_member_step history c b (Some g) rest is = by (nat_eq c g.cell) refl is
     grown true h = has_more (members history b) (g.key, g.cell) c h
     grown false h = h
 
-    by : (t : Bool) → nat_eq c g.cell ≡ t → cond t g.batch (cell_batch history c) ≡ Some b → HasCell (cond (is_number b g.batch) (members history b ++ (g.key, g.cell) ∷ []) (members history b)) c
+    by : (t : Bool) → nat_eq c g.cell ≡ t → cond t g.batch (cell_batch history c) ≡ Some b
+        → HasCell (cond (is_number b g.batch) (members history b ++ (g.key, g.cell) ∷ []) (members history b)) c
     by true same f = rw (some-is_number b g.batch f) (has_last (members history b) (g.key, g.cell) c (sym (eqb-true c g.cell same)))
     by false other f = grown (is_number b g.batch) (rest f)
 
@@ -88,10 +92,13 @@ below_at n (x ∷ ms) zero m below got =
 below_at n (x ∷ ms) (suc i) m below got = below_at n ms i m below.1 got
 
 -- the cell of a member was begun
-pub member_low : (rules : Rules) (history : List Atom) (b i : ℕ) (m : Key × ℕ) → IsLegal rules history → slice_get (members history b) i ≡ Some m → m.1 < cells history
+pub member_low : (rules : Rules) (history : List Atom) (b i : ℕ) (m : Key × ℕ) → IsLegal rules history → slice_get (members history b) i ≡ Some m
+    → m.1 < cells history
 member_low rules history b i m legal got = below_at (cells history) (members history b) i m (members-below rules history legal b) got
 
-member_cell_step : (rules : Rules) (history : List Atom) (a : Atom) (b i : ℕ) (m : Key × ℕ) (o : Option Begun) → IsLegal rules history → IsAnswered rules history a → begins a ≡ o → (slice_get (members history b) i ≡ Some m → cell_batch history m.1 ≡ Some b) → slice_get (add_member b o (members history b)) i ≡ Some m → batch_at m.1 o (cell_batch history m.1) ≡ Some b
+member_cell_step : (rules : Rules) (history : List Atom) (a : Atom) (b i : ℕ) (m : Key × ℕ) (o : Option Begun) → IsLegal rules history
+    → IsAnswered rules history a → begins a ≡ o → (slice_get (members history b) i ≡ Some m → cell_batch history m.1 ≡ Some b)
+    → slice_get (add_member b o (members history b)) i ≡ Some m → batch_at m.1 o (cell_batch history m.1) ≡ Some b
 member_cell_step rules history a b i m None legal answered is rest got = rest got
 member_cell_step rules history a b i m (Some g) legal answered is rest got = by (is_number b g.batch) refl got
   where
@@ -104,18 +111,23 @@ member_cell_step rules history a b i m (Some g) legal answered is rest got = by 
         let n = next in
         rw (ne_eqb m.1 g.cell (λ e. absurd (omega arith))) (rest at)
 
-    new : g.batch ≡ Some b → ((i < length (members history b)) × (slice_get (members history b) i ≡ Some m)) ⊎ ((i ≡ length (members history b)) × (m ≡ (g.key, g.cell))) → cond (nat_eq m.1 g.cell) g.batch (cell_batch history m.1) ≡ Some b
+    new : g.batch ≡ Some b
+        → ((i < length (members history b)) × (slice_get (members history b) i ≡ Some m)) ⊎ ((i ≡ length (members history b)) × (m ≡ (g.key, g.cell)))
+        → cond (nat_eq m.1 g.cell) g.batch (cell_batch history m.1) ≡ Some b
     new own (inl within) = old within.1
     new own (inr last) = let e : m.1 ≡ g.cell = ap (λ (y : Key × ℕ). y.1) last.1 in rw (eq-eqb m.1 g.cell e) own
 
-    by : (t : Bool) → is_number b g.batch ≡ t → slice_get (cond t (members history b ++ (g.key, g.cell) ∷ []) (members history b)) i ≡ Some m → cond (nat_eq m.1 g.cell) g.batch (cell_batch history m.1) ≡ Some b
+    by : (t : Bool) → is_number b g.batch ≡ t → slice_get (cond t (members history b ++ (g.key, g.cell) ∷ []) (members history b)) i ≡ Some m
+        → cond (nat_eq m.1 g.cell) g.batch (cell_batch history m.1) ≡ Some b
     by true own f = new (is_number-some b g.batch own) (get-snoc (members history b) (g.key, g.cell) m i f)
     by false other f = old f
 
 -- the cell of a member has the batch
-pub member_cell : (rules : Rules) (history : List Atom) (b i : ℕ) (m : Key × ℕ) → IsLegal rules history → slice_get (members history b) i ≡ Some m → cell_batch history m.1 ≡ Some b
+pub member_cell : (rules : Rules) (history : List Atom) (b i : ℕ) (m : Key × ℕ) → IsLegal rules history → slice_get (members history b) i ≡ Some m
+    → cell_batch history m.1 ≡ Some b
 member_cell rules [] b i m legal got = absurd (let bad : ◌≡◌ {A = Option (Key × ℕ)} None (Some m) = got in cc)
-member_cell rules (a ∷ before) b i m legal got = member_cell_step rules before a b i m (begins a) legal.1 legal.0 refl (member_cell rules before b i m legal.1) got
+member_cell rules (a ∷ before) b i m legal got =
+    member_cell_step rules before a b i m (begins a) legal.1 legal.0 refl (member_cell rules before b i m legal.1) got
 
 -- ---- the order of the members
 
@@ -126,7 +138,8 @@ Rising ms = (i j : ℕ) (m n : Key × ℕ) → i < j → slice_get ms i ≡ Some
 rising_push : (ms : List (Key × ℕ)) (x : Key × ℕ) → Rising ms → Below x.1 ms → Rising (ms ++ x ∷ [])
 rising_push ms x rising below i j m n low first second = by (get-snoc ms x m i first) (get-snoc ms x n j second)
   where
-    by : ((i < length ms) × (slice_get ms i ≡ Some m)) ⊎ ((i ≡ length ms) × (m ≡ x)) → ((j < length ms) × (slice_get ms j ≡ Some n)) ⊎ ((j ≡ length ms) × (n ≡ x)) → m.1 < n.1
+    by : ((i < length ms) × (slice_get ms i ≡ Some m)) ⊎ ((i ≡ length ms) × (m ≡ x))
+        → ((j < length ms) × (slice_get ms j ≡ Some n)) ⊎ ((j ≡ length ms) × (n ≡ x)) → m.1 < n.1
     by (inl f) (inl s) = rising i j m n low f.1 s.1
     by (inl f) (inr s) =
         let l : m.1 < x.1 = below_at x.1 ms i m below f.1 in
@@ -135,12 +148,14 @@ rising_push ms x rising below i j m n low first second = by (get-snoc ms x m i f
     by (inr f) (inl s) = let p = f.0 in let q = s.0 in absurd (omega arith)
     by (inr f) (inr s) = let p = f.0 in let q = s.0 in absurd (omega arith)
 
-rising_step : (rules : Rules) (history : List Atom) (a : Atom) (b : ℕ) (o : Option Begun) → IsLegal rules history → IsAnswered rules history a → begins a ≡ o → Rising (members history b) → Rising (add_member b o (members history b))
+rising_step : (rules : Rules) (history : List Atom) (a : Atom) (b : ℕ) (o : Option Begun) → IsLegal rules history → IsAnswered rules history a → begins a ≡ o
+    → Rising (members history b) → Rising (add_member b o (members history b))
 rising_step rules history a b None legal answered is rising = rising
 rising_step rules history a b (Some g) legal answered is rising = by (is_number b g.batch)
   where
     below : Below g.cell (members history b)
-    below = let P : ℕ → Type 0 = λ n. Below n (members history b) in subst P (sym (fresh_cell rules history a g answered is).cell_is) (members-below rules history legal b)
+    below = let P : ℕ → Type 0 =
+        λ n. Below n (members history b) in subst P (sym (fresh_cell rules history a g answered is).cell_is) (members-below rules history legal b)
 
     by : (t : Bool) → Rising (cond t (members history b ++ (g.key, g.cell) ∷ []) (members history b))
     by true = rising_push (members history b) (g.key, g.cell) rising below
@@ -152,7 +167,8 @@ members-rise rules [] b legal = λ i j m n low first second. absurd (let bad : �
 members-rise rules (a ∷ before) b legal = rising_step rules before a b (begins a) legal.1 legal.0 refl (members-rise rules before b legal.1)
 
 -- so no two members have one cell
-pub members-apart : (rules : Rules) (history : List Atom) (b i j : ℕ) (m n : Key × ℕ) → IsLegal rules history → slice_get (members history b) i ≡ Some m → slice_get (members history b) j ≡ Some n → m.1 ≡ n.1 → i ≡ j
+pub members-apart : (rules : Rules) (history : List Atom) (b i j : ℕ) (m n : Key × ℕ) → IsLegal rules history → slice_get (members history b) i ≡ Some m
+    → slice_get (members history b) j ≡ Some n → m.1 ≡ n.1 → i ≡ j
 members-apart rules history b i j m n legal first second same = by (cases_order i j)
   where
     by : (i ≡ j) ⊎ ((i < j) ⊎ (j < i)) → i ≡ j
@@ -174,13 +190,16 @@ room_in-unsent rules history k (Some b) = by (is_open rules history k b) refl
     by false other = sent-le history
 
 -- the batch of a cell that is begun isn't sent
-begun_unsent : (rules : Rules) (history : List Atom) (a : Atom) (g : Begun) (b : ℕ) → IsAnswered rules history a → begins a ≡ Some g → g.batch ≡ Some b → sent history ≤ b
+begun_unsent : (rules : Rules) (history : List Atom) (a : Atom) (g : Begun) (b : ℕ) → IsAnswered rules history a → begins a ≡ Some g → g.batch ≡ Some b
+    → sent history ≤ b
 begun_unsent rules history a g b answered is own =
     let e : b ≡ room rules history g.key = (fresh_cell rules history a g answered is).batch_is b own in
-    let high : sent history ≤ room rules history g.key = room_in-unsent rules history g.key (greatest (λ n. serves rules g.key (members history n)) (begun history)) in
+    let high : sent history ≤ room rules history g.key =
+    room_in-unsent rules history g.key (greatest (λ n. serves rules g.key (members history n)) (begun history)) in
     omega arith
 
-members_stay_step : (rules : Rules) (history : List Atom) (a : Atom) (b : ℕ) (o : Option Begun) → IsAnswered rules history a → begins a ≡ o → b < sent history → add_member b o (members history b) ≡ members history b
+members_stay_step : (rules : Rules) (history : List Atom) (a : Atom) (b : ℕ) (o : Option Begun) → IsAnswered rules history a → begins a ≡ o → b < sent history
+    → add_member b o (members history b) ≡ members history b
 members_stay_step rules history a b None answered is low = refl
 members_stay_step rules history a b (Some g) answered is low = by (is_number b g.batch) refl
   where
@@ -188,18 +207,23 @@ members_stay_step rules history a b (Some g) answered is low = by (is_number b g
     by true own = let high = begun_unsent rules history a g b answered is (is_number-some b g.batch own) in absurd (omega arith)
     by false other = refl
 
-members_stay_loads : (rules : Rules) (history : List Atom) (ks : List Key) (b : ℕ) → b < sent history → members (with_loads ks (load_replies rules history ks) history) b ≡ members history b
+members_stay_loads : (rules : Rules) (history : List Atom) (ks : List Key) (b : ℕ) → b < sent history
+    → members (with_loads ks (load_replies rules history ks) history) b ≡ members history b
 members_stay_loads rules history [] b low = refl
 members_stay_loads rules history (k ∷ ks) b low =
     let r = load_reply rules history k in
     members_stay_loads rules (Load k r ∷ history) ks b low ∙ members_stay_step rules history (Load k r) b (begins (Load k r)) refl refl low
 
 -- a batch that is sent gets no more members
-pub members_stay : (rules : Rules) (history : List Atom) (m : Made) (b : ℕ) → IsReplied rules history m → b < sent history → members (with_made m history) b ≡ members history b
+pub members_stay : (rules : Rules) (history : List Atom) (m : Made) (b : ℕ) → IsReplied rules history m → b < sent history
+    → members (with_made m history) b ≡ members history b
 members_stay rules history (One a) b replied low = members_stay_step rules history a b (begins a) replied refl low
-members_stay rules history (Many ks rs) b replied low = subst (λ (replies : List LoadReply). members (with_loads ks replies history) b ≡ members history b) (sym replied) (members_stay_loads rules history ks b low)
+members_stay rules history (Many ks rs) b replied low =
+    subst (λ (replies : List LoadReply). members (with_loads ks replies history) b ≡ members history b) (sym replied)
+    (members_stay_loads rules history ks b low)
 
-unsent_step : (rules : Rules) (history : List Atom) (a : Atom) (c : ℕ) (o : Option Begun) → IsAnswered rules history a → begins a ≡ o → ((b : ℕ) → cell_batch history c ≡ Some b → sent history ≤ b) → (b : ℕ) → batch_at c o (cell_batch history c) ≡ Some b → sent history ≤ b
+unsent_step : (rules : Rules) (history : List Atom) (a : Atom) (c : ℕ) (o : Option Begun) → IsAnswered rules history a → begins a ≡ o
+    → ((b : ℕ) → cell_batch history c ≡ Some b → sent history ≤ b) → (b : ℕ) → batch_at c o (cell_batch history c) ≡ Some b → sent history ≤ b
 unsent_step rules history a c None answered is rest b f = rest b f
 unsent_step rules history a c (Some g) answered is rest b f = by (nat_eq c g.cell) f
   where
@@ -207,16 +231,20 @@ unsent_step rules history a c (Some g) answered is rest b f = by (nat_eq c g.cel
     by true own = begun_unsent rules history a g b answered is own
     by false old = rest b old
 
-unsent_loads : (rules : Rules) (history : List Atom) (ks : List Key) (c : ℕ) → ((b : ℕ) → cell_batch history c ≡ Some b → sent history ≤ b) → (b : ℕ) → cell_batch (with_loads ks (load_replies rules history ks) history) c ≡ Some b → sent history ≤ b
+unsent_loads : (rules : Rules) (history : List Atom) (ks : List Key) (c : ℕ) → ((b : ℕ) → cell_batch history c ≡ Some b → sent history ≤ b) → (b : ℕ)
+    → cell_batch (with_loads ks (load_replies rules history ks) history) c ≡ Some b → sent history ≤ b
 unsent_loads rules history [] c rest = rest
 unsent_loads rules history (k ∷ ks) c rest =
     let r = load_reply rules history k in
     unsent_loads rules (Load k r ∷ history) ks c (unsent_step rules history (Load k r) c (begins (Load k r)) refl refl rest)
 
 -- a cell whose batch isn't sent, if it has one, has no sent one after a call
-pub still_unsent : (rules : Rules) (history : List Atom) (m : Made) (c : ℕ) → IsReplied rules history m → ((b : ℕ) → cell_batch history c ≡ Some b → sent history ≤ b) → (b : ℕ) → cell_batch (with_made m history) c ≡ Some b → sent history ≤ b
+pub still_unsent : (rules : Rules) (history : List Atom) (m : Made) (c : ℕ) → IsReplied rules history m
+    → ((b : ℕ) → cell_batch history c ≡ Some b → sent history ≤ b) → (b : ℕ) → cell_batch (with_made m history) c ≡ Some b → sent history ≤ b
 still_unsent rules history (One a) c replied rest = unsent_step rules history a c (begins a) replied refl rest
-still_unsent rules history (Many ks rs) c replied rest = subst (λ (replies : List LoadReply). (b : ℕ) → cell_batch (with_loads ks replies history) c ≡ Some b → sent history ≤ b) (sym replied) (unsent_loads rules history ks c rest)
+still_unsent rules history (Many ks rs) c replied rest =
+    subst (λ (replies : List LoadReply). (b : ℕ) → cell_batch (with_loads ks replies history) c ≡ Some b
+    → sent history ≤ b) (sym replied) (unsent_loads rules history ks c rest)
 
 atom_may_end : (rules : Rules) (history : List Atom) (a : Atom) (b : ℕ) → IsAnswered rules history a → ends_batch b a ≡ true → MayEnd history b
 atom_may_end rules history (Load k r) b answered e = absurd (let bad : false ≡ true = e in cc)

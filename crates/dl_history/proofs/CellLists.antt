@@ -1,5 +1,6 @@
 -- Lists of cells: with more that wait, and with one that is set.
-use Rattle.std.proofs.Common.{◌≡◌, ◌∙◌, sym, ap, subst, ℕ, zero, suc, ◌-◌, ◌<◌, ◌≤◌, ◌⊎◌, inl, inr, Bool, true, false, List, [], ◌∷◌, ◌++◌, length, set, Option, Some, None, MatchBool, slice_get, refl, arith}
+use Rattle.std.proofs.Common.{◌≡◌, ◌∙◌, sym, ap, subst, ℕ, zero, suc, ◌-◌, ◌<◌, ◌≤◌, ◌⊎◌, inl, inr, Bool, true, false, List, [], ◌∷◌, ◌++◌, length, set, Option}
+use Rattle.std.proofs.Common.{Some, None, MatchBool, slice_get, refl, arith}
 use Rattle.std.specs.Global.{Box}
 use Rattle.std.specs.List.{repeat}
 use Rattle.std.proofs.Math.Seq.{set-append_seam}
@@ -12,12 +13,14 @@ use Rattle.dl_history.specs.Kept.{ShowsEnd}
 -- ---- more elements
 
 -- an element of two lists, one after the other, is one of the first's, or stands past it as one of the second's
-pub get-append_cases : {X : Type 0} (xs ys : List X) (i : ℕ) (z : X) → slice_get (xs ++ ys) i ≡ Some z → ((i < length xs) × (slice_get xs i ≡ Some z)) ⊎ ((length xs ≤ i) × (slice_get ys (i - length xs) ≡ Some z))
+pub get-append_cases : {X : Type 0} (xs ys : List X) (i : ℕ) (z : X) → slice_get (xs ++ ys) i ≡ Some z
+    → ((i < length xs) × (slice_get xs i ≡ Some z)) ⊎ ((length xs ≤ i) × (slice_get ys (i - length xs) ≡ Some z))
 get-append_cases [] ys i z got = inr (omega arith, let same : i - 0 ≡ i = omega arith in rw same got)
 get-append_cases (x ∷ xs) ys zero z got = inl (omega arith, got)
 get-append_cases {X} (x ∷ xs) ys (suc i) z got = by (get-append_cases xs ys i z got)
   where
-    by : ((i < length xs) × (slice_get xs i ≡ Some z)) ⊎ ((length xs ≤ i) × (slice_get ys (i - length xs) ≡ Some z)) → ((suc i < length (x ∷ xs)) × (slice_get xs i ≡ Some z)) ⊎ ((length (x ∷ xs) ≤ suc i) × (slice_get ys (suc i - length (x ∷ xs)) ≡ Some z))
+    by : ((i < length xs) × (slice_get xs i ≡ Some z)) ⊎ ((length xs ≤ i) × (slice_get ys (i - length xs) ≡ Some z))
+        → ((suc i < length (x ∷ xs)) × (slice_get xs i ≡ Some z)) ⊎ ((length (x ∷ xs) ≤ suc i) × (slice_get ys (suc i - length (x ∷ xs)) ≡ Some z))
     by (inl old) = inl (let l = old.0 in omega arith, old.1)
     by (inr new) =
         let same : suc i - length (x ∷ xs) ≡ i - length xs = omega arith in
@@ -69,7 +72,8 @@ pub ended_shows : (end : Ending) → ShowsEnd (Some end) (ended end).mark (ended
 ended_shows end = (refl, refl)
 
 -- and one that refused it keeps it, whatever else it shows
-pub refused_shows : (end : Ending) (kept : Box Ending) (other : Option Ending) → kept.value ≡ end → ShowsEnd (Some end) (refused kept other).mark (refused kept other).shows
+pub refused_shows : (end : Ending) (kept : Box Ending) (other : Option Ending) → kept.value ≡ end
+    → ShowsEnd (Some end) (refused kept other).mark (refused kept other).shows
 refused_shows end kept other same = ap (λ (e : Ending). Some e) (sym same)
 
 -- a cell that shows an end shows an equal one
@@ -89,6 +93,7 @@ pub open_waits : (x : Cell) → ShowsEnd None x.mark x.shows → x ≡ waiting
 open_waits x shows = open_at x.mark x.shows shows
 
 -- the cells after one was given its end, whether it took it or refused it
-pub gets_end : (took : Bool) (old new : List Cell) (c : ℕ) (end : Ending) → MatchBool took (new ≡ set old c (ended end)) (Refuses old new c end) → (x : Cell) × (new ≡ set old c x) × ShowsEnd (Some end) x.mark x.shows
+pub gets_end : (took : Bool) (old new : List Cell) (c : ℕ) (end : Ending) → MatchBool took (new ≡ set old c (ended end)) (Refuses old new c end)
+    → (x : Cell) × (new ≡ set old c x) × ShowsEnd (Some end) x.mark x.shows
 gets_end true old new c end is = (ended end, is, ended_shows end)
 gets_end false old new c end is = (refused is.0 is.1, is.3, refused_shows end is.0 is.1 is.2)

@@ -1,5 +1,6 @@
 -- What is kept of a cell's outcome: what the cell shows or keeps is what the history gives it.
-use Rattle.std.proofs.Common.{◌≡◌, ◌∙◌, sym, ap, ℕ, ◌<◌, ◌≤◌, ◌⊎◌, inl, inr, true, false, List, length, Option, Some, None, IsSome, MatchOption, option_map, slice_get, refl, arith}
+use Rattle.std.proofs.Common.{◌≡◌, ◌∙◌, sym, ap, ℕ, ◌<◌, ◌≤◌, ◌⊎◌, inl, inr, true, false, List, length, Option, Some, None, IsSome, MatchOption, option_map}
+use Rattle.std.proofs.Common.{slice_get, refl, arith}
 use Rattle.std.proofs.lemmas.Bool.{cases_lt}
 use Rattle.dl_desk.specs.Events.{Placed, atoms, ending, outcome, outcome_given}
 use Rattle.dl_desk.specs.History.{cells}
@@ -43,11 +44,13 @@ shown_as s b c kept = by (slice_get b.cells c) refl
     by (Some x) some = kept.ends c x some
 
 -- what is kept of a cell tells what the history gives it
-pub kept_outcome : (s : Service) (b : Kept) (c : ℕ) (got : Option Outcome) → IsKept s b → ((end : Option Ending) → ShownAs (slice_get b.cells c) end → got ≡ option_map (λ e. e.outcome) end) → got ≡ outcome (log b.history) c
+pub kept_outcome : (s : Service) (b : Kept) (c : ℕ) (got : Option Outcome) → IsKept s b
+    → ((end : Option Ending) → ShownAs (slice_get b.cells c) end → got ≡ option_map (λ e. e.outcome) end) → got ≡ outcome (log b.history) c
 kept_outcome s b c got kept tells = tells (ending_of b.history c) (shown_as s b c kept) ∙ sym (outcome_of_end b.history c)
 
 -- where each batch has ended, a cell has an outcome exactly where it was begun
-pub outcome_begun : {X : Type 0} (f : X → Outcome) (r : Option X) (s : Service) (es : List Event) (c : ℕ) → AnswersEach s.answer → IsLegal s es → AllEnded es → option_map f r ≡ outcome (log es) c
+pub outcome_begun : {X : Type 0} (f : X → Outcome) (r : Option X) (s : Service) (es : List Event) (c : ℕ) → AnswersEach s.answer → IsLegal s es → AllEnded es
+    → option_map f r ≡ outcome (log es) c
     → MatchOption r (cells (atoms (log es)) ≤ c) (λ x. c < cells (atoms (log es)))
 outcome_begun {X} f r s es c answers legal all given = by r (given ∙ outcome_of_end es c) (cases_lt c (cells (atoms (log es))))
   where
@@ -55,7 +58,8 @@ outcome_begun {X} f r s es c answers legal all given = by r (given ∙ outcome_o
     some None is none = absurd (let bad : false ≡ true = is in cc)
     some (Some x) is none = absurd (let bad : ◌≡◌ {A = Option Outcome} None (Some x.outcome) = none in cc)
 
-    by : (o : Option X) → option_map f o ≡ option_map (λ (x : Ending). x.outcome) (ending_of es c) → (c < cells (atoms (log es))) ⊎ (cells (atoms (log es)) ≤ c) → MatchOption o (cells (atoms (log es)) ≤ c) (λ x. c < cells (atoms (log es)))
+    by : (o : Option X) → option_map f o ≡ option_map (λ (x : Ending). x.outcome) (ending_of es c) → (c < cells (atoms (log es))) ⊎ (cells (atoms (log es)) ≤ c)
+        → MatchOption o (cells (atoms (log es)) ≤ c) (λ x. c < cells (atoms (log es)))
     by None is (inl low) = absurd (some (ending_of es c) (shows_end s es c answers legal all low) is)
     by None is (inr high) = high
     by (Some x) is (inl low) = low

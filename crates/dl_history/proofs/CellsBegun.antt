@@ -1,9 +1,11 @@
 -- The cells with which calls are answered: each of them was begun.
-use Rattle.std.proofs.Common.{◌≡◌, ap, ℕ, suc, ◌+◌, ◌<◌, ◌≤◌, Bool, true, false, cond, List, [], ◌∷◌, ◌++◌, length, Option, Some, None, refl, arith, take, drop, slice_get}
+use Rattle.std.proofs.Common.{◌≡◌, ap, ℕ, suc, ◌+◌, ◌<◌, ◌≤◌, Bool, true, false, cond, List, [], ◌∷◌, ◌++◌, length, Option, Some, None, refl, arith, take, drop}
+use Rattle.std.proofs.Common.{slice_get}
 use Rattle.std.specs.List.{list_any}
 use Rattle.dl_desk.specs.Key.{Key, key_eq}
 use Rattle.dl_desk.specs.Limits.{Rules}
-use Rattle.dl_desk.specs.History.{Atom, Begun, begins, cells, count_cell, Latest, later, latest_at, latest, forgets, cell_kept, held, load_reply, load_replies, loaded, IsAnswered, IsLegal as AreLegal}
+use Rattle.dl_desk.specs.History.{Atom, Begun, begins, cells, count_cell, Latest, later, latest_at, latest, forgets, cell_kept, held, load_reply, load_replies}
+use Rattle.dl_desk.specs.History.{loaded, IsAnswered, IsLegal as AreLegal}
 use Rattle.dl_desk.specs.History as atom
 use Rattle.dl_desk.specs.Events.{atoms}
 use Rattle.dl_desk.specs.Calls.{after}
@@ -25,7 +27,8 @@ use Rattle.dl_history.proofs.ListLemmas.{every_map}
 
 -- ---- the cell that is held
 
-latest_step : (rules : Rules) (a : Atom) (before : List Atom) (k : Key) (l : Latest) (o : Option Begun) (rest : Option Latest) → IsAnswered rules before a → begins a ≡ o → ((x : Latest) → rest ≡ Some x → x.cell < cells before) → latest_at k o (later a rest) ≡ Some l → l.cell < count_cell o (cells before)
+latest_step : (rules : Rules) (a : Atom) (before : List Atom) (k : Key) (l : Latest) (o : Option Begun) (rest : Option Latest) → IsAnswered rules before a
+    → begins a ≡ o → ((x : Latest) → rest ≡ Some x → x.cell < cells before) → latest_at k o (later a rest) ≡ Some l → l.cell < count_cell o (cells before)
 latest_step rules a before k l None None answered is low got = absurd (let bad : ◌≡◌ {A = Option Latest} None (Some l) = got in cc)
 latest_step rules a before k l None (Some x) answered is low got =
     let old : x.cell < cells before = low x refl in
@@ -34,7 +37,8 @@ latest_step rules a before k l None (Some x) answered is low got =
     omega arith
 latest_step rules a before k l (Some g) rest answered is low got = by (key_eq g.key k) rest low got
   where
-    by : (t : Bool) (r : Option Latest) → ((x : Latest) → r ≡ Some x → x.cell < cells before) → cond t (Some (record { cell = g.cell; batch = g.batch; after = [] })) (later a r) ≡ Some l → l.cell < cells before + 1
+    by : (t : Bool) (r : Option Latest) → ((x : Latest) → r ≡ Some x → x.cell < cells before)
+        → cond t (Some (record { cell = g.cell; batch = g.batch; after = [] })) (later a r) ≡ Some l → l.cell < cells before + 1
     by true r b e =
         let inner : record { cell = g.cell; batch = g.batch; after = [] } ≡ l = cc in
         let cell : g.cell ≡ l.cell = ap (λ (y : Latest). y.cell) inner in
@@ -66,7 +70,8 @@ held_low rules history legal k c got = by (latest history k) (latest_low rules h
 -- ---- the cells of replies
 
 -- the cell with which a load is answered was begun, with the load
-pub reply_low : (rules : Rules) (history : List Atom) → AreLegal rules history → (k : Key) (r : LoadReply) → r ≡ load_reply rules history k → cell_of_load r < cells (atom.Load k r ∷ history)
+pub reply_low : (rules : Rules) (history : List Atom) → AreLegal rules history → (k : Key) (r : LoadReply) → r ≡ load_reply rules history k
+    → cell_of_load r < cells (atom.Load k r ∷ history)
 reply_low rules history legal k r is = by (held history k) refl
   where
     by : (o : Option ℕ) → held history k ≡ o → cell_of_load r < cells (atom.Load k r ∷ history)
@@ -89,7 +94,8 @@ cells_loaded rules history (k ∷ ks) =
     by (Fresh c b) = omega arith
 
 -- and so were those of a loadMany
-pub replies_low : (rules : Rules) (history : List Atom) → AreLegal rules history → (ks : List Key) → Every (λ r. cell_of_load r < cells (loaded rules history ks)) (load_replies rules history ks)
+pub replies_low : (rules : Rules) (history : List Atom) → AreLegal rules history → (ks : List Key)
+    → Every (λ r. cell_of_load r < cells (loaded rules history ks)) (load_replies rules history ks)
 replies_low rules history legal [] = tt
 replies_low rules history legal (k ∷ ks) =
     let r = load_reply rules history k in
@@ -109,12 +115,16 @@ abbrev pub AllBelow : ℕ → List ℕ → Type 0
 AllBelow n cs = Every (λ c. c < n) cs
 
 -- by a next event
-answered_now : (s : Service) (es : List Event) (e : Event) (call : Call) → IsLegal s es → IsNext s es e → e.call ≡ call → AllBelow (cells (after s.rules (atoms (log es)) (call_of call))) (answered (reply_to s.rules (atoms (log es)) call))
+answered_now : (s : Service) (es : List Event) (e : Event) (call : Call) → IsLegal s es → IsNext s es e → e.call ≡ call
+    → AllBelow (cells (after s.rules (atoms (log es)) (call_of call))) (answered (reply_to s.rules (atoms (log es)) call))
 answered_now s es e (Load k) legal next is = (reply_low s.rules (atoms (log es)) (legal_atoms s es legal) k _ refl, tt)
-answered_now s es e (LoadMany ks) legal next is = every_map cell_of_load (λ c. c < cells (loaded s.rules (atoms (log es)) ks)) (load_replies s.rules (atoms (log es)) ks) (replies_low s.rules (atoms (log es)) (legal_atoms s es legal) ks)
+answered_now s es e (LoadMany ks) legal next is =
+    every_map cell_of_load (λ c. c < cells (loaded s.rules (atoms (log es)) ks)) (load_replies s.rules (atoms (log es)) ks)
+    (replies_low s.rules (atoms (log es)) (legal_atoms s es legal) ks)
 answered_now s es e (Prime k o) legal next is = by (held (atoms (log es)) k) refl
   where
-    by : (h : Option ℕ) → held (atoms (log es)) k ≡ h → AllBelow (cells (after s.rules (atoms (log es)) (call_of (Prime k o)))) (answered (reply_to s.rules (atoms (log es)) (Prime k o)))
+    by : (h : Option ℕ) → held (atoms (log es)) k ≡ h
+        → AllBelow (cells (after s.rules (atoms (log es)) (call_of (Prime k o)))) (answered (reply_to s.rules (atoms (log es)) (Prime k o)))
     by None none = rw none (omega arith, tt)
     by (Some c) some = rw some tt
 answered_now s es e (Clear k) legal next is = tt
@@ -146,7 +156,8 @@ all_below_more n m [] more below = tt
 all_below_more n m (c ∷ cs) more below = (let low = below.0 in omega arith, all_below_more n m cs more below.1)
 
 -- by each event of a legal history
-pub answered_low : (s : Service) (es : List Event) (k : ℕ) (e : Event) → IsLegal s es → slice_get es k ≡ Some e → AllBelow (cells (atoms (log es))) (answered e.reply)
+pub answered_low : (s : Service) (es : List Event) (k : ℕ) (e : Event) → IsLegal s es → slice_get es k ≡ Some e
+    → AllBelow (cells (atoms (log es))) (answered e.reply)
 answered_low s es k e legal got =
     let split : take (suc k) es ++ drop (suc k) es ≡ es = take-append-drop (suc k) es in
     let front : take k es ++ drop k es ≡ es = take-append-drop k es in

@@ -1,11 +1,14 @@
 -- Where each batch has ended, each cell that was begun has an end and shows it.
-use Rattle.std.proofs.Common.{◌≡◌, ◌∙◌, sym, ℕ, ◌<◌, ◌≤◌, ◌⊎◌, inl, inr, Bool, true, false, cond, ◌||◌, List, [], ◌∷◌, Option, Some, None, IsSome, nat_eq, refl, arith}
+use Rattle.std.proofs.Common.{◌≡◌, ◌∙◌, sym, ℕ, ◌<◌, ◌≤◌, ◌⊎◌, inl, inr, Bool, true, false, cond, ◌||◌, List, [], ◌∷◌, Option, Some, None, IsSome, nat_eq, refl}
+use Rattle.std.proofs.Common.{arith}
 use Rattle.std.specs.Option.{option_or}
 use Rattle.std.proofs.lemmas.Bool.{and_right, cases_lt, eq-eqb, ltb-true}
 use Rattle.dl_desk.specs.Key.{Key}
 use Rattle.dl_desk.specs.Limits.{Rules}
-use Rattle.dl_desk.specs.History.{Atom, Load, Prime, Clear, ClearAll, Dispatch, Settle, Fail, Begun, begins, cells, count_cell, is_number, batch_of, is_named, begun, load_reply, load_replies, end_of, IsAnswered, IsLegal}
-use Rattle.dl_desk.specs.Events.{Made, One, Many, Event, with_loads, with_made, atoms, IsReplied, IsLegalLog, Placed, newest, last_of, primes, ends_batch, ends, batch_at, cell_batch, ending, ended}
+use Rattle.dl_desk.specs.History.{Atom, Load, Prime, Clear, ClearAll, Dispatch, Settle, Fail, Begun, begins, cells, count_cell, is_number, batch_of, is_named}
+use Rattle.dl_desk.specs.History.{begun, load_reply, load_replies, end_of, IsAnswered, IsLegal}
+use Rattle.dl_desk.specs.Events.{Made, One, Many, Event, with_loads, with_made, atoms, IsReplied, IsLegalLog, Placed, newest, last_of, primes, ends_batch, ends}
+use Rattle.dl_desk.specs.Events.{batch_at, cell_batch, ending, ended}
 use Rattle.dl_desk.specs.declared.reply.LoadReply.{LoadReply}
 use Rattle.dl_desk.specs.declared.reply.LoadReply.TheVariants.{Hit, Fresh}
 use Rattle.dl_desk.specs.declared.reply.End.{End}
@@ -33,7 +36,8 @@ begun_by history a c g is same = by g.batch refl
     by (Some b) batch = inl (b, rw (is, eq-eqb c g.cell same) batch)
     by None batch = inr (rw (is, eq-eqb c g.cell same, batch) refl)
 
-atom_begins : (rules : Rules) (history : List Atom) (a : Atom) (c : ℕ) → IsAnswered rules history a → cells history ≤ c → c < cells (a ∷ history) → IsBatched (a ∷ history) c ⊎ (primes c (One a) ≡ true)
+atom_begins : (rules : Rules) (history : List Atom) (a : Atom) (c : ℕ) → IsAnswered rules history a → cells history ≤ c → c < cells (a ∷ history)
+    → IsBatched (a ∷ history) c ⊎ (primes c (One a) ≡ true)
 atom_begins rules history a c answered high low = by (begins a) refl low
   where
     by : (o : Option Begun) → begins a ≡ o → c < count_cell o (cells history) → IsBatched (a ∷ history) c ⊎ (primes c (One a) ≡ true)
@@ -49,7 +53,8 @@ load_unprimed c k (Fresh d b) is =
     let bad : false ≡ true = sym none ∙ is in
     cc
 
-loads_begin : (rules : Rules) (history : List Atom) (ks : List Key) (c : ℕ) → cells history ≤ c → c < cells (with_loads ks (load_replies rules history ks) history) → IsBatched (with_loads ks (load_replies rules history ks) history) c
+loads_begin : (rules : Rules) (history : List Atom) (ks : List Key) (c : ℕ) → cells history ≤ c
+    → c < cells (with_loads ks (load_replies rules history ks) history) → IsBatched (with_loads ks (load_replies rules history ks) history) c
 loads_begin rules history [] c high low = absurd (omega arith)
 loads_begin rules history (k ∷ ks) c high low = by (loads_begin rules (Load k r ∷ history) ks c) (cases_lt c (cells (Load k r ∷ history)))
   where
@@ -63,11 +68,13 @@ loads_begin rules history (k ∷ ks) c high low = by (loads_begin rules (Load k 
     first (inl batched) l = (batched.0, made_kept rules now (Many ks (load_replies rules now ks)) c refl l ∙ batched.1)
     first (inr primed) l = absurd (load_unprimed c k r primed)
 
-    by : (cells now ≤ c → c < cells (with_loads ks (load_replies rules now ks) now) → IsBatched (with_loads ks (load_replies rules now ks) now) c) → (c < cells now) ⊎ (cells now ≤ c) → IsBatched (with_loads ks (load_replies rules now ks) now) c
+    by : (cells now ≤ c → c < cells (with_loads ks (load_replies rules now ks) now) → IsBatched (with_loads ks (load_replies rules now ks) now) c)
+        → (c < cells now) ⊎ (cells now ≤ c) → IsBatched (with_loads ks (load_replies rules now ks) now) c
     by rest (inl l) = first (atom_begins rules history (Load k r) c refl high l) l
     by rest (inr h) = rest h low
 
-made_begins : (rules : Rules) (history : List Atom) (m : Made) (c : ℕ) → IsReplied rules history m → cells history ≤ c → c < cells (with_made m history) → IsBatched (with_made m history) c ⊎ (primes c m ≡ true)
+made_begins : (rules : Rules) (history : List Atom) (m : Made) (c : ℕ) → IsReplied rules history m → cells history ≤ c → c < cells (with_made m history)
+    → IsBatched (with_made m history) c ⊎ (primes c m ≡ true)
 made_begins rules history (One a) c replied high low = atom_begins rules history a c replied high low
 made_begins rules history (Many ks rs) c replied high low = rw replied (inl (loads_begin rules history ks c high (rw replied at low)))
 
@@ -75,7 +82,8 @@ made_begins rules history (Many ks rs) c replied high low = rw replied (inl (loa
 abbrev IsBegun : List Event → ℕ → Type 0
 IsBegun log c = IsBatched (atoms log) c ⊎ ((p : Placed) × (last_of (primes c) log ≡ Some p))
 
-begun_more : (rules : Rules) (e : Event) (before : List Event) (c : ℕ) → IsReplied rules (atoms before) e.made → c < cells (atoms before) → IsBegun before c → IsBegun (e ∷ before) c
+begun_more : (rules : Rules) (e : Event) (before : List Event) (c : ℕ) → IsReplied rules (atoms before) e.made → c < cells (atoms before) → IsBegun before c
+    → IsBegun (e ∷ before) c
 begun_more rules e before c replied low (inl batched) = inl (batched.0, made_kept rules (atoms before) e.made c replied low ∙ batched.1)
 begun_more rules e before c replied low (inr primed) = inr (by (primes c e.made))
   where
@@ -97,7 +105,8 @@ is_begun rules (e ∷ before) c legal low = by (is_begun rules before c legal.1)
 
 -- ---- the batch of a cell
 
-named_at : (history : List Atom) (c b : ℕ) (o : Option Begun) → (cell_batch history c ≡ Some b → is_named history b ≡ true) → batch_at c o (cell_batch history c) ≡ Some b → (is_number b (batch_of o) || is_named history b) ≡ true
+named_at : (history : List Atom) (c b : ℕ) (o : Option Begun) → (cell_batch history c ≡ Some b → is_named history b ≡ true)
+    → batch_at c o (cell_batch history c) ≡ Some b → (is_number b (batch_of o) || is_named history b) ≡ true
 named_at history c b None rest is = rest is
 named_at history c b (Some g) rest is = by (nat_eq c g.cell) is
   where
@@ -146,18 +155,21 @@ last_ended : (log : List Event) (b : ℕ) → IsSome (end_of (atoms log) b) → 
 last_ended [] b some = absurd (let bad : false ≡ true = some in cc)
 last_ended (e ∷ before) b some = by (last_ended before b) (ends b e.made) refl
   where
-    by : (IsSome (end_of (atoms before) b) → (p : Placed) × (last_of (ends b) before ≡ Some p)) → (t : Bool) → ends b e.made ≡ t → (p : Placed) × (cond t (Some (newest before e)) (last_of (ends b) before) ≡ Some p)
+    by : (IsSome (end_of (atoms before) b) → (p : Placed) × (last_of (ends b) before ≡ Some p)) → (t : Bool) → ends b e.made ≡ t
+        → (p : Placed) × (cond t (Some (newest before e)) (last_of (ends b) before) ≡ Some p)
     by rest true now = (newest before e, refl)
     by rest false other = rest (rw (made_keeps e.made (atoms before) b other) at some)
 
 -- ---- the end of a cell
 
-ended_batch : (log : List Event) (b : ℕ) (o : Option Placed) → (p : Placed) × (last_of (ends b) log ≡ Some p) → (p : Placed) × (option_or o (last_of (ends b) log) ≡ Some p)
+ended_batch : (log : List Event) (b : ℕ) (o : Option Placed) → (p : Placed) × (last_of (ends b) log ≡ Some p)
+    → (p : Placed) × (option_or o (last_of (ends b) log) ≡ Some p)
 ended_batch log b (Some q) end = (q, refl)
 ended_batch log b None end = end
 
 -- where each batch has ended, so has each cell that was begun
-has_ended : (rules : Rules) (log : List Event) (c : ℕ) → IsLegalLog rules log → ((b : ℕ) → b < begun (atoms log) → IsSome (end_of (atoms log) b)) → c < cells (atoms log) → (p : Placed) × (ending log c ≡ Some p)
+has_ended : (rules : Rules) (log : List Event) (c : ℕ) → IsLegalLog rules log → ((b : ℕ) → b < begun (atoms log) → IsSome (end_of (atoms log) b))
+    → c < cells (atoms log) → (p : Placed) × (ending log c ≡ Some p)
 has_ended rules log c legal all low = by (is_begun rules log c legal low)
   where
     by : IsBegun log c → (p : Placed) × (ending log c ≡ Some p)
@@ -168,7 +180,8 @@ has_ended rules log c legal all low = by (is_begun rules log c legal low)
     by (inr primed) = (primed.0, rw primed.1 refl)
 
 -- and shows its outcome
-pub shows_end : (s : Service) (es : List event.Event) (c : ℕ) → AnswersEach s.answer → legal.IsLegal s es → AllEnded es → c < cells (atoms (log es)) → IsSome (ending_of es c)
+pub shows_end : (s : Service) (es : List event.Event) (c : ℕ) → AnswersEach s.answer → legal.IsLegal s es → AllEnded es → c < cells (atoms (log es))
+    → IsSome (ending_of es c)
 shows_end s es c each legal all low =
     let end = has_ended s.rules (log es) c (legal_log s es legal) all low in
     let at : ended (log es) c ≡ Some end.0.place = rw end.1 refl in

@@ -1,6 +1,7 @@
 -- Parts of a list: where each part has some of the places of its own elements, in order, and all parts together
 -- have as many places as there are elements, each part has all places of its own elements.
-use Rattle.std.proofs.Common.{◌≡◌, ◌∙◌, sym, ap, ℕ, suc, ◌+◌, ◌-◌, ◌≤◌, ◌⊎◌, inl, inr, Bool, true, false, cond, List, [], ◌∷◌, length, Option, Some, None, slice_get, nat_eq, sum_by, count_by, refl, arith}
+use Rattle.std.proofs.Common.{◌≡◌, ◌∙◌, sym, ap, ℕ, suc, ◌+◌, ◌-◌, ◌≤◌, ◌⊎◌, inl, inr, Bool, true, false, cond, List, [], ◌∷◌, length, Option, Some, None}
+use Rattle.std.proofs.Common.{slice_get, nat_eq, sum_by, count_by, refl, arith}
 use Rattle.std.proofs.lemmas.Bool.{cases_eq, eq-eqb}
 use Rattle.std.proofs.lemmas.List.Sums.{sum_by-cons}
 use Rattle.dl_history.specs.Lists.{Every, places, one_if}
@@ -69,7 +70,8 @@ all_or_fewer who n k xs [] rises stand = none_or_fewer (places who n k xs)
 all_or_fewer {X} who n k [] (p ∷ ps) rises stand = absurd (let bad : ◌≡◌ {A = Option X} None (Some stand.0.element) = stand.0.there in cc)
 all_or_fewer who n k (x ∷ xs) (p ∷ ps) rises stand = by (λ qs. all_or_fewer who n (k + 1) xs qs) (cases_eq p k)
   where
-    by : ((qs : List ℕ) → Rises (k + 1) qs → Stand who n (k + 1) xs qs → AllOrFewer qs (places who n (k + 1) xs)) → (p ≡ k) ⊎ (p ≡ k → ⊥) → AllOrFewer (p ∷ ps) (places who n k (x ∷ xs))
+    by : ((qs : List ℕ) → Rises (k + 1) qs → Stand who n (k + 1) xs qs → AllOrFewer qs (places who n (k + 1) xs)) → (p ≡ k) ⊎ (p ≡ k → ⊥)
+        → AllOrFewer (p ∷ ps) (places who n k (x ∷ xs))
     by rest (inl same) =
         let own : who x ≡ n = stands_first who n (p - k) x xs (omega arith) stand.0 in
         let after : Rises (k + 1) ps = rw same at rises.1 in
@@ -95,7 +97,8 @@ length-one false k ps = omega arith
 
 -- one element more is at one place more of each part that is its own
 one_more : {X P : Type 0} (who : X → ℕ) (caller : P → ℕ) (k : ℕ) (x : X) (xs : List X) (parts : List P)
-    → sum_by (λ p. length (places who (caller p) k (x ∷ xs))) parts ≡ sum_by (λ p. one_if (nat_eq (who x) (caller p))) parts + sum_by (λ p. length (places who (caller p) (k + 1) xs)) parts
+    → sum_by (λ p. length (places who (caller p) k (x ∷ xs))) parts ≡ sum_by (λ p. one_if (nat_eq (who x) (caller p))) parts + sum_by
+    (λ p. length (places who (caller p) (k + 1) xs)) parts
 one_more who caller k x xs [] = refl
 one_more who caller k x xs (p ∷ parts) =
     let rest = one_more who caller k x xs parts in
@@ -143,15 +146,19 @@ pub record AreOwn {X : Type 0} (who : X → ℕ) (xs : List X) (n : ℕ) (ps : L
   pub rises : Rises 0 ps
   pub stand : Stand who n 0 xs ps
 
-every_few : {X P : Type 0} (who : X → ℕ) (xs : List X) (caller : P → ℕ) (calls : P → List ℕ) (parts : List P) → Every (λ p. AreOwn who xs (caller p) (calls p)) parts
+every_few : {X P : Type 0} (who : X → ℕ) (xs : List X) (caller : P → ℕ) (calls : P → List ℕ) (parts : List P)
+    → Every (λ p. AreOwn who xs (caller p) (calls p)) parts
     → Every (λ p. length (calls p) ≤ length (places who (caller p) 0 xs)) parts
 every_few who xs caller calls [] own = tt
-every_few who xs caller calls (p ∷ parts) own = ((all_or_fewer who (caller p) 0 xs (calls p) own.0.rises own.0.stand).few, every_few who xs caller calls parts own.1)
+every_few who xs caller calls (p ∷ parts) own =
+    ((all_or_fewer who (caller p) 0 xs (calls p) own.0.rises own.0.stand).few, every_few who xs caller calls parts own.1)
 
-every_whole : {X P : Type 0} (who : X → ℕ) (xs : List X) (caller : P → ℕ) (calls : P → List ℕ) (parts : List P) → Every (λ p. AreOwn who xs (caller p) (calls p)) parts
+every_whole : {X P : Type 0} (who : X → ℕ) (xs : List X) (caller : P → ℕ) (calls : P → List ℕ) (parts : List P)
+    → Every (λ p. AreOwn who xs (caller p) (calls p)) parts
     → Every (λ p. length (calls p) ≡ length (places who (caller p) 0 xs)) parts → Every (λ p. calls p ≡ places who (caller p) 0 xs) parts
 every_whole who xs caller calls [] own same = tt
-every_whole who xs caller calls (p ∷ parts) own same = ((all_or_fewer who (caller p) 0 xs (calls p) own.0.rises own.0.stand).whole same.0, every_whole who xs caller calls parts own.1 same.1)
+every_whole who xs caller calls (p ∷ parts) own same =
+    ((all_or_fewer who (caller p) 0 xs (calls p) own.0.rises own.0.stand).whole same.0, every_whole who xs caller calls parts own.1 same.1)
 
 -- Where each part has rising places of elements of its own, each element is one part's, and there are as many
 -- places as elements, each part has all places of its own elements.

@@ -100,13 +100,22 @@ module _ (T : RattleType) (n : name.Ghosts T.Denot) (l : ledger.Ghosts T.Denot) 
   counts_send = search (counts.the_send) depth 10
 
   journal_send : IsSend (journal.the_row T n l)
-  journal_send = declared_send (journal.the_type T n l) (as_row_send (Vec.the_field (Stored.the_row T n l) Heap.the_row ghosts) (Vec-send _ stored_send), (as_row_send (Vec.the_field State.the_row Heap.the_row ghosts) (Vec-send _ State-send), (as_row_send (Counts.the_field T l) counts_send, tt)))
+  journal_send = declared_send (journal.the_type T n l) (
+    as_row_send (Vec.the_field (Stored.the_row T n l) Heap.the_row ghosts) (Vec-send _ stored_send),
+    (as_row_send (Vec.the_field State.the_row Heap.the_row ghosts) (Vec-send _ State-send), (as_row_send (Counts.the_field T l) counts_send, tt)),
+  )
 
   pub Journal-send : IsSend (Journal.the_row T n l)
   Journal-send = search (journal_send, sendable) depth 10
 
   rows_sync : IsSync (rows.the_row T n l)
-  rows_sync = declared_sync (rows.the_type T n l) (as_row_sync Limits.the_field (search (limits.the_sync) depth 10), (as_row_sync (Row.the_field Event.the_row) log_sync, (as_row_sync (Row.the_field Ending.the_row) outcomes_sync, (search (as_row_sync, sendable) depth 10, tt))))
+  rows_sync = declared_sync (rows.the_type T n l) (
+    as_row_sync Limits.the_field (search (limits.the_sync) depth 10),
+    (
+      as_row_sync (Row.the_field Event.the_row) log_sync,
+      (as_row_sync (Row.the_field Ending.the_row) outcomes_sync, (search (as_row_sync, sendable) depth 10, tt)),
+    ),
+  )
 
   pub Rows-sync : IsSync (Rows.the_row T n l)
   Rows-sync = search (rows_sync, sendable) depth 10

@@ -32,23 +32,27 @@ pub none_unbegun : (s : Service) (es : List Event) (c : ℕ) → IsLegal s es �
 none_unbegun s es c legal high = shows_none es c (high_unended s.rules (log es) c (legal_log s es legal) high)
 
 -- the cell of a member of a batch that may end shows no end
-pub member_open : (s : Service) (es : List Event) (b i : ℕ) (m : Key × ℕ) → IsLegal s es → MayEnd (atoms (log es)) b → slice_get (members (atoms (log es)) b) i ≡ Some m → ending_of es m.1 ≡ None
+pub member_open : (s : Service) (es : List Event) (b i : ℕ) (m : Key × ℕ) → IsLegal s es → MayEnd (atoms (log es)) b
+    → slice_get (members (atoms (log es)) b) i ≡ Some m → ending_of es m.1 ≡ None
 member_open s es b i m legal may got =
     let batch : cell_batch (atoms (log es)) m.1 ≡ Some b = member_cell s.rules (atoms (log es)) b i m (legal_atoms s es legal) got in
     shows_none es m.1 (open_unended s.rules (log es) m.1 b (legal_log s es legal) batch may.no_end)
 
 -- the cell of a member was begun
-pub member_begun : (s : Service) (es : List Event) (b i : ℕ) (m : Key × ℕ) → IsLegal s es → slice_get (members (atoms (log es)) b) i ≡ Some m → m.1 < cells (atoms (log es))
+pub member_begun : (s : Service) (es : List Event) (b i : ℕ) (m : Key × ℕ) → IsLegal s es → slice_get (members (atoms (log es)) b) i ≡ Some m
+    → m.1 < cells (atoms (log es))
 member_begun s es b i m legal got = member_low s.rules (atoms (log es)) b i m (legal_atoms s es legal) got
 
 -- no two members of a batch have one cell
-pub members_distinct : (s : Service) (es : List Event) (b i j : ℕ) (m n : Key × ℕ) → IsLegal s es → slice_get (members (atoms (log es)) b) i ≡ Some m → slice_get (members (atoms (log es)) b) j ≡ Some n → m.1 ≡ n.1 → i ≡ j
+pub members_distinct : (s : Service) (es : List Event) (b i j : ℕ) (m n : Key × ℕ) → IsLegal s es → slice_get (members (atoms (log es)) b) i ≡ Some m
+    → slice_get (members (atoms (log es)) b) j ≡ Some n → m.1 ≡ n.1 → i ≡ j
 members_distinct s es b i j m n legal first second same = members-apart s.rules (atoms (log es)) b i j m n (legal_atoms s es legal) first second same
 
 -- ---- an end stays
 
 -- a cell that the event spares shows what it showed
-pub spared_stays : (s : Service) (es : List Event) (e : Event) (c : ℕ) → IsLegal s es → IsNext s es e → Spares (atoms (log es)) (made e.call e.reply) c → ending_of (es ++ e ∷ []) c ≡ ending_of es c
+pub spared_stays : (s : Service) (es : List Event) (e : Event) (c : ℕ) → IsLegal s es → IsNext s es e → Spares (atoms (log es)) (made e.call e.reply) c
+    → ending_of (es ++ e ∷ []) c ≡ ending_of es c
 spared_stays s es e c legal next spares =
     let whole = legal_next s es e legal next in
     rw (log-snoc es e, outcome_spared s.rules (as_made e) (log es) c whole spares, ending_spared s.rules (as_made e) (log es) c whole spares) refl
@@ -62,12 +66,15 @@ load_unprimed : (c : ℕ) (k : Key) (r : LoadReply) → is_primed c (begins (ato
 load_unprimed c k (Hit d) = refl
 load_unprimed c k (Fresh d b) = and_right (nat_eq c d) false refl
 
-spares_prime : (history : List Atom) (c : ℕ) (k : Key) (o : Outcome) (r : DeskPrime) → gave (Prime k o) (primed r) ≡ Nothing → Spares history (made (Prime k o) (primed r)) c
+spares_prime : (history : List Atom) (c : ℕ) (k : Key) (o : Outcome) (r : DeskPrime) → gave (Prime k o) (primed r) ≡ Nothing
+    → Spares history (made (Prime k o) (primed r)) c
 spares_prime history c k o (prime.Primed d) none = absurd (let bad : Given o ≡ Nothing = none in cc)
 spares_prime history c k o prime.Kept none = spares_all history c (made (Prime k o) Kept) refl (λ b. refl)
 
-spares_none : (rules : Rules) (history : List Atom) (c : ℕ) (call : Call) → gave call (reply_to rules history call) ≡ Nothing → Spares history (made call (reply_to rules history call)) c
-spares_none rules history c (Load k) none = spares_all history c (made (Load k) (reply_to rules history (Load k))) (load_unprimed c k (load_reply rules history k)) (λ b. refl)
+spares_none : (rules : Rules) (history : List Atom) (c : ℕ) (call : Call) → gave call (reply_to rules history call) ≡ Nothing
+    → Spares history (made call (reply_to rules history call)) c
+spares_none rules history c (Load k) none =
+    spares_all history c (made (Load k) (reply_to rules history (Load k))) (load_unprimed c k (load_reply rules history k)) (λ b. refl)
 spares_none rules history c (LoadMany ks) none = spares_all history c (made (LoadMany ks) (reply_to rules history (LoadMany ks))) refl (λ b. refl)
 spares_none rules history c (Prime k o) none = spares_prime history c k o (prime_reply history k) none
 spares_none rules history c (Clear k) none = spares_all history c (made (Clear k) (reply_to rules history (Clear k))) refl (λ b. refl)
@@ -77,23 +84,27 @@ spares_none rules history c (Settle b os) none = absurd (let bad : Each os ≡ N
 spares_none rules history c (Fail b fault) none = absurd (let bad : Broke fault ≡ Nothing = none in cc)
 
 -- an event that gives nothing to cells spares each
-pub nothing_spares : (s : Service) (es : List Event) (e : Event) (c : ℕ) → IsNext s es e → gave e.call e.reply ≡ Nothing → Spares (atoms (log es)) (made e.call e.reply) c
+pub nothing_spares : (s : Service) (es : List Event) (e : Event) (c : ℕ) → IsNext s es e → gave e.call e.reply ≡ Nothing
+    → Spares (atoms (log es)) (made e.call e.reply) c
 nothing_spares s es e c next none =
     let nothing : gave e.call (reply_to s.rules (atoms (log es)) e.call) ≡ Nothing = rw next.reply at none in
     rw next.reply (spares_none s.rules (atoms (log es)) c e.call nothing)
 
 -- where an event gives nothing to cells, each shows what it showed
-pub others_stay : (s : Service) (es : List Event) (e : Event) (c : ℕ) → IsLegal s es → IsNext s es e → gave e.call e.reply ≡ Nothing → ending_of (es ++ e ∷ []) c ≡ ending_of es c
+pub others_stay : (s : Service) (es : List Event) (e : Event) (c : ℕ) → IsLegal s es → IsNext s es e → gave e.call e.reply ≡ Nothing
+    → ending_of (es ++ e ∷ []) c ≡ ending_of es c
 others_stay s es e c legal next none = spared_stays s es e c legal next (nothing_spares s es e c next none)
 
 -- and one that was not begun before it shows no end
-pub new_open : (s : Service) (es : List Event) (e : Event) (c : ℕ) → IsLegal s es → IsNext s es e → gave e.call e.reply ≡ Nothing → cells (atoms (log es)) ≤ c → ending_of (es ++ e ∷ []) c ≡ None
+pub new_open : (s : Service) (es : List Event) (e : Event) (c : ℕ) → IsLegal s es → IsNext s es e → gave e.call e.reply ≡ Nothing → cells (atoms (log es)) ≤ c
+    → ending_of (es ++ e ∷ []) c ≡ None
 new_open s es e c legal next none high = others_stay s es e c legal next none ∙ none_unbegun s es c legal high
 
 -- ---- an event that ends a cell
 
 -- what a cell shows that the newest event ended
-pub shows_newest : (es : List Event) (e : Event) (c : ℕ) (o : Outcome) → ending (as_made e ∷ log es) c ≡ Some (newest (log es) (as_made e)) → outcome_given (atoms (as_made e ∷ log es)) c (gave e.call e.reply) ≡ Some o → ending_of (es ++ e ∷ []) c ≡ Some (record { at = length es; outcome = o })
+pub shows_newest : (es : List Event) (e : Event) (c : ℕ) (o : Outcome) → ending (as_made e ∷ log es) c ≡ Some (newest (log es) (as_made e))
+    → outcome_given (atoms (as_made e ∷ log es)) c (gave e.call e.reply) ≡ Some o → ending_of (es ++ e ∷ []) c ≡ Some (record { at = length es; outcome = o })
 shows_newest es e c o is given = rw (log-snoc es e, is, given, length-log es) refl
 
 -- ---- a prime of a key that is not held
@@ -103,25 +114,29 @@ prime_answer history k c None is = let two : Primed c ≡ Primed (cells history)
 prime_answer history k c (Some d) is = absurd (let bad : Primed c ≡ Kept = is in cc)
 
 -- the cell that a prime begins is the next one
-pub primed_cell : (s : Service) (es : List Event) (e : Event) (k : Key) (o : Outcome) (c : ℕ) → IsNext s es e → e.call ≡ Prime k o → e.reply ≡ Primed c → c ≡ cells (atoms (log es))
+pub primed_cell : (s : Service) (es : List Event) (e : Event) (k : Key) (o : Outcome) (c : ℕ) → IsNext s es e → e.call ≡ Prime k o → e.reply ≡ Primed c
+    → c ≡ cells (atoms (log es))
 primed_cell s es e k o c next is reply =
     let H = atoms (log es) in
     let given : Primed c ≡ reply_to s.rules H (Prime k o) = sym reply ∙ (next.reply ∙ ap (reply_to s.rules H) is) in
     prime_answer H k c (atom.held H k) given
 
 -- it shows the outcome that the prime gave it
-pub primed_end : (s : Service) (es : List Event) (e : Event) (k : Key) (o : Outcome) (c : ℕ) → IsLegal s es → IsNext s es e → e.call ≡ Prime k o → e.reply ≡ Primed c → ending_of (es ++ e ∷ []) c ≡ Some (record { at = length es; outcome = o })
+pub primed_end : (s : Service) (es : List Event) (e : Event) (k : Key) (o : Outcome) (c : ℕ) → IsLegal s es → IsNext s es e → e.call ≡ Prime k o
+    → e.reply ≡ Primed c → ending_of (es ++ e ∷ []) c ≡ Some (record { at = length es; outcome = o })
 primed_end s es e k o c legal next is reply =
     let now : primes c (made e.call e.reply) ≡ true = rw (is, reply) (rw (eq-eqb c c refl) refl) in
     shows_newest es e c o (ending_primed (as_made e) (log es) c now) (rw (is, reply) refl)
 
 -- the prime spares each other cell
-pub primed_spares : (s : Service) (es : List Event) (e : Event) (k : Key) (o : Outcome) (c d : ℕ) → e.call ≡ Prime k o → e.reply ≡ Primed c → (d ≡ c → ⊥) → Spares (atoms (log es)) (made e.call e.reply) d
+pub primed_spares : (s : Service) (es : List Event) (e : Event) (k : Key) (o : Outcome) (c d : ℕ) → e.call ≡ Prime k o → e.reply ≡ Primed c → (d ≡ c → ⊥)
+    → Spares (atoms (log es)) (made e.call e.reply) d
 primed_spares s es e k o c d is reply other =
     let not_primed : primes d (made e.call e.reply) ≡ false = rw (is, reply) (rw (ne_eqb d c other) refl) in
     let not_ended : (b : ℕ) → ends b (made e.call e.reply) ≡ false = λ b. rw (is, reply) refl in
     spares_all (atoms (log es)) d (made e.call e.reply) not_primed not_ended
 
 -- each other cell shows what it showed
-pub primed_others : (s : Service) (es : List Event) (e : Event) (k : Key) (o : Outcome) (c d : ℕ) → IsLegal s es → IsNext s es e → e.call ≡ Prime k o → e.reply ≡ Primed c → (d ≡ c → ⊥) → ending_of (es ++ e ∷ []) d ≡ ending_of es d
+pub primed_others : (s : Service) (es : List Event) (e : Event) (k : Key) (o : Outcome) (c d : ℕ) → IsLegal s es → IsNext s es e → e.call ≡ Prime k o
+    → e.reply ≡ Primed c → (d ≡ c → ⊥) → ending_of (es ++ e ∷ []) d ≡ ending_of es d
 primed_others s es e k o c d legal next is reply other = spared_stays s es e d legal next (primed_spares s es e k o c d is reply other)

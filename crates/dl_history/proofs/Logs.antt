@@ -1,5 +1,6 @@
 -- The log of a history, one event after another, and the legal histories.
-use Rattle.std.proofs.Common.{◌≡◌, ◌∙◌, sym, ap, subst, ℕ, zero, suc, ◌+◌, ◌<◌, ◌⊎◌, inl, inr, List, [], ◌∷◌, ◌++◌, length, take, Option, Some, None, slice_get, refl, arith}
+use Rattle.std.proofs.Common.{◌≡◌, ◌∙◌, sym, ap, subst, ℕ, zero, suc, ◌+◌, ◌<◌, ◌⊎◌, inl, inr, List, [], ◌∷◌, ◌++◌, length, take, Option, Some, None, slice_get}
+use Rattle.std.proofs.Common.{refl, arith}
 use Rattle.std.proofs.lemmas.List.{take-append-le, take_at, take_all}
 use Rattle.std.proofs.lemmas.Option.{slice_get_within}
 use Rattle.dl_desk.specs.Key.{Key}
@@ -34,13 +35,15 @@ get-append_at [] y ys = refl
 get-append_at (x ∷ xs) y ys = get-append_at xs y ys
 
 -- an element of a list with one more is one of the list's, or the one more
-pub get-snoc : {X : Type 0} (xs : List X) (y z : X) (i : ℕ) → slice_get (xs ++ y ∷ []) i ≡ Some z → ((i < length xs) × (slice_get xs i ≡ Some z)) ⊎ ((i ≡ length xs) × (z ≡ y))
+pub get-snoc : {X : Type 0} (xs : List X) (y z : X) (i : ℕ) → slice_get (xs ++ y ∷ []) i ≡ Some z
+    → ((i < length xs) × (slice_get xs i ≡ Some z)) ⊎ ((i ≡ length xs) × (z ≡ y))
 get-snoc {X} [] y z zero got = let two : ◌≡◌ {A = Option X} (Some y) (Some z) = got in let is : z ≡ y = cc in inr (refl, is)
 get-snoc {X} [] y z (suc i) got = absurd (let bad : ◌≡◌ {A = Option X} None (Some z) = got in cc)
 get-snoc (x ∷ xs) y z zero got = inl (omega arith, got)
 get-snoc {X} (x ∷ xs) y z (suc i) got = by (get-snoc xs y z i got)
   where
-    by : ((i < length xs) × (slice_get xs i ≡ Some z)) ⊎ ((i ≡ length xs) × (z ≡ y)) → ((suc i < length (x ∷ xs)) × (slice_get xs i ≡ Some z)) ⊎ ((suc i ≡ length (x ∷ xs)) × (z ≡ y))
+    by : ((i < length xs) × (slice_get xs i ≡ Some z)) ⊎ ((i ≡ length xs) × (z ≡ y))
+        → ((suc i < length (x ∷ xs)) × (slice_get xs i ≡ Some z)) ⊎ ((suc i ≡ length (x ∷ xs)) × (z ≡ y))
     by (inl old) = inl (let l = old.0 in omega arith, old.1)
     by (inr new) = inr (let l = new.0 in omega arith, new.1)
 
@@ -117,7 +120,8 @@ legal_at s es later e legal =
 
 -- what holds of no events, and of a legal history with a next event if it holds of the history, holds of
 -- every legal history
-pub by_events : (s : Service) (P : List Event → Type 0) → P [] → ((es : List Event) (e : Event) → IsLegal s es → IsNext s es e → P es → P (es ++ e ∷ [])) → (es : List Event) → IsLegal s es → P es
+pub by_events : (s : Service) (P : List Event → Type 0) → P [] → ((es : List Event) (e : Event) → IsLegal s es → IsNext s es e → P es → P (es ++ e ∷ []))
+    → (es : List Event) → IsLegal s es → P es
 by_events s P none more es legal = subst P (take_all (length es) es (omega arith)) (fronts (length es)).1
   where
     step : (n : ℕ) (o : Option Event) → slice_get es n ≡ o → IsLegal s (take n es) × P (take n es) → IsLegal s (take (suc n) es) × P (take (suc n) es)
@@ -137,7 +141,8 @@ made_prime : (k : Key) (o : Outcome) (r : DeskPrime) → made (Prime k o) (prime
 made_prime k o (prime.Primed c) = refl
 made_prime k o prime.Kept = refl
 
-replied : (answer : List Key → BatchAnswer) (rules : Rules) (history : List Atom) (call : Call) → MayBeMade answer history call → IsReplied rules history (made call (reply_to rules history call))
+replied : (answer : List Key → BatchAnswer) (rules : Rules) (history : List Atom) (call : Call) → MayBeMade answer history call
+    → IsReplied rules history (made call (reply_to rules history call))
 replied answer rules history (Load k) may = refl
 replied answer rules history (LoadMany ks) may = refl
 replied answer rules history (Prime k o) may = rw (made_prime k o (prime_reply history k)) refl
@@ -153,7 +158,8 @@ next_replied s es e next = rw next.reply (replied s.answer s.rules (atoms (log e
 
 -- the log of a legal history is legal
 pub legal_log : (s : Service) (es : List Event) → IsLegal s es → IsLegalLog s.rules (log es)
-legal_log s es legal = by_events s (λ (xs : List Event). IsLegalLog s.rules (log xs)) tt (λ xs e before next rest. rw (log-snoc xs e) (next_replied s xs e next, rest)) es legal
+legal_log s es legal =
+    by_events s (λ (xs : List Event). IsLegalLog s.rules (log xs)) tt (λ xs e before next rest. rw (log-snoc xs e) (next_replied s xs e next, rest)) es legal
 
 -- and so is the history that it tells
 pub legal_atoms : (s : Service) (es : List Event) → IsLegal s es → atom.IsLegal s.rules (atoms (log es))
@@ -169,7 +175,8 @@ loads_made : (rules : Rules) (history : List Atom) (ks : List Key) → with_load
 loads_made rules history [] = refl
 loads_made rules history (k ∷ ks) = loads_made rules (atom.Load k (load_reply rules history k) ∷ history) ks
 
-made_after : (rules : Rules) (history : List Atom) (call : Call) → with_made (made call (reply_to rules history call)) history ≡ after rules history (call_of call)
+made_after : (rules : Rules) (history : List Atom) (call : Call)
+    → with_made (made call (reply_to rules history call)) history ≡ after rules history (call_of call)
 made_after rules history (Load k) = refl
 made_after rules history (LoadMany ks) = loads_made rules history ks
 made_after rules history (Prime k o) = ap (λ (m : Made). with_made m history) (made_prime k o (prime_reply history k))

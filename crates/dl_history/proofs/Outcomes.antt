@@ -41,9 +41,11 @@ shown_parts es c x is = end_parts (ended (log es) c) (outcome (log es) c) x is
 
 -- The event ends the cell, which then shows an end at the event's place, or spares it.
 abbrev pub EndsOrSpares : List Event → Event → ℕ → Type 0
-EndsOrSpares es e c = ((o : Outcome) × (ending_of (es ++ e ∷ []) c ≡ Some (record { at = length es; outcome = o }))) ⊎ Spares (atoms (log es)) (made e.call e.reply) c
+EndsOrSpares es e c =
+    ((o : Outcome) × (ending_of (es ++ e ∷ []) c ≡ Some (record { at = length es; outcome = o }))) ⊎ Spares (atoms (log es)) (made e.call e.reply) c
 
-ends_or_spares_prime : (s : Service) (es : List Event) (e : Event) (c : ℕ) (k : Key) (o : Outcome) → IsLegal s es → IsNext s es e → e.call ≡ Prime k o → (r : DeskPrime) → e.reply ≡ primed r → EndsOrSpares es e c
+ends_or_spares_prime : (s : Service) (es : List Event) (e : Event) (c : ℕ) (k : Key) (o : Outcome) → IsLegal s es → IsNext s es e → e.call ≡ Prime k o
+    → (r : DeskPrime) → e.reply ≡ primed r → EndsOrSpares es e c
 ends_or_spares_prime s es e c k o legal next is prime.Kept reply = inr (nothing_spares s es e c next (rw (is, reply) refl))
 ends_or_spares_prime s es e c k o legal next is (prime.Primed d) reply = by (cases_eq c d)
   where
@@ -51,7 +53,8 @@ ends_or_spares_prime s es e c k o legal next is (prime.Primed d) reply = by (cas
     by (inl same) = inl (o, rw same (primed_end s es e k o d legal next is reply))
     by (inr other) = inr (primed_spares s es e k o d c is reply other)
 
-ends_or_spares_settle : (s : Service) (es : List Event) (e : Event) (c b : ℕ) (os : List Outcome) → AnswersEach s.answer → IsLegal s es → IsNext s es e → e.call ≡ Settle b os → EndsOrSpares es e c
+ends_or_spares_settle : (s : Service) (es : List Event) (e : Event) (c b : ℕ) (os : List Outcome) → AnswersEach s.answer → IsLegal s es → IsNext s es e
+    → e.call ≡ Settle b os → EndsOrSpares es e c
 ends_or_spares_settle s es e c b os each legal next is = by (has_cell (members (atoms (log es)) b) c)
   where
     of_member : (h : HasCell (members (atoms (log es)) b) c) (o : Option Outcome) → slice_get os h.place ≡ o → EndsOrSpares es e c
@@ -65,17 +68,20 @@ ends_or_spares_settle s es e c b os each legal next is = by (has_cell (members (
     by (inl h) = of_member h (slice_get os h.place) refl
     by (inr none) = inr (settled_spares s es e b os c next is none)
 
-ends_or_spares_fail : (s : Service) (es : List Event) (e : Event) (c b : ℕ) (fault : BatchFault) → IsLegal s es → IsNext s es e → e.call ≡ Fail b fault → EndsOrSpares es e c
+ends_or_spares_fail : (s : Service) (es : List Event) (e : Event) (c b : ℕ) (fault : BatchFault) → IsLegal s es → IsNext s es e → e.call ≡ Fail b fault
+    → EndsOrSpares es e c
 ends_or_spares_fail s es e c b fault legal next is = by (has_cell (members (atoms (log es)) b) c)
   where
     by : HasCell (members (atoms (log es)) b) c ⊎ NoCell (members (atoms (log es)) b) c → EndsOrSpares es e c
     by (inl h) = inl (BatchFailed fault, rw h.is at (failed_end s es e b fault h.place h.member legal next is h.at))
     by (inr none) = inr (failed_spares s es e b fault c next is none)
 
-ends_or_spares_call : (s : Service) (es : List Event) (e : Event) (c : ℕ) → AnswersEach s.answer → IsLegal s es → IsNext s es e → (call : Call) → e.call ≡ call → EndsOrSpares es e c
+ends_or_spares_call : (s : Service) (es : List Event) (e : Event) (c : ℕ) → AnswersEach s.answer → IsLegal s es → IsNext s es e → (call : Call) → e.call ≡ call
+    → EndsOrSpares es e c
 ends_or_spares_call s es e c each legal next (Load k) is = inr (nothing_spares s es e c next (rw is refl))
 ends_or_spares_call s es e c each legal next (LoadMany ks) is = inr (nothing_spares s es e c next (rw is refl))
-ends_or_spares_call s es e c each legal next (Prime k o) is = ends_or_spares_prime s es e c k o legal next is (prime_reply (atoms (log es)) k) (next.reply ∙ ap (reply_to s.rules (atoms (log es))) is)
+ends_or_spares_call s es e c each legal next (Prime k o) is =
+    ends_or_spares_prime s es e c k o legal next is (prime_reply (atoms (log es)) k) (next.reply ∙ ap (reply_to s.rules (atoms (log es))) is)
 ends_or_spares_call s es e c each legal next (Clear k) is = inr (nothing_spares s es e c next (rw is refl))
 ends_or_spares_call s es e c each legal next ClearAll is = inr (nothing_spares s es e c next (rw is refl))
 ends_or_spares_call s es e c each legal next Dispatch is = inr (nothing_spares s es e c next (rw is refl))
@@ -94,18 +100,22 @@ HaveOutcomes es = (c p : ℕ) → ended (log es) c ≡ Some p → (o : Outcome) 
 outcomes_none : HaveOutcomes []
 outcomes_none c p is = absurd (let bad : ◌≡◌ {A = Option ℕ} None (Some p) = is in cc)
 
-outcomes_more : (s : Service) → AnswersEach s.answer → (es : List Event) (e : Event) → IsLegal s es → IsNext s es e → HaveOutcomes es → HaveOutcomes (es ++ e ∷ [])
+outcomes_more : (s : Service) → AnswersEach s.answer → (es : List Event) (e : Event) → IsLegal s es → IsNext s es e → HaveOutcomes es
+    → HaveOutcomes (es ++ e ∷ [])
 outcomes_more s each es e legal next rest c p is = by (ends_or_spares s es e c each legal next)
   where
     by : EndsOrSpares es e c → (o : Outcome) × (outcome (log (es ++ e ∷ [])) c ≡ Some o)
     by (inl ends) = let x : Ending = record { at = length es; outcome = ends.0 } in (ends.0, (shown_parts (es ++ e ∷ []) c x ends.1).1)
     by (inr spares) =
         let whole = legal_next s es e legal next in
-        let same : ended (as_made e ∷ log es) c ≡ ended (log es) c = ap (option_map (λ (q : Placed). q.place)) (ending_spared s.rules (as_made e) (log es) c whole spares) in
+        let same : ended (as_made e ∷ log es) c ≡ ended (log es) c =
+        ap (option_map (λ (q : Placed). q.place)) (ending_spared s.rules (as_made e) (log es) c whole spares) in
         let before : ended (log es) c ≡ Some p = sym same ∙ (rw (log-snoc es e) at is) in
         let found : (o : Outcome) × (outcome (log es) c ≡ Some o) = rest c p before in
         (found.0, rw (log-snoc es e) (outcome_spared s.rules (as_made e) (log es) c whole spares ∙ found.1))
 
 -- where the source answers each key, a cell that has ended was given an outcome
-pub has_outcome : (s : Service) (es : List Event) (c p : ℕ) → AnswersEach s.answer → IsLegal s es → ended (log es) c ≡ Some p → (o : Outcome) × (outcome (log es) c ≡ Some o)
-has_outcome s es c p each legal is = by_events s HaveOutcomes outcomes_none (λ xs e before next rest. outcomes_more s each xs e before next rest) es legal c p is
+pub has_outcome : (s : Service) (es : List Event) (c p : ℕ) → AnswersEach s.answer → IsLegal s es → ended (log es) c ≡ Some p
+    → (o : Outcome) × (outcome (log es) c ≡ Some o)
+has_outcome s es c p each legal is =
+    by_events s HaveOutcomes outcomes_none (λ xs e before next rest. outcomes_more s each xs e before next rest) es legal c p is

@@ -31,7 +31,8 @@ saw_caller p number cell e false = refl
 -- ---- calls
 
 -- a call that was made is one entry more
-pub made_adds : (s : Service) (old new : Part) (call : Call) (reply : Reply) → WasMade s old call reply new → (at : ℕ) × (new.caller ≡ old.caller) × (new.entries ≡ old.entries ++ line old.caller at call reply ∷ [])
+pub made_adds : (s : Service) (old new : Part) (call : Call) (reply : Reply) → WasMade s old call reply new
+    → (at : ℕ) × (new.caller ≡ old.caller) × (new.entries ≡ old.entries ++ line old.caller at call reply ∷ [])
 made_adds s old new call reply (before, now, kept, keeps, after, made) =
     let called : Part = with_call old (length before.history) (event_of old call reply) in
     let caller = ap (λ (p : Part). p.caller) made.part ∙ tickets_caller called (loads_of reply) in

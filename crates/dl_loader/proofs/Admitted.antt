@@ -27,14 +27,18 @@ none_or None y none = refl
 none_or (Some x) y none = none
 
 -- a pass that may make an event has seen no more than there is, and the history has room
-pub ready_facts : (s : Service) (b : Locked) (p : Part) → unready s b p ≡ None → (front_of p.entries ≤ length b.history) × (length b.history < s.rules.limits.max_calls)
+pub ready_facts : (s : Service) (b : Locked) (p : Part) → unready s b p ≡ None
+    → (front_of p.entries ≤ length b.history) × (length b.history < s.rules.limits.max_calls)
 ready_facts s b p none =
-    ready_at s.rules.limits.max_calls (front_of p.entries) (length b.history) b.stopped (nat_lt (length b.history) (front_of p.entries)) (nat_le s.rules.limits.max_calls (length b.history)) refl refl none
+    ready_at s.rules.limits.max_calls (front_of p.entries) (length b.history) b.stopped (nat_lt (length b.history) (front_of p.entries))
+    (nat_le s.rules.limits.max_calls (length b.history)) refl refl none
 
 -- so the history that the book was seen to have is not full
-pub ready_room : (s : Service) (b : Locked) (p : Part) (es : List Event) (d : Book) (xs : List Cell) (stopped : Bool) → locked es d xs stopped ≡ b → unready s b p ≡ None → length es < s.rules.limits.max_calls
+pub ready_room : (s : Service) (b : Locked) (p : Part) (es : List Event) (d : Book) (xs : List Cell) (stopped : Bool) → locked es d xs stopped ≡ b
+    → unready s b p ≡ None → length es < s.rules.limits.max_calls
 ready_room s b p es d xs stopped view ready = (ready_facts s (locked es d xs stopped) p (subst (λ (x : Locked). unready s x p ≡ None) (sym view) ready)).1
 
 -- so a pass whose call was accepted has seen no more than there is
-pub accepted_after : (s : Service) (b : Locked) (p : Part) (call : Call) (job : Option Job) → refusal s b p call job ≡ None → front_of p.entries ≤ length b.history
+pub accepted_after : (s : Service) (b : Locked) (p : Part) (call : Call) (job : Option Job) → refusal s b p call job ≡ None
+    → front_of p.entries ≤ length b.history
 accepted_after s b p call job none = (ready_facts s b p (none_or (unready s b p) _ none)).0

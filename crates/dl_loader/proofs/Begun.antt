@@ -22,12 +22,13 @@ use Rattle.dl_history.specs.declared.event.Reply.{Reply}
 use Rattle.dl_history.specs.declared.event.Reply.TheVariants as reply
 use Rattle.dl_history.specs.Service.{Service}
 use Rattle.dl_history.specs.History.{log, primed, reply_to, IsNext}
-use Rattle.dl_loader.specs.Begun.{begun_by, cells_begun}
+use Rattle.dl_loader.specs.Inside.Begun.{begun_by, cells_begun}
 
 -- ---- an atom that begins no cell
 
 -- an atom that begins no cell leaves as many as there were
-pub same_cells : (history : List Atom) (a : Atom) (old new : Book) → begins a ≡ None → StandsFor old history → StandsFor new (a ∷ history) → new.cells ≡ old.cells
+pub same_cells : (history : List Atom) (a : Atom) (old new : Book) → begins a ≡ None → StandsFor old history → StandsFor new (a ∷ history)
+    → new.cells ≡ old.cells
 same_cells history a old new none before now =
     let count : cells (a ∷ history) ≡ cells history = rw none refl in
     now.cells ∙ (count ∙ sym before.cells)
@@ -40,7 +41,8 @@ load_begins k (Hit c) n = omega arith
 load_begins k (Fresh c b) n = omega arith
 
 -- and loads as many as their replies tell
-pub cells-replies : (rules : Rules) (history : List Atom) (ks : List Key) → cells (loaded rules history ks) ≡ cells history + cells_begun (load_replies rules history ks)
+pub cells-replies : (rules : Rules) (history : List Atom) (ks : List Key)
+    → cells (loaded rules history ks) ≡ cells history + cells_begun (load_replies rules history ks)
 cells-replies rules history [] = omega arith
 cells-replies rules history (k ∷ ks) =
     let r = load_reply rules history k in
@@ -54,7 +56,8 @@ pub new_count-replies : (rules : Rules) (history : List Atom) (ks : List Key) �
 new_count-replies rules history ks = let by_keys = cells-loaded rules history ks in let by_replies = cells-replies rules history ks in omega arith
 
 -- a desk has begun as many cells more after loads of keys as the replies tell
-pub loads_count : (rules : Rules) (history : List Atom) (ks : List Key) (old new : Book) → StandsFor old history → StandsFor new (loaded rules history ks) → new.cells ≡ old.cells + cells_begun (load_replies rules history ks)
+pub loads_count : (rules : Rules) (history : List Atom) (ks : List Key) (old new : Book) → StandsFor old history → StandsFor new (loaded rules history ks)
+    → new.cells ≡ old.cells + cells_begun (load_replies rules history ks)
 loads_count rules history ks old new before now =
     let were = before.cells in
     let are = now.cells in
@@ -67,10 +70,12 @@ fits_at limit n false within none = ltb-false limit n within
 
 -- loads of keys that are not refused begin no more cells than there may be
 fits : (rules : Rules) (history : List Atom) (ks : List Key) → full rules history ks ≡ None → cells history + new_count history ks ≤ rules.limits.max_cells
-fits rules history ks none = fits_at rules.limits.max_cells (cells history + new_count history ks) (nat_lt rules.limits.max_cells (cells history + new_count history ks)) refl none
+fits rules history ks none =
+    fits_at rules.limits.max_cells (cells history + new_count history ks) (nat_lt rules.limits.max_cells (cells history + new_count history ks)) refl none
 
 -- after loads that are not refused there are no more cells than there may be
-pub loads_fit : (rules : Rules) (history : List Atom) (ks : List Key) (old : Book) → StandsFor old history → refusal rules history (Loads ks) ≡ None → old.cells + cells_begun (load_replies rules history ks) ≤ rules.limits.max_cells
+pub loads_fit : (rules : Rules) (history : List Atom) (ks : List Key) (old : Book) → StandsFor old history → refusal rules history (Loads ks) ≡ None
+    → old.cells + cells_begun (load_replies rules history ks) ≤ rules.limits.max_cells
 loads_fit rules history ks old before none =
     let low = fits rules history ks none in
     let same = new_count-replies rules history ks in
@@ -80,11 +85,13 @@ loads_fit rules history ks old before none =
 -- ---- a prime
 
 -- a prime of a key that is held begins no cell
-pub kept_count : (history : List Atom) (k : Key) (old new : Book) → prime_reply history k ≡ Kept → StandsFor old history → StandsFor new (Prime k (prime_reply history k) ∷ history) → new.cells ≡ old.cells
+pub kept_count : (history : List Atom) (k : Key) (old new : Book) → prime_reply history k ≡ Kept → StandsFor old history
+    → StandsFor new (Prime k (prime_reply history k) ∷ history) → new.cells ≡ old.cells
 kept_count history k old new is before now = same_cells history (Prime k (prime_reply history k)) old new (rw is refl) before now
 
 -- a prime of a key that is not held begins one
-pub primed_count : (history : List Atom) (k : Key) (c : ℕ) (old new : Book) → prime_reply history k ≡ Primed c → StandsFor old history → StandsFor new (Prime k (prime_reply history k) ∷ history) → new.cells ≡ old.cells + 1
+pub primed_count : (history : List Atom) (k : Key) (c : ℕ) (old new : Book) → prime_reply history k ≡ Primed c → StandsFor old history
+    → StandsFor new (Prime k (prime_reply history k) ∷ history) → new.cells ≡ old.cells + 1
 primed_count history k c old new is before now =
     let count : cells (Prime k (prime_reply history k) ∷ history) ≡ cells history + 1 = rw is refl in
     let were = before.cells in
@@ -96,7 +103,8 @@ primed_unheld history c None is = refl
 primed_unheld history c (Some d) is = absurd (let bad : Kept ≡ Primed c = is in cc)
 
 -- after such a prime that is not refused there are no more cells than there may be
-pub primed_fits : (rules : Rules) (history : List Atom) (k : Key) (c : ℕ) (old : Book) → prime_reply history k ≡ Primed c → StandsFor old history → refusal rules history (Primes k) ≡ None → old.cells + 1 ≤ rules.limits.max_cells
+pub primed_fits : (rules : Rules) (history : List Atom) (k : Key) (c : ℕ) (old : Book) → prime_reply history k ≡ Primed c → StandsFor old history
+    → refusal rules history (Primes k) ≡ None → old.cells + 1 ≤ rules.limits.max_cells
 primed_fits rules history k c old is before none =
     let unheld : held history k ≡ None = primed_unheld history c (held history k) is in
     let one : new_count history (k ∷ []) ≡ 1 = rw unheld refl in
@@ -114,13 +122,16 @@ kept_by : (r : DeskPrime) → primed r ≡ reply.Kept → r ≡ Kept
 kept_by (Primed d) is = absurd (let bad : reply.Primed d ≡ reply.Kept = is in cc)
 kept_by Kept is = refl
 
-event_prime : (s : Service) (es : List Event) (e : Event) (k : Key) (o : Outcome) (r : Reply) → IsNext s es e → e.call ≡ call.Prime k o → e.reply ≡ r → primed (prime_reply (atoms (log es)) k) ≡ r
+event_prime : (s : Service) (es : List Event) (e : Event) (k : Key) (o : Outcome) (r : Reply) → IsNext s es e → e.call ≡ call.Prime k o → e.reply ≡ r
+    → primed (prime_reply (atoms (log es)) k) ≡ r
 event_prime s es e k o r next is given = sym (ap (reply_to s.rules (atoms (log es))) is) ∙ (sym next.reply ∙ given)
 
 -- a next event that is a prime of a key that is not held has the reply that the desk gives
-pub primed_reply : (s : Service) (es : List Event) (e : Event) (k : Key) (o : Outcome) (c : ℕ) → IsNext s es e → e.call ≡ call.Prime k o → e.reply ≡ reply.Primed c → prime_reply (atoms (log es)) k ≡ Primed c
+pub primed_reply : (s : Service) (es : List Event) (e : Event) (k : Key) (o : Outcome) (c : ℕ) → IsNext s es e → e.call ≡ call.Prime k o
+    → e.reply ≡ reply.Primed c → prime_reply (atoms (log es)) k ≡ Primed c
 primed_reply s es e k o c next is given = primed_by c (prime_reply (atoms (log es)) k) (event_prime s es e k o (reply.Primed c) next is given)
 
 -- and so has one of a key that is held
-pub kept_reply : (s : Service) (es : List Event) (e : Event) (k : Key) (o : Outcome) → IsNext s es e → e.call ≡ call.Prime k o → e.reply ≡ reply.Kept → prime_reply (atoms (log es)) k ≡ Kept
+pub kept_reply : (s : Service) (es : List Event) (e : Event) (k : Key) (o : Outcome) → IsNext s es e → e.call ≡ call.Prime k o → e.reply ≡ reply.Kept
+    → prime_reply (atoms (log es)) k ≡ Kept
 kept_reply s es e k o next is given = kept_by (prime_reply (atoms (log es)) k) (event_prime s es e k o reply.Kept next is given)

@@ -18,13 +18,15 @@ use Rattle.dl_loader.specs.declared.reply.PrimeReply.TheVariants as prime
 use Rattle.dl_history.proofs.Logs.{legal_at}
 
 -- the reply is the one that the history gives
-pub replied : (s : Service) (b now : Locked) (p new : Part) (call : Call) (r : Reply) → Keeps s now → Makes b p call r now new → r ≡ reply_to s.rules (atoms (log b.history)) call
+pub replied : (s : Service) (b now : Locked) (p new : Part) (call : Call) (r : Reply) → Keeps s now → Makes b p call r now new
+    → r ≡ reply_to s.rules (atoms (log b.history)) call
 replied s b now p new call r kept made =
     let legal : IsLegal s (b.history ++ event_of p call r ∷ []) = subst (λ (es : List Event). IsLegal s es) made.history kept.legal in
     (legal_at s b.history [] (event_of p call r) legal).reply
 
 -- a call that a book accepted and made is one that was made, whatever the book
-pub was_made : (s : Service) (b now : Locked) (p new : Part) (call : Call) (job : Option Job) (r : Reply) → Keeps s b → Keeps s now → refusal s b p call job ≡ None → Makes b p call r now new → WasMade s p call r new
+pub was_made : (s : Service) (b now : Locked) (p new : Part) (call : Call) (job : Option Job) (r : Reply) → Keeps s b → Keeps s now
+    → refusal s b p call job ≡ None → Makes b p call r now new → WasMade s p call r new
 was_made s b now p new call job r before kept accepted made = (b, now, before, kept, accepted_after s b p call job accepted, made)
 
 -- a call that is no load gives no ticket

@@ -1,5 +1,6 @@
 -- The tests of a close, one pass, one entry or one batch after another.
-use Rattle.std.proofs.Common.{◌≡◌, ◌∙◌, sym, ap, subst, ℕ, zero, suc, ◌+◌, ◌<◌, ◌≤◌, min, ◌⊎◌, inl, inr, Bool, true, false, cond, ◌||◌, List, [], ◌∷◌, ◌++◌, length, take, filter, flat_map, Option, Some, None, MatchOption, slice_get, get_or, nat_eq, nat_le, refl, arith, append_assoc}
+use Rattle.std.proofs.Common.{◌≡◌, ◌∙◌, sym, ap, subst, ℕ, zero, suc, ◌+◌, ◌<◌, ◌≤◌, min, ◌⊎◌, inl, inr, Bool, true, false, cond, ◌||◌, List, [], ◌∷◌, ◌++◌}
+use Rattle.std.proofs.Common.{length, take, filter, flat_map, Option, Some, None, MatchOption, slice_get, get_or, nat_eq, nat_le, refl, arith, append_assoc}
 use Rattle.std.proofs.lemmas.Bool.{cases_lt, eqb-true, leb-true, leb-false}
 use Rattle.std.proofs.lemmas.List.{append-nil, map-append, take_more, take_all}
 use Rattle.std.proofs.lemmas.List.Elements.{filter-append}
@@ -62,7 +63,8 @@ each_present callers parts got accounts same is all =
     subst (λ (n : ℕ). HasEach n accounts) same (present_all callers accounts whole)
 
 -- the accounts of one pass more
-accounts_next : (passes : List Pass) (i : ℕ) (p : Pass) → i < length passes → p ≡ get_or passes i p → accounts_of (take (i + 1) passes) ≡ accounts_of (take i passes) ++ account_of p.part ∷ []
+accounts_next : (passes : List Pass) (i : ℕ) (p : Pass) → i < length passes → p ≡ get_or passes i p
+    → accounts_of (take (i + 1) passes) ≡ accounts_of (take i passes) ++ account_of p.part ∷ []
 accounts_next passes i p low is =
     let next : take (i + 1) passes ≡ take i passes ++ p ∷ [] = take_more passes i p low ∙ ap (λ (q : Pass). take i passes ++ q ∷ []) (sym is) in
     rw next (map-append (λ (q : Pass). account_of q.part) (take i passes) (p ∷ []))
@@ -91,7 +93,8 @@ none_more len accounts a none low x among = by (among_push accounts a x among)
     by (inl old) = none x old
     by (inr new) = let same = (same_front x a new).0 in omega arith
 
-first_behind : (len : ℕ) (accounts : List Account) (a : Account) → NoneBehind len accounts → len < front_of a.entries → IsBehind len (accounts ++ a ∷ []) a.caller (front_of a.entries)
+first_behind : (len : ℕ) (accounts : List Account) (a : Account) → NoneBehind len accounts → len < front_of a.entries
+    → IsBehind len (accounts ++ a ∷ []) a.caller (front_of a.entries)
 first_behind len accounts a none high = record {
   entries = a.entries;
   among = (length accounts, get-append_at accounts a []);
@@ -104,7 +107,8 @@ first_behind len accounts a none high = record {
     by x beyond (inl old) = let low = none x old in absurd (omega arith)
     by x beyond (inr new) = let same = (same_front x a new).1 in omega arith
 
-still_behind : (len : ℕ) (accounts : List Account) (a : Account) (caller front : ℕ) → IsBehind len accounts caller front → (len < front_of a.entries → caller ≤ a.caller) → IsBehind len (accounts ++ a ∷ []) caller front
+still_behind : (len : ℕ) (accounts : List Account) (a : Account) (caller front : ℕ) → IsBehind len accounts caller front
+    → (len < front_of a.entries → caller ≤ a.caller) → IsBehind len (accounts ++ a ∷ []) caller front
 still_behind len accounts a caller front found later = record {
   entries = found.entries;
   among = among_longer (account caller found.entries) accounts (a ∷ []) found.among;
@@ -117,7 +121,8 @@ still_behind len accounts a caller front found later = record {
     by x beyond (inl old) = found.least x old beyond
     by x beyond (inr new) = let same = same_front x a new in let front_same = same.0 in let caller_same = same.1 in let low = later (omega arith) in omega arith
 
-earlier_behind : (len : ℕ) (accounts : List Account) (a : Account) (caller front : ℕ) → IsBehind len accounts caller front → len < front_of a.entries → a.caller < caller → IsBehind len (accounts ++ a ∷ []) a.caller (front_of a.entries)
+earlier_behind : (len : ℕ) (accounts : List Account) (a : Account) (caller front : ℕ) → IsBehind len accounts caller front → len < front_of a.entries
+    → a.caller < caller → IsBehind len (accounts ++ a ∷ []) a.caller (front_of a.entries)
 earlier_behind len accounts a caller front found high less = record {
   entries = a.entries;
   among = (length accounts, get-append_at accounts a []);
@@ -130,7 +135,8 @@ earlier_behind len accounts a caller front found high less = record {
     by x beyond (inl old) = let low = found.least x old beyond in omega arith
     by x beyond (inr new) = let same = (same_front x a new).1 in omega arith
 
-found_more : (len : ℕ) (accounts : List Account) (a : Account) (found : Option (ℕ × ℕ)) → IsFound len accounts found → IsFound len (accounts ++ a ∷ []) (earlier len found a.caller (front_of a.entries))
+found_more : (len : ℕ) (accounts : List Account) (a : Account) (found : Option (ℕ × ℕ)) → IsFound len accounts found
+    → IsFound len (accounts ++ a ∷ []) (earlier len found a.caller (front_of a.entries))
 found_more len accounts a None none = by (nat_le (front_of a.entries) len) refl
   where
     by : (t : Bool) → nat_le (front_of a.entries) len ≡ t → IsFound len (accounts ++ a ∷ []) (cond t None (Some (a.caller, front_of a.entries)))
@@ -138,13 +144,15 @@ found_more len accounts a None none = by (nat_le (front_of a.entries) len) refl
     by false is = first_behind len accounts a none (leb-false (front_of a.entries) len is)
 found_more len accounts a (Some p) found = by (nat_le (front_of a.entries) len) refl (nat_le p.0 a.caller) refl
   where
-    by : (t : Bool) → nat_le (front_of a.entries) len ≡ t → (u : Bool) → nat_le p.0 a.caller ≡ u → IsFound len (accounts ++ a ∷ []) (cond (t || u) (Some p) (Some (a.caller, front_of a.entries)))
+    by : (t : Bool) → nat_le (front_of a.entries) len ≡ t → (u : Bool) → nat_le p.0 a.caller ≡ u
+        → IsFound len (accounts ++ a ∷ []) (cond (t || u) (Some p) (Some (a.caller, front_of a.entries)))
     by true is u later = let low = leb-true (front_of a.entries) len is in still_behind len accounts a p.0 p.1 found (λ high. absurd (omega arith))
     by false is true later = still_behind len accounts a p.0 p.1 found (λ high. leb-true p.0 a.caller later)
     by false is false later = earlier_behind len accounts a p.0 p.1 found (leb-false (front_of a.entries) len is) (leb-false p.0 a.caller later)
 
 -- what was found, with one pass more
-pub found_next : (len : ℕ) (passes : List Pass) (i : ℕ) (p : Pass) (found now : Option (ℕ × ℕ)) (caller front : ℕ) → i < length passes → p ≡ get_or passes i p → IsFound len (accounts_of (take i passes)) found
+pub found_next : (len : ℕ) (passes : List Pass) (i : ℕ) (p : Pass) (found now : Option (ℕ × ℕ)) (caller front : ℕ) → i < length passes → p ≡ get_or passes i p
+    → IsFound len (accounts_of (take i passes)) found
     → caller ≡ p.part.caller → front ≡ front_of p.part.entries → now ≡ earlier len found caller front → IsFound len (accounts_of (take (i + 1) passes)) now
 found_next len passes i p found now caller front low at before caller_is front_is is =
     rw (is, caller_is, front_is, accounts_next passes i p low at) (found_more len (accounts_of (take i passes)) (account_of p.part) found before)
@@ -153,7 +161,11 @@ found_next len passes i p found now caller front low at before caller_is front_i
 
 -- the lesser of what was found and one more
 pub least_lesser : (ns : List ℕ) (n c : ℕ) → IsLeastOf (Some n) ns → IsLeastOf (Some (min n c)) (ns ++ c ∷ [])
-least_lesser ns n c found = (by (cases_lt c n), every_append (λ m. min n c ≤ m) ns (c ∷ []) (every_weaker (λ m. n ≤ m) (λ m. min n c ≤ m) ns (λ m low. omega arith) found.1) (omega arith, tt))
+least_lesser ns n c found = (
+  by (cases_lt c n),
+  every_append (λ m. min n c ≤ m) ns (c ∷ []) (every_weaker (λ m. n ≤ m) (λ m. min n c ≤ m) ns (λ m low. omega arith) found.1)
+      (omega arith, tt),
+)
   where
     by : (c < n) ⊎ (n ≤ c) → Among (min n c) (ns ++ c ∷ [])
     by (inl less) = let same : min n c ≡ c = omega arith in rw same (length ns, get-append_at ns c [])
@@ -164,31 +176,41 @@ pub least_same : (ns : List ℕ) (found : Option ℕ) → IsLeastOf found ns →
 least_same ns found least = subst (λ (ms : List ℕ). IsLeastOf found ms) (sym (append-nil ns)) least
 
 -- what was found, with one element's cells more
-least_step : {X : Type 0} (f : X → List ℕ) (states : List Cell) (ns : List ℕ) (xs : List X) (x : X) (found now : Option ℕ) → IsLeastOf found (ns ++ refused_in states (flat_map f xs))
+least_step : {X : Type 0} (f : X → List ℕ) (states : List Cell) (ns : List ℕ) (xs : List X) (x : X) (found now : Option ℕ)
+    → IsLeastOf found (ns ++ refused_in states (flat_map f xs))
     → ((ms : List ℕ) → IsLeastOf found ms → IsLeastOf now (ms ++ refused_in states (f x))) → IsLeastOf now (ns ++ refused_in states (flat_map f (xs ++ x ∷ [])))
 least_step f states ns xs x found now least more =
     let p : ℕ → Bool = λ c. cell_refused (slice_get states c) in
-    let split : flat_map f (xs ++ x ∷ []) ≡ flat_map f xs ++ f x = flat_map-append f xs (x ∷ []) ∙ ap (λ (ms : List ℕ). flat_map f xs ++ ms) (append-nil (f x)) in
-    let parts : refused_in states (flat_map f (xs ++ x ∷ [])) ≡ refused_in states (flat_map f xs) ++ refused_in states (f x) = ap (filter p) split ∙ filter-append p (flat_map f xs) (f x) in
-    let whole : ns ++ refused_in states (flat_map f (xs ++ x ∷ [])) ≡ (ns ++ refused_in states (flat_map f xs)) ++ refused_in states (f x) = ap (λ (ms : List ℕ). ns ++ ms) parts ∙ sym (append_assoc ns (refused_in states (flat_map f xs)) (refused_in states (f x))) in
+    let split : flat_map f (xs ++ x ∷ []) ≡ flat_map f xs ++ f x =
+    flat_map-append f xs (x ∷ []) ∙ ap (λ (ms : List ℕ). flat_map f xs ++ ms) (append-nil (f x)) in
+    let parts : refused_in states (flat_map f (xs ++ x ∷ [])) ≡ refused_in states (flat_map f xs) ++ refused_in states (f x) =
+    ap (filter p) split ∙ filter-append p (flat_map f xs) (f x) in
+    let whole : ns ++ refused_in states (flat_map f (xs ++ x ∷ [])) ≡ (ns ++ refused_in states (flat_map f xs)) ++ refused_in states (f x) =
+    ap (λ (ms : List ℕ). ns ++ ms) parts ∙ sym (append_assoc ns (refused_in states (flat_map f xs)) (refused_in states (f x))) in
     subst (λ (ms : List ℕ). IsLeastOf now ms) (sym whole) (more (ns ++ refused_in states (flat_map f xs)) least)
 
 -- with one entry more
-pub least_entry : (states : List Cell) (ns : List ℕ) (entries : List Line) (i : ℕ) (e : Line) (found now : Option ℕ) → i < length entries → e ≡ get_or entries i e → IsLeastOf found (ns ++ refused_in states (flat_map read_in (take i entries)))
-    → ((ms : List ℕ) → IsLeastOf found ms → IsLeastOf now (ms ++ refused_in states (read_in e))) → IsLeastOf now (ns ++ refused_in states (flat_map read_in (take (i + 1) entries)))
+pub least_entry : (states : List Cell) (ns : List ℕ) (entries : List Line) (i : ℕ) (e : Line) (found now : Option ℕ) → i < length entries
+    → e ≡ get_or entries i e → IsLeastOf found (ns ++ refused_in states (flat_map read_in (take i entries)))
+    → ((ms : List ℕ) → IsLeastOf found ms → IsLeastOf now (ms ++ refused_in states (read_in e)))
+    → IsLeastOf now (ns ++ refused_in states (flat_map read_in (take (i + 1) entries)))
 least_entry states ns entries i e found now low is least more =
     let next : take (i + 1) entries ≡ take i entries ++ e ∷ [] = take_more entries i e low ∙ ap (λ (l : Line). take i entries ++ l ∷ []) (sym is) in
     rw next (least_step read_in states ns (take i entries) e found now least more)
 
 -- with all entries
-pub least_all : (states : List Cell) (ns : List ℕ) (entries : List Line) (i : ℕ) (found : Option ℕ) → length entries ≤ i → IsLeastOf found (ns ++ refused_in states (flat_map read_in (take i entries))) → IsLeastOf found (ns ++ refused_in states (flat_map read_in entries))
+pub least_all : (states : List Cell) (ns : List ℕ) (entries : List Line) (i : ℕ) (found : Option ℕ) → length entries ≤ i
+    → IsLeastOf found (ns ++ refused_in states (flat_map read_in (take i entries))) → IsLeastOf found (ns ++ refused_in states (flat_map read_in entries))
 least_all states ns entries i found all least = rw (take_all i entries all) at least
 
 -- with one pass more
-pub least_pass : (states : List Cell) (passes : List Pass) (i : ℕ) (p : Pass) (entries : List Line) (found now : Option ℕ) → i < length passes → p ≡ get_or passes i p → entries ≡ p.part.entries → IsLeastOf found (unshown states (accounts_of (take i passes)))
-    → ((ms : List ℕ) → IsLeastOf found ms → IsLeastOf now (ms ++ refused_in states (flat_map read_in entries))) → IsLeastOf now (unshown states (accounts_of (take (i + 1) passes)))
+pub least_pass : (states : List Cell) (passes : List Pass) (i : ℕ) (p : Pass) (entries : List Line) (found now : Option ℕ) → i < length passes
+    → p ≡ get_or passes i p → entries ≡ p.part.entries → IsLeastOf found (unshown states (accounts_of (take i passes)))
+    → ((ms : List ℕ) → IsLeastOf found ms → IsLeastOf now (ms ++ refused_in states (flat_map read_in entries)))
+    → IsLeastOf now (unshown states (accounts_of (take (i + 1) passes)))
 least_pass states passes i p entries found now low is own least more =
-    rw (accounts_next passes i p low is) (least_step (λ (a : Account). flat_map read_in a.entries) states [] (accounts_of (take i passes)) (account_of p.part) found now least (rw own at more))
+    rw (accounts_next passes i p low is)
+    (least_step (λ (a : Account). flat_map read_in a.entries) states [] (accounts_of (take i passes)) (account_of p.part) found now least (rw own at more))
 
 -- ---- batches
 
@@ -223,6 +245,7 @@ no_events s [] legal none = refl
 no_events s (e ∷ es) legal none = let next = legal.at 0 e refl in let low = next.caller in absurd (omega arith)
 
 -- so nothing was counted where there are no parts of the ledger
-pub none_counted : {X : Type 0} (P Q : X → Type 0) (all : Option X) (s : Service) (es : List Event) → all ≡ None → MatchOption all (s.callers ≡ 0) P → IsLegal s es → MatchOption all (length es ≡ 0) Q
+pub none_counted : {X : Type 0} (P Q : X → Type 0) (all : Option X) (s : Service) (es : List Event) → all ≡ None → MatchOption all (s.callers ≡ 0) P
+    → IsLegal s es → MatchOption all (length es ≡ 0) Q
 none_counted P Q None s es is parts legal = no_events s es legal parts
 none_counted {X} P Q (Some x) s es is parts legal = absurd (let bad : ◌≡◌ {A = Option X} (Some x) None = is in cc)

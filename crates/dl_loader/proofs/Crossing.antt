@@ -27,7 +27,10 @@ use Rattle.dl_history.proofs.Crossing.{Journal-send, Rows-sync, outcomes_sync}
 
 module _ (T : RattleType) (n : name.Ghosts T.Denot) (l : ledger.Ghosts T.Denot) where
   book_send : IsSend (book.the_row T n l)
-  book_send = declared_send (book.the_type T n l) (as_row_send Desk.the_field (search (desk.the_send) depth 10), (as_row_send (Journal.the_field T n l) (Journal-send T n l), (search (as_row_send, sendable) depth 10, tt)))
+  book_send = declared_send (book.the_type T n l) (
+    as_row_send Desk.the_field (search (desk.the_send) depth 10),
+    (as_row_send (Journal.the_field T n l) (Journal-send T n l), (search (as_row_send, sendable) depth 10, tt)),
+  )
 
   pub Book-send : IsSend (Book.the_row T n l)
   Book-send = search (book_send, sendable) depth 10
@@ -36,14 +39,29 @@ module _ (T : RattleType) (n : name.Ghosts T.Denot) (l : ledger.Ghosts T.Denot) 
   lock_sync = search (Book-send, owners_cross) depth 10
 
   loader_sync : IsSync (loader.the_row T n l)
-  loader_sync = declared_sync (loader.the_type T n l) (search (as_row_sync, sendable) depth 10, (as_row_sync (Rows.the_field T n l) (Rows-sync T n l), (as_row_sync (Mutex.the_field (Book.the_row T n l)) lock_sync, (search (changed.the_sync, owners_cross, sendable) depth 20, tt))))
+  loader_sync = declared_sync (loader.the_type T n l) (
+    search (as_row_sync, sendable) depth 10,
+    (
+      as_row_sync (Rows.the_field T n l) (Rows-sync T n l),
+      (as_row_sync (Mutex.the_field (Book.the_row T n l)) lock_sync, (search (changed.the_sync, owners_cross, sendable) depth 20, tt)),
+    ),
+  )
 
   pub Loader-sync : IsSync (Loader.the_row T n l)
   Loader-sync = search (loader_sync, sendable) depth 10
 
   module _ (a : NamedLft) where
     ticket_send : IsSend (ticket.the_row a T n l)
-    ticket_send = declared_send (ticket.the_type a T n l) (as_row_send (shr_ref_field a (Row.the_row Ending.the_row) tt) (shr_send _ _ _ outcomes_sync), (search (as_row_send, sendable) depth 10, (search (as_row_send, sendable) depth 10, (as_row_send (Reader.the_field Ending.the_row) (search (reader.the_send) depth 10), (search (as_row_send, sendable) depth 10, tt)))))
+    ticket_send = declared_send (ticket.the_type a T n l) (
+      as_row_send (shr_ref_field a (Row.the_row Ending.the_row) tt) (shr_send _ _ _ outcomes_sync),
+      (
+        search (as_row_send, sendable) depth 10,
+        (
+          search (as_row_send, sendable) depth 10,
+          (as_row_send (Reader.the_field Ending.the_row) (search (reader.the_send) depth 10), (search (as_row_send, sendable) depth 10, tt)),
+        ),
+      ),
+    )
 
     pub Ticket-send : IsSend (Ticket.the_row a T n l)
     Ticket-send = search (ticket_send, sendable) depth 10

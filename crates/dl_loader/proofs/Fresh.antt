@@ -9,7 +9,8 @@ fresh-more k zero = let same : k + 0 ≡ k = omega arith in rw same refl
 fresh-more k (suc n) = let next : k + 1 + n ≡ k + suc n = omega arith in ap (λ (ps : List Part). part k [] [] ∷ ps) (rw (← next) (fresh-more (k + 1) n))
 
 -- a list of parts of the first callers, with that of the next
-pub fresh_next : {X : Type 0} (f : X → Part) (xs ys : List X) (x : X) (n : ℕ) → ys ≡ xs ++ x ∷ [] → f x ≡ part n [] [] → map f xs ≡ fresh 0 n → map f ys ≡ fresh 0 (n + 1)
+pub fresh_next : {X : Type 0} (f : X → Part) (xs ys : List X) (x : X) (n : ℕ) → ys ≡ xs ++ x ∷ [] → f x ≡ part n [] [] → map f xs ≡ fresh 0 n
+    → map f ys ≡ fresh 0 (n + 1)
 fresh_next f xs ys x n grown is before =
     let next : n + 1 ≡ suc n = omega arith in
     let low : 0 + n ≡ n = omega arith in

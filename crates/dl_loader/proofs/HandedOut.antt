@@ -1,5 +1,6 @@
 -- Tickets that are handed out for loads.
-use Rattle.std.proofs.Common.{◌≡◌, ◌∙◌, sym, ap, subst, ℕ, zero, suc, ◌+◌, ◌-◌, ◌<◌, ◌⊎◌, inl, inr, false, List, [], ◌∷◌, ◌++◌, length, map, take, Some, option_map, slice_get, get_or, refl, arith, length-append}
+use Rattle.std.proofs.Common.{◌≡◌, ◌∙◌, sym, ap, subst, ℕ, zero, suc, ◌+◌, ◌-◌, ◌<◌, ◌⊎◌, inl, inr, false, List, [], ◌∷◌, ◌++◌, length, map, take, Some}
+use Rattle.std.proofs.Common.{option_map, slice_get, get_or, refl, arith, length-append}
 use Rattle.std.proofs.lemmas.List.{map-append, length-map, append_assoc, take_more}
 use Rattle.std.proofs.lemmas.Option.{slice_get-map}
 use Rattle.dl_desk.specs.Key.{Key}
@@ -16,7 +17,8 @@ use Rattle.dl_history.proofs.Logs.{get-append_at, get-snoc}
 -- ---- tickets in order
 
 -- one ticket more, for the load at a place
-pub tickets_more : (first i : ℕ) (rs : List LoadReply) (d r : LoadReply) (ts us : List Hold) (t : Hold) → i < length rs → get_or rs i d ≡ r → AreTickets first (take i rs) ts → us ≡ ts ++ t ∷ [] → t.number ≡ first + length ts → t.reply ≡ r → AreTickets first (take (i + 1) rs) us
+pub tickets_more : (first i : ℕ) (rs : List LoadReply) (d r : LoadReply) (ts us : List Hold) (t : Hold) → i < length rs → get_or rs i d ≡ r
+    → AreTickets first (take i rs) ts → us ≡ ts ++ t ∷ [] → t.number ≡ first + length ts → t.reply ≡ r → AreTickets first (take (i + 1) rs) us
 tickets_more first i rs d r ts us t low is before more number reply = record {
   replies_are =
       let front : map (λ (x : Hold). x.reply) ts ++ t.reply ∷ [] ≡ take i rs ++ r ∷ [] = rw (before.replies_are, reply) refl in
@@ -55,9 +57,13 @@ gave_all p rs ts are = record { numbered = are.numbered; gave = gave }
   where
     gave : (i : ℕ) (t : Hold) → slice_get ts i ≡ Some t → Gave (with_tickets p rs) t false
     gave i t got =
-        let reply : slice_get rs i ≡ Some t.reply = ap (λ (xs : List LoadReply). slice_get xs i) (sym are.replies_are) ∙ (slice_get-map (λ (x : Hold). x.reply) ts i ∙ ap (option_map (λ (x : Hold). x.reply)) got) in
+        let reply : slice_get rs i ≡ Some t.reply =
+        ap (λ (xs : List LoadReply). slice_get xs i) (sym are.replies_are)
+        ∙ (slice_get-map (λ (x : Hold). x.reply) ts i ∙ ap (option_map (λ (x : Hold). x.reply)) got) in
         let told : slice_get (map new_ticket rs) i ≡ Some (new_ticket t.reply) = slice_get-map new_ticket rs i ∙ ap (option_map new_ticket) reply in
-        let last : slice_get (with_tickets p rs).tickets (length p.tickets + i) ≡ Some (new_ticket t.reply) = ap (λ (gs : List Given). slice_get gs (length p.tickets + i)) (tickets_are p rs) ∙ (get_later p.tickets (map new_ticket rs) i (length p.tickets + i) refl ∙ told) in
+        let last : slice_get (with_tickets p rs).tickets (length p.tickets + i) ≡ Some (new_ticket t.reply) =
+        ap (λ (gs : List Given). slice_get gs (length p.tickets + i)) (tickets_are p rs)
+        ∙ (get_later p.tickets (map new_ticket rs) i (length p.tickets + i) refl ∙ told) in
         rw (are.numbered i t got) last
 
 -- the pass gave the ticket of its last load
@@ -67,12 +73,14 @@ gave_one p r t number reply = rw (number, reply) (get-append_at p.tickets (given
 -- ---- as an event gave them
 
 -- the pass gave the ticket of the load that was its last event
-pub gave_load : (b now : Locked) (p new : Part) (k : Key) (r : LoadReply) (t : Hold) → Makes b p (Load k) (Loaded r) now new → t.number ≡ length p.tickets → t.reply ≡ r → Gave new t false
+pub gave_load : (b now : Locked) (p new : Part) (k : Key) (r : LoadReply) (t : Hold) → Makes b p (Load k) (Loaded r) now new → t.number ≡ length p.tickets
+    → t.reply ≡ r → Gave new t false
 gave_load b now p new k r t made number reply =
     subst (λ (q : Part). Gave q t false) (sym made.part) (gave_one (with_call p (length b.history) (event_of p (Load k) (Loaded r))) r t number reply)
 
 -- a loadMany gives a ticket for each of its loads
-pub tickets_last : (b now : Locked) (p new : Part) (ks : List Key) (rs : List LoadReply) → Makes b p (LoadMany ks) (Many rs) now new → length new.tickets ≡ length p.tickets + length rs
+pub tickets_last : (b now : Locked) (p new : Part) (ks : List Key) (rs : List LoadReply) → Makes b p (LoadMany ks) (Many rs) now new
+    → length new.tickets ≡ length p.tickets + length rs
 tickets_last b now p new ks rs made =
     let called : Part = with_call p (length b.history) (event_of p (LoadMany ks) (Many rs)) in
     let all : new.tickets ≡ p.tickets ++ map new_ticket rs = ap (λ (q : Part). q.tickets) made.part ∙ tickets_are called rs in
@@ -81,7 +89,8 @@ tickets_last b now p new ks rs made =
     omega arith
 
 -- the pass gave the tickets of the loadMany that was its last event
-pub gave_loads : (b now : Locked) (p new : Part) (ks : List Key) (rs : List LoadReply) (ts : List Hold) → Makes b p (LoadMany ks) (Many rs) now new → AreTickets (length new.tickets - length rs) rs ts → GaveAll new (length p.tickets) ts
+pub gave_loads : (b now : Locked) (p new : Part) (ks : List Key) (rs : List LoadReply) (ts : List Hold) → Makes b p (LoadMany ks) (Many rs) now new
+    → AreTickets (length new.tickets - length rs) rs ts → GaveAll new (length p.tickets) ts
 gave_loads b now p new ks rs ts made are =
     let long = tickets_last b now p new ks rs made in
     let first : length new.tickets - length rs ≡ length p.tickets = omega arith in

@@ -19,7 +19,7 @@ use Rattle.dl_history.specs.History.{log, gave, reply_to, call_of, IsNext}
 use Rattle.dl_history.specs.Journal.{Cell, waiting}
 use Rattle.dl_loader.specs.Book.{locked, Keeps}
 use Rattle.dl_history.specs.Kept.{ShowsEnd}
-use Rattle.dl_loader.specs.Begun.{begun_by, cells_begun}
+use Rattle.dl_loader.specs.Inside.Begun.{begun_by, cells_begun}
 use Rattle.dl_loader.proofs.Begun.{same_cells, loads_count, loads_fit, kept_count, primed_count, primed_fits, primed_reply, kept_reply}
 use Rattle.dl_history.proofs.CellLists.{repeat_none}
 use Rattle.dl_loader.proofs.Kept.{keeps_quiet, keeps_primed}
@@ -27,41 +27,53 @@ use Rattle.dl_loader.proofs.Kept.{keeps_quiet, keeps_primed}
 -- ---- a call that begins no cell
 
 -- a book still keeps it after an event that gives nothing to cells and begins none
-pub keeps_unbegun : (s : Service) (es : List Event) (e : Event) (old new : Book) (xs : List Cell) (stopped : Bool) → Keeps s (locked es old xs stopped) → IsNext s es e → gave e.call e.reply ≡ Nothing → length es < s.rules.limits.max_calls
-    → new.rules ≡ old.rules → StandsFor new (after s.rules (atoms (log es)) (call_of e.call)) → new.cells ≡ old.cells → Keeps s (locked (es ++ e ∷ []) new xs stopped)
+pub keeps_unbegun : (s : Service) (es : List Event) (e : Event) (old new : Book) (xs : List Cell) (stopped : Bool) → Keeps s (locked es old xs stopped)
+    → IsNext s es e → gave e.call e.reply ≡ Nothing → length es < s.rules.limits.max_calls
+    → new.rules ≡ old.rules → StandsFor new (after s.rules (atoms (log es)) (call_of e.call)) → new.cells ≡ old.cells
+    → Keeps s (locked (es ++ e ∷ []) new xs stopped)
 keeps_unbegun s es e old new xs stopped kept next none calls rules stands same =
     let fit = kept.cells_fit in
     keeps_quiet s es e old new xs xs stopped 0 kept next none calls rules stands (omega arith) (omega arith) (repeat_none xs waiting)
 
 -- after a clear of a key
-pub keeps_clear : (s : Service) (es : List Event) (e : Event) (k : Key) (old new : Book) (xs : List Cell) (stopped : Bool) → Keeps s (locked es old xs stopped) → IsNext s es e → e.call ≡ Clear k → length es < s.rules.limits.max_calls
+pub keeps_clear : (s : Service) (es : List Event) (e : Event) (k : Key) (old new : Book) (xs : List Cell) (stopped : Bool) → Keeps s (locked es old xs stopped)
+    → IsNext s es e → e.call ≡ Clear k → length es < s.rules.limits.max_calls
     → new.rules ≡ old.rules → StandsFor new (atom.Clear k ∷ atoms (log es)) → Keeps s (locked (es ++ e ∷ []) new xs stopped)
 keeps_clear s es e k old new xs stopped kept next is calls rules stands =
-    keeps_unbegun s es e old new xs stopped kept next (rw is refl) calls rules (rw is stands) (same_cells (atoms (log es)) (atom.Clear k) old new refl kept.desk stands)
+    keeps_unbegun s es e old new xs stopped kept next (rw is refl) calls rules (rw is stands)
+    (same_cells (atoms (log es)) (atom.Clear k) old new refl kept.desk stands)
 
 -- after a clear of all keys
-pub keeps_clear_all : (s : Service) (es : List Event) (e : Event) (old new : Book) (xs : List Cell) (stopped : Bool) → Keeps s (locked es old xs stopped) → IsNext s es e → e.call ≡ ClearAll → length es < s.rules.limits.max_calls
+pub keeps_clear_all : (s : Service) (es : List Event) (e : Event) (old new : Book) (xs : List Cell) (stopped : Bool) → Keeps s (locked es old xs stopped)
+    → IsNext s es e → e.call ≡ ClearAll → length es < s.rules.limits.max_calls
     → new.rules ≡ old.rules → StandsFor new (atom.ClearAll ∷ atoms (log es)) → Keeps s (locked (es ++ e ∷ []) new xs stopped)
 keeps_clear_all s es e old new xs stopped kept next is calls rules stands =
-    keeps_unbegun s es e old new xs stopped kept next (rw is refl) calls rules (rw is stands) (same_cells (atoms (log es)) atom.ClearAll old new refl kept.desk stands)
+    keeps_unbegun s es e old new xs stopped kept next (rw is refl) calls rules (rw is stands)
+    (same_cells (atoms (log es)) atom.ClearAll old new refl kept.desk stands)
 
 -- after a dispatch
-pub keeps_dispatch : (s : Service) (es : List Event) (e : Event) (old new : Book) (xs : List Cell) (stopped : Bool) → Keeps s (locked es old xs stopped) → IsNext s es e → e.call ≡ Dispatch → length es < s.rules.limits.max_calls
+pub keeps_dispatch : (s : Service) (es : List Event) (e : Event) (old new : Book) (xs : List Cell) (stopped : Bool) → Keeps s (locked es old xs stopped)
+    → IsNext s es e → e.call ≡ Dispatch → length es < s.rules.limits.max_calls
     → new.rules ≡ old.rules → StandsFor new (atom.Dispatch (jobs (atoms (log es))) ∷ atoms (log es)) → Keeps s (locked (es ++ e ∷ []) new xs stopped)
 keeps_dispatch s es e old new xs stopped kept next is calls rules stands =
-    keeps_unbegun s es e old new xs stopped kept next (rw is refl) calls rules (rw is stands) (same_cells (atoms (log es)) (atom.Dispatch (jobs (atoms (log es)))) old new refl kept.desk stands)
+    keeps_unbegun s es e old new xs stopped kept next (rw is refl) calls rules (rw is stands)
+    (same_cells (atoms (log es)) (atom.Dispatch (jobs (atoms (log es)))) old new refl kept.desk stands)
 
 -- ---- a prime
 
 -- after a prime of a key that is held
-pub keeps_prime_held : (s : Service) (es : List Event) (e : Event) (k : Key) (o : Outcome) (old new : Book) (xs : List Cell) (stopped : Bool) → Keeps s (locked es old xs stopped) → IsNext s es e → e.call ≡ Prime k o → e.reply ≡ Kept → length es < s.rules.limits.max_calls
+pub keeps_prime_held : (s : Service) (es : List Event) (e : Event) (k : Key) (o : Outcome) (old new : Book) (xs : List Cell) (stopped : Bool)
+    → Keeps s (locked es old xs stopped) → IsNext s es e → e.call ≡ Prime k o → e.reply ≡ Kept → length es < s.rules.limits.max_calls
     → new.rules ≡ old.rules → StandsFor new (atom.Prime k (prime_reply (atoms (log es)) k) ∷ atoms (log es)) → Keeps s (locked (es ++ e ∷ []) new xs stopped)
 keeps_prime_held s es e k o old new xs stopped kept next is reply calls rules stands =
-    keeps_unbegun s es e old new xs stopped kept next (rw (is, reply) refl) calls rules (rw is stands) (kept_count (atoms (log es)) k old new (kept_reply s es e k o next is reply) kept.desk stands)
+    keeps_unbegun s es e old new xs stopped kept next (rw (is, reply) refl) calls rules (rw is stands)
+    (kept_count (atoms (log es)) k old new (kept_reply s es e k o next is reply) kept.desk stands)
 
 -- after a prime of a key that is not held, which the desk accepted, with a cell that shows the outcome
-pub keeps_prime_new : (s : Service) (es : List Event) (e : Event) (k : Key) (o : Outcome) (d : ℕ) (old new : Book) (xs ys : List Cell) (x : Cell) (stopped : Bool) → Keeps s (locked es old xs stopped) → IsNext s es e → e.call ≡ Prime k o → e.reply ≡ Primed d → length es < s.rules.limits.max_calls
-    → new.rules ≡ old.rules → StandsFor new (atom.Prime k (prime_reply (atoms (log es)) k) ∷ atoms (log es)) → refusal old.rules (atoms (log es)) (Primes k) ≡ None
+pub keeps_prime_new : (s : Service) (es : List Event) (e : Event) (k : Key) (o : Outcome) (d : ℕ) (old new : Book) (xs ys : List Cell) (x : Cell)
+    (stopped : Bool) → Keeps s (locked es old xs stopped) → IsNext s es e → e.call ≡ Prime k o → e.reply ≡ Primed d → length es < s.rules.limits.max_calls
+    → new.rules ≡ old.rules → StandsFor new (atom.Prime k (prime_reply (atoms (log es)) k) ∷ atoms (log es))
+    → refusal old.rules (atoms (log es)) (Primes k) ≡ None
     → ShowsEnd (Some (record { at = length es; outcome = o })) x.mark x.shows → ys ≡ xs ++ x ∷ [] → Keeps s (locked (es ++ e ∷ []) new ys stopped)
 keeps_prime_new s es e k o d old new xs ys x stopped kept next is reply calls rules stands accepted shows more =
     let own : prime_reply (atoms (log es)) k ≡ prime.Primed d = primed_reply s es e k o d next is reply in
@@ -73,7 +85,8 @@ keeps_prime_new s es e k o d old new xs ys x stopped kept next is reply calls ru
 -- ---- loads
 
 -- after a call of the desk's that is loads of keys, which the desk accepted, with a cell that waits for each that they began
-pub keeps_loads : (s : Service) (es : List Event) (e : Event) (ks : List Key) (n : ℕ) (old new : Book) (xs ys : List Cell) (stopped : Bool) → Keeps s (locked es old xs stopped) → IsNext s es e → gave e.call e.reply ≡ Nothing → call_of e.call ≡ Loads ks → length es < s.rules.limits.max_calls
+pub keeps_loads : (s : Service) (es : List Event) (e : Event) (ks : List Key) (n : ℕ) (old new : Book) (xs ys : List Cell) (stopped : Bool)
+    → Keeps s (locked es old xs stopped) → IsNext s es e → gave e.call e.reply ≡ Nothing → call_of e.call ≡ Loads ks → length es < s.rules.limits.max_calls
     → new.rules ≡ old.rules → StandsFor new (after old.rules (atoms (log es)) (Loads ks)) → refusal old.rules (atoms (log es)) (Loads ks) ≡ None
     → n ≡ cells_begun (load_replies s.rules (atoms (log es)) ks) → ys ≡ xs ++ repeat n (waiting ∷ []) → Keeps s (locked (es ++ e ∷ []) new ys stopped)
 keeps_loads s es e ks n old new xs ys stopped kept next nothing is calls rules stands accepted many more =
@@ -86,26 +99,31 @@ keeps_loads s es e ks n old new xs ys stopped kept next nothing is calls rules s
     keeps_quiet s es e old new xs ys stopped n kept next nothing calls rules stands_now (omega arith) (omega arith) more
 
 -- the replies of a next event that is a loadMany
-loaded_many : (s : Service) (es : List Event) (e : Event) (ks : List Key) (rs : List LoadReply) → IsNext s es e → e.call ≡ LoadMany ks → e.reply ≡ Many rs → rs ≡ load_replies s.rules (atoms (log es)) ks
+loaded_many : (s : Service) (es : List Event) (e : Event) (ks : List Key) (rs : List LoadReply) → IsNext s es e → e.call ≡ LoadMany ks → e.reply ≡ Many rs
+    → rs ≡ load_replies s.rules (atoms (log es)) ks
 loaded_many s es e ks rs next is reply =
     let two : Many rs ≡ Many (load_replies s.rules (atoms (log es)) ks) = sym reply ∙ (next.reply ∙ ap (reply_to s.rules (atoms (log es))) is) in
     cc
 
 -- the reply of a next event that is a load
-loaded_one : (s : Service) (es : List Event) (e : Event) (k : Key) (r : LoadReply) → IsNext s es e → e.call ≡ Load k → e.reply ≡ Loaded r → r ≡ load_reply s.rules (atoms (log es)) k
+loaded_one : (s : Service) (es : List Event) (e : Event) (k : Key) (r : LoadReply) → IsNext s es e → e.call ≡ Load k → e.reply ≡ Loaded r
+    → r ≡ load_reply s.rules (atoms (log es)) k
 loaded_one s es e k r next is reply =
     let two : Loaded r ≡ Loaded (load_reply s.rules (atoms (log es)) k) = sym reply ∙ (next.reply ∙ ap (reply_to s.rules (atoms (log es))) is) in
     cc
 
 -- after a loadMany that the desk accepted
-pub keeps_load_many : (s : Service) (es : List Event) (e : Event) (ks : List Key) (rs : List LoadReply) (old new : Book) (xs ys : List Cell) (stopped : Bool) → Keeps s (locked es old xs stopped) → IsNext s es e → e.call ≡ LoadMany ks → e.reply ≡ Many rs → length es < s.rules.limits.max_calls
+pub keeps_load_many : (s : Service) (es : List Event) (e : Event) (ks : List Key) (rs : List LoadReply) (old new : Book) (xs ys : List Cell) (stopped : Bool)
+    → Keeps s (locked es old xs stopped) → IsNext s es e → e.call ≡ LoadMany ks → e.reply ≡ Many rs → length es < s.rules.limits.max_calls
     → new.rules ≡ old.rules → StandsFor new (after old.rules (atoms (log es)) (Loads ks)) → refusal old.rules (atoms (log es)) (Loads ks) ≡ None
     → ys ≡ xs ++ repeat (cells_begun rs) (waiting ∷ []) → Keeps s (locked (es ++ e ∷ []) new ys stopped)
 keeps_load_many s es e ks rs old new xs ys stopped kept next is reply calls rules stands accepted more =
-    keeps_loads s es e ks (cells_begun rs) old new xs ys stopped kept next (rw is refl) (ap call_of is) calls rules stands accepted (ap cells_begun (loaded_many s es e ks rs next is reply)) more
+    keeps_loads s es e ks (cells_begun rs) old new xs ys stopped kept next (rw is refl) (ap call_of is) calls rules stands accepted
+    (ap cells_begun (loaded_many s es e ks rs next is reply)) more
 
 -- and after a load
-pub keeps_load : (s : Service) (es : List Event) (e : Event) (k : Key) (r : LoadReply) (old new : Book) (xs ys : List Cell) (stopped : Bool) → Keeps s (locked es old xs stopped) → IsNext s es e → e.call ≡ Load k → e.reply ≡ Loaded r → length es < s.rules.limits.max_calls
+pub keeps_load : (s : Service) (es : List Event) (e : Event) (k : Key) (r : LoadReply) (old new : Book) (xs ys : List Cell) (stopped : Bool)
+    → Keeps s (locked es old xs stopped) → IsNext s es e → e.call ≡ Load k → e.reply ≡ Loaded r → length es < s.rules.limits.max_calls
     → new.rules ≡ old.rules → StandsFor new (after old.rules (atoms (log es)) (Loads (k ∷ []))) → refusal old.rules (atoms (log es)) (Loads (k ∷ [])) ≡ None
     → ys ≡ xs ++ repeat (begun_by r) (waiting ∷ []) → Keeps s (locked (es ++ e ∷ []) new ys stopped)
 keeps_load s es e k r old new xs ys stopped kept next is reply calls rules stands accepted more =

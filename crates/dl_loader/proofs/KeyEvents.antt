@@ -1,6 +1,7 @@
 -- What the book of a loader keeps after a call on a key, a clear of all keys and a dispatch, told by what the
 -- record of the event and the desk promise.
-use Rattle.std.proofs.Common.{◌≡◌, ◌∙◌, sym, ap, subst, ℕ, ◌+◌, ◌<◌, Bool, true, false, cond, List, [], ◌∷◌, ◌++◌, length, set, Some, None, MatchBool, slice_get, refl, arith}
+use Rattle.std.proofs.Common.{◌≡◌, ◌∙◌, sym, ap, subst, ℕ, ◌+◌, ◌<◌, Bool, true, false, cond, List, [], ◌∷◌, ◌++◌, length, set, Some, None, MatchBool}
+use Rattle.std.proofs.Common.{slice_get, refl, arith}
 use Rattle.std.specs.List.{repeat}
 use Rattle.std.proofs.lemmas.List.Sums.{fold-append}
 use Rattle.dl_desk.specs.Key.{Key}
@@ -40,7 +41,8 @@ abbrev pub event : ℕ → Call → Reply → Event
 event caller call reply = record { caller = caller; call = call; reply = reply }
 
 -- the book with the history and the cells that the record left
-recorded : (s : Service) (es now : List Event) (e : Event) (d : Book) (xs ys : List Cell) (stopped : Bool) → now ≡ es ++ e ∷ [] → ys ≡ xs ++ repeat 0 (waiting ∷ []) → Keeps s (locked (es ++ e ∷ []) d xs stopped) → Keeps s (locked now d ys stopped)
+recorded : (s : Service) (es now : List Event) (e : Event) (d : Book) (xs ys : List Cell) (stopped : Bool) → now ≡ es ++ e ∷ []
+    → ys ≡ xs ++ repeat 0 (waiting ∷ []) → Keeps s (locked (es ++ e ∷ []) d xs stopped) → Keeps s (locked now d ys stopped)
 recorded s es now e d xs ys stopped history cells kept =
     let same : ys ≡ xs = cells ∙ sym (repeat_none xs waiting) in
     let with_cells : Keeps s (locked (es ++ e ∷ []) d ys stopped) = subst (λ (cs : List Cell). Keeps s (locked (es ++ e ∷ []) d cs stopped)) (sym same) kept in
@@ -55,8 +57,10 @@ pub clear_kept : (s : Service) (b : Locked) (p : Part) (es now : List Event) (k 
 clear_kept s b p es now k j caller old new xs ys stopped view ready kept own below copy history cells rules stands =
     let e : Event = event caller (Clear k) Done in
     let next : IsNext s es e = record { caller = omega arith; reply = refl; made = tt } in
-    let stands_now : StandsFor new (atom.Clear k ∷ atoms (log es)) = subst (λ (x : Key). StandsFor new (atom.Clear x ∷ atoms (log es))) (sym copy) (stands (atoms (log es)) kept.desk) in
-    recorded s es now e new xs ys stopped history cells (keeps_clear s es e k old new xs stopped kept next refl (ready_room s b p es old xs stopped view ready) rules stands_now)
+    let stands_now : StandsFor new (atom.Clear k ∷ atoms (log es)) =
+    subst (λ (x : Key). StandsFor new (atom.Clear x ∷ atoms (log es))) (sym copy) (stands (atoms (log es)) kept.desk) in
+    recorded s es now e new xs ys stopped history cells
+    (keeps_clear s es e k old new xs stopped kept next refl (ready_room s b p es old xs stopped view ready) rules stands_now)
 
 -- after a clear of all keys
 pub clear_all_kept : (s : Service) (b : Locked) (p : Part) (es now : List Event) (caller : ℕ) (old new : Book) (xs ys : List Cell) (stopped : Bool)
@@ -67,12 +71,14 @@ pub clear_all_kept : (s : Service) (b : Locked) (p : Part) (es now : List Event)
 clear_all_kept s b p es now caller old new xs ys stopped view ready kept own below history cells rules stands =
     let e : Event = event caller ClearAll Done in
     let next : IsNext s es e = record { caller = omega arith; reply = refl; made = tt } in
-    recorded s es now e new xs ys stopped history cells (keeps_clear_all s es e old new xs stopped kept next refl (ready_room s b p es old xs stopped view ready) rules (stands (atoms (log es)) kept.desk))
+    recorded s es now e new xs ys stopped history cells
+    (keeps_clear_all s es e old new xs stopped kept next refl (ready_room s b p es old xs stopped view ready) rules (stands (atoms (log es)) kept.desk))
 
 -- ---- a dispatch
 
 -- after a dispatch that the desk has prepared
-pub dispatch_kept : (s : Service) (b : Locked) (p : Part) (es now : List Event) (js : List Job) (caller : ℕ) (old new : Book) (xs ys : List Cell) (stopped : Bool)
+pub dispatch_kept : (s : Service) (b : Locked) (p : Part) (es now : List Event) (js : List Job) (caller : ℕ) (old new : Book) (xs ys : List Cell)
+    (stopped : Bool)
     → locked es old xs stopped ≡ b → unready s b p ≡ None → Keeps s (locked es old xs stopped) → caller ≡ p.caller → p.caller < s.callers
     → ((h : List Atom) → StandsFor old h → js ≡ jobs h)
     → now ≡ es ++ event caller Dispatch (Sent js) ∷ [] → ys ≡ xs ++ repeat 0 (waiting ∷ [])
@@ -81,7 +87,8 @@ pub dispatch_kept : (s : Service) (b : Locked) (p : Part) (es now : List Event) 
 dispatch_kept s b p es now js caller old new xs ys stopped view ready kept own below sent history cells rules stands =
     let e : Event = event caller Dispatch (Sent js) in
     let next : IsNext s es e = record { caller = omega arith; reply = ap Sent (sent (atoms (log es)) kept.desk); made = tt } in
-    recorded s es now e new xs ys stopped history cells (keeps_dispatch s es e old new xs stopped kept next refl (ready_room s b p es old xs stopped view ready) rules stands)
+    recorded s es now e new xs ys stopped history cells
+    (keeps_dispatch s es e old new xs stopped kept next refl (ready_room s b p es old xs stopped view ready) rules stands)
 
 -- ---- a prime
 
@@ -100,7 +107,8 @@ prime_told s p es k j caller reply r old xs stopped kept is =
     let H = atoms (log es) in
     is.told H kept.desk ∙ sym (ap (prime_reply H) is.copy)
 
-prime_next : (s : Service) (p : Part) (es : List Event) (k j : Key) (o : Outcome) (caller : ℕ) (reply : Reply) (r : DeskPrime) (old : Book) (xs : List Cell) (stopped : Bool)
+prime_next : (s : Service) (p : Part) (es : List Event) (k j : Key) (o : Outcome) (caller : ℕ) (reply : Reply) (r : DeskPrime) (old : Book) (xs : List Cell)
+    (stopped : Bool)
     → Keeps s (locked es old xs stopped) → IsPrime s p k j caller reply r old → IsNext s es (event caller (Prime k o) reply)
 prime_next s p es k j o caller reply r old xs stopped kept is =
     let own = is.own in
@@ -108,14 +116,17 @@ prime_next s p es k j o caller reply r old xs stopped kept is =
     let told = prime_told s p es k j caller reply r old xs stopped kept is in
     record { caller = omega arith; reply = is.replies ∙ ap primed told; made = tt }
 
-prime_stands : (s : Service) (p : Part) (es : List Event) (k j : Key) (caller : ℕ) (reply : Reply) (r : DeskPrime) (old new : Book) (xs : List Cell) (stopped : Bool)
-    → Keeps s (locked es old xs stopped) → IsPrime s p k j caller reply r old → StandsFor new (after old.rules (atoms (log es)) (Primes j)) → StandsFor new (atom.Prime k (prime_reply (atoms (log es)) k) ∷ atoms (log es))
+prime_stands : (s : Service) (p : Part) (es : List Event) (k j : Key) (caller : ℕ) (reply : Reply) (r : DeskPrime) (old new : Book) (xs : List Cell)
+    (stopped : Bool)
+    → Keeps s (locked es old xs stopped) → IsPrime s p k j caller reply r old → StandsFor new (after old.rules (atoms (log es)) (Primes j))
+    → StandsFor new (atom.Prime k (prime_reply (atoms (log es)) k) ∷ atoms (log es))
 prime_stands s p es k j caller reply r old new xs stopped kept is stands =
     let H = atoms (log es) in
     subst (λ (x : Key). StandsFor new (atom.Prime x (prime_reply H x) ∷ H)) (sym is.copy) stands
 
 -- after a prime of a key that is held
-pub held_kept : (s : Service) (b : Locked) (p : Part) (es now : List Event) (k j : Key) (o : Outcome) (caller : ℕ) (reply : Reply) (r : DeskPrime) (old new : Book) (xs ys : List Cell) (stopped : Bool)
+pub held_kept : (s : Service) (b : Locked) (p : Part) (es now : List Event) (k j : Key) (o : Outcome) (caller : ℕ) (reply : Reply) (r : DeskPrime)
+    (old new : Book) (xs ys : List Cell) (stopped : Bool)
     → locked es old xs stopped ≡ b → unready s b p ≡ None → Keeps s (locked es old xs stopped) → IsPrime s p k j caller reply r old → r ≡ prime.Kept
     → now ≡ es ++ event caller (Prime k o) reply ∷ [] → ys ≡ xs ++ repeat 0 (waiting ∷ [])
     → new.rules ≡ old.rules → StandsFor new (after old.rules (atoms (log es)) (Primes j))
@@ -124,10 +135,13 @@ held_kept s b p es now k j o caller reply r old new xs ys stopped view ready kep
     let e : Event = event caller (Prime k o) reply in
     let next : IsNext s es e = prime_next s p es k j o caller reply r old xs stopped kept is in
     let stands_now = prime_stands s p es k j caller reply r old new xs stopped kept is stands in
-    recorded s es now e new xs ys stopped history cells (keeps_prime_held s es e k o old new xs stopped kept next refl (is.replies ∙ ap primed held) (ready_room s b p es old xs stopped view ready) rules stands_now)
+    recorded s es now e new xs ys stopped history cells
+    (keeps_prime_held s es e k o old new xs stopped kept next refl (is.replies ∙ ap primed held) (ready_room s b p es old xs stopped view ready) rules
+    stands_now)
 
 -- a new cell is the next one
-pub primed_next : (s : Service) (p : Part) (es : List Event) (k j : Key) (o : Outcome) (caller c : ℕ) (reply : Reply) (r : DeskPrime) (old : Book) (xs : List Cell) (stopped : Bool)
+pub primed_next : (s : Service) (p : Part) (es : List Event) (k j : Key) (o : Outcome) (caller c : ℕ) (reply : Reply) (r : DeskPrime) (old : Book)
+    (xs : List Cell) (stopped : Bool)
     → Keeps s (locked es old xs stopped) → IsPrime s p k j caller reply r old → r ≡ prime.Primed c → c ≡ length xs
 primed_next s p es k j o caller c reply r old xs stopped kept is new =
     let next = prime_next s p es k j o caller reply r old xs stopped kept is in
@@ -142,11 +156,13 @@ primed_waits xs mids c cells new = rw (cells, new) (get-append_at xs waiting [])
 ended_new : (xs mids ys : List Cell) (c : ℕ) (x : Cell) → mids ≡ xs ++ repeat 1 (waiting ∷ []) → c ≡ length xs → ys ≡ set mids c x → ys ≡ xs ++ x ∷ []
 ended_new xs mids ys c x cells new is = rw (is, cells, new) (set_last xs waiting x)
 
-ending_is : (end : Ending) (at n : ℕ) (o given : Outcome) → end ≡ record { at = at; outcome = given } → at ≡ n → o ≡ given → end ≡ record { at = n; outcome = o }
+ending_is : (end : Ending) (at n : ℕ) (o given : Outcome) → end ≡ record { at = at; outcome = given } → at ≡ n → o ≡ given
+    → end ≡ record { at = n; outcome = o }
 ending_is end at n o given is place copy = rw (is, place, copy) refl
 
 -- after a prime of a key that is not held, whose cell has its end
-pub primed_kept : (s : Service) (b : Locked) (p : Part) (es now : List Event) (k j : Key) (o : Outcome) (caller c : ℕ) (reply : Reply) (r : DeskPrime) (old new : Book) (xs mids ys : List Cell) (stopped took : Bool) (end : Ending) (at : ℕ) (given : Outcome)
+pub primed_kept : (s : Service) (b : Locked) (p : Part) (es now : List Event) (k j : Key) (o : Outcome) (caller c : ℕ) (reply : Reply) (r : DeskPrime)
+    (old new : Book) (xs mids ys : List Cell) (stopped took : Bool) (end : Ending) (at : ℕ) (given : Outcome)
     → locked es old xs stopped ≡ b → unready s b p ≡ None → Keeps s (locked es old xs stopped) → IsPrime s p k j caller reply r old → r ≡ prime.Primed c
     → ((h : List Atom) → StandsFor old h → refusal old.rules h (Primes j) ≡ None)
     → now ≡ es ++ event caller (Prime k o) reply ∷ [] → mids ≡ xs ++ repeat 1 (waiting ∷ [])
@@ -154,7 +170,8 @@ pub primed_kept : (s : Service) (b : Locked) (p : Part) (es now : List Event) (k
     → end ≡ record { at = at; outcome = given } → at ≡ length es → o ≡ given
     → MatchBool took (ys ≡ set mids c (ended end)) (Refuses mids ys c end)
     → Keeps s (locked now new ys stopped)
-primed_kept s b p es now k j o caller c reply r old new xs mids ys stopped took end at given view ready kept is fresh accepted history cells rules stands ending place copy ends =
+primed_kept s b p es now k j o caller c reply r old new xs mids ys stopped took end at given view ready kept is fresh accepted history cells rules stands ending
+    place copy ends =
     let H = atoms (log es) in
     let e : Event = event caller (Prime k o) reply in
     let next : IsNext s es e = prime_next s p es k j o caller reply r old xs stopped kept is in
@@ -163,7 +180,9 @@ primed_kept s b p es now k j o caller c reply r old new xs mids ys stopped took 
     let none : refusal old.rules H (Primes k) ≡ None = subst (λ (x : Key). refusal old.rules H (Primes x) ≡ None) (sym is.copy) (accepted H kept.desk) in
     let cell = gets_end took mids ys c end ends in
     let shows = subst (λ (x : Ending). ShowsEnd (Some x) cell.0.mark cell.0.shows) (ending_is end at (length es) o given ending place copy) cell.2 in
-    let all : Keeps s (locked (es ++ e ∷ []) new ys stopped) = keeps_prime_new s es e k o c old new xs ys cell.0 stopped kept next refl (is.replies ∙ ap primed fresh) (ready_room s b p es old xs stopped view ready) rules stands_now none shows (ended_new xs mids ys c cell.0 cells last cell.1) in
+    let all : Keeps s (locked (es ++ e ∷ []) new ys stopped) =
+    keeps_prime_new s es e k o c old new xs ys cell.0 stopped kept next refl (is.replies ∙ ap primed fresh) (ready_room s b p es old xs stopped view ready)
+    rules stands_now none shows (ended_new xs mids ys c cell.0 cells last cell.1) in
     subst (λ (hs : List Event). Keeps s (locked hs new ys stopped)) (sym history) all
 
 -- ---- how many cells refused their outcome

@@ -1,5 +1,6 @@
 -- What holds of a pass once it has one call, one ticket or one outcome more.
-use Rattle.std.proofs.Common.{◌≡◌, ◌∙◌, sym, ap, ℕ, zero, suc, ◌+◌, ◌-◌, ◌<◌, ◌≤◌, max, true, false, not, List, [], ◌∷◌, ◌++◌, length, set, Option, Some, None, slice_get, get_or, refl, arith, length-append}
+use Rattle.std.proofs.Common.{◌≡◌, ◌∙◌, sym, ap, ℕ, zero, suc, ◌+◌, ◌-◌, ◌<◌, ◌≤◌, max, true, false, not, List, [], ◌∷◌, ◌++◌, length, set, Option, Some, None}
+use Rattle.std.proofs.Common.{slice_get, get_or, refl, arith, length-append}
 use Rattle.std.proofs.lemmas.List.{append-nil, length-set}
 use Rattle.std.proofs.lemmas.Option.{get_or_from_slice_get, slice_get_within}
 use Rattle.dl_loader.specs.declared.pass.Given.{Given}
@@ -12,7 +13,8 @@ use Rattle.dl_history.proofs.EntryLists.{calls_of-append, cells_of-append, calls
 -- tickets of cells with which calls were answered still are
 given_longer : (xs ys : List Line) (gs : List Given) → Every (λ g. Among g.cell (cells_of xs)) gs → Every (λ g. Among g.cell (cells_of (xs ++ ys))) gs
 given_longer xs ys gs each =
-    every_weaker (λ g. Among g.cell (cells_of xs)) (λ g. Among g.cell (cells_of (xs ++ ys))) gs (λ g among. rw (cells_of-append xs ys) (among_longer g.cell (cells_of xs) (cells_of ys) among)) each
+    every_weaker (λ g. Among g.cell (cells_of xs)) (λ g. Among g.cell (cells_of (xs ++ ys))) gs
+    (λ g among. rw (cells_of-append xs ys) (among_longer g.cell (cells_of xs) (cells_of ys) among)) each
 
 -- one ticket's outcome is among the entries now
 pub unseen_of-saw : (gs : List Given) (n cell : ℕ) → slice_get gs n ≡ Some (given cell false) → unseen_of gs ≡ unseen_of (set gs n (given cell true)) + 1
@@ -26,7 +28,9 @@ unseen_of-saw (g ∷ gs) (suc n) cell at = let rest = unseen_of-saw gs n cell at
 -- ---- passes
 
 -- a pass p that stands for these fields
-module _ {callers caller front calls parts amount unseen room ticket_room : ℕ} {entries : List Line} {tickets : List Given} (p : Pass) (view : viewed caller unseen room ticket_room entries tickets ≡ p) (old : IsPass callers caller front calls parts amount unseen room ticket_room entries tickets) where
+module _ {callers caller front calls parts amount unseen room ticket_room : ℕ} {entries : List Line} {tickets : List Given} (p : Pass)
+    (view : viewed caller unseen room ticket_room entries tickets ≡ p)
+    (old : IsPass callers caller front calls parts amount unseen room ticket_room entries tickets) where
   -- where there is room for more, no Vec is full
   pub pass_room : 0 < p.spare → (length entries + unseen < room) × (length tickets < ticket_room)
   pass_room some = let spare = ap (λ v. v.spare) view in (omega arith, omega arith)
@@ -59,14 +63,16 @@ module _ {callers caller front calls parts amount unseen room ticket_room : ℕ}
     pub ticket_read : (g : Given) → g ≡ get_or tickets n g → g.cell ≡ cell
     ticket_read g read = ap (λ x. x.cell) (read ∙ get_or_from_slice_get tickets n (given cell false) g gave_inside)
 
-pub pass_call : {callers caller front front2 calls calls2 parts parts2 amount amount2 unseen room room2 ticket_room : ℕ} {entries entries2 : List Line} {tickets : List Given} (p : Pass) (t : Told) (entry : Line)
+pub pass_call : {callers caller front front2 calls calls2 parts parts2 amount amount2 unseen room room2 ticket_room : ℕ} {entries entries2 : List Line}
+    {tickets : List Given} (p : Pass) (t : Told) (entry : Line)
     → viewed caller unseen room ticket_room entries tickets ≡ p
     → IsPass callers caller front calls parts amount unseen room ticket_room entries tickets
     → 0 < p.spare → front_of p.part.entries ≤ t.at → t.event.caller ≡ p.part.caller
     → entries2 ≡ entries ++ entry ∷ [] → entry ≡ Called t → t.at < 65536
     → front2 ≡ t.at + 1 → calls2 ≡ calls + 1 → parts2 ≡ parts → amount2 ≡ amount + 1 → room2 ≡ room
     → IsPass callers caller front2 calls2 parts2 amount2 unseen room2 ticket_room entries2 tickets
-pass_call {entries = entries} {entries2 = entries2} {tickets = tickets} p t entry view old some past_p own_p pushed is small front_is calls_is parts_is amount_is same =
+pass_call {entries = entries} {entries2 = entries2} {tickets =
+    tickets} p t entry view old some past_p own_p pushed is small front_is calls_is parts_is amount_is same =
     let fits = pass_room p view old some in
     let past : front_of entries ≤ t.at = let e = ap (λ v. front_of v.part.entries) view in omega arith in
     let own : IsOwn _ t = own_p ∙ sym (ap (λ v. v.part.caller) view) in
@@ -91,7 +97,8 @@ pass_call {entries = entries} {entries2 = entries2} {tickets = tickets} p t entr
       tickets_fit = old.tickets_fit;
     }
 
-pub pass_ticket : {callers caller front calls parts amount unseen unseen2 room ticket_room ticket_room2 : ℕ} {entries : List Line} {tickets tickets2 : List Given} (p : Pass) (cell : ℕ)
+pub pass_ticket : {callers caller front calls parts amount unseen unseen2 room ticket_room ticket_room2 : ℕ} {entries : List Line}
+    {tickets tickets2 : List Given} (p : Pass) (cell : ℕ)
     → viewed caller unseen room ticket_room entries tickets ≡ p
     → IsPass callers caller front calls parts amount unseen room ticket_room entries tickets
     → 0 < p.spare → Among cell (cells_of p.part.entries)
@@ -118,14 +125,16 @@ pass_ticket {entries = entries} {tickets = tickets} {tickets2 = tickets2} p cell
       tickets_fit = omega arith;
     }
 
-pub pass_saw : {callers caller front front2 calls parts amount unseen unseen2 room room2 ticket_room ticket_room2 : ℕ} {entries entries2 : List Line} {tickets tickets2 : List Given} (p : Pass) (n : ℕ) (r : Read) (entry : Line) (g : Given)
+pub pass_saw : {callers caller front front2 calls parts amount unseen unseen2 room room2 ticket_room ticket_room2 : ℕ} {entries entries2 : List Line}
+    {tickets tickets2 : List Given} (p : Pass) (n : ℕ) (r : Read) (entry : Line) (g : Given)
     → viewed caller unseen room ticket_room entries tickets ≡ p
     → IsPass callers caller front calls parts amount unseen room ticket_room entries tickets
     → slice_get p.part.tickets n ≡ Some (given r.cell false) → r.ending.at < 65536
     → entries2 ≡ entries ++ entry ∷ [] → entry ≡ Saw r → g ≡ get_or tickets n g → tickets2 ≡ set tickets n (given g.cell true)
     → front2 ≡ max front (r.ending.at + 1) → unseen2 ≡ unseen - 1 → room2 ≡ room → ticket_room2 ≡ ticket_room
     → IsPass callers caller front2 calls parts amount unseen2 room2 ticket_room2 entries2 tickets2
-pass_saw {front = front} {entries = entries} {entries2 = entries2} {tickets = tickets} {tickets2 = tickets2} p n r entry g view old gave small pushed is read written front_is unseen_is room_is ticket_room_is =
+pass_saw {front = front} {entries = entries} {entries2 = entries2} {tickets = tickets} {tickets2 =
+    tickets2} p n r entry g view old gave small pushed is read written front_is unseen_is room_is ticket_room_is =
     let at = gave_inside p view old n r.cell gave in
     let some = some_unseen p view old n r.cell gave in
     let more = pushed ∙ ap (λ e. entries ++ e ∷ []) is in
@@ -155,7 +164,8 @@ pass_saw {front = front} {entries = entries} {entries2 = entries2} {tickets = ti
     }
 
 -- the part once the outcome is among the entries
-pub part_saw : {callers caller front calls parts amount unseen room ticket_room : ℕ} {entries entries2 : List Line} {tickets tickets2 : List Given} (p : Pass) (n : ℕ) (r : Read) (entry : Line) (g : Given)
+pub part_saw : {callers caller front calls parts amount unseen room ticket_room : ℕ} {entries entries2 : List Line} {tickets tickets2 : List Given} (p : Pass)
+    (n : ℕ) (r : Read) (entry : Line) (g : Given)
     → viewed caller unseen room ticket_room entries tickets ≡ p
     → IsPass callers caller front calls parts amount unseen room ticket_room entries tickets
     → slice_get p.part.tickets n ≡ Some (given r.cell false)

@@ -3,7 +3,7 @@ use Rattle.std.proofs.Common.{◌≡◌, ◌∙◌, ap, ℕ, zero, suc, ◌+◌,
 use Rattle.std.proofs.lemmas.List.{take_more}
 use Rattle.std.proofs.lemmas.List.Sums.{sum_by-append, sum_by-cons}
 use Rattle.dl_desk.specs.declared.reply.LoadReply.{LoadReply}
-use Rattle.dl_loader.specs.Begun.{begun_by, cells_begun}
+use Rattle.dl_loader.specs.Inside.Begun.{begun_by, cells_begun}
 use Rattle.dl_history.specs.Entries.{cell_of_load, cells_of}
 use Rattle.dl_history.specs.Lists.{Every, Among}
 use Rattle.dl_loader.specs.Pass.{Part, with_ticket, with_tickets}
@@ -26,7 +26,8 @@ begun-snoc rs r =
     omega arith
 
 -- a ticket for the load at a place, after those before it
-pub ticket_next : (p now then : Part) (rs : List LoadReply) (i c : ℕ) (d : LoadReply) → i < length rs → now ≡ with_tickets p (take i rs) → c ≡ cell_of_load (get_or rs i d) → then ≡ with_ticket now c → then ≡ with_tickets p (take (i + 1) rs)
+pub ticket_next : (p now then : Part) (rs : List LoadReply) (i c : ℕ) (d : LoadReply) → i < length rs → now ≡ with_tickets p (take i rs)
+    → c ≡ cell_of_load (get_or rs i d) → then ≡ with_ticket now c → then ≡ with_tickets p (take (i + 1) rs)
 ticket_next p now then rs i c d low before cell is = rw (is, before, cell, take_more rs i d low, with_tickets-snoc p (take i rs) (get_or rs i d)) refl
 
 every_read : {X : Type 0} (P : X → Type 0) (xs : List X) (i : ℕ) (d : X) → i < length xs → Every P xs → P (get_or xs i d)
@@ -35,13 +36,15 @@ every_read P (x ∷ xs) zero d low each = each.0
 every_read P (x ∷ xs) (suc i) d low each = every_read P xs i d (omega arith) each.1
 
 -- its cell is among those that were answered
-pub ticket_among : (p now : Part) (rs : List LoadReply) (i : ℕ) (d : LoadReply) → i < length rs → now ≡ with_tickets p (take i rs) → Every (λ r. Among (cell_of_load r) (cells_of p.entries)) rs → Among (cell_of_load (get_or rs i d)) (cells_of now.entries)
+pub ticket_among : (p now : Part) (rs : List LoadReply) (i : ℕ) (d : LoadReply) → i < length rs → now ≡ with_tickets p (take i rs)
+    → Every (λ r. Among (cell_of_load r) (cells_of p.entries)) rs → Among (cell_of_load (get_or rs i d)) (cells_of now.entries)
 ticket_among p now rs i d low before each =
     let same : now.entries ≡ p.entries = ap (λ (q : Part). q.entries) before ∙ tickets_entries p (take i rs) in
     rw same (every_read (λ r. Among (cell_of_load r) (cells_of p.entries)) rs i d low each)
 
 -- the cells that loads began, with the load at a place
-pub begun_next : (rs : List LoadReply) (i n m : ℕ) (d r : LoadReply) → i < length rs → n ≡ cells_begun (take i rs) → get_or rs i d ≡ r → m ≡ n + begun_by r → m ≡ cells_begun (take (i + 1) rs)
+pub begun_next : (rs : List LoadReply) (i n m : ℕ) (d r : LoadReply) → i < length rs → n ≡ cells_begun (take i rs) → get_or rs i d ≡ r → m ≡ n + begun_by r
+    → m ≡ cells_begun (take (i + 1) rs)
 begun_next rs i n m d r low before is more =
     let longer : take (i + 1) rs ≡ take i rs ++ r ∷ [] = take_more rs i d low ∙ ap (λ (x : LoadReply). take i rs ++ x ∷ []) is in
     rw (longer, begun-snoc (take i rs) r, more, before) refl

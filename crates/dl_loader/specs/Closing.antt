@@ -67,6 +67,8 @@ pub record MayClose (callers : ℕ) (b : Locked) (accounts : List Account) : Typ
 abbrev pub RefusesClose : ℕ → Locked → List Account → CloseFault → Type 0
 RefusesClose callers b accounts (PassesMissing want got) = (want ≡ callers) × (got ≡ present callers accounts) × (got < want)
 RefusesClose callers b accounts (Behind front len) = HasEach callers accounts × (len ≡ length b.history) × (caller : ℕ) × IsBehind len accounts caller front
-RefusesClose callers b accounts (Unshown cell) = HasEach callers accounts × NoneBehind (length b.history) accounts × IsLeastOf (Some cell) (unshown b.cells accounts)
-RefusesClose callers b accounts (Unsettled batch) = HasEach callers accounts × NoneBehind (length b.history) accounts × (unshown b.cells accounts ≡ []) × IsFirstOpen b.history batch
+RefusesClose callers b accounts (Unshown cell) =
+    HasEach callers accounts × NoneBehind (length b.history) accounts × IsLeastOf (Some cell) (unshown b.cells accounts)
+RefusesClose callers b accounts (Unsettled batch) =
+    HasEach callers accounts × NoneBehind (length b.history) accounts × (unshown b.cells accounts ≡ []) × IsFirstOpen b.history batch
 RefusesClose callers b accounts OutOfMemory = Unit {0}

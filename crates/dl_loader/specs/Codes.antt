@@ -13,7 +13,8 @@ use Rattle.dl_loader.specs.Pass.{Part, part, Pass, Hold, hold}
 
 -- a part, by its caller, its entries and its tickets
 abbrev pub part_code : Coded Part
-part_code = code_by (ℕ × (List Line × List Given)) (coded× coded_ℕ (coded× (coded_list line_code) (coded_list given.the_row.coded))) (λ p. (p.caller, (p.entries, p.tickets))) (λ q. part q.0 q.1.0 q.1.1) (λ _. refl)
+part_code = code_by (ℕ × (List Line × List Given)) (coded× coded_ℕ (coded× (coded_list line_code) (coded_list given.the_row.coded)))
+    (λ p. (p.caller, (p.entries, p.tickets))) (λ q. part q.0 q.1.0 q.1.1) (λ _. refl)
 
 -- a pass, by its part and its room
 abbrev pub pass_code : Coded Pass
@@ -21,4 +22,5 @@ pass_code = code_by (Part × ℕ) (coded× part_code coded_ℕ) (λ p. (p.part, 
 
 -- a ticket, by its number, its reply and what it knows
 abbrev pub hold_code : Coded Hold
-hold_code = code_by (ℕ × (LoadReply × Option Ending)) (coded× coded_ℕ (coded× reply.the_row.coded (coded_option ending.the_row.coded))) (λ t. (t.number, (t.reply, t.known))) (λ p. hold p.0 p.1.0 p.1.1) (λ _. refl)
+hold_code = code_by (ℕ × (LoadReply × Option Ending)) (coded× coded_ℕ (coded× reply.the_row.coded (coded_option ending.the_row.coded)))
+    (λ t. (t.number, (t.reply, t.known))) (λ p. hold p.0 p.1.0 p.1.1) (λ _. refl)

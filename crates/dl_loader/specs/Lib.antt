@@ -13,10 +13,8 @@ pub mod Codes
 pub mod Book
 pub mod Asks
 pub mod Refusals
-pub mod Begun
 pub mod EventReplies
 pub mod Made
 pub mod Added
-pub mod EndedUpTo
-pub mod Dues
 pub mod Closing
+pub mod Inside

@@ -40,7 +40,8 @@ pub record Makes (before : Locked) (old : Part) (call : Call) (reply : Reply) (n
 
 -- at a book that keeps what the loader's does, and has at least the events that the pass had seen, the call was made so
 abbrev pub WasMade : Service → Part → Call → Reply → Part → Type 0
-WasMade service old call reply new = (before now : Locked) × Keeps service before × Keeps service now × (front_of old.entries ≤ length before.history) × Makes before old call reply now new
+WasMade service old call reply new =
+    (before now : Locked) × Keeps service before × Keeps service now × (front_of old.entries ≤ length before.history) × Makes before old call reply now new
 
 -- at a book that keeps what the loader's does the call was refused so; that it was the locked one nothing says
 abbrev pub WasRefused : Service → Part → Call → Option Job → CallFault → Type 0

@@ -42,7 +42,8 @@ abbrev pub service_of : {S : Type 0} → (S → List Key → BatchAnswer) → Un
 service_of answer opening = service opening.rules opening.callers (answer opening.source)
 
 -- A type's name stands for the loader of the opening: what it serves by, its rows, and the ledger that counts its events.
-pub record Names {S : Type 0} (answer : S → List Key → BatchAnswer) (opening : Unstarted S) (own : Service) (parts : ℕ) (log outcomes : RowName) (ledger : ℕ) : Type 0 where
+pub record Names {S : Type 0} (answer : S → List Key
+    → BatchAnswer) (opening : Unstarted S) (own : Service) (parts : ℕ) (log outcomes : RowName) (ledger : ℕ) : Type 0 where
   pub rules : opening.rules ≡ own.rules
   pub callers : opening.callers ≡ own.callers
   pub answers : Answers (answer opening.source) own

@@ -18,7 +18,8 @@ use Rattle.dl_history.specs.declared.event.Call.{Call}
 use Rattle.dl_history.specs.declared.journal.append.AppendFault.{AppendFault}
 use Rattle.dl_history.specs.declared.journal.append.AppendFault.TheVariants as append
 use Rattle.dl_loader.specs.declared.fault.CallFault.{CallFault}
-use Rattle.dl_loader.specs.declared.fault.CallFault.TheVariants.{Stopped, Behind, LogFull, NoBatch, NotSent, SettledBefore, WrongKeys, CellsFull, OutOfMemory, LogRefused}
+use Rattle.dl_loader.specs.declared.fault.CallFault.TheVariants.{Stopped, Behind, LogFull, NoBatch, NotSent, SettledBefore, WrongKeys, CellsFull, OutOfMemory}
+use Rattle.dl_loader.specs.declared.fault.CallFault.TheVariants.{LogRefused}
 
 -- the desk's refusal as the loader's
 abbrev pub call_fault : DeskFault → CallFault
@@ -61,4 +62,5 @@ refusal service b p call job =
 
 -- The call is refused so: for its cause, for want of memory, or, where it has no cause, because the log refused its event.
 abbrev pub IsRefusal : Service → Locked → Part → Call → Option Job → CallFault → Type 0
-IsRefusal service b p call job fault = (fault ≡ OutOfMemory) ⊎ ((fault ≡ LogRefused) × (refusal service b p call job ≡ None)) ⊎ (refusal service b p call job ≡ Some fault)
+IsRefusal service b p call job fault =
+    (fault ≡ OutOfMemory) ⊎ ((fault ≡ LogRefused) × (refusal service b p call job ≡ None)) ⊎ (refusal service b p call job ≡ Some fault)

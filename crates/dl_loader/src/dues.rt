@@ -1,7 +1,7 @@
 //! What the cells of a batch's members are due when the batch ends.
 
 ghost use Rattle.std.specs.Prelude.{◌≡◌, ℕ, ◌+◌, ◌<◌, ◌≤◌, IfOk, IsSome, Some, length, map};
-ghost use Rattle.dl_loader.specs.Dues.{AreDue, AreGiven, CanEnd, outcome_by};
+ghost use Rattle.dl_loader.specs.Inside.Dues.{AreDue, AreGiven, CanEnd, outcome_by};
 ghost use Rattle.dl_history.specs.Journal.{refusals};
 
 use dl_desk::{Outcome, Outcomes};

@@ -1,7 +1,7 @@
 //! What the replies to loads bring: cells, and tickets for their caller.
 
 ghost use Rattle.std.specs.Prelude.{◌≡◌, ◌-◌, ◌<◌, ◌≤◌, [], length, vec_capacity};
-ghost use Rattle.dl_loader.specs.Begun.{begun_by, cells_begun};
+ghost use Rattle.dl_loader.specs.Inside.Begun.{begun_by, cells_begun};
 ghost use Rattle.dl_history.specs.Entries.{cell_of_load, cells_of};
 ghost use Rattle.dl_history.specs.Lists.{Among, Every};
 ghost use Rattle.dl_loader.specs.Pass.{AreTickets, with_tickets};

@@ -19,7 +19,8 @@ module _ (rest : List Sender) (last : Sender) (takers : List Taker) where
 
   module _ (whole : Account) (sent_is : whole.sent ≡ sent_items last ++ flat_map sent_items rest) (taken_is : whole.taken ≡ flat_map taken_items takers) where
     -- the jobs that the senders sent are those that the takers took and those in the channel
-    jobs_balance : (items : List Item) → WholeIsLossless whole items → EachAsOften (flat_map taken_jobs takers ++ jobs items) (flat_map sent_jobs (rest ++ last ∷ []))
+    jobs_balance : (items : List Item) → WholeIsLossless whole items
+        → EachAsOften (flat_map taken_jobs takers ++ jobs items) (flat_map sent_jobs (rest ++ last ∷ []))
     jobs_balance items learned test =
         let whole_jobs = EachAsOften-jobs whole.sent (whole.taken ++ items) learned test in
         let sent = ap (count_by test) (ap jobs sent_is ∙ jobs-append (sent_items last) (flat_map sent_items rest)) in
@@ -36,14 +37,17 @@ module _ (rest : List Sender) (last : Sender) (takers : List Taker) where
           count_by-append test (sent_jobs last) [],
         )
 
-    module _ (sent taken : ℕ) (counts_sent : sent ≡ length (sent_jobs last) + length (flat_map sent_jobs rest)) (counts_taken : taken ≡ length (flat_map taken_jobs takers)) where
+    module _ (sent taken : ℕ) (counts_sent : sent ≡ length (sent_jobs last) + length (flat_map sent_jobs rest))
+        (counts_taken : taken ≡ length (flat_map taken_jobs takers)) where
       -- what finish answers
-      pub finishes : (items : List Item) → WholeIsLossless whole items → Balances (rest ++ last ∷ []) takers (record { sent = sent; taken = taken; left = sent - taken })
+      pub finishes : (items : List Item) → WholeIsLossless whole items
+          → Balances (rest ++ last ∷ []) takers (record { sent = sent; taken = taken; left = sent - taken })
       finishes items learned =
           let same = jobs_balance items learned in
           let all = ap length flat_map-last in
           let long = EachAsOften-length (flat_map taken_jobs takers ++ jobs items) (flat_map sent_jobs (rest ++ last ∷ [])) same in
-          let all_sent : sent ≡ length (flat_map sent_jobs (rest ++ last ∷ [])) = omega (arith, length-append (flat_map sent_jobs rest) (sent_jobs last ++ []), length-append (sent_jobs last) []) in
+          let all_sent : sent ≡ length (flat_map sent_jobs (rest ++ last ∷ [])) =
+          omega (arith, length-append (flat_map sent_jobs rest) (sent_jobs last ++ []), length-append (sent_jobs last) []) in
           record {
             left = jobs items;
             same = same;
@@ -53,7 +57,8 @@ module _ (rest : List Sender) (last : Sender) (takers : List Taker) where
           }
 
 -- the jobs sent are those taken and those left, in number
-pub balance_of_counts : (senders : List Sender) (takers : List Taker) (sent taken left : ℕ) → Balances senders takers (record { sent = sent; taken = taken; left = left }) → sent ≡ taken + left
+pub balance_of_counts : (senders : List Sender) (takers : List Taker) (sent taken left : ℕ)
+    → Balances senders takers (record { sent = sent; taken = taken; left = left }) → sent ≡ taken + left
 balance_of_counts senders takers sent taken left b =
     let long = EachAsOften-length (flat_map taken_jobs takers ++ b.left) (flat_map sent_jobs senders) b.same in
     let s = b.counts_sent in

@@ -26,10 +26,12 @@ idle_snoc views w idle own j u at none =
     ⊎_elim (λ there. idle j u there none) (λ here. subst IsEmpty here (own (ap (λ (a : Account). a.seats) here ∙ none))) (at_snoc views w u j at)
 
 -- where a change keeps the number of all seats, the others still know it
-knows_set : (views : List Account) (pass : ℕ) (w : Account) → KnowsAll views → total_seats (set views pass w) ≡ total_seats views → (0 < w.seats → w.all ≡ total_seats views) → KnowsAll (set views pass w)
+knows_set : (views : List Account) (pass : ℕ) (w : Account) → KnowsAll views → total_seats (set views pass w) ≡ total_seats views
+    → (0 < w.seats → w.all ≡ total_seats views) → KnowsAll (set views pass w)
 knows_set views pass w knows same own j u at some_seat =
     ⊎_elim
-    (λ here. let is = here.1 in let all = ap (λ (a : Account). a.all) is in let seats = ap (λ (a : Account). a.seats) is in let known = own (omega arith) in omega arith)
+    (λ here. let is = here.1 in let all = ap (λ (a : Account). a.all) is in let seats = ap (λ (a : Account). a.seats) is in let known =
+    own (omega arith) in omega arith)
     (λ there. let known = knows j u there.1 some_seat in omega arith)
     (at_set views pass j w u at)
 
@@ -74,7 +76,8 @@ takes pass v some_seat x items views b at =
     )
 
 -- A split that makes room: the pass that stands for all seats stands for one more, and the new pass for none.
-pub widens : (pass : ℕ) (v : Account) → 0 < v.seats → v.seats ≡ v.all → Forks IsLossless pass v (account (v.seats + 1) (v.all + 1) v.sent v.taken) (account 0 0 [] [])
+pub widens : (pass : ℕ) (v : Account) → 0 < v.seats → v.seats ≡ v.all
+    → Forks IsLossless pass v (account (v.seats + 1) (v.all + 1) v.sent v.taken) (account 0 0 [] [])
 widens pass v some_seat whole items views b at =
     let w = account (v.seats + 1) (v.all + 1) v.sent v.taken in
     let none = account 0 0 [] [] in
@@ -96,7 +99,12 @@ widens pass v some_seat whole items views b at =
           let s = sum_by-set_at (λ (u : Account). count_by test u.sent) views pass v w at in
           let t = sum_by-set_at (λ (u : Account). count_by test u.taken) views pass v w at in
           let before = b.balance test in
-          omega (arith, sum_by_push (λ (u : Account). count_by test u.sent) (set views pass w) none, sum_by_push (λ (u : Account). count_by test u.taken) (set views pass w) none);
+          omega (
+            arith,
+            sum_by_push (λ (u : Account). count_by test u.sent) (set views pass w) none,
+            sum_by_push (λ (u : Account). count_by test u.taken)
+                (set views pass w) none,
+          );
     }
 
 -- a split that deals one seat
@@ -122,7 +130,12 @@ deals pass v some_seats items views b at =
           let s = sum_by-set_at (λ (u : Account). count_by test u.sent) views pass v w at in
           let t = sum_by-set_at (λ (u : Account). count_by test u.taken) views pass v w at in
           let before = b.balance test in
-          omega (arith, sum_by_push (λ (u : Account). count_by test u.sent) (set views pass w) one, sum_by_push (λ (u : Account). count_by test u.taken) (set views pass w) one);
+          omega (
+            arith,
+            sum_by_push (λ (u : Account). count_by test u.sent) (set views pass w) one,
+            sum_by_push (λ (u : Account). count_by test u.taken)
+                (set views pass w) one,
+          );
     }
 
 -- a join
@@ -160,7 +173,9 @@ gathers pass v other u some_seat items views b at apart there =
 pub learns : (pass : ℕ) (v : Account) → 0 < v.seats → v.seats ≡ v.all → Learns IsLossless pass v (WholeIsLossless v)
 learns pass v some_seat whole items views b at test =
     let all : total_seats views ≡ v.seats = sym (b.knows pass v at some_seat) ∙ sym whole in
-    let sent = sum_by-whole (λ (a : Account). a.seats) (λ (a : Account). count_by test a.sent) views pass v at all (λ j u there none. ap (count_by test) (b.idle j u there none).0) in
-    let taken = sum_by-whole (λ (a : Account). a.seats) (λ (a : Account). count_by test a.taken) views pass v at all (λ j u there none. ap (count_by test) (b.idle j u there none).1) in
+    let sent = sum_by-whole (λ (a : Account). a.seats) (λ (a : Account). count_by test a.sent) views pass v at all
+    (λ j u there none. ap (count_by test) (b.idle j u there none).0) in
+    let taken = sum_by-whole (λ (a : Account). a.seats) (λ (a : Account). count_by test a.taken) views pass v at all
+    (λ j u there none. ap (count_by test) (b.idle j u there none).1) in
     let balance = b.balance test in
     omega (arith, count_by-append test v.taken items)

@@ -47,7 +47,8 @@ module _ {A : Type 0} (f : A → ℕ) where
       omega (arith, sum_by-cons f z zs)
 
 -- where one element has all of f, and what has nothing of f has nothing of g, that element has all of g
-pub sum_by-whole : {A : Type 0} (f g : A → ℕ) (xs : List A) (i : ℕ) (x : A) → get_elem? xs i ≡ some x → sum_by f xs ≡ f x → ((j : ℕ) (y : A) → get_elem? xs j ≡ some y → f y ≡ 0 → g y ≡ 0) → sum_by g xs ≡ g x
+pub sum_by-whole : {A : Type 0} (f g : A → ℕ) (xs : List A) (i : ℕ) (x : A) → get_elem? xs i ≡ some x → sum_by f xs ≡ f x
+    → ((j : ℕ) (y : A) → get_elem? xs j ≡ some y → f y ≡ 0 → g y ≡ 0) → sum_by g xs ≡ g x
 sum_by-whole f g xs i x at all idle =
     sum_by-only g xs i x at (λ j y other there. idle j y there (let two = two_at-le-sum_by f xs i j x y other at there in omega arith))
 

@@ -9,7 +9,7 @@ ghost use Rattle.dl_history.specs.declared.event.Call.TheVariants.{Settle, Fail}
 ghost use Rattle.dl_history.specs.declared.event.Reply.TheVariants.{Done};
 ghost use Rattle.dl_loader.specs.declared.fault.CallFault.TheVariants.{LogRefused, OutOfMemory};
 ghost use Rattle.dl_loader.specs.Asks.{end_by, fault_of};
-ghost use Rattle.dl_loader.specs.Dues.{end_refusal};
+ghost use Rattle.dl_loader.specs.Inside.Dues.{end_refusal};
 ghost use Rattle.dl_history.specs.History.{MayBeMade, log};
 ghost use Rattle.dl_history.specs.Journal.{refusals};
 ghost use Rattle.dl_loader.specs.Made.{Makes};

@@ -5,7 +5,7 @@ ghost use Rattle.std.specs.List.{repeat};
 ghost use Rattle.dl_loader.specs.declared.fault.CallFault.TheVariants.{LogRefused, OutOfMemory};
 ghost use Rattle.dl_loader.specs.declared.dues.Due.{Due};
 ghost use Rattle.dl_history.specs.declared.event.Reply.TheVariants.{Done};
-ghost use Rattle.dl_loader.specs.Dues.{AreDue, AreGiven, CanEnd, outcome_by};
+ghost use Rattle.dl_loader.specs.Inside.Dues.{AreDue, AreGiven, CanEnd, outcome_by};
 ghost use Rattle.dl_history.specs.Entries.{front_of};
 ghost use Rattle.dl_history.specs.Journal.{refusals, waiting};
 ghost use Rattle.dl_loader.specs.Made.{event_of, with_event};

@@ -1,5 +1,5 @@
 use Rattle.std.proofs.Common.{◌≡◌, length, take}
-use Rattle.dl_loader.specs.Dues.{AreDue}
+use Rattle.dl_loader.specs.Inside.Dues.{AreDue}
 use Rattle.dl_loader.proofs.dues.dues.Given as goal
 
 abbrev pub invariant-loop-place : goal.invariant-loop-place

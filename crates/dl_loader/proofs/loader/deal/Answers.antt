@@ -7,5 +7,9 @@ loop-caller-preserved g c =
     let left = c.loop-caller.invariant.0 in
     let parts = c.split_off.ensures.parts_left in
     let amount = c.split_off.ensures.amount_left in
-    let none = c.loop-caller.invariant.1 in
-    (omega arith, omega arith, fresh_next (λ p. p.part) c.loop-caller.passes.items c.push.new.self.items c.fresh.result c.loop-caller.caller c.in_ok-push.ensures.items c.fresh.ensures c.loop-caller.invariant.2)
+    let none = c.loop-caller.invariant.1 in (
+      omega arith,
+      omega arith,
+      fresh_next (λ p. p.part) c.loop-caller.passes.items c.push.new.self.items c.fresh.result c.loop-caller.caller
+          c.in_ok-push.ensures.items c.fresh.ensures c.loop-caller.invariant.2,
+    )

@@ -11,9 +11,15 @@ loop-reply-preserved c =
     let low = c.loop-reply-test.true in
     elim c.match-reply.branch [
       | in-Hit w ↦
-          let stays = w.cells-is in
-          (begun_next c.args.replies.now c.loop-reply.reply-index c.loop-reply.cells c.match-reply.cells (Hit 0) (Hit w.in-Hit.field-0) low before w.in-Hit.is (omega arith), omega arith)
+          let stays = w.cells-is in (
+            begun_next c.args.replies.now c.loop-reply.reply-index c.loop-reply.cells c.match-reply.cells (Hit 0) (Hit w.in-Hit.field-0) low before w.in-Hit.is
+                (omega arith),
+            omega arith,
+          )
       | in-Fresh w ↦
-          let more = w.cells-is in
-          (begun_next c.args.replies.now c.loop-reply.reply-index c.loop-reply.cells c.match-reply.cells (Hit 0) (Fresh w.in-Fresh.cell w.in-Fresh.batch) low before w.in-Fresh.is (omega arith), omega arith)
+          let more = w.cells-is in (
+            begun_next c.args.replies.now c.loop-reply.reply-index c.loop-reply.cells c.match-reply.cells (Hit 0) (Fresh w.in-Fresh.cell w.in-Fresh.batch) low
+                before w.in-Fresh.is (omega arith),
+            omega arith,
+          )
     ]

@@ -13,11 +13,13 @@ pub returns-clause-given : goal.returns-clause-given
 returns-clause-given g c =
     let s = g.L.LoaderName.service in
     let inside = c.self.inside in
-    let given = kept_outcome s (kept inside.journal.history inside.desk.book inside.journal.cells) c.args.cell (option_copied c.outcome.result) c.self.invariant.kept c.outcome.ensures in
+    let given = kept_outcome s (kept inside.journal.history inside.desk.book inside.journal.cells) c.args.cell (option_copied c.outcome.result)
+    c.self.invariant.kept c.outcome.ensures in
     subst (λ (es : List Event). option_copied c.outcome.result ≡ outcome (log es) c.args.cell) (ap (λ (h : Closed). h.events) c.self.view_is) given
 
 pub returns-clause-begun : goal.returns-clause-begun
 returns-clause-begun g c =
     let s = g.L.LoaderName.service in
     let given : option_copied c.outcome.result ≡ outcome (log c.args.self.now.events) c.args.cell = returns-clause-given g c in
-    outcome_begun (λ (o : Bor Outcome). o.now) c.outcome.result s c.args.self.now.events c.args.cell c.self.invariant.answers c.keeps.ensures.legal c.keeps.ensures.ended given
+    outcome_begun (λ (o : Bor Outcome). o.now) c.outcome.result s c.args.self.now.events c.args.cell c.self.invariant.answers c.keeps.ensures.legal
+    c.keeps.ensures.ended given

@@ -7,14 +7,18 @@ use Rattle.dl_history.proofs.journal.Journal.add_cells.Goals as goal
 
 pub add_cell-requires-clause-cell : goal.add_cell-requires-clause-cell
 add_cell-requires-clause-cell g c =
-    let turn = YieldsList-turn (YieldsList-from_vec c.args.readers.items (search rules) (search rules)) c.loop-reader.yielded _ c.loop-reader.yielded_by _ c.next.new.self c.in-Some.reader c.in-Some.is c.next.ensures.steps in
-    let blank = blank_turn g.L.LoaderName.outcomes (length c.args.self.now.cells) (length c.loop-reader.yielded) c.args.readers.items c.in-Some.reader c.requires.blank turn.0 turn.1 in
+    let turn = YieldsList-turn (YieldsList-from_vec c.args.readers.items (search rules) (search rules)) c.loop-reader.yielded _ c.loop-reader.yielded_by _
+    c.next.new.self c.in-Some.reader c.in-Some.is c.next.ensures.steps in
+    let blank = blank_turn g.L.LoaderName.outcomes (length c.args.self.now.cells) (length c.loop-reader.yielded) c.args.readers.items c.in-Some.reader
+    c.requires.blank turn.0 turn.1 in
     rw (length-begun c.args.self.now.cells c.loop-reader.self.cells (length c.loop-reader.yielded) waiting c.loop-reader.invariant.cells) blank.0
 
 pub add_cell-requires-clause-unknown : goal.add_cell-requires-clause-unknown
 add_cell-requires-clause-unknown g c =
-    let turn = YieldsList-turn (YieldsList-from_vec c.args.readers.items (search rules) (search rules)) c.loop-reader.yielded _ c.loop-reader.yielded_by _ c.next.new.self c.in-Some.reader c.in-Some.is c.next.ensures.steps in
-    let blank = blank_turn g.L.LoaderName.outcomes (length c.args.self.now.cells) (length c.loop-reader.yielded) c.args.readers.items c.in-Some.reader c.requires.blank turn.0 turn.1 in
+    let turn = YieldsList-turn (YieldsList-from_vec c.args.readers.items (search rules) (search rules)) c.loop-reader.yielded _ c.loop-reader.yielded_by _
+    c.next.new.self c.in-Some.reader c.in-Some.is c.next.ensures.steps in
+    let blank = blank_turn g.L.LoaderName.outcomes (length c.args.self.now.cells) (length c.loop-reader.yielded) c.args.readers.items c.in-Some.reader
+    c.requires.blank turn.0 turn.1 in
     blank.1
 
 pub loop-reader-preserved : goal.loop-reader-preserved
@@ -26,6 +30,7 @@ loop-reader-preserved g c =
       can_next = tt;
       is_finite = tt;
       history = c.add_cell.ensures.history ∙ c.loop-reader.invariant.history;
-      cells = begun_more c.args.self.now.cells c.loop-reader.self.cells c.add_cell.new.self.cells c.loop-reader.yielded c.in-Some.reader waiting c.loop-reader.invariant.cells c.add_cell.ensures.cells;
+      cells = begun_more c.args.self.now.cells c.loop-reader.self.cells c.add_cell.new.self.cells c.loop-reader.yielded c.in-Some.reader waiting
+          c.loop-reader.invariant.cells c.add_cell.ensures.cells;
       room = omega arith;
     }

@@ -8,7 +8,10 @@ use Rattle.dl_loader.proofs.loader.Loader.clear.Goals as goal
 pub returns-clause-made : goal.returns-clause-made
 returns-clause-made g c =
     let s : Service = g.L.LoaderName.service in
-    was_made s c.deref_mut-book.result.now c.clear.new.self c.args.pass.now.part c.clear.new.pass.part (call.Clear c.args.key.now) None reply.Done c.keeps.ensures c.keeps-2.ensures c.in_ok-clear.ensures.accepted c.in_ok-clear.ensures.made
+    was_made s c.deref_mut-book.result.now c.clear.new.self c.args.pass.now.part c.clear.new.pass.part (call.Clear c.args.key.now) None reply.Done
+    c.keeps.ensures c.keeps-2.ensures c.in_ok-clear.ensures.accepted c.in_ok-clear.ensures.made
 
 pub returns-clause-tickets : goal.returns-clause-tickets
-returns-clause-tickets g c = no_tickets c.deref_mut-book.result.now c.clear.new.self c.args.pass.now.part c.clear.new.pass.part (call.Clear c.args.key.now) reply.Done c.in_ok-clear.ensures.made refl
+returns-clause-tickets g c =
+    no_tickets c.deref_mut-book.result.now c.clear.new.self c.args.pass.now.part c.clear.new.pass.part (call.Clear c.args.key.now) reply.Done
+    c.in_ok-clear.ensures.made refl

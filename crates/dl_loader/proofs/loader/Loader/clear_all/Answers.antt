@@ -8,7 +8,10 @@ use Rattle.dl_loader.proofs.loader.Loader.clear_all.Goals as goal
 pub returns-clause-made : goal.returns-clause-made
 returns-clause-made g c =
     let s : Service = g.L.LoaderName.service in
-    was_made s c.deref_mut-book.result.now c.clear_all.new.self c.args.pass.now.part c.clear_all.new.pass.part call.ClearAll None reply.Done c.keeps.ensures c.keeps-2.ensures c.in_ok-clear_all.ensures.accepted c.in_ok-clear_all.ensures.made
+    was_made s c.deref_mut-book.result.now c.clear_all.new.self c.args.pass.now.part c.clear_all.new.pass.part call.ClearAll None reply.Done c.keeps.ensures
+    c.keeps-2.ensures c.in_ok-clear_all.ensures.accepted c.in_ok-clear_all.ensures.made
 
 pub returns-clause-tickets : goal.returns-clause-tickets
-returns-clause-tickets g c = no_tickets c.deref_mut-book.result.now c.clear_all.new.self c.args.pass.now.part c.clear_all.new.pass.part call.ClearAll reply.Done c.in_ok-clear_all.ensures.made refl
+returns-clause-tickets g c =
+    no_tickets c.deref_mut-book.result.now c.clear_all.new.self c.args.pass.now.part c.clear_all.new.pass.part call.ClearAll reply.Done
+    c.in_ok-clear_all.ensures.made refl

@@ -9,5 +9,6 @@ invariant_of-loader g c =
     record {
       callers_are = callers ∙ names.callers;
       parts_are = sym names.parts_are ∙ names.callers;
-      answers = source_answers (g.S.Source.answer c.args.opening.source) g.L.LoaderName.service.answer (g.met.S.Source.fits c.args.opening.source) names.answers;
+      answers = source_answers (g.S.Source.answer c.args.opening.source) g.L.LoaderName.service.answer (g.met.S.Source.fits c.args.opening.source)
+          names.answers;
     }

@@ -6,24 +6,28 @@ use Rattle.dl_loader.proofs.loader.close.check.Goals as goal
 
 pub returns-in-Some-clause-fault : goal.returns-in-Some-clause-fault
 returns-in-Some-clause-fault g c =
-    let each = each_present c.args.callers g.L.LoaderName.service.callers c.present-got.result (accounts_of c.args.passes.now) c.requires.callers c.present-got.ensures c.if-got-callers.false in
+    let each = each_present c.args.callers g.L.LoaderName.service.callers c.present-got.result (accounts_of c.args.passes.now) c.requires.callers
+    c.present-got.ensures c.if-got-callers.false in
     (each, c.len-len.ensures, c.in-Some.field-0-0, c.in-Some.ensures.some)
 
 pub returns-in-Some-unshown-clause-fault : goal.returns-in-Some-unshown-clause-fault
 returns-in-Some-unshown-clause-fault g c =
-    let each = each_present c.args.callers g.L.LoaderName.service.callers c.present-got.result (accounts_of c.args.passes.now) c.requires.callers c.present-got.ensures c.if-got-callers.false in
+    let each = each_present c.args.callers g.L.LoaderName.service.callers c.present-got.result (accounts_of c.args.passes.now) c.requires.callers
+    c.present-got.ensures c.if-got-callers.false in
     let none = subst (λ (n : ℕ). NoneBehind n (accounts_of c.args.passes.now)) c.len-len.ensures c.in_default.ensures.none in
     (each, none, c.in-Some-unshown.ensures)
 
 pub returns-in-Some-open_batch-clause-fault : goal.returns-in-Some-open_batch-clause-fault
 returns-in-Some-open_batch-clause-fault g c =
-    let each = each_present c.args.callers g.L.LoaderName.service.callers c.present-got.result (accounts_of c.args.passes.now) c.requires.callers c.present-got.ensures c.if-got-callers.false in
+    let each = each_present c.args.callers g.L.LoaderName.service.callers c.present-got.result (accounts_of c.args.passes.now) c.requires.callers
+    c.present-got.ensures c.if-got-callers.false in
     let none = subst (λ (n : ℕ). NoneBehind n (accounts_of c.args.passes.now)) c.len-len.ensures c.in_default.ensures.none in
     (each, none, c.in_default-unshown.ensures, c.in-Some-open_batch.ensures.open)
 
 pub returns-in-None-clause-may : goal.returns-in-None-clause-may
 returns-in-None-clause-may g c = record {
-  each = each_present c.args.callers g.L.LoaderName.service.callers c.present-got.result (accounts_of c.args.passes.now) c.requires.callers c.present-got.ensures c.if-got-callers.false;
+  each = each_present c.args.callers g.L.LoaderName.service.callers c.present-got.result (accounts_of c.args.passes.now) c.requires.callers
+      c.present-got.ensures c.if-got-callers.false;
   seen = subst (λ (n : ℕ). NoneBehind n (accounts_of c.args.passes.now)) c.len-len.ensures c.in_default.ensures.none;
   shown = c.in_default-unshown.ensures;
   ended = c.in-None.ensures.ended;

@@ -4,4 +4,5 @@ use Rattle.dl_history.specs.Agrees.{read_in, refused_in}
 use Rattle.dl_loader.proofs.loader.unshown.least_in.Given as goal
 
 abbrev pub invariant-loop-entry : goal.invariant-loop-entry
-invariant-loop-entry g l = (ns : List ℕ) → IsLeastOf l.fn.found ns → IsLeastOf l.least (ns ++ refused_in l.journal.cells (flat_map read_in (take l.entry-index l.entries)))
+invariant-loop-entry g l =
+    (ns : List ℕ) → IsLeastOf l.fn.found ns → IsLeastOf l.least (ns ++ refused_in l.journal.cells (flat_map read_in (take l.entry-index l.entries)))

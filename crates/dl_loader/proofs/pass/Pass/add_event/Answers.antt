@@ -19,4 +19,7 @@ invariant_of-self-2 g c =
     let stored = c.in_ok-stored.ensures.stored in
     let place : c.in_ok-stored.stored.at ≡ length c.args.journal.now.history = ap (λ (t : Told). t.at) stored in
     let own : c.in_ok-stored.stored.event.caller ≡ c.args.self.now.part.caller = ap (λ (t : Told). t.event.caller) stored ∙ c.requires.own in
-    pass_call {entries2 = c.push_reserved.new.self.items} c.args.self.now c.in_ok-stored.stored c.call.result c.self.view_is c.self.invariant c.requires.pass_room (omega arith) own c.push_reserved.ensures.items c.call.ensures (omega arith) (omega arith) refl c.append.ensures.parts c.in_ok-stored.ensures.counted c.push_reserved.ensures.capacity
+    pass_call {entries2 =
+    c.push_reserved.new.self.items} c.args.self.now c.in_ok-stored.stored c.call.result c.self.view_is c.self.invariant c.requires.pass_room (omega arith)
+    own c.push_reserved.ensures.items c.call.ensures (omega arith) (omega arith) refl c.append.ensures.parts c.in_ok-stored.ensures.counted
+    c.push_reserved.ensures.capacity

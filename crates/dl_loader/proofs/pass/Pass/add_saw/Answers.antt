@@ -25,8 +25,11 @@ invariant_of-self g c =
     let small = c.ended_at.type_inv in
     let from = c.from.ensures in
     let most = c.max-self-inside.ensures in
-    pass_saw {entries2 = c.push_reserved.new.self.items} c.args.self.now c.args.number c.args.seen c.saw.result c.index_mut.result.now c.self.view_is c.self.invariant c.requires (omega arith) c.push_reserved.ensures.items c.saw.ensures c.index_mut.ensures.value refl (omega arith) refl c.push_reserved.ensures.capacity refl
+    pass_saw {entries2 = c.push_reserved.new.self.items} c.args.self.now c.args.number c.args.seen c.saw.result c.index_mut.result.now c.self.view_is
+    c.self.invariant c.requires (omega arith) c.push_reserved.ensures.items c.saw.ensures c.index_mut.ensures.value refl (omega arith) refl
+    c.push_reserved.ensures.capacity refl
 
 pub returns : goal.returns
 returns g c =
-    part_saw c.args.self.now c.args.number c.args.seen c.saw.result c.index_mut.result.now c.self.view_is c.self.invariant c.requires c.push_reserved.ensures.items c.saw.ensures c.index_mut.ensures.value refl
+    part_saw c.args.self.now c.args.number c.args.seen c.saw.result c.index_mut.result.now c.self.view_is c.self.invariant c.requires
+    c.push_reserved.ensures.items c.saw.ensures c.index_mut.ensures.value refl

@@ -14,13 +14,23 @@ use Rattle.dl_workers.proofs.queue.JobQueue.finish.Goals as goal
 
 pub learn_as-requires-clause-rule : goal.learn_as-requires-clause-rule
 learn_as-requires-clause-rule g c =
-    let last = (All-pop (IsSenderOf c.args.self) c.args.senders.items c.pop.new.self.items (Some c.in-Some.last) c.in-Some.ensures.items c.requires.seats.senders_of).1 in
+    let last = (All-pop (IsSenderOf c.args.self) c.args.senders.items c.pop.new.self.items (Some c.in-Some.last) c.in-Some.ensures.items
+    c.requires.seats.senders_of).1 in
     let senders = ap length c.in-Some.ensures.items in
     let seats = ap (λ (a : Account). a.seats) c.gather_takers-taken.ensures.gathered in
     let seats' = ap (λ (a : Account). a.seats) c.gather_senders.ensures.gathered in
     let all = ap (λ (a : Account). a.all) c.gather_takers-taken.ensures.gathered in
     let all' = ap (λ (a : Account). a.all) c.gather_senders.ensures.gathered in
-    learns _ _ (omega (arith, c.in-Some.last.one_seat)) (omega (arith, c.in-Some.last.one_seat, last.1, c.requires.seats.all_senders, c.requires.seats.all_takers, length-append c.pop.new.self.items (c.in-Some.last ∷ [])))
+    learns _ _ (omega (arith, c.in-Some.last.one_seat))
+    (omega (
+      arith,
+      c.in-Some.last.one_seat,
+      last.1,
+      c.requires.seats.all_senders,
+      c.requires.seats.all_takers,
+      length-append c.pop.new.self.items
+          (c.in-Some.last ∷ []),
+    ))
 
 -- what the answer will be, said of the senders with the one that was looked at first
 balance : (g : Over) (c : After-learn_as g)
@@ -40,7 +50,8 @@ balance g c =
     (view c.gather_takers-taken.new.whole)
     (ap (λ (a : Account). a.sent) c.gather_takers-taken.ensures.gathered ∙ ap (λ (a : Account). a.sent) c.gather_senders.ensures.gathered)
     (ap (λ (a : Account). a.taken) c.gather_takers-taken.ensures.gathered
-    ∙ ap (λ (items : List Item). items ++ flat_map taken_items c.args.takers.items) (ap (λ (a : Account). a.taken) c.gather_senders.ensures.gathered ∙ c.in-Some.last.none_taken))
+    ∙ ap (λ (items : List Item). items ++ flat_map taken_items c.args.takers.items)
+    (ap (λ (a : Account). a.taken) c.gather_senders.ensures.gathered ∙ c.in-Some.last.none_taken))
     (c.from.result + c.gather_senders.result)
     c.gather_takers-taken.result
     (omega (arith, c.in-Some.last.counted))

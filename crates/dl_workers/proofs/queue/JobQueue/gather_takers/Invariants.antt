@@ -8,7 +8,8 @@ use Rattle.dl_workers.proofs.queue.JobQueue.gather_takers.Given as goal
 abbrev pub invariant-loop-taker : goal.invariant-loop-taker
 invariant-loop-taker l = record {
   seat : IsSeatAt (sends_on l.self.sends) l.whole;
-  gathered : view l.whole ≡ account ((view l.fn.whole).seats + length l.yielded) (view l.fn.whole).all (view l.fn.whole).sent ((view l.fn.whole).taken ++ flat_map taken_items l.yielded);
+  gathered : view l.whole ≡ account ((view l.fn.whole).seats + length l.yielded) (view l.fn.whole).all (view l.fn.whole).sent
+      ((view l.fn.whole).taken ++ flat_map taken_items l.yielded);
   counted : l.taken ≡ length (flat_map taken_jobs l.yielded);
   bound : l.taken ≤ length l.yielded * 2 ^ 32;
 }
