@@ -10,13 +10,14 @@ use crate::key::{FetchKey, Keys};
 use crate::reply::End;
 use indexmap::IndexSet;
 use std::alloc::{AllocError, Global};
+use std::hash::RandomState;
 use std::marker::Model;
 
 /// A batch: the keys of its members, each once and in order, with the cell of each, and how it
 /// ended. The first `seen` members are shown, the others are prepared.
 #[derive(Drop)]
 pub struct StoredBatch {
-    keys: IndexSet<FetchKey>,
+    keys: IndexSet<FetchKey, RandomState>,
     cells: Vec<u32>,
     seen: usize,
     end: Option<End>,
@@ -36,11 +37,11 @@ impl Model for StoredBatch {
 
 impl StoredBatch {
     /// A batch with no members. It takes no memory.
-    pub fn new(alloc: Global) -> StoredBatch
+    pub fn new(alloc: Global, hashing: RandomState) -> StoredBatch
         ensures { result ≡ blank }
     {
         StoredBatch {
-            keys: IndexSet::new(alloc),
+            keys: IndexSet::with_hasher(alloc, hashing),
             cells: Vec::new(alloc),
             seen: 0,
             end: None,

@@ -22,6 +22,7 @@ use crate::reply::{DeskPrime, Job, LoadReply};
 use crate::stored;
 use indexmap::IndexMap;
 use std::alloc::{AllocError, Global};
+use std::hash::RandomState;
 use std::marker::Model;
 pub use view::BatchView;
 
@@ -43,7 +44,7 @@ pub struct Extent {
 #[derive(Drop)]
 pub struct Desk {
     limits: Limits,
-    memo: IndexMap<FetchKey, u32>,
+    memo: IndexMap<FetchKey, u32, RandomState>,
     batches: Vec<StoredBatch>,
     prepared: Extent,
     shown: Extent,
@@ -70,8 +71,9 @@ impl Model for Desk {
 }
 
 impl Desk {
-    /// A desk with an empty history, whose batches may mix tables. It takes no memory yet.
-    pub fn new(alloc: Global, limits: Limits) -> Desk
+    /// A desk with an empty history, whose batches may mix tables. It takes no memory yet. It hashes keys by
+    /// `hashing`, of which nothing is seen: what a desk answers is the same whatever it is.
+    pub fn new(alloc: Global, hashing: RandomState, limits: Limits) -> Desk
         ensures rules { result.book.rules ≡ mixed limits }
         ensures stands { StandsFor result.book [] }
     {
@@ -82,7 +84,7 @@ impl Desk {
         };
         Desk {
             limits,
-            memo: IndexMap::new(alloc),
+            memo: IndexMap::with_hasher(alloc, hashing),
             batches: Vec::new(alloc),
             prepared: start,
             shown: start,
@@ -178,6 +180,7 @@ impl Desk {
         stored::add(
             &mut self.batches,
             alloc,
+            *self.memo.hasher(),
             number as usize,
             key.try_copy()?,
             cell,

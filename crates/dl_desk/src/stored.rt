@@ -11,6 +11,7 @@ use crate::batch::StoredBatch;
 use crate::key::FetchKey;
 use indexmap::IndexMap;
 use std::alloc::{AllocError, Global};
+use std::hash::RandomState;
 
 /// Takes back what is prepared in a range of batches.
 pub fn cut(batches: &mut Vec<StoredBatch>, from: usize, to: usize)
@@ -37,7 +38,11 @@ pub fn show(batches: &mut Vec<StoredBatch>, from: usize, to: usize)
 }
 
 /// Holds a cell for a key that isn't held. The error is want of memory, and leaves the memo.
-pub fn note(memo: &mut IndexMap<FetchKey, u32>, key: FetchKey, cell: u32) -> Result<(), AllocError>
+pub fn note(
+    memo: &mut IndexMap<FetchKey, u32, RandomState>,
+    key: FetchKey,
+    cell: u32,
+) -> Result<(), AllocError>
     requires { lookup (key_eq key) memo.old.entries ≡ None }
     ensures ok { OnOk result (memo.new.entries ≡ memo.old.entries ++ (key, cell) ∷ []) }
     ensures err { OnErr result (memo.new.entries ≡ memo.old.entries) }
@@ -51,6 +56,7 @@ pub fn note(memo: &mut IndexMap<FetchKey, u32>, key: FetchKey, cell: u32) -> Res
 pub fn add(
     batches: &mut Vec<StoredBatch>,
     alloc: Global,
+    hashing: RandomState,
     number: usize,
     key: FetchKey,
     cell: u32,
@@ -61,13 +67,13 @@ pub fn add(
     ensures err { OnErr result (Grows batches.old.items batches.new.items) }
 {
     if number == batches.len() {
-        batches.push(StoredBatch::new(alloc))?;
+        batches.push(StoredBatch::new(alloc, hashing))?;
     }
     batches[number].push(key, cell)
 }
 
 /// Forgets each member's key that is held with the member's own cell.
-pub fn forget(memo: &mut IndexMap<FetchKey, u32>, batch: &StoredBatch)
+pub fn forget(memo: &mut IndexMap<FetchKey, u32, RandomState>, batch: &StoredBatch)
     ensures { (k : Key) → lookup (key_eq k) memo.new.entries ≡ without batch.now.members k (lookup (key_eq k) memo.old.entries) }
 {
     for place in 0..batch.len() {
