@@ -1,6 +1,6 @@
 //! Batches as a desk stores them: members, of which the last may be prepared.
 
-ghost use Rattle.std.specs.Prelude.{◌≡◌, Some, false, ◌<◌, slice_get, [], ◌∷◌, ◌++◌, length, take, map, OnOk, OnErr, IfOk};
+ghost use Rattle.std.specs.Prelude.{◌≡◌, Some, Ok, true, false, not, ◌<◌, slice_get, [], ◌∷◌, ◌++◌, length, take, map, OnErr, IfOk};
 ghost use Rattle.std.specs.List.{zip};
 ghost use Rattle.dl_desk.specs.History.{has_member};
 ghost use Rattle.dl_desk.specs.Stored.{Stored, blank};
@@ -55,13 +55,6 @@ impl StoredBatch {
         self.cells.len()
     }
 
-    /// Whether a member, shown or prepared, has the key.
-    pub fn has(&self, key: &FetchKey) -> bool
-        ensures { result ≡ has_member self.now.members key.now }
-    {
-        self.keys.contains(key)
-    }
-
     /// The keys of the members, shown and prepared, in order.
     pub fn keys(&self) -> &[FetchKey]
         ensures { result.now ≡ map (λ m. m.0) self.now.members }
@@ -85,17 +78,21 @@ impl StoredBatch {
         self.end
     }
 
-    /// Prepares one more member. The error is want of memory, and leaves the batch as it was.
-    pub fn push(&mut self, key: FetchKey, cell: u32) -> Result<(), AllocError>
-        requires { has_member self.old.members key ≡ false }
+    /// Prepares one more member, where none has the key, and answers whether none has it. The error is want
+    /// of memory, and leaves the batch as it was.
+    pub fn push(&mut self, key: FetchKey, cell: u32) -> Result<bool, AllocError>
+        ensures is_new { IfOk result (λ is_new. is_new ≡ not (has_member self.old.members key)) }
         ensures shown { front self.new ≡ front self.old }
-        ensures added { OnOk result (whole self.new ≡ record { members = self.old.members ++ (key, cell) ∷ []; end = self.old.end }) }
+        ensures added { result ≡ Ok true → whole self.new ≡ record { members = self.old.members ++ (key, cell) ∷ []; end = self.old.end } }
+        ensures kept { result ≡ Ok false → self.new ≡ self.old }
         ensures err { OnErr result (self.new ≡ self.old) }
     {
         self.cells.reserve(1)?;
-        self.keys.insert(key)?;
+        if !self.keys.insert(key)? {
+            return Ok(false);
+        }
         self.cells.push(cell).unwrap();
-        Ok(())
+        Ok(true)
     }
 
     /// Takes back what is prepared.
