@@ -10,6 +10,10 @@ pub enum Command {
     Loads { keys: u32, batch: u32 },
     /// Loads the keys in one call.
     Many { keys: u32, batch: u32 },
+    /// Loads the keys one by one. Their ids share one hash under a seed that is known.
+    Hostile { keys: u32 },
+    /// Loads the keys one by one. Their ids are as long, and share no hash.
+    Harmless { keys: u32 },
     /// Loads the keys one by one, twice.
     Hits { keys: u32 },
     /// Loads, clears and loads again each key in turn.
@@ -31,7 +35,7 @@ pub enum Command {
 /// Why words are no command.
 #[derive(Clone, Copy, Debug, PartialEq, Eq, Error)]
 pub enum CommandFault {
-    #[error("usage: dl_bench loads|many|rounds|tables|loader N B, dl_bench hits|clears|script N, or dl_bench threads N C")]
+    #[error("usage: dl_bench loads|many|rounds|tables|loader N B, dl_bench hostile|harmless|hits|clears|script N, or dl_bench threads N C")]
     Usage,
     #[error("N, B and C are numbers from 1 to 65536, the largest limit of a loader")]
     Size,
@@ -49,6 +53,8 @@ impl Command {
                 keys: size(keys)?,
                 batch: size(batch)?,
             }),
+            [_, "hostile", keys] => Ok(Command::Hostile { keys: size(keys)? }),
+            [_, "harmless", keys] => Ok(Command::Harmless { keys: size(keys)? }),
             [_, "hits", keys] => Ok(Command::Hits { keys: size(keys)? }),
             [_, "clears", keys] => Ok(Command::Clears { keys: size(keys)? }),
             [_, "rounds", keys, batch] => Ok(Command::Rounds {

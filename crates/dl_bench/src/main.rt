@@ -16,21 +16,30 @@ use crate::counts::Counts;
 use anyhow::Result;
 use std::alloc::Global;
 use std::env;
+use std::hash::RandomState;
 use std::io::Print;
+use std::random::RandomSource;
 use std::sync::Wait;
 use std::thread::Threads;
 
-fn run<R: Threads + Wait + Sync>(rt: &R, alloc: Global, command: Command) -> Result<Counts> {
+fn run<R: RandomSource + Threads + Wait + Sync>(
+    rt: &R,
+    alloc: Global,
+    command: Command,
+) -> Result<Counts> {
+    let hashing = RandomState::new(rt)?;
     match command {
-        Command::Loads { keys, batch } => workloads::loads(alloc, keys, batch),
-        Command::Many { keys, batch } => workloads::many(alloc, keys, batch),
-        Command::Hits { keys } => workloads::hits(alloc, keys),
-        Command::Clears { keys } => workloads::clears(alloc, keys),
-        Command::Rounds { keys, batch } => workloads::rounds(alloc, keys, batch),
-        Command::Script { keys } => workloads::script(alloc, keys),
-        Command::Tables { keys, batch } => workloads::tables(alloc, keys, batch),
-        Command::Loader { keys, batch } => shared::loader(rt, alloc, keys, batch),
-        Command::Threads { keys, callers } => threads::threads(rt, alloc, keys, callers),
+        Command::Loads { keys, batch } => workloads::loads(alloc, hashing, keys, batch),
+        Command::Many { keys, batch } => workloads::many(alloc, hashing, keys, batch),
+        Command::Hostile { keys } => workloads::hostile(alloc, hashing, keys),
+        Command::Harmless { keys } => workloads::harmless(alloc, hashing, keys),
+        Command::Hits { keys } => workloads::hits(alloc, hashing, keys),
+        Command::Clears { keys } => workloads::clears(alloc, hashing, keys),
+        Command::Rounds { keys, batch } => workloads::rounds(alloc, hashing, keys, batch),
+        Command::Script { keys } => workloads::script(alloc, hashing, keys),
+        Command::Tables { keys, batch } => workloads::tables(alloc, hashing, keys, batch),
+        Command::Loader { keys, batch } => shared::loader(rt, alloc, hashing, keys, batch),
+        Command::Threads { keys, callers } => threads::threads(rt, alloc, hashing, keys, callers),
     }
 }
 

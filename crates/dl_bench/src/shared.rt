@@ -13,17 +13,24 @@ use dl_loader::{Loader, LoaderName, Opening, Pass};
 use dl_source::Source;
 use dl_workers::end_jobs;
 use std::alloc::Global;
+use std::hash::RandomState;
 use std::marker::Brand;
 use std::sync::Wait;
 
 /// One caller of a loader over a source that answers every key `null`: for each batch of keys it loads them in
 /// one call, dispatches, settles what was sent by what the source answers, and reads each outcome. At the end it
 /// closes the loader.
-pub fn loader<R: Wait>(rt: &R, alloc: Global, keys: u32, batch: u32) -> Result<Counts> {
+pub fn loader<R: Wait>(
+    rt: &R,
+    alloc: Global,
+    hashing: RandomState,
+    keys: u32,
+    batch: u32,
+) -> Result<Counts> {
     let limits = limits(batch)?;
     let source = Alike::null(alloc)?;
     let keys = keys_of(alloc, keys)?;
-    let opening = Opening::new(alloc, &source, limits, 1)?;
+    let opening = Opening::new(alloc, hashing, &source, limits, 1)?;
     one_caller::<Brand, _, _>(rt, alloc, &source, opening, &keys, limits)
 }
 

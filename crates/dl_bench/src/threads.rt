@@ -12,6 +12,7 @@ use dl_loader::{CallFault, Loader, LoaderName, Opening, Pass};
 use dl_source::Source;
 use dl_workers::end_jobs;
 use std::alloc::Global;
+use std::hash::RandomState;
 use std::marker::Brand;
 use std::sync::Wait;
 use std::thread;
@@ -26,12 +27,13 @@ const BATCH: u32 = 64;
 pub fn threads<R: Threads + Wait + Sync>(
     rt: &R,
     alloc: Global,
+    hashing: RandomState,
     keys: u32,
     callers: u32,
 ) -> Result<Counts> {
     let source = Alike::null(alloc)?;
     let keys = keys_of(alloc, keys)?;
-    let opening = Opening::new(alloc, &source, limits(BATCH)?, callers)?;
+    let opening = Opening::new(alloc, hashing, &source, limits(BATCH)?, callers)?;
     each_caller::<Brand, _, _>(rt, alloc, &source, opening, &keys)
 }
 

@@ -3,6 +3,7 @@
 use crate::counts::Counts;
 use dl_desk::{Desk, DeskFault, FetchKey, Job, Limits};
 use std::alloc::{AllocError, Global};
+use std::hash::RandomState;
 
 /// A desk, and counts of what it did.
 #[derive(Drop)]
@@ -13,9 +14,9 @@ pub struct Trial {
 
 impl Trial {
     /// A new desk, which adds to counts.
-    pub fn new(alloc: Global, limits: Limits, counts: Counts) -> Trial {
+    pub fn new(alloc: Global, hashing: RandomState, limits: Limits, counts: Counts) -> Trial {
         Trial {
-            desk: Desk::new(alloc, limits),
+            desk: Desk::new(alloc, hashing, limits),
             counts,
         }
     }

@@ -9,6 +9,7 @@ use dl_source::{Source, Tables};
 use itoa::Buffer;
 use serde_json::Value;
 use std::alloc::{AllocError, Global};
+use std::hash::RandomState;
 
 /// The most keys that can be loaded, cleared and loaded again on one desk, since each begins two
 /// cells.
@@ -35,8 +36,8 @@ pub fn keys_of(alloc: Global, count: u32) -> Result<Vec<FetchKey>> {
 }
 
 /// Loads the keys one by one, then dispatches.
-pub fn loads(alloc: Global, keys: u32, batch: u32) -> Result<Counts> {
-    let mut trial = Trial::new(alloc, limits(batch)?, Counts::default());
+pub fn loads(alloc: Global, hashing: RandomState, keys: u32, batch: u32) -> Result<Counts> {
+    let mut trial = Trial::new(alloc, hashing, limits(batch)?, Counts::default());
     for number in 0..keys {
         trial.load(alloc, &key_of(alloc, number)?)?;
     }
@@ -44,17 +45,42 @@ pub fn loads(alloc: Global, keys: u32, batch: u32) -> Result<Counts> {
     Ok(trial.counts)
 }
 
+/// Loads keys one by one, whose ids all have one hash where they are hashed by the kit's `FoldHasher`, which has a
+/// fixed seed. It multiplies the first eight bytes, joined by xor with its state, by the last eight. Its state after
+/// `trips`, plus 13, is spelled by the first eight bytes of these ids, so that the product is 0.
+pub fn hostile(alloc: Global, hashing: RandomState, keys: u32) -> Result<Counts> {
+    fronted(alloc, hashing, keys, "}A6E_4l]")
+}
+
+/// Loads keys one by one, whose ids are as long as those of [`hostile`] and have hashes of their own.
+pub fn harmless(alloc: Global, hashing: RandomState, keys: u32) -> Result<Counts> {
+    fronted(alloc, hashing, keys, "harmless")
+}
+
+/// Loads keys one by one, then dispatches. Each id is the front and then the key's number in five digits.
+fn fronted(alloc: Global, hashing: RandomState, keys: u32, front: &str) -> Result<Counts> {
+    let mut trial = Trial::new(alloc, hashing, limits(64)?, Counts::default());
+    let mut id = String::new(alloc);
+    for number in 0..keys {
+        id.clear();
+        write!(id, "{front}{number:05}")?;
+        trial.load(alloc, &FetchKey::new(alloc, "trips", id.as_str())?)?;
+    }
+    trial.dispatch(alloc)?;
+    Ok(trial.counts)
+}
+
 /// Loads the keys in one call.
-pub fn many(alloc: Global, keys: u32, batch: u32) -> Result<Counts> {
-    let mut trial = Trial::new(alloc, limits(batch)?, Counts::default());
+pub fn many(alloc: Global, hashing: RandomState, keys: u32, batch: u32) -> Result<Counts> {
+    let mut trial = Trial::new(alloc, hashing, limits(batch)?, Counts::default());
     let keys = keys_of(alloc, keys)?;
     trial.load_many(alloc, &keys)?;
     Ok(trial.counts)
 }
 
 /// Loads the keys one by one, and then again.
-pub fn hits(alloc: Global, keys: u32) -> Result<Counts> {
-    let mut trial = Trial::new(alloc, limits(LARGEST_LIMIT)?, Counts::default());
+pub fn hits(alloc: Global, hashing: RandomState, keys: u32) -> Result<Counts> {
+    let mut trial = Trial::new(alloc, hashing, limits(LARGEST_LIMIT)?, Counts::default());
     let keys = keys_of(alloc, keys)?;
     for _ in 0..2 {
         for key in &keys {
@@ -65,15 +91,21 @@ pub fn hits(alloc: Global, keys: u32) -> Result<Counts> {
 }
 
 /// Loads, clears and loads again each key in turn, on a new desk where the first can take no more.
-pub fn clears(alloc: Global, keys: u32) -> Result<Counts> {
+pub fn clears(alloc: Global, hashing: RandomState, keys: u32) -> Result<Counts> {
     let first = keys.min(LOADED_TWICE);
-    let counts = reloads(alloc, Counts::default(), 0, first)?;
-    reloads(alloc, counts, first, keys)
+    let counts = reloads(alloc, hashing, Counts::default(), 0, first)?;
+    reloads(alloc, hashing, counts, first, keys)
 }
 
 /// Loads, clears and loads again the key of each number in a range, on a new desk.
-fn reloads(alloc: Global, counts: Counts, from: u32, to: u32) -> Result<Counts> {
-    let mut trial = Trial::new(alloc, limits(LARGEST_LIMIT)?, counts);
+fn reloads(
+    alloc: Global,
+    hashing: RandomState,
+    counts: Counts,
+    from: u32,
+    to: u32,
+) -> Result<Counts> {
+    let mut trial = Trial::new(alloc, hashing, limits(LARGEST_LIMIT)?, counts);
     for number in from..to {
         let key = key_of(alloc, number)?;
         trial.load(alloc, &key)?;
@@ -84,9 +116,9 @@ fn reloads(alloc: Global, counts: Counts, from: u32, to: u32) -> Result<Counts> 
 }
 
 /// For each batch of keys: loads them in one call, dispatches, and settles what was sent.
-pub fn rounds(alloc: Global, keys: u32, batch: u32) -> Result<Counts> {
+pub fn rounds(alloc: Global, hashing: RandomState, keys: u32, batch: u32) -> Result<Counts> {
     let limits = limits(batch)?;
-    let mut trial = Trial::new(alloc, limits, Counts::default());
+    let mut trial = Trial::new(alloc, hashing, limits, Counts::default());
     let keys = keys_of(alloc, keys)?;
     for round in keys.chunks(limits.max_batch() as usize) {
         trial.load_many(alloc, round)?;
@@ -96,10 +128,10 @@ pub fn rounds(alloc: Global, keys: u32, batch: u32) -> Result<Counts> {
 }
 
 /// Reads a script that loads the keys one by one, answers it, and counts the lines of the answer.
-pub fn script(alloc: Global, keys: u32) -> Result<Counts> {
+pub fn script(alloc: Global, hashing: RandomState, keys: u32) -> Result<Counts> {
     let text = script_of(alloc, keys)?;
     let Input::Script(script) = read_input(alloc, text.as_bytes())?;
-    let output = run_script(alloc, &script)?;
+    let output = run_script(alloc, hashing, &script)?;
     let mut counts = Counts::default();
     counts.lines = output.bytes().filter(|byte| *byte == b'\n').count() as u64;
     Ok(counts)
@@ -119,9 +151,9 @@ fn script_of(alloc: Global, keys: u32) -> Result<String, AllocError> {
 }
 
 /// Reads tables with a row for each key, fetches the keys, a batch at a time, and counts their outcomes.
-pub fn tables(alloc: Global, keys: u32, batch: u32) -> Result<Counts> {
+pub fn tables(alloc: Global, hashing: RandomState, keys: u32, batch: u32) -> Result<Counts> {
     let limits = limits(batch)?;
-    let tables = tables_of(alloc, keys)?;
+    let tables = tables_of(alloc, hashing, keys)?;
     let keys = keys_of(alloc, keys)?;
     let mut counts = Counts::default();
     for part in keys.chunks(limits.max_batch() as usize) {
@@ -131,9 +163,9 @@ pub fn tables(alloc: Global, keys: u32, batch: u32) -> Result<Counts> {
 }
 
 /// Tables with a row for each key, read from their text.
-fn tables_of(alloc: Global, keys: u32) -> Result<Tables> {
+fn tables_of(alloc: Global, hashing: RandomState, keys: u32) -> Result<Tables> {
     let text = tree_of(alloc, keys)?;
-    Ok(Tables::from_value(alloc, &Value::from_str(alloc, text.as_str())?)?)
+    Ok(Tables::from_value(alloc, hashing, &Value::from_str(alloc, text.as_str())?)?)
 }
 
 /// The text of a tree of one table, with a row for each key.

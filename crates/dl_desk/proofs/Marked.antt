@@ -1,15 +1,15 @@
 -- What cutting, showing and preparing leave of a desk's fields.
-use Rattle.std.proofs.Common.{◌≡◌, ◌∙◌, sym, ℕ, zero, suc, ◌+◌, ◌<◌, ◌≤◌, inl, inr, min, max, List, [], ◌∷◌, ◌++◌, length, map, set, length-append, Option, Some, None, slice_get, refl, arith}
+use Rattle.std.proofs.Common.{◌≡◌, ◌∙◌, sym, ℕ, zero, suc, ◌+◌, ◌<◌, ◌≤◌, inl, inr, min, max, List, [], ◌∷◌, ◌++◌, length, map, set, take, length-append, Option, Some, None, slice_get, refl, arith}
 use Rattle.std.proofs.lemmas.Bool.{cases_lt, cases_eq}
 use Rattle.std.proofs.lemmas.Option.{slice_get-map, slice_get_past}
-use Rattle.std.proofs.lemmas.List.{map-append, map-set, length-set, length-map}
+use Rattle.std.proofs.lemmas.List.{map-append, map-set, length-set, length-map, take_all}
 use Rattle.dl_desk.specs.Key.{Key}
 use Rattle.dl_desk.specs.Stored.{Stored, blank}
 use Rattle.dl_desk.specs.Book.{Batch}
-use Rattle.dl_desk.specs.Prepared.{whole, front, empty, IsStored, Same}
+use Rattle.dl_desk.specs.Prepared.{whole, front, empty, IsStored, Same, members_of}
 use Rattle.dl_desk.specs.Marks.{IsDesk, Grows, IsAdded}
 use Rattle.dl_desk.specs.declared.desk.Extent.{Extent}
-use Rattle.dl_desk.proofs.Tails.{get-set_other, map-set_unseen}
+use Rattle.dl_desk.proofs.Tails.{get-set_other, map-set_unseen, same_all}
 
 -- ---- cutting and showing
 
@@ -115,3 +115,27 @@ desk_put most memo_len memo_left shown_memo touched n m prepared shown xs ys is 
 pub stored_grows : (begun sent cells most : ℕ) (xs grown : List Stored) → IsStored begun sent cells most (map whole xs) → Grows xs grown → IsStored begun sent cells most (map whole grown)
 stored_grows begun sent cells most xs grown is (inl same) = rw same is
 stored_grows begun sent cells most xs grown is (inr one) = rw (one, map-append) (stored_grown begun sent cells most (map whole xs) is)
+
+-- the members of a batch, of which the next one has none before it is added
+pub grown_members : (xs grown : List Stored) (n : ℕ) (x : Stored) → Grows xs grown → slice_get grown n ≡ Some x → n ≤ length xs → x.members ≡ members_of (slice_get (map whole xs) n)
+grown_members xs grown n x (inl same) at low =
+    let here : slice_get xs n ≡ Some x = rw same at at in
+    let is : slice_get (map whole xs) n ≡ Some (whole x) = rw (slice_get-map whole xs n, here) refl in
+    rw is refl
+grown_members xs grown n x (inr one) at low = elim (cases_lt n (length xs)) [
+  | inl inside ↦
+      let here : slice_get xs n ≡ Some x = sym (get-append_left xs (blank ∷ []) n inside) ∙ (rw one at at) in
+      let is : slice_get (map whole xs) n ≡ Some (whole x) = rw (slice_get-map whole xs n, here) refl in
+      rw is refl
+  | inr above ↦
+      let last : n ≡ length xs = omega arith in
+      let e : ◌≡◌ {A = Option Stored} (Some blank) (Some x) = sym (get-append_last xs blank n last) ∙ (rw one at at) in
+      let is : blank ≡ x = cc in
+      let past : slice_get (map whole xs) n ≡ None = slice_get_past (map whole xs) n (rw length-map (omega arith)) in
+      rw (past, ← is) refl
+]
+
+-- where nothing is prepared, the two books have the same entries and the same batches
+pub desk_unprepared : (most memo_len shown_memo touched : ℕ) (prepared shown : Extent) (entries : List (Key × ℕ)) (xs : List Stored) → IsDesk most prepared shown memo_len shown_memo touched xs → length entries ≡ shown_memo → touched ≡ prepared.begun
+    → (take shown_memo entries ≡ entries) × (map front xs ≡ map whole xs)
+desk_unprepared most memo_len shown_memo touched prepared shown entries xs is all done = (rw (← all) (take_all (length entries) entries (omega arith)), same_all touched prepared.begun xs (omega arith) is.same)

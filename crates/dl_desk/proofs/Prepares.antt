@@ -2,16 +2,17 @@
 use Rattle.std.proofs.Common.{◌≡◌, ◌∙◌, sym, ap, subst, ℕ, zero, suc, ◌+◌, ◌<◌, ◌≤◌, inl, inr, max, min, Bool, true, false, cond, List, [], ◌∷◌, ◌++◌, length, map, set, take, Option, Some, None, slice_get, refl, arith}
 use Rattle.std.specs.Map.{lookup}
 use Rattle.std.proofs.lemmas.Bool.{cases_lt}
-use Rattle.std.proofs.lemmas.Option.{slice_get-map}
+use Rattle.std.proofs.lemmas.Option.{slice_get-map, slice_get_past}
 use Rattle.std.proofs.lemmas.List.{map-append, map-set, length-map, length-take, take-append-le}
 use Rattle.dl_desk.specs.Key.{Key, key_eq}
 use Rattle.dl_desk.specs.Stored.{Stored, blank}
 use Rattle.dl_desk.specs.Limits.{Rules}
 use Rattle.dl_desk.specs.Book.{Batch, Book}
-use Rattle.dl_desk.specs.Prepared.{whole, front, empty, IsStored, put_member}
+use Rattle.dl_desk.specs.Prepared.{whole, front, empty, IsStored, members_of, put_member}
 use Rattle.dl_desk.specs.Marks.{Grows, more, IsAdded}
 use Rattle.dl_desk.proofs.KeyLemmas.{key_eq-sym, key_eq-same}
 use Rattle.dl_desk.proofs.Puts.{first_member}
+use Rattle.dl_desk.proofs.Sends.{get-take}
 use Rattle.dl_desk.proofs.Tails.{map-set_unseen}
 use Rattle.dl_desk.proofs.Marked.{stored_grows}
 
@@ -83,6 +84,27 @@ put_batches begun sent cells most n m xs ys is added next =
           let first : whole added.then ≡ first_member m = added.added ∙ ap (λ (b : Batch). more b m) blank_is in
           rw (e, added.is, map-set, ← front_same, ← n_is) (take_put_next (map whole added.grown) n (whole added.then) m (rw length-map added.low) first)
     ]
+
+-- as many batches are taken as were begun
+pub length-begun : (begun sent cells most : ℕ) (xs : List Batch) → IsStored begun sent cells most xs → length (take begun xs) ≡ begun
+length-begun begun sent cells most xs is = rw length-take (let s = is.all_stored in omega arith)
+
+-- the members of a batch up to the next one, which has none
+pub members-taken : (begun sent cells most n : ℕ) (xs : List Batch) → IsStored begun sent cells most xs → n ≤ begun → members_of (slice_get (take begun xs) n) ≡ members_of (slice_get xs n)
+members-taken begun sent cells most n xs is low = elim (cases_lt n begun) [
+  | inl below ↦ rw (get-take xs begun n below) refl
+  | inr above ↦
+      let past : slice_get (take begun xs) n ≡ None = slice_get_past (take begun xs) n (rw length-take (let s = is.all_stored in omega arith)) in
+      elim (cases_lt n (length xs)) [
+        | inl inside ↦ rw (past, is.spare n above inside) refl
+        | inr outside ↦ rw (past, slice_get_past xs n outside) refl
+      ]
+]
+
+-- of the newest batch and the next one neither is past the end
+pub low_choice : (in_next : Bool) (next newest n : ℕ) → newest ≤ next → n ≡ cond in_next next newest → n ≤ next
+low_choice true next newest n low is = omega arith
+low_choice false next newest n low is = omega arith
 
 -- ---- the shown book
 

@@ -3,9 +3,11 @@ use Rattle.std.proofs.Common.{◌≡◌, ◌∙◌, sym, ℕ, List, ◌∷◌, S
 use Rattle.std.specs.Map.{lookup}
 use Rattle.dl_desk.specs.Key.{Key, key_eq}
 use Rattle.dl_desk.specs.History.{Atom, Load, Begun, held, load_reply}
-use Rattle.dl_desk.specs.declared.reply.LoadReply.TheVariants.{Fresh}
+use Rattle.dl_desk.specs.declared.reply.LoadReply.{LoadReply}
+use Rattle.dl_desk.specs.declared.reply.LoadReply.TheVariants.{Hit, Fresh}
 use Rattle.dl_desk.specs.Book.{Book, StandsFor}
-use Rattle.dl_desk.specs.Prepared.{book_room, Begins}
+use Rattle.dl_desk.specs.Prepared.{book_room, Begins, Puts}
+use Rattle.dl_desk.proofs.HeldLemmas.{held-same}
 use Rattle.dl_desk.proofs.Begun.{stands_begun}
 use Rattle.dl_desk.proofs.Rooms.{book_room-is}
 
@@ -21,3 +23,23 @@ stands_fresh old new history k stands none put =
     stands_begun old new (Load k (Fresh old.cells (book_room old k))) history (begun_load k old.cells (book_room old k)) stands (fresh_reply old history k stands none)
     (record { begins_it = refl; keeps = λ q batch. refl; sends_none = refl; ends_none = λ b. refl })
     put
+
+hit_reply : (book : Book) (history : List Atom) (k : Key) (cell : ℕ) → StandsFor book history → lookup (key_eq k) book.memo ≡ Some cell → Hit cell ≡ load_reply book.rules history k
+hit_reply book history k cell stands found = let h : held history k ≡ Some cell = sym (stands.memo k) ∙ found in rw h refl
+
+-- a load that is put has the history's reply
+pub put_reply : (old new : Book) (history : List Atom) (k : Key) (reply : LoadReply) → StandsFor old history → Puts old k reply new → reply ≡ load_reply old.rules history k
+put_reply old new history k (Hit cell) stands put = hit_reply old history k cell stands put.0
+put_reply old new history k (Fresh cell batch) stands put = rw (put.1, put.2) (fresh_reply old history k stands put.0)
+
+-- and what it leaves stands for the history with it
+pub put_stands : (old new : Book) (history : List Atom) (k : Key) (reply : LoadReply) → StandsFor old history → Puts old k reply new → StandsFor new (Load k reply ∷ history)
+put_stands old new history k (Hit cell) stands put = rw put.1 (record {
+  legal = (hit_reply old history k cell stands put.0, stands.legal);
+  memo = λ q. stands.memo q ∙ sym (held-same (Load k (Hit cell)) history q refl (λ batch. refl));
+  cells = stands.cells;
+  sent = stands.sent;
+  count = stands.count;
+  batches = stands.batches;
+})
+put_stands old new history k (Fresh cell batch) stands put = rw (put.1, put.2) (stands_fresh old new history k stands put.0 (rw put.2 at put.3))

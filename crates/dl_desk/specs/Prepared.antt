@@ -8,6 +8,10 @@ use Rattle.dl_desk.specs.Stored.{Stored}
 use Rattle.dl_desk.specs.Book.{Batch, Book}
 use Rattle.dl_desk.specs.declared.reply.End.{End}
 use Rattle.dl_desk.specs.declared.reply.Job.{Job}
+use Rattle.dl_desk.specs.declared.reply.LoadReply.{LoadReply}
+use Rattle.dl_desk.specs.declared.reply.LoadReply.TheVariants.{Hit, Fresh}
+use Rattle.dl_desk.specs.declared.reply.DeskPrime.{DeskPrime}
+use Rattle.dl_desk.specs.declared.reply.DeskPrime.TheVariants.{Primed, Kept}
 use Rattle.dl_desk.specs.declared.fault.DeskFault.{DeskFault}
 use Rattle.dl_desk.specs.declared.fault.DeskFault.TheVariants.{NoBatch, NotSent, SettledBefore, CellsFull, OutOfMemory}
 
@@ -53,6 +57,10 @@ members_of (Some x) = x.members
 abbrev pub members_at : Book → ℕ → List (Key × ℕ)
 members_at book b = members_of (slice_get book.batches b)
 
+-- whether the batch isn't sent, and has fewer members than a batch that may mix tables
+abbrev pub has_room_in : Book → ℕ → Bool
+has_room_in book b = nat_le book.sent b && nat_lt (length (members_at book b)) book.rules.limits.max_batch
+
 -- whether the batch isn't sent, has fewer members than its limit, and none of the key
 abbrev pub is_open_in : Book → Key → ℕ → Bool
 is_open_in book k b = nat_le book.sent b && nat_lt (length (members_at book b)) (limit_of book.rules k.table) && not (has_member (members_at book b) k)
@@ -76,6 +84,16 @@ pub record Begins (old : Book) (k : Key) (batch : Option ℕ) (new : Book) : Typ
   pub sent : new.sent ≡ old.sent
   pub memo : (q : Key) → lookup (key_eq q) new.memo ≡ (if key_eq k q then Some old.cells else lookup (key_eq q) old.memo)
   pub batches : new.batches ≡ put_in old.batches batch (k, old.cells)
+
+-- the load of a key makes this of a book, and has this reply
+abbrev pub Puts : Book → Key → LoadReply → Book → Type 0
+Puts old k (Hit cell) new = (lookup (key_eq k) old.memo ≡ Some cell) × (new ≡ old)
+Puts old k (Fresh cell batch) new = (lookup (key_eq k) old.memo ≡ None) × (cell ≡ old.cells) × (batch ≡ book_room old k) × Begins old k (Some batch) new
+
+-- the prime of a key makes this of a book, and has this reply
+abbrev pub PutsAlone : Book → Key → DeskPrime → Book → Type 0
+PutsAlone old k Kept new = IsSome (lookup (key_eq k) old.memo) × (new ≡ old)
+PutsAlone old k (Primed cell) new = (lookup (key_eq k) old.memo ≡ None) × (cell ≡ old.cells) × Begins old k None new
 
 -- the load of one more key is refused so, at a book
 abbrev pub RefusesStep : Book → Key → DeskFault → Type 0

@@ -1,6 +1,6 @@
 //! Batches as a desk stores them: members, of which the last may be prepared.
 
-ghost use Rattle.std.specs.Prelude.{◌≡◌, Some, false, ◌<◌, slice_get, [], ◌∷◌, ◌++◌, length, take, map, OnOk, OnErr, IfOk};
+ghost use Rattle.std.specs.Prelude.{◌≡◌, Some, Ok, true, false, not, ◌<◌, slice_get, [], ◌∷◌, ◌++◌, length, take, map, OnErr, IfOk};
 ghost use Rattle.std.specs.List.{zip};
 ghost use Rattle.dl_desk.specs.History.{has_member};
 ghost use Rattle.dl_desk.specs.Stored.{Stored, blank};
@@ -10,13 +10,14 @@ use crate::key::{FetchKey, Keys};
 use crate::reply::End;
 use indexmap::IndexSet;
 use std::alloc::{AllocError, Global};
+use std::hash::RandomState;
 use std::marker::Model;
 
 /// A batch: the keys of its members, each once and in order, with the cell of each, and how it
 /// ended. The first `seen` members are shown, the others are prepared.
 #[derive(Drop)]
 pub struct StoredBatch {
-    keys: IndexSet<FetchKey>,
+    keys: IndexSet<FetchKey, RandomState>,
     cells: Vec<u32>,
     seen: usize,
     end: Option<End>,
@@ -36,11 +37,11 @@ impl Model for StoredBatch {
 
 impl StoredBatch {
     /// A batch with no members. It takes no memory.
-    pub fn new(alloc: Global) -> StoredBatch
+    pub fn new(alloc: Global, hashing: RandomState) -> StoredBatch
         ensures { result ≡ blank }
     {
         StoredBatch {
-            keys: IndexSet::new(alloc),
+            keys: IndexSet::with_hasher(alloc, hashing),
             cells: Vec::new(alloc),
             seen: 0,
             end: None,
@@ -52,13 +53,6 @@ impl StoredBatch {
         ensures { result ≡ length self.now.members }
     {
         self.cells.len()
-    }
-
-    /// Whether a member, shown or prepared, has the key.
-    pub fn has(&self, key: &FetchKey) -> bool
-        ensures { result ≡ has_member self.now.members key.now }
-    {
-        self.keys.contains(key)
     }
 
     /// The keys of the members, shown and prepared, in order.
@@ -84,17 +78,21 @@ impl StoredBatch {
         self.end
     }
 
-    /// Prepares one more member. The error is want of memory, and leaves the batch as it was.
-    pub fn push(&mut self, key: FetchKey, cell: u32) -> Result<(), AllocError>
-        requires { has_member self.old.members key ≡ false }
+    /// Prepares one more member, where none has the key, and answers whether none has it. The error is want
+    /// of memory, and leaves the batch as it was.
+    pub fn push(&mut self, key: FetchKey, cell: u32) -> Result<bool, AllocError>
+        ensures is_new { IfOk result (λ is_new. is_new ≡ not (has_member self.old.members key)) }
         ensures shown { front self.new ≡ front self.old }
-        ensures added { OnOk result (whole self.new ≡ record { members = self.old.members ++ (key, cell) ∷ []; end = self.old.end }) }
+        ensures added { result ≡ Ok true → whole self.new ≡ record { members = self.old.members ++ (key, cell) ∷ []; end = self.old.end } }
+        ensures kept { result ≡ Ok false → self.new ≡ self.old }
         ensures err { OnErr result (self.new ≡ self.old) }
     {
         self.cells.reserve(1)?;
-        self.keys.insert(key)?;
+        if !self.keys.insert(key)? {
+            return Ok(false);
+        }
         self.cells.push(cell).unwrap();
-        Ok(())
+        Ok(true)
     }
 
     /// Takes back what is prepared.

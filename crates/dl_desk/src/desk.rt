@@ -1,13 +1,13 @@
 //! The desk: one loader, for one thread.
 
-ghost use Rattle.std.specs.Prelude.{◌≡◌, ◌<◌, ◌≤◌, ◌+◌, ◌-◌, ◌^◌, Some, None, [], ◌∷◌, ◌++◌, length, map, take, vec_len, false, IfOk, IfErr, OnOk, OnErr, slice_get, nat_le};
+ghost use Rattle.std.specs.Prelude.{◌≡◌, ◌<◌, ◌≤◌, ◌-◌, if◌then◌else◌, None, [], ◌∷◌, ◌++◌, length, map, take, vec_len, false, IfOk, IfErr, OnOk, OnErr, slice_get, nat_le, IsTrue};
 ghost use Rattle.std.specs.Prelude.{List};
 ghost use Rattle.std.specs.Map.{lookup};
-ghost use Rattle.dl_desk.specs.Key.{key_eq};
+ghost use Rattle.dl_desk.specs.Key.{Key, key_eq};
 ghost use Rattle.dl_desk.specs.Limits.{mixed};
 ghost use Rattle.dl_desk.specs.History.{Atom, Load, Prime, has_member, load_reply, prime_reply};
 ghost use Rattle.dl_desk.specs.Book.{StandsFor};
-ghost use Rattle.dl_desk.specs.Prepared.{members_at, is_open_in, book_room, book_jobs, Begins, RefusesStep};
+ghost use Rattle.dl_desk.specs.Prepared.{members_at, has_room_in, book_room, book_jobs, Puts, PutsAlone, RefusesStep};
 
 mod calls;
 mod ends;
@@ -22,11 +22,12 @@ use crate::reply::{DeskPrime, Job, LoadReply};
 use crate::stored;
 use indexmap::IndexMap;
 use std::alloc::{AllocError, Global};
+use std::hash::RandomState;
 use std::marker::Model;
 pub use view::BatchView;
 
 /// How far a desk has come: batches begun, batches sent, cells begun.
-#[derive(Clone, Copy, Debug)]
+#[derive(Clone, Copy, Debug, PartialEq, Eq)]
 pub struct Extent {
     begun: u32,
     sent: u32,
@@ -43,7 +44,7 @@ pub struct Extent {
 #[derive(Drop)]
 pub struct Desk {
     limits: Limits,
-    memo: IndexMap<FetchKey, u32>,
+    memo: IndexMap<FetchKey, u32, RandomState>,
     batches: Vec<StoredBatch>,
     prepared: Extent,
     shown: Extent,
@@ -70,8 +71,9 @@ impl Model for Desk {
 }
 
 impl Desk {
-    /// A desk with an empty history, whose batches may mix tables. It takes no memory yet.
-    pub fn new(alloc: Global, limits: Limits) -> Desk
+    /// A desk with an empty history, whose batches may mix tables. It takes no memory yet. It hashes keys by
+    /// `hashing`, of which nothing is seen: what a desk answers is the same whatever it is.
+    pub fn new(alloc: Global, hashing: RandomState, limits: Limits) -> Desk
         ensures rules { result.book.rules ≡ mixed limits }
         ensures stands { StandsFor result.book [] }
     {
@@ -82,7 +84,7 @@ impl Desk {
         };
         Desk {
             limits,
-            memo: IndexMap::new(alloc),
+            memo: IndexMap::with_hasher(alloc, hashing),
             batches: Vec::new(alloc),
             prepared: start,
             shown: start,
@@ -97,6 +99,9 @@ impl Desk {
         ensures prepared { self.new.prepared ≡ self.old.book }
         ensures within { self.new.prepared.cells ≤ self.new.prepared.rules.limits.max_cells }
     {
+        if self.is_shown() {
+            return;
+        }
         self.memo.truncate(self.shown_memo);
         stored::cut(
             &mut self.batches,
@@ -105,6 +110,15 @@ impl Desk {
         );
         self.prepared = self.shown;
         self.touched = self.prepared.begun;
+    }
+
+    /// Whether nothing is prepared.
+    fn is_shown(&self) -> bool
+        ensures { IsTrue result → self.now.prepared ≡ self.now.book }
+    {
+        self.memo.len() == self.shown_memo
+            && self.touched == self.prepared.begun
+            && self.prepared == self.shown
     }
 
     /// Makes the call that was prepared last, if one was: shows what is prepared. It takes no memory.
@@ -138,69 +152,70 @@ impl Desk {
         self.prepared.cells >= self.limits.max_cells()
     }
 
-    /// Whether one more member of the key may go into the batch, with what is prepared.
-    fn is_open(&self, number: u32, key: &FetchKey) -> bool
+    /// Whether one more member may go into the batch, with what is prepared.
+    fn is_open(&self, number: u32) -> bool
         requires { number < length self.now.prepared.batches }
-        ensures { result ≡ is_open_in self.now.prepared key.now number }
+        ensures { result ≡ has_room_in self.now.prepared number }
     {
-        let batch = &self.batches[number as usize];
         self.prepared.sent <= number
-            && batch.len() < self.limits.max_batch() as usize
-            && !batch.has(key)
+            && self.batches[number as usize].len() < self.limits.max_batch() as usize
     }
 
-    /// The batch that a fresh load of the key goes into, with what is prepared.
-    fn room(&self, key: &FetchKey) -> u32
-        ensures { result ≡ book_room self.now.prepared key.now }
+    /// The batch that takes the next member, with what is prepared, where no member of it has the key: the last one
+    /// that was begun, if it is open, and else the next one.
+    fn newest(&self) -> u32
+        ensures low { result ≤ length self.now.prepared.batches }
+        ensures room { (k : Key) → (if has_member (members_at self.now.prepared result) k then length self.now.prepared.batches else result) ≡ book_room self.now.prepared k }
     {
         let next = self.prepared.begun;
-        if next > 0 && self.is_open(next - 1, key) {
+        if next > 0 && self.is_open(next - 1) {
             next - 1
         } else {
             next
         }
     }
 
-    /// Prepares a new cell for the key in the batch. The error is want of memory, and part of the
-    /// step may be prepared then.
-    fn put(&mut self, alloc: Global, key: &FetchKey, number: u32) -> Result<u32, AllocError>
-        requires number { number ≤ length self.old.prepared.batches }
-        requires not_held { lookup (key_eq key.now) self.old.prepared.memo ≡ None }
-        requires not_member { has_member (members_at self.old.prepared number) key.now ≡ false }
+    /// Prepares the load of one more key, where more cells may be begun. The error is want of memory, and part of
+    /// the step may be prepared then.
+    fn put(&mut self, alloc: Global, key: &FetchKey) -> Result<LoadReply, AllocError>
         requires not_full { self.old.prepared.cells < self.old.prepared.rules.limits.max_cells }
         ensures book { self.new.book ≡ self.old.book }
         ensures rules { self.new.prepared.rules ≡ self.old.prepared.rules }
-        ensures cell { IfOk result (λ cell. cell ≡ self.old.prepared.cells) }
-        ensures put { OnOk result (Begins self.old.prepared key.now (Some number) self.new.prepared) }
+        ensures put { IfOk result (λ reply. Puts self.old.prepared key.now reply self.new.prepared) }
     {
         let cell = self.prepared.cells;
-        stored::note(&mut self.memo, key.try_copy()?, cell)?;
-        stored::add(
+        if let Some(held) = stored::hold(&mut self.memo, key.try_copy()?, cell)? {
+            return Ok(LoadReply::Hit(held));
+        }
+        let newest = self.newest();
+        let batch = stored::join(
             &mut self.batches,
             alloc,
-            number as usize,
-            key.try_copy()?,
+            *self.memo.hasher(),
+            newest,
+            self.prepared.begun,
+            key,
             cell,
         )?;
-        self.touched = self.touched.min(number);
-        self.prepared.begun = self.prepared.begun.max(number + 1);
+        self.touched = self.touched.min(batch);
+        self.prepared.begun = self.prepared.begun.max(batch + 1);
         self.prepared.cells += 1;
-        Ok(cell)
+        Ok(LoadReply::Fresh { cell, batch })
     }
 
-    /// Prepares a new cell for the key in no batch. The error is want of memory.
-    fn put_alone(&mut self, key: &FetchKey) -> Result<u32, AllocError>
-        requires not_held { lookup (key_eq key.now) self.old.prepared.memo ≡ None }
+    /// Prepares a prime of the key, where more cells may be begun. The error is want of memory.
+    fn put_alone(&mut self, key: &FetchKey) -> Result<DeskPrime, AllocError>
         requires not_full { self.old.prepared.cells < self.old.prepared.rules.limits.max_cells }
         ensures book { self.new.book ≡ self.old.book }
         ensures rules { self.new.prepared.rules ≡ self.old.prepared.rules }
-        ensures cell { IfOk result (λ cell. cell ≡ self.old.prepared.cells) }
-        ensures put { OnOk result (Begins self.old.prepared key.now None self.new.prepared) }
+        ensures put { IfOk result (λ reply. PutsAlone self.old.prepared key.now reply self.new.prepared) }
     {
         let cell = self.prepared.cells;
-        stored::note(&mut self.memo, key.try_copy()?, cell)?;
+        if let Some(_) = stored::hold(&mut self.memo, key.try_copy()?, cell)? {
+            return Ok(DeskPrime::Kept);
+        }
         self.prepared.cells += 1;
-        Ok(cell)
+        Ok(DeskPrime::Primed(cell))
     }
 
     /// Prepares the load of one more key. A refusal may leave part of the step prepared.
@@ -212,16 +227,14 @@ impl Desk {
         ensures within { OnOk result (self.new.prepared.cells ≤ self.new.prepared.rules.limits.max_cells) }
         ensures fault { IfErr result (RefusesStep self.old.prepared key.now) }
     {
-        if let Some(cell) = self.found(key) {
-            return Ok(LoadReply::Hit(cell));
-        }
         if self.is_full() {
             let limit = self.limits.max_cells();
-            return Err(DeskFault::CellsFull { limit });
+            return match self.found(key) {
+                Some(cell) => Ok(LoadReply::Hit(cell)),
+                None => Err(DeskFault::CellsFull { limit }),
+            };
         }
-        let batch = self.room(key);
-        let cell = self.put(alloc, key, batch)?;
-        Ok(LoadReply::Fresh { cell, batch })
+        Ok(self.put(alloc, key)?)
     }
 
     /// Prepares a prime of the key. A refusal may leave part of the step prepared.
@@ -233,15 +246,14 @@ impl Desk {
         ensures within { OnOk result (self.new.prepared.cells ≤ self.new.prepared.rules.limits.max_cells) }
         ensures fault { IfErr result (RefusesStep self.old.prepared key.now) }
     {
-        if self.found(key).is_some() {
-            return Ok(DeskPrime::Kept);
-        }
         if self.is_full() {
             let limit = self.limits.max_cells();
-            return Err(DeskFault::CellsFull { limit });
+            return match self.found(key) {
+                Some(_) => Ok(DeskPrime::Kept),
+                None => Err(DeskFault::CellsFull { limit }),
+            };
         }
-        let cell = self.put_alone(key)?;
-        Ok(DeskPrime::Primed(cell))
+        Ok(self.put_alone(key)?)
     }
 
     /// The jobs of the batches that are begun and not sent, with what is prepared. The error is

@@ -1,6 +1,6 @@
 //! Steps on the parts of a desk: its memo and its stored batches.
 
-ghost use Rattle.std.specs.Prelude.{◌≡◌, ◌<◌, ◌≤◌, Some, None, false, [], ◌∷◌, ◌++◌, length, map, vec_len, slice_get, OnOk, OnErr, IfOk};
+ghost use Rattle.std.specs.Prelude.{◌≡◌, ◌≤◌, Ok, None, true, false, not, if◌then◌else◌, [], ◌∷◌, ◌++◌, map, vec_len, slice_get, IsSome, OnErr, IfOk};
 ghost use Rattle.std.specs.Map.{lookup};
 ghost use Rattle.dl_desk.specs.Key.{Key, key_eq};
 ghost use Rattle.dl_desk.specs.History.{has_member};
@@ -10,7 +10,9 @@ ghost use Rattle.dl_desk.specs.Marks.{IsAdded, Grows};
 use crate::batch::StoredBatch;
 use crate::key::FetchKey;
 use indexmap::IndexMap;
+use indexmap::map::Entry;
 use std::alloc::{AllocError, Global};
+use std::hash::RandomState;
 
 /// Takes back what is prepared in a range of batches.
 pub fn cut(batches: &mut Vec<StoredBatch>, from: usize, to: usize)
@@ -36,38 +38,90 @@ pub fn show(batches: &mut Vec<StoredBatch>, from: usize, to: usize)
     }
 }
 
-/// Holds a cell for a key that isn't held. The error is want of memory, and leaves the memo.
-pub fn note(memo: &mut IndexMap<FetchKey, u32>, key: FetchKey, cell: u32) -> Result<(), AllocError>
-    requires { lookup (key_eq key) memo.old.entries ≡ None }
-    ensures ok { OnOk result (memo.new.entries ≡ memo.old.entries ++ (key, cell) ∷ []) }
+/// The cell that is held for the key; where none is, the new cell is held from now on. The error is want of
+/// memory, and leaves the memo.
+pub fn hold(
+    memo: &mut IndexMap<FetchKey, u32, RandomState>,
+    key: FetchKey,
+    cell: u32,
+) -> Result<Option<u32>, AllocError>
+    ensures held { IfOk result (λ held. held ≡ lookup (key_eq key) memo.old.entries) }
+    ensures kept { IfOk result (λ held. IsSome held → memo.new.entries ≡ memo.old.entries) }
+    ensures noted { result ≡ Ok None → memo.new.entries ≡ memo.old.entries ++ (key, cell) ∷ [] }
     ensures err { OnErr result (memo.new.entries ≡ memo.old.entries) }
 {
-    memo.insert(key, cell)?;
-    Ok(())
+    match memo.entry(key)? {
+        Entry::Occupied(entry) => Ok(Some(*entry.get())),
+        Entry::Vacant(entry) => {
+            entry.insert(cell);
+            Ok(None)
+        }
+    }
 }
 
-/// Prepares one more member in a batch, which may be the next one. The error is want of memory,
-/// and then an empty batch may have been added.
-pub fn add(
+/// Prepares one more member in a batch, which may be the next one, where no member of it has the key, and
+/// answers whether none has it. The error is want of memory, and then an empty batch may have been added.
+fn add(
     batches: &mut Vec<StoredBatch>,
     alloc: Global,
+    hashing: RandomState,
     number: usize,
     key: FetchKey,
     cell: u32,
-) -> Result<(), AllocError>
+) -> Result<bool, AllocError>
     requires number { number ≤ vec_len batches.old }
-    requires not_member { has_member (members_of (slice_get (map whole batches.old.items) number)) key ≡ false }
-    ensures ok { OnOk result (IsAdded batches.old.items number (key, cell) batches.new.items) }
+    ensures is_new { IfOk result (λ is_new. is_new ≡ not (has_member (members_of (slice_get (map whole batches.old.items) number)) key)) }
+    ensures added { result ≡ Ok true → IsAdded batches.old.items number (key, cell) batches.new.items }
+    ensures kept { result ≡ Ok false → batches.new.items ≡ batches.old.items }
     ensures err { OnErr result (Grows batches.old.items batches.new.items) }
 {
     if number == batches.len() {
-        batches.push(StoredBatch::new(alloc))?;
+        batches.push(StoredBatch::new(alloc, hashing))?;
     }
     batches[number].push(key, cell)
 }
 
+/// Prepares a member of the key in the newest batch, or in the next one where a member of the newest has the
+/// key, and answers which. The error is want of memory, and then an empty batch may have been added.
+pub fn join(
+    batches: &mut Vec<StoredBatch>,
+    alloc: Global,
+    hashing: RandomState,
+    newest: u32,
+    next: u32,
+    key: &FetchKey,
+    cell: u32,
+) -> Result<u32, AllocError>
+    requires newest { newest ≤ vec_len batches.old }
+    requires next { next ≤ vec_len batches.old }
+    requires next_is_empty { members_of (slice_get (map whole batches.old.items) next) ≡ [] }
+    ensures number { IfOk result (λ number. number ≡ (if has_member (members_of (slice_get (map whole batches.old.items) newest)) key.now then next else newest)) }
+    ensures added { IfOk result (λ number. IsAdded batches.old.items number (key.now, cell) batches.new.items) }
+    ensures err { OnErr result (Grows batches.old.items batches.new.items) }
+{
+    if add(
+        batches,
+        alloc,
+        hashing,
+        newest as usize,
+        key.try_copy()?,
+        cell,
+    )? {
+        return Ok(newest);
+    }
+    add(
+        batches,
+        alloc,
+        hashing,
+        next as usize,
+        key.try_copy()?,
+        cell,
+    )?;
+    Ok(next)
+}
+
 /// Forgets each member's key that is held with the member's own cell.
-pub fn forget(memo: &mut IndexMap<FetchKey, u32>, batch: &StoredBatch)
+pub fn forget(memo: &mut IndexMap<FetchKey, u32, RandomState>, batch: &StoredBatch)
     ensures { (k : Key) → lookup (key_eq k) memo.new.entries ≡ without batch.now.members k (lookup (key_eq k) memo.old.entries) }
 {
     for place in 0..batch.len() {

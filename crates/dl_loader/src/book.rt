@@ -17,6 +17,7 @@ use crate::ticket::{Ticket, load_cell};
 use dl_desk::{Desk, Limits, LoadReply};
 use dl_history::{Journal, LoaderName, Rows};
 use std::alloc::Global;
+use std::hash::RandomState;
 use std::marker::Model;
 use std::sync::ledger;
 
@@ -48,14 +49,19 @@ impl<L: LoaderName> Model for Book<L> {
 
 impl<L: LoaderName> Book<L> {
     /// The book of a loader that had no call. It takes no memory.
-    pub(crate) fn new(alloc: Global, limits: Limits, calls: ledger::Book<L>) -> Book<L>
+    pub(crate) fn new(
+        alloc: Global,
+        hashing: RandomState,
+        limits: Limits,
+        calls: ledger::Book<L>,
+    ) -> Book<L>
         requires rules { mixed limits ≡ L.service.rules }
         requires none_counted { calls.total ≡ 0 }
         ensures history { result.history ≡ [] }
         ensures not_stopped { result.stopped ≡ false }
     {
         Book {
-            desk: Desk::new(alloc, limits),
+            desk: Desk::new(alloc, hashing, limits),
             journal: Journal::new(alloc, calls),
             stopped: false,
         }

@@ -54,6 +54,7 @@ impl<L: LoaderName> Loader<L> {
         ensures fault { IfErr result (λ fault. fault ≡ OutOfMemory) }
     {
         let Opening {
+            hashing,
             limits,
             callers,
             log,
@@ -63,7 +64,7 @@ impl<L: LoaderName> Loader<L> {
         } = opening;
         let (calls, all) = blank.open::<L>();
         let passes = deal(alloc, callers, all)?;
-        let book = Book::new(alloc, limits, calls);
+        let book = Book::new(alloc, hashing, limits, calls);
         let loader = Loader {
             callers,
             rows: Rows::new(limits, log, outcomes),

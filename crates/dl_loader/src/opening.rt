@@ -10,6 +10,7 @@ use dl_desk::Limits;
 use dl_history::{Ending, Event};
 use dl_source::Source;
 use std::alloc::Global;
+use std::hash::RandomState;
 use std::marker::Model;
 use std::sync::ledger::Blank;
 
@@ -24,6 +25,7 @@ pub const MOST_CALLERS: u32 = 32;
 #[derive(Drop)]
 pub struct Opening<'s, S: Source> {
     source: &'s S,
+    pub(crate) hashing: RandomState,
     pub(crate) limits: Limits,
     pub(crate) callers: u32,
     pub(crate) log: CellRow<Event>,
@@ -50,12 +52,14 @@ impl<'s, S: Source> Model for Opening<'s, S> {
 }
 
 impl<'s, S: Source> Opening<'s, S> {
-    /// An opening of a loader over a source, whose batches may mix tables.
+    /// An opening of a loader over a source, whose batches may mix tables. The loader hashes keys by `hashing`,
+    /// of which nothing is seen.
     ///
     /// # Errors
     /// The first cause of [`StartFault`] that applies, in its order.
     pub fn new(
         alloc: Global,
+        hashing: RandomState,
         source: &'s S,
         limits: Limits,
         callers: u32,
@@ -74,6 +78,7 @@ impl<'s, S: Source> Opening<'s, S> {
         }
         Ok(Opening {
             source,
+            hashing,
             limits,
             callers,
             log: CellRow::new(alloc, limits.max_calls())?,

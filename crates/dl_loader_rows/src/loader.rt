@@ -18,17 +18,20 @@ use dl_fixtures::{USERS, tables};
 use dl_loader::{Loader, LoaderName, Opening, StartFault};
 use dl_source::Source;
 use std::alloc::Global;
+use std::hash::RandomState;
 use std::marker::Brand;
 use std::process::Abort;
+use std::random::RandomSource;
 use std::sync::Wait;
 use std::test::Fail;
 
 #[test]
 fn numbers_of_callers_out_of_range(rt: HostRuntime) -> Result<(), Fail> {
-    let users = tables(rt.alloc(), USERS)?;
+    let users = tables(&rt, rt.alloc(), USERS)?;
+    let hashing = RandomState::new(&rt)?;
     let limits = Limits::new(1, 1, 2)?;
     for (callers, fault) in [(0, StartFault::NoCallers), (33, StartFault::TooManyCallers)] {
-        let opening = Opening::new(rt.alloc(), &users, limits, callers);
+        let opening = Opening::new(rt.alloc(), hashing, &users, limits, callers);
         assert_eq!(rt; opening.err(), Some(fault));
     }
     Ok(())
@@ -81,15 +84,17 @@ fn a_load_by_the_law(rt: HostRuntime) -> Result<(), Fail> {
 
 #[test]
 fn two_callers_of_one_key(rt: HostRuntime) -> Result<(), Fail> {
-    let users = tables(rt.alloc(), USERS)?;
-    let opening = Opening::new(rt.alloc(), &users, Limits::new(2, 8, 16)?, 2)?;
+    let users = tables(&rt, rt.alloc(), USERS)?;
+    let hashing = RandomState::new(&rt)?;
+    let opening = Opening::new(rt.alloc(), hashing, &users, Limits::new(2, 8, 16)?, 2)?;
     threads::load_by_two::<Brand, _, _>(&rt, rt.alloc(), &users, opening)
 }
 
 #[test]
 fn callers_on_threads_of_their_own(rt: HostRuntime) -> Result<(), Fail> {
-    let users = tables(rt.alloc(), USERS)?;
-    let opening = Opening::new(rt.alloc(), &users, Limits::new(2, 8, 16)?, 2)?;
+    let users = tables(&rt, rt.alloc(), USERS)?;
+    let hashing = RandomState::new(&rt)?;
+    let opening = Opening::new(rt.alloc(), hashing, &users, Limits::new(2, 8, 16)?, 2)?;
     let key = steps::user(rt.alloc(), "u1")?;
     using::load_by_each::<Brand, _, _>(&rt, rt.alloc(), &users, opening, &key)
 }
@@ -109,14 +114,14 @@ enum Row {
 }
 
 /// Makes the calls of a row on a loader over the users' tables.
-fn one_caller<R: Abort + Wait>(
+fn one_caller<R: Abort + Wait + RandomSource>(
     rt: &R,
     alloc: Global,
     limits: Limits,
     row: Row,
 ) -> Result<(), Fail> {
-    let users = tables(alloc, USERS)?;
-    let opening = Opening::new(alloc, &users, limits, 1)?;
+    let users = tables(rt, alloc, USERS)?;
+    let opening = Opening::new(alloc, RandomState::new(rt)?, &users, limits, 1)?;
     make_calls::<Brand, _, _>(rt, alloc, &users, opening, row)
 }
 

@@ -10,6 +10,7 @@ use crate::script::Input;
 use crate::script_text::run_script;
 use crate::settings::Options;
 use std::alloc::Global;
+use std::hash::RandomState;
 use std::io::{Read, Write};
 
 /// The most bytes that are read: one more than a document has.
@@ -19,13 +20,14 @@ const MOST_READ: usize = MOST_BYTES + 1;
 const BUFFER_BYTES: usize = 4096;
 
 /// Reads a document, and writes the text that it gives once all of it is made. A script has no use
-/// for the options.
+/// for the options. Keys are hashed by `hashing`, of which nothing is seen.
 ///
 /// # Errors
 /// `Read` where the reader fails, `Refused` where what it holds is no document, want of memory, and
 /// `Write` where the writer fails. Only after `Write` something may be written: a front of the text.
 pub fn run<R: Read, W: Write>(
     alloc: Global,
+    hashing: RandomState,
     reader: &mut R,
     writer: &mut W,
     _options: Options,
@@ -36,18 +38,18 @@ pub fn run<R: Read, W: Write>(
     ensures untouched { IfErr result (λ e. e ≢ RunError.Write → Keeps (W.contents writer.old) (W.contents writer.new)) }
 {
     let bytes = read_all(alloc, reader)?;
-    let text = output(alloc, &bytes)?;
+    let text = output(alloc, hashing, &bytes)?;
     write_all(writer, text.as_bytes())
 }
 
 /// The text that a document gives.
-fn output(alloc: Global, bytes: &[u8]) -> Result<String, RunError>
+fn output(alloc: Global, hashing: RandomState, bytes: &[u8]) -> Result<String, RunError>
     ensures ok { IfOk result (λ text. Answers bytes.now (string_bytes text)) }
     ensures err { IfErr result (IsRefused bytes.now) }
     ensures kept { IfErr result (λ e. e ≢ RunError.Write) }
 {
     match read_input(alloc, bytes) {
-        Ok(Input::Script(script)) => match run_script(alloc, &script) {
+        Ok(Input::Script(script)) => match run_script(alloc, hashing, &script) {
             Ok(text) => Ok(text),
             Err(_) => Err(RunError::OutOfMemory),
         },

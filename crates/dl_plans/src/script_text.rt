@@ -9,13 +9,19 @@ use crate::lines;
 use crate::script::{Script, ScriptCall};
 use dl_desk::Desk;
 use std::alloc::{AllocError, Global};
+use std::hash::RandomState;
 
 /// The text that a script gives: one desk answers its calls in order, each by the lines of its
-/// reply or of its refusal. The error is want of memory.
-pub fn run_script(alloc: Global, script: &Script) -> Result<String, AllocError>
+/// reply or of its refusal. The desk hashes keys by `hashing`, of which nothing is seen. The error is
+/// want of memory.
+pub fn run_script(
+    alloc: Global,
+    hashing: RandomState,
+    script: &Script,
+) -> Result<String, AllocError>
     ensures { IfOk result (λ text. string_bytes text ≡ script_text script.now) }
 {
-    let mut desk = Desk::new(alloc, script.limits);
+    let mut desk = Desk::new(alloc, hashing, script.limits);
     let mut out = String::new(alloc);
     'calls: for call in script.calls.as_slice() {
         push_answer(alloc, &mut out, &mut desk, call)?;

@@ -4,7 +4,9 @@ use dl_desk::{
     BatchState, Desk, DeskPrime, DeskReply, FetchKey, Job, KeyFault, LimitFault, Limits, LoadReply,
 };
 use std::alloc::Global;
+use std::hash::RandomState;
 use std::process::Abort;
+use std::random::RandomSource;
 use std::slice;
 use std::test::Fail;
 
@@ -95,8 +97,12 @@ fn send_both(alloc: Global, desk: &mut Desk) -> Result<(), Fail> {
 
 /// A desk of batches of one key, after two batches were sent, the second settled, the first failed,
 /// and their keys loaded again and sent: a is of batch 2 then, and b is held still.
-fn used_desk(alloc: Global) -> Result<Desk, Fail> {
-    let mut desk = Desk::new(alloc, Limits::new(1, 65_536, 65_536)?);
+fn used_desk(rt: &impl RandomSource, alloc: Global) -> Result<Desk, Fail> {
+    let mut desk = Desk::new(
+        alloc,
+        RandomState::new(rt)?,
+        Limits::new(1, 65_536, 65_536)?,
+    );
     send_both(alloc, &mut desk)?;
     desk.settle(1)?;
     desk.fail(0)?;
@@ -105,8 +111,12 @@ fn used_desk(alloc: Global) -> Result<Desk, Fail> {
 }
 
 /// The used desk, after a load of the key that was made ready and then committed.
-fn desk_with(rt: &impl Abort, alloc: Global, key: &FetchKey) -> Result<Desk, Fail> {
-    let mut desk = used_desk(alloc)?;
+fn desk_with(
+    rt: &(impl Abort + RandomSource),
+    alloc: Global,
+    key: &FetchKey,
+) -> Result<Desk, Fail> {
+    let mut desk = used_desk(rt, alloc)?;
     let ready = desk.ready_loads(alloc, slice::from_ref(key))?;
     assert_eq!(rt; desk.held(key), None);
     match desk.commit(ready) {
@@ -122,7 +132,7 @@ fn desk_with(rt: &impl Abort, alloc: Global, key: &FetchKey) -> Result<Desk, Fai
 
 #[test]
 fn batches_show_their_state(rt: HostRuntime) -> Result<(), Fail> {
-    let desk = used_desk(rt.alloc())?;
+    let desk = used_desk(&rt, rt.alloc())?;
     let states = [
         Some(BatchState::Failed),
         Some(BatchState::Settled),
@@ -137,7 +147,7 @@ fn batches_show_their_state(rt: HostRuntime) -> Result<(), Fail> {
 
 #[test]
 fn batches_show_their_members(rt: HostRuntime) -> Result<(), Fail> {
-    let desk = used_desk(rt.alloc())?;
+    let desk = used_desk(&rt, rt.alloc())?;
     let a = key(rt.alloc(), "a")?;
     assert_eq!(rt; desk.held(&a), Some(2));
     let batch = desk.batch(0).ok_or("the first batch is shown")?;
@@ -192,7 +202,11 @@ fn a_call_made_ready_is_seen_once_it_is_committed(rt: HostRuntime) -> Result<(),
 fn a_ready_call_that_is_not_committed_leaves_nothing(rt: HostRuntime) -> Result<(), Fail> {
     let alloc = rt.alloc();
     let (a, b) = (key(alloc, "a")?, key(alloc, "b")?);
-    let mut desk = Desk::new(alloc, Limits::new(2, 65_536, 65_536)?);
+    let mut desk = Desk::new(
+        alloc,
+        RandomState::new(&rt)?,
+        Limits::new(2, 65_536, 65_536)?,
+    );
     let _dropped = desk.ready_loads(alloc, &[a.try_copy()?])?;
     let reply = desk.load(alloc, &b)?;
     assert_eq!(rt; reply, LoadReply::Fresh { cell: 0, batch: 0 });
@@ -203,7 +217,11 @@ fn a_ready_call_that_is_not_committed_leaves_nothing(rt: HostRuntime) -> Result<
 #[test]
 fn a_copy_of_a_job_is_equal(rt: HostRuntime) -> Result<(), Fail> {
     let alloc = rt.alloc();
-    let mut desk = Desk::new(alloc, Limits::new(2, 65_536, 65_536)?);
+    let mut desk = Desk::new(
+        alloc,
+        RandomState::new(&rt)?,
+        Limits::new(2, 65_536, 65_536)?,
+    );
     desk.load(alloc, &key(alloc, "a")?)?;
     desk.load(alloc, &key(alloc, "b")?)?;
     let jobs: Vec<Job> = desk.dispatch(alloc)?;

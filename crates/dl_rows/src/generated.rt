@@ -7,6 +7,7 @@ use crate::reference::mixed;
 use dl_desk::{FetchKey, Keys, Limits};
 use dl_plans::{Calls, Script, ScriptCall, run_script};
 use std::alloc::Global;
+use std::hash::RandomState;
 use std::test::Fail;
 
 /// Numbers that look random, the same on each run.
@@ -93,7 +94,7 @@ fn the_desk_prints_what_the_reference_loader_prints(rt: HostRuntime) -> Result<(
         let mut numbers = Numbers { state: seed };
         let script = numbers.script(alloc)?;
         let want = lines_of(alloc, &mixed(script.limits), script.calls.as_slice())?;
-        let text = run_script(alloc, &script)?;
+        let text = run_script(alloc, RandomState::new(&rt)?, &script)?;
         assert_eq!(rt; text.as_str(), want.as_str(), "at seed {seed}");
     }
     Ok(())

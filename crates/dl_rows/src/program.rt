@@ -2,6 +2,7 @@
 
 use dl_plans::{Options, PlanFault, RunError, options, run};
 use std::alloc::Global;
+use std::hash::RandomState;
 use std::io::{self, ErrorKind, Read, Write};
 use std::test::Fail;
 
@@ -95,7 +96,13 @@ fn open(alloc: Global) -> Cut {
 fn a_document_is_answered(rt: HostRuntime) {
     let mut writer = open(rt.alloc());
     writer.most = 7;
-    let ran = run(rt.alloc(), &mut whole(), &mut writer, OPTIONS);
+    let ran = run(
+        rt.alloc(),
+        RandomState::new(&rt)?,
+        &mut whole(),
+        &mut writer,
+        OPTIONS,
+    );
     assert_eq!(rt; ran, Ok(()));
     assert_eq!(rt; writer.written.as_slice(), TEXT.as_bytes());
 }
@@ -111,7 +118,13 @@ fn a_reader_that_fails_leaves_nothing_written(rt: HostRuntime) {
         reader.good_reads = good_reads;
         reader.kind = kind;
         let mut writer = open(rt.alloc());
-        let ran = run(rt.alloc(), &mut reader, &mut writer, OPTIONS);
+        let ran = run(
+            rt.alloc(),
+            RandomState::new(&rt)?,
+            &mut reader,
+            &mut writer,
+            OPTIONS,
+        );
         assert_eq!(rt; ran, Err(RunError::Read), "after {good_reads} reads");
         assert!(rt; writer.written.is_empty());
     }
@@ -125,7 +138,13 @@ fn a_writer_that_fails_has_a_front(rt: HostRuntime) {
             writer.room = room;
             writer.most = 10;
             writer.fails = fails;
-            let ran = run(rt.alloc(), &mut whole(), &mut writer, OPTIONS);
+            let ran = run(
+                rt.alloc(),
+                RandomState::new(&rt)?,
+                &mut whole(),
+                &mut writer,
+                OPTIONS,
+            );
             assert_eq!(rt; ran, Err(RunError::Write), "after {room} bytes");
             assert_eq!(rt; writer.written.as_slice(), &TEXT.as_bytes()[..room]);
         }
@@ -136,7 +155,13 @@ fn a_writer_that_fails_has_a_front(rt: HostRuntime) {
 fn a_flush_that_fails_is_told(rt: HostRuntime) {
     let mut writer = open(rt.alloc());
     writer.flush_fails = true;
-    let ran = run(rt.alloc(), &mut whole(), &mut writer, OPTIONS);
+    let ran = run(
+        rt.alloc(),
+        RandomState::new(&rt)?,
+        &mut whole(),
+        &mut writer,
+        OPTIONS,
+    );
     assert_eq!(rt; ran, Err(RunError::Write));
     assert_eq!(rt; writer.written.as_slice(), TEXT.as_bytes());
 }
@@ -146,7 +171,13 @@ fn a_refused_document_leaves_nothing_written(rt: HostRuntime) {
     let mut reader = whole();
     reader.rest = &DOCUMENT.as_bytes()[1..];
     let mut writer = open(rt.alloc());
-    let ran = run(rt.alloc(), &mut reader, &mut writer, OPTIONS);
+    let ran = run(
+        rt.alloc(),
+        RandomState::new(&rt)?,
+        &mut reader,
+        &mut writer,
+        OPTIONS,
+    );
     assert_eq!(rt; ran, Err(RunError::Refused(PlanFault::NotJson)));
     assert!(rt; writer.written.is_empty());
 }

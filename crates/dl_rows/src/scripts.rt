@@ -3,6 +3,7 @@
 use dl_desk::LimitFault;
 use dl_plans::{Input, PlanFault, RunError, Script, read_input, run_script};
 use std::alloc::Global;
+use std::hash::RandomState;
 use std::test::Fail;
 
 /// A script whose batches of one key end in any order, and whose keys are then loaded again.
@@ -130,9 +131,10 @@ pub(crate) fn script(alloc: Global, document: &str) -> Result<Script, Fail> {
 
 #[test]
 fn a_script_gives_its_text(rt: HostRuntime) -> Result<(), Fail> {
+    let hashing = RandomState::new(&rt)?;
     for (about, document, want) in ROWS {
         let script = script(rt.alloc(), document)?;
-        let text = run_script(rt.alloc(), &script)?;
+        let text = run_script(rt.alloc(), hashing, &script)?;
         assert_eq!(rt; text.as_str(), want, "{about}");
     }
     Ok(())

@@ -5,6 +5,7 @@ use dl_fixtures::{USERS, outcome_text, tables};
 use dl_source::{BatchAnswer, Source, TEXT_BYTES, TableFault, Tables, fetch_job};
 use serde_json::Value;
 use std::alloc::{AllocError, Global};
+use std::hash::RandomState;
 use std::process::Abort;
 use std::test::Fail;
 
@@ -92,7 +93,7 @@ const ROWS: [Row; 5] = [
 #[test]
 fn keys_are_answered(rt: HostRuntime) -> Result<(), Fail> {
     for row in &ROWS {
-        let tables = tables(rt.alloc(), row.tables)?;
+        let tables = tables(&rt, rt.alloc(), row.tables)?;
         let answer = asked(rt.alloc(), &tables, row.table, row.ids)?;
         assert_eq!(rt; answer.as_str(), row.want, "{}", row.about);
     }
@@ -101,7 +102,7 @@ fn keys_are_answered(rt: HostRuntime) -> Result<(), Fail> {
 
 #[test]
 fn no_keys_have_no_outcomes(rt: HostRuntime) -> Result<(), Fail> {
-    let two = tables(rt.alloc(), TWO_BREAKS)?;
+    let two = tables(&rt, rt.alloc(), TWO_BREAKS)?;
     let BatchAnswer::Each(outcomes) = two.fetch(rt.alloc(), &[])? else {
         return Err("no keys break nothing".into());
     };
@@ -111,7 +112,7 @@ fn no_keys_have_no_outcomes(rt: HostRuntime) -> Result<(), Fail> {
 
 #[test]
 fn a_fetched_job_keeps_its_batch_and_keys(rt: HostRuntime) -> Result<(), Fail> {
-    let users = tables(rt.alloc(), USERS)?;
+    let users = tables(&rt, rt.alloc(), USERS)?;
     let job = job(rt.alloc(), 7, "user", &["u9"])?;
     let Ok(fetched) = fetch_job(rt.alloc(), &users, job) else {
         return Err("no memory".into());
@@ -125,7 +126,7 @@ fn a_fetched_job_keeps_its_batch_and_keys(rt: HostRuntime) -> Result<(), Fail> {
 
 #[test]
 fn a_fetched_job_gives_its_answer_away(rt: HostRuntime) -> Result<(), Fail> {
-    let users = tables(rt.alloc(), USERS)?;
+    let users = tables(&rt, rt.alloc(), USERS)?;
     let job = job(rt.alloc(), 7, "user", &["u9"])?;
     let Ok(fetched) = fetch_job(rt.alloc(), &users, job) else {
         return Err("no memory".into());
@@ -170,9 +171,10 @@ const REFUSED: [(&str, TableFault); 10] = [
 
 #[test]
 fn other_trees_are_refused(rt: HostRuntime) -> Result<(), Fail> {
+    let hashing = RandomState::new(&rt)?;
     for (text, want) in REFUSED {
         let value = Value::from_str(rt.alloc(), text)?;
-        let fault = Tables::from_value(rt.alloc(), &value).err();
+        let fault = Tables::from_value(rt.alloc(), hashing, &value).err();
         assert_eq!(rt; fault, Some(want), "{text}");
     }
     Ok(())
@@ -191,10 +193,11 @@ fn table_with_error(alloc: Global, length: usize) -> Result<Value, Fail> {
 #[test]
 fn takes_texts_up_to_their_limit(rt: HostRuntime) -> Result<(), Fail> {
     let alloc = rt.alloc();
+    let hashing = RandomState::new(&rt)?;
     assert_eq!(rt; TEXT_BYTES, 1_024);
-    let most = Tables::from_value(alloc, &table_with_error(alloc, 1_024)?)?;
+    let most = Tables::from_value(alloc, hashing, &table_with_error(alloc, 1_024)?)?;
     assert_eq!(rt; asked(alloc, &most, "t", &["a"])?.len(), 1_031);
-    let more = Tables::from_value(alloc, &table_with_error(alloc, 1_025)?);
+    let more = Tables::from_value(alloc, hashing, &table_with_error(alloc, 1_025)?);
     assert_eq!(rt; more.err(), Some(TableFault::TextTooLong));
     Ok(())
 }

@@ -16,6 +16,7 @@ use crate::listed::{Kind, ListedEntry, ListedTable};
 use indexmap::IndexSet;
 use serde_json::{Map, Value};
 use std::alloc::{AllocError, AllocFailed, Global};
+use std::hash::RandomState;
 
 /// The most bytes of the text of an error or a break.
 pub const TEXT_BYTES: usize = 1_024;
@@ -169,10 +170,14 @@ fn has_other_number(tables: &[ListedTable<'_>]) -> bool
 }
 
 /// Whether two tables have one name. The error is want of memory.
-pub(crate) fn repeats_name(alloc: Global, tables: &[ListedTable<'_>]) -> Result<bool, AllocError>
+pub(crate) fn repeats_name(
+    alloc: Global,
+    hashing: RandomState,
+    tables: &[ListedTable<'_>],
+) -> Result<bool, AllocError>
     ensures { IfOk result (λ b. b ≡ repeats tables.now) }
 {
-    let mut names = IndexSet::new(alloc);
+    let mut names = IndexSet::with_hasher(alloc, hashing);
     for table in tables {
         if !names.insert(table.name())? {
             return Ok(true);

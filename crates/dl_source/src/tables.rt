@@ -14,6 +14,7 @@ use dl_desk::{BatchAnswer, FetchKey, Json, Message, Outcome, Outcomes};
 use indexmap::IndexMap;
 use serde_json::Value;
 use std::alloc::{AllocError, Global};
+use std::hash::RandomState;
 use std::marker::Model;
 
 /// What a table lists under an id.
@@ -30,7 +31,7 @@ pub enum Entry {
 /// What one table lists. Contracts see the entries in the order in which they were added.
 #[derive(Drop)]
 pub(crate) struct Table {
-    entries: IndexMap<String, Entry>,
+    entries: IndexMap<String, Entry, RandomState>,
 }
 
 impl Model for Table {
@@ -47,7 +48,7 @@ impl Model for Table {
 /// document, and in each its rows, then its errors, then its breaks.
 #[derive(Drop)]
 pub struct Tables {
-    tables: IndexMap<String, Table>,
+    tables: IndexMap<String, Table, RandomState>,
     no_table: Message,
     no_row: Message,
 }
@@ -66,20 +67,24 @@ impl Model for Tables {
 }
 
 impl Table {
-    fn new(alloc: Global) -> Table
+    fn new(alloc: Global, hashing: RandomState) -> Table
         ensures { result ≡ [] }
     {
         Table {
-            entries: IndexMap::new(alloc),
+            entries: IndexMap::with_hasher(alloc, hashing),
         }
     }
 
     /// A table of these entries, or None where an id is listed twice. The error is want of memory.
-    fn copy_of(alloc: Global, entries: &[ListedEntry<'_>]) -> Result<Option<Table>, AllocError>
+    fn copy_of(
+        alloc: Global,
+        hashing: RandomState,
+        entries: &[ListedEntry<'_>],
+    ) -> Result<Option<Table>, AllocError>
         requires { list_any (λ e. is_not_whole e.1) entries.now ≡ false }
         ensures { IfOk result (λ t. t ≡ (if repeats entries.now then None else Some entries.now)) }
     {
-        let mut table = Table::new(alloc);
+        let mut table = Table::new(alloc, hashing);
         for listed in entries {
             let entry = listed.to_entry(alloc)?;
             if !table.add(alloc, listed.id(), entry)? {
@@ -114,12 +119,17 @@ impl Tables {
 
     /// The tables that a JSON value spells: a list of objects with the members `name` (a text),
     /// `rows` (a list of pairs of an id and any value) and, if wanted, `errors` and `breaks` (lists
-    /// of pairs of an id and a text). A pair is a list of two.
+    /// of pairs of an id and a text). A pair is a list of two. Names and ids are hashed by `hashing`, of which
+    /// nothing is seen.
     ///
     /// # Errors
     /// The first cause of [`TableFault`] that applies anywhere in the value, in its order, or want
     /// of memory.
-    pub fn from_value(alloc: Global, value: &Value) -> Result<Tables, TableFault>
+    pub fn from_value(
+        alloc: Global,
+        hashing: RandomState,
+        value: &Value,
+    ) -> Result<Tables, TableFault>
         ensures ok { IfOk result (Spells (view value.now)) }
         ensures passes { OnOk result ((f : TableFault) → Causes (view value.now) f → ⊥) }
         ensures err { IfErr result (RefusedFor (view value.now)) }
@@ -128,33 +138,37 @@ impl Tables {
         if let Some(fault) = content_fault(&listed) {
             return Err(fault);
         }
-        if repeats_name(alloc, &listed)? {
+        if repeats_name(alloc, hashing, &listed)? {
             return Err(TableFault::DuplicateTable);
         }
-        Tables::copy_of(alloc, &listed)
+        Tables::copy_of(alloc, hashing, &listed)
     }
 
     /// Copies of these tables, or the one fault that is found only now, that an id is listed twice.
-    fn copy_of(alloc: Global, listed: &[ListedTable<'_>]) -> Result<Tables, TableFault>
+    fn copy_of(
+        alloc: Global,
+        hashing: RandomState,
+        listed: &[ListedTable<'_>],
+    ) -> Result<Tables, TableFault>
         requires names { repeats listed.now ≡ false }
         requires whole { has_other_number listed.now ≡ false }
         ensures ok { IfOk result (λ t. (t ≡ listed.now) × (has_repeated_key listed.now ≡ false)) }
         ensures err { IfErr result (λ f. (f ≡ TableFault.OutOfMemory) ⊎ ((f ≡ TableFault.DuplicateKey) × (has_repeated_key listed.now ≡ true))) }
     {
-        let mut tables = Tables::new(alloc)?;
+        let mut tables = Tables::new(alloc, hashing)?;
         for table in listed {
-            let copy = Table::copy_of(alloc, table.entries())?;
+            let copy = Table::copy_of(alloc, hashing, table.entries())?;
             let copy = copy.ok_or(TableFault::DuplicateKey)?;
             tables.add(alloc, table.name(), copy)?;
         }
         Ok(tables)
     }
 
-    fn new(alloc: Global) -> Result<Tables, AllocError>
+    fn new(alloc: Global, hashing: RandomState) -> Result<Tables, AllocError>
         ensures { IfOk result (λ t. t ≡ []) }
     {
         Ok(Tables {
-            tables: IndexMap::new(alloc),
+            tables: IndexMap::with_hasher(alloc, hashing),
             no_table: Message::new(alloc, "no table")?,
             no_row: Message::new(alloc, "no row")?,
         })

@@ -2,6 +2,7 @@
 #![tactic(auto)]
 
 use dl_plans::{Options, RunError, options, run};
+use std::hash::RandomState;
 use std::process::ExitCode;
 use std::{env, io};
 
@@ -48,9 +49,20 @@ fn start(rt: &HostRuntime, words: &[String]) -> u8 {
     }
 }
 
-/// Answers the document, or says on standard error why not.
+/// Answers the document, or says on standard error why not. Its keys come from strangers, so they are hashed
+/// by random numbers of this run.
 fn answer(rt: &HostRuntime, options: Options) -> u8 {
-    match run(rt.alloc(), &mut rt.stdin(), &mut rt.stdout(), options) {
+    let Ok(hashing) = RandomState::new(rt) else {
+        let _ = eprintln!(rt; "failed: random numbers");
+        return FAILED;
+    };
+    match run(
+        rt.alloc(),
+        hashing,
+        &mut rt.stdin(),
+        &mut rt.stdout(),
+        options,
+    ) {
         Ok(()) => RAN,
         Err(error) => {
             let _ = eprintln!(rt; "{error}");

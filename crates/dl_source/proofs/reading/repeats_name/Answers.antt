@@ -5,7 +5,7 @@ use Rattle.dl_source.proofs.Repeats.{clashes_first, lists-names, found_again, go
 use Rattle.dl_source.proofs.reading.repeats_name.Goals as goal
 
 pub loop-table-init : goal.loop-table-init
-loop-table-init c = record { seen = ap (map (λ n. n.now)) c.new-names.ensures.empty; rest = clashes_first c.args.tables.now }
+loop-table-init c = record { seen = ap (map (λ n. n.now)) c.with_hasher-names.ensures.empty; rest = clashes_first c.args.tables.now }
 
 pub returns-then-not-branch : goal.returns-then-not-branch
 returns-then-not-branch c =

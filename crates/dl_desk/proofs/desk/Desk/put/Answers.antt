@@ -1,33 +1,64 @@
-use Rattle.std.proofs.Common.{◌≤◌, length, length-append, refl, arith}
-use Rattle.dl_desk.specs.Marks.{IsAdded}
+use Rattle.std.proofs.Common.{◌≡◌, ◌∙◌, ap, sym, Ok, None, Bool, ℕ, List, take, cond, map, slice_get, ◌≤◌, ◌++◌, ◌∷◌, [], length, length-append, refl, arith}
+use Rattle.std.specs.Map.{lookup}
+use Rattle.dl_desk.specs.Key.{Key, key_eq}
+use Rattle.dl_desk.specs.History.{has_member}
+use Rattle.dl_desk.specs.Book.{Batch}
+use Rattle.dl_desk.specs.Prepared.{whole, members_of, book_room}
 use Rattle.dl_desk.proofs.Marked.{desk_grown, desk_put}
-use Rattle.dl_desk.proofs.Prepares.{lookup-noted, put_batches, below_begun, memo_shown, batches_shown, same_book}
+use Rattle.dl_desk.proofs.Prepares.{lookup-noted, members-taken, length-begun, low_choice, put_batches, below_begun, memo_shown, batches_shown, same_book}
 use Rattle.dl_desk.proofs.desk.Desk.put.Goals as goal
 
-pub invariant_of-self-in_err-add : goal.invariant_of-self-in_err-add
-invariant_of-self-in_err-add c = desk_grown _ (length c.self.inside.memo.entries) _ _ _ _ _ c.self.inside.batches.items _ c.self.invariant c.in_err-add.ensures.err (rw (c.in_ok-note.ensures.ok, length-append) (let m = c.self.invariant.memo in omega arith))
+pub invariant_of-self-in_err-batch : goal.invariant_of-self-in_err-batch
+invariant_of-self-in_err-batch c = desk_grown _ (length c.self.inside.memo.entries) _ _ _ _ _ c.self.inside.batches.items _ c.self.invariant c.in_err-batch.ensures.err (rw (c.in_ok-held.ensures.noted (ap Ok c.in_default.is), length-append) (let m = c.self.invariant.memo in omega arith))
 
-added : (c : goal.After-self-5-1) → IsAdded c.self.inside.batches.items c.args.number (c.args.key.now, c.self.inside.prepared.cells) c.add.new.batches.items
-added c = rw c.in_ok-try_copy-2.ensures at c.in_ok-add.ensures.ok
+noted : (c : goal.After-self-4-1) → c.hold.new.memo.entries ≡ c.self.inside.memo.entries ++ (c.args.key.now, c.self.inside.prepared.cells) ∷ []
+noted c = rw c.in_ok-try_copy.ensures at (c.in_ok-held.ensures.noted (ap Ok c.in_default.is))
 
-next : (c : goal.After-self-5-1) → c.args.number ≤ c.self.inside.prepared.begun
-next c = below_begun _ _ _ _ _ _ c.self.invariant.prepared_book (rw (← c.self.view_is) at c.requires.number)
+not_held : (c : goal.After-self-4-1) → lookup (key_eq c.args.key.now) c.self.inside.memo.entries ≡ None
+not_held c = rw c.in_ok-try_copy.ensures at (sym c.in_ok-held.ensures.held ∙ c.in_default.is)
 
-pub invariant_of-self-2 : goal.invariant_of-self-2
-invariant_of-self-2 c = rw (c.max-self-inside.ensures, c.min-self-inside.ensures)
-    (desk_put _ (length c.self.inside.memo.entries) _ _ _ _ (c.args.key.now, c.self.inside.prepared.cells) c.self.inside.prepared _ c.self.inside.batches.items _ c.self.invariant (added c) (next c)
+newest_low : (c : goal.After-self-4-1) → c.newest-newest.result ≤ c.self.inside.prepared.begun
+newest_low c = below_begun _ _ _ _ _ _ c.self.invariant.prepared_book c.newest-newest.ensures.low
+
+next : (c : goal.After-self-4-1) → c.in_ok-batch.batch ≤ c.self.inside.prepared.begun
+next c = low_choice _ c.self.inside.prepared.begun c.newest-newest.result c.in_ok-batch.batch (newest_low c) c.in_ok-batch.ensures.number
+
+room : (c : goal.After-self-4-1) → c.in_ok-batch.batch ≡ book_room c.args.self.now.prepared c.args.key.now
+room c =
+    let inside = c.self.inside in
+    let batches : List Batch = map whole inside.batches.items in
+    let newest : ℕ = c.newest-newest.result in
+    let key : Key = c.args.key.now in
+    let has : List (Key × ℕ) → Bool = λ ms. has_member ms key in
+    let number : c.in_ok-batch.batch ≡ cond (has (members_of (slice_get batches newest))) inside.prepared.begun newest = c.in_ok-batch.ensures.number in
+    let taken = members-taken _ _ _ _ newest batches c.self.invariant.prepared_book (newest_low c) in
+    let begun = length-begun _ _ _ _ batches c.self.invariant.prepared_book in
+    let chosen : cond (has (members_of (slice_get (take inside.prepared.begun batches) newest))) (length (take inside.prepared.begun batches)) newest ≡ book_room c.args.self.now.prepared key = rw (← c.self.view_is) (c.newest-newest.ensures.room key) in
+    number
+    ∙ ap (λ ms. cond (has ms) inside.prepared.begun newest) (sym taken)
+    ∙ ap (λ n. cond (has (members_of (slice_get (take inside.prepared.begun batches) newest))) n newest) (sym begun)
+    ∙ chosen
+
+pub invariant_of-self-3 : goal.invariant_of-self-3
+invariant_of-self-3 c = rw (c.max-self-inside.ensures, c.min-self-inside.ensures)
+    (desk_put _ (length c.self.inside.memo.entries) _ _ _ _ (c.args.key.now, c.self.inside.prepared.cells) c.self.inside.prepared _ c.self.inside.batches.items _ c.self.invariant c.in_ok-batch.ensures.added (next c)
     (rw (← c.self.view_is) at c.requires.not_full)
-    (rw (c.in_ok-note.ensures.ok, length-append) (let m = c.self.invariant.memo in omega arith)))
+    (rw (noted c, length-append) (let m = c.self.invariant.memo in omega arith)))
 
 pub returns-clause-book : goal.returns-clause-book
-returns-clause-book c = rw (← c.self.view_is, c.in_ok-note.ensures.ok)
-    (same_book _ _ _ _ _ _ _ (memo_shown _ _ _ c.self.invariant.memo) (batches_shown _ _ _ _ _ _ c.self.inside.batches.items _ c.self.invariant.shown_book (added c)))
+returns-clause-book c = rw (← c.self.view_is, noted c)
+    (same_book _ _ _ _ _ _ _ (memo_shown _ _ _ c.self.invariant.memo) (batches_shown _ _ _ _ _ _ c.self.inside.batches.items _ c.self.invariant.shown_book c.in_ok-batch.ensures.added))
 
 pub returns-clause-put : goal.returns-clause-put
-returns-clause-put c = rw (← c.self.view_is, c.in_ok-note.ensures.ok, c.in_ok-try_copy.ensures, c.max-self-inside.ensures) (record {
-  rules = refl;
-  cells = refl;
-  sent = refl;
-  memo = λ q. lookup-noted c.self.inside.memo.entries c.args.key.now q c.self.inside.prepared.cells (rw (← c.self.view_is) at c.requires.not_held);
-  batches = put_batches _ _ _ _ _ _ c.self.inside.batches.items _ c.self.invariant.prepared_book (added c) (next c);
-})
+returns-clause-put c = (
+  rw (← c.self.view_is) (not_held c),
+  rw (← c.self.view_is) refl,
+  room c,
+  rw (← c.self.view_is, noted c, c.max-self-inside.ensures) (record {
+    rules = refl;
+    cells = refl;
+    sent = refl;
+    memo = λ q. lookup-noted c.self.inside.memo.entries c.args.key.now q c.self.inside.prepared.cells (not_held c);
+    batches = put_batches _ _ _ _ _ _ c.self.inside.batches.items _ c.self.invariant.prepared_book c.in_ok-batch.ensures.added (next c);
+  }),
+)

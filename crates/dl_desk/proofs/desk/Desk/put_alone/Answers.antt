@@ -1,12 +1,21 @@
-use Rattle.std.proofs.Common.{refl}
+use Rattle.std.proofs.Common.{◌≡◌, ◌∙◌, ap, sym, Ok, None, ◌++◌, ◌∷◌, [], refl}
+use Rattle.std.specs.Map.{lookup}
+use Rattle.dl_desk.specs.Key.{key_eq}
 use Rattle.dl_desk.proofs.Prepares.{lookup-noted}
 use Rattle.dl_desk.proofs.desk.Desk.put_alone.Goals as goal
 
 pub returns-clause-put : goal.returns-clause-put
-returns-clause-put c = rw (← c.self.view_is, c.in_ok-note.ensures.ok, c.in_ok-try_copy.ensures) (record {
-  rules = refl;
-  cells = refl;
-  sent = refl;
-  memo = λ q. lookup-noted c.self.inside.memo.entries c.args.key.now q c.self.inside.prepared.cells (rw (← c.self.view_is) at c.requires.not_held);
-  batches = refl;
-})
+returns-clause-put c =
+    let none = c.in_default.is in
+    let noted = rw c.in_ok-try_copy.ensures at (c.in_ok-hold.ensures.noted (ap Ok none)) in
+    let not_held : lookup (key_eq c.args.key.now) c.self.inside.memo.entries ≡ None = rw c.in_ok-try_copy.ensures at (sym c.in_ok-hold.ensures.held ∙ none) in (
+      rw (← c.self.view_is) not_held,
+      rw (← c.self.view_is) refl,
+      rw (← c.self.view_is, noted) (record {
+        rules = refl;
+        cells = refl;
+        sent = refl;
+        memo = λ q. lookup-noted c.self.inside.memo.entries c.args.key.now q c.self.inside.prepared.cells not_held;
+        batches = refl;
+      }),
+    )
