@@ -1,0 +1,5 @@
+mod Options
+mod Kept
+mod Settled
+mod Ruled
+mod Risen

@@ -1,2 +1,6 @@
 pub mod Tree
 pub mod View
+pub mod Gives
+pub mod Relation
+pub mod Rounds
+pub mod Laws

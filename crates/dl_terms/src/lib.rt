@@ -7,6 +7,7 @@
 #![tactic(auto)]
 
 mod answer;
+pub mod laws;
 mod term;
 
 pub use answer::{Answer, EvalFault};
