@@ -3,3 +3,7 @@ mod Kept
 mod Settled
 mod Ruled
 mod Risen
+mod Views
+mod Reduced
+mod Whole
+mod Gathered

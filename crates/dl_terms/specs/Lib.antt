@@ -3,4 +3,6 @@ pub mod View
 pub mod Gives
 pub mod Relation
 pub mod Rounds
+pub mod Node
+pub mod Reduces
 pub mod Laws

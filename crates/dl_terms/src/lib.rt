@@ -7,8 +7,14 @@
 #![tactic(auto)]
 
 mod answer;
+mod exploring;
 pub mod laws;
+mod node;
+mod target;
 mod term;
 
 pub use answer::{Answer, EvalFault};
+pub use exploring::explore;
+pub use node::{Node, plan};
+pub use target::{Known, Wanted};
 pub use term::Term;
