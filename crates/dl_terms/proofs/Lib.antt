@@ -1,9 +1,10 @@
-mod Options
-mod Kept
-mod Settled
+pub mod Options
+pub mod Kept
+pub mod Settled
 mod Ruled
 mod Risen
 mod Views
-mod Reduced
+pub mod Reduced
 mod Whole
 mod Gathered
+pub mod Awaited

@@ -1,8 +1,11 @@
 -- The laws of what terms give.
-use Rattle.std.specs.Prelude.{◌≡◌, ℕ, ◌≤◌, ◌↔◌, []}
+use Rattle.std.specs.Prelude.{◌≡◌, ℕ, ◌≤◌, ◌↔◌, [], None, All}
+use Rattle.std.specs.List.{IsDistinct}
+use Rattle.indexmap.specs.IndexSet.{insert_all}
+use Rattle.dl_desk.specs.Key.{key_eq}
 use Rattle.dl_terms.specs.declared.answer.Answer.{Answer}
 use Rattle.dl_terms.specs.Tree.{Tree, depth_of}
-use Rattle.dl_terms.specs.Gives.{Pairs, gives, frontier}
+use Rattle.dl_terms.specs.Gives.{Pairs, outcome_in, waits, gives, frontier}
 use Rattle.dl_terms.specs.Relation.{Gives}
 use Rattle.dl_terms.specs.Rounds.{Gains, GainsFrontier, PartOf}
 
@@ -25,3 +28,15 @@ GivesByDepth = (t s : Tree) (r : ℕ) (p q : Pairs) → GainsFrontier t r p q �
 -- what is computed is what the rules give
 abbrev pub GivesByRules : Type 0
 GivesByRules = (t : Tree) (p : Pairs) (a : Answer) → Gives p t a ↔ gives t p a
+
+-- the keys that it waits for have no outcome yet
+abbrev pub WaitsForUnknown : Type 0
+WaitsForUnknown = (t : Tree) (p : Pairs) → All (λ k. outcome_in p k ≡ None) (frontier t p)
+
+-- and each of them stands there once
+abbrev pub WaitsOnce : Type 0
+WaitsOnce = (t : Tree) (p : Pairs) → IsDistinct key_eq (frontier t p)
+
+-- a round that begins with no wanted keys leaves exactly those that the term waits for
+abbrev pub WantsFrontier : Type 0
+WantsFrontier = (t : Tree) (p : Pairs) → insert_all key_eq [] (waits (outcome_in p) t) ≡ frontier t p

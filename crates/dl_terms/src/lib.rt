@@ -10,6 +10,8 @@ mod answer;
 mod exploring;
 pub mod laws;
 mod node;
+#[cfg(test)]
+mod rounds;
 mod target;
 mod term;
 

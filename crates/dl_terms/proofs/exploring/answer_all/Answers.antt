@@ -1,10 +1,11 @@
-use Rattle.std.proofs.Common.{◌≡◌, ◌∙◌, ◌++◌, ◌∷◌, [], false, length, Option, Some, None, ap, sym, subst, arith}
+use Rattle.std.proofs.Common.{List, ◌≡◌, ◌∙◌, ◌++◌, ◌∷◌, [], false, length, Option, Some, None, ap, sym, subst, arith}
 use Rattle.std.specs.Prelude.{IsSome}
 use Rattle.std.specs.Option.{option_map}
 use Rattle.std.specs.Vec.Iter.{into_iter_items}
 use Rattle.std.proofs.lemmas.List.{append-nil, nil_from_length}
 use Rattle.serde_json.specs.View.{items_view}
 use Rattle.serde_json.specs.Written.{has_float, items_have_float}
+use Rattle.serde_json.specs.declared.value.Value.{Value as Json}
 use Rattle.serde_json.proofs.Views.{view-Array}
 use Rattle.dl_terms.specs.declared.answer.Answer.{Answer}
 use Rattle.dl_terms.specs.declared.answer.Answer.TheVariants.{Value, Fault}
@@ -20,15 +21,15 @@ loop-part-preserved c =
     let steps = c.in-Some.ensures.steps in
     let is : result_of (node_view c.in-Some.part) ≡ Some (Value c.in-Some-Value.value) = sym {A = Option Answer} (rw c.in-Some-Value.field-0-is at c.in-Some-Value.ensures) in
     let moved = c.in_ok-into_value-in-Some-Value.ensures in
-    let pushed = c.in_ok-push-in-Some-Value.ensures.items in
     let values = c.loop-part.values.items in
     let value = c.in_ok-into_value-in-Some-Value.field-0 in
+    let pushed : c.push.new.self.items ≡ values ++ (value ∷ []) = c.in_ok-push-in-Some-Value.ensures.items in
     let fewer : length (into_iter_items c.loop-part.part-iterator) ≡ length (c.in-Some.part ∷ into_iter_items c.next.new.self) = ap length steps.0 in
     record {
       left = left_next c.args.parts.items c.loop-part.yielded (into_iter_items c.loop-part.part-iterator) (into_iter_items c.next.new.self) c.in-Some.part h.left steps.0;
       long = omega (arith, steps.1, h.long, fewer);
       values = values_next c.loop-part.yielded values c.push.new.self.items c.in-Some.part value h.values (is ∙ ap (λ d. Some (Value d)) (sym moved)) pushed;
-      whole = subst (λ vs. items_have_float (items_view vs) ≡ false) (sym pushed) (items_whole values value h.whole (ap has_float moved ∙ c.value-whole.ensures.whole));
+      whole = subst (λ vs. items_have_float (items_view vs) ≡ false) (sym {A = List Json} pushed) (items_whole values value h.whole (ap has_float moved ∙ c.value-whole.ensures.whole));
     }
 
 pub returns-in-Some-Fault : goal.returns-in-Some-Fault
