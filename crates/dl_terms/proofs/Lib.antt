@@ -1,0 +1,10 @@
+pub mod Options
+pub mod Kept
+pub mod Settled
+mod Ruled
+mod Risen
+mod Views
+pub mod Reduced
+mod Whole
+mod Gathered
+pub mod Awaited

@@ -1,0 +1,30 @@
+use Rattle.std.proofs.Common.{refl, subst}
+use Rattle.std.specs.List.{AllZip}
+use Rattle.std.proofs.lemmas.List.{take_all}
+use Rattle.serde_json.specs.View.{view, items_view}
+use Rattle.dl_terms.specs.Gives.{value_target, item_targets, target_waits, each_target_waits}
+use Rattle.dl_terms.specs.Node.{node_view}
+use Rattle.dl_terms.specs.Reduces.{known_of, LoadsTarget}
+use Rattle.dl_terms.proofs.Reduced.{ids_load, zip_next, wanted_next}
+use Rattle.dl_terms.proofs.target.load_ids.Goals as goal
+
+pub loop-id-preserved : goal.loop-id-preserved
+loop-id-preserved c =
+    let p = known_of c.args.known.now in
+    let table = c.args.table.now in
+    let ids = c.args.ids.now in
+    let i = c.loop-id.id-index in
+    record {
+      stand = zip_next ids i c.id-item.result c.loop-id-test.true c.id-item.is (λ v n. LoadsTarget p (value_target table (view v)) (node_view n)) c.loop-id.nodes.items c.push.new.self.items c.in_ok-load_id.field-0
+          c.in_ok-push.ensures.items c.loop-id.invariant.stand c.in_ok-load_id.ensures.stands;
+      wanted = wanted_next ids i c.id-item.result c.loop-id-test.true c.id-item.is (λ v. target_waits p (value_target table (view v))) (λ vs. each_target_waits p (item_targets table (items_view vs))) (λ rest. refl)
+          c.loop-id.wanted.keys c.load_id.new.wanted.keys _ c.loop-id.invariant.wanted c.in_ok-load_id.ensures.wanted;
+    }
+
+pub returns-clause-stand : goal.returns-clause-stand
+returns-clause-stand c =
+    let p = known_of c.args.known.now in
+    let table = c.args.table.now in
+    let ids = c.args.ids.now in
+    ids_load p table ids c.loop-id.nodes.items
+    (subst (λ vs. AllZip (λ v n. LoadsTarget p (value_target table (view v)) (node_view n)) vs c.loop-id.nodes.items) (take_all c.loop-id.id-index ids c.loop-id-test.false) c.loop-id.invariant.stand)

@@ -1,0 +1,195 @@
+-- What a term gives, and which keys it waits for, where some keys have their outcomes (Haxl: a
+-- computation is `Done` with an answer or `Blocked` on its fetches).
+use Rattle.std.specs.Prelude.{◌≡◌, ℕ, List, [], ◌∷◌, ◌++◌, filter, not, length, Bool, ◌&&◌, nat_le, nat_lt, Option, Some, None, option_map, option_and_then, if◌then◌else◌}
+use Rattle.serde_json.specs.Data.{Data, array, Items, no_items, item}
+use Rattle.serde_json.specs.Find.{get, as_str, as_array}
+use Rattle.dl_desk.specs.Key.{Key, key_eq}
+use Rattle.dl_desk.specs.declared.outcome.Outcome.{Outcome}
+use Rattle.dl_desk.specs.declared.outcome.Outcome.TheVariants as outcome
+use Rattle.dl_terms.specs.declared.answer.Answer.{Answer}
+use Rattle.dl_terms.specs.declared.answer.Answer.TheVariants.{Value, Fault}
+use Rattle.dl_terms.specs.declared.answer.EvalFault.{EvalFault}
+use Rattle.dl_terms.specs.declared.answer.EvalFault.TheVariants as why
+use Rattle.dl_terms.specs.Tree.{Name, Tree, ended, load, pick, follow, each, all, Trees, no_trees, tree}
+
+-- pairs of a key and its outcome; of two pairs of one key the first counts
+abbrev pub Pairs : Type 0
+Pairs = List (Key × Outcome)
+
+abbrev pub outcome_in : Pairs → Key → Option Outcome
+outcome_in [] k = None
+outcome_in (p ∷ ps) k = if key_eq k p.0 then Some p.1 else outcome_in ps k
+
+-- ---- one step of each form
+
+-- what a load of k answers
+abbrev pub loaded : Key → Outcome → Answer
+loaded k (outcome.Value d) = Value d
+loaded k (outcome.KeyError text) = Fault (why.Key k text)
+loaded k (outcome.BatchFailed fault) = Fault (why.Batch k fault)
+
+-- the field of a value, if it has one
+abbrev pub field_or : Option Data → Answer
+field_or None = Fault why.NoField
+field_or (Some d) = Value d
+
+-- a pick of what its part answers
+abbrev pub picked : Name → Answer → Answer
+picked field (Value d) = field_or (get field d)
+picked field (Fault f) = Fault f
+
+-- a key to load, or the fault in its place
+pub data Target : Type 0 where
+  key : Key → Target
+  none : EvalFault → Target
+
+-- the texts have the lengths of a key's
+abbrev pub is_key : Name → Name → Bool
+is_key table id = nat_le 1 (length table) && nat_le (length table) 64 && nat_le 1 (length id) && nat_le (length id) 128
+
+abbrev pub id_target : Name → Option (List ℕ) → Target
+id_target table None = Target.none why.NotAKey
+id_target table (Some id) = if is_key table id then Target.key (record { table = table; id = id }) else Target.none why.NotAKey
+
+-- the key that a value names in a table: a text is an id
+abbrev pub value_target : Name → Data → Target
+value_target table d = id_target table (as_str d)
+
+abbrev pub target_in : Name → Answer → Target
+target_in table (Value d) = value_target table d
+target_in table (Fault f) = Target.none f
+
+-- keys to load, or the fault in their place
+pub data Targets : Type 0 where
+  keys : List Target → Targets
+  none : EvalFault → Targets
+
+abbrev pub item_targets : Name → Items → List Target
+item_targets table no_items = []
+item_targets table (item d ds) = value_target table d ∷ item_targets table ds
+
+abbrev pub few : List Target → Targets
+few xs = if nat_lt 1024 (length xs) then Targets.none why.TooMany else Targets.keys xs
+
+abbrev pub list_targets : Name → Option Items → Targets
+list_targets table None = Targets.none why.NotAList
+list_targets table (Some ds) = few (item_targets table ds)
+
+-- the keys that the items of a list name in a table
+abbrev pub targets_in : Name → Answer → Targets
+targets_in table (Value d) = list_targets table (as_array d)
+targets_in table (Fault f) = Targets.none f
+
+-- the values of all parts, or the leftmost fault
+pub data Gathered : Type 0 where
+  values : Items → Gathered
+  fault : EvalFault → Gathered
+
+abbrev pub with_first : Data → Gathered → Gathered
+with_first d (Gathered.values ds) = Gathered.values (item d ds)
+with_first d (Gathered.fault f) = Gathered.fault f
+
+abbrev pub before_all : Answer → Gathered → Gathered
+before_all (Value d) g = with_first d g
+before_all (Fault f) g = Gathered.fault f
+
+abbrev pub gather : List Answer → Gathered
+gather [] = Gathered.values no_items
+gather (a ∷ rest) = before_all a (gather rest)
+
+abbrev pub ended_as : Gathered → Answer
+ended_as (Gathered.values ds) = Value (array ds)
+ended_as (Gathered.fault f) = Fault f
+
+-- what parts answer together: the list of their values, or the leftmost fault
+abbrev pub gathered : List Answer → Answer
+gathered xs = ended_as (gather xs)
+
+abbrev pub both : {A : Type 0} → Option A → Option (List A) → Option (List A)
+both None rest = None
+both (Some a) rest = option_map (λ xs. a ∷ xs) rest
+
+abbrev pub load_waits_for : Key → Option Outcome → List Key
+load_waits_for k None = k ∷ []
+load_waits_for k (Some o) = []
+
+-- what comes after a part waits for nothing while the part waits
+abbrev pub waits_after : Option Answer → (Answer → List Key) → List Key
+waits_after None next = []
+waits_after (Some a) next = next a
+
+-- ---- what a term answers, where `known` says the outcome of each key that has one
+
+module _ (known : Key → Option Outcome) where
+  abbrev pub load_answer : Key → Option Answer
+  load_answer k = option_map (loaded k) (known k)
+
+  abbrev pub target_answer : Target → Option Answer
+  target_answer (Target.key k) = load_answer k
+  target_answer (Target.none f) = Some (Fault f)
+
+  abbrev pub target_answers : List Target → Option (List Answer)
+  target_answers [] = Some []
+  target_answers (x ∷ xs) = both (target_answer x) (target_answers xs)
+
+  abbrev pub targets_answer : Targets → Option Answer
+  targets_answer (Targets.keys xs) = option_map gathered (target_answers xs)
+  targets_answer (Targets.none f) = Some (Fault f)
+
+  abbrev mutual
+    pub answer : Tree → Option Answer
+    answer (ended a) = Some a
+    answer (load k) = load_answer k
+    answer (pick t field) = option_map (picked field) (answer t)
+    answer (follow t field table) = option_and_then (λ a. target_answer (target_in table (picked field a))) (answer t)
+    answer (each t field table) = option_and_then (λ a. targets_answer (targets_in table (picked field a))) (answer t)
+    answer (all ts) = option_map gathered (answers ts)
+
+    pub answers : Trees → Option (List Answer)
+    answers no_trees = Some []
+    answers (tree t ts) = both (answer t) (answers ts)
+
+  -- ---- the keys of the loads that wait, left to right, as often as they stand there
+
+  abbrev pub load_waits : Key → List Key
+  load_waits k = load_waits_for k (known k)
+
+  abbrev pub target_waits : Target → List Key
+  target_waits (Target.key k) = load_waits k
+  target_waits (Target.none f) = []
+
+  abbrev pub each_target_waits : List Target → List Key
+  each_target_waits [] = []
+  each_target_waits (x ∷ xs) = target_waits x ++ each_target_waits xs
+
+  abbrev pub targets_waits : Targets → List Key
+  targets_waits (Targets.keys xs) = each_target_waits xs
+  targets_waits (Targets.none f) = []
+
+  abbrev mutual
+    pub waits : Tree → List Key
+    waits (ended a) = []
+    waits (load k) = load_waits k
+    waits (pick t field) = waits t
+    waits (follow t field table) = waits t ++ waits_after (answer t) (λ a. target_waits (target_in table (picked field a)))
+    waits (each t field table) = waits t ++ waits_after (answer t) (λ a. targets_waits (targets_in table (picked field a)))
+    waits (all ts) = all_wait ts
+
+    pub all_wait : Trees → List Key
+    all_wait no_trees = []
+    all_wait (tree t ts) = waits t ++ all_wait ts
+
+-- each key once, at its first place
+abbrev pub firsts : List Key → List Key
+firsts [] = []
+firsts (k ∷ ks) = k ∷ filter (λ q. not (key_eq k q)) (firsts ks)
+
+-- ---- in the words of pairs
+
+-- the term gives the answer
+abbrev pub gives : Tree → Pairs → Answer → Type 0
+gives t ps a = answer (outcome_in ps) t ≡ Some a
+
+-- the keys that the term waits for
+abbrev pub frontier : Tree → Pairs → List Key
+frontier t ps = firsts (waits (outcome_in ps) t)

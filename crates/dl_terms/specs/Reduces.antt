@@ -1,0 +1,65 @@
+-- What a round makes of a term: a tree that stands for it from then on.
+use Rattle.std.specs.Prelude.{◌≡◌, List, Option, Some, None, MatchOption, option_map}
+use Rattle.std.specs.Borrow.{Bor}
+use Rattle.indexmap.specs.IndexMap.{IndexMap, get}
+use Rattle.dl_desk.specs.Key.{Key, key_eq}
+use Rattle.dl_desk.specs.declared.outcome.Outcome.{Outcome}
+use Rattle.dl_terms.specs.declared.answer.Answer.{Answer}
+use Rattle.dl_terms.specs.declared.answer.EvalFault.TheVariants as why
+use Rattle.dl_terms.specs.Tree.{Name, Tree, ended, pick, follow, each, all, Trees}
+use Rattle.dl_terms.specs.Gives.{answer, answers, waits, all_wait, picked, gathered, Target, target_in, target_answer, target_answers, target_waits, each_target_waits, Targets, targets_in, targets_answer, targets_waits}
+use Rattle.dl_terms.specs.Rounds.{KnowsMore}
+use Rattle.dl_terms.specs.Node.{result_of, results_of}
+
+-- the outcome of each key that is in the map
+abbrev pub known_of : {S : Type 0} → IndexMap Key (Bor Outcome) S → Key → Option Outcome
+known_of m k = option_map (λ o. o.now) (get key_eq m k)
+
+-- Wherever p and more is known, the tree u answers and waits as is said; where p suffices for the
+-- answer, u is that answer.
+pub record Stands (p : Key → Option Outcome) (says : (Key → Option Outcome) → Option Answer) (lacks : (Key → Option Outcome) → List Key) (u : Tree) : Type 0 where
+  pub meaning : (q : Key → Option Outcome) → KnowsMore p q → answer q u ≡ says q
+  pub waiting : (q : Key → Option Outcome) → KnowsMore p q → waits q u ≡ lacks q
+  pub ending : result_of u ≡ says p
+
+-- the same of several trees
+pub record StandAll (p : Key → Option Outcome) (say : (Key → Option Outcome) → Option (List Answer)) (lack : (Key → Option Outcome) → List Key) (us : Trees) : Type 0 where
+  pub meaning : (q : Key → Option Outcome) → KnowsMore p q → answers q us ≡ say q
+  pub waiting : (q : Key → Option Outcome) → KnowsMore p q → all_wait q us ≡ lack q
+  pub ending : results_of us ≡ say p
+
+-- u stands for the tree t
+abbrev pub Reduces : (Key → Option Outcome) → Tree → Tree → Type 0
+Reduces p t u = Stands p (λ q. answer q t) (λ q. waits q t) u
+
+abbrev pub ReduceAll : (Key → Option Outcome) → Trees → Trees → Type 0
+ReduceAll p ts us = StandAll p (λ q. answers q ts) (λ q. all_wait q ts) us
+
+-- u stands for the load of a target, or of several
+abbrev pub LoadsTarget : (Key → Option Outcome) → Target → Tree → Type 0
+LoadsTarget p x u = Stands p (λ q. target_answer q x) (λ q. target_waits q x) u
+
+abbrev pub LoadsEach : (Key → Option Outcome) → List Target → Trees → Type 0
+LoadsEach p xs us = StandAll p (λ q. target_answers q xs) (λ q. each_target_waits q xs) us
+
+abbrev pub LoadsTargets : (Key → Option Outcome) → Targets → Tree → Type 0
+LoadsTargets p x u = Stands p (λ q. targets_answer q x) (λ q. targets_waits q x) u
+
+-- u is the pick, follow, each or all of parts that a round has just left as v or vs: what comes of
+-- them where they have ended, and else the same form over them
+abbrev pub PicksOn : Tree → Name → Tree → Type 0
+PicksOn v field u = MatchOption (result_of v) (u ≡ pick v field) (λ a. u ≡ ended (picked field a))
+
+abbrev pub FollowsOn : (Key → Option Outcome) → Tree → Name → Name → Tree → Type 0
+FollowsOn p v field table u = MatchOption (result_of v) (u ≡ follow v field table) (λ a. LoadsTarget p (target_in table (picked field a)) u)
+
+abbrev pub EachOn : (Key → Option Outcome) → Tree → Name → Name → Tree → Type 0
+EachOn p v field table u = MatchOption (result_of v) (u ≡ each v field table) (λ a. LoadsTargets p (targets_in table (picked field a)) u)
+
+abbrev pub GathersOn : Trees → Tree → Type 0
+GathersOn vs u = MatchOption (results_of vs) (u ≡ all vs) (λ ls. u ≡ ended (gathered ls))
+
+-- the target of an id in a table, where it is a key
+abbrev pub target_of : Option Key → Target
+target_of None = Target.none why.NotAKey
+target_of (Some k) = Target.key k

@@ -1,0 +1,116 @@
+//! The loads that a term makes of values and keys.
+
+ghost use Rattle.std.specs.Prelude.{◌≡◌, IfOk, OnOk, map};
+ghost use Rattle.serde_json.specs.View.{view, items_view};
+ghost use Rattle.dl_desk.specs.Key.{key_eq};
+ghost use Rattle.indexmap.specs.IndexSet.{insert_all};
+ghost use Rattle.dl_terms.specs.Gives.{loaded, value_target, target_waits, item_targets, each_target_waits, load_waits, Target};
+ghost use Rattle.dl_terms.specs.Node.{node_view, nodes_view};
+ghost use Rattle.dl_terms.specs.Reduces.{known_of, LoadsTarget, LoadsEach, target_of};
+
+use crate::answer::{Answer, EvalFault};
+use crate::node::Node;
+use dl_desk::{FetchKey, KeyFault, Outcome, Text};
+use indexmap::{IndexMap, IndexSet};
+use serde_json::Value;
+use std::alloc::{AllocError, Global};
+
+/// The outcomes that a run of a term has learned, where they stand.
+pub type Known<'l> = IndexMap<FetchKey, &'l Outcome>;
+
+/// The keys that a run of a term waits for, each at its first place.
+pub type Wanted = IndexSet<FetchKey>;
+
+/// What a load of the key answers.
+fn loaded(key: FetchKey, outcome: &Outcome) -> Result<Answer, AllocError>
+    ensures { IfOk result (λ a. a ≡ loaded key outcome.now) }
+{
+    match outcome {
+        Outcome::Value(value) => Ok(Answer::Value(value.try_copy()?)),
+        Outcome::KeyError(text) => {
+            let text = text.try_copy()?;
+            Ok(Answer::Fault(EvalFault::Key { key, text }))
+        }
+        Outcome::BatchFailed(fault) => {
+            let fault = fault.try_copy()?;
+            Ok(Answer::Fault(EvalFault::Batch { key, fault }))
+        }
+    }
+}
+
+/// The load of a key: its answer, if the key has an outcome, and else the key is wanted.
+pub(crate) fn load(
+    key: FetchKey,
+    known: &Known<'_>,
+    wanted: &mut Wanted,
+) -> Result<Node, AllocError>
+    ensures stands { IfOk result (λ n. LoadsTarget (known_of known.now) (Target.key key) (node_view n)) }
+    ensures wanted { OnOk result (wanted.new.keys
+        ≡ insert_all key_eq wanted.old.keys (load_waits (known_of known.now) key)) }
+{
+    match known.get(&key) {
+        Some(outcome) => Ok(Node::Done(loaded(key, outcome)?)),
+        None => {
+            wanted.insert(key.try_copy()?)?;
+            Ok(Node::Load(key))
+        }
+    }
+}
+
+/// The key that a value names in a table, if it is an id.
+fn key_in(alloc: Global, table: &Text, id: &Value) -> Result<Option<FetchKey>, AllocError>
+    ensures { IfOk result (λ k. target_of k ≡ value_target table.now (view id.now)) }
+{
+    match id.as_str() {
+        None => Ok(None),
+        Some(id) => match FetchKey::new(alloc, table.as_str(), id) {
+            Ok(key) => Ok(Some(key)),
+            Err(KeyFault::OutOfMemory) => Err(AllocError),
+            Err(
+                KeyFault::EmptyTable
+                | KeyFault::TableTooLong
+                | KeyFault::EmptyId
+                | KeyFault::IdTooLong,
+            ) => Ok(None),
+        },
+    }
+}
+
+/// The load of the id that a value is in a table.
+pub(crate) fn load_id(
+    alloc: Global,
+    table: &Text,
+    id: &Value,
+    known: &Known<'_>,
+    wanted: &mut Wanted,
+) -> Result<Node, AllocError>
+    ensures stands { IfOk result (λ n.
+        LoadsTarget (known_of known.now) (value_target table.now (view id.now)) (node_view n)) }
+    ensures wanted { OnOk result (wanted.new.keys ≡ insert_all key_eq wanted.old.keys
+        (target_waits (known_of known.now) (value_target table.now (view id.now)))) }
+{
+    match key_in(alloc, table, id)? {
+        Some(key) => load(key, known, wanted),
+        None => Ok(Node::Done(Answer::Fault(EvalFault::NotAKey))),
+    }
+}
+
+/// The loads of the ids that values are in a table.
+pub(crate) fn load_ids(
+    alloc: Global,
+    table: &Text,
+    ids: &[Value],
+    known: &Known<'_>,
+    wanted: &mut Wanted,
+) -> Result<Vec<Node>, AllocError>
+    ensures stand { IfOk result (λ ns.
+        LoadsEach (known_of known.now) (item_targets table.now (items_view ids.now)) (nodes_view ns.items)) }
+    ensures wanted { OnOk result (wanted.new.keys ≡ insert_all key_eq wanted.old.keys
+        (each_target_waits (known_of known.now) (item_targets table.now (items_view ids.now)))) }
+{
+    let mut nodes = Vec::with_capacity(alloc, ids.len())?;
+    for id in ids {
+        nodes.push(load_id(alloc, table, id, known, wanted)?)?;
+    }
+    Ok(nodes)
+}
