@@ -18,3 +18,5 @@ mod reference;
 mod scripts;
 #[cfg(test)]
 mod source;
+#[cfg(test)]
+mod terms;

@@ -10,8 +10,6 @@ mod answer;
 mod exploring;
 pub mod laws;
 mod node;
-#[cfg(test)]
-mod rounds;
 mod target;
 mod term;
 

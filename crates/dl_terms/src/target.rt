@@ -14,12 +14,13 @@ use dl_desk::{FetchKey, KeyFault, Outcome, Text};
 use indexmap::{IndexMap, IndexSet};
 use serde_json::Value;
 use std::alloc::{AllocError, Global};
+use std::hash::RandomState;
 
 /// The outcomes that a run of a term has learned, where they stand.
-pub type Known<'l> = IndexMap<FetchKey, &'l Outcome>;
+pub type Known<'l> = IndexMap<FetchKey, &'l Outcome, RandomState>;
 
 /// The keys that a run of a term waits for, each at its first place.
-pub type Wanted = IndexSet<FetchKey>;
+pub type Wanted = IndexSet<FetchKey, RandomState>;
 
 /// What a load of the key answers.
 fn loaded(key: FetchKey, outcome: &Outcome) -> Result<Answer, AllocError>

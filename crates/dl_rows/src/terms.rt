@@ -1,10 +1,11 @@
 //! Terms over users, round by round.
 
-use crate::{Answer, Known, Node, Term, Wanted, explore, plan};
 use dl_desk::{FetchKey, Json, Outcome, Text, has_float};
+use dl_terms::{Answer, Known, Node, Term, Wanted, explore, plan};
 use indexmap::{IndexMap, IndexSet};
 use serde_json::Value;
 use std::alloc::Global;
+use std::hash::RandomState;
 use std::process::Abort;
 use std::test::Fail;
 
@@ -50,7 +51,7 @@ fn friends(alloc: Global) -> Result<Term, Fail> {
 
 // The ids that the node waits for, once it was explored.
 fn round(alloc: Global, node: &mut Node, known: &Known<'_>) -> Result<String, Fail> {
-    let mut wanted: Wanted = IndexSet::new(alloc);
+    let mut wanted: Wanted = IndexSet::with_hasher(alloc, hashing);
     explore(alloc, node, known, &mut wanted)?;
     let mut ids = String::new(alloc);
     for key in wanted.iter() {
@@ -63,17 +64,18 @@ fn round(alloc: Global, node: &mut Node, known: &Known<'_>) -> Result<String, Fa
 #[test]
 fn a_term_wants_all_its_keys_at_once(rt: HostRuntime) -> Result<(), Fail> {
     let alloc = rt.alloc();
+    let hashing = RandomState::new(&rt)?;
     let ada = outcome(&rt, alloc, r#"{"best":"u2","friends":["u2","u3","u2"]}"#)?;
     let bob = outcome(&rt, alloc, r#"{"name":"Bob"}"#)?;
     let cy = outcome(&rt, alloc, "3")?;
     let mut known: Known<'_> = IndexMap::new(alloc);
     let mut node = plan(alloc, friends(alloc)?)?;
-    assert_eq!(rt; round(alloc, &mut node, &known)?.as_str(), "u1 u3 ");
+    assert_eq!(rt; round(alloc, hashing, &mut node, &known)?.as_str(), "u1 u3 ");
     known.insert(user(alloc, "u1")?, &ada)?;
     known.insert(user(alloc, "u3")?, &cy)?;
-    assert_eq!(rt; round(alloc, &mut node, &known)?.as_str(), "u2 ");
+    assert_eq!(rt; round(alloc, hashing, &mut node, &known)?.as_str(), "u2 ");
     known.insert(user(alloc, "u2")?, &bob)?;
-    assert_eq!(rt; round(alloc, &mut node, &known)?.as_str(), "");
+    assert_eq!(rt; round(alloc, hashing, &mut node, &known)?.as_str(), "");
     let text = match node.into_answer() {
         Some(Answer::Value(value)) => value.to_text(alloc)?,
         Some(Answer::Fault(_)) | None => String::new(alloc),
