@@ -93,22 +93,19 @@ fn open(alloc: Global) -> Cut {
 }
 
 #[test]
-fn a_document_is_answered(rt: HostRuntime) {
+fn a_document_is_answered(rt: HostRuntime) -> Result<(), Fail> {
+    let hashing = RandomState::new(&rt)?;
     let mut writer = open(rt.alloc());
     writer.most = 7;
-    let ran = run(
-        rt.alloc(),
-        RandomState::new(&rt)?,
-        &mut whole(),
-        &mut writer,
-        OPTIONS,
-    );
+    let ran = run(rt.alloc(), hashing, &mut whole(), &mut writer, OPTIONS);
     assert_eq!(rt; ran, Ok(()));
     assert_eq!(rt; writer.written.as_slice(), TEXT.as_bytes());
+    Ok(())
 }
 
 #[test]
-fn a_reader_that_fails_leaves_nothing_written(rt: HostRuntime) {
+fn a_reader_that_fails_leaves_nothing_written(rt: HostRuntime) -> Result<(), Fail> {
+    let hashing = RandomState::new(&rt)?;
     for (good_reads, kind) in [
         (0, ErrorKind::Other),
         (1, ErrorKind::Interrupted),
@@ -118,68 +115,51 @@ fn a_reader_that_fails_leaves_nothing_written(rt: HostRuntime) {
         reader.good_reads = good_reads;
         reader.kind = kind;
         let mut writer = open(rt.alloc());
-        let ran = run(
-            rt.alloc(),
-            RandomState::new(&rt)?,
-            &mut reader,
-            &mut writer,
-            OPTIONS,
-        );
+        let ran = run(rt.alloc(), hashing, &mut reader, &mut writer, OPTIONS);
         assert_eq!(rt; ran, Err(RunError::Read), "after {good_reads} reads");
         assert!(rt; writer.written.is_empty());
     }
+    Ok(())
 }
 
 #[test]
-fn a_writer_that_fails_has_a_front(rt: HostRuntime) {
+fn a_writer_that_fails_has_a_front(rt: HostRuntime) -> Result<(), Fail> {
+    let hashing = RandomState::new(&rt)?;
     for room in 0..TEXT.len() {
         for fails in [false, true] {
             let mut writer = open(rt.alloc());
             writer.room = room;
             writer.most = 10;
             writer.fails = fails;
-            let ran = run(
-                rt.alloc(),
-                RandomState::new(&rt)?,
-                &mut whole(),
-                &mut writer,
-                OPTIONS,
-            );
+            let ran = run(rt.alloc(), hashing, &mut whole(), &mut writer, OPTIONS);
             assert_eq!(rt; ran, Err(RunError::Write), "after {room} bytes");
             assert_eq!(rt; writer.written.as_slice(), &TEXT.as_bytes()[..room]);
         }
     }
+    Ok(())
 }
 
 #[test]
-fn a_flush_that_fails_is_told(rt: HostRuntime) {
+fn a_flush_that_fails_is_told(rt: HostRuntime) -> Result<(), Fail> {
+    let hashing = RandomState::new(&rt)?;
     let mut writer = open(rt.alloc());
     writer.flush_fails = true;
-    let ran = run(
-        rt.alloc(),
-        RandomState::new(&rt)?,
-        &mut whole(),
-        &mut writer,
-        OPTIONS,
-    );
+    let ran = run(rt.alloc(), hashing, &mut whole(), &mut writer, OPTIONS);
     assert_eq!(rt; ran, Err(RunError::Write));
     assert_eq!(rt; writer.written.as_slice(), TEXT.as_bytes());
+    Ok(())
 }
 
 #[test]
-fn a_refused_document_leaves_nothing_written(rt: HostRuntime) {
+fn a_refused_document_leaves_nothing_written(rt: HostRuntime) -> Result<(), Fail> {
+    let hashing = RandomState::new(&rt)?;
     let mut reader = whole();
     reader.rest = &DOCUMENT.as_bytes()[1..];
     let mut writer = open(rt.alloc());
-    let ran = run(
-        rt.alloc(),
-        RandomState::new(&rt)?,
-        &mut reader,
-        &mut writer,
-        OPTIONS,
-    );
+    let ran = run(rt.alloc(), hashing, &mut reader, &mut writer, OPTIONS);
     assert_eq!(rt; ran, Err(RunError::Refused(PlanFault::NotJson)));
     assert!(rt; writer.written.is_empty());
+    Ok(())
 }
 
 #[test]
