@@ -48,6 +48,13 @@ module _ (p : Key → Option Outcome) where
     ending = ap result_of is ∙ ap (option_map (loaded k)) (sym e);
   }
 
+  pub load_waiting : (k : Key) → p k ≡ None → (u : Tree) → u ≡ load k → LoadsTarget p (Target.key k) u
+  load_waiting k e u is = record {
+    meaning = λ q more. ap (answer q) is;
+    waiting = λ q more. ap (waits q) is;
+    ending = ap result_of is ∙ ap (option_map (loaded k)) (sym e);
+  }
+
   pick_on : (t v u : Tree) (field : Name) (r : Option Answer) → result_of v ≡ r → Reduces p t v → MatchOption r (u ≡ pick v field) (λ a. u ≡ ended (picked field a)) → Reduces p (pick t field) u
   pick_on t v u field None e part is = record {
     meaning = λ q more. ap (answer q) is ∙ ap (option_map (picked field)) (part.meaning q more);
