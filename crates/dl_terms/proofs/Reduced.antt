@@ -159,16 +159,6 @@ module _ (p : Key → Option Outcome) where
       stand_more (λ q. target_answer q (value_target table (view v))) (λ q. target_waits q (value_target table (view v))) (λ q. target_answers q (item_targets table (items_view vs))) (λ q. each_target_waits q (item_targets table (items_view vs)))
       (node_view n) (nodes_view ns) h.0 (ids_load table vs ns h.1)
 
-  -- ---- what is wanted
-
-  -- the keys of the part, and then those of what comes after it
-  pub wanted_on : (t v : Tree) (next : Answer → List Key) (base first second : List Key) → Reduces p t v → first ≡ insert_all key_eq base (waits p t)
-      → second ≡ insert_all key_eq first (waits_after (result_of v) next) → second ≡ insert_all key_eq base (waits p t ++ waits_after (answer p t) next)
-  wanted_on t v next base first second part e1 e2 =
-      e2 ∙ (ap (λ o. insert_all key_eq first (waits_after o next)) part.ending
-      ∙ (ap (λ ks. insert_all key_eq ks (waits_after (answer p t) next)) e1
-      ∙ sym (fold-append (insert_key key_eq) base (waits p t) (waits_after (answer p t) next))))
-
 pub zip_push : {A B : Type 0} (R : A → B → Type 0) (xs : List A) (ys : List B) (x : A) (y : B) → AllZip R xs ys → R x y → AllZip R (xs ++ x ∷ []) (ys ++ y ∷ [])
 zip_push R [] [] x y h r = (r, tt)
 zip_push R [] (b ∷ bs) x y h r = absurd h
