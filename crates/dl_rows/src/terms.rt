@@ -7,6 +7,7 @@ use serde_json::Value;
 use std::alloc::Global;
 use std::hash::RandomState;
 use std::process::Abort;
+use std::random::RandomSource;
 use std::test::Fail;
 
 fn user(alloc: Global, id: &str) -> Result<FetchKey, Fail> {
@@ -49,10 +50,33 @@ fn friends(alloc: Global) -> Result<Term, Fail> {
     Ok(Term::All(parts))
 }
 
-// The ids that the node waits for, once it was explored.
-fn round(alloc: Global, node: &mut Node, known: &Known<'_>) -> Result<String, Fail> {
+// The outcomes of users, each an id and its value.
+fn outcomes<R: Abort>(
+    rt: &R,
+    alloc: Global,
+    rows: &[(&str, &str)],
+) -> Result<Vec<(FetchKey, Outcome)>, Fail> {
+    let mut outcomes = Vec::new(alloc);
+    for (id, text) in rows {
+        let key = user(alloc, id)?;
+        outcomes.push((key, outcome(rt, alloc, text)?))?;
+    }
+    Ok(outcomes)
+}
+
+// The ids that the node waits for, once it was explored with the outcomes.
+fn round(
+    alloc: Global,
+    hashing: RandomState,
+    node: &mut Node,
+    outcomes: &[(FetchKey, Outcome)],
+) -> Result<String, Fail> {
+    let mut known: Known<'_> = IndexMap::with_hasher(alloc, hashing);
+    for (key, outcome) in outcomes {
+        known.insert(key.try_copy()?, outcome)?;
+    }
     let mut wanted: Wanted = IndexSet::with_hasher(alloc, hashing);
-    explore(alloc, node, known, &mut wanted)?;
+    explore(alloc, node, &known, &mut wanted)?;
     let mut ids = String::new(alloc);
     for key in wanted.iter() {
         ids.push_str(key.id())?;
@@ -61,25 +85,40 @@ fn round(alloc: Global, node: &mut Node, known: &Known<'_>) -> Result<String, Fa
     Ok(ids)
 }
 
+fn assert_wants<R: Abort + RandomSource>(
+    rt: &R,
+    alloc: Global,
+    node: &mut Node,
+    rows: &[(&str, &str)],
+    ids: &str,
+) -> Result<(), Fail> {
+    let outcomes = outcomes(rt, alloc, rows)?;
+    let wanted = round(alloc, RandomState::new(rt)?, node, outcomes.as_slice())?;
+    assert_eq!(rt; wanted.as_str(), ids);
+    Ok(())
+}
+
+fn answer_text(alloc: Global, node: Node) -> Result<String, Fail> {
+    match node.into_answer() {
+        Some(Answer::Value(value)) => Ok(value.to_text(alloc)?),
+        Some(Answer::Fault(_)) | None => Ok(String::new(alloc)),
+    }
+}
+
+const ADA: (&str, &str) = ("u1", r#"{"best":"u2","friends":["u2","u3","u2"]}"#);
+
+const BOB: (&str, &str) = ("u2", r#"{"name":"Bob"}"#);
+
+const CY: (&str, &str) = ("u3", "3");
+
 #[test]
 fn a_term_wants_all_its_keys_at_once(rt: HostRuntime) -> Result<(), Fail> {
     let alloc = rt.alloc();
-    let hashing = RandomState::new(&rt)?;
-    let ada = outcome(&rt, alloc, r#"{"best":"u2","friends":["u2","u3","u2"]}"#)?;
-    let bob = outcome(&rt, alloc, r#"{"name":"Bob"}"#)?;
-    let cy = outcome(&rt, alloc, "3")?;
-    let mut known: Known<'_> = IndexMap::new(alloc);
     let mut node = plan(alloc, friends(alloc)?)?;
-    assert_eq!(rt; round(alloc, hashing, &mut node, &known)?.as_str(), "u1 u3 ");
-    known.insert(user(alloc, "u1")?, &ada)?;
-    known.insert(user(alloc, "u3")?, &cy)?;
-    assert_eq!(rt; round(alloc, hashing, &mut node, &known)?.as_str(), "u2 ");
-    known.insert(user(alloc, "u2")?, &bob)?;
-    assert_eq!(rt; round(alloc, hashing, &mut node, &known)?.as_str(), "");
-    let text = match node.into_answer() {
-        Some(Answer::Value(value)) => value.to_text(alloc)?,
-        Some(Answer::Fault(_)) | None => String::new(alloc),
-    };
+    assert_wants(&rt, alloc, &mut node, &[], "u1 u3 ")?;
+    assert_wants(&rt, alloc, &mut node, &[ADA, CY], "u2 ")?;
+    assert_wants(&rt, alloc, &mut node, &[ADA, CY, BOB], "")?;
+    let text = answer_text(alloc, node)?;
     assert_eq!(rt;
         text.as_str(),
         r#"[[{"name":"Bob"},3,{"name":"Bob"}],"Bob",3]"#

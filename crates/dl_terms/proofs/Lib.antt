@@ -4,6 +4,7 @@ pub mod Settled
 mod Ruled
 mod Risen
 mod Views
+pub mod Learned
 pub mod Reduced
 mod Whole
 mod Gathered

@@ -48,6 +48,13 @@ module _ (p : Key → Option Outcome) where
     ending = ap result_of is ∙ ap (option_map (loaded k)) (sym e);
   }
 
+  pub load_waiting : (k : Key) → p k ≡ None → (u : Tree) → u ≡ load k → LoadsTarget p (Target.key k) u
+  load_waiting k e u is = record {
+    meaning = λ q more. ap (answer q) is;
+    waiting = λ q more. ap (waits q) is;
+    ending = ap result_of is ∙ ap (option_map (loaded k)) (sym e);
+  }
+
   pick_on : (t v u : Tree) (field : Name) (r : Option Answer) → result_of v ≡ r → Reduces p t v → MatchOption r (u ≡ pick v field) (λ a. u ≡ ended (picked field a)) → Reduces p (pick t field) u
   pick_on t v u field None e part is = record {
     meaning = λ q more. ap (answer q) is ∙ ap (option_map (picked field)) (part.meaning q more);
@@ -151,16 +158,6 @@ module _ (p : Key → Option Outcome) where
   ids_load table (v ∷ vs) (n ∷ ns) h =
       stand_more (λ q. target_answer q (value_target table (view v))) (λ q. target_waits q (value_target table (view v))) (λ q. target_answers q (item_targets table (items_view vs))) (λ q. each_target_waits q (item_targets table (items_view vs)))
       (node_view n) (nodes_view ns) h.0 (ids_load table vs ns h.1)
-
-  -- ---- what is wanted
-
-  -- the keys of the part, and then those of what comes after it
-  pub wanted_on : (t v : Tree) (next : Answer → List Key) (base first second : List Key) → Reduces p t v → first ≡ insert_all key_eq base (waits p t)
-      → second ≡ insert_all key_eq first (waits_after (result_of v) next) → second ≡ insert_all key_eq base (waits p t ++ waits_after (answer p t) next)
-  wanted_on t v next base first second part e1 e2 =
-      e2 ∙ (ap (λ o. insert_all key_eq first (waits_after o next)) part.ending
-      ∙ (ap (λ ks. insert_all key_eq ks (waits_after (answer p t) next)) e1
-      ∙ sym (fold-append (insert_key key_eq) base (waits p t) (waits_after (answer p t) next))))
 
 pub zip_push : {A B : Type 0} (R : A → B → Type 0) (xs : List A) (ys : List B) (x : A) (y : B) → AllZip R xs ys → R x y → AllZip R (xs ++ x ∷ []) (ys ++ y ∷ [])
 zip_push R [] [] x y h r = (r, tt)

@@ -1,29 +1,35 @@
 -- What a round makes of a term: a tree that stands for it from then on.
-use Rattle.std.specs.Prelude.{◌≡◌, List, Option, Some, None, MatchOption, option_map}
+use Rattle.std.specs.Prelude.{◌≡◌, List, Option, Some, None, MatchOption, map}
 use Rattle.std.specs.Borrow.{Bor}
-use Rattle.indexmap.specs.IndexMap.{IndexMap, get}
-use Rattle.dl_desk.specs.Key.{Key, key_eq}
+use Rattle.indexmap.specs.IndexMap.{IndexMap}
+use Rattle.dl_desk.specs.Key.{Key}
 use Rattle.dl_desk.specs.declared.outcome.Outcome.{Outcome}
 use Rattle.dl_terms.specs.declared.answer.Answer.{Answer}
 use Rattle.dl_terms.specs.declared.answer.EvalFault.TheVariants as why
 use Rattle.dl_terms.specs.Tree.{Name, Tree, ended, pick, follow, each, all, Trees}
-use Rattle.dl_terms.specs.Gives.{answer, answers, waits, all_wait, picked, gathered, Target, target_in, target_answer, target_answers, target_waits, each_target_waits, Targets, targets_in, targets_answer, targets_waits}
+use Rattle.dl_terms.specs.Gives.{Pairs, outcome_in, answer, answers, waits, all_wait, picked, gathered, Target, target_in, target_answer, target_answers, target_waits, each_target_waits, Targets, targets_in, targets_answer, targets_waits}
 use Rattle.dl_terms.specs.Rounds.{KnowsMore}
 use Rattle.dl_terms.specs.Node.{result_of, results_of}
 
+-- the pairs that a map holds, in order
+abbrev pub pairs_of : {S : Type 0} → IndexMap Key (Bor Outcome) S → Pairs
+pairs_of m = map (λ e. (e.0, e.1.now)) m.entries
+
 -- the outcome of each key that is in the map
 abbrev pub known_of : {S : Type 0} → IndexMap Key (Bor Outcome) S → Key → Option Outcome
-known_of m k = option_map (λ o. o.now) (get key_eq m k)
+known_of m = outcome_in (pairs_of m)
 
 -- Wherever p and more is known, the tree u answers and waits as is said; where p suffices for the
 -- answer, u is that answer.
-pub record Stands (p : Key → Option Outcome) (says : (Key → Option Outcome) → Option Answer) (lacks : (Key → Option Outcome) → List Key) (u : Tree) : Type 0 where
+pub record Stands (p : Key → Option Outcome) (says : (Key → Option Outcome) → Option Answer)
+    (lacks : (Key → Option Outcome) → List Key) (u : Tree) : Type 0 where
   pub meaning : (q : Key → Option Outcome) → KnowsMore p q → answer q u ≡ says q
   pub waiting : (q : Key → Option Outcome) → KnowsMore p q → waits q u ≡ lacks q
   pub ending : result_of u ≡ says p
 
 -- the same of several trees
-pub record StandAll (p : Key → Option Outcome) (say : (Key → Option Outcome) → Option (List Answer)) (lack : (Key → Option Outcome) → List Key) (us : Trees) : Type 0 where
+pub record StandAll (p : Key → Option Outcome) (say : (Key → Option Outcome) → Option (List Answer))
+    (lack : (Key → Option Outcome) → List Key) (us : Trees) : Type 0 where
   pub meaning : (q : Key → Option Outcome) → KnowsMore p q → answers q us ≡ say q
   pub waiting : (q : Key → Option Outcome) → KnowsMore p q → all_wait q us ≡ lack q
   pub ending : results_of us ≡ say p
