@@ -25,8 +25,8 @@ use Rattle.std.specs.contracts.alloc.Global as Heap
 use Rattle.std.specs.contracts.impls.GlobalAllocator.TheImpl.{ghosts}
 use Rattle.std.specs.contracts.vec.Vec as Vec
 use Rattle.std.specs.contracts.sync.ledger.Book as Counts
+use Rattle.dl_cells.specs.contracts.reader.Reader as Reader
 use Rattle.dl_cells.specs.contracts.row.CellRow as Row
-use Rattle.dl_history.specs.contracts.entry.Stored as Stored
 use Rattle.dl_history.specs.contracts.journal.Journal as Journal
 use Rattle.dl_history.specs.contracts.journal.Journal.TheInside as journal
 use Rattle.dl_history.specs.contracts.rows.Rows as Rows
@@ -36,7 +36,6 @@ use Rattle.dl_desk.specs.contracts.limits.Limits as Limits
 use Rattle.dl_desk.proofs.limits.Limits.TheSendSync as limits
 use Rattle.dl_cells.proofs.reader.Reader.TheSendSync as reader
 use Rattle.dl_cells.proofs.row.CellRow.TheSendSync as row
-use Rattle.dl_history.proofs.entry.Stored.TheSendSync as stored
 
 pub Json-send : IsSend Json.the_row
 Json-send = search (values_cross, owners_cross, maps_cross, sendable) depth 40
@@ -92,16 +91,16 @@ log_sync = search (row.the_sync, Event-send, Event-sync) depth 10
 pub outcomes_sync : IsSync (Row.the_row Ending.the_row)
 outcomes_sync = search (row.the_sync, Ending-send, Ending-sync) depth 10
 
-module _ (T : RattleType) (n : name.Ghosts T.Denot) (l : ledger.Ghosts T.Denot) where
-  stored_send : IsSend (Stored.the_row T n l)
-  stored_send = search (stored.the_send) depth 10
+log_reader_send : IsSend (Reader.the_row Event.the_row)
+log_reader_send = search (reader.the_send, Event-send, Event-sync) depth 10
 
+module _ (T : RattleType) (n : name.Ghosts T.Denot) (l : ledger.Ghosts T.Denot) where
   counts_send : IsSend (Counts.the_row T l)
   counts_send = search (counts.the_send) depth 10
 
   journal_send : IsSend (journal.the_row T n l)
   journal_send = declared_send (journal.the_type T n l) (
-    as_row_send (Vec.the_field (Stored.the_row T n l) Heap.the_row ghosts) (Vec-send _ stored_send),
+    as_row_send (Vec.the_field (Reader.the_row Event.the_row) Heap.the_row ghosts) (Vec-send _ log_reader_send),
     (as_row_send (Vec.the_field State.the_row Heap.the_row ghosts) (Vec-send _ State-send), (as_row_send (Counts.the_field T l) counts_send, tt)),
   )
 

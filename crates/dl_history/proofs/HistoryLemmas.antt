@@ -1,18 +1,17 @@
 -- What a history answers for one caller.
-use Rattle.std.proofs.Common.{◌≡◌, ◌∙◌, sym, ap, subst, ℕ, suc, ◌+◌, ◌<◌, ◌≤◌, ◌⊎◌, inl, inr, Bool, true, false, cond, List, [], ◌∷◌, ◌++◌, length, take, Some}
-use Rattle.std.proofs.Common.{slice_get, get_or, nat_eq, refl, arith}
+use Rattle.std.proofs.Common.{◌≡◌, ◌∙◌, sym, ap, subst, ℕ, suc, ◌+◌, ◌<◌, ◌≤◌, ◌⊎◌, inl, inr, Bool, true, false, cond, List, [], ◌∷◌, length, map, flat_map, Some}
+use Rattle.std.proofs.Common.{slice_get, nat_eq, refl, arith}
 use Rattle.std.proofs.lemmas.Bool.{cases_lt, eqb-true, ne_eqb}
-use Rattle.std.proofs.lemmas.List.{take_more, map-append}
 use Rattle.std.proofs.lemmas.List.Sums.{sum_by-cons}
-use Rattle.dl_history.specs.Agrees.{Account, account, accounts_by, HasEach, Agrees, entries_of, places_of}
-use Rattle.dl_history.specs.Entries.{Told, Line, Called, Saw, kind_of, calls_of}
-use Rattle.dl_history.specs.Closed.{Closed, closed}
+use Rattle.dl_history.specs.Agrees.{Account, account, accounts_by, Agrees, Tells, entries_of, places_of}
+use Rattle.dl_history.specs.Closed.{Closed, IsClosed, Outline, outline_of, line_at, accounts_at, kinds_of, place_of}
+use Rattle.dl_history.specs.Entries.{Line, Called, Saw, kind_of}
 use Rattle.dl_history.specs.History.{IsLegal}
+use Rattle.dl_history.specs.declared.entry.EntryKind.{EntryKind}
 use Rattle.dl_history.specs.declared.entry.EntryKind.TheVariants as kind
 use Rattle.dl_history.specs.Lists.{Every, places, one_if}
 use Rattle.dl_history.specs.Service.{Service}
 use Rattle.dl_history.specs.declared.event.Event.{Event}
-use Rattle.dl_history.proofs.EntryLists.{calls_of-append}
 
 -- ---- the entries of a caller
 
@@ -57,49 +56,67 @@ callers_low s (e ∷ es) each = (each 0 e refl, callers_low s es (λ k x got. ea
 pub places_none : (s : Service) (es : List Event) (n : ℕ) → IsLegal s es → s.callers ≤ n → places (λ (e : Event). e.caller) n 0 es ≡ []
 places_none s es n legal high = places_by n s.callers 0 es (callers_low s es (λ k e got. let next = legal.at k e got in next.caller)) high
 
--- ---- one account or one entry more
+-- ---- accounts as the events tell them
 
-places_of-snoc : (entries : List Line) (l : Line) → places_of (entries ++ l ∷ []) ≡ places_of entries ++ places_of (l ∷ [])
-places_of-snoc entries l = rw (calls_of-append entries (l ∷ [])) (map-append (λ (t : Told). t.at) (calls_of entries) (calls_of (l ∷ [])))
+kinds_same : (es : List Event) (ks : List EntryKind) → map kind_of (map (line_at es) ks) ≡ ks
+kinds_same es [] = refl
+kinds_same es (kind.Call at ∷ ks) = ap (λ (rest : List EntryKind). kind.Call at ∷ rest) (kinds_same es ks)
+kinds_same es (kind.Saw cell at ∷ ks) = ap (λ (rest : List EntryKind). kind.Saw cell at ∷ rest) (kinds_same es ks)
 
--- the places, with one entry more
-pub places_next : (entries : List Line) (i : ℕ) (l : Line) (found now : List ℕ) → i < length entries → l ≡ get_or entries i l
-    → found ≡ places_of (take i entries) → now ≡ found ++ places_of (l ∷ []) → now ≡ places_of (take (i + 1) entries)
-places_next entries i l found now low is before more =
-    let next : take (i + 1) entries ≡ take i entries ++ l ∷ [] = take_more entries i l low ∙ ap (λ (m : Line). take i entries ++ m ∷ []) (sym is) in
-    rw (next, places_of-snoc (take i entries) l, more, before) refl
+-- the entries of a caller are what was kept of them
+pub kinds_told : (es : List Event) (n : ℕ) (os : List Outline) → kinds_of n os ≡ map kind_of (entries_of n (accounts_at es os))
+kinds_told es n [] = refl
+kinds_told es n (o ∷ os) = by (nat_eq n o.caller) (kinds_told es n os)
+  where
+    by : (t : Bool) → kinds_of n os ≡ map kind_of (entries_of n (accounts_at es os))
+        → cond t o.kinds (kinds_of n os) ≡ map kind_of (cond t (map (line_at es) o.kinds) (entries_of n (accounts_at es os)))
+    by true rest = sym (kinds_same es o.kinds)
+    by false rest = rest
 
--- the place of an entry that is a call
-pub place_call : (l : Line) (at : ℕ) → kind_of l ≡ kind.Call at → places_of (l ∷ []) ≡ at ∷ []
-place_call (Called t) at is = let two : kind.Call t.at ≡ kind.Call at = is in let same : t.at ≡ at = cc in rw same refl
-place_call (Saw r) at is = absurd (let bad : kind.Saw r.cell r.ending.at ≡ kind.Call at = is in cc)
+-- an entry that tells what the history has is told so by its kind
+line_told : (es : List Event) (l : Line) → Tells es l → line_at es (kind_of l) ≡ l
+line_told es (Called t) tells = rw tells refl
+line_told es (Saw r) tells = rw tells refl
 
--- an outcome that was read has none
-pub place_read : (l : Line) (cell at : ℕ) → kind_of l ≡ kind.Saw cell at → places_of (l ∷ []) ≡ []
-place_read (Called t) cell at is = absurd (let bad : kind.Call t.at ≡ kind.Saw cell at = is in cc)
-place_read (Saw r) cell at is = refl
+lines_told : (es : List Event) (ls : List Line) → Every (Tells es) ls → map (line_at es) (map kind_of ls) ≡ ls
+lines_told es [] tells = refl
+lines_told es (l ∷ ls) tells = rw (line_told es l tells.0, lines_told es ls tells.1) refl
+
+-- accounts that agree with the events are told by what is kept of them
+pub accounts_told : (es : List Event) (accounts : List Account) → Every (Agrees es) accounts → accounts_at es (map outline_of accounts) ≡ accounts
+accounts_told es [] agree = refl
+accounts_told es (a ∷ accounts) agree =
+    let own = agree.0 in
+    rw (lines_told es a.entries own.tells, accounts_told es accounts agree.1) refl
+
+-- the places of the calls, by what is kept of the entries
+pub places_kept : (ls : List Line) → flat_map place_of (map kind_of ls) ≡ places_of ls
+places_kept [] = refl
+places_kept (Called t ∷ ls) = ap (λ (rest : List ℕ). t.at ∷ rest) (places_kept ls)
+places_kept (Saw r ∷ ls) = places_kept ls
 
 -- ---- as a history has them
 
 -- the entries of a caller agree with the events
-pub caller_agrees : (callers n : ℕ) (es : List Event) (accounts found_in : List Account) (h : Closed) (found : List Line) → closed es accounts ≡ h
-    → HasEach callers accounts → Every (Agrees es) accounts → found_in ≡ accounts → found ≡ entries_of n found_in → n < callers
-    → Agrees h.events (account n found)
-caller_agrees callers n es accounts found_in h found view each agree same is low =
-    let own : found ≡ entries_of n accounts = is ∙ ap (entries_of n) same in
-    let there : Agrees es (account n found) = rw own (entries_agree es n accounts (each n low) agree) in
-    subst (λ (x : Closed). Agrees x.events (account n found)) view there
+pub caller_agrees : (service : Service) (n : ℕ) (h : Closed) → IsClosed service h → n < length h.accounts
+    → Agrees h.events (account n (entries_of n h.accounts))
+caller_agrees service n h is low =
+    let count = is.count in
+    entries_agree h.events n h.accounts (is.each n (omega arith)) is.agree
 
 -- what is no caller has none
-pub caller_none : (callers n : ℕ) (accounts found_in : List Account) (found : List Line) → Every (λ a. a.caller < callers) accounts → found_in ≡ accounts
-    → found ≡ entries_of n found_in → callers ≤ n → found ≡ []
-caller_none callers n accounts found_in found low same is high = is ∙ (ap (entries_of n) same ∙ entries_none n callers accounts low high)
+pub caller_none : (service : Service) (n : ℕ) (h : Closed) → IsClosed service h → length h.accounts ≤ n → entries_of n h.accounts ≡ []
+caller_none service n h is high =
+    let count = is.count in
+    entries_none n service.callers h.accounts is.callers (omega arith)
 
 -- so the places of the calls among the entries are those of the caller's events
-pub caller_places : (s : Service) (es : List Event) (n : ℕ) (found : List Line) → IsLegal s es → (n < s.callers → Agrees es (account n found))
-    → (s.callers ≤ n → found ≡ []) → places_of found ≡ places (λ (e : Event). e.caller) n 0 es
-caller_places s es n found legal agree none = by (cases_lt n s.callers)
+pub caller_places : (service : Service) (n : ℕ) (h : Closed) → IsClosed service h
+    → flat_map place_of (map kind_of (entries_of n h.accounts)) ≡ places (λ (e : Event). e.caller) n 0 h.events
+caller_places service n h is = places_kept (entries_of n h.accounts) ∙ by (cases_lt n (length h.accounts))
   where
-    by : (n < s.callers) ⊎ (s.callers ≤ n) → places_of found ≡ places (λ (e : Event). e.caller) n 0 es
-    by (inl low) = (agree low).places_are
-    by (inr high) = ap places_of (none high) ∙ sym (places_none s es n legal high)
+    by : (n < length h.accounts) ⊎ (length h.accounts ≤ n) → places_of (entries_of n h.accounts) ≡ places (λ (e : Event). e.caller) n 0 h.events
+    by (inl low) = let agrees = caller_agrees service n h is low in agrees.places_are
+    by (inr high) =
+        let count = is.count in
+        ap places_of (caller_none service n h is high) ∙ sym (places_none service h.events n is.legal (omega arith))

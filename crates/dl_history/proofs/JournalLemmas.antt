@@ -1,29 +1,81 @@
 -- What holds of a journal once it has one event more, or a cell has its end.
-use Rattle.std.proofs.Common.{◌≡◌, ◌∙◌, sym, ap, ℕ, ◌+◌, ◌<◌, ◌⊎◌, Bool, true, false, List, [], ◌∷◌, ◌++◌, length, set, Some, MatchBool, slice_get, refl, arith}
+use Rattle.std.proofs.Common.{◌≡◌, ◌∙◌, sym, ap, ℕ, ◌+◌, ◌<◌, ◌⊎◌, Bool, true, false, List, [], ◌∷◌, ◌++◌, length, set, Some, MatchBool, slice_get, nat_lt, Option, None, IfSome, IfNone, option_map, refl, arith}
 use Rattle.std.proofs.Common.{inl, inr, length-append}
 use Rattle.std.specs.Global.{Box}
 use Rattle.std.proofs.lemmas.List.{map-set}
-use Rattle.dl_cells.specs.Cells.{RowName}
+use Rattle.std.proofs.lemmas.Bool.{ltb-false}
+use Rattle.std.proofs.lemmas.Option.{slice_get-map, slice_get_past}
+use Rattle.dl_cells.specs.Cells.{RowName, Reading, Agrees}
 use Rattle.dl_history.specs.declared.event.Ending.{Ending}
 use Rattle.dl_history.specs.declared.state.Mark.TheVariants.{Ended, Refused}
 use Rattle.dl_history.specs.declared.state.State.{State}
-use Rattle.dl_history.specs.Entries.{Told}
-use Rattle.dl_history.specs.Journal.{Cell, ended, refused, Refuses, IsJournal, cell_by, cells_by}
+use Rattle.dl_history.specs.declared.event.Event.{Event}
+use Rattle.dl_history.specs.Journal.{Cell, ended, refused, Refuses, AreKnown, IsKnown, IsJournal, cell_by, cells_by, events_known}
+use Rattle.dl_history.specs.Entries.{event_known}
 use Rattle.dl_history.proofs.Logs.{get-snoc}
 
--- each event stands at its place, with one event more
-places_more : (log : List Told) (t : Told) → ((k : ℕ) (u : Told) → slice_get log k ≡ Some u → u.at ≡ k) → t.at ≡ length log → (k : ℕ) (u : Told)
-    → ((k < length log) × (slice_get log k ≡ Some u)) ⊎ ((k ≡ length log) × (u ≡ t)) → u.at ≡ k
-places_more log t places at k u (inl there) = places k u there.1
-places_more log t places at k u (inr last) = ap (λ (x : Told). x.at) last.1 ∙ (at ∙ sym last.0)
+-- readers of a log that know its events, with one more
+known_more : (log : RowName) (readers : List (Reading Event)) (r : Reading Event) → AreKnown log readers → IsKnown log (length readers) r → (k : ℕ)
+    (u : Reading Event) → ((k < length readers) × (slice_get readers k ≡ Some u)) ⊎ ((k ≡ length readers) × (u ≡ r)) → IsKnown log k u
+known_more log readers r known new k u (inl there) = known.at k u there.1
+known_more log readers r known new k u (inr last) = rw (last.0, last.1) new
 
--- one event more
-pub journal_event : {outcomes : RowName} {counted : ℕ} {log : List Told} {states : List State} (more : ℕ) (longer : List Told) (t : Told)
-    → IsJournal outcomes counted log states → longer ≡ log ++ t ∷ [] → more ≡ counted + 1 → t.at ≡ length log → IsJournal outcomes more longer states
-journal_event {outcomes} {counted} {log} {states} more longer t old grown count at = record {
-  counted_is = let was = old.counted_is in let now : length longer ≡ length log + 1 = ap length grown ∙ length-append log (t ∷ []) in omega arith;
-  places = λ k u got. places_more log t old.places at k u (get-snoc log t u k (rw grown at got));
-  own_cells = old.own_cells;
+-- ---- what readers of a log know
+
+-- the event that a reader knows stands at its place
+event_at : (readers : List (Reading Event)) (k : ℕ) (r : Reading Event) → slice_get readers k ≡ Some r
+    → slice_get (events_known readers) k ≡ Some (event_known r.known)
+event_at readers k r there = rw (slice_get-map (λ (x : Reading Event). event_known x.known) readers k, there) refl
+
+-- where no reader is, there is no event
+event_past : (readers : List (Reading Event)) (k : ℕ) → false ≡ nat_lt k (length readers) → slice_get (events_known readers) k ≡ None
+event_past readers k outside =
+    let none : slice_get readers k ≡ None = slice_get_past readers k (ltb-false k (length readers) (sym outside)) in
+    rw (slice_get-map (λ (x : Reading Event). event_known x.known) readers k, none) refl
+
+-- what a reader that knows something knows, its event is
+known_is : (r : Option Event) (e : Event) → r ≡ Some (event_known r) → IfSome r (λ x. x ≡ e) → event_known r ≡ e
+known_is None e knows same = absurd (let bad : ◌≡◌ {A = Option Event} None (Some (event_known None)) = knows in cc)
+known_is (Some x) e knows same = same
+
+-- so where a reader agrees with an event, the event stands at its place
+pub event_met : (log : RowName) (readers got : List (Reading Event)) (k at : ℕ) (r : Reading Event) (e : Event) → AreKnown log readers → got ≡ readers
+    → k ≡ at → slice_get got k ≡ Some r → IfSome r.known (λ x. x ≡ e) → IfSome (slice_get (events_known readers) at) (λ x. x ≡ e)
+event_met log readers got k at r e known same place there agrees =
+    let own : slice_get readers at ≡ Some r = rw (← same, ← place) there in
+    let is = known.at at r own in
+    rw (event_at readers at r own) (known_is r.known e is.knows agrees)
+
+-- and where no reader is, nothing disagrees
+pub event_unmet : (readers got : List (Reading Event)) (k at : ℕ) (e : Event) → got ≡ readers → k ≡ at → false ≡ nat_lt k (length got)
+    → IfSome (slice_get (events_known readers) at) (λ x. x ≡ e)
+event_unmet readers got k at e same place outside =
+    let past : false ≡ nat_lt at (length readers) = rw (← same, ← place) outside in
+    rw (event_past readers at past) tt
+
+-- the event that a look answers for a place stands there
+pub event_seen : {A : Type 0} (now : A → Event) (log : RowName) (readers : List (Reading Event)) (k : ℕ) (r : Reading Event) (seen : Option A) (after : Option Event)
+    → AreKnown log readers → slice_get readers k ≡ Some r → IfSome seen (λ x. (after ≡ Some (now x)) × Agrees r.known (now x))
+    → IfNone seen ((r.known ≡ None) × (after ≡ None)) → option_map now seen ≡ slice_get (events_known readers) k
+event_seen now log readers k r None after known there shown empty =
+    let is = known.at k r there in
+    absurd (let bad : ◌≡◌ {A = Option Event} None (Some (event_known r.known)) = sym empty.0 ∙ is.knows in cc)
+event_seen now log readers k r (Some x) after known there shown empty =
+    let is = known.at k r there in
+    let same : IfSome r.known (λ y. y ≡ now x) = shown.1 in
+    rw (event_at readers k r there, known_is r.known (now x) is.knows same) refl
+
+-- ---- one event more
+
+-- a journal with one event more
+pub journal_event : {log outcomes : RowName} {counted : ℕ} {readers : List (Reading Event)} {states : List State} (more : ℕ)
+    (longer : List (Reading Event)) (r : Reading Event)
+    → IsJournal log outcomes counted readers states → longer ≡ readers ++ r ∷ [] → more ≡ counted + 1 → IsKnown log (length readers) r
+    → IsJournal log outcomes more longer states
+journal_event {log} {outcomes} {counted} {readers} {states} more longer r old grown count new = record {
+  counted_is = let was = old.counted_is in let now : length longer ≡ length readers + 1 = ap length grown ∙ length-append readers (r ∷ []) in omega arith;
+  known = record { at = λ k u got. known_more log readers r old.known new k u (get-snoc readers r u k (rw grown at got)) };
+  own = old.own;
 }
 
 -- the cells, once a state has its end

@@ -15,5 +15,5 @@ mod CellOutcomes
 pub mod Counting
 pub mod AccountCounts
 pub mod Agreement
-mod HistoryLemmas
+pub mod HistoryLemmas
 pub mod Crossing

@@ -1,5 +1,7 @@
 -- Lists that grow at their end, or of which one element is changed.
-use Rattle.std.proofs.Common.{◌≡◌, ℕ, zero, suc, ◌+◌, List, [], ◌∷◌, ◌++◌, set, Option, Some, None, slice_get, arith, subst, map, refl}
+use Rattle.std.proofs.Common.{◌≡◌, sym, ℕ, zero, suc, ◌+◌, true, nat_lt, List, [], ◌∷◌, ◌++◌, length, set, Option, Some, None, slice_get, get_or, arith, subst, map, refl}
+use Rattle.std.proofs.lemmas.Bool.{ltb-true}
+use Rattle.std.proofs.lemmas.Option.{slice_get_read}
 use Rattle.dl_history.specs.Lists.{Every, Among, total}
 
 -- what stands at a place still does in a longer list
@@ -55,3 +57,7 @@ every_append_both P (x ∷ xs) ys left right = (left.0, every_append_both P xs y
 pub every_from : {X : Type 0} (P : X → Type 0) (xs : List X) → ((k : ℕ) (x : X) → slice_get xs k ≡ Some x → P x) → Every P xs
 every_from P [] each = tt
 every_from P (x ∷ xs) each = (each 0 x refl, every_from P xs (λ k y got. each (suc k) y got))
+
+-- an element that was looked up stands at its place
+pub looked_up : {X : Type 0} (xs : List X) (k : ℕ) (x : X) → true ≡ nat_lt k (length xs) → x ≡ get_or xs k x → slice_get xs k ≡ Some x
+looked_up xs k x inside is = slice_get_read xs (length xs) k x refl (ltb-true k (length xs) (sym inside)) is

@@ -1,8 +1,8 @@
 -- What contracts see of the events and the cells of a loader, and what holds of the fields behind them.
-use Rattle.std.specs.Prelude.{◌≡◌, ℕ, Bool, true, false, count_by, ◌+◌, List, length, map, set, Option, Some, None, slice_get}
+use Rattle.std.specs.Prelude.{◌≡◌, ℕ, Bool, true, false, count_by, ◌+◌, ◌<◌, List, length, map, set, Option, Some, None, slice_get}
 use Rattle.std.specs.Global.{Box}
-use Rattle.dl_cells.specs.Cells.{RowName, cell_of, Reading}
-use Rattle.dl_history.specs.Entries.{Told}
+use Rattle.dl_cells.specs.Cells.{RowName, cell_of, row_len, Reading}
+use Rattle.dl_history.specs.Entries.{event_known}
 use Rattle.dl_history.specs.declared.event.Event.{Event}
 use Rattle.dl_history.specs.declared.event.Ending.{Ending}
 use Rattle.dl_history.specs.declared.state.Mark.{Mark}
@@ -50,9 +50,20 @@ pub record Journal : Type 0 where
   pub cells : List Cell
   pub spare : ℕ
 
--- the events, in order
-abbrev pub events_of : List Told → List Event
-events_of ts = map (λ t. t.event) ts
+-- the events that readers of a log know, in order
+abbrev pub events_known : List (Reading Event) → List Event
+events_known readers = map (λ r. event_known r.known) readers
+
+-- a reader of the cell at a place of a log, which knows its event; a place has sixteen bits
+pub record IsKnown (log : RowName) (k : ℕ) (r : Reading Event) : Type 0 where
+  pub few : k < 65536
+  pub in_log : k < row_len log
+  pub cell_is : r.cell ≡ cell_of log k
+  pub knows : r.known ≡ Some (event_known r.known)
+
+-- readers, in order, of the first cells of a log, each of which knows its event
+pub record AreKnown (log : RowName) (readers : List (Reading Event)) : Type 0 where
+  pub at : (k : ℕ) (r : Reading Event) → slice_get readers k ≡ Some r → IsKnown log k r
 
 abbrev pub cell_by : State → Cell
 cell_by s = record { mark = s.mark; shows = s.reader.known }
@@ -61,11 +72,15 @@ cell_by s = record { mark = s.mark; shows = s.reader.known }
 abbrev pub cells_by : List State → List Cell
 cells_by states = map cell_by states
 
--- each event is counted and stands at its place, and each state is of its own cell
-pub record IsJournal (outcomes : RowName) (counted : ℕ) (log : List Told) (states : List State) : Type 0 where
-  pub counted_is : counted ≡ length log
-  pub places : (k : ℕ) (t : Told) → slice_get log k ≡ Some t → t.at ≡ k
-  pub own_cells : (c : ℕ) (s : State) → slice_get states c ≡ Some s → s.reader.cell ≡ cell_of outcomes c
+-- each state is of its own cell
+pub record AreOwn (outcomes : RowName) (states : List State) : Type 0 where
+  pub at : (c : ℕ) (s : State) → slice_get states c ≡ Some s → s.reader.cell ≡ cell_of outcomes c
+
+-- each event is counted and lies at its place of the log, and each state is of its own cell
+pub record IsJournal (log outcomes : RowName) (counted : ℕ) (readers : List (Reading Event)) (states : List State) : Type 0 where
+  pub counted_is : counted ≡ length readers
+  pub known : AreKnown log readers
+  pub own : AreOwn outcomes states
 
 -- readers, in order, of the cells from one on, of which they know nothing
 pub record AreBlank (outcomes : RowName) (from : ℕ) (readers : List (Reading Ending)) : Type 0 where

@@ -1,36 +1,45 @@
 //! Accounts: what passes leave when their loader is closed.
 
-ghost use Rattle.std.specs.Prelude.{◌≡◌};
-ghost use Rattle.dl_history.specs.Agrees.{account};
+ghost use Rattle.std.specs.Prelude.{◌≡◌, IfOk, map};
+ghost use Rattle.dl_history.specs.Closed.{outline};
+ghost use Rattle.dl_history.specs.Entries.{kind_of};
 
-use crate::entry::Entry;
+use crate::entry::{Entry, EntryKind};
 use crate::name::LoaderName;
+use std::alloc::{AllocError, Global};
 use std::marker::Model;
 
-/// A caller and the entries of its pass, in order.
+/// A caller and what the entries of its pass are, in order. What they tell lies in the history, so an account names no
+/// loader.
 #[derive(Drop)]
-pub struct Account<L: LoaderName> {
+pub struct Account {
     caller: u32,
-    entries: Vec<Entry<L>>,
+    entries: Vec<EntryKind>,
 }
 
-impl<L: LoaderName> Model for Account<L> {
-    ghost use Rattle.dl_history.specs.Agrees.{Account, account};
-    ghost use Rattle.dl_history.specs.Codes.{account_code};
+impl Model for Account {
+    ghost use Rattle.std.specs.Coded.{codes};
+    ghost use Rattle.dl_history.specs.Closed.{Outline, outline};
+    ghost use Rattle.dl_history.specs.contracts.entry.EntryKind as kind;
 
-    ghost Value = { Account };
+    ghost Value = { Outline };
 
-    ghost coded = { account_code };
+    ghost coded = { Prim.hlevel (codes, kind.the_row.coded) };
 
-    ghost view = { λ a. account a.caller a.entries.items };
+    ghost view = { λ a. outline a.caller a.entries.items };
 }
 
-impl<L: LoaderName> Account<L> {
-    /// The account of a caller.
-    pub fn new(caller: u32, entries: Vec<Entry<L>>) -> Account<L>
-        ensures { result ≡ account caller entries.items }
+impl Account {
+    /// The account of a caller whose pass has these entries. The error is want of memory.
+    pub fn of<L: LoaderName>(
+        alloc: Global,
+        caller: u32,
+        entries: &[Entry<L>],
+    ) -> Result<Account, AllocError>
+        ensures { IfOk result (λ account. account ≡ outline caller (map kind_of entries.now)) }
     {
-        Account { caller, entries }
+        let entries = kinds_of(alloc, entries)?;
+        Ok(Account { caller, entries })
     }
 
     /// The caller.
@@ -40,10 +49,24 @@ impl<L: LoaderName> Account<L> {
         self.caller
     }
 
-    /// The entries, in order.
-    pub fn entries(&self) -> &[Entry<L>]
-        ensures { result.now ≡ self.now.entries }
+    /// What the entries are, in order.
+    pub fn entries(&self) -> &[EntryKind]
+        ensures { result.now ≡ self.now.kinds }
     {
         self.entries.as_slice()
     }
+}
+
+// What the entries are, in order. The error is want of memory.
+fn kinds_of<L: LoaderName>(
+    alloc: Global,
+    entries: &[Entry<L>],
+) -> Result<Vec<EntryKind>, AllocError>
+    ensures { IfOk result (λ kinds. kinds.items ≡ map kind_of entries.now) }
+{
+    let mut kinds = Vec::with_capacity(alloc, entries.len())?;
+    for entry in entries {
+        kinds.push(entry.kind())?;
+    }
+    Ok(kinds)
 }

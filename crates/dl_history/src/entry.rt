@@ -3,7 +3,8 @@
 ghost use Rattle.std.specs.Prelude.{◌≡◌, ◌<◌, IfErr, IfOk, IfSome, IsSome, IsSomeAnd};
 ghost use Rattle.dl_cells.specs.Cells.{cell_of, row_len};
 ghost use Rattle.dl_history.specs.Agrees.{Meets};
-ghost use Rattle.dl_history.specs.Entries.{told, read, ending_known, kind_of, Called, Saw};
+ghost use Rattle.dl_history.specs.Entries.{told, read, event_known, ending_known, kind_of, Called, Saw};
+ghost use Rattle.dl_history.specs.Journal.{IsKnown};
 
 use crate::event::{Ending, Event};
 use crate::journal::Journal;
@@ -75,34 +76,21 @@ impl<L: LoaderName> Stored<L> {
         self.at
     }
 
-    /// The event, which lies in its cell of the log. It takes no memory.
-    pub fn event<'a>(&self, row: &'a CellRow<Event>) -> &'a Event
-        requires { row.now ≡ L.log }
-        ensures { result.now ≡ self.now.event }
+    /// A reader of the event's cell, which knows the event. It takes no memory.
+    pub fn reader(&self) -> Reader<Event>
+        ensures known { IsKnown L.log self.now.at result }
+        ensures event { event_known result.known ≡ self.now.event }
     {
-        match row.look(u32::from(self.at), &mut self.reader.again()) {
-            Some(event) => event,
-            None => unreachable!(),
-        }
+        let _at = self.at;
+        self.reader.again()
     }
 
-    /// A second one that tells the same. It takes no memory.
-    pub fn again(&self) -> Stored<L>
-        ensures { result ≡ self.now }
+    /// A reader of the event's cell that knows an event knows this one, whichever threads hold the two.
+    pub fn agree(&self, reader: &Reader<Event>)
+        requires { reader.now.cell ≡ cell_of L.log self.now.at }
+        ensures { IfSome reader.now.known (λ event. event ≡ self.now.event) }
     {
-        Stored {
-            at: self.at,
-            reader: self.reader.again(),
-            of: PhantomData,
-        }
-    }
-
-    /// Two that were stored at one place tell the same event, whichever threads hold them.
-    pub fn agree(&self, other: &Stored<L>)
-        requires { other.now.at ≡ self.now.at }
-        ensures { self.now ≡ other.now }
-    {
-        self.reader.agree(&other.reader);
+        self.reader.agree(reader);
     }
 }
 

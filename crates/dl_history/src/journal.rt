@@ -8,8 +8,10 @@ ghost use Rattle.dl_history.specs.Journal.{AreBlank, Refuses, waiting, ended};
 mod append;
 mod reading;
 
+use crate::cells::Cells;
 use crate::entry::Stored;
-use crate::event::Ending;
+use crate::event::{Ending, Event};
+use crate::events::Events;
 use crate::name::LoaderName;
 use crate::rows::Rows;
 use crate::state::State;
@@ -24,7 +26,7 @@ use std::sync::ledger::Share;
 /// the history, the cells, and for how many more of both there is room.
 #[derive(Drop)]
 pub struct Journal<L: LoaderName> {
-    log: Vec<Stored<L>>,
+    log: Vec<Reader<Event>>,
     states: Vec<State>,
     calls: ledger::Book<L>,
 }
@@ -34,19 +36,19 @@ impl<L: LoaderName> Model for Journal<L> {
     ghost use Rattle.std.specs.Prelude.{◌-◌, length, min, vec_capacity};
     ghost use Rattle.dl_history.specs.contracts.event.Event as event;
     ghost use Rattle.dl_history.specs.contracts.event.Ending as ending;
-    ghost use Rattle.dl_history.specs.Journal.{Journal, IsJournal, events_of, cells_by};
+    ghost use Rattle.dl_history.specs.Journal.{Journal, IsJournal, events_known, cells_by};
 
     ghost Value = { Journal };
 
     ghost coded = { Prim.hlevel (codes, event.the_row.coded, ending.the_row.coded) };
 
     ghost view = { λ j. record {
-      history = events_of j.log.items;
+      history = events_known j.log.items;
       cells = cells_by j.states.items;
       spare = min (vec_capacity j.log - length j.log.items) (vec_capacity j.states - length j.states.items);
     } };
 
-    ghost invariant = { λ j. IsJournal L.outcomes j.calls.total j.log.items j.states.items };
+    ghost invariant = { λ j. IsJournal L.log L.outcomes j.calls.total j.log.items j.states.items };
 }
 
 impl<L: LoaderName> Journal<L> {
@@ -89,17 +91,17 @@ impl<L: LoaderName> Journal<L> {
     }
 
     // Adds the next event, which the share of its caller counts. It takes no memory.
-    fn add(&mut self, stored: Stored<L>, share: &mut Share<L>)
-        requires place { stored.at ≡ length self.old.history }
+    fn add(&mut self, stored: &Stored<L>, share: &mut Share<L>)
+        requires place { stored.now.at ≡ length self.old.history }
         requires room { 0 < self.old.spare }
         requires part { 0 < share.old.parts }
-        ensures history { self.new.history ≡ self.old.history ++ stored.event ∷ [] }
+        ensures history { self.new.history ≡ self.old.history ++ stored.now.event ∷ [] }
         ensures cells { self.new.cells ≡ self.old.cells }
         ensures room { self.old.spare ≤ self.new.spare + 1 }
         ensures parts { share.new.parts ≡ share.old.parts }
         ensures counted { share.new.amount ≡ share.old.amount + 1 }
     {
-        self.log.push_reserved(stored);
+        self.log.push_reserved(stored.reader());
         self.calls.add(share, 1);
     }
 
@@ -144,5 +146,16 @@ impl<L: LoaderName> Journal<L> {
         ensures cell { result.cell ≡ cell_of L.outcomes cell }
     {
         self.states[cell as usize].reader.again()
+    }
+
+    /// Takes the journal apart, over the rows that its events and outcomes lie in. It takes no memory.
+    pub(crate) fn into_parts(self, rows: Rows<L>) -> (Events, Cells)
+        requires { length self.cells ≤ L.service.rules.limits.max_cells }
+        ensures events { result.0 ≡ self.history }
+        ensures cells { result.1 ≡ self.cells }
+    {
+        let Journal { log, states, .. } = self;
+        let (log_row, outcomes) = rows.into_parts();
+        (Events::new(log_row, log), Cells::new(outcomes, states))
     }
 }

@@ -5,8 +5,10 @@
 #![tactic(auto)]
 
 mod account;
+mod cells;
 mod entry;
 mod event;
+mod events;
 mod history;
 mod journal;
 mod lists;
@@ -17,7 +19,8 @@ mod state;
 pub use account::Account;
 pub use entry::{Entry, EntryKind, Seen, Stored};
 pub use event::{Call, Ending, Event, Reply};
-pub use history::{Batches, EndedBatch, Events, History};
+pub use events::Events;
+pub use history::{Batches, EndedBatch, History};
 pub use journal::{AppendFault, Journal};
 pub use lists::{Jobs, Replies};
 pub use name::LoaderName;

@@ -72,4 +72,14 @@ impl<L: LoaderName> Rows<L> {
     {
         &self.outcomes
     }
+
+    /// Takes the rows apart: the one that the events lie in, and the one that the outcomes of cells lie in.
+    pub(crate) fn into_parts(self) -> (CellRow<Event>, CellRow<Ending>)
+        ensures log { result.0 ≡ L.log }
+        ensures outcomes { result.1 ≡ L.outcomes }
+        ensures cells { row_len L.outcomes ≡ L.service.rules.limits.max_cells }
+    {
+        let Rows { log, outcomes, .. } = self;
+        (log, outcomes)
+    }
 }

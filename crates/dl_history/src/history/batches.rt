@@ -7,7 +7,6 @@ ghost use Rattle.dl_desk.specs.declared.reply.End.TheVariants.{Settled, Failed};
 ghost use Rattle.dl_history.specs.History.{keys_of, log};
 
 use crate::history::History;
-use crate::name::LoaderName;
 use dl_desk::{End, FetchKey};
 use std::marker::Model;
 
@@ -55,11 +54,11 @@ impl<'a> EndedBatch<'a> {
 
 /// The batches of a history, each of which has ended. Contracts see the history.
 #[derive(Drop)]
-pub struct Batches<'a, L: LoaderName> {
-    history: &'a History<L>,
+pub struct Batches<'a> {
+    history: &'a History,
 }
 
-impl<'a, L: LoaderName> Model for Batches<'a, L> {
+impl<'a> Model for Batches<'a> {
     ghost use Rattle.std.specs.Prelude.{List};
     ghost use Rattle.std.specs.Coded.{coded_list};
     ghost use Rattle.dl_history.specs.declared.event.Event.{Event};
@@ -72,9 +71,9 @@ impl<'a, L: LoaderName> Model for Batches<'a, L> {
     ghost view = { λ b. b.history.now.events };
 }
 
-impl<'a, L: LoaderName> Batches<'a, L> {
+impl<'a> Batches<'a> {
     /// The batches of a history.
-    pub(crate) fn new(history: &'a History<L>) -> Batches<'a, L>
+    pub(crate) fn new(history: &'a History) -> Batches<'a>
         ensures { result ≡ history.now.events }
     {
         Batches { history }

@@ -69,7 +69,7 @@ impl<L: LoaderName> Journal<L> {
         let stored = Stored::store(rows.log(), place, &mut reader, event).map_err(
             |_| AppendFault::LogRefused,
         )?;
-        self.add(stored.again(), share);
+        self.add(&stored, share);
         self.add_cells(readers);
         Ok(stored)
     }

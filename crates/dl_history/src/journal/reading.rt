@@ -1,19 +1,14 @@
 //! What a journal tells: its events, the outcomes of its cells, and what it holds against the entries of passes.
 
-ghost use Rattle.std.specs.Prelude.{◌≡◌, ◌≤◌, IfSome, Option, length, option_copied, option_map, slice_get};
-ghost use Rattle.dl_history.specs.declared.event.Ending.{Ending};
+ghost use Rattle.std.specs.Prelude.{◌≡◌, IfSome, length, slice_get};
 ghost use Rattle.dl_history.specs.Agrees.{Meets};
 ghost use Rattle.dl_history.specs.Journal.{cell_refused};
-ghost use Rattle.dl_history.specs.Kept.{ShownAs};
 ghost use Rattle.dl_history.specs.Lists.{Every};
 
 use crate::entry::{Entry, Seen, Stored};
-use crate::event::Event;
 use crate::journal::Journal;
 use crate::name::LoaderName;
-use crate::rows::Rows;
 use crate::state::Mark;
-use dl_desk::Outcome;
 use std::sync::ledger::Share;
 
 impl<L: LoaderName> Journal<L> {
@@ -22,7 +17,7 @@ impl<L: LoaderName> Journal<L> {
         ensures { IfSome (slice_get self.now.history stored.now.at) (λ event. event ≡ stored.now.event) }
     {
         if let Some(own) = self.log.get(stored.at() as usize) {
-            own.agree(stored);
+            stored.agree(own);
         }
     }
 
@@ -51,27 +46,6 @@ impl<L: LoaderName> Journal<L> {
         match self.states.get(cell as usize) {
             Some(state) => matches!(state.mark, Mark::Refused(_)),
             None => false,
-        }
-    }
-
-    /// The event at a place, if there is one. It takes no memory.
-    pub fn event<'a>(&self, rows: &'a Rows<L>, at: usize) -> Option<&'a Event>
-        ensures { option_copied result ≡ slice_get self.now.history at }
-    {
-        match self.log.get(at) {
-            Some(stored) => Some(stored.event(rows.log())),
-            None => None,
-        }
-    }
-
-    /// The outcome that a cell was given, if it was begun and given one. It takes no memory.
-    pub fn outcome<'a>(&'a self, rows: &'a Rows<L>, cell: u32) -> Option<&'a Outcome>
-        requires in_row { length self.now.cells ≤ L.service.rules.limits.max_cells }
-        ensures { (end : Option Ending) → ShownAs (slice_get self.now.cells cell) end → option_copied result ≡ option_map (λ e. e.outcome) end }
-    {
-        match self.states.get(cell as usize) {
-            Some(state) => state.outcome(rows.outcomes(), cell),
-            None => None,
         }
     }
 

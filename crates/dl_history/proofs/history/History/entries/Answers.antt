@@ -1,12 +1,20 @@
-use Rattle.dl_history.proofs.HistoryLemmas.{caller_agrees, caller_none}
+use Rattle.std.proofs.Common.{◌≡◌, ◌∙◌, [], ap, map, subst}
+use Rattle.dl_history.specs.Agrees.{entries_of}
+use Rattle.dl_history.specs.Closed.{Closed, IsClosed, kinds_of}
+use Rattle.dl_history.specs.Entries.{kind_of}
+use Rattle.dl_history.proofs.HistoryLemmas.{kinds_told, caller_agrees, caller_none}
 use Rattle.dl_history.proofs.history.History.entries.Goals as goal
 
+pub returns-clause-entries : goal.returns-clause-entries
+returns-clause-entries c =
+    c.kinds_of.ensures ∙ (ap (kinds_of c.args.caller) c.as_slice.ensures.value ∙ (kinds_told c.self.inside.events c.args.caller c.self.inside.accounts.items
+    ∙ ap (λ (h : Closed). map kind_of (entries_of c.args.caller h.accounts)) c.self.view_is))
+
 pub returns-clause-agree : goal.returns-clause-agree
-returns-clause-agree g c =
-    caller_agrees g.L.LoaderName.service.callers c.args.caller c.self.inside.journal.history c.self.inside.accounts.items c.as_slice.result.now c.args.self.now
-    c.entries_of.result.now c.self.view_is c.self.invariant.each c.self.invariant.agree c.as_slice.ensures.value c.entries_of.ensures
+returns-clause-agree c =
+    caller_agrees c.self.invariant.0 c.args.caller c.args.self.now (subst (IsClosed c.self.invariant.0) c.self.view_is c.self.invariant.1.closed_is)
 
 pub returns-clause-none : goal.returns-clause-none
-returns-clause-none g c =
-    caller_none g.L.LoaderName.service.callers c.args.caller c.self.inside.accounts.items c.as_slice.result.now c.entries_of.result.now
-    c.self.invariant.callers_are c.as_slice.ensures.value c.entries_of.ensures
+returns-clause-none c high =
+    let closed = subst (IsClosed c.self.invariant.0) c.self.view_is c.self.invariant.1.closed_is in
+    returns-clause-entries c ∙ ap (map kind_of) (caller_none c.self.invariant.0 c.args.caller c.args.self.now closed high)

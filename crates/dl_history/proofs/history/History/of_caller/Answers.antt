@@ -1,10 +1,9 @@
-use Rattle.std.proofs.Common.{◌≡◌, ℕ, List, IfOk, subst}
-use Rattle.dl_history.specs.Service.{service}
+use Rattle.std.proofs.Common.{◌≡◌, ◌∙◌, ℕ, List, IfOk, ap, flat_map, subst}
+use Rattle.dl_history.specs.Closed.{place_of}
 use Rattle.dl_history.proofs.HistoryLemmas.{caller_places}
 use Rattle.dl_history.proofs.history.History.of_caller.Goals as goal
 
 pub returns : goal.returns
-returns g c =
-    let s = g.L.LoaderName.service in
-    let all = caller_places s c.args.self.now.events c.args.caller c.entries.result.now c.keeps.ensures.legal c.entries.ensures.agree c.entries.ensures.none in
+returns c =
+    let all = ap (flat_map place_of) c.entries.ensures.entries ∙ caller_places c.keeps.ensures.0 c.args.caller c.args.self.now c.keeps.ensures.1 in
     subst (λ (ps : List ℕ). IfOk c.places_of.result (λ found. found.items ≡ ps)) all c.places_of.ensures

@@ -1,25 +1,23 @@
 use Rattle.std.proofs.Common.{◌≡◌, ap, subst, Bor, List, option_copied}
 use Rattle.dl_desk.specs.Events.{outcome}
 use Rattle.dl_desk.specs.declared.outcome.Outcome.{Outcome}
-use Rattle.dl_history.specs.Closed.{Closed}
+use Rattle.dl_history.specs.Closed.{Closed, IsClosed}
 use Rattle.dl_history.specs.History.{log}
 use Rattle.dl_history.specs.Kept.{kept}
-use Rattle.dl_history.specs.Service.{service}
 use Rattle.dl_history.specs.declared.event.Event.{Event}
 use Rattle.dl_history.proofs.CellOutcomes.{kept_outcome, outcome_begun}
 use Rattle.dl_history.proofs.history.History.outcome.Goals as goal
 
 pub returns-clause-given : goal.returns-clause-given
-returns-clause-given g c =
-    let s = g.L.LoaderName.service in
+returns-clause-given c =
     let inside = c.self.inside in
-    let given = kept_outcome s (kept inside.journal.history inside.desk.book inside.journal.cells) c.args.cell (option_copied c.outcome.result)
-    c.self.invariant.kept c.outcome.ensures in
+    let given = kept_outcome c.self.invariant.0 (kept inside.events inside.desk.book inside.cells) c.args.cell (option_copied c.outcome.result)
+    c.self.invariant.1.kept c.outcome.ensures in
     subst (λ (es : List Event). option_copied c.outcome.result ≡ outcome (log es) c.args.cell) (ap (λ (h : Closed). h.events) c.self.view_is) given
 
 pub returns-clause-begun : goal.returns-clause-begun
-returns-clause-begun g c =
-    let s = g.L.LoaderName.service in
-    let given : option_copied c.outcome.result ≡ outcome (log c.args.self.now.events) c.args.cell = returns-clause-given g c in
-    outcome_begun (λ (o : Bor Outcome). o.now) c.outcome.result s c.args.self.now.events c.args.cell c.self.invariant.answers c.keeps.ensures.legal
-    c.keeps.ensures.ended given
+returns-clause-begun c =
+    let closed = subst (IsClosed c.self.invariant.0) c.self.view_is c.self.invariant.1.closed_is in
+    let given : option_copied c.outcome.result ≡ outcome (log c.args.self.now.events) c.args.cell = returns-clause-given c in
+    outcome_begun (λ (o : Bor Outcome). o.now) c.outcome.result c.self.invariant.0 c.args.self.now.events c.args.cell c.self.invariant.1.answers closed.legal
+    closed.ended given
