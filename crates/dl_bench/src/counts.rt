@@ -1,7 +1,7 @@
 //! Counts of what a workload did.
 
 use dl_desk::LoadReply;
-use dl_loader::{Call, EntryKind, Event, History, LoaderName, Reply};
+use dl_loader::{Call, EntryKind, Event, History, Reply};
 use dl_source::BatchAnswer;
 
 /// Loads that began a cell and loads that were hits, batches begun, jobs sent, batches settled, lines
@@ -20,7 +20,7 @@ pub struct Counts {
 
 impl Counts {
     /// What the events of a history add to counts.
-    pub fn of_history<L: LoaderName>(history: &History<L>) -> Counts {
+    pub fn of_history(history: &History) -> Counts {
         let mut counts = Counts::default();
         let events = history.events();
         for at in 0..events.len() {

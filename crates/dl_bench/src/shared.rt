@@ -57,8 +57,8 @@ fn one_caller<L: LoaderName, S: Source, R: Wait>(
     match loader.close(alloc, passes) {
         Ok(history) => {
             let mut counts = Counts::of_history(&history);
-            for entry in history.entries(0) {
-                counts.entry(entry.kind());
+            for kind in history.entries(0) {
+                counts.entry(*kind);
             }
             Ok(counts)
         }

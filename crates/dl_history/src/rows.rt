@@ -2,6 +2,7 @@
 
 ghost use Rattle.std.specs.Prelude.{◌≡◌};
 ghost use Rattle.dl_cells.specs.Cells.{row_len};
+ghost use Rattle.dl_desk.specs.Limits.{AreLimits};
 
 use crate::event::{Ending, Event};
 use crate::name::LoaderName;
@@ -55,6 +56,13 @@ impl<L: LoaderName> Rows<L> {
         ensures view { result ≡ self.now }
     {
         self.limits
+    }
+
+    /// What the rows of a loader keep: its limits are limits.
+    pub fn keeps(&self)
+        ensures { AreLimits L.service.rules.limits }
+    {
+        let _ = self.limits.max_calls();
     }
 
     /// The row that the events lie in.

@@ -1,7 +1,8 @@
 //! Passes: what a caller knows of the history.
 
-ghost use Rattle.std.specs.Prelude.{◌≡◌, ◌+◌, ◌<◌, ◌≤◌, Bool, false, IfSome, IsSome, OnErr, OnOk, Some, [], length, slice_get};
+ghost use Rattle.std.specs.Prelude.{◌≡◌, ◌+◌, ◌<◌, ◌≤◌, Bool, false, IfOk, IfSome, IsSome, OnErr, OnOk, Some, [], length, slice_get};
 ghost use Rattle.dl_history.specs.Agrees.{IsAccount, places_of};
+ghost use Rattle.dl_history.specs.Closed.{outline_of};
 ghost use Rattle.dl_loader.specs.Closing.{account_of};
 ghost use Rattle.dl_history.specs.Entries.{calls_of, cell_of_load, cells_of, ending_known, front_of};
 ghost use Rattle.dl_history.specs.Lists.{Among};
@@ -81,20 +82,26 @@ impl<L: LoaderName> Pass<L> {
         self.caller
     }
 
-    /// Takes the pass apart: its account, and its part of the ledger. It takes no memory.
-    pub(crate) fn into_account(self) -> (Account<L>, Share<L>)
-        ensures account { result.0 ≡ account_of self.part }
-        ensures is_account { IsAccount L.service.callers result.0 }
-        ensures one_part { result.1.parts ≡ 1 }
-        ensures counted { result.1.amount ≡ length (places_of result.0.entries) }
+    /// The account of the pass: its caller, and what its entries are. The error is want of memory.
+    pub(crate) fn account(&self, alloc: Global) -> Result<Account, AllocError>
+        ensures { IfOk result (λ account. account ≡ outline_of (account_of self.now.part)) }
     {
         let Pass {
             caller,
             entries,
-            share,
             ..
         } = self;
-        (Account::new(caller, entries), share)
+        Account::of(alloc, *caller, entries.as_slice())
+    }
+
+    /// The pass's part of the ledger, once its entries are no longer needed.
+    pub(crate) fn into_share(self) -> Share<L>
+        ensures is_account { IsAccount L.service.callers (account_of self.part) }
+        ensures one_part { result.parts ≡ 1 }
+        ensures counted { result.amount ≡ length (places_of self.part.entries) }
+    {
+        let Pass { share, .. } = self;
+        share
     }
 
     /// The calls that were made and the outcomes that were read, in order.

@@ -96,7 +96,8 @@ fn callers_on_threads_of_their_own(rt: HostRuntime) -> Result<(), Fail> {
     let hashing = RandomState::new(&rt)?;
     let opening = Opening::new(rt.alloc(), hashing, &users, Limits::new(2, 8, 16)?, 2)?;
     let key = steps::user(rt.alloc(), "u1")?;
-    using::load_by_each::<Brand, _, _>(&rt, rt.alloc(), &users, opening, &key)
+    let history = using::load_by_each::<Brand, _, _>(&rt, rt.alloc(), &users, opening, &key)?;
+    using::assert_history(&rt, rt.alloc(), &history, &key)
 }
 
 /// The rows of calls that one caller makes.

@@ -1,7 +1,8 @@
 //! The accounts of the passes of a loader that is closed, and the history that it leaves.
 
-ghost use Rattle.std.specs.Prelude.{◌≡◌, ◌+◌, ◌≤◌, [], MatchOption, length, sum_by, vec_capacity};
+ghost use Rattle.std.specs.Prelude.{◌≡◌, ◌+◌, IfOk, MatchOption, length, map, sum_by};
 ghost use Rattle.dl_history.specs.Agrees.{Fits, places_of};
+ghost use Rattle.dl_history.specs.Closed.{IsClosed, closed, outline_of};
 ghost use Rattle.dl_history.specs.Lists.{Every};
 ghost use Rattle.dl_history.specs.Service.{AnswersEach};
 ghost use Rattle.dl_loader.specs.Closing.{MayClose, accounts_of};
@@ -9,53 +10,57 @@ ghost use Rattle.dl_loader.specs.Closing.{MayClose, accounts_of};
 use crate::book::Book;
 use crate::pass::Pass;
 use dl_history::{Account, History, LoaderName, Rows};
+use std::alloc::{AllocError, Global};
 use std::sync::ledger::Share;
 
-/// The history of a loader that may be closed with these passes. It takes no memory beside the room for
-/// their accounts.
+/// The accounts of the passes, in order. The error is want of memory.
+pub(crate) fn accounts_of<L: LoaderName>(
+    alloc: Global,
+    passes: &[Pass<L>],
+) -> Result<Vec<Account>, AllocError>
+    ensures { IfOk result (λ accounts. accounts.items ≡ map outline_of (accounts_of passes.now)) }
+{
+    let mut accounts = Vec::with_capacity(alloc, passes.len())?;
+    for pass in passes {
+        accounts.push(pass.account(alloc)?)?;
+    }
+    Ok(accounts)
+}
+
+/// The history of a loader that may be closed with these passes, of which these are the accounts. It takes no memory.
 pub(crate) fn history_of<L: LoaderName>(
     rows: Rows<L>,
     mut book: Book<L>,
     passes: Vec<Pass<L>>,
-    room: Vec<Account<L>>,
-) -> History<L>
+    accounts: Vec<Account>,
+) -> History
     requires parts { L.parts ≡ L.service.callers }
     requires answers { AnswersEach L.service.answer }
     requires may { MayClose L.service.callers book (accounts_of passes.items) }
-    requires none { room.items ≡ [] }
-    requires fits { length passes.items ≤ vec_capacity room }
-    ensures events { result.events ≡ book.history }
-    ensures accounts { result.accounts ≡ accounts_of passes.items }
+    requires accounts { accounts.items ≡ map outline_of (accounts_of passes.items) }
+    ensures history { result ≡ closed book.history (accounts_of passes.items) }
+    ensures closed { IsClosed L.service result }
 {
+    rows.keeps();
     book.keeps();
-    let (accounts, all) = gather(&book, passes, room);
+    let all = gather(&book, passes);
     count(&mut book, all);
     let (desk, journal) = book.into_parts();
     History::of(rows, desk, journal, accounts)
 }
 
-// The accounts of the passes, of which each entry tells what the book has, and their parts of the ledger.
-fn gather<L: LoaderName>(
-    book: &Book<L>,
-    passes: Vec<Pass<L>>,
-    room: Vec<Account<L>>,
-) -> (Vec<Account<L>>, Option<Share<L>>)
-    requires none { room.items ≡ [] }
-    requires fits { length passes.items ≤ vec_capacity room }
-    ensures accounts { result.0.items ≡ accounts_of passes.items }
-    ensures fits { Every (Fits L.service.callers book.now.history book.now.cells) result.0.items }
-    ensures parts { MatchOption result.1 (length passes.items ≡ 0) (λ all. all.parts ≡ length passes.items) }
-    ensures amount { MatchOption result.1 (length passes.items ≡ 0) (λ all. all.amount ≡ sum_by (λ a. length (places_of a.entries)) result.0.items) }
+// The parts of the ledger of all passes, of which each entry tells what the book has.
+fn gather<L: LoaderName>(book: &Book<L>, passes: Vec<Pass<L>>) -> Option<Share<L>>
+    ensures fits { Every (Fits L.service.callers book.now.history book.now.cells) (accounts_of passes.items) }
+    ensures parts { MatchOption result (length passes.items ≡ 0) (λ all. all.parts ≡ length passes.items) }
+    ensures amount { MatchOption result (length passes.items ≡ 0) (λ all. all.amount ≡ sum_by (λ a. length (places_of a.entries)) (accounts_of passes.items)) }
 {
-    let mut accounts = room;
     let mut all = None;
     for pass in passes {
-        let (account, share) = pass.into_account();
-        book.agree(account.entries());
-        all = Some(joined(all, share));
-        accounts.push_reserved(account);
+        book.agree(pass.entries());
+        all = Some(joined(all, pass.into_share()));
     }
-    (accounts, all)
+    all
 }
 
 // Parts of the ledger with some more.

@@ -1,16 +1,15 @@
 //! The close of a loader.
 
-ghost use Rattle.std.specs.Prelude.{◌≡◌, ◌≤◌, [], IfErr, IfNone, IfOk, IfSome, OnOk, length, vec_capacity};
-ghost use Rattle.dl_history.specs.Agrees.{Agrees, HasEach, accounts_by, NoneBehind};
+ghost use Rattle.std.specs.Prelude.{◌≡◌, IfErr, IfNone, IfOk, IfSome, OnOk, map};
+ghost use Rattle.dl_history.specs.Agrees.{accounts_by, NoneBehind};
+ghost use Rattle.dl_history.specs.Closed.{IsClosed, outline_of};
 ghost use Rattle.dl_loader.specs.Closing.{accounts_of, IsBehind, MayClose, RefusesClose, earlier, present};
 ghost use Rattle.dl_loader.specs.Book.{Keeps, Locked};
-ghost use Rattle.dl_history.specs.History.{AllEnded, IsLegal};
-ghost use Rattle.dl_history.specs.Lists.{Every};
 
 use crate::book::Book;
 use crate::fault::CloseFault;
 use crate::loader::Loader;
-use crate::loader::accounts::history_of;
+use crate::loader::accounts::{accounts_of, history_of};
 use crate::pass::Pass;
 use dl_history::{Account, History, LoaderName, Rows};
 use std::alloc::Global;
@@ -26,12 +25,9 @@ impl<L: LoaderName> Loader<L> {
         self,
         alloc: Global,
         passes: Vec<Pass<L>>,
-    ) -> Result<History<L>, (CloseFault, Loader<L>, Vec<Pass<L>>)>
-        ensures legal { IfOk result (λ h. IsLegal L.service h.events) }
+    ) -> Result<History, (CloseFault, Loader<L>, Vec<Pass<L>>)>
+        ensures closed { IfOk result (IsClosed L.service) }
         ensures accounts { IfOk result (λ h. h.accounts ≡ accounts_of passes.items) }
-        ensures each { IfOk result (λ h. HasEach L.service.callers h.accounts) }
-        ensures agree { IfOk result (λ h. Every (Agrees h.events) h.accounts) }
-        ensures ended { IfOk result (λ h. AllEnded h.events) }
         ensures fault { IfErr result (λ e. (b : Locked) × Keeps L.service b × RefusesClose L.service.callers b (accounts_of passes.items) e.0) }
         ensures loader { IfErr result (λ e. e.1 ≡ self) }
         ensures passes { IfErr result (λ e. e.2.items ≡ passes.items) }
@@ -44,12 +40,8 @@ impl<L: LoaderName> Loader<L> {
         } = self;
         let book = book.into_inner();
         book.keeps();
-        match room(alloc, &rows, callers, &book, passes.as_slice()) {
-            Ok(accounts) => {
-                let history = history_of(rows, book, passes, accounts);
-                history.keeps();
-                Ok(history)
-            }
+        match accounts(alloc, &rows, callers, &book, passes.as_slice()) {
+            Ok(accounts) => Ok(history_of(rows, book, passes, accounts)),
             Err(fault) => {
                 let loader = Loader {
                     callers,
@@ -63,22 +55,21 @@ impl<L: LoaderName> Loader<L> {
     }
 }
 
-// Room for the accounts of the passes, where the loader may be closed with them.
-fn room<L: LoaderName>(
+// The accounts of the passes, where the loader may be closed with them.
+fn accounts<L: LoaderName>(
     alloc: Global,
     rows: &Rows<L>,
     callers: u32,
     book: &Book<L>,
     passes: &[Pass<L>],
-) -> Result<Vec<Account<L>>, CloseFault>
+) -> Result<Vec<Account>, CloseFault>
     requires callers { callers ≡ L.service.callers }
     ensures may { OnOk result (MayClose L.service.callers book.now (accounts_of passes.now)) }
-    ensures none { IfOk result (λ accounts. accounts.items ≡ []) }
-    ensures room { IfOk result (λ accounts. length passes.now ≤ vec_capacity accounts) }
+    ensures accounts { IfOk result (λ accounts. accounts.items ≡ map outline_of (accounts_of passes.now)) }
     ensures fault { IfErr result (RefusesClose L.service.callers book.now (accounts_of passes.now)) }
 {
     check(rows, callers, book, passes)?;
-    Ok(Vec::with_capacity(alloc, passes.len())?)
+    Ok(accounts_of(alloc, passes)?)
 }
 
 // Whether the loader may be closed with these passes, but for want of memory.

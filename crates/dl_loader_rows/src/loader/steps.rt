@@ -147,7 +147,7 @@ pub(super) fn close<L: LoaderName>(
     alloc: Global,
     loader: Loader<L>,
     pass: Pass<L>,
-) -> Result<History<L>, Fail> {
+) -> Result<History, Fail> {
     let mut passes = Vec::new(alloc);
     passes.push(pass)?;
     loader
@@ -177,10 +177,10 @@ pub(super) fn not_closed<L: LoaderName>(
 }
 
 /// The events of a history end these batches, in this order, where `true` says that a batch is settled.
-pub(super) fn assert_ends<L: LoaderName>(
+pub(super) fn assert_ends(
     rt: &impl Abort,
     alloc: Global,
-    history: &History<L>,
+    history: &History,
     want: &[(u32, bool)],
 ) -> Result<(), Fail> {
     let mut ends = Vec::new(alloc);

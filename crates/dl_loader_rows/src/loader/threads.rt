@@ -117,11 +117,7 @@ fn read<L: LoaderName, R: Abort + Wait>(
 }
 
 /// The four events, the first two of which are the loads, in whichever order.
-fn assert_history<L: LoaderName>(
-    rt: &impl Abort,
-    alloc: Global,
-    history: &History<L>,
-) -> Result<(), Fail> {
+fn assert_history(rt: &impl Abort, alloc: Global, history: &History) -> Result<(), Fail> {
     let events = history.events();
     assert_eq!(rt; events.len(), 4);
     let replies = [LoadReply::Fresh { cell: 0, batch: 0 }, LoadReply::Hit(0)];
@@ -136,6 +132,6 @@ fn assert_history<L: LoaderName>(
     let Some(last) = history.entries(1).last() else {
         return Err("no entries".into());
     };
-    assert_eq!(rt; last.kind(), EntryKind::Saw { cell: 0, at: 3 });
+    assert_eq!(rt; *last, EntryKind::Saw { cell: 0, at: 3 });
     Ok(())
 }

@@ -17,21 +17,20 @@ use std::test::Fail;
 use std::thread::Threads;
 use std::{slice, thread};
 
-/// Each caller of an opening loads the key on a thread of its own, and the loader is closed.
+/// Opens a loader, has each of its callers load the key on a thread of its own, and closes it: its history.
 pub(super) fn load_by_each<
     L: LoaderName + Send + Sync,
     S: Source + Sync,
-    R: Abort + Threads + Wait + Sync,
->(rt: &R, alloc: Global, source: &S, opening: Opening<'_, S>, key: &FetchKey) -> Result<(), Fail>
+    R: Threads + Wait + Sync,
+>(rt: &R, alloc: Global, source: &S, opening: Opening<'_, S>, key: &FetchKey) -> Result<History, Fail>
     requires source { opening.source ≡ source.now }
     requires names { Names S.answer opening L.service L.parts L.log L.outcomes L.name }
 {
     let (loader, mut passes) = Loader::<L>::start(alloc, opening)?;
     start_threads(rt, alloc, source, &loader, passes.as_mut_slice(), key);
-    match loader.close(alloc, passes) {
-        Ok(history) => assert_history(rt, alloc, &history, key),
-        Err((fault, _, _)) => Err(fault.into()),
-    }
+    loader
+        .close(alloc, passes)
+        .map_err(|(fault, _, _)| fault.into())
 }
 
 /// Each caller loads the key on a thread of its own.
@@ -90,10 +89,10 @@ fn load<L: LoaderName, S: Source, R: Wait>(
 }
 
 /// The history has one batch, which has the key alone and is settled, and both callers have read the outcome.
-fn assert_history<L: LoaderName>(
+pub(super) fn assert_history(
     rt: &impl Abort,
     alloc: Global,
-    history: &History<L>,
+    history: &History,
     key: &FetchKey,
 ) -> Result<(), Fail> {
     let batches = history.batches();
@@ -108,7 +107,7 @@ fn assert_history<L: LoaderName>(
         let Some(last) = history.entries(caller).last() else {
             return Err("no entries".into());
         };
-        assert!(rt; matches!(last.kind(), EntryKind::Saw { cell: 0, .. }));
+        assert!(rt; matches!(last, EntryKind::Saw { cell: 0, .. }));
     }
     Ok(())
 }
