@@ -1,4 +1,4 @@
--- A `Seen` holds a name and a value that are fixed for good, and nothing of the thread that learned them.
+-- A `Learned` holds a name and a value that are fixed for good, and nothing of the thread that learned them.
 use Rattle.std.proofs.Common.{ℕ}
 use base.Shift.{Keyless}
 use denote.RattleType.{RattleType}
@@ -6,7 +6,7 @@ use denote.Param.Send.{IsSend, IsSync}
 use Rattle.std.specs.declared.option.Option.{Option}
 use Rattle.std.specs.declared.option.Option.TheVariants.{None, Some}
 use Rattle.once_cell.specs.Once.{noted}
-use Rattle.dl_cells.specs.contracts.seen.Seen.{the_row}
+use Rattle.dl_cells.specs.contracts.learned.Learned.{the_row}
 
 noted_keyless : (R : RattleType) (γ : ℕ) (known : Option R.Denot) → Keyless (noted R γ known)
 noted_keyless R γ None = tt

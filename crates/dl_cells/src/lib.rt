@@ -8,9 +8,9 @@
 //! value that was passed, or which value it held before.
 #![tactic(auto)]
 
+mod learned;
 mod reader;
 mod row;
-mod seen;
 mod segment;
 
 pub use reader::Reader;

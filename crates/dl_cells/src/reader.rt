@@ -4,7 +4,7 @@
 ghost use Rattle.std.specs.Prelude.{◌≡◌, IfSome};
 ghost use Rattle.dl_cells.specs.Cells.{Agrees};
 
-use crate::seen::Seen;
+use crate::learned::Learned;
 use crate::segment::Segment;
 use std::marker::Model;
 
@@ -15,9 +15,9 @@ use std::marker::Model;
 /// four bytes of its place.
 #[derive(Drop)]
 pub struct Reader<T> {
-    pub(crate) segment: Seen<Segment<T>>,
+    pub(crate) segment: Learned<Segment<T>>,
     pub(crate) place: u32,
-    pub(crate) value: Seen<T>,
+    pub(crate) value: Learned<T>,
 }
 
 impl<T> Model for Reader<T> {

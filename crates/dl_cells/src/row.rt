@@ -6,8 +6,8 @@ ghost use Rattle.std.specs.declared.option.Option.TheVariants.{None, Some};
 ghost use Rattle.once_cell.specs.Once.{cell_name};
 ghost use Rattle.dl_cells.specs.Cells.{row_len, cell_of, Agrees};
 
+use crate::learned::Learned;
 use crate::reader::Reader;
-use crate::seen::Seen;
 use crate::segment::{SEGMENT, Segment};
 use once_cell::race::OnceBox;
 use std::alloc::{AllocError, Global};
@@ -77,9 +77,9 @@ impl<T: Drop> CellRow<T> {
         let place = i % SEGMENT;
         let cell = home.get_or_try_init_as(make, &mut note)?.cell(place);
         Ok(Reader {
-            segment: Seen::of(&mut note),
+            segment: Learned::of(&mut note),
             place,
-            value: Seen::of(&mut cell.note()),
+            value: Learned::of(&mut cell.note()),
         })
     }
 

@@ -5,7 +5,7 @@ use Rattle.dl_desk.specs.Key.{Key}
 use Rattle.dl_desk.specs.Limits.{Rules}
 use Rattle.dl_desk.specs.History.{Atom, Begun, begins, is_named, begun, members, sent, end_of, forgets, IsAnswered, IsLegal}
 use Rattle.dl_desk.specs.declared.reply.End.{End}
-use Rattle.dl_desk.specs.Book.{Batch, Book, batch_at, StandsFor}
+use Rattle.dl_desk.specs.BatchBook.{Batch, BatchBook, batch_at, StandsFor}
 use Rattle.dl_desk.specs.Prepared.{put_member, put_in, Begins}
 use Rattle.dl_desk.proofs.Facts.{IsFresh, fresh_cell, room-le, named, members-unnamed, sent-le, end_of-unsent}
 use Rattle.dl_desk.proofs.HeldLemmas.{held-begun}
@@ -84,7 +84,7 @@ batches_after rules a before g legal fresh is xs count lists (Some n) o_is = by 
         )
 
 -- The book after a cell was begun stands for the history with the atom that began it.
-pub stands_begun : (old new : Book) (a : Atom) (before : List Atom) (g : Begun) → StandsFor old before → IsAnswered old.rules before a → IsBeginning a before g → Begins old g.key g.batch new → StandsFor new (a ∷ before)
+pub stands_begun : (old new : BatchBook) (a : Atom) (before : List Atom) (g : Begun) → StandsFor old before → IsAnswered old.rules before a → IsBeginning a before g → Begins old g.key g.batch new → StandsFor new (a ∷ before)
 stands_begun old new a before g stands answered is put = record {
   legal = let P : Rules → Type 0 = λ r. IsLegal r (a ∷ before) in subst P (sym put.rules) (answered, stands.legal);
   memo = λ q. put.memo q ∙ (rw (next, stands.memo q) (sym (held-begun a before q g is.begins_it (is.keeps q))));

@@ -7,7 +7,7 @@ use Rattle.dl_desk.specs.Limits.{Rules}
 use Rattle.dl_desk.specs.History.{Atom, Settle, Fail, Begun, begins, cells, is_number, members, Latest, later, latest_at, latest, forgets, cell_kept, held, begun, end_of, MayEnd, IsAnswered, IsLegal}
 use Rattle.dl_desk.specs.declared.reply.End.{End}
 use Rattle.dl_desk.specs.declared.reply.End.TheVariants.{Settled, Failed}
-use Rattle.dl_desk.specs.Book.{Batch, Book, batch_at, StandsFor}
+use Rattle.dl_desk.specs.BatchBook.{Batch, BatchBook, batch_at, StandsFor}
 use Rattle.dl_desk.specs.Prepared.{has_pair, without, set_end, MayEndIn, Forgets}
 use Rattle.dl_desk.proofs.KeyLemmas.{key_eq-sym}
 use Rattle.dl_desk.proofs.Facts.{fresh_cell}
@@ -148,7 +148,7 @@ get-set_end_other (x ∷ xs) zero (suc n) e other = refl
 get-set_end_other (x ∷ xs) (suc b) zero e other = refl
 get-set_end_other (x ∷ xs) (suc b) (suc n) e other = get-set_end_other xs b n e (λ s. other (omega arith))
 
-ended_batches : (old : Book) (history : List Atom) (b : ℕ) (e : End) → StandsFor old history → b < begun history → (n : ℕ) → n < begun history → slice_get (set_end old.batches b e) n ≡ Some (record { members = members history n; end = cond (nat_eq n b) (Some e) (end_of history n) })
+ended_batches : (old : BatchBook) (history : List Atom) (b : ℕ) (e : End) → StandsFor old history → b < begun history → (n : ℕ) → n < begun history → slice_get (set_end old.batches b e) n ≡ Some (record { members = members history n; end = cond (nat_eq n b) (Some e) (end_of history n) })
 ended_batches old history b e stands low n below = by (nat_eq n b) refl
   where
     by : (t : Bool) → nat_eq n b ≡ t → slice_get (set_end old.batches b e) n ≡ Some (record { members = members history n; end = cond t (Some e) (end_of history n) })
@@ -156,21 +156,21 @@ ended_batches old history b e stands low n below = by (nat_eq n b) refl
     by false other = get-set_end_other old.batches b n e (eqb-false n b other) ∙ stands.batches n below
 
 -- the book's batch may end where the history's may
-pub may_end : (book : Book) (history : List Atom) (b : ℕ) → StandsFor book history → MayEndIn book b → MayEnd history b
+pub may_end : (book : BatchBook) (history : List Atom) (b : ℕ) → StandsFor book history → MayEndIn book b → MayEnd history b
 may_end book history b stands may = record {
   is_sent = rw stands.sent at may.is_sent;
   no_end = let low : b < begun history = rw stands.count at may.is_begun in rw (stands.batches b low) at may.no_end;
 }
 
 -- the book with an end of one of its batches
-abbrev pub ended : Book → ℕ → End → Book
+abbrev pub ended : BatchBook → ℕ → End → BatchBook
 ended book b e = record book { batches = set_end book.batches b e }
 
 -- the book after a settle stands for the history with it
-pub stands_settled : (old new : Book) (history : List Atom) (b : ℕ) → StandsFor old history → MayEndIn old b → new ≡ ended old b Settled → StandsFor new (Settle b ∷ history)
+pub stands_settled : (old new : BatchBook) (history : List Atom) (b : ℕ) → StandsFor old history → MayEndIn old b → new ≡ ended old b Settled → StandsFor new (Settle b ∷ history)
 stands_settled old new history b stands may is =
     let low : b < begun history = rw stands.count at may.is_begun in
-    let P : Book → Type 0 = λ book. StandsFor book (Settle b ∷ history) in
+    let P : BatchBook → Type 0 = λ book. StandsFor book (Settle b ∷ history) in
     subst P (sym is) (record {
       legal = (may_end old history b stands may, stands.legal);
       memo = λ k. stands.memo k ∙ sym (held-same (Settle b) history k refl (λ batch. refl));
@@ -181,10 +181,10 @@ stands_settled old new history b stands may is =
     })
 
 -- and so does the book after a fail, which first forgot the batch's own cells
-pub stands_failed : (old forgot new : Book) (history : List Atom) (b : ℕ) → StandsFor old history → MayEndIn old b → Forgets old b forgot → new ≡ ended forgot b Failed → StandsFor new (Fail b ∷ history)
+pub stands_failed : (old forgot new : BatchBook) (history : List Atom) (b : ℕ) → StandsFor old history → MayEndIn old b → Forgets old b forgot → new ≡ ended forgot b Failed → StandsFor new (Fail b ∷ history)
 stands_failed old forgot new history b stands may f is =
     let low : b < begun history = rw stands.count at may.is_begun in
-    let P : Book → Type 0 = λ book. StandsFor book (Fail b ∷ history) in
+    let P : BatchBook → Type 0 = λ book. StandsFor book (Fail b ∷ history) in
     subst P (sym is) (record {
       legal = let R : Rules → Type 0 = λ r. IsLegal r (Fail b ∷ history) in subst R (sym f.rules) (may_end old history b stands may, stands.legal);
       memo = λ k. f.memo k ∙ (rw (members_at-are old history stands b low, stands.memo k) (sym (held-fail old.rules history stands.legal b k)));

@@ -5,7 +5,7 @@ use Rattle.std.proofs.lemmas.Bool.{cases_eq, eqb-true, eq-eqb, true≢false}
 use Rattle.std.proofs.lemmas.Option.{slice_get-map, slice_get_within}
 use Rattle.std.proofs.lemmas.List.{map-set, length-set, length-take}
 use Rattle.dl_desk.specs.Stored.{Stored}
-use Rattle.dl_desk.specs.Book.{Batch}
+use Rattle.dl_desk.specs.BatchBook.{Batch}
 use Rattle.dl_desk.specs.Prepared.{whole, front, IsStored, set_end}
 use Rattle.dl_desk.specs.Marks.{IsDesk}
 use Rattle.dl_desk.specs.declared.desk.Extent.{Extent}

@@ -7,12 +7,12 @@ use Rattle.dl_desk.specs.History.{Atom, Load, load_reply, loaded, load_replies}
 use Rattle.dl_desk.specs.declared.reply.LoadReply.{LoadReply}
 use Rattle.dl_desk.specs.declared.fault.DeskFault.{DeskFault}
 use Rattle.dl_desk.specs.Calls.{Loads, refusal, IsRefusal}
-use Rattle.dl_desk.specs.Book.{Book, Desk, StandsFor}
+use Rattle.dl_desk.specs.BatchBook.{BatchBook, Desk, StandsFor}
 use Rattle.dl_desk.specs.Prepared.{RefusesStep}
 use Rattle.dl_desk.proofs.Counts.{loaded-append, load_replies-snoc, full-none, refused_at}
 
 -- What holds after loads of some keys were prepared in a desk that showed a book.
-pub record Loading (book : Book) (desk : Desk) (done : List Key) (replies : List LoadReply) : Type 0 where
+pub record Loading (book : BatchBook) (desk : Desk) (done : List Key) (replies : List LoadReply) : Type 0 where
   pub shown : desk.book ≡ book
   pub rules : desk.prepared.rules ≡ book.rules
   pub stands : (history : List Atom) → StandsFor book history → StandsFor desk.prepared (loaded book.rules history done)
@@ -28,7 +28,7 @@ pub record Loaded (old new : Desk) (k : Key) (reply : LoadReply) : Type 0 where
   pub within : new.prepared.cells ≤ new.prepared.rules.limits.max_cells
 
 -- one more load
-pub loading_more : (book : Book) (old new : Desk) (done : List Key) (replies : List LoadReply) (k : Key) (reply : LoadReply) → Loading book old done replies → Loaded old new k reply → Loading book new (done ++ k ∷ []) (replies ++ reply ∷ [])
+pub loading_more : (book : BatchBook) (old new : Desk) (done : List Key) (replies : List LoadReply) (k : Key) (reply : LoadReply) → Loading book old done replies → Loaded old new k reply → Loading book new (done ++ k ∷ []) (replies ++ reply ∷ [])
 loading_more book old new done replies k reply l s = record {
   shown = s.shown ∙ l.shown;
   rules = s.rules ∙ l.rules;
@@ -41,23 +41,23 @@ loading_more book old new done replies k reply l s = record {
     answer history stands = s.answer (loaded book.rules history done) (l.stands history stands) ∙ ap (λ (r : Rules). load_reply r (loaded book.rules history done) k) l.rules
 
 -- the same, by the place of the key in the whole list
-pub loading_at : (book : Book) (old new : Desk) (keys : List Key) (i : ℕ) (replies : List LoadReply) (k : Key) (reply : LoadReply) → i < length keys → k ≡ get_or keys i k → Loading book old (take i keys) replies → Loaded old new k reply → Loading book new (take (i + 1) keys) (replies ++ reply ∷ [])
+pub loading_at : (book : BatchBook) (old new : Desk) (keys : List Key) (i : ℕ) (replies : List LoadReply) (k : Key) (reply : LoadReply) → i < length keys → k ≡ get_or keys i k → Loading book old (take i keys) replies → Loaded old new k reply → Loading book new (take (i + 1) keys) (replies ++ reply ∷ [])
 loading_at book old new keys i replies k reply low at l s =
     let next : take (i + 1) keys ≡ take i keys ++ k ∷ [] = take_more keys i k low ∙ ap (λ (x : Key). take i keys ++ x ∷ []) (sym at) in
     rw next (loading_more book old new (take i keys) replies k reply l s)
 
 -- after all of them the call is accepted
-pub loading_all : (book : Book) (desk : Desk) (keys : List Key) (i : ℕ) (replies : List LoadReply) → length keys ≤ i → Loading book desk (take i keys) replies → Loading book desk keys replies
+pub loading_all : (book : BatchBook) (desk : Desk) (keys : List Key) (i : ℕ) (replies : List LoadReply) → length keys ≤ i → Loading book desk (take i keys) replies → Loading book desk keys replies
 loading_all book desk keys i replies high l = rw (take_all i keys high) at l
 
-pub loading_accepted : (book : Book) (desk : Desk) (keys : List Key) (replies : List LoadReply) → Loading book desk keys replies → (history : List Atom) → StandsFor book history → refusal book.rules history (Loads keys) ≡ None
+pub loading_accepted : (book : BatchBook) (desk : Desk) (keys : List Key) (replies : List LoadReply) → Loading book desk keys replies → (history : List Atom) → StandsFor book history → refusal book.rules history (Loads keys) ≡ None
 loading_accepted book desk keys replies l history stands =
     let s : StandsFor desk.prepared (loaded book.rules history keys) = l.stands history stands in
     let w : desk.prepared.cells ≤ book.rules.limits.max_cells = rw l.rules at l.within in
     full-none book.rules history keys (rw s.cells at w)
 
 -- a refused step refuses the call
-pub loading_refused : (book : Book) (desk : Desk) (keys : List Key) (i : ℕ) (replies : List LoadReply) (k : Key) (fault : DeskFault) → i < length keys → k ≡ get_or keys i k → Loading book desk (take i keys) replies → RefusesStep desk.prepared k fault → (history : List Atom) → StandsFor book history → IsRefusal book.rules history (Loads keys) fault
+pub loading_refused : (book : BatchBook) (desk : Desk) (keys : List Key) (i : ℕ) (replies : List LoadReply) (k : Key) (fault : DeskFault) → i < length keys → k ≡ get_or keys i k → Loading book desk (take i keys) replies → RefusesStep desk.prepared k fault → (history : List Atom) → StandsFor book history → IsRefusal book.rules history (Loads keys) fault
 loading_refused book desk keys i replies k fault low at l refuses history stands =
     let split : take i keys ++ k ∷ drop (i + 1) keys ≡ keys = ap (λ (ys : List Key). take i keys ++ ys) (ap (λ (x : Key). x ∷ drop (i + 1) keys) at ∙ sym (drop_more keys i k low)) ∙ take-append-drop i keys in
     let P : List Key → Type 0 = λ ks. IsRefusal book.rules history (Loads ks) fault in

@@ -7,7 +7,7 @@ use Rattle.std.proofs.lemmas.List.{map-append, map-set, length-map, length-take,
 use Rattle.dl_desk.specs.Key.{Key, key_eq}
 use Rattle.dl_desk.specs.Stored.{Stored, blank}
 use Rattle.dl_desk.specs.Limits.{Rules}
-use Rattle.dl_desk.specs.Book.{Batch, Book}
+use Rattle.dl_desk.specs.BatchBook.{Batch, BatchBook}
 use Rattle.dl_desk.specs.Prepared.{whole, front, empty, IsStored, members_of, put_member}
 use Rattle.dl_desk.specs.Marks.{Grows, more, IsAdded}
 use Rattle.dl_desk.proofs.KeyLemmas.{key_eq-sym, key_eq-same}
@@ -124,5 +124,5 @@ batches_shown begun sent cells most n m xs ys is added =
 
 -- two books with the same parts
 pub same_book : (rules : Rules) (cells sent : ℕ) (memo memo' : List (Key × ℕ)) (batches batches' : List Batch) → memo' ≡ memo → batches' ≡ batches
-    → ◌≡◌ {A = Book} (record { rules = rules; cells = cells; sent = sent; memo = memo'; batches = batches' }) (record { rules = rules; cells = cells; sent = sent; memo = memo; batches = batches })
+    → ◌≡◌ {A = BatchBook} (record { rules = rules; cells = cells; sent = sent; memo = memo'; batches = batches' }) (record { rules = rules; cells = cells; sent = sent; memo = memo; batches = batches })
 same_book rules cells sent memo memo' batches batches' m b = rw (m, b) refl

@@ -1,7 +1,7 @@
 -- The batches with one more member, place by place.
 use Rattle.std.proofs.Common.{◌≡◌, ap, ℕ, zero, suc, ◌+◌, ◌<◌, ◌≤◌, List, [], ◌∷◌, ◌++◌, length, Option, Some, None, slice_get, refl, arith}
 use Rattle.dl_desk.specs.Key.{Key}
-use Rattle.dl_desk.specs.Book.{Batch}
+use Rattle.dl_desk.specs.BatchBook.{Batch}
 use Rattle.dl_desk.specs.Prepared.{put_member}
 
 pub length-put_member : (xs : List Batch) (n : ℕ) (m : Key × ℕ) → n < length xs → length (put_member xs n m) ≡ length xs

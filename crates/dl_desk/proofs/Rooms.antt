@@ -2,27 +2,27 @@
 use Rattle.std.proofs.Common.{◌≡◌, ◌∙◌, ap, ℕ, zero, suc, ◌<◌, Bool, List, length, Option, Some, None, refl, arith}
 use Rattle.dl_desk.specs.Key.{Key}
 use Rattle.dl_desk.specs.History.{Atom, begun, members, serves, greatest, is_open, room_in, room}
-use Rattle.dl_desk.specs.Book.{Book, StandsFor}
+use Rattle.dl_desk.specs.BatchBook.{BatchBook, StandsFor}
 use Rattle.dl_desk.specs.Prepared.{members_at, is_open_in, room_of, book_room}
 use Rattle.dl_desk.proofs.Facts.{greatest-below}
 
 -- the members of a batch are those that the history tells
-pub members_at-are : (book : Book) (history : List Atom) → StandsFor book history → (b : ℕ) → b < begun history → members_at book b ≡ members history b
+pub members_at-are : (book : BatchBook) (history : List Atom) → StandsFor book history → (b : ℕ) → b < begun history → members_at book b ≡ members history b
 members_at-are book history stands b low = rw (stands.batches b low) refl
 
 greatest-same : (f g : ℕ → Bool) (n : ℕ) → ((b : ℕ) → b < n → f b ≡ g b) → greatest f n ≡ greatest g n
 greatest-same f g zero same = refl
 greatest-same f g (suc n) same = rw (same n (omega arith), greatest-same f g n (λ b low. same b (omega arith))) refl
 
-is_open_in-is : (book : Book) (history : List Atom) → StandsFor book history → (k : Key) (b : ℕ) → b < begun history → is_open_in book k b ≡ is_open book.rules history k b
+is_open_in-is : (book : BatchBook) (history : List Atom) → StandsFor book history → (k : Key) (b : ℕ) → b < begun history → is_open_in book k b ≡ is_open book.rules history k b
 is_open_in-is book history stands k b low = rw (members_at-are book history stands b low, stands.sent) refl
 
-room_of-is : (book : Book) (history : List Atom) → StandsFor book history → (k : Key) (o : Option ℕ) → ((b : ℕ) → o ≡ Some b → b < begun history) → room_of book k o ≡ room_in book.rules history k o
+room_of-is : (book : BatchBook) (history : List Atom) → StandsFor book history → (k : Key) (o : Option ℕ) → ((b : ℕ) → o ≡ Some b → b < begun history) → room_of book k o ≡ room_in book.rules history k o
 room_of-is book history stands k None below = stands.count
 room_of-is book history stands k (Some b) below = rw (is_open_in-is book history stands k b (below b refl), stands.count) refl
 
 -- the room that the book has is the history's
-pub book_room-is : (book : Book) (history : List Atom) → StandsFor book history → (k : Key) → book_room book k ≡ room book.rules history k
+pub book_room-is : (book : BatchBook) (history : List Atom) → StandsFor book history → (k : Key) → book_room book k ≡ room book.rules history k
 book_room-is book history stands k =
     let f : ℕ → Bool = λ b. serves book.rules k (members_at book b) in
     let g : ℕ → Bool = λ b. serves book.rules k (members history b) in

@@ -4,7 +4,7 @@ use Rattle.std.proofs.lemmas.Bool.{cases_lt, cases_eq}
 use Rattle.std.proofs.lemmas.List.{length-map}
 use Rattle.std.proofs.lemmas.Option.{slice_get_read}
 use Rattle.dl_desk.specs.Stored.{Stored}
-use Rattle.dl_desk.specs.Book.{Batch}
+use Rattle.dl_desk.specs.BatchBook.{Batch}
 use Rattle.dl_desk.specs.Prepared.{whole, front, Same}
 
 -- ---- one place of a list

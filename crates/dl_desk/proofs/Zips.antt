@@ -8,7 +8,7 @@ use Rattle.dl_desk.specs.Key.{Key, key_eq}
 use Rattle.dl_desk.specs.History.{has_member}
 use Rattle.dl_desk.specs.declared.reply.End.{End}
 use Rattle.dl_desk.specs.Stored.{Stored}
-use Rattle.dl_desk.specs.Book.{Batch}
+use Rattle.dl_desk.specs.BatchBook.{Batch}
 use Rattle.dl_desk.specs.Prepared.{whole, front}
 
 -- there are as many members as cells

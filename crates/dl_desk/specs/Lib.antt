@@ -5,7 +5,7 @@ pub mod Limits
 pub mod History
 pub mod Calls
 pub mod Stored
-pub mod Book
+pub mod BatchBook
 pub mod Prepared
 pub mod Marks
 pub mod Ready

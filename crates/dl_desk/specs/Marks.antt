@@ -2,7 +2,7 @@
 use Rattle.std.specs.Prelude.{◌≡◌, ℕ, ◌<◌, ◌≤◌, List, [], ◌∷◌, ◌++◌, ◌⊎◌, length, map, set, slice_get, Some}
 use Rattle.dl_desk.specs.Key.{Key}
 use Rattle.dl_desk.specs.Stored.{Stored, blank}
-use Rattle.dl_desk.specs.Book.{Batch}
+use Rattle.dl_desk.specs.BatchBook.{Batch}
 use Rattle.dl_desk.specs.Prepared.{whole, front, IsStored, Same}
 use Rattle.dl_desk.specs.declared.desk.Extent.{Extent}
 

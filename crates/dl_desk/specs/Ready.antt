@@ -3,7 +3,7 @@ use Rattle.std.specs.Prelude.{◌≡◌, List}
 use Rattle.dl_desk.specs.Limits.{Rules}
 use Rattle.dl_desk.specs.History.{Atom, load_replies, prime_reply, jobs}
 use Rattle.dl_desk.specs.Calls.{DeskCall, Loads, Primes, Clears, ClearsAll, Sends, Settles, Fails, after}
-use Rattle.dl_desk.specs.Book.{Desk, StandsFor}
+use Rattle.dl_desk.specs.BatchBook.{Desk, StandsFor}
 use Rattle.dl_desk.specs.declared.reply.DeskReply.{DeskReply}
 use Rattle.dl_desk.specs.declared.reply.DeskReply.TheVariants as reply
 use Rattle.dl_desk.specs.declared.ready.Ready.{Ready}

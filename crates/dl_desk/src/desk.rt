@@ -6,25 +6,25 @@ ghost use Rattle.std.specs.Map.{lookup};
 ghost use Rattle.dl_desk.specs.Key.{Key, key_eq};
 ghost use Rattle.dl_desk.specs.Limits.{mixed};
 ghost use Rattle.dl_desk.specs.History.{Atom, Load, Prime, has_member, load_reply, prime_reply};
-ghost use Rattle.dl_desk.specs.Book.{StandsFor};
+ghost use Rattle.dl_desk.specs.BatchBook.{StandsFor};
 ghost use Rattle.dl_desk.specs.Prepared.{members_at, has_room_in, book_room, book_jobs, Puts, PutsAlone, RefusesStep};
 
+mod batch_view;
 mod calls;
 mod ends;
 mod prepare;
-mod view;
 
 use crate::batch::StoredBatch;
 use crate::fault::DeskFault;
 use crate::key::{FetchKey, Keys};
 use crate::limits::Limits;
+use crate::memo_and_batches;
 use crate::reply::{DeskPrime, Job, LoadReply};
-use crate::stored;
+pub use batch_view::BatchView;
 use indexmap::IndexMap;
 use std::alloc::{AllocError, Global};
 use std::hash::RandomState;
 use std::marker::Model;
-pub use view::BatchView;
 
 /// How far a desk has come: batches begun, batches sent, cells begun.
 #[derive(Clone, Copy, Debug, PartialEq, Eq)]
@@ -56,7 +56,7 @@ pub struct Desk {
 impl Model for Desk {
     ghost use Rattle.std.specs.Prelude.{take, map, length};
     ghost use Rattle.dl_desk.specs.Limits.{mixed};
-    ghost use Rattle.dl_desk.specs.Book.{Desk};
+    ghost use Rattle.dl_desk.specs.BatchBook.{Desk};
     ghost use Rattle.dl_desk.specs.Prepared.{whole, front};
     ghost use Rattle.dl_desk.specs.Marks.{IsDesk};
 
@@ -103,7 +103,7 @@ impl Desk {
             return;
         }
         self.memo.truncate(self.shown_memo);
-        stored::cut(
+        memo_and_batches::cut(
             &mut self.batches,
             self.touched as usize,
             self.prepared.begun as usize,
@@ -127,7 +127,7 @@ impl Desk {
         ensures book { self.new.book ≡ self.old.prepared }
         ensures prepared { self.new.prepared ≡ self.old.prepared }
     {
-        stored::show(
+        memo_and_batches::show(
             &mut self.batches,
             self.touched as usize,
             self.prepared.begun as usize,
@@ -184,11 +184,11 @@ impl Desk {
         ensures put { IfOk result (λ reply. Puts self.old.prepared key.now reply self.new.prepared) }
     {
         let cell = self.prepared.cells;
-        if let Some(held) = stored::hold(&mut self.memo, key.try_copy()?, cell)? {
+        if let Some(held) = memo_and_batches::hold(&mut self.memo, key.try_copy()?, cell)? {
             return Ok(LoadReply::Hit(held));
         }
         let newest = self.newest();
-        let batch = stored::join(
+        let batch = memo_and_batches::join(
             &mut self.batches,
             alloc,
             *self.memo.hasher(),
@@ -211,7 +211,7 @@ impl Desk {
         ensures put { IfOk result (λ reply. PutsAlone self.old.prepared key.now reply self.new.prepared) }
     {
         let cell = self.prepared.cells;
-        if let Some(_) = stored::hold(&mut self.memo, key.try_copy()?, cell)? {
+        if let Some(_) = memo_and_batches::hold(&mut self.memo, key.try_copy()?, cell)? {
             return Ok(DeskPrime::Kept);
         }
         self.prepared.cells += 1;

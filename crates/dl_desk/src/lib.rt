@@ -11,11 +11,11 @@ mod json;
 mod key;
 pub mod laws;
 mod limits;
+mod memo_and_batches;
 mod message;
 mod outcome;
 mod ready;
 mod reply;
-mod stored;
 mod text;
 
 pub use desk::{BatchView, Desk};

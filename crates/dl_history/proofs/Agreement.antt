@@ -6,8 +6,8 @@ use Rattle.dl_desk.specs.History.{cells}
 use Rattle.dl_desk.specs.Events.{atoms}
 use Rattle.dl_history.specs.declared.event.Event.{Event}
 use Rattle.dl_history.specs.declared.event.Ending.{Ending}
-use Rattle.dl_history.specs.declared.state.Mark.{Mark}
-use Rattle.dl_history.specs.declared.state.Mark.TheVariants.{Waiting, Ended, Refused}
+use Rattle.dl_history.specs.declared.cell_state.Mark.{Mark}
+use Rattle.dl_history.specs.declared.cell_state.Mark.TheVariants.{Waiting, Ended, Refused}
 use Rattle.dl_history.specs.Agrees.{Account, accounts_by, HasEach, places_of, Tells, Agrees, IsAccount, Meets, Fits}
 use Rattle.dl_history.specs.Kept.{Kept, IsKept, ShowsEnd}
 use Rattle.dl_history.specs.Agrees.{NoneBehind, read_in, reads_of, unshown}

@@ -5,9 +5,9 @@ use Rattle.std.specs.Global.{Box}
 use Rattle.std.specs.List.{repeat}
 use Rattle.std.proofs.Math.Seq.{set-append_seam}
 use Rattle.dl_history.specs.declared.event.Ending.{Ending}
-use Rattle.dl_history.specs.declared.state.Mark.{Mark}
-use Rattle.dl_history.specs.declared.state.Mark.TheVariants.{Waiting, Ended, Refused}
-use Rattle.dl_history.specs.Journal.{Cell, waiting, ended, refused, Refuses}
+use Rattle.dl_history.specs.declared.cell_state.Mark.{Mark}
+use Rattle.dl_history.specs.declared.cell_state.Mark.TheVariants.{Waiting, Ended, Refused}
+use Rattle.dl_history.specs.Journal.{Cell, waiting, showing, refused, Refuses}
 use Rattle.dl_history.specs.Kept.{ShowsEnd}
 
 -- ---- more elements
@@ -68,7 +68,7 @@ pub waiting_shows : (end : Option Ending) (x : Cell) → end ≡ None → x ≡ 
 waiting_shows end x none is = let P : Cell → Type 0 = λ y. ShowsEnd end y.mark y.shows in subst P (sym is) (none, refl)
 
 -- a cell that took its outcome shows its end
-pub ended_shows : (end : Ending) → ShowsEnd (Some end) (ended end).mark (ended end).shows
+pub ended_shows : (end : Ending) → ShowsEnd (Some end) (showing end).mark (showing end).shows
 ended_shows end = (refl, refl)
 
 -- and one that refused it keeps it, whatever else it shows
@@ -93,7 +93,7 @@ pub open_waits : (x : Cell) → ShowsEnd None x.mark x.shows → x ≡ waiting
 open_waits x shows = open_at x.mark x.shows shows
 
 -- the cells after one was given its end, whether it took it or refused it
-pub gets_end : (took : Bool) (old new : List Cell) (c : ℕ) (end : Ending) → MatchBool took (new ≡ set old c (ended end)) (Refuses old new c end)
+pub gets_end : (took : Bool) (old new : List Cell) (c : ℕ) (end : Ending) → MatchBool took (new ≡ set old c (showing end)) (Refuses old new c end)
     → (x : Cell) × (new ≡ set old c x) × ShowsEnd (Some end) x.mark x.shows
-gets_end true old new c end is = (ended end, is, ended_shows end)
+gets_end true old new c end is = (showing end, is, ended_shows end)
 gets_end false old new c end is = (refused is.0 is.1, is.3, refused_shows end is.0 is.1 is.2)

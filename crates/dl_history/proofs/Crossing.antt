@@ -20,7 +20,7 @@ use Rattle.dl_desk.specs.contracts.outcome.Outcomes as Outcomes
 use Rattle.dl_history.specs.contracts.event.Call as Call
 use Rattle.dl_history.specs.contracts.event.Event as Event
 use Rattle.dl_history.specs.contracts.event.Ending as Ending
-use Rattle.dl_history.specs.contracts.state.Mark as Mark
+use Rattle.dl_history.specs.contracts.cell_state.Mark as Mark
 use Rattle.std.specs.contracts.alloc.Global as Heap
 use Rattle.std.specs.contracts.impls.GlobalAllocator.TheImpl.{ghosts}
 use Rattle.std.specs.contracts.vec.Vec as Vec
@@ -31,7 +31,7 @@ use Rattle.dl_history.specs.contracts.journal.Journal as Journal
 use Rattle.dl_history.specs.contracts.journal.Journal.TheInside as journal
 use Rattle.dl_history.specs.contracts.rows.Rows as Rows
 use Rattle.dl_history.specs.contracts.rows.Rows.TheInside as rows
-use Rattle.dl_history.specs.contracts.state.State as State
+use Rattle.dl_history.specs.contracts.cell_state.CellState as CellState
 use Rattle.dl_desk.specs.contracts.limits.Limits as Limits
 use Rattle.dl_desk.proofs.limits.Limits.TheSendSync as limits
 use Rattle.dl_cells.proofs.reader.Reader.TheSendSync as reader
@@ -82,8 +82,8 @@ Event-sync = search (Call-field-sync, reply.the_field_sync, owners_cross, sendab
 pub Mark-field-send : IsSend Mark.the_field.row
 Mark-field-send = search (Ending-send, owners_cross, sendable) depth 40
 
-pub State-send : IsSend State.the_row
-State-send = search (Mark-field-send, reader.the_send, owners_cross, sendable) depth 40
+pub CellState-send : IsSend CellState.the_row
+CellState-send = search (Mark-field-send, reader.the_send, owners_cross, sendable) depth 40
 
 pub log_sync : IsSync (Row.the_row Event.the_row)
 log_sync = search (row.the_sync, Event-send, Event-sync) depth 10
@@ -101,7 +101,7 @@ module _ (T : RattleType) (n : name.Ghosts T.Denot) (l : ledger.Ghosts T.Denot) 
   journal_send : IsSend (journal.the_row T n l)
   journal_send = declared_send (journal.the_type T n l) (
     as_row_send (Vec.the_field (Reader.the_row Event.the_row) Heap.the_row ghosts) (Vec-send _ log_reader_send),
-    (as_row_send (Vec.the_field State.the_row Heap.the_row ghosts) (Vec-send _ State-send), (as_row_send (Counts.the_field T l) counts_send, tt)),
+    (as_row_send (Vec.the_field CellState.the_row Heap.the_row ghosts) (Vec-send _ CellState-send), (as_row_send (Counts.the_field T l) counts_send, tt)),
   )
 
   pub Journal-send : IsSend (Journal.the_row T n l)

@@ -7,10 +7,10 @@ use Rattle.std.proofs.lemmas.Bool.{ltb-false}
 use Rattle.std.proofs.lemmas.Option.{slice_get-map, slice_get_past}
 use Rattle.dl_cells.specs.Cells.{RowName, Reading, Agrees}
 use Rattle.dl_history.specs.declared.event.Ending.{Ending}
-use Rattle.dl_history.specs.declared.state.Mark.TheVariants.{Ended, Refused}
-use Rattle.dl_history.specs.declared.state.State.{State}
+use Rattle.dl_history.specs.declared.cell_state.Mark.TheVariants.{Ended, Refused}
+use Rattle.dl_history.specs.declared.cell_state.CellState.{CellState}
 use Rattle.dl_history.specs.declared.event.Event.{Event}
-use Rattle.dl_history.specs.Journal.{Cell, ended, refused, Refuses, AreKnown, IsKnown, IsJournal, cell_by, cells_by, events_known}
+use Rattle.dl_history.specs.Journal.{Cell, showing, refused, Refuses, AreKnown, IsKnown, IsJournal, cell_by, cells_by, events_known}
 use Rattle.dl_history.specs.Entries.{event_known}
 use Rattle.dl_history.proofs.Logs.{get-snoc}
 
@@ -68,7 +68,7 @@ event_seen now log readers k r (Some x) after known there shown empty =
 -- ---- one event more
 
 -- a journal with one event more
-pub journal_event : {log outcomes : RowName} {counted : ℕ} {readers : List (Reading Event)} {states : List State} (more : ℕ)
+pub journal_event : {log outcomes : RowName} {counted : ℕ} {readers : List (Reading Event)} {states : List CellState} (more : ℕ)
     (longer : List (Reading Event)) (r : Reading Event)
     → IsJournal log outcomes counted readers states → longer ≡ readers ++ r ∷ [] → more ≡ counted + 1 → IsKnown log (length readers) r
     → IsJournal log outcomes more longer states
@@ -79,11 +79,11 @@ journal_event {log} {outcomes} {counted} {readers} {states} more longer r old gr
 }
 
 -- the cells, once a state has its end
-pub cells_ended : (states : List State) (c : ℕ) (s : State) (e : Ending) (took : Bool)
+pub cells_ended : (states : List CellState) (c : ℕ) (s : CellState) (e : Ending) (took : Bool)
     → MatchBool took ((s.mark ≡ Ended) × (s.reader.known ≡ Some e)) ((kept : Box Ending) × (s.mark ≡ Refused kept) × (kept.value ≡ e))
-    → MatchBool took (cells_by (set states c s) ≡ set (cells_by states) c (ended e)) (Refuses (cells_by states) (cells_by (set states c s)) c e)
+    → MatchBool took (cells_by (set states c s) ≡ set (cells_by states) c (showing e)) (Refuses (cells_by states) (cells_by (set states c s)) c e)
 cells_ended states c s e true is =
-    let cell : cell_by s ≡ ended e = rw (is.0, is.1) refl in
+    let cell : cell_by s ≡ showing e = rw (is.0, is.1) refl in
     map-set cell_by states c s ∙ ap (λ (x : Cell). set (cells_by states) c x) cell
 cells_ended states c s e false is =
     let cell : cell_by s ≡ refused is.0 s.reader.known = rw is.1 refl in

@@ -5,9 +5,9 @@ use Rattle.dl_cells.specs.Cells.{RowName, cell_of, row_len, Reading}
 use Rattle.dl_history.specs.Entries.{event_known}
 use Rattle.dl_history.specs.declared.event.Event.{Event}
 use Rattle.dl_history.specs.declared.event.Ending.{Ending}
-use Rattle.dl_history.specs.declared.state.Mark.{Mark}
-use Rattle.dl_history.specs.declared.state.Mark.TheVariants.{Waiting, Ended, Refused}
-use Rattle.dl_history.specs.declared.state.State.{State}
+use Rattle.dl_history.specs.declared.cell_state.Mark.{Mark}
+use Rattle.dl_history.specs.declared.cell_state.Mark.TheVariants.{Waiting, Ended, Refused}
+use Rattle.dl_history.specs.declared.cell_state.CellState.{CellState}
 
 -- how a cell stands: whether it took the end that it was given, or else which one it refused, and what it is known to
 -- show
@@ -20,8 +20,8 @@ abbrev pub waiting : Cell
 waiting = record { mark = Waiting; shows = None }
 
 -- a cell that took its outcome
-abbrev pub ended : Ending → Cell
-ended e = record { mark = Ended; shows = Some e }
+abbrev pub showing : Ending → Cell
+showing e = record { mark = Ended; shows = Some e }
 
 -- a cell that had something else, with the end that it refused
 abbrev pub refused : Box Ending → Option Ending → Cell
@@ -65,19 +65,19 @@ pub record IsKnown (log : RowName) (k : ℕ) (r : Reading Event) : Type 0 where
 pub record AreKnown (log : RowName) (readers : List (Reading Event)) : Type 0 where
   pub at : (k : ℕ) (r : Reading Event) → slice_get readers k ≡ Some r → IsKnown log k r
 
-abbrev pub cell_by : State → Cell
+abbrev pub cell_by : CellState → Cell
 cell_by s = record { mark = s.mark; shows = s.reader.known }
 
 -- the cells as the states have them
-abbrev pub cells_by : List State → List Cell
+abbrev pub cells_by : List CellState → List Cell
 cells_by states = map cell_by states
 
 -- each state is of its own cell
-pub record AreOwn (outcomes : RowName) (states : List State) : Type 0 where
-  pub at : (c : ℕ) (s : State) → slice_get states c ≡ Some s → s.reader.cell ≡ cell_of outcomes c
+pub record AreOwn (outcomes : RowName) (states : List CellState) : Type 0 where
+  pub at : (c : ℕ) (s : CellState) → slice_get states c ≡ Some s → s.reader.cell ≡ cell_of outcomes c
 
 -- each event is counted and lies at its place of the log, and each state is of its own cell
-pub record IsJournal (log outcomes : RowName) (counted : ℕ) (readers : List (Reading Event)) (states : List State) : Type 0 where
+pub record IsJournal (log outcomes : RowName) (counted : ℕ) (readers : List (Reading Event)) (states : List CellState) : Type 0 where
   pub counted_is : counted ≡ length readers
   pub known : AreKnown log readers
   pub own : AreOwn outcomes states

@@ -1,22 +1,22 @@
 -- What is kept beside the events of a history: the desk that stands for it, and the cells that were begun.
 use Rattle.std.specs.Prelude.{◌≡◌, ℕ, ◌≤◌, List, length, Option, None, Some, IsSome, slice_get}
 use Rattle.dl_desk.specs.Events.{atoms}
-use Rattle.dl_desk.specs.Book.{Book, StandsFor}
+use Rattle.dl_desk.specs.BatchBook.{BatchBook, StandsFor}
 use Rattle.dl_history.specs.Service.{Service}
 use Rattle.dl_history.specs.History.{log, IsLegal, ending_of}
 use Rattle.dl_history.specs.Journal.{Cell}
 use Rattle.dl_history.specs.declared.event.Event.{Event}
 use Rattle.dl_history.specs.declared.event.Ending.{Ending}
-use Rattle.dl_history.specs.declared.state.Mark.{Mark}
-use Rattle.dl_history.specs.declared.state.Mark.TheVariants.{Waiting, Ended, Refused}
+use Rattle.dl_history.specs.declared.cell_state.Mark.{Mark}
+use Rattle.dl_history.specs.declared.cell_state.Mark.TheVariants.{Waiting, Ended, Refused}
 
 -- the events in order, the desk with its memo and batches, and each cell that was begun
 pub record Kept : Type 0 where
   pub history : List Event
-  pub desk : Book
+  pub desk : BatchBook
   pub cells : List Cell
 
-abbrev pub kept : List Event → Book → List Cell → Kept
+abbrev pub kept : List Event → BatchBook → List Cell → Kept
 kept history desk cells = record { history = history; desk = desk; cells = cells }
 
 -- A cell that has no end shows nothing. One that has an end shows its outcome with the place of its end, or

@@ -7,7 +7,7 @@ ghost use Rattle.dl_history.specs.Journal.{AreOwn, cells_by};
 ghost use Rattle.dl_history.specs.Kept.{ShownAs};
 
 use crate::event::Ending;
-use crate::state::State;
+use crate::cell_state::CellState;
 use dl_cells::CellRow;
 use dl_desk::Outcome;
 use std::marker::Model;
@@ -16,7 +16,7 @@ use std::marker::Model;
 #[derive(Drop)]
 pub(crate) struct Cells {
     outcomes: CellRow<Ending>,
-    states: Vec<State>,
+    states: Vec<CellState>,
 }
 
 impl Model for Cells {
@@ -37,7 +37,7 @@ impl Model for Cells {
 
 impl Cells {
     /// The cells that stand so, of a row.
-    pub(crate) fn new(outcomes: CellRow<Ending>, states: Vec<State>) -> Cells
+    pub(crate) fn new(outcomes: CellRow<Ending>, states: Vec<CellState>) -> Cells
         requires own { AreOwn outcomes states.items }
         requires in_row { length states.items ≤ row_len outcomes }
         ensures { result ≡ cells_by states.items }

@@ -23,13 +23,13 @@ pub enum EntryKind {
 
 /// An event that lies in the log, and its place there. Contracts see both.
 #[derive(Drop)]
-pub struct Stored<L: LoaderName> {
+pub struct Told<L: LoaderName> {
     at: u16,
     reader: Reader<Event>,
     of: PhantomData<L>,
 }
 
-impl<L: LoaderName> Model for Stored<L> {
+impl<L: LoaderName> Model for Told<L> {
     ghost use Rattle.std.specs.Prelude.{◌≡◌, ◌<◌, Some};
     ghost use Rattle.dl_cells.specs.Cells.{cell_of, row_len};
     ghost use Rattle.dl_history.specs.Entries.{Told, told, event_known};
@@ -44,7 +44,7 @@ impl<L: LoaderName> Model for Stored<L> {
     ghost invariant = { λ e. (e.at < row_len L.log) × (e.reader.cell ≡ cell_of L.log e.at) × (e.reader.known ≡ Some (event_known e.reader.known)) };
 }
 
-impl<L: LoaderName> Stored<L> {
+impl<L: LoaderName> Told<L> {
     /// Puts an event into its cell of the log. Where the log has another event there, hands the event
     /// back. Either way the reader knows from then on what the cell has. It takes no memory.
     pub fn store(
@@ -52,7 +52,7 @@ impl<L: LoaderName> Stored<L> {
         at: u16,
         reader: &mut Reader<Event>,
         event: Box<Event>,
-    ) -> Result<Stored<L>, Box<Event>>
+    ) -> Result<Told<L>, Box<Event>>
         requires row { row.now ≡ L.log }
         requires in_row { at < row_len L.log }
         requires of_cell { reader.old.cell ≡ cell_of L.log at }
@@ -62,7 +62,7 @@ impl<L: LoaderName> Stored<L> {
         ensures back { IfErr result (λ back. back.value ≡ event.value) }
     {
         row.show(u32::from(at), reader, event)?;
-        Ok(Stored {
+        Ok(Told {
             at,
             reader: reader.again(),
             of: PhantomData,
@@ -97,14 +97,14 @@ impl<L: LoaderName> Stored<L> {
 /// An outcome that was read of a cell. Contracts see the cell, the outcome, and the place of the event
 /// that gave it.
 #[derive(Drop)]
-pub struct Seen<L: LoaderName> {
+pub struct Read<L: LoaderName> {
     cell: u32,
     ended_at: u16,
     reader: Reader<Ending>,
     of: PhantomData<L>,
 }
 
-impl<L: LoaderName> Model for Seen<L> {
+impl<L: LoaderName> Model for Read<L> {
     ghost use Rattle.std.specs.Prelude.{◌≡◌, ◌<◌, Some};
     ghost use Rattle.dl_cells.specs.Cells.{cell_of, row_len};
     ghost use Rattle.dl_history.specs.Entries.{Read, read, ending_known};
@@ -119,15 +119,15 @@ impl<L: LoaderName> Model for Seen<L> {
     ghost invariant = { λ s. (s.cell < row_len L.outcomes) × (s.ended_at ≡ (ending_known s.reader.known).at) × (s.reader.cell ≡ cell_of L.outcomes s.cell) × (s.reader.known ≡ Some (ending_known s.reader.known)) };
 }
 
-impl<L: LoaderName> Seen<L> {
+impl<L: LoaderName> Read<L> {
     /// The outcome that a reader of a cell knows, which the event at `at` gave the cell.
-    pub fn of(cell: u32, at: u16, reader: Reader<Ending>) -> Seen<L>
+    pub fn of(cell: u32, at: u16, reader: Reader<Ending>) -> Read<L>
         requires in_row { cell < row_len L.outcomes }
         requires of_cell { reader.cell ≡ cell_of L.outcomes cell }
         requires known { IsSomeAnd reader.known (λ ending. ending.at ≡ at) }
         ensures { result ≡ read cell (ending_known reader.known) }
     {
-        Seen {
+        Read {
             cell,
             ended_at: at,
             reader,
@@ -168,9 +168,9 @@ pub struct Entry<L: LoaderName> {
 #[derive(Drop)]
 enum Kind<L: LoaderName> {
     // A call that was made.
-    Call(Stored<L>),
+    Call(Told<L>),
     // An outcome that was read.
-    Saw(Seen<L>),
+    Saw(Read<L>),
 }
 
 impl<L: LoaderName> Model for Entry<L> {
@@ -188,7 +188,7 @@ impl<L: LoaderName> Model for Entry<L> {
 
 impl<L: LoaderName> Entry<L> {
     /// The entry of a call that was made.
-    pub fn call(stored: Stored<L>) -> Entry<L>
+    pub fn call(stored: Told<L>) -> Entry<L>
         ensures { result ≡ Called stored }
     {
         Entry {
@@ -197,7 +197,7 @@ impl<L: LoaderName> Entry<L> {
     }
 
     /// The entry of an outcome that was read.
-    pub fn saw(seen: Seen<L>) -> Entry<L>
+    pub fn saw(seen: Read<L>) -> Entry<L>
         ensures { result ≡ Saw seen }
     {
         Entry {

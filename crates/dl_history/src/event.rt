@@ -1,6 +1,6 @@
 //! The events of a shared loader: who called what, and what was replied.
 
-use crate::lists::{Jobs, Replies};
+use crate::reply_lists::{Jobs, Replies};
 use dl_desk::{BatchFault, FetchKey, Keys, LoadReply, Outcome, Outcomes};
 
 /// A call of a shared loader, with its arguments.

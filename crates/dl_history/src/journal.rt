@@ -3,18 +3,18 @@
 ghost use Rattle.std.specs.Prelude.{◌≡◌, ◌+◌, ◌<◌, ◌≤◌, ◌∷◌, ◌++◌, [], MatchBool, None, OnOk, Some, length, set, slice_get};
 ghost use Rattle.std.specs.List.{repeat};
 ghost use Rattle.dl_cells.specs.Cells.{cell_of};
-ghost use Rattle.dl_history.specs.Journal.{AreBlank, Refuses, waiting, ended};
+ghost use Rattle.dl_history.specs.Journal.{AreBlank, Refuses, waiting, showing};
 
 mod append;
 mod reading;
 
 use crate::cells::Cells;
-use crate::entry::Stored;
+use crate::entry::Told;
 use crate::event::{Ending, Event};
 use crate::events::Events;
 use crate::name::LoaderName;
 use crate::rows::Rows;
-use crate::state::State;
+use crate::cell_state::CellState;
 pub use append::AppendFault;
 use dl_cells::Reader;
 use std::alloc::{AllocError, Global};
@@ -27,7 +27,7 @@ use std::sync::ledger::Share;
 #[derive(Drop)]
 pub struct Journal<L: LoaderName> {
     log: Vec<Reader<Event>>,
-    states: Vec<State>,
+    states: Vec<CellState>,
     calls: ledger::Book<L>,
 }
 
@@ -91,7 +91,7 @@ impl<L: LoaderName> Journal<L> {
     }
 
     // Adds the next event, which the share of its caller counts. It takes no memory.
-    fn add(&mut self, stored: &Stored<L>, share: &mut Share<L>)
+    fn add(&mut self, stored: &Told<L>, share: &mut Share<L>)
         requires place { stored.now.at ≡ length self.old.history }
         requires room { 0 < self.old.spare }
         requires part { 0 < share.old.parts }
@@ -114,7 +114,7 @@ impl<L: LoaderName> Journal<L> {
         ensures cells { self.new.cells ≡ self.old.cells ++ waiting ∷ [] }
         ensures room { self.old.spare ≤ self.new.spare + 1 }
     {
-        self.states.push_reserved(State::new(reader));
+        self.states.push_reserved(CellState::new(reader));
     }
 
     // Adds the next cells, which have no end yet. It takes no memory.
@@ -134,7 +134,7 @@ impl<L: LoaderName> Journal<L> {
         requires in_row { cell < L.service.rules.limits.max_cells }
         requires waits { slice_get self.old.cells cell ≡ Some waiting }
         ensures history { self.new.history ≡ self.old.history }
-        ensures ended { MatchBool result (self.new.cells ≡ set self.old.cells cell (ended ending.value)) (Refuses self.old.cells self.new.cells cell ending.value) }
+        ensures ended { MatchBool result (self.new.cells ≡ set self.old.cells cell (showing ending.value)) (Refuses self.old.cells self.new.cells cell ending.value) }
         ensures room { self.new.spare ≡ self.old.spare }
     {
         self.states[cell as usize].end(rows.outcomes(), cell, ending)

@@ -11,8 +11,8 @@ use Rattle.dl_history.specs.Entries.{Line, Saw, cell_of_load, read}
 use Rattle.dl_history.specs.Service.{Service}
 use Rattle.dl_loader.specs.Added.{line, Adds, Grows}
 use Rattle.dl_loader.specs.Made.{WasMade, event_of, loads_of}
-use Rattle.dl_loader.specs.declared.pass.Given.{Given}
-use Rattle.dl_loader.specs.Pass.{Part, Hold, Gave, given, with_call, with_saw, with_ticket, with_tickets}
+use Rattle.dl_loader.specs.declared.pass.GivenTicket.{GivenTicket}
+use Rattle.dl_loader.specs.Pass.{Part, Hold, GaveTicket, given, with_call, with_saw, with_ticket, with_tickets}
 use Rattle.dl_loader.proofs.CellsGiven.{loads_long}
 use Rattle.dl_loader.proofs.Tickets.{tickets_entries}
 
@@ -50,14 +50,14 @@ pub saw_adds : (old new : Part) (number cell : ℕ) (e : Ending) → new ≡ wit
 saw_adds old new number cell e is = (ap (λ (p : Part). p.caller) is, Saw (read cell e) ∷ [], ap (λ (p : Part). p.entries) is, refl)
 
 -- a ticket whose outcome the pass has not read was given so, and no other way
-pub seen_once : (p : Part) (t : Hold) (seen : Bool) → Gave p t false → Gave p t seen → seen ≡ false
+pub seen_once : (p : Part) (t : Hold) (seen : Bool) → GaveTicket p t false → GaveTicket p t seen → seen ≡ false
 seen_once p t seen unseen gave =
     let same : given (cell_of_load t.reply) seen ≡ given (cell_of_load t.reply) false =
-    (let two : ◌≡◌ {A = Option Given} (Some (given (cell_of_load t.reply) seen)) (Some (given (cell_of_load t.reply) false)) = sym gave ∙ unseen in cc) in
-    ap (λ (g : Given). g.seen) same
+    (let two : ◌≡◌ {A = Option GivenTicket} (Some (given (cell_of_load t.reply) seen)) (Some (given (cell_of_load t.reply) false)) = sym gave ∙ unseen in cc) in
+    ap (λ (g : GivenTicket). g.seen) same
 
 -- a ticket that was given stays given while the tickets stay
-pub gave_still : (old new : Part) (t : Hold) (seen : Bool) → new.tickets ≡ old.tickets → Gave old t seen → Gave new t seen
+pub gave_still : (old new : Part) (t : Hold) (seen : Bool) → new.tickets ≡ old.tickets → GaveTicket old t seen → GaveTicket new t seen
 gave_still old new t seen same gave = rw same gave
 
 -- ---- one after another

@@ -1,7 +1,7 @@
 -- A pass that may make an event.
 use Rattle.std.proofs.Common.{◌≡◌, sym, subst, ℕ, ◌<◌, ◌≤◌, Bool, true, false, cond, List, length, Option, Some, None, nat_lt, nat_le, refl}
 use Rattle.std.proofs.lemmas.Bool.{ltb-false, leb-false}
-use Rattle.dl_desk.specs.Book.{Book}
+use Rattle.dl_desk.specs.BatchBook.{BatchBook}
 use Rattle.dl_history.specs.declared.event.Event.{Event}
 use Rattle.dl_loader.specs.declared.fault.CallFault.{CallFault}
 use Rattle.dl_loader.specs.declared.fault.CallFault.TheVariants.{Stopped, Behind, LogFull}
@@ -34,7 +34,7 @@ ready_facts s b p none =
     (nat_le s.rules.limits.max_calls (length b.history)) refl refl none
 
 -- so the history that the book was seen to have is not full
-pub ready_room : (s : Service) (b : Locked) (p : Part) (es : List Event) (d : Book) (xs : List Cell) (stopped : Bool) → locked es d xs stopped ≡ b
+pub ready_room : (s : Service) (b : Locked) (p : Part) (es : List Event) (d : BatchBook) (xs : List Cell) (stopped : Bool) → locked es d xs stopped ≡ b
     → unready s b p ≡ None → length es < s.rules.limits.max_calls
 ready_room s b p es d xs stopped view ready = (ready_facts s (locked es d xs stopped) p (subst (λ (x : Locked). unready s x p ≡ None) (sym view) ready)).1
 

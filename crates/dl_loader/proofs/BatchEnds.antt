@@ -10,7 +10,7 @@ use Rattle.dl_desk.specs.Key.{Key, key_eq}
 use Rattle.dl_desk.specs.Events.{atoms}
 use Rattle.dl_desk.specs.History.{Atom, Begun, begins, cells, count_cell, is_number, add_member, begun, sent, end_of, members, MayEnd}
 use Rattle.dl_desk.specs.History as atom
-use Rattle.dl_desk.specs.Book.{Book, StandsFor, state_by}
+use Rattle.dl_desk.specs.BatchBook.{BatchBook, StandsFor, state_by}
 use Rattle.dl_desk.specs.Calls.{unfit}
 use Rattle.dl_desk.specs.Prepared.{MayEndIn}
 use Rattle.dl_desk.specs.declared.fault.DeskFault.{DeskFault}
@@ -25,7 +25,7 @@ use Rattle.dl_desk.proofs.Facts.{sent-le}
 use Rattle.dl_desk.proofs.KeyLemmas.{key_eq-same, key_eq-refl}
 use Rattle.dl_desk.specs.declared.outcome.BatchAnswer.{BatchAnswer}
 use Rattle.dl_desk.specs.declared.outcome.BatchAnswer.TheVariants.{Each}
-use Rattle.dl_loader.specs.declared.dues.Due.{Due}
+use Rattle.dl_loader.specs.declared.due_endings.Due.{Due}
 use Rattle.dl_history.specs.declared.event.Call.{Call}
 use Rattle.dl_history.specs.declared.event.Call.TheVariants.{Settle, Fail}
 use Rattle.dl_history.specs.declared.event.Event.{Event}
@@ -103,7 +103,7 @@ ended_at false None (inr is) = absurd (let bad : Collecting ≡ Failed = is in c
 -- ---- what an end leaves
 
 -- the cells of the members of a batch that may end can end
-pub can_end : (s : Service) (es : List Event) (b : ℕ) (d : Book) (xs : List Cell) (stopped : Bool) → Keeps s (locked es d xs stopped)
+pub can_end : (s : Service) (es : List Event) (b : ℕ) (d : BatchBook) (xs : List Cell) (stopped : Bool) → Keeps s (locked es d xs stopped)
     → MayEnd (atoms (log es)) b → CanEnd (map (λ m. m.1) (members (atoms (log es)) b)) xs
 can_end s es b d xs stopped kept may = record {
   waits = λ j c got.
@@ -167,7 +167,7 @@ next_end : (s : Service) (es : List Event) (p : Part) (call : Call) → p.caller
 next_end s es p call caller may reply = record { caller = caller; reply = reply; made = may }
 
 -- after a settle whose members' cells got their dues, the book keeps what it kept
-pub settle_keeps : (s : Service) (es later : List Event) (p : Part) (b : ℕ) (os : List Outcome) (old new : Book) (cs : List ℕ) (xs ys : List Cell)
+pub settle_keeps : (s : Service) (es later : List Event) (p : Part) (b : ℕ) (os : List Outcome) (old new : BatchBook) (cs : List ℕ) (xs ys : List Cell)
     (stopped : Bool) → Keeps s (locked es old xs stopped) → p.caller < s.callers → MayBeMade s.answer (atoms (log es)) (Settle b os)
     → length es < s.rules.limits.max_calls → later ≡ es ++ event_of p (Settle b os) Done ∷ [] → new.rules ≡ old.rules
     → StandsFor new (atom.Settle b ∷ atoms (log es)) → cs ≡ map (λ m. m.1) (members (atoms (log es)) b)
@@ -183,7 +183,7 @@ settle_keeps s es later p b os old new cs xs ys stopped kept caller may calls gr
     subst (λ (hs : List Event). Keeps s (locked hs new ys stopped)) (sym grown) now
 
 -- and so it does after a fail
-pub fail_keeps : (s : Service) (es later : List Event) (p : Part) (b : ℕ) (fault : BatchFault) (old new : Book) (cs : List ℕ) (xs ys : List Cell)
+pub fail_keeps : (s : Service) (es later : List Event) (p : Part) (b : ℕ) (fault : BatchFault) (old new : BatchBook) (cs : List ℕ) (xs ys : List Cell)
     (stopped : Bool) → Keeps s (locked es old xs stopped) → p.caller < s.callers → MayBeMade s.answer (atoms (log es)) (Fail b fault)
     → length es < s.rules.limits.max_calls → later ≡ es ++ event_of p (Fail b fault) Done ∷ [] → new.rules ≡ old.rules
     → StandsFor new (atom.Fail b ∷ atoms (log es)) → cs ≡ map (λ m. m.1) (members (atoms (log es)) b)
@@ -268,7 +268,7 @@ may_end_in s view b n is kept may =
     }
 
 -- what the book keeps after its settle
-pub settle_kept : (s : Service) (view b : Locked) (later : List Event) (p : Part) (n : ℕ) (os : List Outcome) (new : Book) (cs : List ℕ) (ys : List Cell)
+pub settle_kept : (s : Service) (view b : Locked) (later : List Event) (p : Part) (n : ℕ) (os : List Outcome) (new : BatchBook) (cs : List ℕ) (ys : List Cell)
     → view ≡ b → Keeps s view → p.caller < s.callers → unready s b p ≡ None
     → MayBeMade s.answer (atoms (log b.history)) (Settle n os) → cs ≡ map (λ m. m.1) (members (atoms (log b.history)) n)
     → later ≡ view.history ++ event_of p (Settle n os) Done ∷ [] → new.rules ≡ view.desk.rules
@@ -283,7 +283,7 @@ settle_kept s view b later p n os new cs ys is kept caller ready may cells grown
     (same (λ v. cs ≡ map (λ m. m.1) (members (atoms (log v.history)) n)) cells) given
 
 -- and after its fail
-pub fail_kept : (s : Service) (view b : Locked) (later : List Event) (p : Part) (n : ℕ) (why : BatchFault) (new : Book) (cs : List ℕ) (ys : List Cell)
+pub fail_kept : (s : Service) (view b : Locked) (later : List Event) (p : Part) (n : ℕ) (why : BatchFault) (new : BatchBook) (cs : List ℕ) (ys : List Cell)
     → view ≡ b → Keeps s view → p.caller < s.callers → unready s b p ≡ None
     → MayBeMade s.answer (atoms (log b.history)) (Fail n why) → cs ≡ map (λ m. m.1) (members (atoms (log b.history)) n)
     → later ≡ view.history ++ event_of p (Fail n why) Done ∷ [] → new.rules ≡ view.desk.rules

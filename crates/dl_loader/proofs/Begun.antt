@@ -6,7 +6,7 @@ use Rattle.dl_desk.specs.Key.{Key}
 use Rattle.dl_desk.specs.Limits.{Rules}
 use Rattle.dl_desk.specs.History.{Atom, Load, Prime, begins, count_cell, cells, held, load_reply, load_replies, loaded, prime_reply, prime_reply_at}
 use Rattle.dl_desk.specs.Events.{atoms}
-use Rattle.dl_desk.specs.Book.{Book, StandsFor}
+use Rattle.dl_desk.specs.BatchBook.{BatchBook, StandsFor}
 use Rattle.dl_desk.specs.Calls.{Loads, Primes, new_count, full, refusal}
 use Rattle.dl_desk.specs.declared.fault.DeskFault.{DeskFault}
 use Rattle.dl_desk.specs.declared.fault.DeskFault.TheVariants.{CellsFull}
@@ -27,7 +27,7 @@ use Rattle.dl_loader.specs.Inside.Begun.{begun_by, cells_begun}
 -- ---- an atom that begins no cell
 
 -- an atom that begins no cell leaves as many as there were
-pub same_cells : (history : List Atom) (a : Atom) (old new : Book) → begins a ≡ None → StandsFor old history → StandsFor new (a ∷ history)
+pub same_cells : (history : List Atom) (a : Atom) (old new : BatchBook) → begins a ≡ None → StandsFor old history → StandsFor new (a ∷ history)
     → new.cells ≡ old.cells
 same_cells history a old new none before now =
     let count : cells (a ∷ history) ≡ cells history = rw none refl in
@@ -56,7 +56,7 @@ pub new_count-replies : (rules : Rules) (history : List Atom) (ks : List Key) �
 new_count-replies rules history ks = let by_keys = cells-loaded rules history ks in let by_replies = cells-replies rules history ks in omega arith
 
 -- a desk has begun as many cells more after loads of keys as the replies tell
-pub loads_count : (rules : Rules) (history : List Atom) (ks : List Key) (old new : Book) → StandsFor old history → StandsFor new (loaded rules history ks)
+pub loads_count : (rules : Rules) (history : List Atom) (ks : List Key) (old new : BatchBook) → StandsFor old history → StandsFor new (loaded rules history ks)
     → new.cells ≡ old.cells + cells_begun (load_replies rules history ks)
 loads_count rules history ks old new before now =
     let were = before.cells in
@@ -74,7 +74,7 @@ fits rules history ks none =
     fits_at rules.limits.max_cells (cells history + new_count history ks) (nat_lt rules.limits.max_cells (cells history + new_count history ks)) refl none
 
 -- after loads that are not refused there are no more cells than there may be
-pub loads_fit : (rules : Rules) (history : List Atom) (ks : List Key) (old : Book) → StandsFor old history → refusal rules history (Loads ks) ≡ None
+pub loads_fit : (rules : Rules) (history : List Atom) (ks : List Key) (old : BatchBook) → StandsFor old history → refusal rules history (Loads ks) ≡ None
     → old.cells + cells_begun (load_replies rules history ks) ≤ rules.limits.max_cells
 loads_fit rules history ks old before none =
     let low = fits rules history ks none in
@@ -85,12 +85,12 @@ loads_fit rules history ks old before none =
 -- ---- a prime
 
 -- a prime of a key that is held begins no cell
-pub kept_count : (history : List Atom) (k : Key) (old new : Book) → prime_reply history k ≡ Kept → StandsFor old history
+pub kept_count : (history : List Atom) (k : Key) (old new : BatchBook) → prime_reply history k ≡ Kept → StandsFor old history
     → StandsFor new (Prime k (prime_reply history k) ∷ history) → new.cells ≡ old.cells
 kept_count history k old new is before now = same_cells history (Prime k (prime_reply history k)) old new (rw is refl) before now
 
 -- a prime of a key that is not held begins one
-pub primed_count : (history : List Atom) (k : Key) (c : ℕ) (old new : Book) → prime_reply history k ≡ Primed c → StandsFor old history
+pub primed_count : (history : List Atom) (k : Key) (c : ℕ) (old new : BatchBook) → prime_reply history k ≡ Primed c → StandsFor old history
     → StandsFor new (Prime k (prime_reply history k) ∷ history) → new.cells ≡ old.cells + 1
 primed_count history k c old new is before now =
     let count : cells (Prime k (prime_reply history k) ∷ history) ≡ cells history + 1 = rw is refl in
@@ -103,7 +103,7 @@ primed_unheld history c None is = refl
 primed_unheld history c (Some d) is = absurd (let bad : Kept ≡ Primed c = is in cc)
 
 -- after such a prime that is not refused there are no more cells than there may be
-pub primed_fits : (rules : Rules) (history : List Atom) (k : Key) (c : ℕ) (old : Book) → prime_reply history k ≡ Primed c → StandsFor old history
+pub primed_fits : (rules : Rules) (history : List Atom) (k : Key) (c : ℕ) (old : BatchBook) → prime_reply history k ≡ Primed c → StandsFor old history
     → refusal rules history (Primes k) ≡ None → old.cells + 1 ≤ rules.limits.max_cells
 primed_fits rules history k c old is before none =
     let unheld : held history k ≡ None = primed_unheld history c (held history k) is in

@@ -5,10 +5,10 @@ use Rattle.std.proofs.lemmas.List.{length-set, take_more}
 use Rattle.std.proofs.lemmas.List.Sums.{sum_by-cons}
 use Rattle.std.proofs.lemmas.Option.{slice_get_within, slice_get_read, slice_get-map}
 use Rattle.dl_desk.specs.declared.outcome.Outcome.{Outcome}
-use Rattle.dl_loader.specs.declared.dues.Due.{Due}
+use Rattle.dl_loader.specs.declared.due_endings.Due.{Due}
 use Rattle.dl_history.specs.declared.event.Call.{Call}
 use Rattle.dl_history.specs.declared.event.Ending.{Ending}
-use Rattle.dl_history.specs.Journal.{Cell, waiting, ended, refused, Refuses, is_refused, refusals}
+use Rattle.dl_history.specs.Journal.{Cell, waiting, showing, refused, Refuses, is_refused, refusals}
 use Rattle.dl_history.specs.Kept.{ShowsEnd}
 use Rattle.dl_loader.specs.Inside.Dues.{outcome_by, AreDue, CanEnd, AreGiven}
 use Rattle.dl_history.proofs.Logs.{get-snoc, get-append_at}
@@ -115,7 +115,7 @@ given_there ys before now d e x y j given none shows got (inr new) =
 -- one more was given, whether its cell took it or refused it
 pub given_more : (all ys : List Due) (before now then : List Cell) (d : Due) (took : Bool) → CanEnd (map (λ x. x.cell) all) before → ys ≡ take (length ys) all
     → length ys < length all → d ≡ get_or all (length ys) d → AreGiven ys before now
-    → MatchBool took (then ≡ set now d.cell (ended d.ending.value)) (Refuses now then d.cell d.ending.value) → AreGiven (ys ++ d ∷ []) before then
+    → MatchBool took (then ≡ set now d.cell (showing d.ending.value)) (Refuses now then d.cell d.ending.value) → AreGiven (ys ++ d ∷ []) before then
 given_more all ys before now then d took can front low is given ends =
     let got = gets_end took now then d.cell d.ending.value ends in
     let x : Cell = got.0 in
@@ -153,8 +153,8 @@ refusals-set (z ∷ xs) (suc i) x y got =
     omega arith
 
 -- a cell that took what it was given counts as before, and one that did not counts one more
-pub taken_count : (now then : List Cell) (c : ℕ) (end : Ending) → slice_get now c ≡ Some waiting → then ≡ set now c (ended end) → refusals then ≡ refusals now
-taken_count now then c end waits is = let step = refusals-set now c waiting (ended end) waits in rw is (omega arith)
+pub taken_count : (now then : List Cell) (c : ℕ) (end : Ending) → slice_get now c ≡ Some waiting → then ≡ set now c (showing end) → refusals then ≡ refusals now
+taken_count now then c end waits is = let step = refusals-set now c waiting (showing end) waits in rw is (omega arith)
 
 pub refused_count : (now then : List Cell) (c : ℕ) (end : Ending) → slice_get now c ≡ Some waiting → Refuses now then c end → refusals then ≡ refusals now + 1
 refused_count now then c end waits is = let step = refusals-set now c waiting (refused is.0 is.1) waits in rw is.3 (omega arith)

@@ -5,13 +5,13 @@ use Rattle.std.proofs.lemmas.List.{map-append, length-map, append_assoc, take_mo
 use Rattle.std.proofs.lemmas.Option.{slice_get-map}
 use Rattle.dl_desk.specs.Key.{Key}
 use Rattle.dl_desk.specs.declared.reply.LoadReply.{LoadReply}
-use Rattle.dl_loader.specs.declared.pass.Given.{Given}
+use Rattle.dl_loader.specs.declared.pass.GivenTicket.{GivenTicket}
 use Rattle.dl_history.specs.declared.event.Call.TheVariants.{Load, LoadMany}
 use Rattle.dl_history.specs.declared.event.Reply.TheVariants.{Loaded, Many}
 use Rattle.dl_loader.specs.Book.{Locked}
 use Rattle.dl_loader.specs.Made.{event_of, Makes}
 use Rattle.dl_history.specs.Entries.{cell_of_load}
-use Rattle.dl_loader.specs.Pass.{Part, Hold, given, with_call, with_ticket, with_tickets, Gave, AreTickets, GaveAll}
+use Rattle.dl_loader.specs.Pass.{Part, Hold, given, with_call, with_ticket, with_tickets, GaveTicket, AreTickets, GaveTickets}
 use Rattle.dl_history.proofs.Logs.{get-append_at, get-snoc}
 
 -- ---- tickets in order
@@ -34,16 +34,16 @@ tickets_more first i rs d r ts us t low is before more number reply = record {
 -- ---- tickets that a pass gave
 
 -- what a load's ticket is in its pass
-abbrev new_ticket : LoadReply → Given
+abbrev new_ticket : LoadReply → GivenTicket
 new_ticket r = given (cell_of_load r) false
 
 -- the tickets of a pass with those of loads
 pub tickets_are : (p : Part) (rs : List LoadReply) → (with_tickets p rs).tickets ≡ p.tickets ++ map new_ticket rs
 tickets_are p [] = by p.tickets
   where
-    by : (gs : List Given) → gs ≡ gs ++ []
+    by : (gs : List GivenTicket) → gs ≡ gs ++ []
     by [] = refl
-    by (g ∷ gs) = ap (λ (xs : List Given). g ∷ xs) (by gs)
+    by (g ∷ gs) = ap (λ (xs : List GivenTicket). g ∷ xs) (by gs)
 tickets_are p (r ∷ rs) = tickets_are (with_ticket p (cell_of_load r)) rs ∙ append_assoc p.tickets (new_ticket r ∷ []) (map new_ticket rs)
 
 get_later : {X : Type 0} (xs ys : List X) (i n : ℕ) → n ≡ length xs + i → slice_get (xs ++ ys) n ≡ slice_get ys i
@@ -52,31 +52,31 @@ get_later (x ∷ xs) ys i zero at = absurd (omega arith)
 get_later (x ∷ xs) ys i (suc n) at = get_later xs ys i n (omega arith)
 
 -- the pass gave the tickets of its last loads
-pub gave_all : (p : Part) (rs : List LoadReply) (ts : List Hold) → AreTickets (length p.tickets) rs ts → GaveAll (with_tickets p rs) (length p.tickets) ts
+pub gave_all : (p : Part) (rs : List LoadReply) (ts : List Hold) → AreTickets (length p.tickets) rs ts → GaveTickets (with_tickets p rs) (length p.tickets) ts
 gave_all p rs ts are = record { numbered = are.numbered; gave = gave }
   where
-    gave : (i : ℕ) (t : Hold) → slice_get ts i ≡ Some t → Gave (with_tickets p rs) t false
+    gave : (i : ℕ) (t : Hold) → slice_get ts i ≡ Some t → GaveTicket (with_tickets p rs) t false
     gave i t got =
         let reply : slice_get rs i ≡ Some t.reply =
         ap (λ (xs : List LoadReply). slice_get xs i) (sym are.replies_are)
         ∙ (slice_get-map (λ (x : Hold). x.reply) ts i ∙ ap (option_map (λ (x : Hold). x.reply)) got) in
         let told : slice_get (map new_ticket rs) i ≡ Some (new_ticket t.reply) = slice_get-map new_ticket rs i ∙ ap (option_map new_ticket) reply in
         let last : slice_get (with_tickets p rs).tickets (length p.tickets + i) ≡ Some (new_ticket t.reply) =
-        ap (λ (gs : List Given). slice_get gs (length p.tickets + i)) (tickets_are p rs)
+        ap (λ (gs : List GivenTicket). slice_get gs (length p.tickets + i)) (tickets_are p rs)
         ∙ (get_later p.tickets (map new_ticket rs) i (length p.tickets + i) refl ∙ told) in
         rw (are.numbered i t got) last
 
 -- the pass gave the ticket of its last load
-pub gave_one : (p : Part) (r : LoadReply) (t : Hold) → t.number ≡ length p.tickets → t.reply ≡ r → Gave (with_tickets p (r ∷ [])) t false
+pub gave_one : (p : Part) (r : LoadReply) (t : Hold) → t.number ≡ length p.tickets → t.reply ≡ r → GaveTicket (with_tickets p (r ∷ [])) t false
 gave_one p r t number reply = rw (number, reply) (get-append_at p.tickets (given (cell_of_load r) false) [])
 
 -- ---- as an event gave them
 
 -- the pass gave the ticket of the load that was its last event
 pub gave_load : (b now : Locked) (p new : Part) (k : Key) (r : LoadReply) (t : Hold) → Makes b p (Load k) (Loaded r) now new → t.number ≡ length p.tickets
-    → t.reply ≡ r → Gave new t false
+    → t.reply ≡ r → GaveTicket new t false
 gave_load b now p new k r t made number reply =
-    subst (λ (q : Part). Gave q t false) (sym made.part) (gave_one (with_call p (length b.history) (event_of p (Load k) (Loaded r))) r t number reply)
+    subst (λ (q : Part). GaveTicket q t false) (sym made.part) (gave_one (with_call p (length b.history) (event_of p (Load k) (Loaded r))) r t number reply)
 
 -- a loadMany gives a ticket for each of its loads
 pub tickets_last : (b now : Locked) (p new : Part) (ks : List Key) (rs : List LoadReply) → Makes b p (LoadMany ks) (Many rs) now new
@@ -90,9 +90,9 @@ tickets_last b now p new ks rs made =
 
 -- the pass gave the tickets of the loadMany that was its last event
 pub gave_loads : (b now : Locked) (p new : Part) (ks : List Key) (rs : List LoadReply) (ts : List Hold) → Makes b p (LoadMany ks) (Many rs) now new
-    → AreTickets (length new.tickets - length rs) rs ts → GaveAll new (length p.tickets) ts
+    → AreTickets (length new.tickets - length rs) rs ts → GaveTickets new (length p.tickets) ts
 gave_loads b now p new ks rs ts made are =
     let long = tickets_last b now p new ks rs made in
     let first : length new.tickets - length rs ≡ length p.tickets = omega arith in
     let called : Part = with_call p (length b.history) (event_of p (LoadMany ks) (Many rs)) in
-    subst (λ (q : Part). GaveAll q (length p.tickets) ts) (sym made.part) (gave_all called rs ts (subst (λ (n : ℕ). AreTickets n rs ts) first are))
+    subst (λ (q : Part). GaveTickets q (length p.tickets) ts) (sym made.part) (gave_all called rs ts (subst (λ (n : ℕ). AreTickets n rs ts) first are))

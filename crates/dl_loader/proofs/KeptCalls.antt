@@ -7,7 +7,7 @@ use Rattle.dl_desk.specs.History.{begins, load_reply, load_replies, prime_reply,
 use Rattle.dl_desk.specs.History as atom
 use Rattle.dl_desk.specs.Events.{Nothing, atoms}
 use Rattle.dl_desk.specs.Calls.{DeskCall, Loads, Primes, refusal, after}
-use Rattle.dl_desk.specs.Book.{Book, StandsFor}
+use Rattle.dl_desk.specs.BatchBook.{BatchBook, StandsFor}
 use Rattle.dl_desk.specs.declared.outcome.Outcome.{Outcome}
 use Rattle.dl_desk.specs.declared.reply.LoadReply.{LoadReply}
 use Rattle.dl_desk.specs.declared.reply.DeskPrime.TheVariants as prime
@@ -27,7 +27,7 @@ use Rattle.dl_loader.proofs.Kept.{keeps_quiet, keeps_primed}
 -- ---- a call that begins no cell
 
 -- a book still keeps it after an event that gives nothing to cells and begins none
-pub keeps_unbegun : (s : Service) (es : List Event) (e : Event) (old new : Book) (xs : List Cell) (stopped : Bool) → Keeps s (locked es old xs stopped)
+pub keeps_unbegun : (s : Service) (es : List Event) (e : Event) (old new : BatchBook) (xs : List Cell) (stopped : Bool) → Keeps s (locked es old xs stopped)
     → IsNext s es e → gave e.call e.reply ≡ Nothing → length es < s.rules.limits.max_calls
     → new.rules ≡ old.rules → StandsFor new (after s.rules (atoms (log es)) (call_of e.call)) → new.cells ≡ old.cells
     → Keeps s (locked (es ++ e ∷ []) new xs stopped)
@@ -36,7 +36,7 @@ keeps_unbegun s es e old new xs stopped kept next none calls rules stands same =
     keeps_quiet s es e old new xs xs stopped 0 kept next none calls rules stands (omega arith) (omega arith) (repeat_none xs waiting)
 
 -- after a clear of a key
-pub keeps_clear : (s : Service) (es : List Event) (e : Event) (k : Key) (old new : Book) (xs : List Cell) (stopped : Bool) → Keeps s (locked es old xs stopped)
+pub keeps_clear : (s : Service) (es : List Event) (e : Event) (k : Key) (old new : BatchBook) (xs : List Cell) (stopped : Bool) → Keeps s (locked es old xs stopped)
     → IsNext s es e → e.call ≡ Clear k → length es < s.rules.limits.max_calls
     → new.rules ≡ old.rules → StandsFor new (atom.Clear k ∷ atoms (log es)) → Keeps s (locked (es ++ e ∷ []) new xs stopped)
 keeps_clear s es e k old new xs stopped kept next is calls rules stands =
@@ -44,7 +44,7 @@ keeps_clear s es e k old new xs stopped kept next is calls rules stands =
     (same_cells (atoms (log es)) (atom.Clear k) old new refl kept.desk stands)
 
 -- after a clear of all keys
-pub keeps_clear_all : (s : Service) (es : List Event) (e : Event) (old new : Book) (xs : List Cell) (stopped : Bool) → Keeps s (locked es old xs stopped)
+pub keeps_clear_all : (s : Service) (es : List Event) (e : Event) (old new : BatchBook) (xs : List Cell) (stopped : Bool) → Keeps s (locked es old xs stopped)
     → IsNext s es e → e.call ≡ ClearAll → length es < s.rules.limits.max_calls
     → new.rules ≡ old.rules → StandsFor new (atom.ClearAll ∷ atoms (log es)) → Keeps s (locked (es ++ e ∷ []) new xs stopped)
 keeps_clear_all s es e old new xs stopped kept next is calls rules stands =
@@ -52,7 +52,7 @@ keeps_clear_all s es e old new xs stopped kept next is calls rules stands =
     (same_cells (atoms (log es)) atom.ClearAll old new refl kept.desk stands)
 
 -- after a dispatch
-pub keeps_dispatch : (s : Service) (es : List Event) (e : Event) (old new : Book) (xs : List Cell) (stopped : Bool) → Keeps s (locked es old xs stopped)
+pub keeps_dispatch : (s : Service) (es : List Event) (e : Event) (old new : BatchBook) (xs : List Cell) (stopped : Bool) → Keeps s (locked es old xs stopped)
     → IsNext s es e → e.call ≡ Dispatch → length es < s.rules.limits.max_calls
     → new.rules ≡ old.rules → StandsFor new (atom.Dispatch (jobs (atoms (log es))) ∷ atoms (log es)) → Keeps s (locked (es ++ e ∷ []) new xs stopped)
 keeps_dispatch s es e old new xs stopped kept next is calls rules stands =
@@ -62,7 +62,7 @@ keeps_dispatch s es e old new xs stopped kept next is calls rules stands =
 -- ---- a prime
 
 -- after a prime of a key that is held
-pub keeps_prime_held : (s : Service) (es : List Event) (e : Event) (k : Key) (o : Outcome) (old new : Book) (xs : List Cell) (stopped : Bool)
+pub keeps_prime_held : (s : Service) (es : List Event) (e : Event) (k : Key) (o : Outcome) (old new : BatchBook) (xs : List Cell) (stopped : Bool)
     → Keeps s (locked es old xs stopped) → IsNext s es e → e.call ≡ Prime k o → e.reply ≡ Kept → length es < s.rules.limits.max_calls
     → new.rules ≡ old.rules → StandsFor new (atom.Prime k (prime_reply (atoms (log es)) k) ∷ atoms (log es)) → Keeps s (locked (es ++ e ∷ []) new xs stopped)
 keeps_prime_held s es e k o old new xs stopped kept next is reply calls rules stands =
@@ -70,7 +70,7 @@ keeps_prime_held s es e k o old new xs stopped kept next is reply calls rules st
     (kept_count (atoms (log es)) k old new (kept_reply s es e k o next is reply) kept.desk stands)
 
 -- after a prime of a key that is not held, which the desk accepted, with a cell that shows the outcome
-pub keeps_prime_new : (s : Service) (es : List Event) (e : Event) (k : Key) (o : Outcome) (d : ℕ) (old new : Book) (xs ys : List Cell) (x : Cell)
+pub keeps_prime_new : (s : Service) (es : List Event) (e : Event) (k : Key) (o : Outcome) (d : ℕ) (old new : BatchBook) (xs ys : List Cell) (x : Cell)
     (stopped : Bool) → Keeps s (locked es old xs stopped) → IsNext s es e → e.call ≡ Prime k o → e.reply ≡ Primed d → length es < s.rules.limits.max_calls
     → new.rules ≡ old.rules → StandsFor new (atom.Prime k (prime_reply (atoms (log es)) k) ∷ atoms (log es))
     → refusal old.rules (atoms (log es)) (Primes k) ≡ None
@@ -85,7 +85,7 @@ keeps_prime_new s es e k o d old new xs ys x stopped kept next is reply calls ru
 -- ---- loads
 
 -- after a call of the desk's that is loads of keys, which the desk accepted, with a cell that waits for each that they began
-pub keeps_loads : (s : Service) (es : List Event) (e : Event) (ks : List Key) (n : ℕ) (old new : Book) (xs ys : List Cell) (stopped : Bool)
+pub keeps_loads : (s : Service) (es : List Event) (e : Event) (ks : List Key) (n : ℕ) (old new : BatchBook) (xs ys : List Cell) (stopped : Bool)
     → Keeps s (locked es old xs stopped) → IsNext s es e → gave e.call e.reply ≡ Nothing → call_of e.call ≡ Loads ks → length es < s.rules.limits.max_calls
     → new.rules ≡ old.rules → StandsFor new (after old.rules (atoms (log es)) (Loads ks)) → refusal old.rules (atoms (log es)) (Loads ks) ≡ None
     → n ≡ cells_begun (load_replies s.rules (atoms (log es)) ks) → ys ≡ xs ++ repeat n (waiting ∷ []) → Keeps s (locked (es ++ e ∷ []) new ys stopped)
@@ -113,7 +113,7 @@ loaded_one s es e k r next is reply =
     cc
 
 -- after a loadMany that the desk accepted
-pub keeps_load_many : (s : Service) (es : List Event) (e : Event) (ks : List Key) (rs : List LoadReply) (old new : Book) (xs ys : List Cell) (stopped : Bool)
+pub keeps_load_many : (s : Service) (es : List Event) (e : Event) (ks : List Key) (rs : List LoadReply) (old new : BatchBook) (xs ys : List Cell) (stopped : Bool)
     → Keeps s (locked es old xs stopped) → IsNext s es e → e.call ≡ LoadMany ks → e.reply ≡ Many rs → length es < s.rules.limits.max_calls
     → new.rules ≡ old.rules → StandsFor new (after old.rules (atoms (log es)) (Loads ks)) → refusal old.rules (atoms (log es)) (Loads ks) ≡ None
     → ys ≡ xs ++ repeat (cells_begun rs) (waiting ∷ []) → Keeps s (locked (es ++ e ∷ []) new ys stopped)
@@ -122,7 +122,7 @@ keeps_load_many s es e ks rs old new xs ys stopped kept next is reply calls rule
     (ap cells_begun (loaded_many s es e ks rs next is reply)) more
 
 -- and after a load
-pub keeps_load : (s : Service) (es : List Event) (e : Event) (k : Key) (r : LoadReply) (old new : Book) (xs ys : List Cell) (stopped : Bool)
+pub keeps_load : (s : Service) (es : List Event) (e : Event) (k : Key) (r : LoadReply) (old new : BatchBook) (xs ys : List Cell) (stopped : Bool)
     → Keeps s (locked es old xs stopped) → IsNext s es e → e.call ≡ Load k → e.reply ≡ Loaded r → length es < s.rules.limits.max_calls
     → new.rules ≡ old.rules → StandsFor new (after old.rules (atoms (log es)) (Loads (k ∷ []))) → refusal old.rules (atoms (log es)) (Loads (k ∷ [])) ≡ None
     → ys ≡ xs ++ repeat (begun_by r) (waiting ∷ []) → Keeps s (locked (es ++ e ∷ []) new ys stopped)

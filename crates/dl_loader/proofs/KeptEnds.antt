@@ -6,7 +6,7 @@ use Rattle.dl_desk.specs.History.{cells, members}
 use Rattle.dl_desk.specs.History as atom
 use Rattle.dl_desk.specs.Events.{atoms}
 use Rattle.dl_desk.specs.Calls.{after}
-use Rattle.dl_desk.specs.Book.{Book, StandsFor}
+use Rattle.dl_desk.specs.BatchBook.{BatchBook, StandsFor}
 use Rattle.dl_desk.specs.declared.outcome.Outcome.{Outcome}
 use Rattle.dl_desk.specs.declared.outcome.BatchFault.{BatchFault}
 use Rattle.dl_history.specs.declared.event.Event.{Event}
@@ -26,19 +26,19 @@ use Rattle.dl_loader.proofs.Kept.{keeps_more}
 
 -- ---- the cell of a member that has no end yet
 
-waits_at : (s : Service) (es : List Event) (c : ℕ) (d : Book) (xs : List Cell) (stopped : Bool) → Keeps s (locked es d xs stopped) → c < length xs
+waits_at : (s : Service) (es : List Event) (c : ℕ) (d : BatchBook) (xs : List Cell) (stopped : Bool) → Keeps s (locked es d xs stopped) → c < length xs
     → ending_of es c ≡ None → (o : Option Cell) → slice_get xs c ≡ o → o ≡ Some waiting
 waits_at s es c d xs stopped kept low none None past = absurd (get-inside xs c low past)
 waits_at s es c d xs stopped kept low none (Some x) got = ap Some (open_waits x (shows_same (ending_of es c) None x (sym none) (kept.ends c x got)))
 
 -- in a book, a cell that was begun and has no end waits
-pub cell_waits : (s : Service) (es : List Event) (c : ℕ) (d : Book) (xs : List Cell) (stopped : Bool) → Keeps s (locked es d xs stopped) → c < length xs
+pub cell_waits : (s : Service) (es : List Event) (c : ℕ) (d : BatchBook) (xs : List Cell) (stopped : Bool) → Keeps s (locked es d xs stopped) → c < length xs
     → ending_of es c ≡ None → slice_get xs c ≡ Some waiting
 cell_waits s es c d xs stopped kept low none = waits_at s es c d xs stopped kept low none (slice_get xs c) refl
 
 -- ---- the loop over the members
 
-finish_ends : (s : Service) (es : List Event) (e : Event) (b i : ℕ) (d : Book) (xs ys : List Cell) (stopped : Bool) → Keeps s (locked es d xs stopped)
+finish_ends : (s : Service) (es : List Event) (e : Event) (b i : ℕ) (d : BatchBook) (xs ys : List Cell) (stopped : Bool) → Keeps s (locked es d xs stopped)
     → length (members (atoms (log es)) b) ≤ i → EndedUpTo (es ++ e ∷ []) (members (atoms (log es)) b) i xs ys
     → ((c : ℕ) → NoCell (members (atoms (log es)) b) c → ending_of (es ++ e ∷ []) c ≡ ending_of es c)
     → (c : ℕ) (x : Cell) → slice_get ys c ≡ Some x → ShowsEnd (ending_of (es ++ e ∷ []) c) x.mark x.shows
@@ -54,7 +54,7 @@ finish_ends s es e b i d xs ys stopped kept all upto stay c x got = by (has_cell
         shows_same (ending_of es c) (ending_of (es ++ e ∷ []) c) x (stay c none) (kept.ends c x was)
 
 -- Past the last member the book keeps what it kept, where each cell that is no member's shows what it showed.
-pub keeps_ended : (s : Service) (es : List Event) (e : Event) (b i : ℕ) (old new : Book) (xs ys : List Cell) (stopped : Bool)
+pub keeps_ended : (s : Service) (es : List Event) (e : Event) (b i : ℕ) (old new : BatchBook) (xs ys : List Cell) (stopped : Bool)
     → Keeps s (locked es old xs stopped) → IsNext s es e → length es < s.rules.limits.max_calls
     → ((c : ℕ) → NoCell (members (atoms (log es)) b) c → ending_of (es ++ e ∷ []) c ≡ ending_of es c)
     → new.rules ≡ old.rules → StandsFor new (after s.rules (atoms (log es)) (call_of e.call)) → new.cells ≡ old.cells
@@ -69,7 +69,7 @@ keeps_ended s es e b i old new xs ys stopped kept next calls stay rules stands c
 -- ---- a settle
 
 -- a book still keeps it after a settle, once each member's cell has its end
-pub keeps_settled : (s : Service) (es : List Event) (e : Event) (b : ℕ) (os : List Outcome) (i : ℕ) (old new : Book) (xs ys : List Cell) (stopped : Bool)
+pub keeps_settled : (s : Service) (es : List Event) (e : Event) (b : ℕ) (os : List Outcome) (i : ℕ) (old new : BatchBook) (xs ys : List Cell) (stopped : Bool)
     → Keeps s (locked es old xs stopped) → IsNext s es e → e.call ≡ Settle b os → length es < s.rules.limits.max_calls
     → new.rules ≡ old.rules → StandsFor new (atom.Settle b ∷ atoms (log es))
     → length (members (atoms (log es)) b) ≤ i → EndedUpTo (es ++ e ∷ []) (members (atoms (log es)) b) i xs ys → Keeps s (locked (es ++ e ∷ []) new ys stopped)
@@ -82,7 +82,7 @@ keeps_settled s es e b os i old new xs ys stopped kept next is calls rules stand
 -- ---- a fail
 
 -- a book still keeps it after a fail, once each member's cell has its end
-pub keeps_failed : (s : Service) (es : List Event) (e : Event) (b : ℕ) (fault : BatchFault) (i : ℕ) (old new : Book) (xs ys : List Cell) (stopped : Bool)
+pub keeps_failed : (s : Service) (es : List Event) (e : Event) (b : ℕ) (fault : BatchFault) (i : ℕ) (old new : BatchBook) (xs ys : List Cell) (stopped : Bool)
     → Keeps s (locked es old xs stopped) → IsNext s es e → e.call ≡ Fail b fault → length es < s.rules.limits.max_calls
     → new.rules ≡ old.rules → StandsFor new (atom.Fail b ∷ atoms (log es))
     → length (members (atoms (log es)) b) ≤ i → EndedUpTo (es ++ e ∷ []) (members (atoms (log es)) b) i xs ys → Keeps s (locked (es ++ e ∷ []) new ys stopped)

@@ -9,7 +9,7 @@ use Rattle.dl_desk.specs.History.{Atom, prime_reply, jobs}
 use Rattle.dl_desk.specs.History as atom
 use Rattle.dl_desk.specs.Events.{atoms}
 use Rattle.dl_desk.specs.Calls.{Primes, Clears, ClearsAll, Sends, refusal, after}
-use Rattle.dl_desk.specs.Book.{Book, StandsFor}
+use Rattle.dl_desk.specs.BatchBook.{BatchBook, StandsFor}
 use Rattle.dl_desk.specs.declared.outcome.Outcome.{Outcome}
 use Rattle.dl_desk.specs.declared.reply.DeskPrime.{DeskPrime}
 use Rattle.dl_desk.specs.declared.reply.DeskPrime.TheVariants as prime
@@ -23,7 +23,7 @@ use Rattle.dl_history.specs.declared.event.Reply.{Reply}
 use Rattle.dl_history.specs.declared.event.Reply.TheVariants.{Done, Sent}
 use Rattle.dl_history.specs.Service.{Service}
 use Rattle.dl_history.specs.History.{log, primed, IsNext}
-use Rattle.dl_history.specs.Journal.{Cell, waiting, ended, refused, Refuses, is_refused, refusals}
+use Rattle.dl_history.specs.Journal.{Cell, waiting, showing, refused, Refuses, is_refused, refusals}
 use Rattle.dl_loader.specs.Book.{Locked, locked, Keeps}
 use Rattle.dl_history.specs.Kept.{ShowsEnd}
 use Rattle.dl_loader.specs.Pass.{Part}
@@ -41,7 +41,7 @@ abbrev pub event : ℕ → Call → Reply → Event
 event caller call reply = record { caller = caller; call = call; reply = reply }
 
 -- the book with the history and the cells that the record left
-recorded : (s : Service) (es now : List Event) (e : Event) (d : Book) (xs ys : List Cell) (stopped : Bool) → now ≡ es ++ e ∷ []
+recorded : (s : Service) (es now : List Event) (e : Event) (d : BatchBook) (xs ys : List Cell) (stopped : Bool) → now ≡ es ++ e ∷ []
     → ys ≡ xs ++ repeat 0 (waiting ∷ []) → Keeps s (locked (es ++ e ∷ []) d xs stopped) → Keeps s (locked now d ys stopped)
 recorded s es now e d xs ys stopped history cells kept =
     let same : ys ≡ xs = cells ∙ sym (repeat_none xs waiting) in
@@ -49,7 +49,7 @@ recorded s es now e d xs ys stopped history cells kept =
     subst (λ (hs : List Event). Keeps s (locked hs d ys stopped)) (sym history) with_cells
 
 -- after a clear of a key, where the event has a copy of the key
-pub clear_kept : (s : Service) (b : Locked) (p : Part) (es now : List Event) (k j : Key) (caller : ℕ) (old new : Book) (xs ys : List Cell) (stopped : Bool)
+pub clear_kept : (s : Service) (b : Locked) (p : Part) (es now : List Event) (k j : Key) (caller : ℕ) (old new : BatchBook) (xs ys : List Cell) (stopped : Bool)
     → locked es old xs stopped ≡ b → unready s b p ≡ None → Keeps s (locked es old xs stopped) → caller ≡ p.caller → p.caller < s.callers → k ≡ j
     → now ≡ es ++ event caller (Clear k) Done ∷ [] → ys ≡ xs ++ repeat 0 (waiting ∷ [])
     → new.rules ≡ old.rules → ((h : List Atom) → StandsFor old h → StandsFor new (after old.rules h (Clears j)))
@@ -63,7 +63,7 @@ clear_kept s b p es now k j caller old new xs ys stopped view ready kept own bel
     (keeps_clear s es e k old new xs stopped kept next refl (ready_room s b p es old xs stopped view ready) rules stands_now)
 
 -- after a clear of all keys
-pub clear_all_kept : (s : Service) (b : Locked) (p : Part) (es now : List Event) (caller : ℕ) (old new : Book) (xs ys : List Cell) (stopped : Bool)
+pub clear_all_kept : (s : Service) (b : Locked) (p : Part) (es now : List Event) (caller : ℕ) (old new : BatchBook) (xs ys : List Cell) (stopped : Bool)
     → locked es old xs stopped ≡ b → unready s b p ≡ None → Keeps s (locked es old xs stopped) → caller ≡ p.caller → p.caller < s.callers
     → now ≡ es ++ event caller ClearAll Done ∷ [] → ys ≡ xs ++ repeat 0 (waiting ∷ [])
     → new.rules ≡ old.rules → ((h : List Atom) → StandsFor old h → StandsFor new (after old.rules h ClearsAll))
@@ -77,7 +77,7 @@ clear_all_kept s b p es now caller old new xs ys stopped view ready kept own bel
 -- ---- a dispatch
 
 -- after a dispatch that the desk has prepared
-pub dispatch_kept : (s : Service) (b : Locked) (p : Part) (es now : List Event) (js : List Job) (caller : ℕ) (old new : Book) (xs ys : List Cell)
+pub dispatch_kept : (s : Service) (b : Locked) (p : Part) (es now : List Event) (js : List Job) (caller : ℕ) (old new : BatchBook) (xs ys : List Cell)
     (stopped : Bool)
     → locked es old xs stopped ≡ b → unready s b p ≡ None → Keeps s (locked es old xs stopped) → caller ≡ p.caller → p.caller < s.callers
     → ((h : List Atom) → StandsFor old h → js ≡ jobs h)
@@ -94,20 +94,20 @@ dispatch_kept s b p es now js caller old new xs ys stopped view ready kept own b
 
 -- An event that a prime of a key is to make: with the pass's caller, a copy of the key, and the reply that the
 -- desk has prepared.
-pub record IsPrime (s : Service) (p : Part) (k j : Key) (caller : ℕ) (reply : Reply) (r : DeskPrime) (old : Book) : Type 0 where
+pub record IsPrime (s : Service) (p : Part) (k j : Key) (caller : ℕ) (reply : Reply) (r : DeskPrime) (old : BatchBook) : Type 0 where
   pub own : caller ≡ p.caller
   pub below : p.caller < s.callers
   pub copy : k ≡ j
   pub replies : reply ≡ primed r
   pub told : (h : List Atom) → StandsFor old h → r ≡ prime_reply h j
 
-prime_told : (s : Service) (p : Part) (es : List Event) (k j : Key) (caller : ℕ) (reply : Reply) (r : DeskPrime) (old : Book) (xs : List Cell) (stopped : Bool)
+prime_told : (s : Service) (p : Part) (es : List Event) (k j : Key) (caller : ℕ) (reply : Reply) (r : DeskPrime) (old : BatchBook) (xs : List Cell) (stopped : Bool)
     → Keeps s (locked es old xs stopped) → IsPrime s p k j caller reply r old → r ≡ prime_reply (atoms (log es)) k
 prime_told s p es k j caller reply r old xs stopped kept is =
     let H = atoms (log es) in
     is.told H kept.desk ∙ sym (ap (prime_reply H) is.copy)
 
-prime_next : (s : Service) (p : Part) (es : List Event) (k j : Key) (o : Outcome) (caller : ℕ) (reply : Reply) (r : DeskPrime) (old : Book) (xs : List Cell)
+prime_next : (s : Service) (p : Part) (es : List Event) (k j : Key) (o : Outcome) (caller : ℕ) (reply : Reply) (r : DeskPrime) (old : BatchBook) (xs : List Cell)
     (stopped : Bool)
     → Keeps s (locked es old xs stopped) → IsPrime s p k j caller reply r old → IsNext s es (event caller (Prime k o) reply)
 prime_next s p es k j o caller reply r old xs stopped kept is =
@@ -116,7 +116,7 @@ prime_next s p es k j o caller reply r old xs stopped kept is =
     let told = prime_told s p es k j caller reply r old xs stopped kept is in
     record { caller = omega arith; reply = is.replies ∙ ap primed told; made = tt }
 
-prime_stands : (s : Service) (p : Part) (es : List Event) (k j : Key) (caller : ℕ) (reply : Reply) (r : DeskPrime) (old new : Book) (xs : List Cell)
+prime_stands : (s : Service) (p : Part) (es : List Event) (k j : Key) (caller : ℕ) (reply : Reply) (r : DeskPrime) (old new : BatchBook) (xs : List Cell)
     (stopped : Bool)
     → Keeps s (locked es old xs stopped) → IsPrime s p k j caller reply r old → StandsFor new (after old.rules (atoms (log es)) (Primes j))
     → StandsFor new (atom.Prime k (prime_reply (atoms (log es)) k) ∷ atoms (log es))
@@ -126,7 +126,7 @@ prime_stands s p es k j caller reply r old new xs stopped kept is stands =
 
 -- after a prime of a key that is held
 pub held_kept : (s : Service) (b : Locked) (p : Part) (es now : List Event) (k j : Key) (o : Outcome) (caller : ℕ) (reply : Reply) (r : DeskPrime)
-    (old new : Book) (xs ys : List Cell) (stopped : Bool)
+    (old new : BatchBook) (xs ys : List Cell) (stopped : Bool)
     → locked es old xs stopped ≡ b → unready s b p ≡ None → Keeps s (locked es old xs stopped) → IsPrime s p k j caller reply r old → r ≡ prime.Kept
     → now ≡ es ++ event caller (Prime k o) reply ∷ [] → ys ≡ xs ++ repeat 0 (waiting ∷ [])
     → new.rules ≡ old.rules → StandsFor new (after old.rules (atoms (log es)) (Primes j))
@@ -140,7 +140,7 @@ held_kept s b p es now k j o caller reply r old new xs ys stopped view ready kep
     stands_now)
 
 -- a new cell is the next one
-pub primed_next : (s : Service) (p : Part) (es : List Event) (k j : Key) (o : Outcome) (caller c : ℕ) (reply : Reply) (r : DeskPrime) (old : Book)
+pub primed_next : (s : Service) (p : Part) (es : List Event) (k j : Key) (o : Outcome) (caller c : ℕ) (reply : Reply) (r : DeskPrime) (old : BatchBook)
     (xs : List Cell) (stopped : Bool)
     → Keeps s (locked es old xs stopped) → IsPrime s p k j caller reply r old → r ≡ prime.Primed c → c ≡ length xs
 primed_next s p es k j o caller c reply r old xs stopped kept is new =
@@ -162,13 +162,13 @@ ending_is end at n o given is place copy = rw (is, place, copy) refl
 
 -- after a prime of a key that is not held, whose cell has its end
 pub primed_kept : (s : Service) (b : Locked) (p : Part) (es now : List Event) (k j : Key) (o : Outcome) (caller c : ℕ) (reply : Reply) (r : DeskPrime)
-    (old new : Book) (xs mids ys : List Cell) (stopped took : Bool) (end : Ending) (at : ℕ) (given : Outcome)
+    (old new : BatchBook) (xs mids ys : List Cell) (stopped took : Bool) (end : Ending) (at : ℕ) (given : Outcome)
     → locked es old xs stopped ≡ b → unready s b p ≡ None → Keeps s (locked es old xs stopped) → IsPrime s p k j caller reply r old → r ≡ prime.Primed c
     → ((h : List Atom) → StandsFor old h → refusal old.rules h (Primes j) ≡ None)
     → now ≡ es ++ event caller (Prime k o) reply ∷ [] → mids ≡ xs ++ repeat 1 (waiting ∷ [])
     → new.rules ≡ old.rules → StandsFor new (after old.rules (atoms (log es)) (Primes j))
     → end ≡ record { at = at; outcome = given } → at ≡ length es → o ≡ given
-    → MatchBool took (ys ≡ set mids c (ended end)) (Refuses mids ys c end)
+    → MatchBool took (ys ≡ set mids c (showing end)) (Refuses mids ys c end)
     → Keeps s (locked now new ys stopped)
 primed_kept s b p es now k j o caller c reply r old new xs mids ys stopped took end at given view ready kept is fresh accepted history cells rules stands ending
     place copy ends =
@@ -192,11 +192,11 @@ refusals-snoc xs x = fold-append (λ (n : ℕ) (y : Cell). n + cond (is_refused 
 
 -- one more where the new cell refused it
 pub primed_refusals : (xs mids ys : List Cell) (c n : ℕ) (took : Bool) (end : Ending) → mids ≡ xs ++ repeat 1 (waiting ∷ []) → c ≡ length xs → n ≡ cond took 0 1
-    → MatchBool took (ys ≡ set mids c (ended end)) (Refuses mids ys c end)
+    → MatchBool took (ys ≡ set mids c (showing end)) (Refuses mids ys c end)
     → refusals ys ≡ refusals xs + n
 primed_refusals xs mids ys c n true end cells new many ends =
-    let all = ended_new xs mids ys c (ended end) cells new ends in
-    let count = refusals-snoc xs (ended end) in
+    let all = ended_new xs mids ys c (showing end) cells new ends in
+    let count = refusals-snoc xs (showing end) in
     ap refusals all ∙ (count ∙ ap (λ m. refusals xs + m) (sym many))
 primed_refusals xs mids ys c n false end cells new many ends =
     let all = ended_new xs mids ys c (refused ends.0 ends.1) cells new ends.3 in

@@ -8,7 +8,7 @@ use Rattle.dl_desk.specs.Limits.{Rules}
 use Rattle.dl_desk.specs.History.{Atom, load_reply, load_replies}
 use Rattle.dl_desk.specs.Events.{atoms}
 use Rattle.dl_desk.specs.Calls.{Loads, refusal, after}
-use Rattle.dl_desk.specs.Book.{Book, StandsFor}
+use Rattle.dl_desk.specs.BatchBook.{BatchBook, StandsFor}
 use Rattle.dl_desk.specs.declared.reply.LoadReply.{LoadReply}
 use Rattle.dl_history.specs.declared.event.Event.{Event}
 use Rattle.dl_history.specs.declared.event.Call.{Call}
@@ -76,7 +76,7 @@ many_answered p now at e rs copied is reply copy =
 -- ---- loads that the desk prepared
 
 -- loads of keys that the desk has prepared with these replies, as the book of a loader keeps them
-module _ (s : Service) (es : List Event) (old : Book) (xs : List Cell) (stopped : Bool) (kept : Keeps s (locked es old xs stopped)) (ks : List Key)
+module _ (s : Service) (es : List Event) (old : BatchBook) (xs : List Cell) (stopped : Bool) (kept : Keeps s (locked es old xs stopped)) (ks : List Key)
     (rs : List LoadReply) (replies : (h : List Atom) → StandsFor old h → rs ≡ load_replies old.rules h ks) (accepted : (h : List Atom) → StandsFor old h
     → refusal old.rules h (Loads ks) ≡ None) where
   -- the replies are those of a data loader of one thread
@@ -103,7 +103,7 @@ module _ (s : Service) (es : List Event) (old : Book) (xs : List Cell) (stopped 
   }
 
   -- the book keeps what it keeps once a loadMany is its last event
-  pub many_kept : (e : Event) (copied : List LoadReply) (n : ℕ) (new : Book) (longer : List Event) (ys : List Cell) → length es < s.rules.limits.max_calls
+  pub many_kept : (e : Event) (copied : List LoadReply) (n : ℕ) (new : BatchBook) (longer : List Event) (ys : List Cell) → length es < s.rules.limits.max_calls
       → copied ≡ rs → e.caller < s.callers → e.call ≡ LoadMany ks → e.reply ≡ Many copied
       → new.rules ≡ old.rules → StandsFor new (after old.rules (atoms (log es)) (Loads ks)) → n ≡ cells_begun rs → longer ≡ es ++ e ∷ []
       → ys ≡ xs ++ repeat n (waiting ∷ []) → Keeps s (locked longer new ys stopped)
@@ -115,7 +115,7 @@ module _ (s : Service) (es : List Event) (old : Book) (xs : List Cell) (stopped 
       cells)
 
 -- the load of a key that the desk has prepared with this reply
-module _ (s : Service) (es : List Event) (old : Book) (xs : List Cell) (stopped : Bool) (kept : Keeps s (locked es old xs stopped)) (k : Key) (r : LoadReply)
+module _ (s : Service) (es : List Event) (old : BatchBook) (xs : List Cell) (stopped : Bool) (kept : Keeps s (locked es old xs stopped)) (k : Key) (r : LoadReply)
     (reply_is : (h : List Atom) → StandsFor old h → r ≡ load_reply old.rules h k) (accepted : (h : List Atom) → StandsFor old h
     → refusal old.rules h (Loads (k ∷ [])) ≡ None) where
   one_begun : cells_begun (r ∷ []) ≡ begun_by r
@@ -137,7 +137,7 @@ module _ (s : Service) (es : List Event) (old : Book) (xs : List Cell) (stopped 
       }
 
   -- the book keeps what it keeps once a load is its last event
-  pub one_kept : (e : Event) (n : ℕ) (new : Book) (longer : List Event) (ys : List Cell) → length es < s.rules.limits.max_calls → e.caller < s.callers
+  pub one_kept : (e : Event) (n : ℕ) (new : BatchBook) (longer : List Event) (ys : List Cell) → length es < s.rules.limits.max_calls → e.caller < s.callers
       → e.call ≡ Load k → e.reply ≡ Loaded r
       → new.rules ≡ old.rules → StandsFor new (after old.rules (atoms (log es)) (Loads (k ∷ []))) → n ≡ begun_by r → longer ≡ es ++ e ∷ []
       → ys ≡ xs ++ repeat n (waiting ∷ []) → Keeps s (locked longer new ys stopped)

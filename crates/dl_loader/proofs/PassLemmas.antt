@@ -3,7 +3,7 @@ use Rattle.std.proofs.Common.{◌≡◌, ◌∙◌, sym, ap, ℕ, zero, suc, ◌
 use Rattle.std.proofs.Common.{slice_get, get_or, refl, arith, length-append}
 use Rattle.std.proofs.lemmas.List.{append-nil, length-set}
 use Rattle.std.proofs.lemmas.Option.{get_or_from_slice_get, slice_get_within}
-use Rattle.dl_loader.specs.declared.pass.Given.{Given}
+use Rattle.dl_loader.specs.declared.pass.GivenTicket.{GivenTicket}
 use Rattle.dl_history.specs.Lists.{Every, Among, one_if}
 use Rattle.dl_history.specs.Entries.{Told, Read, Line, Called, Saw, calls_of, IsOwn, front_of, cells_of}
 use Rattle.dl_loader.specs.Pass.{Pass, IsPass, viewed, part, given, unseen_of, with_saw}
@@ -11,16 +11,16 @@ use Rattle.dl_history.proofs.ListLemmas.{among_longer, total-append, every_appen
 use Rattle.dl_history.proofs.EntryLists.{calls_of-append, cells_of-append, calls_few, front_of-push, ordered_call, ordered_saw, answered_call, answered_saw}
 
 -- tickets of cells with which calls were answered still are
-given_longer : (xs ys : List Line) (gs : List Given) → Every (λ g. Among g.cell (cells_of xs)) gs → Every (λ g. Among g.cell (cells_of (xs ++ ys))) gs
+given_longer : (xs ys : List Line) (gs : List GivenTicket) → Every (λ g. Among g.cell (cells_of xs)) gs → Every (λ g. Among g.cell (cells_of (xs ++ ys))) gs
 given_longer xs ys gs each =
     every_weaker (λ g. Among g.cell (cells_of xs)) (λ g. Among g.cell (cells_of (xs ++ ys))) gs
     (λ g among. rw (cells_of-append xs ys) (among_longer g.cell (cells_of xs) (cells_of ys) among)) each
 
 -- one ticket's outcome is among the entries now
-pub unseen_of-saw : (gs : List Given) (n cell : ℕ) → slice_get gs n ≡ Some (given cell false) → unseen_of gs ≡ unseen_of (set gs n (given cell true)) + 1
-unseen_of-saw [] n cell at = let is : ◌≡◌ {A = Option Given} None (Some (given cell false)) = at in absurd cc
+pub unseen_of-saw : (gs : List GivenTicket) (n cell : ℕ) → slice_get gs n ≡ Some (given cell false) → unseen_of gs ≡ unseen_of (set gs n (given cell true)) + 1
+unseen_of-saw [] n cell at = let is : ◌≡◌ {A = Option GivenTicket} None (Some (given cell false)) = at in absurd cc
 unseen_of-saw (g ∷ gs) zero cell at =
-    let is : ◌≡◌ {A = Option Given} (Some g) (Some (given cell false)) = at in
+    let is : ◌≡◌ {A = Option GivenTicket} (Some g) (Some (given cell false)) = at in
     let e : g ≡ given cell false = cc in
     rw e (omega arith)
 unseen_of-saw (g ∷ gs) (suc n) cell at = let rest = unseen_of-saw gs n cell at in omega arith
@@ -28,7 +28,7 @@ unseen_of-saw (g ∷ gs) (suc n) cell at = let rest = unseen_of-saw gs n cell at
 -- ---- passes
 
 -- a pass p that stands for these fields
-module _ {callers caller front calls parts amount unseen room ticket_room : ℕ} {entries : List Line} {tickets : List Given} (p : Pass)
+module _ {callers caller front calls parts amount unseen room ticket_room : ℕ} {entries : List Line} {tickets : List GivenTicket} (p : Pass)
     (view : viewed caller unseen room ticket_room entries tickets ≡ p)
     (old : IsPass callers caller front calls parts amount unseen room ticket_room entries tickets) where
   -- where there is room for more, no Vec is full
@@ -60,11 +60,11 @@ module _ {callers caller front calls parts amount unseen room ticket_room : ℕ}
     gave_within = slice_get_within tickets n (given cell false) gave_inside
 
     -- it is the one that was read at its number
-    pub ticket_read : (g : Given) → g ≡ get_or tickets n g → g.cell ≡ cell
+    pub ticket_read : (g : GivenTicket) → g ≡ get_or tickets n g → g.cell ≡ cell
     ticket_read g read = ap (λ x. x.cell) (read ∙ get_or_from_slice_get tickets n (given cell false) g gave_inside)
 
 pub pass_call : {callers caller front front2 calls calls2 parts parts2 amount amount2 unseen room room2 ticket_room : ℕ} {entries entries2 : List Line}
-    {tickets : List Given} (p : Pass) (t : Told) (entry : Line)
+    {tickets : List GivenTicket} (p : Pass) (t : Told) (entry : Line)
     → viewed caller unseen room ticket_room entries tickets ≡ p
     → IsPass callers caller front calls parts amount unseen room ticket_room entries tickets
     → 0 < p.spare → front_of p.part.entries ≤ t.at → t.event.caller ≡ p.part.caller
@@ -98,7 +98,7 @@ pass_call {entries = entries} {entries2 = entries2} {tickets =
     }
 
 pub pass_ticket : {callers caller front calls parts amount unseen unseen2 room ticket_room ticket_room2 : ℕ} {entries : List Line}
-    {tickets tickets2 : List Given} (p : Pass) (cell : ℕ)
+    {tickets tickets2 : List GivenTicket} (p : Pass) (cell : ℕ)
     → viewed caller unseen room ticket_room entries tickets ≡ p
     → IsPass callers caller front calls parts amount unseen room ticket_room entries tickets
     → 0 < p.spare → Among cell (cells_of p.part.entries)
@@ -126,7 +126,7 @@ pass_ticket {entries = entries} {tickets = tickets} {tickets2 = tickets2} p cell
     }
 
 pub pass_saw : {callers caller front front2 calls parts amount unseen unseen2 room room2 ticket_room ticket_room2 : ℕ} {entries entries2 : List Line}
-    {tickets tickets2 : List Given} (p : Pass) (n : ℕ) (r : Read) (entry : Line) (g : Given)
+    {tickets tickets2 : List GivenTicket} (p : Pass) (n : ℕ) (r : Read) (entry : Line) (g : GivenTicket)
     → viewed caller unseen room ticket_room entries tickets ≡ p
     → IsPass callers caller front calls parts amount unseen room ticket_room entries tickets
     → slice_get p.part.tickets n ≡ Some (given r.cell false) → r.ending.at < 65536
@@ -164,8 +164,8 @@ pass_saw {front = front} {entries = entries} {entries2 = entries2} {tickets = ti
     }
 
 -- the part once the outcome is among the entries
-pub part_saw : {callers caller front calls parts amount unseen room ticket_room : ℕ} {entries entries2 : List Line} {tickets tickets2 : List Given} (p : Pass)
-    (n : ℕ) (r : Read) (entry : Line) (g : Given)
+pub part_saw : {callers caller front calls parts amount unseen room ticket_room : ℕ} {entries entries2 : List Line} {tickets tickets2 : List GivenTicket} (p : Pass)
+    (n : ℕ) (r : Read) (entry : Line) (g : GivenTicket)
     → viewed caller unseen room ticket_room entries tickets ≡ p
     → IsPass callers caller front calls parts amount unseen room ticket_room entries tickets
     → slice_get p.part.tickets n ≡ Some (given r.cell false)

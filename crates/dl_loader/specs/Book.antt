@@ -1,6 +1,6 @@
 -- What contracts see of a loader's book, which lies behind its lock, and what the book keeps.
 use Rattle.std.specs.Prelude.{Bool, List}
-use Rattle.dl_desk.specs.Book.{Book}
+use Rattle.dl_desk.specs.BatchBook.{BatchBook}
 use Rattle.dl_history.specs.Service.{Service}
 use Rattle.dl_history.specs.Journal.{Cell}
 use Rattle.dl_history.specs.Kept.{Kept, kept, IsKept}
@@ -10,11 +10,11 @@ use Rattle.dl_history.specs.declared.event.Event.{Event}
 -- and whether the loader is stopped.
 pub record Locked : Type 0 where
   pub history : List Event
-  pub desk : Book
+  pub desk : BatchBook
   pub cells : List Cell
   pub stopped : Bool
 
-abbrev pub locked : List Event → Book → List Cell → Bool → Locked
+abbrev pub locked : List Event → BatchBook → List Cell → Bool → Locked
 locked history desk cells stopped = record { history = history; desk = desk; cells = cells; stopped = stopped }
 
 -- a book without whether the loader is stopped

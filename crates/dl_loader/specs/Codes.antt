@@ -7,13 +7,13 @@ use Rattle.dl_history.specs.declared.event.Ending.{Ending}
 use Rattle.dl_history.specs.contracts.event.Ending as ending
 use Rattle.dl_history.specs.Entries.{Line}
 use Rattle.dl_history.specs.Codes.{line_code}
-use Rattle.dl_loader.specs.declared.pass.Given.{Given}
-use Rattle.dl_loader.specs.contracts.pass.Given as given
+use Rattle.dl_loader.specs.declared.pass.GivenTicket.{GivenTicket}
+use Rattle.dl_loader.specs.contracts.pass.GivenTicket as given
 use Rattle.dl_loader.specs.Pass.{Part, part, Pass, Hold, hold}
 
 -- a part, by its caller, its entries and its tickets
 abbrev pub part_code : Coded Part
-part_code = code_by (ℕ × (List Line × List Given)) (coded× coded_ℕ (coded× (coded_list line_code) (coded_list given.the_row.coded)))
+part_code = code_by (ℕ × (List Line × List GivenTicket)) (coded× coded_ℕ (coded× (coded_list line_code) (coded_list given.the_row.coded)))
     (λ p. (p.caller, (p.entries, p.tickets))) (λ q. part q.0 q.1.0 q.1.1) (λ _. refl)
 
 -- a pass, by its part and its room

@@ -5,7 +5,7 @@ use Rattle.dl_desk.specs.declared.outcome.Outcome.{Outcome}
 use Rattle.dl_desk.specs.declared.reply.LoadReply.{LoadReply}
 use Rattle.dl_history.specs.declared.event.Event.{Event}
 use Rattle.dl_history.specs.declared.event.Ending.{Ending}
-use Rattle.dl_loader.specs.declared.pass.Given.{Given}
+use Rattle.dl_loader.specs.declared.pass.GivenTicket.{GivenTicket}
 use Rattle.dl_history.specs.Lists.{Every, Among, total, one_if}
 use Rattle.dl_history.specs.Entries.{told, Line, Called, Saw, read, calls_of, IsOwn, front_of, Ordered, cell_of_load, cells_of, Answered}
 
@@ -15,9 +15,9 @@ use Rattle.dl_history.specs.Entries.{told, Line, Called, Saw, read, calls_of, Is
 pub record Part : Type 0 where
   pub caller : ℕ
   pub entries : List Line
-  pub tickets : List Given
+  pub tickets : List GivenTicket
 
-abbrev pub part : ℕ → List Line → List Given → Part
+abbrev pub part : ℕ → List Line → List GivenTicket → Part
 part caller entries tickets = record { caller = caller; entries = entries; tickets = tickets }
 
 -- what contracts see of a pass: its caller's part, and for how many more entries and tickets it has room
@@ -27,16 +27,16 @@ pub record Pass : Type 0 where
   pub spare : ℕ
 
 -- what contracts see of the fields of a pass
-abbrev pub viewed : ℕ → ℕ → ℕ → ℕ → List Line → List Given → Pass
+abbrev pub viewed : ℕ → ℕ → ℕ → ℕ → List Line → List GivenTicket → Pass
 viewed caller unseen room ticket_room entries tickets =
     record { part = part caller entries tickets; spare = min (room - (length entries + unseen)) (ticket_room - length tickets) }
 
 -- how many of the tickets have no entry of their outcome
-abbrev pub unseen_of : List Given → ℕ
+abbrev pub unseen_of : List GivenTicket → ℕ
 unseen_of gs = total (λ g. one_if (not g.seen)) gs
 
 -- what holds of the fields of a pass
-pub record IsPass (callers caller front calls parts amount unseen room ticket_room : ℕ) (entries : List Line) (tickets : List Given) : Type 0 where
+pub record IsPass (callers caller front calls parts amount unseen room ticket_room : ℕ) (entries : List Line) (tickets : List GivenTicket) : Type 0 where
   pub caller_is : caller < callers
   pub front_is : front ≡ front_of entries
   pub front_most : front ≤ 65536
@@ -55,7 +55,7 @@ pub record IsPass (callers caller front calls parts amount unseen room ticket_ro
 abbrev pub with_call : Part → ℕ → Event → Part
 with_call p at e = part p.caller (p.entries ++ Called (told at e) ∷ []) p.tickets
 
-abbrev pub given : ℕ → Bool → Given
+abbrev pub given : ℕ → Bool → GivenTicket
 given cell seen = record { cell = cell; seen = seen }
 
 -- the part with a ticket more, of which nothing was seen
@@ -94,8 +94,8 @@ abbrev pub Shows : Hold → Outcome → Type 0
 Shows t outcome = (ending : Ending) × (t.known ≡ Some ending) × (ending.outcome ≡ outcome)
 
 -- the pass gave the ticket, whose outcome is among the entries or isn't
-abbrev pub Gave : Part → Hold → Bool → Type 0
-Gave p t seen = slice_get p.tickets t.number ≡ Some (given (cell_of_load t.reply) seen)
+abbrev pub GaveTicket : Part → Hold → Bool → Type 0
+GaveTicket p t seen = slice_get p.tickets t.number ≡ Some (given (cell_of_load t.reply) seen)
 
 -- tickets for loads with these replies, in order, numbered from one on
 pub record AreTickets (first : ℕ) (replies : List LoadReply) (ts : List Hold) : Type 0 where
@@ -103,6 +103,6 @@ pub record AreTickets (first : ℕ) (replies : List LoadReply) (ts : List Hold) 
   pub numbered : (i : ℕ) (t : Hold) → slice_get ts i ≡ Some t → t.number ≡ first + i
 
 -- the pass gave each of the tickets, which are numbered from one on, and saw none of their outcomes
-pub record GaveAll (p : Part) (first : ℕ) (ts : List Hold) : Type 0 where
+pub record GaveTickets (p : Part) (first : ℕ) (ts : List Hold) : Type 0 where
   pub numbered : (i : ℕ) (t : Hold) → slice_get ts i ≡ Some t → t.number ≡ first + i
-  pub gave : (i : ℕ) (t : Hold) → slice_get ts i ≡ Some t → Gave p t false
+  pub gave : (i : ℕ) (t : Hold) → slice_get ts i ≡ Some t → GaveTicket p t false

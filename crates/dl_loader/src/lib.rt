@@ -8,11 +8,11 @@
 mod ask;
 mod book;
 mod calls;
-mod dues;
+mod due_endings;
 mod fault;
 pub mod laws;
 mod loader;
-mod loads;
+mod load_replies;
 mod opening;
 mod pass;
 mod reply;

@@ -4,7 +4,7 @@ ghost use Rattle.std.specs.Prelude.{◌≡◌, Bool, IfErr, IfOk, IfSome, IsSome
 ghost use Rattle.dl_loader.specs.declared.fault.StartFault.TheVariants.{OutOfMemory};
 ghost use Rattle.dl_history.specs.Entries.{cell_of_load, ending_known};
 ghost use Rattle.dl_loader.specs.Opening.{Names};
-ghost use Rattle.dl_loader.specs.Pass.{Gave, fresh, with_saw};
+ghost use Rattle.dl_loader.specs.Pass.{GaveTicket, fresh, with_saw};
 
 mod accounts;
 mod close;
@@ -105,12 +105,12 @@ impl<L: LoaderName> Loader<L> {
         pass: &mut Pass<L>,
         ticket: &mut Ticket<'_, L>,
     ) -> Result<(), Stopped>
-        requires gave { (seen : Bool) × Gave pass.old.part ticket.old seen }
+        requires gave { (seen : Bool) × GaveTicket pass.old.part ticket.old seen }
         ensures number { ticket.new.number ≡ ticket.old.number }
         ensures reply { ticket.new.reply ≡ ticket.old.reply }
         ensures kept { IfSome ticket.old.known (λ ending. ticket.new.known ≡ Some ending) }
         ensures shown { OnOk result (IsSome ticket.new.known) }
-        ensures saw { OnOk result ((seen : Bool) × Gave pass.old.part ticket.old seen × (pass.new.part ≡ with_saw pass.old.part ticket.old.number (cell_of_load ticket.old.reply) (ending_known ticket.new.known) seen)) }
+        ensures saw { OnOk result ((seen : Bool) × GaveTicket pass.old.part ticket.old seen × (pass.new.part ≡ with_saw pass.old.part ticket.old.number (cell_of_load ticket.old.reply) (ending_known ticket.new.known) seen)) }
         ensures unchanged { OnErr result (pass.new.part ≡ pass.old.part) }
         ensures none { OnErr result (ticket.new.known ≡ None) }
     {

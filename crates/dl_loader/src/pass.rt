@@ -6,19 +6,19 @@ ghost use Rattle.dl_history.specs.Closed.{outline_of};
 ghost use Rattle.dl_loader.specs.Closing.{account_of};
 ghost use Rattle.dl_history.specs.Entries.{calls_of, cell_of_load, cells_of, ending_known, front_of};
 ghost use Rattle.dl_history.specs.Lists.{Among};
-ghost use Rattle.dl_loader.specs.Pass.{Gave, given, part, with_saw, with_ticket};
+ghost use Rattle.dl_loader.specs.Pass.{GaveTicket, given, part, with_saw, with_ticket};
 
 mod events;
 
 use crate::ticket::Ticket;
-use dl_history::{Account, Entry, LoaderName, Seen};
+use dl_history::{Account, Entry, LoaderName, Read};
 use std::alloc::{AllocError, Global};
 use std::marker::Model;
 use std::sync::ledger::Share;
 
 /// A ticket that a pass gave.
 #[derive(Clone, Copy, Debug)]
-pub struct Given {
+pub struct GivenTicket {
     // The cell of its load.
     cell: u32,
     // Whether the cell's outcome is among the entries.
@@ -35,7 +35,7 @@ pub struct Pass<L: LoaderName> {
     calls: usize,
     // One more than the greatest place among the entries, and 0 without any.
     front: u32,
-    tickets: Vec<Given>,
+    tickets: Vec<GivenTicket>,
     // How many of the tickets have no entry of their outcome.
     unseen: usize,
     share: Share<L>,
@@ -157,17 +157,17 @@ impl<L: LoaderName> Pass<L> {
     {
         let number = self.tickets.len();
         self.unseen += 1;
-        self.tickets.push_reserved(Given { cell, seen: false });
+        self.tickets.push_reserved(GivenTicket { cell, seen: false });
         number
     }
 
     /// Adds the outcome that a ticket of this pass shows, once: where it is among the entries already,
     /// nothing changes. It never waits, and takes no memory.
     pub fn saw(&mut self, ticket: &mut Ticket<'_, L>)
-        requires gave { (seen : Bool) × Gave self.old.part ticket.old seen }
+        requires gave { (seen : Bool) × GaveTicket self.old.part ticket.old seen }
         requires shown { IsSome ticket.old.known }
         ensures ticket { ticket.new ≡ ticket.old }
-        ensures saw { (seen : Bool) × Gave self.old.part ticket.old seen × (self.new.part ≡ with_saw self.old.part ticket.old.number (cell_of_load ticket.old.reply) (ending_known ticket.old.known) seen) }
+        ensures saw { (seen : Bool) × GaveTicket self.old.part ticket.old seen × (self.new.part ≡ with_saw self.old.part ticket.old.number (cell_of_load ticket.old.reply) (ending_known ticket.old.known) seen) }
     {
         if !self.has_seen(ticket.number()) {
             self.add_saw(ticket.number(), ticket.seen());
@@ -183,7 +183,7 @@ impl<L: LoaderName> Pass<L> {
     }
 
     // Adds the outcome of the ticket of this number.
-    fn add_saw(&mut self, number: usize, seen: Seen<L>)
+    fn add_saw(&mut self, number: usize, seen: Read<L>)
         requires { slice_get self.old.part.tickets number ≡ Some (given seen.cell false) }
         ensures { self.new.part ≡ with_saw self.old.part number seen.cell seen.ending false }
     {

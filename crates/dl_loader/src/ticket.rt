@@ -7,7 +7,7 @@ ghost use Rattle.dl_loader.specs.Pass.{Shows, hold};
 
 use dl_cells::{CellRow, Reader};
 use dl_desk::{LoadReply, Outcome};
-use dl_history::{Ending, LoaderName, Seen};
+use dl_history::{Ending, LoaderName, Read};
 use std::marker::{Model, PhantomData};
 
 /// A caller's hold on the cell of a load, which shows the outcome once the cell has ended. Contracts
@@ -112,7 +112,7 @@ impl<'a, L: LoaderName> Ticket<'a, L> {
     }
 
     /// What the ticket knows of its cell, as an entry tells it. It takes no memory.
-    pub(crate) fn seen(&mut self) -> Seen<L>
+    pub(crate) fn seen(&mut self) -> Read<L>
         requires { IsSome self.old.known }
         ensures same { self.new ≡ self.old }
         ensures seen { result ≡ read (cell_of_load self.old.reply) (ending_known self.old.known) }
@@ -121,7 +121,7 @@ impl<'a, L: LoaderName> Ticket<'a, L> {
             Some(ending) => ending.at,
             None => unreachable!(),
         };
-        Seen::of(self.cell(), at, self.reader.again())
+        Read::of(self.cell(), at, self.reader.again())
     }
 
     // The place and the outcome, if the cell has ended.

@@ -1,21 +1,21 @@
 -- A desk that answers calls one by one.
 use Rattle.std.proofs.Common.{◌≡◌, ◌∙◌, sym, ap, ℕ, ◌+◌, ◌<◌, List, ◌∷◌, ◌++◌, length, drop, get_or}
 use Rattle.std.proofs.lemmas.List.{drop_more, append_assoc}
-use Rattle.dl_desk.specs.Book.{Book, StandsFor}
+use Rattle.dl_desk.specs.BatchBook.{BatchBook, StandsFor}
 use Rattle.dl_desk.specs.History.{Atom}
 use Rattle.dl_desk.specs.Limits.{Rules}
 use Rattle.dl_plans.specs.Output.{calls_text, call_lines, next_history}
 use Rattle.dl_plans.specs.declared.script.ScriptCall.{ScriptCall}
 
 -- what was written, with the lines of the rest from the desk's history on, is the text
-pub record Answered (rules : Rules) (book : Book) (out : List ℕ) (rest : List ScriptCall) (text : List ℕ) : Type 0 where
+pub record Answered (rules : Rules) (book : BatchBook) (out : List ℕ) (rest : List ScriptCall) (text : List ℕ) : Type 0 where
   pub history : List Atom
   pub same : book.rules ≡ rules
   pub stands : StandsFor book history
   pub goes_on : out ++ calls_text rules history rest ≡ text
 
 -- one more call was answered
-pub answered_more : (rules : Rules) (old new : Book) (out out_then text : List ℕ) (calls : List ScriptCall) (i : ℕ) (call : ScriptCall) → i < length calls → call ≡ get_or calls i call → Answered rules old out (drop i calls) text
+pub answered_more : (rules : Rules) (old new : BatchBook) (out out_then text : List ℕ) (calls : List ScriptCall) (i : ℕ) (call : ScriptCall) → i < length calls → call ≡ get_or calls i call → Answered rules old out (drop i calls) text
     → new.rules ≡ old.rules
     → ((history : List Atom) → StandsFor old history → out_then ≡ out ++ call_lines old.rules history call)
     → ((history : List Atom) → StandsFor old history → StandsFor new (next_history old.rules history call))

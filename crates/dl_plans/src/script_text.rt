@@ -1,7 +1,7 @@
 //! Answering a script.
 
 ghost use Rattle.std.specs.Prelude.{◌≡◌, ◌++◌, List, IfOk, OnOk, string_bytes};
-ghost use Rattle.dl_desk.specs.Book.{StandsFor};
+ghost use Rattle.dl_desk.specs.BatchBook.{StandsFor};
 ghost use Rattle.dl_desk.specs.History.{Atom};
 ghost use Rattle.dl_plans.specs.Output.{script_text, call_lines, next_history};
 

@@ -1,46 +1,46 @@
--- What one step of a seat makes of its account.
+-- What one step of a seat makes of its traffic.
 use Rattle.std.proofs.Common.{◌≡◌, ◌+◌, List, [], ◌∷◌, ◌++◌, length, ap, ◌∙◌, length-append, Result, Ok, Err, MatchResult, arith}
 use Rattle.std.proofs.lemmas.List.{append-nil}
 use Rattle.dl_desk.specs.declared.reply.Job.{Job}
-use Rattle.dl_workers.specs.Lossless.{account, jobs}
+use Rattle.dl_workers.specs.Lossless.{traffic, jobs}
 use Rattle.dl_workers.specs.declared.rule.Item.TheVariants.{Work, End}
-use Rattle.dl_workers.specs.declared.rule.Account.{Account}
+use Rattle.dl_workers.specs.declared.rule.Traffic.{Traffic}
 use Rattle.dl_workers.proofs.Jobs.{jobs-append}
 
--- only end marks came to an account
-pub record IsSameButMarks (v w : Account) : Type 0 where
+-- only end marks came to an traffic
+pub record IsSameButMarks (v w : Traffic) : Type 0 where
   pub seats : w.seats ≡ v.seats
   pub all : w.all ≡ v.all
   pub sent : jobs w.sent ≡ jobs v.sent
   pub taken : w.taken ≡ v.taken
 
 -- a send of an end mark, whether it succeeds or not
-pub after_mark : {T E : Type 0} (P : E → Type 0) (v w : Account) (r : Result T E)
-    → MatchResult r (λ _. w ≡ account v.seats v.all (v.sent ++ End ∷ []) v.taken) (λ e. P e × (w ≡ v)) → IsSameButMarks v w
+pub after_mark : {T E : Type 0} (P : E → Type 0) (v w : Traffic) (r : Result T E)
+    → MatchResult r (λ _. w ≡ traffic v.seats v.all (v.sent ++ End ∷ []) v.taken) (λ e. P e × (w ≡ v)) → IsSameButMarks v w
 after_mark P v w (Ok _) is = record {
-  seats = ap (λ (a : Account). a.seats) is;
-  all = ap (λ (a : Account). a.all) is;
-  sent = ap (λ (a : Account). jobs a.sent) is ∙ jobs-append v.sent (End ∷ []) ∙ append-nil (jobs v.sent);
-  taken = ap (λ (a : Account). a.taken) is;
+  seats = ap (λ (a : Traffic). a.seats) is;
+  all = ap (λ (a : Traffic). a.all) is;
+  sent = ap (λ (a : Traffic). jobs a.sent) is ∙ jobs-append v.sent (End ∷ []) ∙ append-nil (jobs v.sent);
+  taken = ap (λ (a : Traffic). a.taken) is;
 }
 after_mark P v w (Err _) is = record {
-  seats = ap (λ (a : Account). a.seats) is.1;
-  all = ap (λ (a : Account). a.all) is.1;
-  sent = ap (λ (a : Account). jobs a.sent) is.1;
-  taken = ap (λ (a : Account). a.taken) is.1;
+  seats = ap (λ (a : Traffic). a.seats) is.1;
+  all = ap (λ (a : Traffic). a.all) is.1;
+  sent = ap (λ (a : Traffic). jobs a.sent) is.1;
+  taken = ap (λ (a : Traffic). a.taken) is.1;
 }
 
 -- a send of a job
-pub after_send : (job : Job) (v w : Account) → w ≡ account v.seats v.all (v.sent ++ Work job ∷ []) v.taken → jobs w.sent ≡ jobs v.sent ++ job ∷ []
-after_send job v w is = ap (λ (a : Account). jobs a.sent) is ∙ jobs-append v.sent (Work job ∷ [])
+pub after_send : (job : Job) (v w : Traffic) → w ≡ traffic v.seats v.all (v.sent ++ Work job ∷ []) v.taken → jobs w.sent ≡ jobs v.sent ++ job ∷ []
+after_send job v w is = ap (λ (a : Traffic). jobs a.sent) is ∙ jobs-append v.sent (Work job ∷ [])
 
 -- a take of a job
-pub after_take : (job : Job) (v w : Account) → w ≡ account v.seats v.all v.sent (v.taken ++ Work job ∷ []) → jobs w.taken ≡ jobs v.taken ++ job ∷ []
-after_take job v w is = ap (λ (a : Account). jobs a.taken) is ∙ jobs-append v.taken (Work job ∷ [])
+pub after_take : (job : Job) (v w : Traffic) → w ≡ traffic v.seats v.all v.sent (v.taken ++ Work job ∷ []) → jobs w.taken ≡ jobs v.taken ++ job ∷ []
+after_take job v w is = ap (λ (a : Traffic). jobs a.taken) is ∙ jobs-append v.taken (Work job ∷ [])
 
 -- a take of an end mark
-pub after_end : (v w : Account) → w ≡ account v.seats v.all v.sent (v.taken ++ End ∷ []) → jobs w.taken ≡ jobs v.taken
-after_end v w is = ap (λ (a : Account). jobs a.taken) is ∙ jobs-append v.taken (End ∷ []) ∙ append-nil (jobs v.taken)
+pub after_end : (v w : Traffic) → w ≡ traffic v.seats v.all v.sent (v.taken ++ End ∷ []) → jobs w.taken ≡ jobs v.taken
+after_end v w is = ap (λ (a : Traffic). jobs a.taken) is ∙ jobs-append v.taken (End ∷ []) ∙ append-nil (jobs v.taken)
 
 -- a list that one element joined has one more
 pub length-push : {A : Type 0} (xs ys : List A) (x : A) → ys ≡ xs ++ x ∷ [] → length ys ≡ length xs + 1

@@ -6,7 +6,7 @@ use Rattle.dl_workers.specs.Lossless.{jobs, WholeIsLossless}
 use Rattle.dl_workers.specs.Seats.{sent_items, sent_jobs, taken_items, taken_jobs}
 use Rattle.dl_workers.specs.Balance.{Balances}
 use Rattle.dl_workers.specs.declared.rule.Item.{Item}
-use Rattle.dl_workers.specs.declared.rule.Account.{Account}
+use Rattle.dl_workers.specs.declared.rule.Traffic.{Traffic}
 use Rattle.dl_workers.specs.declared.seats.Sender.{Sender}
 use Rattle.dl_workers.specs.declared.seats.Taker.{Taker}
 use Rattle.dl_workers.proofs.Totals.{count_by-append}
@@ -17,7 +17,7 @@ module _ (rest : List Sender) (last : Sender) (takers : List Taker) where
   flat_map-last : flat_map sent_jobs (rest ++ last ∷ []) ≡ flat_map sent_jobs rest ++ (sent_jobs last ++ [])
   flat_map-last = flat_map-append sent_jobs rest (last ∷ [])
 
-  module _ (whole : Account) (sent_is : whole.sent ≡ sent_items last ++ flat_map sent_items rest) (taken_is : whole.taken ≡ flat_map taken_items takers) where
+  module _ (whole : Traffic) (sent_is : whole.sent ≡ sent_items last ++ flat_map sent_items rest) (taken_is : whole.taken ≡ flat_map taken_items takers) where
     -- the jobs that the senders sent are those that the takers took and those in the channel
     jobs_balance : (items : List Item) → WholeIsLossless whole items
         → EachAsOften (flat_map taken_jobs takers ++ jobs items) (flat_map sent_jobs (rest ++ last ∷ []))

@@ -6,11 +6,11 @@ use Rattle.dl_desk.specs.declared.reply.Job.{Job}
 use Rattle.dl_workers.specs.Bag.{EachAsOften}
 use Rattle.dl_workers.specs.declared.rule.Item.{Item}
 use Rattle.dl_workers.specs.declared.rule.Item.TheVariants.{Work, End}
-use Rattle.dl_workers.specs.declared.rule.Account.{Account}
+use Rattle.dl_workers.specs.declared.rule.Traffic.{Traffic}
 
--- an account of so many seats, of so many in all, which sent and took these items
-abbrev pub account : ℕ → ℕ → List Item → List Item → Account
-account seats all sent taken = record { seats = seats; all = all; sent = sent; taken = taken }
+-- an traffic of so many seats, of so many in all, which sent and took these items
+abbrev pub traffic : ℕ → ℕ → List Item → List Item → Traffic
+traffic seats all sent taken = record { seats = seats; all = all; sent = sent; taken = taken }
 
 -- the jobs among items, without the end marks
 abbrev pub jobs : List Item → List Job
@@ -19,19 +19,19 @@ jobs (Work job ∷ items) = job ∷ jobs items
 jobs (End ∷ items) = jobs items
 
 -- a pass that stands for a seat knows how many seats all passes stand for
-abbrev pub KnowsAll : List Account → Type 0
-KnowsAll views = (pass : ℕ) (v : Account) → get_elem? views pass ≡ some v → 0 < v.seats → v.all ≡ sum_by (λ u. u.seats) views
+abbrev pub KnowsAll : List Traffic → Type 0
+KnowsAll views = (pass : ℕ) (v : Traffic) → get_elem? views pass ≡ some v → 0 < v.seats → v.all ≡ sum_by (λ u. u.seats) views
 
 -- a pass that stands for no seat has sent and taken nothing
-abbrev pub IdleIsEmpty : List Account → Type 0
-IdleIsEmpty views = (pass : ℕ) (v : Account) → get_elem? views pass ≡ some v → v.seats ≡ 0 → (v.sent ≡ []) × (v.taken ≡ [])
+abbrev pub IdleIsEmpty : List Traffic → Type 0
+IdleIsEmpty views = (pass : ℕ) (v : Traffic) → get_elem? views pass ≡ some v → v.seats ≡ 0 → (v.sent ≡ []) × (v.taken ≡ [])
 
 -- The rule: what all passes sent is what all passes took and what the channel holds, each item as often.
-pub record IsLossless (items : List Item) (views : List Account) : Type 0 where
+pub record IsLossless (items : List Item) (views : List Traffic) : Type 0 where
   pub knows : KnowsAll views
   pub idle : IdleIsEmpty views
   pub balance : (test : Item → Bool) → sum_by (λ v. count_by test v.sent) views ≡ sum_by (λ v. count_by test v.taken) views + count_by test items
 
--- what the seats of one account sent is what they took and what the channel holds, each item as often
-abbrev pub WholeIsLossless : Account → List Item → Type 0
+-- what the seats of one traffic sent is what they took and what the channel holds, each item as often
+abbrev pub WholeIsLossless : Traffic → List Item → Type 0
 WholeIsLossless v items = EachAsOften v.sent (v.taken ++ items)

@@ -17,7 +17,7 @@
 //!   left in the channel. The end marks dropped on both sides, this is said of the jobs.
 #![tactic(auto)]
 
-mod deal;
+mod seating;
 mod ending;
 mod fault;
 mod queue;

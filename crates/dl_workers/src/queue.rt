@@ -4,9 +4,9 @@ ghost use Rattle.std.specs.Prelude.{◌≡◌, ◌<◌, ◌≤◌};
 ghost use Rattle.crossbeam_channel.specs.Ends.{sends_on, receives_on};
 ghost use Rattle.dl_workers.specs.declared.queue.TheConstants.{MOST_SEATS};
 
-use crate::deal::{deal_senders, deal_takers, widen};
+use crate::seating::{deal_senders, deal_takers, widen};
 use crate::fault::QueueFault;
-use crate::rule::{Account, Gather, Item, Lossless, Sends, Takes, Whole};
+use crate::rule::{Traffic, Gather, Item, Lossless, Sends, Takes, Whole};
 use crate::seats::{Sender, Taker};
 use crossbeam_channel::{Pass, RuledReceiver, RuledSender, bounded_with};
 use dl_desk::Job;
@@ -35,8 +35,8 @@ pub struct Tally {
 /// [`Taker`]. Threads share it by reference.
 #[derive(Drop)]
 pub struct JobQueue {
-    sends: RuledSender<Item, Account, Lossless>,
-    receives: RuledReceiver<Item, Account, Lossless>,
+    sends: RuledSender<Item, Traffic, Lossless>,
+    receives: RuledReceiver<Item, Traffic, Lossless>,
     is_shut: AtomicBool,
     senders: u32,
     takers: u32,
@@ -52,7 +52,7 @@ impl JobQueue {
     ghost use Rattle.dl_workers.specs.QueueFaults.{IsCapacity, IsCount, RefusedAs};
     ghost use Rattle.dl_workers.specs.Seats.{IsSenderOf, IsTakerOf, AreSeatsOf, sent_items, sent_jobs, taken_items, taken_jobs, places_of};
     ghost use Rattle.dl_workers.specs.Balance.{Balances};
-    ghost use Rattle.dl_workers.specs.Lossless.{account};
+    ghost use Rattle.dl_workers.specs.Lossless.{traffic};
 
     /// A queue with room for `capacity` jobs, and its seats. The growths are made here: no other
     /// call of the queue takes memory.
@@ -106,7 +106,7 @@ impl JobQueue {
         ensures places { IfOk result (λ r. places_of r.0 ≡ capacity + takers) }
     {
         let places = (capacity + takers) as usize;
-        let (sends, receives, mut whole) = bounded_with::<Item, Account, Lossless, Global>(
+        let (sends, receives, mut whole) = bounded_with::<Item, Traffic, Lossless, Global>(
             alloc, places,
         )?;
         widen(&sends, &mut whole, senders + takers - 1);
@@ -196,11 +196,11 @@ impl JobQueue {
     }
 
     // Puts an item into the channel, and waits where that is full. The item comes back where it can't be put.
-    fn put<R: Wait>(&self, rt: &R, pass: &mut Pass<Item, Account>, item: Item) -> Result<(), Item>
+    fn put<R: Wait>(&self, rt: &R, pass: &mut Pass<Item, Traffic>, item: Item) -> Result<(), Item>
         requires seat { IsSeatAt (sends_on self.now.sends) pass.old }
         requires some_seat { 0 < (view pass.old).seats }
         ensures seat { IsSeatAt (sends_on self.now.sends) pass.new }
-        ensures put { MatchResult result (λ _. view pass.new ≡ account (view pass.old).seats (view pass.old).all ((view pass.old).sent ++ item ∷ []) (view pass.old).taken) (λ back. (back ≡ item) × (view pass.new ≡ view pass.old)) }
+        ensures put { MatchResult result (λ _. view pass.new ≡ traffic (view pass.old).seats (view pass.old).all ((view pass.old).sent ++ item ∷ []) (view pass.old).taken) (λ back. (back ≡ item) × (view pass.new ≡ view pass.old)) }
     {
         match self.sends.send_as::<Sends, R>(rt, pass, item) {
             Ok(()) => Ok(()),
@@ -230,13 +230,13 @@ impl JobQueue {
     }
 
     // Joins the senders into one pass, and adds up their jobs.
-    fn gather_senders(&self, whole: &mut Pass<Item, Account>, senders: Vec<Sender>) -> u64
+    fn gather_senders(&self, whole: &mut Pass<Item, Traffic>, senders: Vec<Sender>) -> u64
         requires seat { IsSeatAt (sends_on self.now.sends) whole.old }
         requires some_seat { 0 < (view whole.old).seats }
         requires few { length senders.items ≤ MOST_SEATS }
         requires senders { All (IsSenderOf self.now) senders.items }
         ensures seat { IsSeatAt (sends_on self.now.sends) whole.new }
-        ensures gathered { view whole.new ≡ account ((view whole.old).seats + length senders.items) (view whole.old).all ((view whole.old).sent ++ flat_map sent_items senders.items) (view whole.old).taken }
+        ensures gathered { view whole.new ≡ traffic ((view whole.old).seats + length senders.items) (view whole.old).all ((view whole.old).sent ++ flat_map sent_items senders.items) (view whole.old).taken }
         ensures counted { result ≡ length (flat_map sent_jobs senders.items) }
         ensures bound { result ≤ MOST_SEATS * 2 ^ 32 }
     {
@@ -249,13 +249,13 @@ impl JobQueue {
     }
 
     // Joins the takers into one pass, and adds up their jobs.
-    fn gather_takers(&self, whole: &mut Pass<Item, Account>, takers: Vec<Taker>) -> u64
+    fn gather_takers(&self, whole: &mut Pass<Item, Traffic>, takers: Vec<Taker>) -> u64
         requires seat { IsSeatAt (sends_on self.now.sends) whole.old }
         requires some_seat { 0 < (view whole.old).seats }
         requires few { length takers.items ≤ MOST_SEATS }
         requires takers { All (IsTakerOf self.now) takers.items }
         ensures seat { IsSeatAt (sends_on self.now.sends) whole.new }
-        ensures gathered { view whole.new ≡ account ((view whole.old).seats + length takers.items) (view whole.old).all (view whole.old).sent ((view whole.old).taken ++ flat_map taken_items takers.items) }
+        ensures gathered { view whole.new ≡ traffic ((view whole.old).seats + length takers.items) (view whole.old).all (view whole.old).sent ((view whole.old).taken ++ flat_map taken_items takers.items) }
         ensures counted { result ≡ length (flat_map taken_jobs takers.items) }
         ensures bound { result ≤ MOST_SEATS * 2 ^ 32 }
     {

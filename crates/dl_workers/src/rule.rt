@@ -15,7 +15,7 @@ pub enum Item {
 }
 
 /// What a pass of the channel knows, its view. It exists in proofs alone: no value is made of it.
-pub struct Account {
+pub struct Traffic {
     /// For how many seats the pass stands.
     pub seats: u64,
     /// How many seats there are in all, where the pass stands for one.
@@ -29,63 +29,63 @@ pub struct Account {
 /// The rule, over what the channel holds and what all passes know.
 pub struct Lossless;
 
-impl Protocol<Item, Account> for Lossless {
+impl Protocol<Item, Traffic> for Lossless {
     ghost use Rattle.std.specs.Prelude.{[]};
-    ghost use Rattle.dl_workers.specs.Lossless.{account, IsLossless};
+    ghost use Rattle.dl_workers.specs.Lossless.{traffic, IsLossless};
 
     ghost holds = { IsLossless };
 
-    ghost first = { account 1 1 [] [] };
+    ghost first = { traffic 1 1 [] [] };
 }
 
 /// A split that makes room for one more seat: the pass that stands for all seats stands for one
 /// more. The new pass stands for none and is let go.
 pub struct Widen;
 
-impl Split<Account> for Widen {
+impl Split<Traffic> for Widen {
     ghost use Rattle.std.specs.Prelude.{◌+◌, []};
-    ghost use Rattle.dl_workers.specs.Lossless.{account};
+    ghost use Rattle.dl_workers.specs.Lossless.{traffic};
 
-    ghost left = { λ v. account (v.seats + 1) (v.all + 1) v.sent v.taken };
+    ghost left = { λ v. traffic (v.seats + 1) (v.all + 1) v.sent v.taken };
 
-    ghost right = { λ v. account 0 0 [] [] };
+    ghost right = { λ v. traffic 0 0 [] [] };
 }
 
 /// A split that deals one seat to a new pass, which has sent and taken nothing.
 pub struct Deal;
 
-impl Split<Account> for Deal {
+impl Split<Traffic> for Deal {
     ghost use Rattle.std.specs.Prelude.{◌-◌, []};
-    ghost use Rattle.dl_workers.specs.Lossless.{account};
+    ghost use Rattle.dl_workers.specs.Lossless.{traffic};
 
-    ghost left = { λ v. account (v.seats - 1) v.all v.sent v.taken };
+    ghost left = { λ v. traffic (v.seats - 1) v.all v.sent v.taken };
 
-    ghost right = { λ v. account 1 v.all [] [] };
+    ghost right = { λ v. traffic 1 v.all [] [] };
 }
 
 /// A join: the seats of one pass, and what they sent and took, go over to another.
 pub struct Gather;
 
-impl Join<Account> for Gather {
+impl Join<Traffic> for Gather {
     ghost use Rattle.std.specs.Prelude.{◌+◌, ◌++◌, []};
-    ghost use Rattle.dl_workers.specs.Lossless.{account};
+    ghost use Rattle.dl_workers.specs.Lossless.{traffic};
 
-    ghost both = { λ v w. account (v.seats + w.seats) v.all (v.sent ++ w.sent) (v.taken ++ w.taken) };
+    ghost both = { λ v w. traffic (v.seats + w.seats) v.all (v.sent ++ w.sent) (v.taken ++ w.taken) };
 
-    ghost spent = { account 0 0 [] [] };
+    ghost spent = { traffic 0 0 [] [] };
 }
 
 /// What a send does: the item joins those that its seat sent.
 pub struct Sends;
 
-impl Outcome<Item, Account> for Sends {
+impl Outcome<Item, Traffic> for Sends {
     ghost use Rattle.std.specs.Prelude.{◌≡◌, ◌++◌, ◌∷◌, []};
-    ghost use Rattle.dl_workers.specs.Lossless.{account};
+    ghost use Rattle.dl_workers.specs.Lossless.{traffic};
 
-    ghost then = { λ v item w. w ≡ account v.seats v.all (v.sent ++ item ∷ []) v.taken };
+    ghost then = { λ v item w. w ≡ traffic v.seats v.all (v.sent ++ item ∷ []) v.taken };
 }
 
-impl Lesson<Item, Account> for Sends {
+impl Lesson<Item, Traffic> for Sends {
     ghost use Rattle.std.specs.Prelude.{⊤};
 
     ghost fact = { λ v items. ⊤ };
@@ -94,14 +94,14 @@ impl Lesson<Item, Account> for Sends {
 /// What a receive does: the item joins those that its seat took.
 pub struct Takes;
 
-impl Outcome<Item, Account> for Takes {
+impl Outcome<Item, Traffic> for Takes {
     ghost use Rattle.std.specs.Prelude.{◌≡◌, ◌++◌, ◌∷◌, []};
-    ghost use Rattle.dl_workers.specs.Lossless.{account};
+    ghost use Rattle.dl_workers.specs.Lossless.{traffic};
 
-    ghost then = { λ v item w. w ≡ account v.seats v.all v.sent (v.taken ++ item ∷ []) };
+    ghost then = { λ v item w. w ≡ traffic v.seats v.all v.sent (v.taken ++ item ∷ []) };
 }
 
-impl Lesson<Item, Account> for Takes {
+impl Lesson<Item, Traffic> for Takes {
     ghost use Rattle.std.specs.Prelude.{⊤};
 
     ghost fact = { λ v items. ⊤ };
@@ -111,7 +111,7 @@ impl Lesson<Item, Account> for Takes {
 /// channel holds.
 pub struct Whole;
 
-impl Lesson<Item, Account> for Whole {
+impl Lesson<Item, Traffic> for Whole {
     ghost use Rattle.dl_workers.specs.Lossless.{WholeIsLossless};
 
     ghost fact = { WholeIsLossless };

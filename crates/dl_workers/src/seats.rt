@@ -2,15 +2,15 @@
 
 ghost use Rattle.std.specs.Prelude.{◌≡◌, [], length};
 ghost use Rattle.crossbeam_channel.specs.Claims.{view};
-ghost use Rattle.dl_workers.specs.Lossless.{account, jobs};
+ghost use Rattle.dl_workers.specs.Lossless.{traffic, jobs};
 
-use crate::rule::{Account, Item};
+use crate::rule::{Traffic, Item};
 use crossbeam_channel::Pass;
 
 /// A sender's seat at one queue. It knows the jobs that it sent, in order.
 #[derive(Drop)]
 pub struct Sender {
-    pub(crate) pass: Pass<Item, Account>,
+    pub(crate) pass: Pass<Item, Traffic>,
     pub(crate) sent: u32,
     ghost one_seat: { (view pass).seats ≡ 1 },
     ghost counted: { sent ≡ length (jobs (view pass).sent) },
@@ -20,7 +20,7 @@ pub struct Sender {
 /// A taker's seat at one queue. It knows the jobs that it took, in order.
 #[derive(Drop)]
 pub struct Taker {
-    pub(crate) pass: Pass<Item, Account>,
+    pub(crate) pass: Pass<Item, Traffic>,
     pub(crate) taken: u32,
     pub(crate) ended: bool,
     ghost one_seat: { (view pass).seats ≡ 1 },
@@ -30,8 +30,8 @@ pub struct Taker {
 
 impl Sender {
     /// The seat of a pass that has sent and taken nothing.
-    pub(crate) fn new(pass: Pass<Item, Account>) -> Sender
-        requires { view pass ≡ account 1 (view pass).all [] [] }
+    pub(crate) fn new(pass: Pass<Item, Traffic>) -> Sender
+        requires { view pass ≡ traffic 1 (view pass).all [] [] }
         ensures { result.pass ≡ pass }
     {
         Sender { pass, sent: 0 }
@@ -40,8 +40,8 @@ impl Sender {
 
 impl Taker {
     /// The seat of a pass that has sent and taken nothing.
-    pub(crate) fn new(pass: Pass<Item, Account>) -> Taker
-        requires { view pass ≡ account 1 (view pass).all [] [] }
+    pub(crate) fn new(pass: Pass<Item, Traffic>) -> Taker
+        requires { view pass ≡ traffic 1 (view pass).all [] [] }
         ensures { result.pass ≡ pass }
     {
         Taker {

@@ -3,7 +3,7 @@
 ghost use Rattle.std.specs.Prelude.{◌≡◌, ◌≤◌, ◌∷◌, [], List, None, IfOk, OnOk, IfErr, OnErr};
 ghost use Rattle.dl_desk.specs.History.{Atom, load_reply, load_replies, loaded, prime_reply, jobs};
 ghost use Rattle.dl_desk.specs.Calls.{Loads, Primes, Clears, ClearsAll, Sends, refusal, IsRefusal, after};
-ghost use Rattle.dl_desk.specs.Book.{StandsFor};
+ghost use Rattle.dl_desk.specs.BatchBook.{StandsFor};
 
 use crate::desk::Desk;
 use crate::fault::DeskFault;

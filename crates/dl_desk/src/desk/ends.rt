@@ -5,13 +5,13 @@ ghost use Rattle.std.specs.Map.{lookup};
 ghost use Rattle.dl_desk.specs.Key.{key_eq};
 ghost use Rattle.dl_desk.specs.History.{Atom};
 ghost use Rattle.dl_desk.specs.Calls.{Settles, Fails, refusal, after, ended_so, unfit};
-ghost use Rattle.dl_desk.specs.Book.{StandsFor, batch_seen};
+ghost use Rattle.dl_desk.specs.BatchBook.{StandsFor, batch_shown};
 ghost use Rattle.dl_desk.specs.Prepared.{RefusesEnd, MayEndIn, Forgets, set_end};
 
 use crate::desk::{BatchView, Desk};
 use crate::fault::DeskFault;
+use crate::memo_and_batches;
 use crate::reply::End;
-use crate::stored;
 
 impl Desk {
     /// The batch of a number, where it may end. It takes no memory.
@@ -19,7 +19,7 @@ impl Desk {
     /// # Errors
     /// `NoBatch`, `NotSent`, `SettledBefore`, in this order.
     pub fn ending(&self, number: u32) -> Result<BatchView<'_>, DeskFault>
-        ensures view { IfOk result (λ view. (history : List Atom) → StandsFor self.now.book history → view ≡ batch_seen history number) }
+        ensures view { IfOk result (λ view. (history : List Atom) → StandsFor self.now.book history → view ≡ batch_shown history number) }
         ensures may { OnOk result (MayEndIn self.now.book number) }
         ensures accepted { OnOk result ((history : List Atom) → StandsFor self.now.book history → unfit history number ≡ None) }
         ensures fault { IfErr result (λ fault. (history : List Atom) → StandsFor self.now.book history → unfit history number ≡ Some fault) }
@@ -69,7 +69,7 @@ impl Desk {
         ensures nothing_prepared { self.new.prepared ≡ self.new.book }
         ensures forgets { Forgets self.old.book number self.new.book }
     {
-        stored::forget(&mut self.memo, &self.batches[number as usize]);
+        memo_and_batches::forget(&mut self.memo, &self.batches[number as usize]);
         self.shown_memo = self.memo.len();
     }
 

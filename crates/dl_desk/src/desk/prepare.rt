@@ -3,7 +3,7 @@
 ghost use Rattle.std.specs.Prelude.{◌≡◌, List, None, IfOk, OnOk, IfErr};
 ghost use Rattle.dl_desk.specs.History.{Atom};
 ghost use Rattle.dl_desk.specs.Calls.{DeskCall, Loads, Primes, Sends, refusal, IsRefusal, after};
-ghost use Rattle.dl_desk.specs.Book.{StandsFor};
+ghost use Rattle.dl_desk.specs.BatchBook.{StandsFor};
 ghost use Rattle.dl_desk.specs.Ready.{IsReadyFor, IsReplyTo};
 
 use crate::desk::Desk;

@@ -7,7 +7,7 @@ ghost use Rattle.dl_history.specs.declared.journal.append.AppendFault.TheVariant
 ghost use Rattle.dl_history.specs.Entries.{told};
 ghost use Rattle.dl_history.specs.Journal.{AreBlank, waiting};
 
-use crate::entry::Stored;
+use crate::entry::Told;
 use crate::event::{Ending, Event};
 use crate::journal::Journal;
 use crate::name::LoaderName;
@@ -49,7 +49,7 @@ impl<L: LoaderName> Journal<L> {
         share: &mut Share<L>,
         event: Event,
         cells: u32,
-    ) -> Result<Stored<L>, AppendFault>
+    ) -> Result<Told<L>, AppendFault>
         requires room { length self.old.history < L.service.rules.limits.max_calls }
         requires cells_room { length self.old.cells + cells ≤ L.service.rules.limits.max_cells }
         requires part { 0 < share.old.parts }
@@ -66,7 +66,7 @@ impl<L: LoaderName> Journal<L> {
         let mut reader = rows.log().reader(u32::from(place))?;
         let event = Box::new(alloc, event).map_err(AllocError::from)?;
         self.reserve(cells as usize)?;
-        let stored = Stored::store(rows.log(), place, &mut reader, event).map_err(
+        let stored = Told::store(rows.log(), place, &mut reader, event).map_err(
             |_| AppendFault::LogRefused,
         )?;
         self.add(&stored, share);

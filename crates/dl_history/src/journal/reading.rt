@@ -5,15 +5,15 @@ ghost use Rattle.dl_history.specs.Agrees.{Meets};
 ghost use Rattle.dl_history.specs.Journal.{cell_refused};
 ghost use Rattle.dl_history.specs.Lists.{Every};
 
-use crate::entry::{Entry, Seen, Stored};
+use crate::entry::{Entry, Read, Told};
 use crate::journal::Journal;
 use crate::name::LoaderName;
-use crate::state::Mark;
+use crate::cell_state::Mark;
 use std::sync::ledger::Share;
 
 impl<L: LoaderName> Journal<L> {
     /// The event at the place of a call, if there is one, is the call's.
-    pub(crate) fn agree_call(&self, stored: &Stored<L>)
+    pub(crate) fn agree_call(&self, stored: &Told<L>)
         ensures { IfSome (slice_get self.now.history stored.now.at) (λ event. event ≡ stored.now.event) }
     {
         if let Some(own) = self.log.get(stored.at() as usize) {
@@ -22,7 +22,7 @@ impl<L: LoaderName> Journal<L> {
     }
 
     /// What a cell that was read is known to show, if it was begun, is what was read.
-    pub(crate) fn agree_read(&self, seen: &Seen<L>)
+    pub(crate) fn agree_read(&self, seen: &Read<L>)
         ensures { IfSome (slice_get self.now.cells seen.now.cell) (λ cell. IfSome cell.shows (λ ending. ending ≡ seen.now.ending)) }
     {
         if let Some(state) = self.states.get(seen.cell() as usize) {

@@ -6,7 +6,7 @@ use Rattle.dl_desk.specs.History.{Atom}
 use Rattle.dl_desk.specs.Calls.{unfit}
 use Rattle.dl_desk.specs.declared.outcome.Outcome.{Outcome}
 use Rattle.dl_desk.specs.declared.outcome.Outcome.TheVariants.{BatchFailed}
-use Rattle.dl_loader.specs.declared.dues.Due.{Due}
+use Rattle.dl_loader.specs.declared.due_endings.Due.{Due}
 use Rattle.dl_history.specs.declared.event.Call.{Call}
 use Rattle.dl_history.specs.declared.event.Call.TheVariants.{Settle, Fail}
 use Rattle.dl_loader.specs.declared.fault.CallFault.{CallFault}

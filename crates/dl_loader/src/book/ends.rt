@@ -17,7 +17,7 @@ ghost use Rattle.dl_loader.specs.Refusals.{IsRefusal, refusal, unready};
 
 use crate::ask::GiveUp;
 use crate::book::Book;
-use crate::dues::copy_outcomes;
+use crate::due_endings::copy_outcomes;
 use crate::fault::CallFault;
 use crate::pass::Pass;
 use crate::reply::Settled;

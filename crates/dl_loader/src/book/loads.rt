@@ -9,7 +9,7 @@ ghost use Rattle.dl_loader.specs.Refusals.{IsRefusal, refusal};
 
 use crate::book::Book;
 use crate::fault::CallFault;
-use crate::loads::{add_tickets, begun_by, new_cells};
+use crate::load_replies::{add_tickets, begun_by, new_cells};
 use crate::pass::Pass;
 use crate::ticket::load_cell;
 use dl_desk::{FetchKey, Keys, LoadReply};

@@ -4,7 +4,7 @@ ghost use Rattle.std.specs.Prelude.{◌≡◌, false, IfErr, IfOk, None, OnErr, 
 ghost use Rattle.dl_history.specs.declared.event.Call.TheVariants as call;
 ghost use Rattle.dl_history.specs.declared.event.Reply.TheVariants as reply;
 ghost use Rattle.dl_loader.specs.Made.{WasMade, WasRefused};
-ghost use Rattle.dl_loader.specs.Pass.{Gave, GaveAll};
+ghost use Rattle.dl_loader.specs.Pass.{GaveTicket, GaveTickets};
 
 use crate::fault::CallFault;
 use crate::loader::Loader;
@@ -30,7 +30,7 @@ impl<L: LoaderName> Loader<L> {
     ) -> Result<Ticket<'a, L>, CallFault>
         ensures made { IfOk result (λ ticket. WasMade L.service pass.old.part (call.Load key.now) (reply.Loaded ticket.reply) pass.new.part) }
         ensures number { IfOk result (λ ticket. ticket.number ≡ length pass.old.part.tickets) }
-        ensures gave { IfOk result (λ ticket. Gave pass.new.part ticket false) }
+        ensures gave { IfOk result (λ ticket. GaveTicket pass.new.part ticket false) }
         ensures fault { IfErr result (WasRefused L.service pass.old.part (call.Load key.now) None) }
         ensures unchanged { OnErr result (pass.new.part ≡ pass.old.part) }
     {
@@ -57,7 +57,7 @@ impl<L: LoaderName> Loader<L> {
     ) -> Result<Vec<Ticket<'a, L>>, CallFault>
         ensures made { IfOk result (λ tickets. WasMade L.service pass.old.part (call.LoadMany keys.now) (reply.Many (map (λ t. t.reply) tickets.items)) pass.new.part) }
         ensures each { IfOk result (λ tickets. length tickets.items ≡ length keys.now) }
-        ensures gave { IfOk result (λ tickets. GaveAll pass.new.part (length pass.old.part.tickets) tickets.items) }
+        ensures gave { IfOk result (λ tickets. GaveTickets pass.new.part (length pass.old.part.tickets) tickets.items) }
         ensures fault { IfErr result (WasRefused L.service pass.old.part (call.LoadMany keys.now) None) }
         ensures unchanged { OnErr result (pass.new.part ≡ pass.old.part) }
     {

@@ -3,7 +3,7 @@
 ghost use Rattle.std.specs.Prelude.{◌≡◌, ℕ, List, IsSome, ◌+◌, ◌<◌, ◌≤◌, ◌⊎◌, ◌∷◌, ◌++◌, [], IfErr, IfOk, OnErr, OnOk, length};
 ghost use Rattle.std.specs.List.{repeat};
 ghost use Rattle.dl_loader.specs.declared.fault.CallFault.TheVariants.{LogRefused, OutOfMemory};
-ghost use Rattle.dl_loader.specs.declared.dues.Due.{Due};
+ghost use Rattle.dl_loader.specs.declared.due_endings.Due.{Due};
 ghost use Rattle.dl_history.specs.declared.event.Reply.TheVariants.{Done};
 ghost use Rattle.dl_loader.specs.Inside.Dues.{AreDue, AreGiven, CanEnd, outcome_by};
 ghost use Rattle.dl_history.specs.Entries.{front_of};
@@ -11,7 +11,7 @@ ghost use Rattle.dl_history.specs.Journal.{refusals, waiting};
 ghost use Rattle.dl_loader.specs.Made.{event_of, with_event};
 ghost use Rattle.dl_loader.specs.Pass.{with_call};
 
-use crate::dues::{dues, give};
+use crate::due_endings::{dues, give};
 use crate::fault::CallFault;
 use crate::pass::Pass;
 use crate::reply::Settled;

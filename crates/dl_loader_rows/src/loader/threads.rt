@@ -3,7 +3,7 @@
 ghost use Rattle.std.specs.Prelude.{◌≡◌, false, IfOk};
 ghost use Rattle.dl_history.specs.Service.{Answers};
 ghost use Rattle.dl_loader.specs.Opening.{Names};
-ghost use Rattle.dl_loader.specs.Pass.{Gave};
+ghost use Rattle.dl_loader.specs.Pass.{GaveTicket};
 
 use super::steps::{ADA, assert_ends, assert_entries, assert_shows, only_job, settle_job, user};
 use dl_desk::{FetchKey, LoadReply};
@@ -73,16 +73,16 @@ fn start_threads<'a, L: LoaderName + Send + Sync, R: Threads + Wait + Sync>(
     one: Pass<L>,
     other: Pass<L>,
 ) -> Result<((Pass<L>, Ticket<'a, L>), (Pass<L>, Ticket<'a, L>)), CallFault>
-    ensures one { IfOk result (λ r. Gave r.0.0.part r.0.1 false) }
-    ensures other { IfOk result (λ r. Gave r.1.0.part r.1.1 false) }
+    ensures one { IfOk result (λ r. GaveTicket r.0.0.part r.0.1 false) }
+    ensures other { IfOk result (λ r. GaveTicket r.1.0.part r.1.1 false) }
 {
     let (one, other) = join(
         rt,
         move || -> Result<(Pass<L>, Ticket<'_, L>), CallFault>
-            ensures { IfOk result (λ r. Gave r.0.part r.1 false) }
+            ensures { IfOk result (λ r. GaveTicket r.0.part r.1 false) }
         { load(rt, alloc, loader, one, key) },
         move || -> Result<(Pass<L>, Ticket<'_, L>), CallFault>
-            ensures { IfOk result (λ r. Gave r.0.part r.1 false) }
+            ensures { IfOk result (λ r. GaveTicket r.0.part r.1 false) }
         { load(rt, alloc, loader, other, key) },
     );
     Ok((one?, other?))
@@ -96,7 +96,7 @@ fn load<'a, L: LoaderName, R: Wait>(
     mut pass: Pass<L>,
     key: &FetchKey,
 ) -> Result<(Pass<L>, Ticket<'a, L>), CallFault>
-    ensures { IfOk result (λ r. Gave r.0.part r.1 false) }
+    ensures { IfOk result (λ r. GaveTicket r.0.part r.1 false) }
 {
     let ticket = loader.load(rt, alloc, &mut pass, key)?;
     Ok((pass, ticket))
@@ -110,7 +110,7 @@ fn read<L: LoaderName, R: Abort + Wait>(
     pass: &mut Pass<L>,
     ticket: &mut Ticket<'_, L>,
 ) -> Result<(), Fail>
-    requires { Gave pass.old.part ticket.old false }
+    requires { GaveTicket pass.old.part ticket.old false }
 {
     loader.wait(rt, pass, ticket)?;
     assert_shows(rt, alloc, ticket, ADA)

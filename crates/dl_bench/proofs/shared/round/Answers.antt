@@ -2,7 +2,7 @@ use Rattle.std.proofs.Common.{◌≡◌, ◌∙◌, ap, refl, false, length, Som
 use Rattle.std.proofs.lemmas.Iterator.Adapters.{YieldsList-from_vec}
 use Rattle.std.proofs.lemmas.Iterator.Consumers.{YieldsList-turn}
 use Rattle.std.proofs.lemmas.Option.{slice_get_read}
-use Rattle.dl_loader.specs.Pass.{Gave}
+use Rattle.dl_loader.specs.Pass.{GaveTicket}
 use Rattle.dl_loader.proofs.StillGiven.{cells, gave_again, read_cells, still_gave}
 use Rattle.dl_bench.proofs.shared.round.Goals as goal
 
@@ -15,7 +15,7 @@ wait-requires g c =
     let all = YieldsList-from_vec tickets (search rules) (search rules) in
     let turn = YieldsList-turn all c.loop-ticket.yielded _ c.loop-ticket.yielded_by _ c.next.new.self ticket c.in-Some.is c.next.ensures.steps in
     let at : slice_get tickets i ≡ Some ticket = slice_get_read tickets (length tickets) i ticket refl turn.0 turn.1 in
-    let gave : Gave loaded ticket false = c.in_ok-tickets.ensures.gave.gave i ticket at in
+    let gave : GaveTicket loaded ticket false = c.in_ok-tickets.ensures.gave.gave i ticket at in
     let same : cells c.loop-ticket.pass.part.tickets ≡ cells loaded.tickets =
     c.loop-ticket.invariant.cells ∙ ap cells (c.end_jobs.ensures.tickets ∙ c.in_ok-jobs.ensures.tickets) in
     record { gave = still_gave loaded c.loop-ticket.pass.part ticket ticket false gave refl refl same }

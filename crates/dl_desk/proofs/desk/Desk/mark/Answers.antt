@@ -1,7 +1,7 @@
 use Rattle.std.proofs.Common.{ap, ◌<◌, length, take, map, refl, arith}
 use Rattle.std.proofs.lemmas.List.{length-map, length-take}
 use Rattle.std.proofs.lemmas.Option.{slice_get_read}
-use Rattle.dl_desk.specs.Book.{Book}
+use Rattle.dl_desk.specs.BatchBook.{BatchBook}
 use Rattle.dl_desk.specs.Prepared.{front}
 use Rattle.dl_desk.proofs.Prepares.{same_book}
 use Rattle.dl_desk.proofs.Ended.{IsMarked, desk_marked, batches_marked}
@@ -12,7 +12,7 @@ marked c =
     let low : c.args.number < length (take c.self.inside.shown.begun (map front c.self.inside.batches.items)) = rw (← c.self.view_is) at c.requires.number in
     let within : c.args.number < length c.self.inside.batches.items = let l = rw (length-take, length-map) at low in omega arith in
     record {
-      same = let e = rw (← c.self.view_is) at c.requires.nothing_prepared in ap (λ (b : Book). b.batches) e;
+      same = let e = rw (← c.self.view_is) at c.requires.nothing_prepared in ap (λ (b : BatchBook). b.batches) e;
       low = low;
       at = slice_get_read c.self.inside.batches.items (length c.self.inside.batches.items) c.args.number c.index_mut.result.now refl within c.index_mut.ensures.value;
       is_whole = c.finish.ensures.whole;

@@ -2,7 +2,7 @@ use Rattle.std.proofs.Common.{◌≡◌, ◌∙◌, ap, sym, Ok, None, Bool, ℕ
 use Rattle.std.specs.Map.{lookup}
 use Rattle.dl_desk.specs.Key.{Key, key_eq}
 use Rattle.dl_desk.specs.History.{has_member}
-use Rattle.dl_desk.specs.Book.{Batch}
+use Rattle.dl_desk.specs.BatchBook.{Batch}
 use Rattle.dl_desk.specs.Prepared.{whole, members_of, book_room}
 use Rattle.dl_desk.proofs.Marked.{desk_grown, desk_put}
 use Rattle.dl_desk.proofs.Prepares.{lookup-noted, members-taken, length-begun, low_choice, put_batches, below_begun, memo_shown, batches_shown, same_book}

@@ -1,5 +1,5 @@
 use Rattle.std.proofs.Common.{◌∙◌, ◌∷◌, [], ap, length, refl, subst, sym}
-use Rattle.dl_desk.specs.Book.{Book, StandsFor}
+use Rattle.dl_desk.specs.BatchBook.{BatchBook, StandsFor}
 use Rattle.dl_desk.specs.Calls.{Loads, after}
 use Rattle.dl_desk.specs.Events.{atoms}
 use Rattle.dl_history.specs.declared.event.Event.{Event}
@@ -34,9 +34,9 @@ invariant_of-self-2 g c =
     let e : Event = record { caller = c.caller.result; call = Load c.in_ok-try_copy.field-0; reply = Loaded reply } in
     let room = ready_room s c.args.self.now c.args.pass.now.part inside.journal.history inside.desk.book inside.journal.cells inside.stopped c.self.view_is
     c.in_ok-admit.ensures.ok in
-    let stands = subst (λ (b : Book). StandsFor b (after inside.desk.book.rules (atoms (log inside.journal.history)) (Loads (c.args.key.now ∷ []))))
+    let stands = subst (λ (b : BatchBook). StandsFor b (after inside.desk.book.rules (atoms (log inside.journal.history)) (Loads (c.args.key.now ∷ []))))
     (sym c.make_prepared.ensures.book) (c.in_ok-reply.ensures.stands (atoms (log inside.journal.history)) c.self.invariant.desk) in
-    let rules = c.make_prepared.ensures.rules ∙ ap (λ (b : Book). b.rules) c.prepare_load.ensures.book in
+    let rules = c.make_prepared.ensures.rules ∙ ap (λ (b : BatchBook). b.rules) c.prepare_load.ensures.book in
     one_kept s inside.journal.history inside.desk.book inside.journal.cells inside.stopped c.self.invariant c.args.key.now reply c.in_ok-reply.ensures.reply
     c.in_ok-reply.ensures.accepted
     e c.begun_by.result c.make_prepared.new.self.book c.make_event.new.journal.history c.make_event.new.journal.cells room

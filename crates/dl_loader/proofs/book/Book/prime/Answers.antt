@@ -1,5 +1,5 @@
 use Rattle.std.proofs.Common.{◌+◌, ◌∙◌, ap, cond, refl, subst, sym}
-use Rattle.dl_desk.specs.Book.{Book, StandsFor}
+use Rattle.dl_desk.specs.BatchBook.{BatchBook, StandsFor}
 use Rattle.dl_desk.specs.Calls.{Primes, after}
 use Rattle.dl_desk.specs.Events.{atoms}
 use Rattle.dl_history.specs.History.{log}
@@ -20,8 +20,8 @@ invariant_of-self-in-Kept g c =
       replies = c.prime_reply.ensures;
       told = c.in_ok-primed.ensures.reply;
     }) c.in-Kept.is c.in_ok-make_event-in-Kept.ensures.history c.in_ok-make_event-in-Kept.ensures.cells
-    (c.make_prepared.ensures.rules ∙ ap (λ (x : Book). x.rules) c.prepare_prime.ensures.book)
-    (subst (λ (x : Book). StandsFor x (after c.self.inside.desk.book.rules (atoms (log c.self.inside.journal.history)) (Primes c.args.key.now)))
+    (c.make_prepared.ensures.rules ∙ ap (λ (x : BatchBook). x.rules) c.prepare_prime.ensures.book)
+    (subst (λ (x : BatchBook). StandsFor x (after c.self.inside.desk.book.rules (atoms (log c.self.inside.journal.history)) (Primes c.args.key.now)))
     (sym c.make_prepared.ensures.book) (c.in_ok-primed.ensures.stands (atoms (log c.self.inside.journal.history)) c.self.invariant.desk))
 
 pub end-shown-requires-clause-waits : goal.end-shown-requires-clause-waits
@@ -51,8 +51,8 @@ invariant_of-self-in-Primed g c =
       replies = c.prime_reply.ensures;
       told = c.in_ok-primed.ensures.reply;
     }) c.in-Primed.is c.in_ok-primed.ensures.accepted (c.end-shown.ensures.history ∙ c.in_ok-make_event-in-Primed.ensures.history)
-    c.in_ok-make_event-in-Primed.ensures.cells (c.make_prepared-in-Primed.ensures.rules ∙ ap (λ (x : Book). x.rules) c.prepare_prime.ensures.book)
-    (subst (λ (x : Book). StandsFor x (after c.self.inside.desk.book.rules (atoms (log c.self.inside.journal.history)) (Primes c.args.key.now)))
+    c.in_ok-make_event-in-Primed.ensures.cells (c.make_prepared-in-Primed.ensures.rules ∙ ap (λ (x : BatchBook). x.rules) c.prepare_prime.ensures.book)
+    (subst (λ (x : BatchBook). StandsFor x (after c.self.inside.desk.book.rules (atoms (log c.self.inside.journal.history)) (Primes c.args.key.now)))
     (sym c.make_prepared-in-Primed.ensures.book) (c.in_ok-primed.ensures.stands (atoms (log c.self.inside.journal.history)) c.self.invariant.desk))
     c.in_ok-ending-in-Primed.ensures c.next_place.ensures c.in_ok-try_copy-2.ensures c.end-shown.ensures.ended
 

@@ -2,13 +2,13 @@
 use Rattle.std.proofs.Common.{◌≡◌, ◌∙◌, ◌+◌, ◌-◌, List, ◌∷◌, [], ◌++◌, ap, flat_map, length, length-append, Some, arith}
 use Rattle.std.proofs.lemmas.List.Elements.{All-pop}
 use Rattle.crossbeam_channel.specs.Claims.{view}
-use Rattle.dl_workers.specs.declared.rule.Account.{Account}
+use Rattle.dl_workers.specs.declared.rule.Traffic.{Traffic}
 use Rattle.dl_workers.specs.Seats.{IsSenderOf, taken_items}
 use Rattle.dl_workers.specs.Balance.{Balances}
 use Rattle.dl_workers.proofs.Steps.{learns}
 use Rattle.dl_workers.proofs.Finish.{finishes, balance_of_counts}
 use Rattle.dl_workers.specs.declared.rule.Item.{Item}
-use Rattle.dl_workers.proofs.queue.JobQueue.finish.Given.{Over}
+use Rattle.dl_workers.proofs.queue.JobQueue.finish.GivenTicket.{Over}
 use Rattle.dl_workers.proofs.queue.JobQueue.finish.Goals.{After-learn_as}
 use Rattle.dl_workers.proofs.queue.JobQueue.finish.Goals as goal
 
@@ -17,10 +17,10 @@ learn_as-requires-clause-rule g c =
     let last = (All-pop (IsSenderOf c.args.self) c.args.senders.items c.pop.new.self.items (Some c.in-Some.last) c.in-Some.ensures.items
     c.requires.seats.senders_of).1 in
     let senders = ap length c.in-Some.ensures.items in
-    let seats = ap (λ (a : Account). a.seats) c.gather_takers-taken.ensures.gathered in
-    let seats' = ap (λ (a : Account). a.seats) c.gather_senders.ensures.gathered in
-    let all = ap (λ (a : Account). a.all) c.gather_takers-taken.ensures.gathered in
-    let all' = ap (λ (a : Account). a.all) c.gather_senders.ensures.gathered in
+    let seats = ap (λ (a : Traffic). a.seats) c.gather_takers-taken.ensures.gathered in
+    let seats' = ap (λ (a : Traffic). a.seats) c.gather_senders.ensures.gathered in
+    let all = ap (λ (a : Traffic). a.all) c.gather_takers-taken.ensures.gathered in
+    let all' = ap (λ (a : Traffic). a.all) c.gather_senders.ensures.gathered in
     learns _ _ (omega (arith, c.in-Some.last.one_seat))
     (omega (
       arith,
@@ -48,10 +48,10 @@ balance g c =
     c.in-Some.last
     c.args.takers.items
     (view c.gather_takers-taken.new.whole)
-    (ap (λ (a : Account). a.sent) c.gather_takers-taken.ensures.gathered ∙ ap (λ (a : Account). a.sent) c.gather_senders.ensures.gathered)
-    (ap (λ (a : Account). a.taken) c.gather_takers-taken.ensures.gathered
+    (ap (λ (a : Traffic). a.sent) c.gather_takers-taken.ensures.gathered ∙ ap (λ (a : Traffic). a.sent) c.gather_senders.ensures.gathered)
+    (ap (λ (a : Traffic). a.taken) c.gather_takers-taken.ensures.gathered
     ∙ ap (λ (items : List Item). items ++ flat_map taken_items c.args.takers.items)
-    (ap (λ (a : Account). a.taken) c.gather_senders.ensures.gathered ∙ c.in-Some.last.none_taken))
+    (ap (λ (a : Traffic). a.taken) c.gather_senders.ensures.gathered ∙ c.in-Some.last.none_taken))
     (c.from.result + c.gather_senders.result)
     c.gather_takers-taken.result
     (omega (arith, c.in-Some.last.counted))

@@ -1,7 +1,7 @@
 -- At `Ok` the job joins what the seat sent.
 use Rattle.std.proofs.Common.{◌∙◌, ap, arith}
 use Rattle.crossbeam_channel.specs.Claims.{view}
-use Rattle.dl_workers.specs.declared.rule.Account.{Account}
+use Rattle.dl_workers.specs.declared.rule.Traffic.{Traffic}
 use Rattle.dl_workers.proofs.Accounts.{after_send, length-push}
 use Rattle.dl_workers.proofs.queue.JobQueue.send.Goals as goal
 
@@ -11,9 +11,9 @@ invariant_of-sender g c =
     let new = view c.put.new.pass in
     let longer = length-push _ _ _ (after_send c.args.job old new c.in-Ok.ensures.put) in
     record {
-      one_seat = ap (λ (a : Account). a.seats) c.in-Ok.ensures.put ∙ c.args.sender.now.one_seat;
+      one_seat = ap (λ (a : Traffic). a.seats) c.in-Ok.ensures.put ∙ c.args.sender.now.one_seat;
       counted = omega (arith, longer, c.args.sender.now.counted);
-      none_taken = ap (λ (a : Account). a.taken) c.in-Ok.ensures.put ∙ c.args.sender.now.none_taken;
+      none_taken = ap (λ (a : Traffic). a.taken) c.in-Ok.ensures.put ∙ c.args.sender.now.none_taken;
     }
 
 pub returns-in-Ok-clause-ok : goal.returns-in-Ok-clause-ok

@@ -1,8 +1,0 @@
--- What a `Seen` owns says the same to every thread.
-use denote.RattleType.{RattleType}
-use denote.Param.Send.{IsSend}
-use Rattle.dl_cells.proofs.Sent.{seen_send}
-use Rattle.dl_cells.specs.contracts.seen.Seen.{the_row}
-
-pub send : (T : RattleType) → IsSend (the_row T)
-send = seen_send

@@ -1,0 +1,6 @@
+use Rattle.std.proofs.Common.{sym}
+use Rattle.std.proofs.lemmas.Slice.Zip.{firsts-zip}
+use Rattle.dl_desk.proofs.desk.batch_view.BatchView.keys.Goals as goal
+
+pub returns : goal.returns
+returns c = rw (← c.self.view_is) (sym (firsts-zip _ _ (sym c.self.invariant)))

@@ -1,6 +1,0 @@
-use Rattle.std.proofs.Common.{◌≡◌, map}
-use Rattle.dl_desk.specs.Prepared.{front, Same}
-use Rattle.dl_desk.proofs.stored.cut.Given as goal
-
-abbrev pub invariant-loop-number : goal.invariant-loop-number
-invariant-loop-number l = Same l.number l.to l.batches.items × (map front l.batches.items ≡ map front l.fn.batches.items)

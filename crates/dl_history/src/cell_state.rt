@@ -1,0 +1,92 @@
+//! What the lock of a loader guards of each cell of an outcome.
+
+ghost use Rattle.std.specs.Prelude.{◌≡◌, ◌<◌, IfSome, IsSome, MatchBool, None, Option, Some, option_copied, option_map};
+ghost use Rattle.std.specs.Global.{Box};
+ghost use Rattle.dl_cells.specs.Cells.{cell_of, row_len};
+ghost use Rattle.dl_history.specs.declared.event.Ending.{Ending};
+ghost use Rattle.dl_history.specs.declared.cell_state.Mark.TheVariants.{Waiting, Ended, Refused};
+ghost use Rattle.dl_history.specs.Kept.{ShowsEnd};
+
+use crate::entry::Read;
+use crate::event::Ending;
+use crate::name::LoaderName;
+use dl_cells::{CellRow, Reader};
+use dl_desk::Outcome;
+
+/// Whether a cell took the outcome that it was given.
+#[derive(Drop)]
+pub enum Mark {
+    /// It was given none.
+    Waiting,
+    /// It took it.
+    Ended,
+    /// It held another one, and the end that it refused is kept here.
+    Refused(Box<Ending>),
+}
+
+/// A cell of an outcome: a reader of it, and whether it took what it was given.
+#[derive(Drop)]
+pub struct CellState {
+    pub(crate) reader: Reader<Ending>,
+    pub(crate) mark: Mark,
+}
+
+impl CellState {
+    /// A cell that waits for its outcome.
+    pub(crate) fn new(reader: Reader<Ending>) -> CellState
+        ensures reader { result.reader ≡ reader }
+        ensures mark { result.mark ≡ Waiting }
+    {
+        CellState {
+            reader,
+            mark: Mark::Waiting,
+        }
+    }
+
+    /// Gives the cell its outcome, and tells whether the cell took it. Either way the reader knows from
+    /// then on what the cell has. It takes no memory.
+    pub(crate) fn end(&mut self, row: &CellRow<Ending>, cell: u32, ending: Box<Ending>) -> bool
+        requires in_row { cell < row_len row.now }
+        requires of_cell { self.old.reader.cell ≡ cell_of row.now cell }
+        requires unknown { self.old.reader.known ≡ None }
+        ensures cell { self.new.reader.cell ≡ self.old.reader.cell }
+        ensures known { IsSome self.new.reader.known }
+        ensures ended { MatchBool result ((self.new.mark ≡ Ended) × (self.new.reader.known ≡ Some ending.value)) ((kept : Box Ending) × (self.new.mark ≡ Refused kept) × (kept.value ≡ ending.value)) }
+    {
+        match row.show(cell, &mut self.reader, ending) {
+            Ok(()) => {
+                self.mark = Mark::Ended;
+                true
+            }
+            Err(kept) => {
+                self.mark = Mark::Refused(kept);
+                false
+            }
+        }
+    }
+
+    /// The outcome that the cell was given, if it was given one: the one that it shows, or that it refused.
+    /// It takes no memory.
+    pub(crate) fn outcome<'a>(&'a self, row: &'a CellRow<Ending>, cell: u32) -> Option<&'a Outcome>
+        requires in_row { cell < row_len row.now }
+        requires of_cell { self.now.reader.cell ≡ cell_of row.now cell }
+        ensures { (end : Option Ending) → ShowsEnd end self.now.mark self.now.reader.known → option_copied result ≡ option_map (λ e. e.outcome) end }
+    {
+        match &self.mark {
+            Mark::Waiting => None,
+            Mark::Ended => match row.look(cell, &mut self.reader.again()) {
+                Some(ending) => Some(&ending.outcome),
+                None => None,
+            },
+            Mark::Refused(kept) => Some(&kept.outcome),
+        }
+    }
+
+    /// What is known of the cell is what was read of it, whichever threads know and read.
+    pub(crate) fn agree<L: LoaderName>(&self, seen: &Read<L>)
+        requires { self.now.reader.cell ≡ cell_of L.outcomes seen.now.cell }
+        ensures { IfSome self.now.reader.known (λ ending. ending ≡ seen.now.ending) }
+    {
+        seen.agree(&self.reader);
+    }
+}
