@@ -1,5 +1,6 @@
 -- What holds of a journal once it has one event more, or a cell has its end.
-use Rattle.std.proofs.Common.{◌≡◌, ◌∙◌, sym, ap, ℕ, ◌+◌, ◌<◌, ◌⊎◌, Bool, true, false, List, [], ◌∷◌, ◌++◌, length, set, Some, MatchBool, slice_get, nat_lt, Option, None, IfSome, IfNone, option_map, refl, arith}
+use Rattle.std.proofs.Common.{◌≡◌, ◌∙◌, sym, ap, ℕ, ◌+◌, ◌<◌, ◌⊎◌, Bool, true, false, List, [], ◌∷◌, ◌++◌, length, set, Some, MatchBool, slice_get, nat_lt}
+use Rattle.std.proofs.Common.{Option, None, IfSome, IfNone, option_map, refl, arith}
 use Rattle.std.proofs.Common.{inl, inr, length-append}
 use Rattle.std.specs.Global.{Box}
 use Rattle.std.proofs.lemmas.List.{map-set}
@@ -54,7 +55,8 @@ event_unmet readers got k at e same place outside =
     rw (event_past readers at past) tt
 
 -- the event that a look answers for a place stands there
-pub event_seen : {A : Type 0} (now : A → Event) (log : RowName) (readers : List (Reading Event)) (k : ℕ) (r : Reading Event) (seen : Option A) (after : Option Event)
+pub event_seen : {A : Type 0} (now : A → Event) (log : RowName) (readers : List (Reading Event)) (k : ℕ) (r : Reading Event) (seen : Option A)
+    (after : Option Event)
     → AreKnown log readers → slice_get readers k ≡ Some r → IfSome seen (λ x. (after ≡ Some (now x)) × Agrees r.known (now x))
     → IfNone seen ((r.known ≡ None) × (after ≡ None)) → option_map now seen ≡ slice_get (events_known readers) k
 event_seen now log readers k r None after known there shown empty =

@@ -1,5 +1,6 @@
 -- Lists that grow at their end, or of which one element is changed.
-use Rattle.std.proofs.Common.{◌≡◌, sym, ℕ, zero, suc, ◌+◌, true, nat_lt, List, [], ◌∷◌, ◌++◌, length, set, Option, Some, None, slice_get, get_or, arith, subst, map, refl}
+use Rattle.std.proofs.Common.{◌≡◌, sym, ℕ, zero, suc, ◌+◌, true, nat_lt, List, [], ◌∷◌, ◌++◌, length, set, Option, Some, None, slice_get, get_or, arith}
+use Rattle.std.proofs.Common.{subst, map, refl}
 use Rattle.std.proofs.lemmas.Bool.{ltb-true}
 use Rattle.std.proofs.lemmas.Option.{slice_get_read}
 use Rattle.dl_history.specs.Lists.{Every, Among, total}

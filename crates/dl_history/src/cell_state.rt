@@ -51,7 +51,8 @@ impl CellState {
         requires unknown { self.old.reader.known ≡ None }
         ensures cell { self.new.reader.cell ≡ self.old.reader.cell }
         ensures known { IsSome self.new.reader.known }
-        ensures ended { MatchBool result ((self.new.mark ≡ Ended) × (self.new.reader.known ≡ Some ending.value)) ((kept : Box Ending) × (self.new.mark ≡ Refused kept) × (kept.value ≡ ending.value)) }
+        ensures ended { MatchBool result ((self.new.mark ≡ Ended) × (self.new.reader.known ≡ Some ending.value))
+            ((kept : Box Ending) × (self.new.mark ≡ Refused kept) × (kept.value ≡ ending.value)) }
     {
         match row.show(cell, &mut self.reader, ending) {
             Ok(()) => {

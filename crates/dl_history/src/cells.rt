@@ -6,8 +6,8 @@ ghost use Rattle.dl_history.specs.declared.event.Ending.{Ending};
 ghost use Rattle.dl_history.specs.Journal.{AreOwn, cells_by};
 ghost use Rattle.dl_history.specs.Kept.{ShownAs};
 
-use crate::event::Ending;
 use crate::cell_state::CellState;
+use crate::event::Ending;
 use dl_cells::CellRow;
 use dl_desk::Outcome;
 use std::marker::Model;

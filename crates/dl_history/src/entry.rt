@@ -116,7 +116,8 @@ impl<L: LoaderName> Model for Read<L> {
 
     ghost view = { λ s. read s.cell (ending_known s.reader.known) };
 
-    ghost invariant = { λ s. (s.cell < row_len L.outcomes) × (s.ended_at ≡ (ending_known s.reader.known).at) × (s.reader.cell ≡ cell_of L.outcomes s.cell) × (s.reader.known ≡ Some (ending_known s.reader.known)) };
+    ghost invariant = { λ s. (s.cell < row_len L.outcomes) × (s.ended_at ≡ (ending_known s.reader.known).at) × (s.reader.cell ≡ cell_of L.outcomes s.cell)
+        × (s.reader.known ≡ Some (ending_known s.reader.known)) };
 }
 
 impl<L: LoaderName> Read<L> {

@@ -8,13 +8,13 @@ ghost use Rattle.dl_history.specs.Journal.{AreBlank, Refuses, waiting, showing};
 mod append;
 mod reading;
 
+use crate::cell_state::CellState;
 use crate::cells::Cells;
 use crate::entry::Told;
 use crate::event::{Ending, Event};
 use crate::events::Events;
 use crate::name::LoaderName;
 use crate::rows::Rows;
-use crate::cell_state::CellState;
 pub use append::AppendFault;
 use dl_cells::Reader;
 use std::alloc::{AllocError, Global};

@@ -5,24 +5,24 @@
 #![tactic(auto)]
 
 mod account;
+mod cell_state;
 mod cells;
 mod entry;
 mod event;
 mod events;
 mod history;
 mod journal;
-mod reply_lists;
 mod name;
+mod reply_lists;
 mod rows;
-mod cell_state;
 
 pub use account::Account;
+pub use cell_state::{CellState, Mark};
 pub use entry::{Entry, EntryKind, Read, Told};
 pub use event::{Call, Ending, Event, Reply};
 pub use events::Events;
 pub use history::{Batches, EndedBatch, History};
 pub use journal::{AppendFault, Journal};
-pub use reply_lists::{Jobs, Replies};
 pub use name::LoaderName;
+pub use reply_lists::{Jobs, Replies};
 pub use rows::Rows;
-pub use cell_state::{Mark, CellState};

@@ -46,7 +46,8 @@ keeps_more s es e old new xs ys stopped kept next calls rules stands all fit end
 
 -- ---- an event that gives nothing to cells
 
-quiet_ends : (s : Service) (es : List Event) (e : Event) (d : BatchBook) (xs : List Cell) (stopped : Bool) (n : ℕ) → Keeps s (locked es d xs stopped) → IsNext s es e
+quiet_ends : (s : Service) (es : List Event) (e : Event) (d : BatchBook) (xs : List Cell) (stopped : Bool) (n : ℕ) → Keeps s (locked es d xs stopped)
+    → IsNext s es e
     → gave e.call e.reply ≡ Nothing
     → (c : ℕ) (x : Cell) → ((c < length xs) × (slice_get xs c ≡ Some x)) ⊎ ((length xs ≤ c) × (slice_get (repeat n (waiting ∷ [])) (c - length xs) ≡ Some x))
     → ShowsEnd (ending_of (es ++ e ∷ []) c) x.mark x.shows
@@ -59,7 +60,8 @@ quiet_ends s es e d xs stopped n kept next none c x (inr new) =
     waiting_shows (ending_of (es ++ e ∷ []) c) x (new_open s es e c kept.legal next none high) (get-repeat n waiting x (c - length xs) new.1)
 
 -- a book still keeps it after an event that gives nothing to cells, with a cell that waits for each that it began
-pub keeps_quiet : (s : Service) (es : List Event) (e : Event) (old new : BatchBook) (xs ys : List Cell) (stopped : Bool) (n : ℕ) → Keeps s (locked es old xs stopped)
+pub keeps_quiet : (s : Service) (es : List Event) (e : Event) (old new : BatchBook) (xs ys : List Cell) (stopped : Bool) (n : ℕ)
+    → Keeps s (locked es old xs stopped)
     → IsNext s es e → gave e.call e.reply ≡ Nothing → length es < s.rules.limits.max_calls
     → new.rules ≡ old.rules → StandsFor new (after s.rules (atoms (log es)) (call_of e.call)) → new.cells ≡ old.cells + n
     → old.cells + n ≤ s.rules.limits.max_cells
@@ -94,7 +96,8 @@ primed_ends s es e k o d book xs y stopped kept next is reply shows c x (inr new
     shows_same (Some end) (ending_of (es ++ e ∷ []) c) x shown (subst P (sym new.1) shows)
 
 -- a book still keeps it after a prime of a key that is not held, with a cell that shows the outcome
-pub keeps_primed : (s : Service) (es : List Event) (e : Event) (k : Key) (o : Outcome) (d : ℕ) (old new : BatchBook) (xs ys : List Cell) (x : Cell) (stopped : Bool)
+pub keeps_primed : (s : Service) (es : List Event) (e : Event) (k : Key) (o : Outcome) (d : ℕ) (old new : BatchBook) (xs ys : List Cell) (x : Cell)
+    (stopped : Bool)
     → Keeps s (locked es old xs stopped) → IsNext s es e → e.call ≡ Prime k o → e.reply ≡ Primed d → length es < s.rules.limits.max_calls
     → new.rules ≡ old.rules → StandsFor new (after s.rules (atoms (log es)) (Primes k)) → new.cells ≡ old.cells + 1 → old.cells + 1 ≤ s.rules.limits.max_cells
     → ShowsEnd (Some (record { at = length es; outcome = o })) x.mark x.shows → ys ≡ xs ++ x ∷ [] → Keeps s (locked (es ++ e ∷ []) new ys stopped)

@@ -36,7 +36,8 @@ keeps_unbegun s es e old new xs stopped kept next none calls rules stands same =
     keeps_quiet s es e old new xs xs stopped 0 kept next none calls rules stands (omega arith) (omega arith) (repeat_none xs waiting)
 
 -- after a clear of a key
-pub keeps_clear : (s : Service) (es : List Event) (e : Event) (k : Key) (old new : BatchBook) (xs : List Cell) (stopped : Bool) → Keeps s (locked es old xs stopped)
+pub keeps_clear : (s : Service) (es : List Event) (e : Event) (k : Key) (old new : BatchBook) (xs : List Cell) (stopped : Bool)
+    → Keeps s (locked es old xs stopped)
     → IsNext s es e → e.call ≡ Clear k → length es < s.rules.limits.max_calls
     → new.rules ≡ old.rules → StandsFor new (atom.Clear k ∷ atoms (log es)) → Keeps s (locked (es ++ e ∷ []) new xs stopped)
 keeps_clear s es e k old new xs stopped kept next is calls rules stands =
@@ -113,7 +114,8 @@ loaded_one s es e k r next is reply =
     cc
 
 -- after a loadMany that the desk accepted
-pub keeps_load_many : (s : Service) (es : List Event) (e : Event) (ks : List Key) (rs : List LoadReply) (old new : BatchBook) (xs ys : List Cell) (stopped : Bool)
+pub keeps_load_many : (s : Service) (es : List Event) (e : Event) (ks : List Key) (rs : List LoadReply) (old new : BatchBook) (xs ys : List Cell)
+    (stopped : Bool)
     → Keeps s (locked es old xs stopped) → IsNext s es e → e.call ≡ LoadMany ks → e.reply ≡ Many rs → length es < s.rules.limits.max_calls
     → new.rules ≡ old.rules → StandsFor new (after old.rules (atoms (log es)) (Loads ks)) → refusal old.rules (atoms (log es)) (Loads ks) ≡ None
     → ys ≡ xs ++ repeat (cells_begun rs) (waiting ∷ []) → Keeps s (locked (es ++ e ∷ []) new ys stopped)

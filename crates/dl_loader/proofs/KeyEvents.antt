@@ -101,13 +101,15 @@ pub record IsPrime (s : Service) (p : Part) (k j : Key) (caller : ℕ) (reply : 
   pub replies : reply ≡ primed r
   pub told : (h : List Atom) → StandsFor old h → r ≡ prime_reply h j
 
-prime_told : (s : Service) (p : Part) (es : List Event) (k j : Key) (caller : ℕ) (reply : Reply) (r : DeskPrime) (old : BatchBook) (xs : List Cell) (stopped : Bool)
+prime_told : (s : Service) (p : Part) (es : List Event) (k j : Key) (caller : ℕ) (reply : Reply) (r : DeskPrime) (old : BatchBook) (xs : List Cell)
+    (stopped : Bool)
     → Keeps s (locked es old xs stopped) → IsPrime s p k j caller reply r old → r ≡ prime_reply (atoms (log es)) k
 prime_told s p es k j caller reply r old xs stopped kept is =
     let H = atoms (log es) in
     is.told H kept.desk ∙ sym (ap (prime_reply H) is.copy)
 
-prime_next : (s : Service) (p : Part) (es : List Event) (k j : Key) (o : Outcome) (caller : ℕ) (reply : Reply) (r : DeskPrime) (old : BatchBook) (xs : List Cell)
+prime_next : (s : Service) (p : Part) (es : List Event) (k j : Key) (o : Outcome) (caller : ℕ) (reply : Reply) (r : DeskPrime) (old : BatchBook)
+    (xs : List Cell)
     (stopped : Bool)
     → Keeps s (locked es old xs stopped) → IsPrime s p k j caller reply r old → IsNext s es (event caller (Prime k o) reply)
 prime_next s p es k j o caller reply r old xs stopped kept is =

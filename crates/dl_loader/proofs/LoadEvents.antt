@@ -115,7 +115,8 @@ module _ (s : Service) (es : List Event) (old : BatchBook) (xs : List Cell) (sto
       cells)
 
 -- the load of a key that the desk has prepared with this reply
-module _ (s : Service) (es : List Event) (old : BatchBook) (xs : List Cell) (stopped : Bool) (kept : Keeps s (locked es old xs stopped)) (k : Key) (r : LoadReply)
+module _ (s : Service) (es : List Event) (old : BatchBook) (xs : List Cell) (stopped : Bool) (kept : Keeps s (locked es old xs stopped)) (k : Key)
+    (r : LoadReply)
     (reply_is : (h : List Atom) → StandsFor old h → r ≡ load_reply old.rules h k) (accepted : (h : List Atom) → StandsFor old h
     → refusal old.rules h (Loads (k ∷ [])) ≡ None) where
   one_begun : cells_begun (r ∷ []) ≡ begun_by r

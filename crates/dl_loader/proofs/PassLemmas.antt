@@ -164,7 +164,8 @@ pass_saw {front = front} {entries = entries} {entries2 = entries2} {tickets = ti
     }
 
 -- the part once the outcome is among the entries
-pub part_saw : {callers caller front calls parts amount unseen room ticket_room : ℕ} {entries entries2 : List Line} {tickets tickets2 : List GivenTicket} (p : Pass)
+pub part_saw : {callers caller front calls parts amount unseen room ticket_room : ℕ} {entries entries2 : List Line} {tickets tickets2 : List GivenTicket}
+    (p : Pass)
     (n : ℕ) (r : Read) (entry : Line) (g : GivenTicket)
     → viewed caller unseen room ticket_room entries tickets ≡ p
     → IsPass callers caller front calls parts amount unseen room ticket_room entries tickets

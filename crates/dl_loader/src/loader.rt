@@ -110,7 +110,9 @@ impl<L: LoaderName> Loader<L> {
         ensures reply { ticket.new.reply ≡ ticket.old.reply }
         ensures kept { IfSome ticket.old.known (λ ending. ticket.new.known ≡ Some ending) }
         ensures shown { OnOk result (IsSome ticket.new.known) }
-        ensures saw { OnOk result ((seen : Bool) × GaveTicket pass.old.part ticket.old seen × (pass.new.part ≡ with_saw pass.old.part ticket.old.number (cell_of_load ticket.old.reply) (ending_known ticket.new.known) seen)) }
+        ensures saw { OnOk result
+            ((seen : Bool) × GaveTicket pass.old.part ticket.old seen
+            × (pass.new.part ≡ with_saw pass.old.part ticket.old.number (cell_of_load ticket.old.reply) (ending_known ticket.new.known) seen)) }
         ensures unchanged { OnErr result (pass.new.part ≡ pass.old.part) }
         ensures none { OnErr result (ticket.new.known ≡ None) }
     {

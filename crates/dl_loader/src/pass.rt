@@ -52,7 +52,8 @@ impl<L: LoaderName> Model for Pass<L> {
 
     ghost view = { λ p. viewed p.caller p.unseen (vec_capacity p.entries) (vec_capacity p.tickets) p.entries.items p.tickets.items };
 
-    ghost invariant = { λ p. IsPass L.service.callers p.caller p.front p.calls p.share.parts p.share.amount p.unseen (vec_capacity p.entries) (vec_capacity p.tickets) p.entries.items p.tickets.items };
+    ghost invariant = { λ p. IsPass L.service.callers p.caller p.front p.calls p.share.parts p.share.amount p.unseen (vec_capacity p.entries) (vec_capacity p.tickets)
+        p.entries.items p.tickets.items };
 }
 
 impl<L: LoaderName> Pass<L> {
@@ -157,7 +158,8 @@ impl<L: LoaderName> Pass<L> {
     {
         let number = self.tickets.len();
         self.unseen += 1;
-        self.tickets.push_reserved(GivenTicket { cell, seen: false });
+        self.tickets
+            .push_reserved(GivenTicket { cell, seen: false });
         number
     }
 
@@ -167,7 +169,8 @@ impl<L: LoaderName> Pass<L> {
         requires gave { (seen : Bool) × GaveTicket self.old.part ticket.old seen }
         requires shown { IsSome ticket.old.known }
         ensures ticket { ticket.new ≡ ticket.old }
-        ensures saw { (seen : Bool) × GaveTicket self.old.part ticket.old seen × (self.new.part ≡ with_saw self.old.part ticket.old.number (cell_of_load ticket.old.reply) (ending_known ticket.old.known) seen) }
+        ensures saw { (seen : Bool) × GaveTicket self.old.part ticket.old seen × (self.new.part ≡ with_saw self.old.part ticket.old.number
+            (cell_of_load ticket.old.reply) (ending_known ticket.old.known) seen) }
     {
         if !self.has_seen(ticket.number()) {
             self.add_saw(ticket.number(), ticket.seen());

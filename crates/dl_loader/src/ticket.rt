@@ -34,7 +34,8 @@ impl<'a, L: LoaderName> Model for Ticket<'a, L> {
 
     ghost view = { λ t. hold t.number t.reply t.reader.known };
 
-    ghost invariant = { λ t. (t.row.now ≡ L.outcomes) × (cell_of_load t.reply < row_len L.outcomes) × (t.reader.cell ≡ cell_of L.outcomes (cell_of_load t.reply)) };
+    ghost invariant = { λ t. (t.row.now ≡ L.outcomes) × (cell_of_load t.reply < row_len L.outcomes)
+        × (t.reader.cell ≡ cell_of L.outcomes (cell_of_load t.reply)) };
 }
 
 /// The cell of a load.

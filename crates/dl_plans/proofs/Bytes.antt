@@ -29,7 +29,8 @@ read_end (Some xs) (Some ys) (Some zs) items buffer most count few before e now 
     rw all (sym (take_all most items few))
 
 -- as many bytes were read as may be
-pub read_full : (old new : Option (List ℕ)) (items : List ℕ) (most : ℕ) → length items ≡ most → Consumes old new items → IfSome old (λ bytes. items ≡ take most bytes)
+pub read_full : (old new : Option (List ℕ)) (items : List ℕ) (most : ℕ) → length items ≡ most → Consumes old new items
+    → IfSome old (λ bytes. items ≡ take most bytes)
 read_full None new items most full before = tt
 read_full (Some xs) None items most full before = absurd before
 read_full (Some xs) (Some ys) items most full before =

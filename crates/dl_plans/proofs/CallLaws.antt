@@ -1,5 +1,6 @@
 -- A call has one tree: what is found in a tree is what the tree spells, and is found again.
-use Rattle.std.proofs.Common.{◌≡◌, ℕ, suc, ◌^◌, ◌<◌, ◌≤◌, ◌&&◌, Bool, true, false, List, [], ◌∷◌, length, map, codes, if◌then◌else◌, nat_lt, nat_le, bytes_eq, Option, Some, None, option_map, option_and_then, refl, sym, ap, ◌∙◌}
+use Rattle.std.proofs.Common.{◌≡◌, ℕ, suc, ◌^◌, ◌<◌, ◌≤◌, ◌&&◌, Bool, true, false, List, [], ◌∷◌, length, map, codes, if◌then◌else◌, nat_lt, nat_le, bytes_eq}
+use Rattle.std.proofs.Common.{Option, Some, None, option_map, option_and_then, refl, sym, ap, ◌∙◌}
 use Rattle.std.proofs.lemmas.Slice.Eq.{bytes_eq-Decides}
 use Rattle.std.proofs.lemmas.Bool.{leb-true, le-leb}
 use Rattle.std.specs.List.{AllByRecursion}
@@ -181,7 +182,8 @@ named_is name d =
     (found_if name d _ _ _ (argued key_tree IsKey Clear (codes "clear") name d (key_in d) (key_is d) (λ x. refl) (λ x h. h))
     (found_if name d _ _ _ (flagged ClearAll (codes "clearAll") name d refl tt)
     (found_if name d _ _ _ (flagged Dispatch (codes "dispatch") name d refl tt)
-    (found_if name d _ _ _ (argued (λ n. number (unsigned n)) (λ n. n < 2 ^ 32) Settle (codes "settle") name d (number_in d) (number_is d) (λ x. refl) (λ x h. h))
+    (found_if
+    name d _ _ _ (argued (λ n. number (unsigned n)) (λ n. n < 2 ^ 32) Settle (codes "settle") name d (number_in d) (number_is d) (λ x. refl) (λ x h. h))
     (found_if name d _ _ _ (argued (λ n. number (unsigned n)) (λ n. n < 2 ^ 32) Fail (codes "fail") name d (number_in d) (number_is d) (λ x. refl) (λ x h. h))
     (none_found name d))))))))
 

@@ -44,11 +44,13 @@ no_tree : (d : Data) (ds : List Data) → d ∷ ds ≡ [] → ⊥
 no_tree d ds h = cc
 
 -- an item among the trees of calls spells a call
-item_spells : (vs : List Value) (i m : ℕ) (cs : List ScriptCall) (d : Data) → Spell (take i vs) cs → m < i → get_item m (items_view vs) ≡ Some d → IsNoCall d → ⊥
+item_spells : (vs : List Value) (i m : ℕ) (cs : List ScriptCall) (d : Data) → Spell (take i vs) cs → m < i → get_item m (items_view vs) ≡ Some d → IsNoCall d
+    → ⊥
 item_spells [] i m cs d s h e bad = no_item d e
 item_spells (v ∷ vs) zero m cs d s h e bad = absurd (omega arith)
 item_spells (v ∷ vs) (suc i) m [] d s h e bad = absurd (no_tree (view v) (map view (take i vs)) s.trees)
-item_spells (v ∷ vs) (suc i) zero (c ∷ cs) d s h e bad = let t = s.trees in bad c s.calls.0 (let first : view v ≡ call_tree c = cc in let there : view v ≡ d = cc in sym there ∙ first)
+item_spells (v ∷ vs) (suc i) zero (c ∷ cs) d s h e bad = let t = s.trees in bad c s.calls.0 (let first : view v ≡ call_tree c = cc in
+    let there : view v ≡ d = cc in sym there ∙ first)
 item_spells (v ∷ vs) (suc i) (suc m) (c ∷ cs) d s h e bad =
     let t = s.trees in
     let rest : map view (take i vs) ≡ map call_tree cs = cc in

@@ -15,5 +15,6 @@ number_at f id v None e none value = absurd (some_none v (none e))
 number_at f id v (Some t) e none value = record { text = t; row = sym (one_text-rows f id) ∙ e; decimal = value t e }
 
 -- a number that was read of an id stands in its row
-pub number_given : (f : Found) (id : Text) (v : ℕ) → (one_text f id ≡ None → Some v ≡ None) → ((t : Text) → one_text f id ≡ Some t → IsDecimal t v) → GivesNumber (rows_of f) id v
+pub number_given : (f : Found) (id : Text) (v : ℕ) → (one_text f id ≡ None → Some v ≡ None) → ((t : Text) → one_text f id ≡ Some t → IsDecimal t v)
+    → GivesNumber (rows_of f) id v
 number_given f id v none value = number_at f id v (one_text f id) refl none value

@@ -13,5 +13,6 @@ names_known [] = refl
 names_known (e ∷ es) = ap (λ b. is_known (string_bytes e.0) && b) (names_known es)
 
 -- the test of an object's names is that of its tree
-pub known_members : (d : Data) (es : List (String Global × Value)) → Some (members_view es) ≡ as_object d → list_all (λ k. is_known (string_bytes k)) (keys_of es) ≡ has_only_known d
+pub known_members : (d : Data) (es : List (String Global × Value)) → Some (members_view es) ≡ as_object d
+    → list_all (λ k. is_known (string_bytes k)) (keys_of es) ≡ has_only_known d
 known_members d es e = rw (← e) (names_known es)

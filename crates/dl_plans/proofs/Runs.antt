@@ -67,7 +67,8 @@ not_before : (g : PlanFault) → IsBefore g TooLarge → ⊥
 not_before g (inl h) = let k = numbered g in omega arith
 not_before g (inr h) = omega (arith, h.1)
 
-large_refused : (bytes : List ℕ) (f : PlanFault) → MOST_BYTES < length bytes → (IsBefore TooLarge f → ⊥) → Applies (take MOST_READ bytes) f → IsLeast (Applies bytes) f
+large_refused : (bytes : List ℕ) (f : PlanFault) → MOST_BYTES < length bytes → (IsBefore TooLarge f → ⊥) → Applies (take MOST_READ bytes) f
+    → IsLeast (Applies bytes) f
 large_refused bytes TooLarge h first a = record { applies = h; first = λ g k before. not_before g before }
 large_refused bytes NotJson h first a = absurd (first (inl (omega arith)))
 large_refused bytes Version h first a = absurd (first (inl (omega arith)))
@@ -76,7 +77,8 @@ large_refused bytes (BadCall n) h first a = absurd (first (inl (omega arith)))
 large_refused bytes (Limit l) h first a = absurd (first (inl (omega arith)))
 large_refused bytes OutOfMemory h first a = absurd a
 
-refused_by : (bytes : List ℕ) (f : PlanFault) → (length bytes ≤ MOST_BYTES) ⊎ (MOST_BYTES < length bytes) → IsLeast (Applies (take MOST_READ bytes)) f → IsLeast (Applies bytes) f
+refused_by : (bytes : List ℕ) (f : PlanFault) → (length bytes ≤ MOST_BYTES) ⊎ (MOST_BYTES < length bytes) → IsLeast (Applies (take MOST_READ bytes)) f
+    → IsLeast (Applies bytes) f
 refused_by bytes f (inl few) least = rw (take_all MOST_READ bytes (omega arith)) at least
 refused_by bytes f (inr many) least =
     let large : MOST_BYTES < length (take MOST_READ bytes) = omega (arith, length-take {A = ℕ} MOST_READ bytes) in

@@ -15,7 +15,8 @@ pub record Answered (rules : Rules) (book : BatchBook) (out : List ℕ) (rest : 
   pub goes_on : out ++ calls_text rules history rest ≡ text
 
 -- one more call was answered
-pub answered_more : (rules : Rules) (old new : BatchBook) (out out_then text : List ℕ) (calls : List ScriptCall) (i : ℕ) (call : ScriptCall) → i < length calls → call ≡ get_or calls i call → Answered rules old out (drop i calls) text
+pub answered_more : (rules : Rules) (old new : BatchBook) (out out_then text : List ℕ) (calls : List ScriptCall) (i : ℕ) (call : ScriptCall)
+    → i < length calls → call ≡ get_or calls i call → Answered rules old out (drop i calls) text
     → new.rules ≡ old.rules
     → ((history : List Atom) → StandsFor old history → out_then ≡ out ++ call_lines old.rules history call)
     → ((history : List Atom) → StandsFor old history → StandsFor new (next_history old.rules history call))

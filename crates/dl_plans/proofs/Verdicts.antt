@@ -6,7 +6,8 @@ use Rattle.dl_desk.specs.Limits.{Limits}
 use Rattle.dl_desk.specs.declared.fault.LimitFault.{LimitFault}
 use Rattle.dl_desk.specs.declared.fault.LimitFault.TheVariants.{BatchLimit, CellLimit, CallLimit}
 use Rattle.dl_plans.specs.Document.{IsTextOf, IsScript, SpellsScript, GivesLimits, items_at, number_at}
-use Rattle.dl_plans.specs.Faults.{limit_name, IsBadTop, HasStrange, LacksCalls, HasNoNumber, IsBadAt, IsBadCall, IsBadLimit, Causes, CausesIn, Applies, IsBefore, IsLeast, number, place}
+use Rattle.dl_plans.specs.Faults.{limit_name, IsBadTop, HasStrange, LacksCalls, HasNoNumber, IsBadAt, IsBadCall, IsBadLimit, Causes, CausesIn, Applies}
+use Rattle.dl_plans.specs.Faults.{IsBefore, IsLeast, number, place}
 use Rattle.dl_plans.specs.Numbers.{AreGiven, IsInside, IsFirstOutside}
 use Rattle.dl_plans.specs.Read.{HasTop, AreCalls, IsFirstBad}
 use Rattle.dl_plans.specs.Script.{IsCall, calls_tree}
@@ -148,7 +149,8 @@ given_number d BatchLimit s gives = (pos s.max_batch, gives.batch.number, (s.max
 given_number d CellLimit s gives = (pos s.max_cells, gives.cells.number, (s.max_cells, refl, gives.cells.limit))
 given_number d CallLimit s gives = (pos s.max_calls, gives.calls.number, (s.max_calls, refl, gives.calls.limit))
 
-script_top : (d : Data) (s : Script) → SpellsScript d s → HasTop d (calls_tree s.calls) (record { max_batch = pos s.limits.max_batch; max_cells = pos s.limits.max_cells; max_calls = pos s.limits.max_calls })
+script_top : (d : Data) (s : Script) → SpellsScript d s → HasTop d (calls_tree s.calls)
+    (record { max_batch = pos s.limits.max_batch; max_cells = pos s.limits.max_cells; max_calls = pos s.limits.max_calls })
 script_top d s spells = record {
   members = spells.members;
   list = spells.list;

@@ -1,5 +1,6 @@
 -- Which trees spell which documents.
-use Rattle.std.specs.Prelude.{◌≡◌, ℕ, ℤ, pos, List, Bool, false, true, ◌&&◌, ◌||◌, codes, bytes_eq, IsTrue, Option, Some, None, option_map, option_and_then, unwrap_or, IsUtf8}
+use Rattle.std.specs.Prelude.{◌≡◌, ℕ, ℤ, pos, List, Bool, false, true, ◌&&◌, ◌||◌, codes, bytes_eq, IsTrue, Option, Some, None, option_map, option_and_then}
+use Rattle.std.specs.Prelude.{unwrap_or, IsUtf8}
 use Rattle.std.specs.List.{AllByRecursion}
 use Rattle.serde_json.specs.Data.{Data, Items, Members, no_members, member}
 use Rattle.serde_json.specs.Find.{get, as_number, as_integer, as_array, as_object}

@@ -37,8 +37,10 @@ fn push_answer(
     call: &ScriptCall,
 ) -> Result<(), AllocError>
     ensures rules { desk.new.book.rules ≡ desk.old.book.rules }
-    ensures lines { OnOk result ((history : List Atom) → StandsFor desk.old.book history → string_bytes out.new ≡ string_bytes out.old ++ call_lines desk.old.book.rules history call.now) }
-    ensures stands { OnOk result ((history : List Atom) → StandsFor desk.old.book history → StandsFor desk.new.book (next_history desk.old.book.rules history call.now)) }
+    ensures lines { OnOk result ((history : List Atom) → StandsFor desk.old.book history
+        → string_bytes out.new ≡ string_bytes out.old ++ call_lines desk.old.book.rules history call.now) }
+    ensures stands { OnOk result ((history : List Atom) → StandsFor desk.old.book history
+        → StandsFor desk.new.book (next_history desk.old.book.rules history call.now)) }
 {
     match call {
         ScriptCall::Load(key) => match desk.load(alloc, key) {

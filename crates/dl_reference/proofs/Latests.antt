@@ -1,5 +1,6 @@
 -- The last atom of a key, one atom on.
-use Rattle.std.proofs.Common.{◌≡◌, ℕ, ◌+◌, ◌<◌, ◌≤◌, List, [], ◌∷◌, Option, Some, None, option_map, IfSome, length, get_or, take, drop, refl, ap, sym, ◌∙◌, arith}
+use Rattle.std.proofs.Common.{◌≡◌, ℕ, ◌+◌, ◌<◌, ◌≤◌, List, [], ◌∷◌, Option, Some, None, option_map, IfSome, length, get_or, take, drop, refl, ap, sym, ◌∙◌}
+use Rattle.std.proofs.Common.{arith}
 use Rattle.std.proofs.lemmas.List.{take_more, drop-append-le, drop_all, length-take-le}
 use Rattle.dl_desk.specs.History as desk
 use Rattle.dl_reference.specs.declared.atom.Atom.{Atom}
@@ -8,10 +9,12 @@ use Rattle.dl_reference.specs.History.{told, history_of}
 use Rattle.dl_reference.specs.Latest.{latest_of}
 use Rattle.dl_reference.proofs.Told.{history_of-push}
 
-rest_more : (atoms : List Atom) (i n : ℕ) (a : Atom) → i < length atoms → a ≡ get_or atoms i a → n ≤ i → history_of (drop n (take (i + 1) atoms)) ≡ told a ∷ history_of (drop n (take i atoms))
+rest_more : (atoms : List Atom) (i n : ℕ) (a : Atom) → i < length atoms → a ≡ get_or atoms i a → n ≤ i
+    → history_of (drop n (take (i + 1) atoms)) ≡ told a ∷ history_of (drop n (take i atoms))
 rest_more atoms i n a within is low =
     let front : n ≤ length (take i atoms) = omega (arith, length-take-le i atoms (omega arith)) in
-    ap (λ xs. history_of (drop n xs)) (take_more atoms i a within) ∙ ap history_of (drop-append-le n (take i atoms) (get_or atoms i a ∷ []) front) ∙ history_of-push (drop n (take i atoms)) (get_or atoms i a) ∙ ap (λ x. told x ∷ history_of (drop n (take i atoms))) (sym is)
+    ap (λ xs. history_of (drop n xs)) (take_more atoms i a within) ∙ ap history_of (drop-append-le n (take i atoms) (get_or atoms i a ∷ []) front)
+    ∙ history_of-push (drop n (take i atoms)) (get_or atoms i a) ∙ ap (λ x. told x ∷ history_of (drop n (take i atoms))) (sym is)
 
 -- an atom that begins no cell of the key stands after the latest
 pub latest_kept : (atoms : List Atom) (i : ℕ) (a : Atom) (found : Option Latest) → i < length atoms → a ≡ get_or atoms i a → IfSome found (λ l. l.place < i)
@@ -22,7 +25,8 @@ latest_kept atoms i a (Some l) within is low =
 
 -- nothing stands after the newest atom
 pub latest_new : (atoms : List Atom) (i cell : ℕ) (batch : Option ℕ) → i < length atoms
-    → option_map (latest_of (take (i + 1) atoms)) (Some (record { cell = cell; batch = batch; place = i })) ≡ Some (record { cell = cell; batch = batch; after = [] })
+    → option_map (latest_of (take (i + 1) atoms)) (Some (record { cell = cell; batch = batch; place = i })) ≡ Some
+    (record { cell = cell; batch = batch; after = [] })
 latest_new atoms i cell batch within =
     let long : length (take (i + 1) atoms) ≤ i + 1 = omega (arith, length-take-le (i + 1) atoms (omega arith)) in
     ap (λ (xs : List Atom). Some (record { cell = cell; batch = batch; after = history_of xs })) (drop_all (i + 1) (take (i + 1) atoms) long)

@@ -24,7 +24,8 @@ may_end history b fit = by (nat_le (begun history) b) (nat_le (sent history) b) 
     by false false low (Some x) is e = absurd (let bad : ◌≡◌ {A = Option DeskFault} (Some SettledBefore) None = e in cc)
     by false false low None is e = record { is_sent = grind (arith, nat_tests); no_end = is }
 
-after_legal : (rules : Rules) (history : List Atom) (call : DeskCall) → refusal rules history call ≡ None → IsLegal rules history → IsLegal rules (after rules history call)
+after_legal : (rules : Rules) (history : List Atom) (call : DeskCall) → refusal rules history call ≡ None → IsLegal rules history
+    → IsLegal rules (after rules history call)
 after_legal rules history (Loads ks) fit legal = loaded_legal rules history ks legal
 after_legal rules history (Primes k) fit legal = (refl, legal)
 after_legal rules history (Clears k) fit legal = (tt, legal)
@@ -34,5 +35,6 @@ after_legal rules history (Settles b) fit legal = (may_end history b fit, legal)
 after_legal rules history (Fails b) fit legal = (may_end history b fit, legal)
 
 -- the history that an accepted call leaves
-pub legal_after : (rules : Rules) (history : List Atom) (call : DeskCall) → refusal rules history call ≡ None → (longer : List Atom) → longer ≡ after rules history call → IsLegal rules history → IsLegal rules longer
+pub legal_after : (rules : Rules) (history : List Atom) (call : DeskCall) → refusal rules history call ≡ None → (longer : List Atom)
+    → longer ≡ after rules history call → IsLegal rules history → IsLegal rules longer
 legal_after rules history call fit longer is legal = subst (IsLegal rules) (sym is) (after_legal rules history call fit legal)

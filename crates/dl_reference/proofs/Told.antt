@@ -1,5 +1,6 @@
 -- How the history grows along a list of atoms.
-use Rattle.std.proofs.Common.{◌≡◌, ℕ, ◌+◌, ◌<◌, List, Bool, true, false, if◌then◌else◌, nat_eq, Option, Some, None, option_map, Vec, Global, [], ◌∷◌, ◌++◌, length, get_or, take, refl, ap, sym, ◌∙◌}
+use Rattle.std.proofs.Common.{◌≡◌, ℕ, ◌+◌, ◌<◌, List, Bool, true, false, if◌then◌else◌, nat_eq, Option, Some, None, option_map, Vec, Global, [], ◌∷◌, ◌++◌}
+use Rattle.std.proofs.Common.{length, get_or, take, refl, ap, sym, ◌∙◌}
 use Rattle.std.proofs.lemmas.List.{take_more}
 use Rattle.dl_desk.specs.History as desk
 use Rattle.dl_reference.specs.declared.atom.Atom.{Atom}
@@ -20,8 +21,10 @@ pub history_of-push : (atoms : List Atom) (a : Atom) → history_of (atoms ++ a 
 history_of-push atoms a = history_onto-push [] atoms a
 
 -- one more of the first atoms
-pub history_more : (atoms : List Atom) (i : ℕ) (a : Atom) → i < length atoms → a ≡ get_or atoms i a → history_of (take (i + 1) atoms) ≡ told a ∷ history_of (take i atoms)
-history_more atoms i a within is = ap history_of (take_more atoms i a within) ∙ history_of-push (take i atoms) (get_or atoms i a) ∙ ap (λ x. told x ∷ history_of (take i atoms)) (sym is)
+pub history_more : (atoms : List Atom) (i : ℕ) (a : Atom) → i < length atoms → a ≡ get_or atoms i a
+    → history_of (take (i + 1) atoms) ≡ told a ∷ history_of (take i atoms)
+history_more atoms i a within is = ap history_of (take_more atoms i a within) ∙ history_of-push (take i atoms) (get_or atoms i a)
+    ∙ ap (λ x. told x ∷ history_of (take i atoms)) (sym is)
 
 -- an atom that begins nothing
 pub none_begins : (r : Option Begun) (a : desk.Atom) → option_map begun_of r ≡ desk.begins a → ((g : Begun) → r ≡ Some g → ⊥) → desk.begins a ≡ None

@@ -10,7 +10,8 @@ use Rattle.dl_source.specs.Spelling.{names_all}
 use Rattle.dl_source.specs.Reading.{pair_in}
 
 -- a test of the names sees the keys of the map
-pub names_all-members_view : (test : List ℕ → Bool) (es : List (String Global × Value)) → names_all test (members_view es) ≡ list_all (λ k. test (string_bytes k)) (map (λ e. e.0) es)
+pub names_all-members_view : (test : List ℕ → Bool) (es : List (String Global × Value))
+    → names_all test (members_view es) ≡ list_all (λ k. test (string_bytes k)) (map (λ e. e.0) es)
 names_all-members_view test [] = refl
 names_all-members_view test (e ∷ es) = ap (λ b. test (string_bytes e.0) && b) (names_all-members_view test es)
 

@@ -1,5 +1,6 @@
 -- The tests, made in their order on what was read, find the least fault.
-use Rattle.std.proofs.Common.{◌≡◌, ℕ, ◌<◌, Bool, true, false, Option, Some, None, Err, if◌then◌else◌, ap, sym, ◌∙◌, refl, subst, inl, inr, ◌⊎◌, true≢false, arith}
+use Rattle.std.proofs.Common.{◌≡◌, ℕ, ◌<◌, Bool, true, false, Option, Some, None, Err, if◌then◌else◌, ap, sym, ◌∙◌, refl, subst, inl, inr, ◌⊎◌, true≢false}
+use Rattle.std.proofs.Common.{arith}
 use Rattle.serde_json.specs.Data.{Data}
 use Rattle.dl_source.specs.declared.fault.TableFault.{TableFault}
 use Rattle.dl_source.specs.declared.fault.TableFault.TheVariants.{Shape, BadKey, TextTooLong, NotWhole, DuplicateTable, DuplicateKey, OutOfMemory}
@@ -66,28 +67,46 @@ module _ (d : Data) (ts : NamedTables) (read : tables_in d ≡ Some ts) where
   pub bad_key : has_bad_key ts ≡ true → IsLeast d BadKey
   bad_key k = record {
     cause = (ts, spelled, k);
-    least = nothing_before 2 (record { keys = λ lt. absurd (omega arith); texts = λ lt. absurd (omega arith); numbers = λ lt. absurd (omega arith); names = λ lt. absurd (omega arith); ids = λ lt. absurd (omega arith) });
+    least = nothing_before
+        2 (record {
+          keys = λ lt. absurd (omega arith);
+          texts = λ lt. absurd (omega arith);
+          numbers = λ lt. absurd (omega arith);
+          names = λ lt. absurd (omega arith);
+          ids = λ lt. absurd (omega arith);
+        });
   }
 
   pub text_too_long : has_bad_key ts ≡ false → has_long_text ts ≡ true → IsLeast d TextTooLong
   text_too_long k t = record {
     cause = (ts, spelled, t);
-    least = nothing_before 3 (record { keys = λ lt. k; texts = λ lt. absurd (omega arith); numbers = λ lt. absurd (omega arith); names = λ lt. absurd (omega arith); ids = λ lt. absurd (omega arith) });
+    least = nothing_before
+        3 (record {
+          keys = λ lt. k;
+          texts = λ lt. absurd (omega arith);
+          numbers = λ lt. absurd (omega arith);
+          names = λ lt. absurd (omega arith);
+          ids = λ lt. absurd (omega arith);
+        });
   }
 
   pub not_whole : has_bad_key ts ≡ false → has_long_text ts ≡ false → has_other_number ts ≡ true → IsLeast d NotWhole
   not_whole k t w = record {
     cause = (ts, spelled, w);
-    least = nothing_before 4 (record { keys = λ lt. k; texts = λ lt. t; numbers = λ lt. absurd (omega arith); names = λ lt. absurd (omega arith); ids = λ lt. absurd (omega arith) });
+    least = nothing_before
+        4 (record
+        { keys = λ lt. k; texts = λ lt. t; numbers = λ lt. absurd (omega arith); names = λ lt. absurd (omega arith); ids = λ lt. absurd (omega arith) });
   }
 
   pub duplicate_table : has_bad_key ts ≡ false → has_long_text ts ≡ false → has_other_number ts ≡ false → repeats ts ≡ true → IsLeast d DuplicateTable
   duplicate_table k t w n = record {
     cause = (ts, spelled, n);
-    least = nothing_before 5 (record { keys = λ lt. k; texts = λ lt. t; numbers = λ lt. w; names = λ lt. absurd (omega arith); ids = λ lt. absurd (omega arith) });
+    least = nothing_before
+        5 (record { keys = λ lt. k; texts = λ lt. t; numbers = λ lt. w; names = λ lt. absurd (omega arith); ids = λ lt. absurd (omega arith) });
   }
 
-  pub duplicate_key : has_bad_key ts ≡ false → has_long_text ts ≡ false → has_other_number ts ≡ false → repeats ts ≡ false → has_repeated_key ts ≡ true → IsLeast d DuplicateKey
+  pub duplicate_key : has_bad_key ts ≡ false → has_long_text ts ≡ false → has_other_number ts ≡ false → repeats ts ≡ false → has_repeated_key ts ≡ true
+      → IsLeast d DuplicateKey
   duplicate_key k t w n i = record {
     cause = (ts, spelled, i);
     least = nothing_before 6 (record { keys = λ lt. k; texts = λ lt. t; numbers = λ lt. w; names = λ lt. n; ids = λ lt. absurd (omega arith) });
@@ -140,7 +159,8 @@ module _ (d : Data) (ts : NamedTables) (read : tables_in d ≡ Some ts) where
   name_refused h n = let c = clean ts h in inr (duplicate_table d ts read c.keys c.texts c.numbers n)
 
   -- an id twice, or want of memory
-  pub copy_refused : content_fault ts ≡ None → repeats ts ≡ false → (f : TableFault) → (f ≡ OutOfMemory) ⊎ ((f ≡ DuplicateKey) × (has_repeated_key ts ≡ true)) → RefusedFor d f
+  pub copy_refused : content_fault ts ≡ None → repeats ts ≡ false → (f : TableFault) → (f ≡ OutOfMemory) ⊎ ((f ≡ DuplicateKey) × (has_repeated_key ts ≡ true))
+      → RefusedFor d f
   copy_refused h n f (inl memory) = inl memory
   copy_refused h n f (inr twice) = let c = clean ts h in inr (subst (IsLeast d) (sym twice.0) (duplicate_key d ts read c.keys c.texts c.numbers n twice.1))
 

@@ -1,5 +1,6 @@
 -- A walk through a list that compares each name with those before it finds each repetition.
-use Rattle.std.proofs.Common.{◌≡◌, ℕ, List, [], ◌∷◌, ◌++◌, Bool, true, false, ◌||◌, not, map, take, drop, length, get_or, ◌<◌, ◌+◌, ap, sym, ◌∙◌, refl, bytes_eq, Bor, true≢false, Result, Ok, ok_or, if◌then◌else◌, Some, None}
+use Rattle.std.proofs.Common.{◌≡◌, ℕ, List, [], ◌∷◌, ◌++◌, Bool, true, false, ◌||◌, not, map, take, drop, length, get_or, ◌<◌, ◌+◌, ap, sym, ◌∙◌, refl}
+use Rattle.std.proofs.Common.{bytes_eq, Bor, true≢false, Result, Ok, ok_or, if◌then◌else◌, Some, None}
 use Rattle.std.specs.List.{list_any}
 use Rattle.std.proofs.lemmas.List.{drop_more, take_more, map-append}
 use Rattle.std.proofs.lemmas.List.Folds.{list_any-append}
@@ -44,7 +45,8 @@ module _ {X : Type 0} where
   lists-last name front e =
       list_any-append (λ f. bytes_eq name f.0) front (e ∷ []) ∙ ap (λ b. lists name front || b) (or_false (bytes_eq name e.0) ∙ bytes_eq-comm name e.0)
 
-  any-last : (front rest : List (List ℕ × X)) (e : List ℕ × X) → list_any (λ f. lists f.0 (front ++ e ∷ [])) rest ≡ (list_any (λ f. lists f.0 front) rest || lists e.0 rest)
+  any-last : (front rest : List (List ℕ × X)) (e : List ℕ × X) → list_any (λ f. lists f.0 (front ++ e ∷ []))
+      rest ≡ (list_any (λ f. lists f.0 front) rest || lists e.0 rest)
   any-last front [] e = refl
   any-last front (f ∷ rest) e =
       ap (λ b. b || list_any (λ g. lists g.0 (front ++ e ∷ [])) rest) (lists-last f.0 front e)
@@ -58,7 +60,8 @@ module _ {X : Type 0} where
       ∙ ap (λ b. lists e.0 front || (b || repeats rest)) (sym (any-last front rest e))
 
   -- names by themselves are compared like names of entries
-  pub lists-names : (name : List ℕ) (ks : List (Bor (List ℕ))) (es : List (List ℕ × X)) → map (λ k. k.now) ks ≡ map (λ e. e.0) es → list_any (λ k. bytes_eq name k.now) ks ≡ lists name es
+  pub lists-names : (name : List ℕ) (ks : List (Bor (List ℕ))) (es : List (List ℕ × X)) → map (λ k. k.now) ks ≡ map (λ e. e.0) es
+      → list_any (λ k. bytes_eq name k.now) ks ≡ lists name es
   lists-names name ks es same = any_name ks ∙ ap (list_any (bytes_eq name)) same ∙ sym (any_entry es)
     where
       any_name : (ks : List (Bor (List ℕ))) → list_any (λ k. bytes_eq name k.now) ks ≡ list_any (bytes_eq name) (map (λ k. k.now) ks)

@@ -1,10 +1,12 @@
 -- A tree is read as the tables that it spells, and as no others.
-use Rattle.std.proofs.Common.{◌≡◌, ℕ, List, [], ◌∷◌, ◌++◌, Bool, true, false, codes, Option, Some, None, option_map, option_and_then, if◌then◌else◌, ap, sym, ◌∙◌, subst, refl, inl, inr}
+use Rattle.std.proofs.Common.{◌≡◌, ℕ, List, [], ◌∷◌, ◌++◌, Bool, true, false, codes, Option, Some, None, option_map, option_and_then, if◌then◌else◌, ap, sym}
+use Rattle.std.proofs.Common.{◌∙◌, subst, refl, inl, inr}
 use Rattle.serde_json.specs.Data.{Data, null, boolean, number, string, array, object, Items, no_items, item}
 use Rattle.serde_json.specs.Find.{get, as_str, as_array}
 use Rattle.dl_source.specs.declared.tables.Entry.{Entry}
 use Rattle.dl_source.specs.Listing.{Listing}
-use Rattle.dl_source.specs.Spelling.{SpellsEach, SpellsList, SpellsMember, SpellsOptional, SpellsEntry, SpellsTable, Spells, row_of, error_of, break_text_of, is_table_member, has_only}
+use Rattle.dl_source.specs.Spelling.{SpellsEach, SpellsList, SpellsMember, SpellsOptional, SpellsEntry, SpellsTable, Spells, row_of, error_of, break_text_of}
+use Rattle.dl_source.specs.Spelling.{is_table_member, has_only}
 use Rattle.dl_source.specs.Reading.{each_in, list_in, member_in, optional_in, pair_in, entry_in, entries_in, table_in, tables_in}
 
 -- ---- steps that may find nothing

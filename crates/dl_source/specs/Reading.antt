@@ -42,7 +42,8 @@ entries_in d =
     (member_in (entry_in row_of) (get (codes "rows") d))
 
 abbrev pub table_in : Data → Option (List ℕ × Listing)
-table_in d = if has_only is_table_member d then option_and_then (λ name. option_map (λ entries. (name, entries)) (entries_in d)) (option_and_then as_str (get (codes "name") d)) else None
+table_in d = if has_only is_table_member d then option_and_then (λ name. option_map (λ entries. (name, entries)) (entries_in d))
+    (option_and_then as_str (get (codes "name") d)) else None
 
 abbrev pub tables_in : Data → Option NamedTables
 tables_in d = list_in table_in d

@@ -9,7 +9,8 @@ use Rattle.dl_desk.specs.declared.outcome.Outcome.{Outcome}
 use Rattle.dl_desk.proofs.KeyLemmas.{key_eq-sym, key_eq-same}
 use Rattle.dl_terms.specs.declared.answer.Answer.{Answer}
 use Rattle.dl_terms.specs.Tree.{Tree, ended, load, pick, follow, each, all, Trees, no_trees, tree}
-use Rattle.dl_terms.specs.Gives.{picked, load_waits_for, waits_after, firsts, Target, target_in, target_waits, each_target_waits, Targets, targets_in, targets_waits, answer, waits, all_wait}
+use Rattle.dl_terms.specs.Gives.{picked, load_waits_for, waits_after, firsts, Target, target_in, target_waits, each_target_waits, Targets, targets_in}
+use Rattle.dl_terms.specs.Gives.{targets_waits, answer, waits, all_wait}
 
 -- ---- keys of which something holds
 
@@ -63,10 +64,12 @@ module _ (known : Key → Option Outcome) where
     waits_unknown (pick t field) = waits_unknown t
     waits_unknown (follow t field table) =
         let next = λ (a : Answer). target_waits known (target_in table (picked field a)) in
-        all_append (λ k. known k ≡ None) (waits known t) (waits_after (answer known t) next) (waits_unknown t) (after_unknown next (answer known t) (λ a. target_unknown (target_in table (picked field a))))
+        all_append (λ k. known k ≡ None) (waits known t) (waits_after (answer known t) next) (waits_unknown t)
+        (after_unknown next (answer known t) (λ a. target_unknown (target_in table (picked field a))))
     waits_unknown (each t field table) =
         let next = λ (a : Answer). targets_waits known (targets_in table (picked field a)) in
-        all_append (λ k. known k ≡ None) (waits known t) (waits_after (answer known t) next) (waits_unknown t) (after_unknown next (answer known t) (λ a. targets_unknown (targets_in table (picked field a))))
+        all_append (λ k. known k ≡ None) (waits known t) (waits_after (answer known t) next) (waits_unknown t)
+        (after_unknown next (answer known t) (λ a. targets_unknown (targets_in table (picked field a))))
     waits_unknown (all ts) = all_unknown ts
 
     all_unknown : (ts : Trees) → Unknown (all_wait known ts)
@@ -75,7 +78,8 @@ module _ (known : Key → Option Outcome) where
 
 -- ---- each stands once
 
-others_step : (k x : Key) (b : Bool) (ks : List Key) → key_eq k x ≡ b → AllByRecursion (λ y. key_eq k y ≡ false) ks → AllByRecursion (λ y. key_eq k y ≡ false) (cond (not b) (x ∷ ks) ks)
+others_step : (k x : Key) (b : Bool) (ks : List Key) → key_eq k x ≡ b → AllByRecursion (λ y. key_eq k y ≡ false) ks
+    → AllByRecursion (λ y. key_eq k y ≡ false) (cond (not b) (x ∷ ks) ks)
 others_step k x true ks e h = h
 others_step k x false ks e h = (e, h)
 
@@ -83,7 +87,8 @@ others : (k : Key) (ks : List Key) → AllByRecursion (λ y. key_eq k y ≡ fals
 others k [] = tt
 others k (x ∷ ks) = others_step k x (key_eq k x) (filter (λ q. not (key_eq k q)) ks) refl (others k ks)
 
-distinct_step : (x : Key) (b : Bool) (ks : List Key) → AllByRecursion (λ y. key_eq x y ≡ false) ks → IsDistinct key_eq ks → IsDistinct key_eq (cond b (x ∷ ks) ks)
+distinct_step : (x : Key) (b : Bool) (ks : List Key) → AllByRecursion (λ y. key_eq x y ≡ false) ks → IsDistinct key_eq ks
+    → IsDistinct key_eq (cond b (x ∷ ks) ks)
 unfolding IsDistinct
 distinct_step x true ks h d = (h, d)
 distinct_step x false ks h d = d
@@ -105,7 +110,8 @@ filter_both_step x true true p q e = ap (λ l. x ∷ l) e
 filter_both_step x true false p q e = e
 filter_both_step x false b p q e = e
 
-filter_cond : (test : Key → Bool) (x : Key) (a : Bool) (ks : List Key) → filter test (cond a (x ∷ ks) ks) ≡ cond a (cond (test x) (x ∷ filter test ks) (filter test ks)) (filter test ks)
+filter_cond : (test : Key → Bool) (x : Key) (a : Bool) (ks : List Key) → filter test (cond a (x ∷ ks) ks) ≡ cond a
+    (cond (test x) (x ∷ filter test ks) (filter test ks)) (filter test ks)
 filter_cond test x true ks = refl
 filter_cond test x false ks = refl
 
@@ -153,14 +159,20 @@ drops_new base k q =
 insert_step : (base ks : List Key) (k : Key) (b : Bool) → list_any (key_eq k) base ≡ b
     → insert_all key_eq base ks ≡ base ++ filter (is_new base) (firsts ks)
     → insert_all key_eq (base ++ k ∷ []) ks ≡ (base ++ k ∷ []) ++ filter (is_new (base ++ k ∷ [])) (firsts ks)
-    → insert_all key_eq (cond b base (base ++ k ∷ [])) ks ≡ base ++ cond (not b) (k ∷ filter (is_new base) (filter (λ q. not (key_eq k q)) (firsts ks))) (filter (is_new base) (filter (λ q. not (key_eq k q)) (firsts ks)))
+    → insert_all key_eq (cond b base (base ++ k ∷ [])) ks ≡ base ++ cond (not b) (k ∷ filter (is_new base) (filter (λ q. not (key_eq k q)) (firsts ks)))
+    (filter (is_new base) (filter (λ q. not (key_eq k q)) (firsts ks)))
 insert_step base ks k true there same more =
     same
-    ∙ ap (λ l. base ++ l) (sym (filter_both (λ q. not (key_eq k q)) (is_new base) (firsts ks) ∙ filter_same (λ q. not (key_eq k q) && is_new base q) (is_new base) (drops_known base k there) (firsts ks)))
+    ∙ ap (λ l.
+    base ++ l)
+    (sym (filter_both (λ q. not (key_eq k q)) (is_new base) (firsts ks)
+    ∙ filter_same (λ q. not (key_eq k q) && is_new base q) (is_new base) (drops_known base k there) (firsts ks)))
 insert_step base ks k false new same more =
     more
     ∙ (append_assoc base (k ∷ []) (filter (is_new (base ++ k ∷ [])) (firsts ks))
-    ∙ ap (λ l. base ++ k ∷ l) (sym (filter_both (λ q. not (key_eq k q)) (is_new base) (firsts ks) ∙ filter_same (λ q. not (key_eq k q) && is_new base q) (is_new (base ++ k ∷ [])) (drops_new base k) (firsts ks))))
+    ∙ ap (λ l.
+    base ++ k ∷ l) (sym (filter_both (λ q. not (key_eq k q)) (is_new base) (firsts ks)
+    ∙ filter_same (λ q. not (key_eq k q) && is_new base q) (is_new (base ++ k ∷ [])) (drops_new base k) (firsts ks))))
 
 inserted : (base ks : List Key) → insert_all key_eq base ks ≡ base ++ filter (is_new base) (firsts ks)
 inserted base [] = sym (append-nil base)

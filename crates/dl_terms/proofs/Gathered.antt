@@ -43,7 +43,8 @@ results_values (n ∷ ns) (v ∷ vs) e =
     ap (λ o. both o (results_of (nodes_view ns))) first ∙ ap (option_map (λ ls. Value (view v) ∷ ls)) rest
 
 -- all of them answer the list
-pub values_together : (ns : List Node) (vs : List Json) → AreValues ns vs → option_map gathered (results_of (nodes_view ns)) ≡ Some (Value (array (items_view vs)))
+pub values_together : (ns : List Node) (vs : List Json) → AreValues ns vs
+    → option_map gathered (results_of (nodes_view ns)) ≡ Some (Value (array (items_view vs)))
 values_together ns vs e = ap (option_map gathered) (results_values ns vs e) ∙ ap (λ g. Some (ended_as g)) (gather_values vs)
 
 -- ---- a part that failed
@@ -52,7 +53,8 @@ fault_in : (d : Data) (g : Gathered) (f : EvalFault) → ended_as g ≡ Fault f 
 fault_in d (Gathered.values ds) f e = absurd (let bad : Value (array ds) ≡ Fault f = e in cc)
 fault_in d (Gathered.fault h) f e = e
 
-fault_behind : (d : Data) (o : Option (List Answer)) (f : EvalFault) → option_map gathered o ≡ Some (Fault f) → option_map gathered (option_map (λ ls. Value d ∷ ls) o) ≡ Some (Fault f)
+fault_behind : (d : Data) (o : Option (List Answer)) (f : EvalFault) → option_map gathered o ≡ Some (Fault f)
+    → option_map gathered (option_map (λ ls. Value d ∷ ls) o) ≡ Some (Fault f)
 fault_behind d None f e = e
 fault_behind d (Some ls) f e =
     let same : ended_as (gather ls) ≡ Fault f = (let s : ◌≡◌ {A = Option Answer} (Some (ended_as (gather ls))) (Some (Fault f)) = e in cc) in
@@ -72,10 +74,12 @@ fault_here f None h = absurd (let bad = h in cc)
 fault_here f (Some ls) h = refl
 
 -- behind values it is what all answer
-pub fault_together : (ns : List Node) (vs : List Json) (n : Node) (rest : List Node) (f : EvalFault) → AreValues ns vs → result_of (node_view n) ≡ Some (Fault f)
+pub fault_together : (ns : List Node) (vs : List Json) (n : Node) (rest : List Node) (f : EvalFault) → AreValues ns vs
+    → result_of (node_view n) ≡ Some (Fault f)
     → IsSome (results_of (nodes_view (ns ++ n ∷ rest))) → option_map gathered (results_of (nodes_view (ns ++ n ∷ rest))) ≡ Some (Fault f)
 fault_together [] [] n rest f e is every =
-    ap (λ o. option_map gathered (both o (results_of (nodes_view rest)))) is ∙ fault_here f (results_of (nodes_view rest)) (both_right (result_of (node_view n)) (results_of (nodes_view rest)) every)
+    ap (λ o. option_map gathered (both o (results_of (nodes_view rest)))) is
+    ∙ fault_here f (results_of (nodes_view rest)) (both_right (result_of (node_view n)) (results_of (nodes_view rest)) every)
 fault_together [] (v ∷ vs) n rest f e is every = absurd (none_cons _ _ e)
 fault_together (m ∷ ms) [] n rest f e is every = absurd (none_cons _ _ (sym e))
 fault_together (m ∷ ms) (v ∷ vs) n rest f e is every =
@@ -94,7 +98,8 @@ ended_in (m ∷ ms) n rest every = ended_in ms n rest (both_right (result_of (no
 pub left_next : (whole done left rest : List Node) (n : Node) → whole ≡ done ++ left → left ≡ n ∷ rest → whole ≡ (done ++ n ∷ []) ++ rest
 left_next whole done left rest n e s = e ∙ (ap (λ l. done ++ l) s ∙ sym (append_assoc done (n ∷ []) rest))
 
-pub values_next : (ns : List Node) (vs more : List Json) (n : Node) (v : Json) → AreValues ns vs → result_of (node_view n) ≡ Some (Value (view v)) → more ≡ vs ++ v ∷ [] → AreValues (ns ++ n ∷ []) more
+pub values_next : (ns : List Node) (vs more : List Json) (n : Node) (v : Json) → AreValues ns vs → result_of (node_view n) ≡ Some (Value (view v))
+    → more ≡ vs ++ v ∷ [] → AreValues (ns ++ n ∷ []) more
 values_next ns vs more n v h is pushed =
     map-append (λ (m : Node). result_of (node_view m)) ns (n ∷ [])
     ∙ (ap (λ l. l ++ result_of (node_view n) ∷ []) h

@@ -4,7 +4,8 @@ use Rattle.std.specs.Option.{option_map, option_and_then}
 use Rattle.dl_desk.specs.Key.{Key}
 use Rattle.dl_desk.specs.declared.outcome.Outcome.{Outcome}
 use Rattle.dl_terms.specs.Tree.{Tree, ended, load, pick, follow, each, all, Trees, no_trees, tree}
-use Rattle.dl_terms.specs.Gives.{loaded, picked, gathered, both, Target, target_in, target_answer, target_answers, Targets, targets_in, targets_answer, answer, answers}
+use Rattle.dl_terms.specs.Gives.{loaded, picked, gathered, both, Target, target_in, target_answer, target_answers, Targets, targets_in, targets_answer}
+use Rattle.dl_terms.specs.Gives.{answer, answers}
 use Rattle.dl_terms.specs.Rounds.{KnowsMore}
 use Rattle.dl_terms.proofs.Options.{none_absurd}
 
@@ -15,7 +16,8 @@ pub map_kept : {A B : Type 0} (f : A → B) (x y : Option A) → Keeps x y → K
 map_kept f None y kept b e = absurd (none_absurd b e)
 map_kept f (Some a) y kept b e = ap (option_map f) (kept a refl) ∙ e
 
-pub and_then_kept : {A B : Type 0} (f g : A → Option B) (x y : Option A) → Keeps x y → ((a : A) → Keeps (f a) (g a)) → Keeps (option_and_then f x) (option_and_then g y)
+pub and_then_kept : {A B : Type 0} (f g : A → Option B) (x y : Option A) → Keeps x y → ((a : A) → Keeps (f a) (g a))
+    → Keeps (option_and_then f x) (option_and_then g y)
 and_then_kept f g None y kept next b e = absurd (none_absurd b e)
 and_then_kept f g (Some a) y kept next b e = ap (option_and_then g) (kept a refl) ∙ next a b e
 
@@ -30,7 +32,8 @@ module _ (p q : Key → Option Outcome) (more : KnowsMore p q) where
 
   target_each_kept : (xs : List Target) → Keeps (target_answers p xs) (target_answers q xs)
   target_each_kept [] = λ a e. e
-  target_each_kept (x ∷ xs) = both_kept (target_answer p x) (target_answer q x) (target_answers p xs) (target_answers q xs) (target_kept x) (target_each_kept xs)
+  target_each_kept (x ∷ xs) = both_kept (target_answer p x) (target_answer q x) (target_answers p xs) (target_answers q xs) (target_kept x)
+      (target_each_kept xs)
 
   targets_kept : (x : Targets) → Keeps (targets_answer p x) (targets_answer q x)
   targets_kept (Targets.keys xs) = map_kept gathered (target_answers p xs) (target_answers q xs) (target_each_kept xs)
@@ -41,8 +44,12 @@ module _ (p q : Key → Option Outcome) (more : KnowsMore p q) where
     answer_kept (ended a) = λ b e. e
     answer_kept (load k) = map_kept (loaded k) (p k) (q k) (more k)
     answer_kept (pick t field) = map_kept (picked field) (answer p t) (answer q t) (answer_kept t)
-    answer_kept (follow t field table) = and_then_kept (λ a. target_answer p (target_in table (picked field a))) (λ a. target_answer q (target_in table (picked field a))) (answer p t) (answer q t) (answer_kept t) (λ a. target_kept (target_in table (picked field a)))
-    answer_kept (each t field table) = and_then_kept (λ a. targets_answer p (targets_in table (picked field a))) (λ a. targets_answer q (targets_in table (picked field a))) (answer p t) (answer q t) (answer_kept t) (λ a. targets_kept (targets_in table (picked field a)))
+    answer_kept (follow t field table) = and_then_kept (λ a. target_answer p (target_in table (picked field a)))
+        (λ a. target_answer q (target_in table (picked field a))) (answer p t) (answer q t) (answer_kept t)
+        (λ a. target_kept (target_in table (picked field a)))
+    answer_kept (each t field table) = and_then_kept (λ a. targets_answer p (targets_in table (picked field a)))
+        (λ a. targets_answer q (targets_in table (picked field a))) (answer p t) (answer q t) (answer_kept t)
+        (λ a. targets_kept (targets_in table (picked field a)))
     answer_kept (all ts) = map_kept gathered (answers p ts) (answers q ts) (answers_kept ts)
 
     pub answers_kept : (ts : Trees) → Keeps (answers p ts) (answers q ts)

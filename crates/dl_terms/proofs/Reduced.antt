@@ -1,5 +1,6 @@
 -- What a round makes of each form stands for it.
-use Rattle.std.proofs.Common.{◌≡◌, ◌∙◌, ap, sym, subst, refl, ℕ, suc, ◌+◌, ◌<◌, ◌≤◌, Bool, true, false, nat_lt, if◌then◌else◌, List, [], ◌∷◌, ◌++◌, take, drop, length, get_or, Option, Some, None}
+use Rattle.std.proofs.Common.{◌≡◌, ◌∙◌, ap, sym, subst, refl, ℕ, suc, ◌+◌, ◌<◌, ◌≤◌, Bool, true, false, nat_lt, if◌then◌else◌, List, [], ◌∷◌, ◌++◌, take}
+use Rattle.std.proofs.Common.{drop, length, get_or, Option, Some, None}
 use Rattle.std.specs.Prelude.{MatchOption}
 use Rattle.std.specs.Option.{option_map, option_and_then}
 use Rattle.std.specs.List.{AllZip}
@@ -18,7 +19,9 @@ use Rattle.dl_terms.specs.declared.answer.EvalFault.{EvalFault}
 use Rattle.dl_terms.specs.declared.answer.EvalFault.TheVariants as why
 use Rattle.dl_terms.specs.declared.node.Node.{Node}
 use Rattle.dl_terms.specs.Tree.{Name, Tree, ended, load, pick, follow, each, all, Trees, no_trees, tree}
-use Rattle.dl_terms.specs.Gives.{loaded, picked, gathered, both, load_waits_for, waits_after, Target, value_target, item_targets, target_in, target_answer, target_answers, target_waits, each_target_waits, Targets, few, list_targets, targets_in, targets_answer, targets_waits, answer, answers, waits, all_wait}
+use Rattle.dl_terms.specs.Gives.{loaded, picked, gathered, both, load_waits_for, waits_after, Target, value_target, item_targets, target_in, target_answer}
+use Rattle.dl_terms.specs.Gives.{target_answers, target_waits, each_target_waits, Targets, few, list_targets, targets_in, targets_answer, targets_waits}
+use Rattle.dl_terms.specs.Gives.{answer, answers, waits, all_wait}
 use Rattle.dl_terms.specs.Node.{node_view, nodes_view, result_of, results_of}
 use Rattle.dl_terms.specs.Reduces.{Stands, StandAll, Reduces, ReduceAll, LoadsTarget, LoadsEach, LoadsTargets, PicksOn, FollowsOn, EachOn, GathersOn}
 use Rattle.dl_terms.proofs.Options.{none_absurd, some_same, from_both}
@@ -37,8 +40,11 @@ results_answer no_trees ls e q = (e, refl)
 results_answer (tree t ts) ls e q =
     let f = from_both (result_of t) (results_of ts) ls e in
     let is : t ≡ ended f.0 = result_is t f.0 f.2 in
-    let rest = results_answer ts f.1 f.3 q in
-    (ap (λ u. both (answer q u) (answers q ts)) is ∙ (ap (option_map (λ l. f.0 ∷ l)) rest.0 ∙ ap Some (sym f.4)), ap (λ u. waits q u ++ all_wait q ts) is ∙ rest.1)
+    let rest = results_answer ts f.1 f.3 q in (
+      ap (λ u. both (answer q u) (answers q ts)) is ∙ (ap (option_map (λ l. f.0 ∷ l)) rest.0 ∙ ap Some (sym f.4)),
+      ap (λ u. waits q u ++ all_wait q ts) is
+          ∙ rest.1,
+    )
 
 module _ (p : Key → Option Outcome) where
   pub load_known : (k : Key) (o : Outcome) → p k ≡ Some o → (u : Tree) → u ≡ ended (loaded k o) → LoadsTarget p (Target.key k) u
@@ -55,7 +61,8 @@ module _ (p : Key → Option Outcome) where
     ending = ap result_of is ∙ ap (option_map (loaded k)) (sym e);
   }
 
-  pick_on : (t v u : Tree) (field : Name) (r : Option Answer) → result_of v ≡ r → Reduces p t v → MatchOption r (u ≡ pick v field) (λ a. u ≡ ended (picked field a)) → Reduces p (pick t field) u
+  pick_on : (t v u : Tree) (field : Name) (r : Option Answer) → result_of v ≡ r → Reduces p t v
+      → MatchOption r (u ≡ pick v field) (λ a. u ≡ ended (picked field a)) → Reduces p (pick t field) u
   pick_on t v u field None e part is = record {
     meaning = λ q more. ap (answer q) is ∙ ap (option_map (picked field)) (part.meaning q more);
     waiting = λ q more. ap (waits q) is ∙ part.waiting q more;
@@ -101,7 +108,8 @@ module _ (p : Key → Option Outcome) where
   follow_on : (t v u : Tree) (field table : Name) (r : Option Answer) → result_of v ≡ r → Reduces p t v
       → MatchOption r (u ≡ follow v field table) (λ a. LoadsTarget p (target_in table (picked field a)) u) → Reduces p (follow t field table) u
   follow_on t v u field table None e part is =
-      stays t v u (λ q a. target_answer q (target_in table (picked field a))) (λ q a. target_waits q (target_in table (picked field a))) part e (λ q. ap (answer q) is) (λ q. ap (waits q) is) (ap result_of is)
+      stays t v u (λ q a. target_answer q (target_in table (picked field a))) (λ q a. target_waits q (target_in table (picked field a))) part e
+      (λ q. ap (answer q) is) (λ q. ap (waits q) is) (ap result_of is)
   follow_on t v u field table (Some a) e part s =
       goes_on t v u (λ q b. target_answer q (target_in table (picked field b))) (λ q b. target_waits q (target_in table (picked field b))) part a e s
 
@@ -111,7 +119,8 @@ module _ (p : Key → Option Outcome) where
   each_goes : (t v u : Tree) (field table : Name) (r : Option Answer) → result_of v ≡ r → Reduces p t v
       → MatchOption r (u ≡ each v field table) (λ a. LoadsTargets p (targets_in table (picked field a)) u) → Reduces p (each t field table) u
   each_goes t v u field table None e part is =
-      stays t v u (λ q a. targets_answer q (targets_in table (picked field a))) (λ q a. targets_waits q (targets_in table (picked field a))) part e (λ q. ap (answer q) is) (λ q. ap (waits q) is) (ap result_of is)
+      stays t v u (λ q a. targets_answer q (targets_in table (picked field a))) (λ q a. targets_waits q (targets_in table (picked field a))) part e
+      (λ q. ap (answer q) is) (λ q. ap (waits q) is) (ap result_of is)
   each_goes t v u field table (Some a) e part s =
       goes_on t v u (λ q b. targets_answer q (targets_in table (picked field b))) (λ q b. targets_waits q (targets_in table (picked field b))) part a e s
 
@@ -120,7 +129,8 @@ module _ (p : Key → Option Outcome) where
 
   -- ---- several together
 
-  gather_on : (say : (Key → Option Outcome) → Option (List Answer)) (lack : (Key → Option Outcome) → List Key) (vs : Trees) (u : Tree) (r : Option (List Answer)) → results_of vs ≡ r
+  gather_on : (say : (Key → Option Outcome) → Option (List Answer)) (lack : (Key → Option Outcome)
+      → List Key) (vs : Trees) (u : Tree) (r : Option (List Answer)) → results_of vs ≡ r
       → StandAll p say lack vs → MatchOption r (u ≡ all vs) (λ ls. u ≡ ended (gathered ls)) → Stands p (λ q. option_map gathered (say q)) lack u
   gather_on say lack vs u None e s is = record {
     meaning = λ q more. ap (answer q) is ∙ ap (option_map gathered) (s.meaning q more);
@@ -133,10 +143,12 @@ module _ (p : Key → Option Outcome) where
     ending = ap result_of is ∙ ap (option_map gathered) (sym e ∙ s.ending);
   }
 
-  pub gathers_on : (say : (Key → Option Outcome) → Option (List Answer)) (lack : (Key → Option Outcome) → List Key) (vs : Trees) (u : Tree) → StandAll p say lack vs → GathersOn vs u → Stands p (λ q. option_map gathered (say q)) lack u
+  pub gathers_on : (say : (Key → Option Outcome) → Option (List Answer)) (lack : (Key → Option Outcome) → List Key) (vs : Trees) (u : Tree)
+      → StandAll p say lack vs → GathersOn vs u → Stands p (λ q. option_map gathered (say q)) lack u
   gathers_on say lack vs u s on = gather_on say lack vs u (results_of vs) refl s on
 
-  stand_more : (says : (Key → Option Outcome) → Option Answer) (lacks : (Key → Option Outcome) → List Key) (say : (Key → Option Outcome) → Option (List Answer)) (lack : (Key → Option Outcome) → List Key) (u : Tree) (us : Trees)
+  stand_more : (says : (Key → Option Outcome) → Option Answer) (lacks : (Key → Option Outcome) → List Key) (say : (Key → Option Outcome)
+      → Option (List Answer)) (lack : (Key → Option Outcome) → List Key) (u : Tree) (us : Trees)
       → Stands p says lacks u → StandAll p say lack us → StandAll p (λ q. both (says q) (say q)) (λ q. lacks q ++ lack q) (tree u us)
   stand_more says lacks say lack u us s rest = record {
     meaning = λ q more. ap (λ o. both o (answers q us)) (s.meaning q more) ∙ ap (both (says q)) (rest.meaning q more);
@@ -144,19 +156,23 @@ module _ (p : Key → Option Outcome) where
     ending = ap (λ o. both o (results_of us)) s.ending ∙ ap (both (says p)) rest.ending;
   }
 
-  pub nodes_reduce : (before after : List Node) → AllZip (λ n m. Reduces p (node_view n) (node_view m)) before after → ReduceAll p (nodes_view before) (nodes_view after)
+  pub nodes_reduce : (before after : List Node) → AllZip (λ n m. Reduces p (node_view n) (node_view m)) before after
+      → ReduceAll p (nodes_view before) (nodes_view after)
   nodes_reduce [] [] h = record { meaning = λ q more. refl; waiting = λ q more. refl; ending = refl }
   nodes_reduce [] (m ∷ ms) h = absurd h
   nodes_reduce (n ∷ ns) [] h = absurd h
   nodes_reduce (n ∷ ns) (m ∷ ms) h =
-      stand_more (λ q. answer q (node_view n)) (λ q. waits q (node_view n)) (λ q. answers q (nodes_view ns)) (λ q. all_wait q (nodes_view ns)) (node_view m) (nodes_view ms) h.0 (nodes_reduce ns ms h.1)
+      stand_more (λ q. answer q (node_view n)) (λ q. waits q (node_view n)) (λ q. answers q (nodes_view ns)) (λ q. all_wait q (nodes_view ns)) (node_view m)
+      (nodes_view ms) h.0 (nodes_reduce ns ms h.1)
 
-  pub ids_load : (table : Name) (vs : List Value) (ns : List Node) → AllZip (λ v n. LoadsTarget p (value_target table (view v)) (node_view n)) vs ns → LoadsEach p (item_targets table (items_view vs)) (nodes_view ns)
+  pub ids_load : (table : Name) (vs : List Value) (ns : List Node) → AllZip (λ v n. LoadsTarget p (value_target table (view v)) (node_view n)) vs ns
+      → LoadsEach p (item_targets table (items_view vs)) (nodes_view ns)
   ids_load table [] [] h = record { meaning = λ q more. refl; waiting = λ q more. refl; ending = refl }
   ids_load table [] (n ∷ ns) h = absurd h
   ids_load table (v ∷ vs) [] h = absurd h
   ids_load table (v ∷ vs) (n ∷ ns) h =
-      stand_more (λ q. target_answer q (value_target table (view v))) (λ q. target_waits q (value_target table (view v))) (λ q. target_answers q (item_targets table (items_view vs))) (λ q. each_target_waits q (item_targets table (items_view vs)))
+      stand_more (λ q. target_answer q (value_target table (view v))) (λ q. target_waits q (value_target table (view v)))
+      (λ q. target_answers q (item_targets table (items_view vs))) (λ q. each_target_waits q (item_targets table (items_view vs)))
       (node_view n) (nodes_view ns) h.0 (ids_load table vs ns h.1)
 
 pub zip_push : {A B : Type 0} (R : A → B → Type 0) (xs : List A) (ys : List B) (x : A) (y : B) → AllZip R xs ys → R x y → AllZip R (xs ++ x ∷ []) (ys ++ y ∷ [])
@@ -168,14 +184,16 @@ zip_push R (a ∷ more) (b ∷ bs) x y h r = (h.0, zip_push R more bs x y h.1 r)
 -- ---- one step of a loop over a list
 
 module _ {A : Type 0} (xs : List A) (i : ℕ) (x : A) (lt : i < length xs) (is : x ≡ get_or xs i x) where
-  pub zip_next : {B : Type 0} (R : A → B → Type 0) (ys more : List B) (y : B) → more ≡ ys ++ y ∷ [] → AllZip R (take i xs) ys → R x y → AllZip R (take (i + 1) xs) more
+  pub zip_next : {B : Type 0} (R : A → B → Type 0) (ys more : List B) (y : B) → more ≡ ys ++ y ∷ [] → AllZip R (take i xs) ys → R x y
+      → AllZip R (take (i + 1) xs) more
   zip_next R ys more y pushed h r =
       subst (λ l. AllZip R l more) (sym (take_more xs i x lt ∙ ap (λ z. take i xs ++ z ∷ []) (sym is)))
       (subst (AllZip R (take i xs ++ x ∷ [])) (sym pushed) (zip_push R (take i xs) ys x y h r))
 
   -- what the rest adds to the wanted keys, where x has added its own
   pub wanted_next : (own : A → List Key) (all_own : List A → List Key) → ((rest : List A) → all_own (x ∷ rest) ≡ own x ++ all_own rest)
-      → (now next total : List Key) → insert_all key_eq now (all_own (drop i xs)) ≡ total → next ≡ insert_all key_eq now (own x) → insert_all key_eq next (all_own (drop (i + 1) xs)) ≡ total
+      → (now next total : List Key) → insert_all key_eq now (all_own (drop i xs)) ≡ total → next ≡ insert_all key_eq now (own x)
+      → insert_all key_eq next (all_own (drop (i + 1) xs)) ≡ total
   wanted_next own all_own split now next total h e =
       let rest = drop (i + 1) xs in
       let front : drop i xs ≡ x ∷ rest = drop_more xs i x lt ∙ ap (λ z. z ∷ rest) (sym is) in
@@ -192,13 +210,16 @@ items-long table (v ∷ vs) = ap suc (items-long table vs)
 few_step : (xs : List Target) (b : Bool) → nat_lt 1024 (length xs) ≡ b → few xs ≡ if b then Targets.none why.TooMany else Targets.keys xs
 few_step xs b e = ap (λ t. if t then Targets.none why.TooMany else Targets.keys xs) e
 
-pub too_many : (table : Name) (o : Option Items) (vs : List Value) → Some (items_view vs) ≡ o → 1024 < length vs → list_targets table o ≡ Targets.none why.TooMany
+pub too_many : (table : Name) (o : Option Items) (vs : List Value) → Some (items_view vs) ≡ o → 1024 < length vs
+    → list_targets table o ≡ Targets.none why.TooMany
 too_many table o vs e many =
     ap (list_targets table) (sym e) ∙ few_step (item_targets table (items_view vs)) true (ap (nat_lt 1024) (items-long table vs) ∙ lt-ltb 1024 (length vs) many)
 
-pub not_many : (table : Name) (o : Option Items) (vs : List Value) → Some (items_view vs) ≡ o → length vs ≤ 1024 → list_targets table o ≡ Targets.keys (item_targets table (items_view vs))
+pub not_many : (table : Name) (o : Option Items) (vs : List Value) → Some (items_view vs) ≡ o → length vs ≤ 1024
+    → list_targets table o ≡ Targets.keys (item_targets table (items_view vs))
 not_many table o vs e few_are =
-    ap (list_targets table) (sym e) ∙ few_step (item_targets table (items_view vs)) false (ap (nat_lt 1024) (items-long table vs) ∙ le-ltb 1024 (length vs) few_are)
+    ap (list_targets table) (sym e) ∙ few_step (item_targets table (items_view vs)) false
+    (ap (nat_lt 1024) (items-long table vs) ∙ le-ltb 1024 (length vs) few_are)
 
 pub fault_loads : (p : Key → Option Outcome) (x : Targets) (f : EvalFault) (u : Tree) → x ≡ Targets.none f → u ≡ ended (Fault f) → LoadsTargets p x u
 fault_loads p x f u e is = record {

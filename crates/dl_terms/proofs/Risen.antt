@@ -1,5 +1,6 @@
 -- After as many rounds as it is deep, a term has an answer.
-use Rattle.std.proofs.Common.{◌≡◌, ◌∙◌, ap, sym, subst, refl, inl, inr, ℕ, zero, suc, ◌≤◌, Bool, true, false, cond, filter, not, List, [], ◌∷◌, ◌++◌, Option, Some, None, arith}
+use Rattle.std.proofs.Common.{◌≡◌, ◌∙◌, ap, sym, subst, refl, inl, inr, ℕ, zero, suc, ◌≤◌, Bool, true, false, cond, filter, not, List, [], ◌∷◌, ◌++◌, Option}
+use Rattle.std.proofs.Common.{Some, None, arith}
 use Rattle.std.specs.Prelude.{⊤, IsSome}
 use Rattle.std.specs.List.{AllByRecursion}
 use Rattle.std.specs.Option.{option_map, option_and_then}
@@ -10,7 +11,9 @@ use Rattle.dl_desk.proofs.KeyLemmas.{key_eq-same}
 use Rattle.dl_terms.specs.declared.answer.Answer.{Answer}
 use Rattle.dl_terms.specs.declared.answer.Answer.TheVariants.{Fault}
 use Rattle.dl_terms.specs.Tree.{Tree, ended, load, pick, follow, each, all, Trees, no_trees, tree, depth_of, depth_of_all}
-use Rattle.dl_terms.specs.Gives.{Pairs, outcome_in, loaded, picked, gathered, both, load_waits_for, waits_after, firsts, Target, target_in, target_answer, target_answers, target_waits, each_target_waits, Targets, targets_in, targets_answer, targets_waits, answer, answers, waits, all_wait}
+use Rattle.dl_terms.specs.Gives.{Pairs, outcome_in, loaded, picked, gathered, both, load_waits_for, waits_after, firsts, Target, target_in, target_answer}
+use Rattle.dl_terms.specs.Gives.{target_answers, target_waits, each_target_waits, Targets, targets_in, targets_answer, targets_waits, answer, answers, waits}
+use Rattle.dl_terms.specs.Gives.{all_wait}
 use Rattle.dl_terms.specs.Rounds.{KnowsMore, GainsFrontier, PartOf, PartOfAny}
 use Rattle.dl_terms.proofs.Kept.{answer_kept}
 
@@ -32,7 +35,8 @@ known_right q (k ∷ ks) ls h = known_right q ks ls h.1
 
 -- ---- a key that is listed once for several is known at each place
 
-listed_step : (q : Key → Option Outcome) (k x : Key) (b : Bool) (xs : List Key) → key_eq k x ≡ b → IsSome (q k) → Known q (cond (not b) (x ∷ xs) xs) → IsSome (q x) × Known q xs
+listed_step : (q : Key → Option Outcome) (k x : Key) (b : Bool) (xs : List Key) → key_eq k x ≡ b → IsSome (q k) → Known q (cond (not b) (x ∷ xs) xs)
+    → IsSome (q x) × Known q xs
 listed_step q k x true xs e known h = (subst (λ y. IsSome (q y)) (key_eq-same k x e) known, h)
 listed_step q k x false xs e known h = (h.0, h.1)
 
@@ -48,7 +52,8 @@ firsts_known q (k ∷ ks) h = (h.0, firsts_known q ks (listed q k (firsts ks) h.
 
 -- ---- a part waits for no other keys than the whole
 
-rises_of : (s t : Tree) → ((m q : Key → Option Outcome) → Known q (waits m t) → Known q (waits m s)) → (r : ℕ) (q : Key → Option Outcome) → Rises t r q → Rises s r q
+rises_of : (s t : Tree) → ((m q : Key → Option Outcome) → Known q (waits m t) → Known q (waits m s)) → (r : ℕ) (q : Key → Option Outcome) → Rises t r q
+    → Rises s r q
 rises_of s t fewer zero q h = tt
 rises_of s t fewer (suc r) q (m, past, more, known) = (m, rises_of s t fewer r m past, more, fewer m q known)
 
@@ -63,9 +68,13 @@ module _ (s : Tree) (m q : Key → Option Outcome) where
     part_known (pick t field) (inl e) h = same_known (pick t field) e h
     part_known (pick t field) (inr part) h = part_known t part h
     part_known (follow t field table) (inl e) h = same_known (follow t field table) e h
-    part_known (follow t field table) (inr part) h = part_known t part (known_left q (waits m t) (waits_after (answer m t) (λ a. target_waits m (target_in table (picked field a)))) h)
+    part_known
+        (follow t field table) (inr part) h = part_known t part (known_left q (waits m t)
+        (waits_after (answer m t) (λ a. target_waits m (target_in table (picked field a)))) h)
     part_known (each t field table) (inl e) h = same_known (each t field table) e h
-    part_known (each t field table) (inr part) h = part_known t part (known_left q (waits m t) (waits_after (answer m t) (λ a. targets_waits m (targets_in table (picked field a)))) h)
+    part_known
+        (each t field table) (inr part) h = part_known t part (known_left q (waits m t)
+        (waits_after (answer m t) (λ a. targets_waits m (targets_in table (picked field a)))) h)
     part_known (all ts) (inl e) h = same_known (all ts) e h
     part_known (all ts) (inr part) h = any_known ts part h
 
@@ -79,7 +88,8 @@ module _ (s : Tree) (m q : Key → Option Outcome) where
 has_map : {A B : Type 0} (f : A → B) (x : Option A) → ((a : A) × (x ≡ Some a)) → (b : B) × (option_map f x ≡ Some b)
 has_map f x (a, e) = (f a, ap (option_map f) e)
 
-has_both : {A : Type 0} (x : Option A) (xs : Option (List A)) → ((a : A) × (x ≡ Some a)) → ((l : List A) × (xs ≡ Some l)) → (ls : List A) × (both x xs ≡ Some ls)
+has_both : {A : Type 0} (x : Option A) (xs : Option (List A)) → ((a : A) × (x ≡ Some a)) → ((l : List A) × (xs ≡ Some l))
+    → (ls : List A) × (both x xs ≡ Some ls)
 has_both x xs (a, e) (l, f) = (a ∷ l, ap (λ o. both o xs) e ∙ ap (option_map (λ r. a ∷ r)) f)
 
 is_some_has : {A : Type 0} (x : Option A) → IsSome x → (a : A) × (x ≡ Some a)
@@ -97,7 +107,8 @@ module _ (m q : Key → Option Outcome) (more : KnowsMore m q) where
 
   each_has : (xs : List Target) → Known q (each_target_waits m xs) → (ls : List Answer) × (target_answers q xs ≡ Some ls)
   each_has [] h = ([], refl)
-  each_has (x ∷ xs) h = has_both (target_answer q x) (target_answers q xs) (target_has x (known_left q (target_waits m x) (each_target_waits m xs) h)) (each_has xs (known_right q (target_waits m x) (each_target_waits m xs) h))
+  each_has (x ∷ xs) h = has_both (target_answer q x) (target_answers q xs) (target_has x (known_left q (target_waits m x) (each_target_waits m xs) h))
+      (each_has xs (known_right q (target_waits m x) (each_target_waits m xs) h))
 
   targets_have : (x : Targets) → Known q (targets_waits m x) → (a : Answer) × (targets_answer q x ≡ Some a)
   targets_have (Targets.keys xs) h = has_map gathered (target_answers q xs) (each_has xs h)
@@ -119,13 +130,17 @@ mutual
   has (pick t field) r q low h = has_map (picked field) (answer q t) (has t r q low (rises_of t (pick t field) (λ m p k. k) r q h))
   has (follow t field table) zero q low h = absurd (omega arith)
   has (follow t field table) (suc r) q low (m, past, more, known) =
-      let fewer = λ (n : Key → Option Outcome) (p : Key → Option Outcome) (k : Known p (waits n (follow t field table))). known_left p (waits n t) (waits_after (answer n t) (λ a. target_waits n (target_in table (picked field a)))) k in
-      follow_has m q more t (λ a. target_answer q (target_in table (picked field a))) (λ a. target_waits m (target_in table (picked field a))) (λ a. target_has m q more (target_in table (picked field a)))
+      let fewer = λ (n : Key → Option Outcome) (p : Key → Option Outcome) (k : Known p (waits n (follow t field table))). known_left p (waits n t)
+      (waits_after (answer n t) (λ a. target_waits n (target_in table (picked field a)))) k in
+      follow_has m q more t (λ a. target_answer q (target_in table (picked field a))) (λ a. target_waits m (target_in table (picked field a)))
+      (λ a. target_has m q more (target_in table (picked field a)))
       (has t r m (omega arith) (rises_of t (follow t field table) fewer r m past)) known
   has (each t field table) zero q low h = absurd (omega arith)
   has (each t field table) (suc r) q low (m, past, more, known) =
-      let fewer = λ (n : Key → Option Outcome) (p : Key → Option Outcome) (k : Known p (waits n (each t field table))). known_left p (waits n t) (waits_after (answer n t) (λ a. targets_waits n (targets_in table (picked field a)))) k in
-      follow_has m q more t (λ a. targets_answer q (targets_in table (picked field a))) (λ a. targets_waits m (targets_in table (picked field a))) (λ a. targets_have m q more (targets_in table (picked field a)))
+      let fewer = λ (n : Key → Option Outcome) (p : Key → Option Outcome) (k : Known p (waits n (each t field table))). known_left p (waits n t)
+      (waits_after (answer n t) (λ a. targets_waits n (targets_in table (picked field a)))) k in
+      follow_has m q more t (λ a. targets_answer q (targets_in table (picked field a))) (λ a. targets_waits m (targets_in table (picked field a)))
+      (λ a. targets_have m q more (targets_in table (picked field a)))
       (has t r m (omega arith) (rises_of t (each t field table) fewer r m past)) known
   has (all ts) r q low h = has_map gathered (answers q ts) (all_have ts r q low h)
 
@@ -138,8 +153,14 @@ mutual
 
 rises : (t : Tree) (r : ℕ) (p q : Pairs) → GainsFrontier t r p q → Rises t r (outcome_in q)
 rises t zero p q e = tt
-rises t (suc r) p q (m, past, more, covers) =
-    (outcome_in m, rises t r p m past, more, firsts_known (outcome_in q) (waits (outcome_in m) t) (recursion_from_All (λ k. IsSome (outcome_in q k)) (firsts (waits (outcome_in m) t)) covers))
+rises t (suc r) p q (m, past, more, covers) = (
+  outcome_in m,
+  rises t r p m past,
+  more,
+  firsts_known (outcome_in q) (waits (outcome_in m) t)
+      (recursion_from_All (λ k. IsSome (outcome_in q k)) (firsts (waits (outcome_in m) t)) covers),
+)
 
-pub given_by_depth : (t s : Tree) (r : ℕ) (p q : Pairs) → GainsFrontier t r p q → PartOf s t → depth_of s ≤ r → (a : Answer) × (answer (outcome_in q) s ≡ Some a)
+pub given_by_depth : (t s : Tree) (r : ℕ) (p q : Pairs) → GainsFrontier t r p q → PartOf s t → depth_of s ≤ r
+    → (a : Answer) × (answer (outcome_in q) s ≡ Some a)
 given_by_depth t s r p q gains part low = has s r (outcome_in q) low (rises_of s t (λ m n. part_known s m n t part) r (outcome_in q) (rises t r p q gains))

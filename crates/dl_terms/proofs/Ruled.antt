@@ -5,7 +5,8 @@ use Rattle.dl_desk.specs.Key.{Key}
 use Rattle.dl_terms.specs.declared.answer.Answer.{Answer}
 use Rattle.dl_terms.specs.declared.answer.Answer.TheVariants.{Fault}
 use Rattle.dl_terms.specs.Tree.{Tree, ended, load, pick, follow, each, all, Trees, no_trees, tree}
-use Rattle.dl_terms.specs.Gives.{Pairs, outcome_in, loaded, picked, gathered, both, load_answer, Target, target_in, target_answer, target_answers, Targets, targets_in, targets_answer, answer, answers}
+use Rattle.dl_terms.specs.Gives.{Pairs, outcome_in, loaded, picked, gathered, both, load_answer, Target, target_in, target_answer, target_answers, Targets}
+use Rattle.dl_terms.specs.Gives.{targets_in, targets_answer, answer, answers}
 use Rattle.dl_terms.specs.Relation.{LoadGives, TargetGives, EachTargetGives, TargetsGive, Gives, EachGives}
 use Rattle.dl_terms.proofs.Options.{some_same, from_map, from_and_then, from_both}
 
@@ -32,9 +33,11 @@ module _ (ps : Pairs) where
     computed (load k) b g = load_to k b g
     computed (pick t field) b (a, g, e) = ap (option_map (picked field)) (computed t a g) ∙ ap Some (sym e)
     computed (follow t field table) b (a, g, h) =
-        ap (option_and_then (λ x. target_answer (outcome_in ps) (target_in table (picked field x)))) (computed t a g) ∙ target_to (target_in table (picked field a)) b h
+        ap (option_and_then (λ x. target_answer (outcome_in ps) (target_in table (picked field x)))) (computed t a g)
+        ∙ target_to (target_in table (picked field a)) b h
     computed (each t field table) b (a, g, h) =
-        ap (option_and_then (λ x. targets_answer (outcome_in ps) (targets_in table (picked field x)))) (computed t a g) ∙ targets_to (targets_in table (picked field a)) b h
+        ap (option_and_then (λ x. targets_answer (outcome_in ps) (targets_in table (picked field x)))) (computed t a g)
+        ∙ targets_to (targets_in table (picked field a)) b h
     computed (all ts) b (ls, g, e) = ap (option_map gathered) (all_computed ts ls g) ∙ ap Some (sym e)
 
     all_computed : (ts : Trees) (ls : List Answer) → EachGives ps ts ls → answers (outcome_in ps) ts ≡ Some ls

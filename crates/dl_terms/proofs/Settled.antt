@@ -5,7 +5,8 @@ use Rattle.dl_desk.specs.Key.{Key}
 use Rattle.dl_desk.specs.declared.outcome.Outcome.{Outcome}
 use Rattle.dl_terms.specs.declared.answer.Answer.{Answer}
 use Rattle.dl_terms.specs.Tree.{Tree, ended, load, pick, follow, each, all, Trees, no_trees, tree}
-use Rattle.dl_terms.specs.Gives.{loaded, picked, gathered, both, load_waits_for, waits_after, firsts, Target, target_in, target_answer, target_answers, target_waits, each_target_waits, Targets, targets_in, targets_answer, targets_waits, answer, answers, waits, all_wait}
+use Rattle.dl_terms.specs.Gives.{loaded, picked, gathered, both, load_waits_for, waits_after, firsts, Target, target_in, target_answer, target_answers}
+use Rattle.dl_terms.specs.Gives.{target_waits, each_target_waits, Targets, targets_in, targets_answer, targets_waits, answer, answers, waits, all_wait}
 
 -- what waits is something where there is no answer, and nothing where there is one
 abbrev pub Settles : {A : Type 0} → Option A → List Key → Type 0
@@ -24,7 +25,8 @@ module _ {A B : Type 0} where
   and_then_settles : (f : A → Option B) (next : A → List Key) (x : Option A) (ks : List Key) → Settles x ks → ((a : A) → Settles (f a) (next a))
       → (after : List Key) → (x ≡ None → after ≡ []) → ((a : A) → x ≡ Some a → after ≡ next a) → Settles (option_and_then f x) (ks ++ after)
   and_then_settles f next None ks s then after none some = some_append ks after s
-  and_then_settles f next (Some a) ks s then after none some = subst (λ l. Settles (f a) (l ++ after)) (sym s) (subst (Settles (f a)) (sym (some a refl)) (then a))
+  and_then_settles f next (Some a) ks s then after none some = subst (λ l. Settles (f a) (l ++ after)) (sym s)
+      (subst (Settles (f a)) (sym (some a refl)) (then a))
 
 both_settles : {A : Type 0} (x : Option A) (xs : Option (List A)) (ks ls : List Key) → Settles x ks → Settles xs ls → Settles (both x xs) (ks ++ ls)
 both_settles None xs ks ls s rest = some_append ks ls s
@@ -41,7 +43,8 @@ module _ (known : Key → Option Outcome) where
 
   each_settles : (xs : List Target) → Settles (target_answers known xs) (each_target_waits known xs)
   each_settles [] = refl
-  each_settles (x ∷ xs) = both_settles (target_answer known x) (target_answers known xs) (target_waits known x) (each_target_waits known xs) (target_settles x) (each_settles xs)
+  each_settles (x ∷ xs) = both_settles (target_answer known x) (target_answers known xs) (target_waits known x) (each_target_waits known xs)
+      (target_settles x) (each_settles xs)
 
   targets_settle : (x : Targets) → Settles (targets_answer known x) (targets_waits known x)
   targets_settle (Targets.keys xs) = map_settles gathered (target_answers known xs) (each_target_waits known xs) (each_settles xs)
@@ -60,11 +63,13 @@ module _ (known : Key → Option Outcome) where
     settles (pick t field) = map_settles (picked field) (answer known t) (waits known t) (settles t)
     settles (follow t field table) =
         let next = λ (a : Answer). target_waits known (target_in table (picked field a)) in
-        and_then_settles (λ a. target_answer known (target_in table (picked field a))) next (answer known t) (waits known t) (settles t) (λ a. target_settles (target_in table (picked field a)))
+        and_then_settles (λ a. target_answer known (target_in table (picked field a))) next (answer known t) (waits known t) (settles t)
+        (λ a. target_settles (target_in table (picked field a)))
         (waits_after (answer known t) next) (after_none (answer known t) next) (after_some (answer known t) next)
     settles (each t field table) =
         let next = λ (a : Answer). targets_waits known (targets_in table (picked field a)) in
-        and_then_settles (λ a. targets_answer known (targets_in table (picked field a))) next (answer known t) (waits known t) (settles t) (λ a. targets_settle (targets_in table (picked field a)))
+        and_then_settles (λ a. targets_answer known (targets_in table (picked field a))) next (answer known t) (waits known t) (settles t)
+        (λ a. targets_settle (targets_in table (picked field a)))
         (waits_after (answer known t) next) (after_none (answer known t) next) (after_some (answer known t) next)
     settles (all ts) = map_settles gathered (answers known ts) (all_wait known ts) (all_settle ts)
 

@@ -12,7 +12,8 @@ use Rattle.serde_json.specs.Written.{has_float, items_have_float, members_have_f
 use Rattle.serde_json.specs.declared.value.Value.{Value}
 use Rattle.dl_terms.proofs.Options.{none_absurd, some_same}
 
-member_step : (d e : Data) (found : Option Data) (o : Ordering) → has_float d ≡ false → (found ≡ Some e → has_float e ≡ false) → match_ordering o found (Some d) found ≡ Some e → has_float e ≡ false
+member_step : (d e : Data) (found : Option Data) (o : Ordering) → has_float d ≡ false → (found ≡ Some e → has_float e ≡ false)
+    → match_ordering o found (Some d) found ≡ Some e → has_float e ≡ false
 member_step d e found ordering.Less one rest is = rest is
 member_step d e found ordering.Equal one rest is = ap has_float (sym (some_same d e is)) ∙ one
 member_step d e found ordering.Greater one rest is = rest is
@@ -31,7 +32,8 @@ field_whole name (string s) e whole is = absurd (none_absurd e is)
 field_whole name (array ds) e whole is = absurd (none_absurd e is)
 field_whole name (object ms) e whole is = member_whole name ms e whole is
 
-pub items_whole : (vs : List Value) (v : Value) → items_have_float (items_view vs) ≡ false → has_float (view v) ≡ false → items_have_float (items_view (vs ++ v ∷ [])) ≡ false
+pub items_whole : (vs : List Value) (v : Value) → items_have_float (items_view vs) ≡ false → has_float (view v) ≡ false
+    → items_have_float (items_view (vs ++ v ∷ [])) ≡ false
 items_whole [] v whole one = ap (λ b. b || false) one
 items_whole (w ∷ ws) v whole one =
     let parts = or_parts (has_float (view w)) (items_have_float (items_view ws)) whole in

@@ -1,6 +1,7 @@
 -- What a term gives, and which keys it waits for, where some keys have their outcomes (Haxl: a
 -- computation is `Done` with an answer or `Blocked` on its fetches).
-use Rattle.std.specs.Prelude.{◌≡◌, ℕ, List, [], ◌∷◌, ◌++◌, filter, not, length, Bool, ◌&&◌, nat_le, nat_lt, Option, Some, None, option_map, option_and_then, if◌then◌else◌}
+use Rattle.std.specs.Prelude.{◌≡◌, ℕ, List, [], ◌∷◌, ◌++◌, filter, not, length, Bool, ◌&&◌, nat_le, nat_lt, Option, Some, None, option_map, option_and_then}
+use Rattle.std.specs.Prelude.{if◌then◌else◌}
 use Rattle.serde_json.specs.Data.{Data, array, Items, no_items, item}
 use Rattle.serde_json.specs.Find.{get, as_str, as_array}
 use Rattle.dl_desk.specs.Key.{Key, key_eq}

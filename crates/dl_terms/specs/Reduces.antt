@@ -7,7 +7,8 @@ use Rattle.dl_desk.specs.declared.outcome.Outcome.{Outcome}
 use Rattle.dl_terms.specs.declared.answer.Answer.{Answer}
 use Rattle.dl_terms.specs.declared.answer.EvalFault.TheVariants as why
 use Rattle.dl_terms.specs.Tree.{Name, Tree, ended, pick, follow, each, all, Trees}
-use Rattle.dl_terms.specs.Gives.{Pairs, outcome_in, answer, answers, waits, all_wait, picked, gathered, Target, target_in, target_answer, target_answers, target_waits, each_target_waits, Targets, targets_in, targets_answer, targets_waits}
+use Rattle.dl_terms.specs.Gives.{Pairs, outcome_in, answer, answers, waits, all_wait, picked, gathered, Target, target_in, target_answer, target_answers}
+use Rattle.dl_terms.specs.Gives.{target_waits, each_target_waits, Targets, targets_in, targets_answer, targets_waits}
 use Rattle.dl_terms.specs.Rounds.{KnowsMore}
 use Rattle.dl_terms.specs.Node.{result_of, results_of}
 

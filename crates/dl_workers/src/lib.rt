@@ -17,11 +17,11 @@
 //!   left in the channel. The end marks dropped on both sides, this is said of the jobs.
 #![tactic(auto)]
 
-mod seating;
 mod ending;
 mod fault;
 mod queue;
 mod rule;
+mod seating;
 mod seats;
 
 pub use ending::{end_job, end_jobs};

@@ -4,9 +4,9 @@ ghost use Rattle.std.specs.Prelude.{◌≡◌, ◌<◌, ◌≤◌};
 ghost use Rattle.crossbeam_channel.specs.Ends.{sends_on, receives_on};
 ghost use Rattle.dl_workers.specs.declared.queue.TheConstants.{MOST_SEATS};
 
-use crate::seating::{deal_senders, deal_takers, widen};
 use crate::fault::QueueFault;
-use crate::rule::{Traffic, Gather, Item, Lossless, Sends, Takes, Whole};
+use crate::rule::{Gather, Item, Lossless, Sends, Takes, Traffic, Whole};
+use crate::seating::{deal_senders, deal_takers, widen};
 use crate::seats::{Sender, Taker};
 use crossbeam_channel::{Pass, RuledReceiver, RuledSender, bounded_with};
 use dl_desk::Job;
@@ -200,7 +200,9 @@ impl JobQueue {
         requires seat { IsSeatAt (sends_on self.now.sends) pass.old }
         requires some_seat { 0 < (view pass.old).seats }
         ensures seat { IsSeatAt (sends_on self.now.sends) pass.new }
-        ensures put { MatchResult result (λ _. view pass.new ≡ traffic (view pass.old).seats (view pass.old).all ((view pass.old).sent ++ item ∷ []) (view pass.old).taken) (λ back. (back ≡ item) × (view pass.new ≡ view pass.old)) }
+        ensures put { MatchResult
+            result (λ _. view pass.new ≡ traffic (view pass.old).seats (view pass.old).all ((view pass.old).sent ++ item ∷ []) (view pass.old).taken)
+            (λ back. (back ≡ item) × (view pass.new ≡ view pass.old)) }
     {
         match self.sends.send_as::<Sends, R>(rt, pass, item) {
             Ok(()) => Ok(()),
@@ -236,7 +238,8 @@ impl JobQueue {
         requires few { length senders.items ≤ MOST_SEATS }
         requires senders { All (IsSenderOf self.now) senders.items }
         ensures seat { IsSeatAt (sends_on self.now.sends) whole.new }
-        ensures gathered { view whole.new ≡ traffic ((view whole.old).seats + length senders.items) (view whole.old).all ((view whole.old).sent ++ flat_map sent_items senders.items) (view whole.old).taken }
+        ensures gathered { view whole.new ≡ traffic ((view whole.old).seats + length senders.items) (view whole.old).all
+            ((view whole.old).sent ++ flat_map sent_items senders.items) (view whole.old).taken }
         ensures counted { result ≡ length (flat_map sent_jobs senders.items) }
         ensures bound { result ≤ MOST_SEATS * 2 ^ 32 }
     {
@@ -255,7 +258,8 @@ impl JobQueue {
         requires few { length takers.items ≤ MOST_SEATS }
         requires takers { All (IsTakerOf self.now) takers.items }
         ensures seat { IsSeatAt (sends_on self.now.sends) whole.new }
-        ensures gathered { view whole.new ≡ traffic ((view whole.old).seats + length takers.items) (view whole.old).all (view whole.old).sent ((view whole.old).taken ++ flat_map taken_items takers.items) }
+        ensures gathered { view whole.new ≡ traffic ((view whole.old).seats + length takers.items) (view whole.old).all (view whole.old).sent
+            ((view whole.old).taken ++ flat_map taken_items takers.items) }
         ensures counted { result ≡ length (flat_map taken_jobs takers.items) }
         ensures bound { result ≤ MOST_SEATS * 2 ^ 32 }
     {

@@ -6,7 +6,7 @@ ghost use Rattle.crossbeam_channel.specs.Ends.{sends_on};
 ghost use Rattle.dl_workers.specs.Lossless.{traffic};
 ghost use Rattle.dl_workers.specs.Seats.{IsNewSender, IsNewTaker};
 
-use crate::rule::{Traffic, Deal, Item, Lossless, Widen};
+use crate::rule::{Deal, Item, Lossless, Traffic, Widen};
 use crate::seats::{Sender, Taker};
 use crossbeam_channel::{Pass, RuledSender};
 use std::alloc::{AllocError, Global};

@@ -4,7 +4,7 @@ ghost use Rattle.std.specs.Prelude.{◌≡◌, [], length};
 ghost use Rattle.crossbeam_channel.specs.Claims.{view};
 ghost use Rattle.dl_workers.specs.Lossless.{traffic, jobs};
 
-use crate::rule::{Traffic, Item};
+use crate::rule::{Item, Traffic};
 use crossbeam_channel::Pass;
 
 /// A sender's seat at one queue. It knows the jobs that it sent, in order.

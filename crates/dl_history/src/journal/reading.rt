@@ -5,10 +5,10 @@ ghost use Rattle.dl_history.specs.Agrees.{Meets};
 ghost use Rattle.dl_history.specs.Journal.{cell_refused};
 ghost use Rattle.dl_history.specs.Lists.{Every};
 
+use crate::cell_state::Mark;
 use crate::entry::{Entry, Read, Told};
 use crate::journal::Journal;
 use crate::name::LoaderName;
-use crate::cell_state::Mark;
 use std::sync::ledger::Share;
 
 impl<L: LoaderName> Journal<L> {

@@ -42,10 +42,12 @@ impl<L: LoaderName> Book<L> {
     ) -> Result<Settled, CallFault>
         requires source { Answers (S.answer (source_of fetched.now)) L.service }
         ensures made { OnOk result (Makes self.old pass.old.part (end_by (job_of fetched.now).batch (answer_of fetched.now)) Done self.new pass.new.part) }
-        ensures accepted { OnOk result (refusal L.service self.old pass.old.part (end_by (job_of fetched.now).batch (answer_of fetched.now)) (Some (job_of fetched.now)) ≡ None) }
+        ensures accepted { OnOk result
+            (refusal L.service self.old pass.old.part (end_by (job_of fetched.now).batch (answer_of fetched.now)) (Some (job_of fetched.now)) ≡ None) }
         ensures refused { IfOk result (λ settled. refusals self.new.cells ≡ refusals self.old.cells + settled.refused) }
         ensures each { IfOk result (λ settled. settled.shown + settled.refused ≡ length (job_of fetched.now).keys) }
-        ensures fault { IfErr result (IsRefusal L.service self.old pass.old.part (end_by (job_of fetched.now).batch (answer_of fetched.now)) (Some (job_of fetched.now))) }
+        ensures fault { IfErr result
+            (IsRefusal L.service self.old pass.old.part (end_by (job_of fetched.now).batch (answer_of fetched.now)) (Some (job_of fetched.now))) }
         ensures unchanged { OnErr result ((self.new ≡ self.old) × (pass.new.part ≡ pass.old.part)) }
     {
         self.admit(rows, pass)?;

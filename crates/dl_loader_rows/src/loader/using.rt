@@ -18,11 +18,13 @@ use std::thread::Threads;
 use std::{slice, thread};
 
 /// Opens a loader, has each of its callers load the key on a thread of its own, and closes it: its history.
-pub(super) fn load_by_each<
-    L: LoaderName + Send + Sync,
-    S: Source + Sync,
-    R: Threads + Wait + Sync,
->(rt: &R, alloc: Global, source: &S, opening: Opening<'_, S>, key: &FetchKey) -> Result<History, Fail>
+pub(super) fn load_by_each<L: LoaderName + Send + Sync, S: Source + Sync, R: Threads + Wait + Sync>(
+    rt: &R,
+    alloc: Global,
+    source: &S,
+    opening: Opening<'_, S>,
+    key: &FetchKey,
+) -> Result<History, Fail>
     requires source { opening.source ≡ source.now }
     requires names { Names S.answer opening L.service L.parts L.log L.outcomes L.name }
 {

@@ -4,4 +4,5 @@ use Rattle.dl_plans.specs.Lines.{line, load_line}
 use Rattle.dl_plans.proofs.lines.push_many.Given as goal
 
 abbrev pub invariant-replies : goal.invariant-replies
-invariant-replies l = string_bytes l.out ≡ string_bytes l.fn.out ++ (line (codes "many " ++ decimal (length l.replies)) ++ flat_map load_line (take l.reply-index l.replies))
+invariant-replies l = string_bytes l.out ≡ string_bytes l.fn.out ++ (line (codes "many " ++ decimal (length l.replies)) ++ flat_map load_line
+    (take l.reply-index l.replies))

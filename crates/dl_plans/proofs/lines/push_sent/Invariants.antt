@@ -4,4 +4,5 @@ use Rattle.dl_plans.specs.Lines.{line, job_line}
 use Rattle.dl_plans.proofs.lines.push_sent.Given as goal
 
 abbrev pub invariant-jobs : goal.invariant-jobs
-invariant-jobs l = string_bytes l.out ≡ string_bytes l.fn.out ++ (line (codes "sent " ++ decimal (length l.jobs)) ++ flat_map job_line (take l.job-index l.jobs))
+invariant-jobs l = string_bytes l.out ≡ string_bytes l.fn.out ++ (line (codes "sent " ++ decimal (length l.jobs)) ++ flat_map job_line
+    (take l.job-index l.jobs))

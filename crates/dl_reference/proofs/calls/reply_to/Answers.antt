@@ -11,5 +11,8 @@ pub returns-in-None-clause-legal : goal.returns-in-None-clause-legal
 returns-in-None-clause-legal c =
     let rules = rules_of c.args.rules.now in
     let call = asked c.args.call.now in
-    let fit : refusal rules (history_of c.args.history.now.items) call ≡ None = ap (λ atoms. refusal rules (history_of atoms) call) (sym c.as_slice.ensures.value) ∙ sym c.in-None.ensures in
-    on_ok_weaker c.accept.result (λ is legal. legal_after rules (history_of c.args.history.now.items) call fit (history_of c.accept.new.history.items) is legal) c.accept.ensures.history
+    let fit : refusal rules (history_of c.args.history.now.items) call ≡ None =
+    ap (λ atoms. refusal rules (history_of atoms) call) (sym c.as_slice.ensures.value) ∙ sym c.in-None.ensures in
+    on_ok_weaker
+    c.accept.result (λ is legal. legal_after rules (history_of c.args.history.now.items) call fit (history_of c.accept.new.history.items) is legal)
+    c.accept.ensures.history

@@ -5,4 +5,10 @@ use Rattle.dl_reference.proofs.counts.is_named.Goals.{in-Some+then-is_in, in-Som
 pub loop-atom-preserved : goal.loop-atom-preserved
 loop-atom-preserved c =
     let e = history_more c.args.history.now c.loop-atom.atom-index c.atom-item.result c.loop-atom-test.true c.atom-item.is in
-    rw e (elim c.match-begins.branch [ in-Some+then-is_in w ↦ rw (← w.in-Some.ensures, ← w.if-is_in.ensures) w.named-is | in-Some+else-is_in w ↦ rw (← w.in-Some.ensures, ← w.if-is_in.ensures) cc | in_default w ↦ let none = none_begins _ _ c.begins.ensures w.in_default.not-Some in rw none cc ])
+    rw e (elim
+    c.match-begins.branch [
+      | in-Some+then-is_in w ↦ rw (← w.in-Some.ensures, ← w.if-is_in.ensures) w.named-is
+      | in-Some+else-is_in w ↦ rw
+          (← w.in-Some.ensures, ← w.if-is_in.ensures) cc
+      | in_default w ↦ let none = none_begins _ _ c.begins.ensures w.in_default.not-Some in rw none cc
+    ])

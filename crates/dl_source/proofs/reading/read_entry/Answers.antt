@@ -8,4 +8,5 @@ pub returns-then-pair-ne2 : goal.returns-then-pair-ne2
 returns-then-pair-ne2 c =
     let in_pair = pair_in (entry_of c.args.kind) in
     let items = c.in_ok-as_array.field-0.now.items in
-    sym (ap (option_and_then in_pair) (sym c.in_ok-as_array.ensures) ∙ no_pair (entry_of c.args.kind) items (λ two. c.if-pair-ne2.true (ap length c.as_slice-pair.ensures.value ∙ two)))
+    sym (ap (option_and_then in_pair) (sym c.in_ok-as_array.ensures) ∙ no_pair (entry_of c.args.kind) items
+    (λ two. c.if-pair-ne2.true (ap length c.as_slice-pair.ensures.value ∙ two)))

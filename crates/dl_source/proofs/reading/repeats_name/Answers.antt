@@ -14,7 +14,8 @@ returns-then-not-branch c =
     let name = c.name.result.now in
     let there : list_any (λ k. bytes_eq name k.now) l.names.keys ≡ true = was_there _ (sym c.if-not-branch.true ∙ c.in_ok-insert.ensures.added) in
     let before : lists c.table-item.result.0 (take l.table-index tables) ≡ true =
-    ap (λ n. lists n (take l.table-index tables)) (sym c.name.ensures) ∙ sym (lists-names name l.names.keys (take l.table-index tables) l.invariant.seen) ∙ there in
+    ap (λ n. lists n (take l.table-index tables)) (sym c.name.ensures) ∙ sym (lists-names name l.names.keys (take l.table-index tables) l.invariant.seen)
+    ∙ there in
     found_again tables l.table-index c.table-item.result c.loop-table-test.true c.table-item.is _ l.invariant.rest before
 
 pub loop-table-preserved : goal.loop-table-preserved
@@ -24,7 +25,8 @@ loop-table-preserved c =
     let name = c.name.result in
     let new : list_any (λ k. bytes_eq name.now k.now) l.names.keys ≡ false = was_new _ (sym c.if-not-branch.false ∙ c.in_ok-insert.ensures.added) in
     let not_before : lists c.table-item.result.0 (take l.table-index tables) ≡ false =
-    ap (λ n. lists n (take l.table-index tables)) (sym c.name.ensures) ∙ sym (lists-names name.now l.names.keys (take l.table-index tables) l.invariant.seen) ∙ new in
+    ap (λ n. lists n (take l.table-index tables)) (sym c.name.ensures) ∙ sym (lists-names name.now l.names.keys (take l.table-index tables) l.invariant.seen)
+    ∙ new in
     record {
       seen = ap (map (λ k. k.now)) (c.in_ok-insert.ensures.keys ∙ ap (λ b. if b then l.names.keys else l.names.keys ++ name ∷ []) new)
           ∙ noted tables l.table-index c.table-item.result c.loop-table-test.true c.table-item.is l.names.keys name l.invariant.seen c.name.ensures;

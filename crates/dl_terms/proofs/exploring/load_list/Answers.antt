@@ -23,12 +23,14 @@ on_ok (Err e) R h = tt
 
 pub returns-then-len-gt-MOST_ITEMS-clause-stands : goal.returns-then-len-gt-MOST_ITEMS-clause-stands
 returns-then-len-gt-MOST_ITEMS-clause-stands c =
-    let is = too_many c.args.table.now (as_array (view c.args.ids.now)) c.in-Some.ids.now.items c.in-Some.ensures (omega (arith, c.len.ensures, c.in-Some.ids.now.ok.0, c.if-len-gt-MOST_ITEMS.true)) in
+    let is = too_many c.args.table.now (as_array (view c.args.ids.now)) c.in-Some.ids.now.items c.in-Some.ensures
+    (omega (arith, c.len.ensures, c.in-Some.ids.now.ok.0, c.if-len-gt-MOST_ITEMS.true)) in
     fault_loads (known_of c.args.known.now) (list_targets c.args.table.now (as_array (view c.args.ids.now))) TooMany _ is (node_view-Done (Fault TooMany))
 
 pub returns-then-len-gt-MOST_ITEMS-clause-wanted : goal.returns-then-len-gt-MOST_ITEMS-clause-wanted
 returns-then-len-gt-MOST_ITEMS-clause-wanted c =
-    let is = too_many c.args.table.now (as_array (view c.args.ids.now)) c.in-Some.ids.now.items c.in-Some.ensures (omega (arith, c.len.ensures, c.in-Some.ids.now.ok.0, c.if-len-gt-MOST_ITEMS.true)) in
+    let is = too_many c.args.table.now (as_array (view c.args.ids.now)) c.in-Some.ids.now.items c.in-Some.ensures
+    (omega (arith, c.len.ensures, c.in-Some.ids.now.ok.0, c.if-len-gt-MOST_ITEMS.true)) in
     ap (λ x. insert_all key_eq c.args.wanted.now.keys (targets_waits (known_of c.args.known.now) x)) (sym is)
 
 pub returns-in_ok-nodes-in-Some-clause-stands : goal.returns-in_ok-nodes-in-Some-clause-stands
@@ -37,12 +39,15 @@ returns-in_ok-nodes-in-Some-clause-stands c =
     let table = c.args.table.now in
     let ids = c.in-Some.ids.now.items in
     let is : list_targets table (as_array (view c.args.ids.now)) ≡ Targets.keys (item_targets table (items_view ids)) =
-    not_many table (as_array (view c.args.ids.now)) ids c.in-Some.ensures (omega (arith, c.len.ensures, c.in-Some.ids.now.ok.0, c.if-len-gt-MOST_ITEMS.false)) in
+    not_many table (as_array (view c.args.ids.now)) ids c.in-Some.ensures (omega (arith, c.len.ensures, c.in-Some.ids.now.ok.0, c.if-len-gt-MOST_ITEMS.false))
+    in
     let nodes = nodes_view c.in_ok-nodes-in-Some.nodes.items in
-    let stand : LoadsEach p (item_targets table (items_view ids)) nodes = subst (λ vs. LoadsEach p (item_targets table (items_view vs)) nodes) c.as_slice.ensures.value c.in_ok-nodes-in-Some.ensures.stand in
+    let stand : LoadsEach p (item_targets table (items_view ids)) nodes =
+    subst (λ vs. LoadsEach p (item_targets table (items_view vs)) nodes) c.as_slice.ensures.value c.in_ok-nodes-in-Some.ensures.stand in
     subst (λ x. IfOk c.gather.result (λ n. LoadsTargets p x (node_view n))) (sym is)
     (if_ok c.gather.result (λ n. GathersOn nodes (node_view n)) (λ n. LoadsTargets p (Targets.keys (item_targets table (items_view ids))) (node_view n))
-    (λ n on. gathers_on p (λ q. target_answers q (item_targets table (items_view ids))) (λ q. each_target_waits q (item_targets table (items_view ids))) nodes (node_view n) stand on) c.gather.ensures)
+    (λ n on. gathers_on p (λ q. target_answers q (item_targets table (items_view ids))) (λ q. each_target_waits q (item_targets table (items_view ids))) nodes
+    (node_view n) stand on) c.gather.ensures)
 
 pub returns-in_ok-nodes-in-Some-clause-wanted : goal.returns-in_ok-nodes-in-Some-clause-wanted
 returns-in_ok-nodes-in-Some-clause-wanted c =
@@ -50,7 +55,8 @@ returns-in_ok-nodes-in-Some-clause-wanted c =
     let table = c.args.table.now in
     let ids = c.in-Some.ids.now.items in
     let is : list_targets table (as_array (view c.args.ids.now)) ≡ Targets.keys (item_targets table (items_view ids)) =
-    not_many table (as_array (view c.args.ids.now)) ids c.in-Some.ensures (omega (arith, c.len.ensures, c.in-Some.ids.now.ok.0, c.if-len-gt-MOST_ITEMS.false)) in
+    not_many table (as_array (view c.args.ids.now)) ids c.in-Some.ensures (omega (arith, c.len.ensures, c.in-Some.ids.now.ok.0, c.if-len-gt-MOST_ITEMS.false))
+    in
     on_ok c.gather.result _
     (c.in_ok-nodes-in-Some.ensures.wanted
     ∙ (ap (λ vs. insert_all key_eq c.args.wanted.now.keys (each_target_waits p (item_targets table (items_view vs)))) c.as_slice.ensures.value

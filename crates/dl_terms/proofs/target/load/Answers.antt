@@ -13,7 +13,8 @@ use Rattle.dl_terms.proofs.target.load.Goals as goal
 pub returns-in_ok-loaded-in-Some-clause-stands : goal.returns-in_ok-loaded-in-Some-clause-stands
 returns-in_ok-loaded-in-Some-clause-stands c =
     let known = known_found c.args.known.now.entries c.args.key ∙ ap (option_map (λ o. o.now)) (sym c.in-Some.ensures.value) in
-    load_known (known_of c.args.known.now) c.args.key c.in-Some.outcome.now.now known _ (node_view-Done c.in_ok-loaded-in-Some.field-0 ∙ ap ended c.in_ok-loaded-in-Some.ensures)
+    load_known (known_of c.args.known.now) c.args.key c.in-Some.outcome.now.now known _
+    (node_view-Done c.in_ok-loaded-in-Some.field-0 ∙ ap ended c.in_ok-loaded-in-Some.ensures)
 
 pub returns-in_ok-loaded-in-Some-clause-wanted : goal.returns-in_ok-loaded-in-Some-clause-wanted
 returns-in_ok-loaded-in-Some-clause-wanted c =

@@ -15,9 +15,11 @@ loop-id-preserved c =
     let ids = c.args.ids.now in
     let i = c.loop-id.id-index in
     record {
-      stand = zip_next ids i c.id-item.result c.loop-id-test.true c.id-item.is (λ v n. LoadsTarget p (value_target table (view v)) (node_view n)) c.loop-id.nodes.items c.push.new.self.items c.in_ok-load_id.field-0
+      stand = zip_next ids i c.id-item.result c.loop-id-test.true c.id-item.is (λ v n. LoadsTarget p (value_target table (view v)) (node_view n))
+          c.loop-id.nodes.items c.push.new.self.items c.in_ok-load_id.field-0
           c.in_ok-push.ensures.items c.loop-id.invariant.stand c.in_ok-load_id.ensures.stands;
-      wanted = wanted_next ids i c.id-item.result c.loop-id-test.true c.id-item.is (λ v. target_waits p (value_target table (view v))) (λ vs. each_target_waits p (item_targets table (items_view vs))) (λ rest. refl)
+      wanted = wanted_next ids i c.id-item.result c.loop-id-test.true c.id-item.is (λ v. target_waits p (value_target table (view v)))
+          (λ vs. each_target_waits p (item_targets table (items_view vs))) (λ rest. refl)
           c.loop-id.wanted.keys c.load_id.new.wanted.keys _ c.loop-id.invariant.wanted c.in_ok-load_id.ensures.wanted;
     }
 
@@ -27,4 +29,5 @@ returns-clause-stand c =
     let table = c.args.table.now in
     let ids = c.args.ids.now in
     ids_load p table ids c.loop-id.nodes.items
-    (subst (λ vs. AllZip (λ v n. LoadsTarget p (value_target table (view v)) (node_view n)) vs c.loop-id.nodes.items) (take_all c.loop-id.id-index ids c.loop-id-test.false) c.loop-id.invariant.stand)
+    (subst (λ vs. AllZip (λ v n. LoadsTarget p (value_target table (view v)) (node_view n)) vs c.loop-id.nodes.items)
+    (take_all c.loop-id.id-index ids c.loop-id-test.false) c.loop-id.invariant.stand)

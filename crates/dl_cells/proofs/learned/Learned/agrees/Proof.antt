@@ -34,13 +34,25 @@ pub agrees_spec : {M : Type 1} → statement M
 agrees_spec 𝓤 𝓛 𝓜 𝓡 wired T L =
     let H = 𝓛.H in let 𝓣 = tables 𝓤 H 𝓜 𝓡 𝓡.env in let R : RattleType = param 0 T in let En = ended T in let c = clauses T 𝓛 𝓜.mem 𝓡.returns in
     let inst = layouts (a_type ∷ []) (T, tt) in let fn = inst_fn inst code.function in
-    let hs : Stays En.signature.params En.kept = (stay_dropped (RefOf (0 ∷ []) tt (plain (λ _. Learned 𝓛 R)) (λ _. tt)) yes, (stay_dropped (RefOf (1 ∷ []) tt (plain (λ _. Learned 𝓛 R)) (λ _. tt)) yes, tt)) in
-    proved_at 𝓛 En hs c 𝓜 𝓡 (Goes-dropped 𝓛 3 (RefOf (0 ∷ []) tt (plain (λ _. Learned 𝓛 R)) (λ _. tt)) yes (λ κs x f. refl), (Goes-dropped 𝓛 3 (RefOf (1 ∷ []) tt (plain (λ _. Learned 𝓛 R)) (λ _. tt)) yes (λ κs x f. refl), tt))
+    let hs : Stays
+    En.signature.params
+    En.kept = (
+      stay_dropped (RefOf (0 ∷ []) tt (plain (λ _. Learned 𝓛 R)) (λ _. tt)) yes,
+      (stay_dropped (RefOf (1 ∷ []) tt (plain (λ _. Learned 𝓛 R)) (λ _. tt)) yes, tt),
+    ) in
+    proved_at
+    𝓛 En hs c
+    𝓜 𝓡 (
+      Goes-dropped 𝓛 3 (RefOf (0 ∷ []) tt (plain (λ _. Learned 𝓛 R)) (λ _. tt)) yes (λ κs x f. refl),
+      (Goes-dropped 𝓛 3 (RefOf (1 ∷ []) tt (plain (λ _. Learned 𝓛 R)) (λ _. tt)) yes (λ κs x f. refl), tt),
+    )
     (#self inst) fn (code.unfolded 𝓤 H 𝓜 𝓡 wired (T, tt)) (λ z are.
-    let κs = z.0.0 in let qs = z.0.1 in let Post : Val → SProp 𝓤 = (walk_of 𝓛 En hs c).post z in let Run : List Val → SProp 𝓤 = λ ws. WpFn 𝓤 H 𝓣.C 𝓣.Λ fn ws Post in
+    let κs = z.0.0 in let qs = z.0.1 in let Post : Val → SProp 𝓤 = (walk_of 𝓛 En hs c).post z in let Run : List Val
+    → SProp 𝓤 = λ ws. WpFn 𝓤 H 𝓣.C 𝓣.Λ fn ws Post in
     let p = z.0.3.0 in let q = z.0.3.1.0 in let s = p.now in let t = q.now in let γ : ℕ = s.cell in let So : Type 0 = IfSome t.known (Agrees s.known) in
     let Vs : List Val = vptr p.ref_ptr.0 p.ref_ptr.1 ∷ vptr q.ref_ptr.0 q.ref_ptr.1 ∷ [] in
-    qed 𝓛 ((raw (alive 𝓛 En.signature κs qs) ⊛ ‵ (owns (types_at En.signature.params κs) z.0.3 z.0.4)) ∷ raw (fact 𝓤 (κs.1.1.0 ⊑ T.lives)) ∷ raw (fact 𝓤 (t.cell ≡ γ)) ∷ []) ∵
+    qed 𝓛 ((raw (alive 𝓛 En.signature κs qs) ⊛ ‵ (owns (types_at En.signature.params κs) z.0.3 z.0.4)) ∷ raw (fact 𝓤 (κs.1.1.0 ⊑ T.lives)) ∷ raw
+    (fact 𝓤 (t.cell ≡ γ)) ∷ []) ∵
     move ! (2 ∷ []) $ heard ! (t.cell ≡ γ) (λ same. split ! $ move ! (1 ∷ []) $ fsplit3 ! $ fsplit ! $ move ! (2 ∷ []) $ fsplit ! $ keep ! (3 ∷ 1 ∷ 5 ∷ []) $
     -- [what the other knows; what self knows; the tokens]
     unhide ! $ fsplit ! $ drop ! $ move ! (1 ∷ []) $ unhide ! $ fsplit ! $ drop ! $ rewrite ! 0 (λ (j : ℕ). ‵ (noted R j t.known)) same refl $

@@ -31,6 +31,7 @@ pub returns : goal.returns
 returns c =
     let there = looked_up c.deref.result.now c.args.at c.in_ok-reader.reader.now c.in_ok-reader.ensures.lookup.0 c.in_ok-reader.ensures.lookup.1 in
     let own : slice_get c.self.inside.readers.items c.args.at ≡ Some c.again.result = rw (← c.deref.ensures.value, c.again.ensures) there in
-    let seen = event_seen (λ (e : Bor Event). e.now) c.self.inside.log c.self.inside.readers.items c.args.at c.again.result c.look.result c.look.new.reader.known
+    let seen =
+    event_seen (λ (e : Bor Event). e.now) c.self.inside.log c.self.inside.readers.items c.args.at c.again.result c.look.result c.look.new.reader.known
     c.self.invariant own c.look.ensures.shown c.look.ensures.empty in
     subst (λ (es : List Event). option_copied c.look.result ≡ slice_get es c.args.at) c.self.view_is seen

@@ -12,7 +12,8 @@ invariant_of-self-2 g c =
     let inside = c.self.inside in
     let sent : (h : List Atom) → StandsFor inside.desk.book h → c.in_ok-copy_of.field-0 ≡ jobs h =
     λ h stands. c.in_ok-copy_of.ensures ∙ (c.as_slice.ensures.value ∙ c.in_ok-jobs.ensures.reply h stands) in
-    let stands = subst (λ (b : BatchBook). StandsFor b (after inside.desk.book.rules (atoms (log inside.journal.history)) Sends)) (sym c.make_prepared.ensures.book)
+    let stands = subst (λ (b : BatchBook). StandsFor b (after inside.desk.book.rules (atoms (log inside.journal.history)) Sends))
+    (sym c.make_prepared.ensures.book)
     (c.in_ok-jobs.ensures.stands (atoms (log inside.journal.history)) c.self.invariant.desk) in
     let rules = c.make_prepared.ensures.rules ∙ ap (λ (b : BatchBook). b.rules) c.prepare_dispatch.ensures.book in
     dispatch_kept g.L.LoaderName.service c.args.self.now c.args.pass.now.part inside.journal.history c.make_event.new.journal.history c.in_ok-copy_of.field-0

@@ -27,7 +27,13 @@ join-one-requires-send-F g c κs within =
     let n = g.L.LoaderName in
     let l = g.L.Ledger in
     let Ts = ShrRef _ _ (param 1 g.row.R) ∷ Heap.the_row ∷ ShrRef _ _ (Loader.the_row L n l) ∷ Pass.the_row L n l ∷ ShrRef _ _ FetchKey.the_row ∷ [] in
-    param_send 1 _ (arg_send _ yes (TupleAt _ Ts) (captures_send _ Ts (shr_send _ _ _ c.type_bounds.sync-R, (send, (shr_send _ _ _ (Loader-sync L n l), (pass.the_send L n l, (shr_send _ _ _ key.the_sync, tt)))))))
+    param_send
+    1 _ (arg_send
+    _ yes
+    (TupleAt
+    _ Ts)
+    (captures_send
+    _ Ts (shr_send _ _ _ c.type_bounds.sync-R, (send, (shr_send _ _ _ (Loader-sync L n l), (pass.the_send L n l, (shr_send _ _ _ key.the_sync, tt)))))))
 
 -- and so may what it gives back
 pub join-one-requires-send-A : goal.join-one-requires-send-A

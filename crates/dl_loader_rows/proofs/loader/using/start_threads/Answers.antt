@@ -18,5 +18,17 @@ pub for_each_mut-requires-sync-F : goal.for_each_mut-requires-sync-F
 for_each_mut-requires-sync-F g c κs within =
     let L = param 0 g.row.L in
     let loader = Loader-sync L g.L.LoaderName g.L.Ledger in
-    let Ts = ShrRef _ _ (param 2 g.row.R) ∷ ShrRef _ _ Heap.the_row ∷ ShrRef _ _ (param 1 g.row.S) ∷ ShrRef _ _ (Loader.the_row L g.L.LoaderName g.L.Ledger) ∷ ShrRef _ _ FetchKey.the_row ∷ [] in
-    param_sync 2 _ (arg_sync _ yes (TupleAt _ Ts) (captures_sync _ Ts (shr_sync _ _ _ c.type_bounds.sync-R, (shr_sync _ _ _ sync, (shr_sync _ _ _ c.type_bounds.sync-S, (shr_sync _ _ _ loader, (shr_sync _ _ _ key.the_sync, tt)))))))
+    let Ts = ShrRef _ _ (param 2 g.row.R) ∷ ShrRef _ _ Heap.the_row ∷ ShrRef _ _ (param 1 g.row.S) ∷ ShrRef _ _
+    (Loader.the_row L g.L.LoaderName g.L.Ledger) ∷ ShrRef _ _ FetchKey.the_row ∷ [] in
+    param_sync
+    2 _ (arg_sync
+    _ yes
+    (TupleAt
+    _ Ts)
+    (captures_sync
+    _ Ts (
+      shr_sync
+          _ _ _
+          c.type_bounds.sync-R,
+      (shr_sync _ _ _ sync, (shr_sync _ _ _ c.type_bounds.sync-S, (shr_sync _ _ _ loader, (shr_sync _ _ _ key.the_sync, tt)))),
+    )))

@@ -14,7 +14,8 @@ returns-in_err-listed-clause-err c =
 
 pub returns-in-Some-clause-err : goal.returns-in-Some-clause-err
 returns-in-Some-clause-err c =
-    content_refused (view c.args.value.now) c.in_ok-listed.listed.items c.in_ok-listed.ensures c.in-Some.fault (ap content_fault (sym c.deref.ensures.value) ∙ sym c.in-Some.ensures)
+    content_refused (view c.args.value.now) c.in_ok-listed.listed.items c.in_ok-listed.ensures c.in-Some.fault
+    (ap content_fault (sym c.deref.ensures.value) ∙ sym c.in-Some.ensures)
 
 pub returns-then-branch-clause-err : goal.returns-then-branch-clause-err
 returns-then-branch-clause-err c =

@@ -6,6 +6,7 @@ use Rattle.dl_terms.proofs.term.Term.+height.Given as goal
 
 abbrev pub invariant-loop-part : goal.invariant-loop-part
 invariant-loop-part l = record {
-  greatest : min (max l.most (height_of_all (terms_view (drop l.part-index l.part-items)))) (2 ^ 32 - 1) ≡ min (height_of_all (terms_view l.part-items)) (2 ^ 32 - 1);
+  greatest : min (max l.most (height_of_all (terms_view (drop l.part-index l.part-items)))) (2 ^ 32 - 1) ≡ min (height_of_all (terms_view l.part-items))
+      (2 ^ 32 - 1);
   counted : l.most ≤ 2 ^ 32 - 1;
 }
