@@ -11,4 +11,6 @@ pub mod Marks
 pub mod Ready
 pub mod Events
 pub mod Laws
-pub mod Json
+
+-- words of private functions, and of what values are made of
+pub mod Inside

@@ -19,7 +19,7 @@ pub struct Json {
 
 impl Model for Json {
     ghost use Rattle.serde_json.specs.Data.{Data};
-    ghost use Rattle.dl_desk.specs.Json.{data_code};
+    ghost use Rattle.dl_desk.specs.Inside.Json.{data_code};
 
     ghost Value = { Data };
 

@@ -33,7 +33,7 @@ impl<L: LoaderName> Model for Told<L> {
     ghost use Rattle.std.specs.Prelude.{◌≡◌, ◌<◌, Some};
     ghost use Rattle.dl_cells.specs.Cells.{cell_of, row_len};
     ghost use Rattle.dl_history.specs.Entries.{Told, told, event_known};
-    ghost use Rattle.dl_history.specs.Codes.{told_code};
+    ghost use Rattle.dl_history.specs.Inside.Codes.{told_code};
 
     ghost Value = { Told };
 
@@ -108,7 +108,7 @@ impl<L: LoaderName> Model for Read<L> {
     ghost use Rattle.std.specs.Prelude.{◌≡◌, ◌<◌, Some};
     ghost use Rattle.dl_cells.specs.Cells.{cell_of, row_len};
     ghost use Rattle.dl_history.specs.Entries.{Read, read, ending_known};
-    ghost use Rattle.dl_history.specs.Codes.{read_code};
+    ghost use Rattle.dl_history.specs.Inside.Codes.{read_code};
 
     ghost Value = { Read };
 
@@ -176,13 +176,13 @@ enum Kind<L: LoaderName> {
 
 impl<L: LoaderName> Model for Entry<L> {
     ghost use Rattle.dl_history.specs.Entries.{Line};
-    ghost use Rattle.dl_history.specs.Codes.{line_code};
+    ghost use Rattle.dl_history.specs.Inside.Codes.{line_code};
 
     ghost Value = { Line };
 
     ghost coded = { line_code };
 
-    ghost use Rattle.dl_history.specs.Lines.{line_of};
+    ghost use Rattle.dl_history.specs.Inside.Lines.{line_of};
 
     ghost view = { λ e. line_of e.kind };
 }

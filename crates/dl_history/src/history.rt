@@ -40,7 +40,7 @@ pub struct History {
 impl Model for History {
     ghost use Rattle.std.specs.Coded.{codes};
     ghost use Rattle.dl_history.specs.contracts.event.Event as event;
-    ghost use Rattle.dl_history.specs.Codes.{account_code};
+    ghost use Rattle.dl_history.specs.Inside.Codes.{account_code};
     ghost use Rattle.dl_history.specs.Closed.{Closed, IsHistory, accounts_at, closed};
     ghost use Rattle.dl_history.specs.Kept.{kept};
     ghost use Rattle.dl_history.specs.Service.{Service};

@@ -22,7 +22,7 @@ pub struct Rows<L: LoaderName> {
 
 impl<L: LoaderName> Model for Rows<L> {
     ghost use Rattle.dl_desk.specs.Limits.{Limits};
-    ghost use Rattle.dl_history.specs.Rows.{AreRows};
+    ghost use Rattle.dl_history.specs.Inside.Rows.{AreRows};
 
     ghost Value = { Limits };
 

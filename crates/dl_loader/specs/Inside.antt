@@ -2,3 +2,4 @@
 pub mod Begun
 pub mod Dues
 pub mod EndedUpTo
+pub mod Codes

@@ -2,14 +2,12 @@ pub use Rattle.dl_history.specs.Service
 pub use Rattle.dl_history.specs.History
 pub use Rattle.dl_history.specs.Lists
 pub use Rattle.dl_history.specs.Entries
-pub use Rattle.dl_history.specs.Lines
 pub use Rattle.dl_history.specs.Agrees
 pub use Rattle.dl_history.specs.Journal
 pub use Rattle.dl_history.specs.Kept
 pub use Rattle.dl_history.specs.Closed
 pub mod Pass
 pub mod Opening
-pub mod Codes
 pub mod Book
 pub mod Asks
 pub mod Refusals

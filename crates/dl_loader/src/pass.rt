@@ -44,7 +44,7 @@ pub struct Pass<L: LoaderName> {
 impl<L: LoaderName> Model for Pass<L> {
     ghost use Rattle.std.specs.Prelude.{vec_capacity};
     ghost use Rattle.dl_loader.specs.Pass.{Pass, IsPass, viewed};
-    ghost use Rattle.dl_loader.specs.Codes.{pass_code};
+    ghost use Rattle.dl_loader.specs.Inside.Codes.{pass_code};
 
     ghost Value = { Pass };
 

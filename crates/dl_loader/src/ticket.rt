@@ -26,7 +26,7 @@ impl<'a, L: LoaderName> Model for Ticket<'a, L> {
     ghost use Rattle.dl_cells.specs.Cells.{cell_of, row_len};
     ghost use Rattle.dl_history.specs.Entries.{cell_of_load};
     ghost use Rattle.dl_loader.specs.Pass.{Hold, hold};
-    ghost use Rattle.dl_loader.specs.Codes.{hold_code};
+    ghost use Rattle.dl_loader.specs.Inside.Codes.{hold_code};
 
     ghost Value = { Hold };
 

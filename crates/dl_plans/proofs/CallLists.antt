@@ -9,7 +9,7 @@ use Rattle.serde_json.specs.View.{view, items_view}
 use Rattle.serde_json.specs.declared.value.Value.{Value}
 use Rattle.dl_plans.proofs.CallLaws.{call_is, call_again}
 use Rattle.dl_plans.specs.Faults.{IsNoCall}
-use Rattle.dl_plans.specs.Read.{IsFirstBad}
+use Rattle.dl_plans.specs.Inside.Read.{IsFirstBad}
 use Rattle.dl_plans.specs.Reading.{call_in}
 use Rattle.dl_plans.specs.Script.{call_tree, IsCall}
 use Rattle.dl_plans.specs.declared.fault.PlanFault.TheVariants.{BadCall}

@@ -9,7 +9,7 @@ use Rattle.dl_plans.specs.Document.{IsTextOf, IsScript, SpellsScript, GivesLimit
 use Rattle.dl_plans.specs.Faults.{limit_name, IsBadTop, HasStrange, LacksCalls, HasNoNumber, IsBadAt, IsBadCall, IsBadLimit, Causes, CausesIn, Applies}
 use Rattle.dl_plans.specs.Faults.{IsBefore, IsLeast, number, place}
 use Rattle.dl_plans.specs.Numbers.{AreGiven, IsInside, IsFirstOutside}
-use Rattle.dl_plans.specs.Read.{HasTop, AreCalls, IsFirstBad}
+use Rattle.dl_plans.specs.Inside.Read.{HasTop, AreCalls, IsFirstBad}
 use Rattle.dl_plans.specs.Script.{IsCall, calls_tree}
 use Rattle.dl_plans.specs.declared.document.TheConstants.{MOST_BYTES}
 use Rattle.dl_plans.specs.declared.fault.PlanFault.{PlanFault}

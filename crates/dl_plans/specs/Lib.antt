@@ -7,4 +7,6 @@ pub mod Output
 pub mod Options
 pub mod Run
 pub mod Reading
-pub mod Read
+
+-- words of private functions, and of what values are made of
+pub mod Inside

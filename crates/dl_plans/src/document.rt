@@ -7,7 +7,7 @@ ghost use Rattle.serde_json.specs.Data.{Data};
 ghost use Rattle.serde_json.specs.View.{view, items_view};
 ghost use Rattle.dl_plans.specs.Document.{IsTextOf, IsScript, Spells, SpellsScript, has_only_known, is_known};
 ghost use Rattle.dl_plans.specs.Faults.{Applies, Causes, IsLeast, IsBadTop};
-ghost use Rattle.dl_plans.specs.Read.{HasTop, AreCalls, IsFirstBad};
+ghost use Rattle.dl_plans.specs.Inside.Read.{HasTop, AreCalls, IsFirstBad};
 
 use crate::call;
 use crate::fault::PlanFault;

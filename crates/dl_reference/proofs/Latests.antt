@@ -6,7 +6,7 @@ use Rattle.dl_desk.specs.History as desk
 use Rattle.dl_reference.specs.declared.atom.Atom.{Atom}
 use Rattle.dl_reference.specs.declared.memo.Latest.{Latest}
 use Rattle.dl_reference.specs.History.{told, history_of}
-use Rattle.dl_reference.specs.Latest.{latest_of}
+use Rattle.dl_reference.specs.Inside.Latest.{latest_of}
 use Rattle.dl_reference.proofs.Told.{history_of-push}
 
 rest_more : (atoms : List Atom) (i n : ℕ) (a : Atom) → i < length atoms → a ≡ get_or atoms i a → n ≤ i

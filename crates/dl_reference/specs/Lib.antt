@@ -1,5 +1,7 @@
 pub mod History
 pub mod Begun
-pub mod Latest
 pub mod Rules
 pub mod Said
+
+-- words of private functions, and of what values are made of
+pub mod Inside

@@ -4,7 +4,7 @@ ghost use Rattle.std.specs.Prelude.{◌≡◌, ◌<◌, length, option_map, IfSo
 ghost use Rattle.std.specs.List.{list_any};
 ghost use Rattle.dl_desk.specs.History as desk;
 ghost use Rattle.dl_reference.specs.History.{history_of};
-ghost use Rattle.dl_reference.specs.Latest.{latest_of};
+ghost use Rattle.dl_reference.specs.Inside.Latest.{latest_of};
 
 use crate::atom::Atom;
 use dl_desk::FetchKey;

@@ -7,7 +7,7 @@ use Rattle.serde_json.specs.View.{items_view, members_view}
 use Rattle.serde_json.specs.declared.value.Value.{Value}
 use Rattle.dl_source.specs.declared.tables.Entry.{Entry}
 use Rattle.dl_source.specs.Spelling.{names_all}
-use Rattle.dl_source.specs.Reading.{pair_in}
+use Rattle.dl_source.specs.Inside.Reading.{pair_in}
 
 -- a test of the names sees the keys of the map
 pub names_all-members_view : (test : List ℕ → Bool) (es : List (String Global × Value))

@@ -7,7 +7,7 @@ use Rattle.dl_source.specs.declared.fault.TableFault.TheVariants.{Shape, BadKey,
 use Rattle.dl_source.specs.Listing.{NamedTables}
 use Rattle.dl_source.specs.Spelling.{Spells}
 use Rattle.dl_source.specs.Faults.{has_bad_key, has_long_text, has_other_number, repeats, has_repeated_key, Has, Causes, number, IsLeast, RefusedFor}
-use Rattle.dl_source.specs.Reading.{tables_in, Reads, content_fault}
+use Rattle.dl_source.specs.Inside.Reading.{tables_in, Reads, content_fault}
 use Rattle.dl_source.proofs.Spelled.{tables_reader, same_some}
 
 -- a tree that is read as no tables spells none

@@ -7,7 +7,7 @@ use Rattle.dl_source.specs.declared.tables.Entry.{Entry}
 use Rattle.dl_source.specs.Listing.{Listing}
 use Rattle.dl_source.specs.Spelling.{SpellsEach, SpellsList, SpellsMember, SpellsOptional, SpellsEntry, SpellsTable, Spells, row_of, error_of, break_text_of}
 use Rattle.dl_source.specs.Spelling.{is_table_member, has_only}
-use Rattle.dl_source.specs.Reading.{each_in, list_in, member_in, optional_in, pair_in, entry_in, entries_in, table_in, tables_in}
+use Rattle.dl_source.specs.Inside.Reading.{each_in, list_in, member_in, optional_in, pair_in, entry_in, entries_in, table_in, tables_in}
 
 -- ---- steps that may find nothing
 

@@ -4,6 +4,7 @@ pub mod Answer
 pub mod AnswerFits
 pub mod Spelling
 pub mod Faults
-pub mod Reading
-pub mod Listed
 pub mod Fetched
+
+-- words of private functions, and of what values are made of
+pub mod Inside

@@ -3,7 +3,7 @@
 ghost use Rattle.std.specs.Prelude.{◌≡◌, false, option_map, IfOk};
 ghost use Rattle.std.specs.List.{list_any};
 ghost use Rattle.serde_json.specs.View.{view};
-ghost use Rattle.dl_source.specs.Listed.{spelled, entry_of};
+ghost use Rattle.dl_source.specs.Inside.Listed.{spelled, entry_of};
 ghost use Rattle.dl_source.specs.Faults.{is_sized, has_bad_id, is_long, is_not_whole, has_bad_name};
 
 use crate::reading::TEXT_BYTES;
@@ -84,7 +84,7 @@ impl<'a> Model for ListedEntry<'a> {
     ghost use Rattle.std.specs.Prelude.{List, ℕ};
     ghost use Rattle.dl_source.specs.declared.tables.Entry.{Entry};
     ghost use Rattle.dl_source.specs.Listing.{entry_code};
-    ghost use Rattle.dl_source.specs.Listed.{spelled};
+    ghost use Rattle.dl_source.specs.Inside.Listed.{spelled};
 
     ghost Value = { List ℕ × Entry };
 

@@ -6,10 +6,10 @@ ghost use Rattle.std.specs.List.{list_all};
 ghost use Rattle.std.specs.BTreeMap.{keys};
 ghost use Rattle.serde_json.specs.View.{view};
 ghost use Rattle.dl_source.specs.declared.fault.TableFault.TheVariants.{OutOfMemory};
-ghost use Rattle.dl_source.specs.Listed.{entry_of};
+ghost use Rattle.dl_source.specs.Inside.Listed.{entry_of};
 ghost use Rattle.dl_source.specs.Spelling.{is_table_member, has_only};
 ghost use Rattle.dl_source.specs.Faults.{has_bad_key, has_long_text, has_other_number, repeats};
-ghost use Rattle.dl_source.specs.Reading.{Reads, after, entry_in, list_in, optional_in, entries_in, table_in, tables_in, content_fault};
+ghost use Rattle.dl_source.specs.Inside.Reading.{Reads, after, entry_in, list_in, optional_in, entries_in, table_in, tables_in, content_fault};
 
 use crate::fault::TableFault;
 use crate::listed::{Kind, ListedEntry, ListedTable};

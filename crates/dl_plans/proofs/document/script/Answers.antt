@@ -2,7 +2,7 @@ use Rattle.std.proofs.Common.{rules, ◌≡◌, Err, inl, inr}
 use Rattle.serde_json.specs.View.{view, items_view}
 use Rattle.dl_plans.specs.Document.{IsScript}
 use Rattle.dl_plans.specs.Numbers.{IsFirstOutside}
-use Rattle.dl_plans.specs.Read.{HasTop}
+use Rattle.dl_plans.specs.Inside.Read.{HasTop}
 use Rattle.dl_plans.proofs.Verdicts.{least_call, least_limit}
 use Rattle.dl_plans.proofs.document.script.Goals as goal
 

@@ -1,7 +1,7 @@
 use Rattle.std.proofs.Common.{◌≡◌, ◌<◌, take, option_map, IfSome}
 use Rattle.dl_desk.specs.History as desk
 use Rattle.dl_reference.specs.History.{history_of}
-use Rattle.dl_reference.specs.Latest.{latest_of}
+use Rattle.dl_reference.specs.Inside.Latest.{latest_of}
 use Rattle.dl_reference.proofs.memo.find_latest.Given as goal
 
 abbrev pub invariant-loop-place : goal.invariant-loop-place

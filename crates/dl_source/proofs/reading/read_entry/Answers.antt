@@ -1,6 +1,6 @@
 use Rattle.std.proofs.Common.{ap, sym, ◌∙◌, length, option_and_then}
-use Rattle.dl_source.specs.Listed.{entry_of}
-use Rattle.dl_source.specs.Reading.{pair_in}
+use Rattle.dl_source.specs.Inside.Listed.{entry_of}
+use Rattle.dl_source.specs.Inside.Reading.{pair_in}
 use Rattle.dl_source.proofs.Members.{no_pair}
 use Rattle.dl_source.proofs.reading.read_entry.Goals as goal
 

@@ -3,7 +3,7 @@ use Rattle.std.proofs.lemmas.Result.{err_from_is_err_and, MatchResult-weaker}
 use Rattle.serde_json.specs.View.{view}
 use Rattle.dl_source.specs.Spelling.{Spells}
 use Rattle.dl_source.specs.Faults.{repeats, has_repeated_key}
-use Rattle.dl_source.specs.Reading.{content_fault}
+use Rattle.dl_source.specs.Inside.Reading.{content_fault}
 use Rattle.dl_source.proofs.Refusals.{spelled, unread, content_refused, name_refused, copy_refused, accepted}
 use Rattle.dl_source.proofs.tables.Tables.from_value.Goals as goal
 

@@ -8,7 +8,7 @@ use Rattle.dl_workers.specs.Balance.{Balances}
 use Rattle.dl_workers.proofs.Steps.{learns}
 use Rattle.dl_workers.proofs.Finish.{finishes, balance_of_counts}
 use Rattle.dl_workers.specs.declared.rule.Item.{Item}
-use Rattle.dl_workers.proofs.queue.JobQueue.finish.GivenTicket.{Over}
+use Rattle.dl_workers.proofs.queue.JobQueue.finish.Given.{Over}
 use Rattle.dl_workers.proofs.queue.JobQueue.finish.Goals.{After-learn_as}
 use Rattle.dl_workers.proofs.queue.JobQueue.finish.Goals as goal
 

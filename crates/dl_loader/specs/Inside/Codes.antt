@@ -6,7 +6,7 @@ use Rattle.dl_desk.specs.contracts.reply.LoadReply as reply
 use Rattle.dl_history.specs.declared.event.Ending.{Ending}
 use Rattle.dl_history.specs.contracts.event.Ending as ending
 use Rattle.dl_history.specs.Entries.{Line}
-use Rattle.dl_history.specs.Codes.{line_code}
+use Rattle.dl_history.specs.Inside.Codes.{line_code}
 use Rattle.dl_loader.specs.declared.pass.GivenTicket.{GivenTicket}
 use Rattle.dl_loader.specs.contracts.pass.GivenTicket as given
 use Rattle.dl_loader.specs.Pass.{Part, part, Pass, Hold, hold}
