@@ -45,25 +45,26 @@ pub fn loads(alloc: Global, hashing: RandomState, keys: u32, batch: u32) -> Resu
     Ok(trial.counts)
 }
 
-/// Loads keys one by one, whose ids all have one hash where they are hashed by the kit's `FoldHasher`, which has a
-/// fixed seed. It multiplies the first eight bytes, joined by xor with its state, by the last eight. Its state after
-/// `trips`, plus 13, is spelled by the first eight bytes of these ids, so that the product is 0.
+/// Loads keys one by one, which all have one hash where they are hashed by the kit's `FoldHasher`, which has a fixed
+/// seed. Of the 32 bytes of such a key's two texts it first multiplies halves of the first 16 into its state. Then it
+/// joins that by xor with the next eight bytes, and multiplies by the last eight. Its state is spelled by those next
+/// eight bytes, so that the product is 0.
 pub fn hostile(alloc: Global, hashing: RandomState, keys: u32) -> Result<Counts> {
-    fronted(alloc, hashing, keys, "}A6E_4l]")
+    fronted(alloc, hashing, keys, "hostile1627#lI#q8Uy")
 }
 
 /// Loads keys one by one, whose ids are as long as those of [`hostile`] and have hashes of their own.
 pub fn harmless(alloc: Global, hashing: RandomState, keys: u32) -> Result<Counts> {
-    fronted(alloc, hashing, keys, "harmless")
+    fronted(alloc, hashing, keys, "harmless to anybody")
 }
 
-/// Loads keys one by one, then dispatches. Each id is the front and then the key's number in five digits.
+/// Loads keys one by one, then dispatches. Each id is the front and then the key's number in eight digits.
 fn fronted(alloc: Global, hashing: RandomState, keys: u32, front: &str) -> Result<Counts> {
     let mut trial = Trial::new(alloc, hashing, limits(64)?, Counts::default());
     let mut id = String::new(alloc);
     for number in 0..keys {
         id.clear();
-        write!(id, "{front}{number:05}")?;
+        write!(id, "{front}{number:08}")?;
         trial.load(alloc, &FetchKey::new(alloc, "trips", id.as_str())?)?;
     }
     trial.dispatch(alloc)?;

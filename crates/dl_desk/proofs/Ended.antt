@@ -1,5 +1,6 @@
 -- Marking a stored batch as ended.
-use Rattle.std.proofs.Common.{◌≡◌, ◌∙◌, sym, ap, ℕ, zero, suc, ◌+◌, ◌<◌, min, true, false, List, [], ◌∷◌, ◌++◌, inl, inr, length, map, set, take, Option, Some, None, slice_get, nat_eq, refl, arith}
+use Rattle.std.proofs.Common.{◌≡◌, ◌∙◌, sym, ap, ℕ, zero, suc, ◌+◌, ◌<◌, min, true, false, List, [], ◌∷◌, ◌++◌, inl, inr, length, map, set, take, Option}
+use Rattle.std.proofs.Common.{Some, None, slice_get, nat_eq, refl, arith}
 use Rattle.std.specs.Option.{option_eq}
 use Rattle.std.proofs.lemmas.Bool.{cases_eq, eqb-true, eq-eqb, true≢false}
 use Rattle.std.proofs.lemmas.Option.{slice_get-map, slice_get_within}
@@ -34,13 +35,15 @@ take-next {A} (y ∷ xs) (suc i) x at = let n : suc i + 1 ≡ suc (i + 1) = omeg
 abbrev pub with_end : Batch → End → Batch
 with_end x e = record { members = x.members; end = Some e }
 
-pub take-set_end : (xs : List Batch) (k n : ℕ) (x : Batch) (e : End) → n < k → slice_get xs n ≡ Some x → take k (set xs n (with_end x e)) ≡ set_end (take k xs) n e
+pub take-set_end : (xs : List Batch) (k n : ℕ) (x : Batch) (e : End) → n < k → slice_get xs n ≡ Some x
+    → take k (set xs n (with_end x e)) ≡ set_end (take k xs) n e
 take-set_end [] k n x e low at = absurd (let bad : ◌≡◌ {A = Option Batch} None (Some x) = at in cc)
 take-set_end (y ∷ xs) zero n x e low at = absurd (omega arith)
 take-set_end (y ∷ xs) (suc k) zero x e low at = let two : ◌≡◌ {A = Option Batch} (Some y) (Some x) = at in let is : y ≡ x = cc in rw is refl
 take-set_end (y ∷ xs) (suc k) (suc n) x e low at = ap (λ (zs : List Batch). y ∷ zs) (take-set_end xs k n x e (omega arith) at)
 
-stored_set : (begun sent cells most n : ℕ) (xs : List Batch) (y : Batch) → IsStored begun sent cells most xs → n < begun → IsStored begun sent cells most (set xs n y)
+stored_set : (begun sent cells most n : ℕ) (xs : List Batch) (y : Batch) → IsStored begun sent cells most xs → n < begun
+    → IsStored begun sent cells most (set xs n y)
 stored_set begun sent cells most n xs y is low = record {
   all_sent = is.all_sent;
   all_stored = rw length-set is.all_stored;
@@ -52,11 +55,13 @@ stored_set begun sent cells most n xs y is low = record {
 low_begun : (begun n : ℕ) (xs : List Batch) → n < length (take begun xs) → n < begun
 low_begun begun n xs low = let l : n < min begun (length xs) = rw length-take at low in omega arith
 
-at_both : (f : Stored → Batch) (begun n : ℕ) (xs : List Stored) (x : Stored) → n < begun → slice_get xs n ≡ Some x → slice_get (take begun (map f xs)) n ≡ Some (f x)
+at_both : (f : Stored → Batch) (begun n : ℕ) (xs : List Stored) (x : Stored) → n < begun → slice_get xs n ≡ Some x
+    → slice_get (take begun (map f xs)) n ≡ Some (f x)
 at_both f begun n xs x low at = rw (get-take (map f xs) begun n low, slice_get-map f xs n, at) refl
 
 -- where nothing is prepared a batch is the same whole and in front
-none_at : (prepared shown n : ℕ) (xs : List Stored) (x : Stored) → take prepared (map whole xs) ≡ take shown (map front xs) → n < length (take shown (map front xs)) → slice_get xs n ≡ Some x → front x ≡ whole x
+none_at : (prepared shown n : ℕ) (xs : List Stored) (x : Stored) → take prepared (map whole xs) ≡ take shown (map front xs)
+    → n < length (take shown (map front xs)) → slice_get xs n ≡ Some x → front x ≡ whole x
 none_at prepared shown n xs x same low at =
     let f : slice_get (take shown (map front xs)) n ≡ Some (front x) = at_both front shown n xs x (low_begun shown n (map front xs) low) at in
     let low_too : n < length (take prepared (map whole xs)) = rw same low in
@@ -73,10 +78,16 @@ pub record IsMarked (prepared shown n : ℕ) (xs : List Stored) (x y : Stored) (
   pub is_whole : whole y ≡ with_end (whole x) e
   pub is_front : front y ≡ with_end (front x) e
 
-pub desk_marked : (most memo_len shown_memo touched n : ℕ) (prepared shown : Extent) (xs : List Stored) (x y : Stored) (e : End) → IsDesk most prepared shown memo_len shown_memo touched xs → IsMarked prepared.begun shown.begun n xs x y e → IsDesk most prepared shown memo_len shown_memo touched (set xs n y)
+pub desk_marked : (most memo_len shown_memo touched n : ℕ) (prepared shown : Extent) (xs : List Stored) (x y : Stored) (e : End)
+    → IsDesk most prepared shown memo_len shown_memo touched xs → IsMarked prepared.begun shown.begun n xs x y e
+    → IsDesk most prepared shown memo_len shown_memo touched (set xs n y)
 desk_marked most memo_len shown_memo touched n prepared shown xs x y e is m = record {
-  prepared_book = rw map-set (stored_set prepared.begun prepared.sent prepared.cells most n (map whole xs) (whole y) is.prepared_book (low_begun prepared.begun n (map whole xs) (rw m.same m.low)));
-  shown_book = rw map-set (stored_set shown.begun shown.sent shown.cells most n (map front xs) (front y) is.shown_book (low_begun shown.begun n (map front xs) m.low));
+  prepared_book
+      = rw map-set
+      (stored_set prepared.begun prepared.sent prepared.cells most n (map whole xs) (whole y) is.prepared_book
+      (low_begun prepared.begun n (map whole xs) (rw m.same m.low)));
+  shown_book
+      = rw map-set (stored_set shown.begun shown.sent shown.cells most n (map front xs) (front y) is.shown_book (low_begun shown.begun n (map front xs) m.low));
   memo = is.memo;
   same = λ b outside z at. elim (cases_eq b n) [
     | inl here ↦
@@ -89,7 +100,8 @@ desk_marked most memo_len shown_memo touched n prepared shown xs x y e is m = re
   ];
 }
 
-pub batches_marked : (prepared shown n : ℕ) (xs : List Stored) (x y : Stored) (e : End) → IsMarked prepared shown n xs x y e → take shown (map front (set xs n y)) ≡ set_end (take shown (map front xs)) n e
+pub batches_marked : (prepared shown n : ℕ) (xs : List Stored) (x y : Stored) (e : End) → IsMarked prepared shown n xs x y e
+    → take shown (map front (set xs n y)) ≡ set_end (take shown (map front xs)) n e
 batches_marked prepared shown n xs x y e m =
     let low : n < shown = low_begun shown n (map front xs) m.low in
     let at : slice_get (map front xs) n ≡ Some (front x) = rw (slice_get-map front xs n, m.at) refl in

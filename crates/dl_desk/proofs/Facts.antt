@@ -1,10 +1,13 @@
 -- What holds of every legal history.
-use Rattle.std.proofs.Common.{◌≡◌, ◌∙◌, sym, subst, ℕ, zero, suc, ◌+◌, ◌<◌, ◌≤◌, Bool, true, false, ◌||◌, cond, List, [], ◌∷◌, Option, Some, None, nat_eq, nat_lt, refl, arith}
+use Rattle.std.proofs.Common.{◌≡◌, ◌∙◌, sym, subst, ℕ, zero, suc, ◌+◌, ◌<◌, ◌≤◌, Bool, true, false, ◌||◌, cond, List, [], ◌∷◌, Option, Some, None, nat_eq}
+use Rattle.std.proofs.Common.{nat_lt, refl, arith}
 use Rattle.std.proofs.lemmas.Bool.{or_parts, ltb-true, ltb-false, eqb-true}
 use Rattle.std.proofs.lemmas.Bool.Decides.{nat_tests}
 use Rattle.dl_desk.specs.Key.{Key}
 use Rattle.dl_desk.specs.Limits.{Rules}
-use Rattle.dl_desk.specs.History.{Atom, Load, Prime, Clear, ClearAll, Dispatch, Settle, Fail, Begun, begins, cells, is_number, batch_of, is_named, count_batch, begun, add_member, members, held, sent, room, room_in, is_open, greatest, serves, load_reply_at, prime_reply_at, end_of, IsAnswered, IsLegal}
+use Rattle.dl_desk.specs.History.{Atom, Load, Prime, Clear, ClearAll, Dispatch, Settle, Fail, Begun, begins, cells, is_number, batch_of, is_named}
+use Rattle.dl_desk.specs.History.{count_batch, begun, add_member, members, held, sent, room, room_in, is_open, greatest, serves, load_reply_at}
+use Rattle.dl_desk.specs.History.{prime_reply_at, end_of, IsAnswered, IsLegal}
 use Rattle.dl_desk.specs.declared.reply.LoadReply.TheVariants.{Hit, Fresh}
 use Rattle.dl_desk.specs.declared.reply.DeskPrime.TheVariants.{Primed, Kept}
 use Rattle.dl_desk.specs.declared.reply.End.{End}
@@ -19,7 +22,8 @@ pub record IsFresh (rules : Rules) (before : List Atom) (g : Begun) : Type 0 whe
 abbrev begun_at : Key → ℕ → Option ℕ → Begun
 begun_at k c b = record { key = k; cell = c; batch = b }
 
-fresh_load : (rules : Rules) (before : List Atom) (k : Key) (c b : ℕ) (o : Option ℕ) → held before k ≡ o → Fresh c b ≡ load_reply_at rules before k o → IsFresh rules before (begun_at k c (Some b))
+fresh_load : (rules : Rules) (before : List Atom) (k : Key) (c b : ℕ) (o : Option ℕ) → held before k ≡ o → Fresh c b ≡ load_reply_at rules before k o
+    → IsFresh rules before (begun_at k c (Some b))
 fresh_load rules before k c b (Some x) h r = absurd (let bad : Fresh c b ≡ Hit x = r in cc)
 fresh_load rules before k c b None h r = record {
   cell_is = let e : Fresh c b ≡ Fresh (cells before) (room rules before k) = r in cc;
@@ -27,7 +31,8 @@ fresh_load rules before k c b None h r = record {
   batch_is = λ n s. let e : Fresh c b ≡ Fresh (cells before) (room rules before k) = r in let f : ◌≡◌ {A = Option ℕ} (Some b) (Some n) = s in cc;
 }
 
-fresh_prime : (rules : Rules) (before : List Atom) (k : Key) (c : ℕ) (o : Option ℕ) → held before k ≡ o → Primed c ≡ prime_reply_at before o → IsFresh rules before (begun_at k c None)
+fresh_prime : (rules : Rules) (before : List Atom) (k : Key) (c : ℕ) (o : Option ℕ) → held before k ≡ o → Primed c ≡ prime_reply_at before o
+    → IsFresh rules before (begun_at k c None)
 fresh_prime rules before k c (Some x) h r = absurd (let bad : Primed c ≡ Kept = r in cc)
 fresh_prime rules before k c None h r = record {
   cell_is = let e : Primed c ≡ Primed (cells before) = r in cc;
@@ -60,7 +65,8 @@ pub greatest-below : (test : ℕ → Bool) (n b : ℕ) → greatest test n ≡ S
 greatest-below test zero b is = absurd (let bad : ◌≡◌ {A = Option ℕ} None (Some b) = is in cc)
 greatest-below test (suc n) b is = greatest_step test n b (test n) (greatest-below test n b) is
 
-room_in-le : (rules : Rules) (history : List Atom) (k : Key) (o : Option ℕ) → ((b : ℕ) → o ≡ Some b → b < begun history) → room_in rules history k o ≤ begun history
+room_in-le : (rules : Rules) (history : List Atom) (k : Key) (o : Option ℕ) → ((b : ℕ) → o ≡ Some b → b < begun history)
+    → room_in rules history k o ≤ begun history
 room_in-le rules history k None below = omega arith
 room_in-le rules history k (Some b) below = by (is_open rules history k b)
   where
@@ -69,7 +75,8 @@ room_in-le rules history k (Some b) below = by (is_open rules history k b)
     by false = omega arith
 
 pub room-le : (rules : Rules) (history : List Atom) (k : Key) → room rules history k ≤ begun history
-room-le rules history k = room_in-le rules history k (greatest (λ b. serves rules k (members history b)) (begun history)) (λ b is. greatest-below (λ b. serves rules k (members history b)) (begun history) b is)
+room-le rules history k = room_in-le rules history k (greatest (λ b. serves rules k (members history b)) (begun history))
+    (λ b is. greatest-below (λ b. serves rules k (members history b)) (begun history) b is)
 
 -- ---- the batches that are begun, sent and ended
 
@@ -80,7 +87,8 @@ nat_eq-below : (b n m : ℕ) → n < m → (nat_eq b n || nat_lt b m) ≡ nat_lt
 nat_eq-below b n m low = grind (arith, nat_tests)
 
 -- how one more atom, which may name a batch, changes which batches are named and how many
-named_step : (before : List Atom) (b : ℕ) (o : Option ℕ) → ((n : ℕ) → o ≡ Some n → n ≤ begun before) → ((n : ℕ) → is_named before n ≡ nat_lt n (begun before)) → (is_number b o || is_named before b) ≡ nat_lt b (count_batch o before (begun before))
+named_step : (before : List Atom) (b : ℕ) (o : Option ℕ) → ((n : ℕ) → o ≡ Some n → n ≤ begun before) → ((n : ℕ) → is_named before n ≡ nat_lt n (begun before))
+    → (is_number b o || is_named before b) ≡ nat_lt b (count_batch o before (begun before))
 named_step before b None low rest = rest b
 named_step before b (Some n) low rest = by (is_named before n) refl
   where
@@ -94,7 +102,8 @@ named_step before b (Some n) low rest = by (is_named before n) refl
         rw (rest b) (nat_eq-nat_lt b n (begun before) (omega arith))
 
 -- a batch that an answered atom names is one that was begun, or the next
-named_low : (rules : Rules) (before : List Atom) (a : Atom) → IsAnswered rules before a → (o : Option Begun) → begins a ≡ o → (n : ℕ) → batch_of o ≡ Some n → n ≤ begun before
+named_low : (rules : Rules) (before : List Atom) (a : Atom) → IsAnswered rules before a → (o : Option Begun) → begins a ≡ o → (n : ℕ) → batch_of o ≡ Some n
+    → n ≤ begun before
 named_low rules before a answered None is n e = absurd (let bad : ◌≡◌ {A = Option ℕ} None (Some n) = e in cc)
 named_low rules before a answered (Some g) is n e =
     let r : n ≡ room rules before g.key = (fresh_cell rules before a g answered is).batch_is n e in
@@ -104,7 +113,8 @@ named_low rules before a answered (Some g) is n e =
 -- the batches that are named are those below the number of batches
 pub named : (rules : Rules) (history : List Atom) → IsLegal rules history → (b : ℕ) → is_named history b ≡ nat_lt b (begun history)
 named rules [] legal b = grind (arith, nat_tests)
-named rules (a ∷ before) legal b = named_step before b (batch_of (begins a)) (λ n e. named_low rules before a legal.0 (begins a) refl n e) (named rules before legal.1)
+named rules (a ∷ before) legal b = named_step before b (batch_of (begins a)) (λ n e. named_low rules before a legal.0 (begins a) refl n e)
+    (named rules before legal.1)
 
 add_member-other : (b : ℕ) (o : Option Begun) (ms : List (Key × ℕ)) → is_number b (batch_of o) ≡ false → add_member b o ms ≡ ms
 add_member-other b None ms other = refl
@@ -151,5 +161,7 @@ end_of-unsent rules (Prime k r ∷ before) legal b high = end_of-unsent rules be
 end_of-unsent rules (Clear k ∷ before) legal b high = end_of-unsent rules before legal.1 b high
 end_of-unsent rules (ClearAll ∷ before) legal b high = end_of-unsent rules before legal.1 b high
 end_of-unsent rules (Dispatch js ∷ before) legal b high = end_of-unsent rules before legal.1 b (let l = sent-le before in omega arith)
-end_of-unsent rules (Settle n ∷ before) legal b high = end_other b n Settled (end_of before b) (λ e. let s = legal.0.is_sent in absurd (omega arith)) (end_of-unsent rules before legal.1 b high)
-end_of-unsent rules (Fail n ∷ before) legal b high = end_other b n Failed (end_of before b) (λ e. let s = legal.0.is_sent in absurd (omega arith)) (end_of-unsent rules before legal.1 b high)
+end_of-unsent rules (Settle n ∷ before) legal b high = end_other b n Settled (end_of before b) (λ e. let s = legal.0.is_sent in absurd (omega arith))
+    (end_of-unsent rules before legal.1 b high)
+end_of-unsent rules (Fail n ∷ before) legal b high = end_other b n Failed (end_of before b) (λ e. let s = legal.0.is_sent in absurd (omega arith))
+    (end_of-unsent rules before legal.1 b high)

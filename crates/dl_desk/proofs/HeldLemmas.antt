@@ -9,13 +9,16 @@ kept_later k a None keeps = refl
 kept_later k a (Some l) keeps = rw (keeps l.batch) refl
 
 -- an atom that begins nothing and forgets nothing of the key leaves what is held
-pub held-same : (a : Atom) (before : List Atom) (k : Key) → begins a ≡ None → ((batch : Option ℕ) → forgets k batch a ≡ false) → held (a ∷ before) k ≡ held before k
+pub held-same : (a : Atom) (before : List Atom) (k : Key) → begins a ≡ None → ((batch : Option ℕ) → forgets k batch a ≡ false)
+    → held (a ∷ before) k ≡ held before k
 held-same a before k is keeps = rw is (kept_later k a (latest before k) keeps)
 
-begun_step : (k : Key) (g : Begun) (rest : Option Latest) (t : Bool) (o : Option ℕ) → cell_kept k rest ≡ o → cell_kept k (cond t (Some (record { cell = g.cell; batch = g.batch; after = [] })) rest) ≡ cond t (Some g.cell) o
+begun_step : (k : Key) (g : Begun) (rest : Option Latest) (t : Bool) (o : Option ℕ) → cell_kept k rest ≡ o
+    → cell_kept k (cond t (Some (record { cell = g.cell; batch = g.batch; after = [] })) rest) ≡ cond t (Some g.cell) o
 begun_step k g rest true o e = refl
 begun_step k g rest false o e = e
 
 -- an atom that begins a cell makes it the one that is held for its key, and leaves the others
-pub held-begun : (a : Atom) (before : List Atom) (k : Key) (g : Begun) → begins a ≡ Some g → ((batch : Option ℕ) → forgets k batch a ≡ false) → held (a ∷ before) k ≡ cond (key_eq g.key k) (Some g.cell) (held before k)
+pub held-begun : (a : Atom) (before : List Atom) (k : Key) (g : Begun) → begins a ≡ Some g → ((batch : Option ℕ) → forgets k batch a ≡ false)
+    → held (a ∷ before) k ≡ cond (key_eq g.key k) (Some g.cell) (held before k)
 held-begun a before k g is keeps = rw is (begun_step k g (later a (latest before k)) (key_eq g.key k) (held before k) (kept_later k a (latest before k) keeps))

@@ -1,5 +1,6 @@
 -- Batches are within their limits.
-use Rattle.std.proofs.Common.{◌≡◌, ◌≢◌, ◌∙◌, sym, ap, subst, ℕ, zero, suc, ◌<◌, ◌≤◌, ◌⊎◌, inl, inr, Bool, true, false, not, ◌&&◌, cond, List, [], ◌∷◌, ◌++◌, length, get_or, Option, Some, None, nat_lt, nat_le, bytes_eq, refl, arith}
+use Rattle.std.proofs.Common.{◌≡◌, ◌≢◌, ◌∙◌, sym, ap, subst, ℕ, zero, suc, ◌<◌, ◌≤◌, ◌⊎◌, inl, inr, Bool, true, false, not, ◌&&◌, cond, List, [], ◌∷◌, ◌++◌}
+use Rattle.std.proofs.Common.{length, get_or, Option, Some, None, nat_lt, nat_le, bytes_eq, refl, arith}
 use Rattle.std.specs.List.{All, AllPairs}
 use Rattle.std.proofs.lemmas.Bool.{and_parts, not-true, eqb-true, ltb-true}
 use Rattle.std.proofs.lemmas.Bool.Decides.{nat_tests}
@@ -11,7 +12,8 @@ use Rattle.std.proofs.lemmas.Slice.Eq.{bytes_eq-Decides}
 use Rattle.dl_desk.specs.Key.{Key, key_eq}
 use Rattle.dl_desk.specs.Limits.{Rules, limit_by, limit_of}
 use Rattle.dl_desk.specs.Laws.{HaveLimits, AreOfOneTable, IsBatch, BatchesAreWithinLimits}
-use Rattle.dl_desk.specs.History.{Atom, Begun, begins, is_number, add_member, members, begun, is_named, sent, has_member, serves_by, serves, greatest, is_open, room_in, room, IsAnswered, IsLegal}
+use Rattle.dl_desk.specs.History.{Atom, Begun, begins, is_number, add_member, members, begun, is_named, sent, has_member, serves_by, serves, greatest}
+use Rattle.dl_desk.specs.History.{is_open, room_in, room, IsAnswered, IsLegal}
 use Rattle.dl_desk.proofs.KeyLemmas.{key_eq-refl}
 use Rattle.dl_desk.proofs.Facts.{fresh_cell, named, members-unnamed}
 
@@ -22,7 +24,8 @@ abbrev OfTable : Option (List (List ℕ × ℕ)) → Key → List (Key × ℕ) �
 OfTable None k ms = Unit {0}
 OfTable (Some tables) k ms = All (λ m. m.0.table ≡ k.table) ms
 
-first_is : (k : Key) (m : Key × ℕ) (ms : List (Key × ℕ)) → bytes_eq k.table m.0.table ≡ true → AllPairs (λ m n. m.0.table ≡ n.0.table) (m ∷ ms) → All (λ m. m.0.table ≡ k.table) (m ∷ ms)
+first_is : (k : Key) (m : Key × ℕ) (ms : List (Key × ℕ)) → bytes_eq k.table m.0.table ≡ true → AllPairs (λ m n. m.0.table ≡ n.0.table) (m ∷ ms)
+    → All (λ m. m.0.table ≡ k.table) (m ∷ ms)
 first_is k m ms same pairs zero d low = sym ((bytes_eq-Decides k.table m.0.table).0 same)
 first_is k m ms same pairs (suc i) d low =
     let first : m.0.table ≡ (get_or (m ∷ ms) (suc i) d).0.table = pairs 0 (suc i) d (omega arith) low in
@@ -35,7 +38,8 @@ of_table (Some tables) k [] serve one = λ i d low. absurd (omega arith)
 of_table (Some tables) k (m ∷ ms) serve one = first_is k m ms serve one
 
 -- so they have its limit
-same_limit : (most : ℕ) (o : Option (List (List ℕ × ℕ))) (k : Key) (ms : List (Key × ℕ)) → OfTable o k ms → All (λ m. limit_by most o m.0.table ≡ limit_by most o k.table) ms
+same_limit : (most : ℕ) (o : Option (List (List ℕ × ℕ))) (k : Key) (ms : List (Key × ℕ)) → OfTable o k ms
+    → All (λ m. limit_by most o m.0.table ≡ limit_by most o k.table) ms
 same_limit most None k ms of = λ i d low. refl
 same_limit most (Some tables) k ms of = λ i d low. ap (limit_by most (Some tables)) (of i d low)
 
@@ -53,13 +57,15 @@ has_none ms k none i d low e =
     cc
 
 -- one more member, where a batch is open for its key
-pub batch_more : (rules : Rules) (k : Key) (c : ℕ) (ms : List (Key × ℕ)) → IsBatch rules ms → serves rules k ms ≡ true → length ms < limit_of rules k.table → has_member ms k ≡ false → IsBatch rules (ms ++ (k, c) ∷ [])
+pub batch_more : (rules : Rules) (k : Key) (c : ℕ) (ms : List (Key × ℕ)) → IsBatch rules ms → serves rules k ms ≡ true → length ms < limit_of rules k.table
+    → has_member ms k ≡ false → IsBatch rules (ms ++ (k, c) ∷ [])
 batch_more rules k c ms batch serve low none =
     let of = of_table rules.tables k ms serve batch.tables in
     let more : length (ms ++ (k, c) ∷ []) ≤ limit_of rules k.table = omega (arith, length_push ms (k, c)) in
     record {
       distinct = all_pairs_push (λ m n. m.0 ≢ n.0) ms (k, c) batch.distinct (has_none ms k none);
-      within = All-push (λ m. length (ms ++ (k, c) ∷ []) ≤ limit_of rules m.0.table) ms (k, c) (λ i d in_list. rw (same_limit rules.limits.max_batch rules.tables k ms of i d in_list) more) more;
+      within = All-push (λ m. length (ms ++ (k, c) ∷ []) ≤ limit_of rules m.0.table) ms (k, c)
+          (λ i d in_list. rw (same_limit rules.limits.max_batch rules.tables k ms of i d in_list) more) more;
       tables = one_table rules.tables k c ms of batch.tables;
     }
 
@@ -85,7 +91,8 @@ batch_first rules k c limits = record {
 
 -- ---- the batch that a fresh load goes into
 
-passes_step : (test : ℕ → Bool) (n b : ℕ) (t : Bool) → test n ≡ t → (greatest test n ≡ Some b → test b ≡ true) → cond t (Some n) (greatest test n) ≡ Some b → test b ≡ true
+passes_step : (test : ℕ → Bool) (n b : ℕ) (t : Bool) → test n ≡ t → (greatest test n ≡ Some b → test b ≡ true) → cond t (Some n) (greatest test n) ≡ Some b
+    → test b ≡ true
 passes_step test n b true is below e = let same : ◌≡◌ {A = Option ℕ} (Some n) (Some b) = e in let eq : n ≡ b = cc in ap test (sym eq) ∙ is
 passes_step test n b false is below e = below e
 
@@ -99,7 +106,8 @@ record IsRoom (rules : Rules) (history : List Atom) (k : Key) (b : ℕ) : Type 0
   short : length (members history b) < limit_of rules k.table
   none : has_member (members history b) k ≡ false
 
-is_room : (rules : Rules) (history : List Atom) (k : Key) (b : ℕ) → serves rules k (members history b) ≡ true → is_open rules history k b ≡ true → IsRoom rules history k b
+is_room : (rules : Rules) (history : List Atom) (k : Key) (b : ℕ) → serves rules k (members history b) ≡ true → is_open rules history k b ≡ true
+    → IsRoom rules history k b
 is_room rules history k b serve opened =
     let ms = members history b in
     let outer = and_parts (nat_le (sent history) b && nat_lt (length ms) (limit_of rules k.table)) (not (has_member ms k)) opened in
@@ -125,7 +133,8 @@ room_cases rules history k =
 not_below : (b n : ℕ) → b ≡ n → nat_lt b n ≡ false
 not_below b n e = grind (arith, nat_tests)
 
-put_step : (rules : Rules) (history : List Atom) (k : Key) (c b : ℕ) → HaveLimits rules → IsLegal rules history → IsBatch rules (members history b) → (b ≡ begun history) ⊎ IsRoom rules history k b → IsBatch rules (members history b ++ (k, c) ∷ [])
+put_step : (rules : Rules) (history : List Atom) (k : Key) (c b : ℕ) → HaveLimits rules → IsLegal rules history → IsBatch rules (members history b)
+    → (b ≡ begun history) ⊎ IsRoom rules history k b → IsBatch rules (members history b ++ (k, c) ∷ [])
 put_step rules history k c b limits legal batch (inl new) =
     let unnamed : is_named history b ≡ false = named rules history legal b ∙ not_below b (begun history) new in
     rw (members-unnamed history b unnamed) (batch_first rules k c limits)
@@ -135,7 +144,8 @@ named_as : (b : ℕ) (o : Option ℕ) → is_number b o ≡ true → o ≡ Some 
 named_as b None e = absurd (let bad : false ≡ true = e in cc)
 named_as b (Some n) e = let same = eqb-true b n e in ap Some (sym same)
 
-atom_step : (rules : Rules) (history : List Atom) (a : Atom) (b : ℕ) (o : Option Begun) → HaveLimits rules → IsLegal rules history → IsAnswered rules history a → begins a ≡ o → IsBatch rules (members history b) → IsBatch rules (add_member b o (members history b))
+atom_step : (rules : Rules) (history : List Atom) (a : Atom) (b : ℕ) (o : Option Begun) → HaveLimits rules → IsLegal rules history
+    → IsAnswered rules history a → begins a ≡ o → IsBatch rules (members history b) → IsBatch rules (add_member b o (members history b))
 atom_step rules history a b None limits legal answered is batch = batch
 atom_step rules history a b (Some g) limits legal answered is batch = by (is_number b g.batch) refl
   where
@@ -147,9 +157,14 @@ atom_step rules history a b (Some g) limits legal answered is batch = by (is_num
         put_step rules history g.key g.cell b limits legal batch (subst P (sym e) (room_cases rules history g.key))
 
 pub batches_are_within_limits : BatchesAreWithinLimits
-batches_are_within_limits rules limits [] legal b = record { distinct = λ i j d low high. absurd (omega arith); within = λ i d low. absurd (omega arith); tables = empty rules.tables }
+batches_are_within_limits rules limits [] legal b = record {
+  distinct = λ i j d low high. absurd (omega arith);
+  within = λ i d low. absurd (omega arith);
+  tables = empty rules.tables;
+}
   where
     empty : (o : Option (List (List ℕ × ℕ))) → AreOfOneTable o []
     empty None = tt
     empty (Some tables) = λ i j d low high. absurd (omega arith)
-batches_are_within_limits rules limits (a ∷ history) legal b = atom_step rules history a b (begins a) limits legal.1 legal.0 refl (batches_are_within_limits rules limits history legal.1 b)
+batches_are_within_limits rules limits (a ∷ history) legal b = atom_step rules history a b (begins a) limits legal.1 legal.0 refl
+    (batches_are_within_limits rules limits history legal.1 b)

@@ -1,13 +1,16 @@
 -- A cell that was ended stays so.
-use Rattle.std.proofs.Common.{◌≡◌, ◌∙◌, sym, ap, subst, ℕ, ◌+◌, ◌<◌, ◌≤◌, Bool, true, false, cond, List, [], ◌∷◌, ◌++◌, Option, Some, None, option_map, nat_eq, is_none, refl, arith}
+use Rattle.std.proofs.Common.{◌≡◌, ◌∙◌, sym, ap, subst, ℕ, ◌+◌, ◌<◌, ◌≤◌, Bool, true, false, cond, List, [], ◌∷◌, ◌++◌, Option, Some, None, option_map}
+use Rattle.std.proofs.Common.{nat_eq, is_none, refl, arith}
 use Rattle.std.specs.Option.{option_or, option_and_then}
 use Rattle.std.proofs.lemmas.Bool.{and_parts, eqb-true}
 use Rattle.std.proofs.lemmas.Bool.Decides.{nat_tests}
 use Rattle.dl_desk.specs.Key.{Key}
 use Rattle.dl_desk.specs.Limits.{Rules}
 use Rattle.dl_desk.specs.Laws.{EndsStay}
-use Rattle.dl_desk.specs.Events.{Made, One, Many, Event, with_loads, with_made, atoms, IsReplied, IsLegalLog, last_of, is_primed, primes, ends_batch, ends, batch_at, cell_batch, Placed, newest, ending, ended}
-use Rattle.dl_desk.specs.History.{Atom, Load, Prime, Clear, ClearAll, Dispatch, Settle, Fail, Begun, begins, count_cell, cells, end_of, load_reply, load_replies, IsAnswered, IsLegal}
+use Rattle.dl_desk.specs.Events.{Made, One, Many, Event, with_loads, with_made, atoms, IsReplied, IsLegalLog, last_of, is_primed, primes, ends_batch, ends}
+use Rattle.dl_desk.specs.Events.{batch_at, cell_batch, Placed, newest, ending, ended}
+use Rattle.dl_desk.specs.History.{Atom, Load, Prime, Clear, ClearAll, Dispatch, Settle, Fail, Begun, begins, count_cell, cells, end_of, load_reply}
+use Rattle.dl_desk.specs.History.{load_replies, IsAnswered, IsLegal}
 use Rattle.dl_desk.specs.declared.reply.LoadReply.{LoadReply}
 use Rattle.dl_desk.specs.declared.reply.End.{End}
 use Rattle.dl_desk.specs.declared.reply.End.TheVariants.{Settled, Failed}
@@ -15,13 +18,15 @@ use Rattle.dl_desk.proofs.Facts.{fresh_cell}
 
 -- ---- the history of a legal log
 
-loads_legal : (rules : Rules) (history : List Atom) (ks : List Key) → IsLegal rules history → IsLegal rules (with_loads ks (load_replies rules history ks) history)
+loads_legal : (rules : Rules) (history : List Atom) (ks : List Key) → IsLegal rules history
+    → IsLegal rules (with_loads ks (load_replies rules history ks) history)
 loads_legal rules history [] legal = legal
 loads_legal rules history (k ∷ ks) legal = loads_legal rules (Load k (load_reply rules history k) ∷ history) ks (refl, legal)
 
 made_legal : (rules : Rules) (history : List Atom) (m : Made) → IsReplied rules history m → IsLegal rules history → IsLegal rules (with_made m history)
 made_legal rules history (One a) replied legal = (replied, legal)
-made_legal rules history (Many ks rs) replied legal = subst (λ (replies : List LoadReply). IsLegal rules (with_loads ks replies history)) (sym replied) (loads_legal rules history ks legal)
+made_legal rules history (Many ks rs) replied legal = subst (λ (replies : List LoadReply). IsLegal rules (with_loads ks replies history)) (sym replied)
+    (loads_legal rules history ks legal)
 
 -- the history that a legal log tells is legal
 pub atoms_legal : (rules : Rules) (log : List Event) → IsLegalLog rules log → IsLegal rules (atoms log)
@@ -47,14 +52,16 @@ made-le (One a) history = count_cell-le (begins a) (cells history)
 made-le (Many ks rs) history = loads-le ks rs history
 
 -- the batch of a cell that was begun stays
-batch_kept : (rules : Rules) (history : List Atom) (a : Atom) (c : ℕ) (o : Option Begun) → IsAnswered rules history a → begins a ≡ o → c < cells history → batch_at c o (cell_batch history c) ≡ cell_batch history c
+batch_kept : (rules : Rules) (history : List Atom) (a : Atom) (c : ℕ) (o : Option Begun) → IsAnswered rules history a → begins a ≡ o → c < cells history
+    → batch_at c o (cell_batch history c) ≡ cell_batch history c
 batch_kept rules history a c None answered is low = refl
 batch_kept rules history a c (Some g) answered is low =
     let next : g.cell ≡ cells history = (fresh_cell rules history a g answered is).cell_is in
     let other : nat_eq c g.cell ≡ false = grind (arith, nat_tests) in
     rw other refl
 
-loads_kept : (rules : Rules) (history : List Atom) (ks : List Key) (c : ℕ) → c < cells history → cell_batch (with_loads ks (load_replies rules history ks) history) c ≡ cell_batch history c
+loads_kept : (rules : Rules) (history : List Atom) (ks : List Key) (c : ℕ) → c < cells history
+    → cell_batch (with_loads ks (load_replies rules history ks) history) c ≡ cell_batch history c
 loads_kept rules history [] c low = refl
 loads_kept rules history (k ∷ ks) c low =
     let r = load_reply rules history k in
@@ -62,13 +69,16 @@ loads_kept rules history (k ∷ ks) c low =
     let still : c < cells (Load k r ∷ history) = omega arith in
     loads_kept rules (Load k r ∷ history) ks c still ∙ batch_kept rules history (Load k r) c (begins (Load k r)) refl refl low
 
-pub made_kept : (rules : Rules) (history : List Atom) (m : Made) (c : ℕ) → IsReplied rules history m → c < cells history → cell_batch (with_made m history) c ≡ cell_batch history c
+pub made_kept : (rules : Rules) (history : List Atom) (m : Made) (c : ℕ) → IsReplied rules history m → c < cells history
+    → cell_batch (with_made m history) c ≡ cell_batch history c
 made_kept rules history (One a) c replied low = batch_kept rules history a c (begins a) replied refl low
-made_kept rules history (Many ks rs) c replied low = ap (λ (replies : List LoadReply). cell_batch (with_loads ks replies history) c) replied ∙ loads_kept rules history ks c low
+made_kept rules history (Many ks rs) c replied low = ap (λ (replies : List LoadReply). cell_batch (with_loads ks replies history) c) replied
+    ∙ loads_kept rules history ks c low
 
 -- ---- a cell that was ended was begun
 
-batch_low : (rules : Rules) (history : List Atom) (a : Atom) (c b : ℕ) (o : Option Begun) → IsAnswered rules history a → begins a ≡ o → (cell_batch history c ≡ Some b → c < cells history) → batch_at c o (cell_batch history c) ≡ Some b → c < count_cell o (cells history)
+batch_low : (rules : Rules) (history : List Atom) (a : Atom) (c b : ℕ) (o : Option Begun) → IsAnswered rules history a → begins a ≡ o
+    → (cell_batch history c ≡ Some b → c < cells history) → batch_at c o (cell_batch history c) ≡ Some b → c < count_cell o (cells history)
 batch_low rules history a c b None answered is low e = low e
 batch_low rules history a c b (Some g) answered is low e = by (nat_eq c g.cell) refl e
   where
@@ -84,18 +94,21 @@ cell_batch-low rules [] c b legal e = absurd (let bad : ◌≡◌ {A = Option �
 cell_batch-low rules (a ∷ before) c b legal e = batch_low rules before a c b (begins a) legal.0 refl (cell_batch-low rules before c b legal.1) e
 
 -- the cell that a call primes is the next one
-primes_next : (rules : Rules) (history : List Atom) (a : Atom) (c : ℕ) (o : Option Begun) → IsAnswered rules history a → begins a ≡ o → is_primed c o ≡ true → (c ≡ cells history) × (c < count_cell o (cells history))
+primes_next : (rules : Rules) (history : List Atom) (a : Atom) (c : ℕ) (o : Option Begun) → IsAnswered rules history a → begins a ≡ o → is_primed c o ≡ true
+    → (c ≡ cells history) × (c < count_cell o (cells history))
 primes_next rules history a c None answered is e = absurd (let bad : false ≡ true = e in cc)
 primes_next rules history a c (Some g) answered is e =
     let next : g.cell ≡ cells history = (fresh_cell rules history a g answered is).cell_is in
     let same : c ≡ g.cell = eqb-true c g.cell (and_parts (nat_eq c g.cell) (is_none g.batch) e).0 in
     (same ∙ next, omega arith)
 
-made_primes : (rules : Rules) (history : List Atom) (m : Made) (c : ℕ) → IsReplied rules history m → primes c m ≡ true → (c ≡ cells history) × (c < cells (with_made m history))
+made_primes : (rules : Rules) (history : List Atom) (m : Made) (c : ℕ) → IsReplied rules history m → primes c m ≡ true
+    → (c ≡ cells history) × (c < cells (with_made m history))
 made_primes rules history (One a) c replied e = primes_next rules history a c (begins a) replied refl e
 made_primes rules history (Many ks rs) c replied e = absurd (let bad : false ≡ true = e in cc)
 
-primed_step : (rules : Rules) (e : Event) (before : List Event) (c : ℕ) (p : Placed) → IsReplied rules (atoms before) e.made → (t : Bool) → primes c e.made ≡ t → (last_of (primes c) before ≡ Some p → c < cells (atoms before))
+primed_step : (rules : Rules) (e : Event) (before : List Event) (c : ℕ) (p : Placed) → IsReplied rules (atoms before) e.made → (t : Bool)
+    → primes c e.made ≡ t → (last_of (primes c) before ≡ Some p → c < cells (atoms before))
     → cond t (Some (newest before e)) (last_of (primes c) before) ≡ Some p → c < cells (atoms (e ∷ before))
 primed_step rules e before c p replied true now low is = (made_primes rules (atoms before) e.made c replied now).1
 primed_step rules e before c p replied false other low is =
@@ -107,7 +120,9 @@ pub primed-low : (rules : Rules) (log : List Event) (c : ℕ) (p : Placed) → I
 primed-low rules [] c p legal e = absurd (let bad : ◌≡◌ {A = Option Placed} None (Some p) = e in cc)
 primed-low rules (e ∷ before) c p legal is = primed_step rules e before c p legal.0 (primes c e.made) refl (primed-low rules before c p legal.1) is
 
-ended_low : (rules : Rules) (log : List Event) (c : ℕ) (p : Placed) → IsLegalLog rules log → (prime : Option Placed) → last_of (primes c) log ≡ prime → (batch : Option ℕ) → cell_batch (atoms log) c ≡ batch → option_or prime (option_and_then (λ b. last_of (ends b) log) batch) ≡ Some p → c < cells (atoms log)
+ended_low : (rules : Rules) (log : List Event) (c : ℕ) (p : Placed) → IsLegalLog rules log → (prime : Option Placed) → last_of (primes c) log ≡ prime
+    → (batch : Option ℕ) → cell_batch (atoms log) c ≡ batch → option_or prime (option_and_then (λ b. last_of (ends b) log) batch) ≡ Some p
+    → c < cells (atoms log)
 ended_low rules log c p legal (Some q) prime batch is e = primed-low rules log c q legal prime
 ended_low rules log c p legal None prime (Some b) is e = cell_batch-low rules (atoms log) c b (atoms_legal rules log legal) is
 ended_low rules log c p legal None prime None is e = absurd (let bad : ◌≡◌ {A = Option Placed} None (Some p) = e in cc)
@@ -163,7 +178,8 @@ made_may_end rules history (One a) b replied e = atom_may_end rules history a b 
 made_may_end rules history (Many ks rs) b replied e = absurd (let bad : false ≡ true = e in cc)
 
 -- a batch that was ended isn't ended again
-end_stays : (rules : Rules) (e : Event) (before : List Event) (b : ℕ) (p : Placed) → IsReplied rules (atoms before) e.made → last_of (ends b) before ≡ Some p → last_of (ends b) (e ∷ before) ≡ Some p
+end_stays : (rules : Rules) (e : Event) (before : List Event) (b : ℕ) (p : Placed) → IsReplied rules (atoms before) e.made → last_of (ends b) before ≡ Some p
+    → last_of (ends b) (e ∷ before) ≡ Some p
 end_stays rules e before b p replied is = by (ends b e.made) refl
   where
     by : (t : Bool) → ends b e.made ≡ t → cond t (Some (newest before e)) (last_of (ends b) before) ≡ Some p
@@ -175,7 +191,8 @@ end_stays rules e before b p replied is = by (ends b e.made) refl
 
 -- ---- one more event
 
-primes_stay : (rules : Rules) (e : Event) (before : List Event) (c : ℕ) → IsReplied rules (atoms before) e.made → c < cells (atoms before) → last_of (primes c) (e ∷ before) ≡ last_of (primes c) before
+primes_stay : (rules : Rules) (e : Event) (before : List Event) (c : ℕ) → IsReplied rules (atoms before) e.made → c < cells (atoms before)
+    → last_of (primes c) (e ∷ before) ≡ last_of (primes c) before
 primes_stay rules e before c replied low = by (primes c e.made) refl
   where
     by : (t : Bool) → primes c e.made ≡ t → cond t (Some (newest before e)) (last_of (primes c) before) ≡ last_of (primes c) before
@@ -183,12 +200,14 @@ primes_stay rules e before c replied low = by (primes c e.made) refl
     by false other = refl
 
 end_step : (rules : Rules) (e : Event) (before : List Event) (p : Placed) → IsReplied rules (atoms before) e.made → (prime : Option Placed) (batch : Option ℕ)
-    → option_or prime (option_and_then (λ b. last_of (ends b) before) batch) ≡ Some p → option_or prime (option_and_then (λ b. last_of (ends b) (e ∷ before)) batch) ≡ Some p
+    → option_or prime (option_and_then (λ b. last_of (ends b) before) batch) ≡ Some p
+    → option_or prime (option_and_then (λ b. last_of (ends b) (e ∷ before)) batch) ≡ Some p
 end_step rules e before p replied (Some q) batch is = is
 end_step rules e before p replied None None is = is
 end_step rules e before p replied None (Some b) is = end_stays rules e before b p replied is
 
-ending_step : (rules : Rules) (e : Event) (before : List Event) (c : ℕ) (p : Placed) → IsLegalLog rules (e ∷ before) → ending before c ≡ Some p → ending (e ∷ before) c ≡ Some p
+ending_step : (rules : Rules) (e : Event) (before : List Event) (c : ℕ) (p : Placed) → IsLegalLog rules (e ∷ before) → ending before c ≡ Some p
+    → ending (e ∷ before) c ≡ Some p
 ending_step rules e before c p legal is =
     let low = ended-low rules before c p legal.1 is in
     let prime = primes_stay rules e before c legal.0 low in
@@ -197,11 +216,13 @@ ending_step rules e before c p legal is =
     rw (prime, batch) stays
 
 -- the event that ended a cell stays the same
-pub ending_stays : (rules : Rules) (later before : List Event) (c : ℕ) (p : Placed) → IsLegalLog rules (later ++ before) → ending before c ≡ Some p → ending (later ++ before) c ≡ Some p
+pub ending_stays : (rules : Rules) (later before : List Event) (c : ℕ) (p : Placed) → IsLegalLog rules (later ++ before) → ending before c ≡ Some p
+    → ending (later ++ before) c ≡ Some p
 ending_stays rules [] before c p legal is = is
 ending_stays rules (e ∷ later) before c p legal is = ending_step rules e (later ++ before) c p legal (ending_stays rules later before c p legal.1 is)
 
-place_stays : (rules : Rules) (later before : List Event) (c place : ℕ) → IsLegalLog rules (later ++ before) → (o : Option Placed) → ending before c ≡ o → option_map (λ (p : Placed). p.place) o ≡ Some place → ended (later ++ before) c ≡ Some place
+place_stays : (rules : Rules) (later before : List Event) (c place : ℕ) → IsLegalLog rules (later ++ before) → (o : Option Placed) → ending before c ≡ o
+    → option_map (λ (p : Placed). p.place) o ≡ Some place → ended (later ++ before) c ≡ Some place
 place_stays rules later before c place legal None is e = absurd (let bad : ◌≡◌ {A = Option ℕ} None (Some place) = e in cc)
 place_stays rules later before c place legal (Some p) is e = ap (option_map (λ (q : Placed). q.place)) (ending_stays rules later before c p legal is) ∙ e
 

@@ -16,16 +16,20 @@ abbrev since : ℕ → ℕ → List Atom → Latest
 since cell batch between = record { cell = cell; batch = Some batch; after = between }
 
 -- while nothing forgets the key, its cell is held
-held_since : (key : Key) (cell batch : ℕ) (between history : List Atom) → latest history key ≡ Some (since cell batch between) → list_any (forgets key (Some batch)) between ≡ false → held history key ≡ Some cell
+held_since : (key : Key) (cell batch : ℕ) (between history : List Atom) → latest history key ≡ Some (since cell batch between)
+    → list_any (forgets key (Some batch)) between ≡ false → held history key ≡ Some cell
 held_since key cell batch between history is none = rw (is, none) refl
 
 -- so no atom begins another
-still_step : (rules : Rules) (key : Key) (cell batch : ℕ) (between history : List Atom) (a : Atom) (o : Option Begun) → IsAnswered rules history a → begins a ≡ o
-    → latest history key ≡ Some (since cell batch between) → held history key ≡ Some cell → latest_at key o (later a (latest history key)) ≡ Some (since cell batch (a ∷ between))
+still_step : (rules : Rules) (key : Key) (cell batch : ℕ) (between history : List Atom) (a : Atom) (o : Option Begun) → IsAnswered rules history a
+    → begins a ≡ o
+    → latest history key ≡ Some (since cell batch between) → held history key ≡ Some cell
+    → latest_at key o (later a (latest history key)) ≡ Some (since cell batch (a ∷ between))
 still_step rules key cell batch between history a None answered is at holds = rw at refl
 still_step rules key cell batch between history a (Some g) answered is at holds = by (key_eq g.key key) refl
   where
-    by : (t : Bool) → key_eq g.key key ≡ t → cond t (Some (record { cell = g.cell; batch = g.batch; after = [] })) (later a (latest history key)) ≡ Some (since cell batch (a ∷ between))
+    by : (t : Bool) → key_eq g.key key ≡ t → cond t (Some (record { cell = g.cell; batch = g.batch; after = [] })) (later a (latest history key)) ≡ Some
+        (since cell batch (a ∷ between))
     by true e =
         let none : held history g.key ≡ None = (fresh_cell rules history a g answered is).not_held in
         let same : g.key ≡ key = key_eq-same g.key key e in
@@ -33,7 +37,8 @@ still_step rules key cell batch between history a (Some g) answered is at holds 
         absurd (cc)
     by false e = rw at refl
 
-still : (rules : Rules) (key : Key) (cell batch : ℕ) (between before : List Atom) → IsLegal rules (between ++ Load key (Fresh cell batch) ∷ before) → list_any (forgets key (Some batch)) between ≡ false
+still : (rules : Rules) (key : Key) (cell batch : ℕ) (between before : List Atom) → IsLegal rules (between ++ Load key (Fresh cell batch) ∷ before)
+    → list_any (forgets key (Some batch)) between ≡ false
     → latest (between ++ Load key (Fresh cell batch) ∷ before) key ≡ Some (since cell batch between)
 still rules key cell batch [] before legal none = rw (key_eq-refl key) refl
 still rules key cell batch (a ∷ between) before legal none =
@@ -43,11 +48,15 @@ still rules key cell batch (a ∷ between) before legal none =
     still_step rules key cell batch between history a (begins a) legal.0 refl at (held_since key cell batch between history at parts.1)
 
 -- a fresh load is of a key that isn't held
-fresh_unheld : (rules : Rules) (history : List Atom) (key : Key) (cell batch : ℕ) → IsAnswered rules history (Load key (Fresh cell batch)) → held history key ≡ None
-fresh_unheld rules history key cell batch answered = (fresh_cell rules history (Load key (Fresh cell batch)) (record { key = key; cell = cell; batch = Some batch }) answered refl).not_held
+fresh_unheld : (rules : Rules) (history : List Atom) (key : Key) (cell batch : ℕ) → IsAnswered rules history (Load key (Fresh cell batch))
+    → held history key ≡ None
+fresh_unheld rules history key cell batch answered = (fresh_cell rules history (Load key (Fresh cell batch))
+    (record { key = key; cell = cell; batch = Some batch }) answered refl).not_held
 
 -- so a later fresh load finds that something forgot it
-apart : (rules : Rules) (key : Key) (cell batch later_cell later_batch : ℕ) (between before : List Atom) → IsLegal rules (Load key (Fresh later_cell later_batch) ∷ (between ++ Load key (Fresh cell batch) ∷ before)) → (t : Bool) → list_any (forgets key (Some batch)) between ≡ t → t ≡ true
+apart : (rules : Rules) (key : Key) (cell batch later_cell later_batch : ℕ) (between before : List Atom)
+    → IsLegal rules (Load key (Fresh later_cell later_batch) ∷ (between ++ Load key (Fresh cell batch) ∷ before)) → (t : Bool)
+    → list_any (forgets key (Some batch)) between ≡ t → t ≡ true
 apart rules key cell batch later_cell later_batch between before legal true none = refl
 apart rules key cell batch later_cell later_batch between before legal false none =
     let history = between ++ Load key (Fresh cell batch) ∷ before in

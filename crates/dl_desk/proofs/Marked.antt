@@ -1,5 +1,6 @@
 -- What cutting, showing and preparing leave of a desk's fields.
-use Rattle.std.proofs.Common.{◌≡◌, ◌∙◌, sym, ℕ, zero, suc, ◌+◌, ◌<◌, ◌≤◌, inl, inr, min, max, List, [], ◌∷◌, ◌++◌, length, map, set, take, length-append, Option, Some, None, slice_get, refl, arith}
+use Rattle.std.proofs.Common.{◌≡◌, ◌∙◌, sym, ℕ, zero, suc, ◌+◌, ◌<◌, ◌≤◌, inl, inr, min, max, List, [], ◌∷◌, ◌++◌, length, map, set, take, length-append}
+use Rattle.std.proofs.Common.{Option, Some, None, slice_get, refl, arith}
 use Rattle.std.proofs.lemmas.Bool.{cases_lt, cases_eq}
 use Rattle.std.proofs.lemmas.Option.{slice_get-map, slice_get_past}
 use Rattle.std.proofs.lemmas.List.{map-append, map-set, length-set, length-map, take_all}
@@ -22,7 +23,9 @@ none_prepared xs same b x at =
     let e : ◌≡◌ {A = Option Batch} (Some (front x)) (Some (whole x)) = sym g ∙ w in
     cc
 
-pub desk_cut : (most memo_len memo_left shown_memo touched : ℕ) (prepared shown : Extent) (xs ys : List Stored) → IsDesk most prepared shown memo_len shown_memo touched xs → map whole ys ≡ map front xs → map front ys ≡ map front xs → shown_memo ≤ memo_left → IsDesk most shown shown memo_left shown_memo shown.begun ys
+pub desk_cut : (most memo_len memo_left shown_memo touched : ℕ) (prepared shown : Extent) (xs ys : List Stored)
+    → IsDesk most prepared shown memo_len shown_memo touched xs → map whole ys ≡ map front xs → map front ys ≡ map front xs → shown_memo ≤ memo_left
+    → IsDesk most shown shown memo_left shown_memo shown.begun ys
 desk_cut most memo_len memo_left shown_memo touched prepared shown xs ys is w f left = record {
   prepared_book = rw w is.shown_book;
   shown_book = rw f is.shown_book;
@@ -30,7 +33,9 @@ desk_cut most memo_len memo_left shown_memo touched prepared shown xs ys is w f 
   same = λ b outside x at. none_prepared ys (f ∙ sym w) b x at;
 }
 
-pub desk_shown : (most memo_len shown_memo touched : ℕ) (prepared shown : Extent) (xs ys : List Stored) → IsDesk most prepared shown memo_len shown_memo touched xs → map whole ys ≡ map whole xs → map front ys ≡ map whole xs → IsDesk most prepared prepared memo_len memo_len prepared.begun ys
+pub desk_shown : (most memo_len shown_memo touched : ℕ) (prepared shown : Extent) (xs ys : List Stored)
+    → IsDesk most prepared shown memo_len shown_memo touched xs → map whole ys ≡ map whole xs → map front ys ≡ map whole xs
+    → IsDesk most prepared prepared memo_len memo_len prepared.begun ys
 desk_shown most memo_len shown_memo touched prepared shown xs ys is w f = record {
   prepared_book = rw w is.prepared_book;
   shown_book = rw f is.prepared_book;
@@ -68,11 +73,14 @@ same_grown from to xs same b outside x at = elim (cases_lt b (length xs)) [
   | inl inside ↦ same b outside x (sym (get-append_left xs (blank ∷ []) b inside) ∙ at)
   | inr above ↦ elim (cases_eq b (length xs)) [
     | inl last ↦ let e : ◌≡◌ {A = Option Stored} (Some blank) (Some x) = sym (get-append_last xs blank b last) ∙ at in let is : blank ≡ x = cc in rw (← is) refl
-    | inr past ↦ let none : slice_get (xs ++ blank ∷ []) b ≡ None = slice_get_past (xs ++ blank ∷ []) b (rw length-append (omega arith)) in absurd (let bad : ◌≡◌ {A = Option Stored} None (Some x) = sym none ∙ at in cc)
+    | inr past ↦ let none : slice_get (xs ++ blank ∷ []) b ≡ None = slice_get_past (xs ++ blank ∷ []) b (rw length-append (omega arith)) in
+        absurd (let bad : ◌≡◌ {A = Option Stored} None (Some x) = sym none ∙ at in cc)
   ]
 ]
 
-pub desk_grown : (most memo_len memo_left shown_memo touched : ℕ) (prepared shown : Extent) (xs ys : List Stored) → IsDesk most prepared shown memo_len shown_memo touched xs → Grows xs ys → shown_memo ≤ memo_left → IsDesk most prepared shown memo_left shown_memo touched ys
+pub desk_grown : (most memo_len memo_left shown_memo touched : ℕ) (prepared shown : Extent) (xs ys : List Stored)
+    → IsDesk most prepared shown memo_len shown_memo touched xs → Grows xs ys → shown_memo ≤ memo_left
+    → IsDesk most prepared shown memo_left shown_memo touched ys
 desk_grown most memo_len memo_left shown_memo touched prepared shown xs ys is (inl same) left = record {
   prepared_book = rw same is.prepared_book;
   shown_book = rw same is.shown_book;
@@ -88,7 +96,8 @@ desk_grown most memo_len memo_left shown_memo touched prepared shown xs ys is (i
 
 -- ---- one more member
 
-stored_put : (begun sent cells most n : ℕ) (xs : List Batch) (y : Batch) → IsStored begun sent cells most xs → n < length xs → n ≤ begun → cells < most → IsStored (max begun (n + 1)) sent (cells + 1) most (set xs n y)
+stored_put : (begun sent cells most n : ℕ) (xs : List Batch) (y : Batch) → IsStored begun sent cells most xs → n < length xs → n ≤ begun → cells < most
+    → IsStored (max begun (n + 1)) sent (cells + 1) most (set xs n y)
 stored_put begun sent cells most n xs y is low next room = record {
   all_sent = let s = is.all_sent in omega arith;
   all_stored = rw length-set (let s = is.all_stored in omega arith);
@@ -97,27 +106,38 @@ stored_put begun sent cells most n xs y is low next room = record {
   spare = λ b high inside. get-set_other xs n b y (λ e. absurd (omega arith)) ∙ is.spare b (omega arith) (rw length-set at inside);
 }
 
-pub desk_put : (most memo_len memo_left shown_memo touched n : ℕ) (m : Key × ℕ) (prepared shown : Extent) (xs ys : List Stored) → IsDesk most prepared shown memo_len shown_memo touched xs → IsAdded xs n m ys → n ≤ prepared.begun → prepared.cells < most → shown_memo ≤ memo_left
-    → IsDesk most (record { begun = max prepared.begun (n + 1); sent = prepared.sent; cells = prepared.cells + 1 }) shown memo_left shown_memo (min touched n) ys
+pub desk_put : (most memo_len memo_left shown_memo touched n : ℕ) (m : Key × ℕ) (prepared shown : Extent) (xs ys : List Stored)
+    → IsDesk most prepared shown memo_len shown_memo touched xs → IsAdded xs n m ys → n ≤ prepared.begun → prepared.cells < most → shown_memo ≤ memo_left
+    → IsDesk most (record { begun = max prepared.begun (n + 1); sent = prepared.sent; cells = prepared.cells + 1 }) shown memo_left shown_memo (min touched n)
+    ys
 desk_put most memo_len memo_left shown_memo touched n m prepared shown xs ys is added next room left = record {
-  prepared_book = rw (added.is, map-set) (stored_put prepared.begun prepared.sent prepared.cells most n (map whole added.grown) (whole added.then) grown.prepared_book (rw length-map added.low) next room);
+  prepared_book
+      = rw (
+        added.is,
+        map-set,
+      )
+      (stored_put prepared.begun prepared.sent prepared.cells most n (map whole added.grown) (whole added.then) grown.prepared_book
+      (rw length-map added.low) next room);
   shown_book = rw (added.is, map-set_unseen front added.grown n added.before added.then added.at added.shown) grown.shown_book;
   memo = left;
   same = λ b outside x at.
       let ne : b ≡ n → ⊥ = λ e. elim outside [ inl below ↦ omega arith | inr above ↦ omega arith ] in
-      grown.same b (elim outside [ inl below ↦ inl (omega arith) | inr above ↦ inr (omega arith) ]) x (sym (get-set_other added.grown n b added.then ne) ∙ (let here : slice_get (set added.grown n added.then) b ≡ Some x = rw added.is at at in here));
+      grown.same b (elim outside [ inl below ↦ inl (omega arith) | inr above ↦ inr (omega arith) ]) x
+      (sym (get-set_other added.grown n b added.then ne) ∙ (let here : slice_get (set added.grown n added.then) b ≡ Some x = rw added.is at at in here));
 }
   where
     grown : IsDesk most prepared shown memo_left shown_memo touched added.grown
     grown = desk_grown most memo_len memo_left shown_memo touched prepared shown xs added.grown is added.grows left
 
 -- the grown batches are stored as well
-pub stored_grows : (begun sent cells most : ℕ) (xs grown : List Stored) → IsStored begun sent cells most (map whole xs) → Grows xs grown → IsStored begun sent cells most (map whole grown)
+pub stored_grows : (begun sent cells most : ℕ) (xs grown : List Stored) → IsStored begun sent cells most (map whole xs) → Grows xs grown
+    → IsStored begun sent cells most (map whole grown)
 stored_grows begun sent cells most xs grown is (inl same) = rw same is
 stored_grows begun sent cells most xs grown is (inr one) = rw (one, map-append) (stored_grown begun sent cells most (map whole xs) is)
 
 -- the members of a batch, of which the next one has none before it is added
-pub grown_members : (xs grown : List Stored) (n : ℕ) (x : Stored) → Grows xs grown → slice_get grown n ≡ Some x → n ≤ length xs → x.members ≡ members_of (slice_get (map whole xs) n)
+pub grown_members : (xs grown : List Stored) (n : ℕ) (x : Stored) → Grows xs grown → slice_get grown n ≡ Some x → n ≤ length xs
+    → x.members ≡ members_of (slice_get (map whole xs) n)
 grown_members xs grown n x (inl same) at low =
     let here : slice_get xs n ≡ Some x = rw same at at in
     let is : slice_get (map whole xs) n ≡ Some (whole x) = rw (slice_get-map whole xs n, here) refl in
@@ -136,6 +156,8 @@ grown_members xs grown n x (inr one) at low = elim (cases_lt n (length xs)) [
 ]
 
 -- where nothing is prepared, the two books have the same entries and the same batches
-pub desk_unprepared : (most memo_len shown_memo touched : ℕ) (prepared shown : Extent) (entries : List (Key × ℕ)) (xs : List Stored) → IsDesk most prepared shown memo_len shown_memo touched xs → length entries ≡ shown_memo → touched ≡ prepared.begun
+pub desk_unprepared : (most memo_len shown_memo touched : ℕ) (prepared shown : Extent) (entries : List (Key × ℕ)) (xs : List Stored)
+    → IsDesk most prepared shown memo_len shown_memo touched xs → length entries ≡ shown_memo → touched ≡ prepared.begun
     → (take shown_memo entries ≡ entries) × (map front xs ≡ map whole xs)
-desk_unprepared most memo_len shown_memo touched prepared shown entries xs is all done = (rw (← all) (take_all (length entries) entries (omega arith)), same_all touched prepared.begun xs (omega arith) is.same)
+desk_unprepared most memo_len shown_memo touched prepared shown entries xs is all done =
+    (rw (← all) (take_all (length entries) entries (omega arith)), same_all touched prepared.begun xs (omega arith) is.same)

@@ -20,7 +20,8 @@ with_member x m = record { members = x.members ++ m ∷ []; end = x.end }
 
 pub get-put_member : (xs : List Batch) (n : ℕ) (m : Key × ℕ) (x : Batch) → slice_get xs n ≡ Some x → slice_get (put_member xs n m) n ≡ Some (with_member x m)
 get-put_member [] n m x is = absurd (let bad : ◌≡◌ {A = Option Batch} None (Some x) = is in cc)
-get-put_member (y ∷ xs) zero m x is = let same : ◌≡◌ {A = Option Batch} (Some y) (Some x) = is in let e : y ≡ x = cc in ap (λ (z : Batch). Some (with_member z m)) e
+get-put_member (y ∷ xs) zero m x is = let same : ◌≡◌ {A = Option Batch} (Some y) (Some x) = is in let e : y ≡ x =
+    cc in ap (λ (z : Batch). Some (with_member z m)) e
 get-put_member (y ∷ xs) (suc n) m x is = get-put_member xs n m x is
 
 -- a batch with one member

@@ -14,10 +14,12 @@ greatest-same : (f g : ℕ → Bool) (n : ℕ) → ((b : ℕ) → b < n → f b 
 greatest-same f g zero same = refl
 greatest-same f g (suc n) same = rw (same n (omega arith), greatest-same f g n (λ b low. same b (omega arith))) refl
 
-is_open_in-is : (book : BatchBook) (history : List Atom) → StandsFor book history → (k : Key) (b : ℕ) → b < begun history → is_open_in book k b ≡ is_open book.rules history k b
+is_open_in-is : (book : BatchBook) (history : List Atom) → StandsFor book history → (k : Key) (b : ℕ) → b < begun history
+    → is_open_in book k b ≡ is_open book.rules history k b
 is_open_in-is book history stands k b low = rw (members_at-are book history stands b low, stands.sent) refl
 
-room_of-is : (book : BatchBook) (history : List Atom) → StandsFor book history → (k : Key) (o : Option ℕ) → ((b : ℕ) → o ≡ Some b → b < begun history) → room_of book k o ≡ room_in book.rules history k o
+room_of-is : (book : BatchBook) (history : List Atom) → StandsFor book history → (k : Key) (o : Option ℕ) → ((b : ℕ) → o ≡ Some b → b < begun history)
+    → room_of book k o ≡ room_in book.rules history k o
 room_of-is book history stands k None below = stands.count
 room_of-is book history stands k (Some b) below = rw (is_open_in-is book history stands k b (below b refl), stands.count) refl
 

@@ -13,7 +13,8 @@ use Rattle.dl_desk.proofs.Rooms.{members_at-are}
 jobs_of : ℕ → List (Key × ℕ) → Job
 jobs_of b ms = record { batch = b; keys = map (λ m. m.0) ms }
 
-book_jobs-from : (book : BatchBook) (history : List Atom) → StandsFor book history → (b n : ℕ) → b + n ≤ begun history → book_jobs book b n ≡ jobs_from history b n
+book_jobs-from : (book : BatchBook) (history : List Atom) → StandsFor book history → (b n : ℕ) → b + n ≤ begun history
+    → book_jobs book b n ≡ jobs_from history b n
 unfolding jobs_of
 book_jobs-from book history stands b zero fits = refl
 book_jobs-from book history stands b (suc n) fits =
@@ -22,12 +23,14 @@ book_jobs-from book history stands b (suc n) fits =
     rw (rest, at) refl
 
 -- the jobs of the batches that aren't sent are the reply to a dispatch
-pub book_jobs-are : (book : BatchBook) (history : List Atom) → StandsFor book history → book_jobs book book.sent (length book.batches - book.sent) ≡ jobs history
+pub book_jobs-are : (book : BatchBook) (history : List Atom) → StandsFor book history
+    → book_jobs book book.sent (length book.batches - book.sent) ≡ jobs history
 book_jobs-are book history stands =
     rw (stands.sent, stands.count) (book_jobs-from book history stands (sent history) (begun history - sent history) (let s = sent-le history in omega arith))
 
 -- one more job
-pub book_jobs-more : (book : BatchBook) (from n : ℕ) (done : List Job) (keys : List Key) → from ≤ n → done ≡ book_jobs book from (n - from) → keys ≡ map (λ m. m.0) (members_at book n)
+pub book_jobs-more : (book : BatchBook) (from n : ℕ) (done : List Job) (keys : List Key) → from ≤ n → done ≡ book_jobs book from (n - from)
+    → keys ≡ map (λ m. m.0) (members_at book n)
     → done ++ record { batch = n; keys = keys } ∷ [] ≡ book_jobs book from (n + 1 - from)
 book_jobs-more book from n done keys low is keys_are =
     let count : n + 1 - from ≡ suc (n - from) = omega arith in
@@ -41,5 +44,6 @@ get-take (x ∷ xs) (suc k) zero low = refl
 get-take (x ∷ xs) (suc k) (suc n) low = get-take xs k n (omega arith)
 
 -- a begun batch, as the book has it
-pub members_at-stored : (f : Stored → Batch) (book : BatchBook) (begun n : ℕ) (xs : List Stored) (x : Stored) → book.batches ≡ take begun (map f xs) → n < begun → slice_get xs n ≡ Some x → members_at book n ≡ (f x).members
+pub members_at-stored : (f : Stored → Batch) (book : BatchBook) (begun n : ℕ) (xs : List Stored) (x : Stored) → book.batches ≡ take begun (map f xs)
+    → n < begun → slice_get xs n ≡ Some x → members_at book n ≡ (f x).members
 members_at-stored f book begun n xs x is low at = rw (is, get-take (map f xs) begun n low, slice_get-map f xs n, at) refl

@@ -11,29 +11,36 @@ use Rattle.dl_desk.proofs.HeldLemmas.{held-same}
 use Rattle.dl_desk.proofs.Begun.{stands_begun}
 use Rattle.dl_desk.proofs.Rooms.{book_room-is}
 
-pub fresh_reply : (book : BatchBook) (history : List Atom) (k : Key) → StandsFor book history → lookup (key_eq k) book.memo ≡ None → Fresh book.cells (book_room book k) ≡ load_reply book.rules history k
-fresh_reply book history k stands none = let h : held history k ≡ None = sym (stands.memo k) ∙ none in rw (h, stands.cells, book_room-is book history stands k) refl
+pub fresh_reply : (book : BatchBook) (history : List Atom) (k : Key) → StandsFor book history → lookup (key_eq k) book.memo ≡ None
+    → Fresh book.cells (book_room book k) ≡ load_reply book.rules history k
+fresh_reply book history k stands none = let h : held history k ≡ None =
+    sym (stands.memo k) ∙ none in rw (h, stands.cells, book_room-is book history stands k) refl
 
 begun_load : Key → ℕ → ℕ → Begun
 begun_load k c b = record { key = k; cell = c; batch = Some b }
 
-pub stands_fresh : (old new : BatchBook) (history : List Atom) (k : Key) → StandsFor old history → lookup (key_eq k) old.memo ≡ None → Begins old k (Some (book_room old k)) new → StandsFor new (Load k (Fresh old.cells (book_room old k)) ∷ history)
+pub stands_fresh : (old new : BatchBook) (history : List Atom) (k : Key) → StandsFor old history → lookup (key_eq k) old.memo ≡ None
+    → Begins old k (Some (book_room old k)) new → StandsFor new (Load k (Fresh old.cells (book_room old k)) ∷ history)
 unfolding begun_load
 stands_fresh old new history k stands none put =
-    stands_begun old new (Load k (Fresh old.cells (book_room old k))) history (begun_load k old.cells (book_room old k)) stands (fresh_reply old history k stands none)
+    stands_begun old new (Load k (Fresh old.cells (book_room old k))) history (begun_load k old.cells (book_room old k)) stands
+    (fresh_reply old history k stands none)
     (record { begins_it = refl; keeps = λ q batch. refl; sends_none = refl; ends_none = λ b. refl })
     put
 
-hit_reply : (book : BatchBook) (history : List Atom) (k : Key) (cell : ℕ) → StandsFor book history → lookup (key_eq k) book.memo ≡ Some cell → Hit cell ≡ load_reply book.rules history k
+hit_reply : (book : BatchBook) (history : List Atom) (k : Key) (cell : ℕ) → StandsFor book history → lookup (key_eq k) book.memo ≡ Some cell
+    → Hit cell ≡ load_reply book.rules history k
 hit_reply book history k cell stands found = let h : held history k ≡ Some cell = sym (stands.memo k) ∙ found in rw h refl
 
 -- a load that is put has the history's reply
-pub put_reply : (old new : BatchBook) (history : List Atom) (k : Key) (reply : LoadReply) → StandsFor old history → Puts old k reply new → reply ≡ load_reply old.rules history k
+pub put_reply : (old new : BatchBook) (history : List Atom) (k : Key) (reply : LoadReply) → StandsFor old history → Puts old k reply new
+    → reply ≡ load_reply old.rules history k
 put_reply old new history k (Hit cell) stands put = hit_reply old history k cell stands put.0
 put_reply old new history k (Fresh cell batch) stands put = rw (put.1, put.2) (fresh_reply old history k stands put.0)
 
 -- and what it leaves stands for the history with it
-pub put_stands : (old new : BatchBook) (history : List Atom) (k : Key) (reply : LoadReply) → StandsFor old history → Puts old k reply new → StandsFor new (Load k reply ∷ history)
+pub put_stands : (old new : BatchBook) (history : List Atom) (k : Key) (reply : LoadReply) → StandsFor old history → Puts old k reply new
+    → StandsFor new (Load k reply ∷ history)
 put_stands old new history k (Hit cell) stands put = rw put.1 (record {
   legal = (hit_reply old history k cell stands put.0, stands.legal);
   memo = λ q. stands.memo q ∙ sym (held-same (Load k (Hit cell)) history q refl (λ batch. refl));

@@ -1,5 +1,6 @@
 -- Keys beside their cells, as a stored batch has them.
-use Rattle.std.proofs.Common.{◌≡◌, ◌∙◌, sym, ℕ, zero, suc, ◌<◌, Some, slice_get, get_or, ◌≤◌, false, List, [], ◌∷◌, ◌++◌, length, take, Option, refl, ap, arith, length-append}
+use Rattle.std.proofs.Common.{◌≡◌, ◌∙◌, sym, ℕ, zero, suc, ◌<◌, Some, slice_get, get_or, ◌≤◌, false, List, [], ◌∷◌, ◌++◌, length, take, Option, refl, ap}
+use Rattle.std.proofs.Common.{arith, length-append}
 use Rattle.std.specs.List.{zip, list_any}
 use Rattle.std.proofs.lemmas.List.{take-append-le, take_all, take-take}
 use Rattle.indexmap.proofs.ReorderLemmas.{zip_push, zip-take}
@@ -65,20 +66,25 @@ module _ {ks : List Key} {cs : List ℕ} {seen : ℕ} {k : Key} {c : ℕ} {ks' :
       ap (λ (ms : List (Key × ℕ)). let b : Batch = record { members = ms; end = end } in b) shown
 
 -- cutting both at what is shown leaves the front
-pub cut_whole : (ks : List Key) (cs : List ℕ) (seen : ℕ) (end : Option End) → whole (stored (take seen ks) (take seen cs) seen end) ≡ front (stored ks cs seen end)
+pub cut_whole : (ks : List Key) (cs : List ℕ) (seen : ℕ) (end : Option End)
+    → whole (stored (take seen ks) (take seen cs) seen end) ≡ front (stored ks cs seen end)
 cut_whole ks cs seen end = ap (λ (ms : List (Key × ℕ)). let b : Batch = record { members = ms; end = end } in b) (zip-take seen ks cs)
 
-pub cut_front : (ks : List Key) (cs : List ℕ) (seen : ℕ) (end : Option End) → front (stored (take seen ks) (take seen cs) seen end) ≡ front (stored ks cs seen end)
-cut_front ks cs seen end = ap (λ (ms : List (Key × ℕ)). let b : Batch = record { members = ms; end = end } in b) (ap (take seen) (zip-take seen ks cs) ∙ take-take seen seen (zip ks cs) (omega arith))
+pub cut_front : (ks : List Key) (cs : List ℕ) (seen : ℕ) (end : Option End)
+    → front (stored (take seen ks) (take seen cs) seen end) ≡ front (stored ks cs seen end)
+cut_front ks cs seen end = ap (λ (ms : List (Key × ℕ)). let b : Batch = record { members = ms; end = end } in b)
+    (ap (take seen) (zip-take seen ks cs) ∙ take-take seen seen (zip ks cs) (omega arith))
 
 -- seeing all members shows the whole batch
-pub show_front : (ks : List Key) (cs : List ℕ) (seen : ℕ) (end : Option End) → length ks ≡ length cs → front (stored ks cs (length cs) end) ≡ whole (stored ks cs seen end)
+pub show_front : (ks : List Key) (cs : List ℕ) (seen : ℕ) (end : Option End) → length ks ≡ length cs
+    → front (stored ks cs (length cs) end) ≡ whole (stored ks cs seen end)
 show_front ks cs seen end same =
     let all : take (length cs) (zip ks cs) ≡ zip ks cs = take_all (length cs) (zip ks cs) (let e = length-zip_same ks cs same in omega arith) in
     ap (λ (ms : List (Key × ℕ)). let b : Batch = record { members = ms; end = end } in b) all
 
 -- the member at a place
-pub get-zip : (ks : List Key) (cs : List ℕ) (i : ℕ) (k : Key) (c : ℕ) → length ks ≡ length cs → i < length ks → k ≡ get_or ks i k → c ≡ get_or cs i c → slice_get (zip ks cs) i ≡ Some (k, c)
+pub get-zip : (ks : List Key) (cs : List ℕ) (i : ℕ) (k : Key) (c : ℕ) → length ks ≡ length cs → i < length ks → k ≡ get_or ks i k → c ≡ get_or cs i c
+    → slice_get (zip ks cs) i ≡ Some (k, c)
 get-zip [] cs i k c same low key cell = absurd (omega arith)
 get-zip (j ∷ ks) [] i k c same low key cell = absurd (omega arith)
 get-zip (j ∷ ks) (d ∷ cs) zero k c same low key cell = rw (key, cell) refl

@@ -30,7 +30,8 @@ full rules history ks = if nat_lt rules.limits.max_cells (cells history + new_co
 
 -- the refusal of an end of the batch: there is no such batch, it isn't sent, or it has ended
 abbrev pub unfit : List Atom → ℕ → Option DeskFault
-unfit history b = if nat_le (begun history) b then Some NoBatch else if nat_le (sent history) b then Some NotSent else if is_some (end_of history b) then Some SettledBefore else None
+unfit history b = if nat_le (begun history) b then Some NoBatch else if nat_le (sent history) b then Some NotSent else if is_some (end_of history b) then Some
+    SettledBefore else None
 
 -- the refusal of a call at a history, but for want of memory
 abbrev pub refusal : Rules → List Atom → DeskCall → Option DeskFault

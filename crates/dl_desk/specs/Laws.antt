@@ -33,12 +33,15 @@ pub record IsBatch (rules : Rules) (ms : List (Key × ℕ)) : Type 0 where
 
 -- a batch has distinct keys, no more than its limit, and of one table where tables have limits
 abbrev pub BatchesAreWithinLimits : Type 0
-BatchesAreWithinLimits = (rules : Rules) → HaveLimits rules → (history : List Atom) → IsLegal rules history → (batch : ℕ) → IsBatch rules (members history batch)
+BatchesAreWithinLimits = (rules : Rules) → HaveLimits rules → (history : List Atom) → IsLegal rules history → (batch : ℕ)
+    → IsBatch rules (members history batch)
 
 -- a cell that was ended keeps the place of its end in every longer log
 abbrev pub EndsStay : Type 0
-EndsStay = (rules : Rules) (later before : List Event) (cell place : ℕ) → IsLegalLog rules (later ++ before) → ended before cell ≡ Some place → ended (later ++ before) cell ≡ Some place
+EndsStay = (rules : Rules) (later before : List Event) (cell place : ℕ) → IsLegalLog rules (later ++ before) → ended before cell ≡ Some place
+    → ended (later ++ before) cell ≡ Some place
 
 -- and it keeps the outcome that it was given
 abbrev pub OutcomesStay : Type 0
-OutcomesStay = (rules : Rules) (later before : List Event) (cell : ℕ) (given : Outcome) → IsLegalLog rules (later ++ before) → outcome before cell ≡ Some given → outcome (later ++ before) cell ≡ Some given
+OutcomesStay = (rules : Rules) (later before : List Event) (cell : ℕ) (given : Outcome) → IsLegalLog rules (later ++ before)
+    → outcome before cell ≡ Some given → outcome (later ++ before) cell ≡ Some given

@@ -11,6 +11,5 @@ pub mod Marks
 pub mod Ready
 pub mod Events
 pub mod Laws
-
 -- words of private functions, and of what values are made of
 pub mod Inside

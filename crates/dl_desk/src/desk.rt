@@ -1,6 +1,7 @@
 //! The desk: one loader, for one thread.
 
-ghost use Rattle.std.specs.Prelude.{◌≡◌, ◌<◌, ◌≤◌, ◌-◌, if◌then◌else◌, None, [], ◌∷◌, ◌++◌, length, map, take, vec_len, false, IfOk, IfErr, OnOk, OnErr, slice_get, nat_le, IsTrue};
+ghost use Rattle.std.specs.Prelude.{◌≡◌, ◌<◌, ◌≤◌, ◌-◌, if◌then◌else◌, None, [], ◌∷◌, ◌++◌, length, map, take, vec_len, false, IfOk, IfErr, OnOk, OnErr};
+ghost use Rattle.std.specs.Prelude.{slice_get, nat_le, IsTrue};
 ghost use Rattle.std.specs.Prelude.{List};
 ghost use Rattle.std.specs.Map.{lookup};
 ghost use Rattle.dl_desk.specs.Key.{Key, key_eq};
@@ -93,15 +94,24 @@ impl Desk {
         }
     }
 
-    /// Takes back what is prepared.
+    /// Takes back what is prepared, if anything is.
+    #[inline(always)]
     fn discard(&mut self)
         ensures book { self.new.book ≡ self.old.book }
         ensures prepared { self.new.prepared ≡ self.old.book }
         ensures within { self.new.prepared.cells ≤ self.new.prepared.rules.limits.max_cells }
     {
-        if self.is_shown() {
-            return;
+        if !self.is_shown() {
+            self.take_back();
         }
+    }
+
+    /// Takes back what is prepared.
+    fn take_back(&mut self)
+        ensures book { self.new.book ≡ self.old.book }
+        ensures prepared { self.new.prepared ≡ self.old.book }
+        ensures within { self.new.prepared.cells ≤ self.new.prepared.rules.limits.max_cells }
+    {
         self.memo.truncate(self.shown_memo);
         memo_and_batches::cut(
             &mut self.batches,
@@ -114,7 +124,8 @@ impl Desk {
 
     /// Whether nothing is prepared.
     fn is_shown(&self) -> bool
-        ensures { IsTrue result → self.now.prepared ≡ self.now.book }
+        ensures shown { IsTrue result → self.now.prepared ≡ self.now.book }
+        ensures within { self.now.prepared.cells ≤ self.now.prepared.rules.limits.max_cells }
     {
         self.memo.len() == self.shown_memo
             && self.touched == self.prepared.begun
@@ -165,7 +176,8 @@ impl Desk {
     /// that was begun, if it is open, and else the next one.
     fn newest(&self) -> u32
         ensures low { result ≤ length self.now.prepared.batches }
-        ensures room { (k : Key) → (if has_member (members_at self.now.prepared result) k then length self.now.prepared.batches else result) ≡ book_room self.now.prepared k }
+        ensures room { (k : Key)
+            → (if has_member (members_at self.now.prepared result) k then length self.now.prepared.batches else result) ≡ book_room self.now.prepared k }
     {
         let next = self.prepared.begun;
         if next > 0 && self.is_open(next - 1) {
@@ -222,8 +234,10 @@ impl Desk {
     fn load_step(&mut self, alloc: Global, key: &FetchKey) -> Result<LoadReply, DeskFault>
         ensures book { self.new.book ≡ self.old.book }
         ensures rules { self.new.prepared.rules ≡ self.old.prepared.rules }
-        ensures reply { IfOk result (λ reply. (history : List Atom) → StandsFor self.old.prepared history → reply ≡ load_reply self.old.prepared.rules history key.now) }
-        ensures stands { IfOk result (λ reply. (history : List Atom) → StandsFor self.old.prepared history → StandsFor self.new.prepared (Load key.now reply ∷ history)) }
+        ensures reply { IfOk result (λ reply. (history : List Atom) → StandsFor self.old.prepared history
+            → reply ≡ load_reply self.old.prepared.rules history key.now) }
+        ensures stands { IfOk result (λ reply. (history : List Atom) → StandsFor self.old.prepared history
+            → StandsFor self.new.prepared (Load key.now reply ∷ history)) }
         ensures within { OnOk result (self.new.prepared.cells ≤ self.new.prepared.rules.limits.max_cells) }
         ensures fault { IfErr result (RefusesStep self.old.prepared key.now) }
     {
@@ -242,7 +256,8 @@ impl Desk {
         ensures book { self.new.book ≡ self.old.book }
         ensures rules { self.new.prepared.rules ≡ self.old.prepared.rules }
         ensures reply { IfOk result (λ reply. (history : List Atom) → StandsFor self.old.prepared history → reply ≡ prime_reply history key.now) }
-        ensures stands { IfOk result (λ reply. (history : List Atom) → StandsFor self.old.prepared history → StandsFor self.new.prepared (Prime key.now reply ∷ history)) }
+        ensures stands { IfOk result (λ reply. (history : List Atom) → StandsFor self.old.prepared history
+            → StandsFor self.new.prepared (Prime key.now reply ∷ history)) }
         ensures within { OnOk result (self.new.prepared.cells ≤ self.new.prepared.rules.limits.max_cells) }
         ensures fault { IfErr result (RefusesStep self.old.prepared key.now) }
     {

@@ -13,6 +13,7 @@ use crate::fault::KeyFault;
 use crate::text::Text;
 use std::alloc::{AllocError, Global};
 use std::cmp::Ordering;
+use std::fmt;
 use std::hash::{Hash, Hasher};
 use std::marker::Model;
 use std::sync::Arc;
@@ -23,27 +24,79 @@ pub const TABLE_BYTES: usize = 64;
 /// The most bytes of a key's id.
 pub const ID_BYTES: usize = 128;
 
-/// The two texts of a key.
-#[derive(Debug, PartialEq, Eq, PartialOrd, Ord, Hash, Drop)]
+/// The two texts of a key as one: the table, and right after it the id.
+#[derive(PartialEq, Eq, Drop)]
 struct KeyText {
-    table: Text,
-    id: Text,
+    text: Text,
+    table_bytes: u8,
 }
 
 impl Model for KeyText {
-    ghost use Rattle.dl_desk.specs.Key.{Key, IsKey};
+    ghost use Rattle.dl_desk.specs.Key.{Key};
+    ghost use Rattle.std.specs.Prelude.{length};
+    ghost use Rattle.dl_desk.specs.Inside.KeyText.{joined, split, IsSplit};
+    ghost use Rattle.std.proofs.lemmas.List.{take-append-drop, length-take-le};
 
     ghost Value = { Key };
 
-    ghost view = { λ k. record { table = k.table; id = k.id } };
+    ghost view = { λ k. split k.text k.table_bytes };
 
-    ghost invariant = { λ k. IsKey (record { table = k.table; id = k.id }) };
+    ghost invariant = { λ k. IsSplit k.text k.table_bytes };
 
-    ghost inverse = { λ k. record { table = k.table; id = k.id } };
+    ghost inverse = { λ k. record { text = joined k; table_bytes = length k.table } };
+
+    ghost inverse_ok = { λ k h i. record {
+      text = take-append-drop k.table_bytes k.text i;
+      table_bytes = length-take-le k.table_bytes k.text h.boundary.0 i;
+    } };
+}
+
+impl KeyText {
+    /// The table and the id as one text. The error is want of memory.
+    fn new(alloc: Global, table: &str, id: &str) -> Result<KeyText, AllocError>
+        requires { IsKey (record { table = table.now; id = id.now }) }
+        ensures { IfOk result (λ k. k ≡ record { table = table.now; id = id.now }) }
+    {
+        let text = Text::joined(alloc, table, id)?;
+        let table_bytes = table.len() as u8;
+        Ok(KeyText { text, table_bytes })
+    }
+
+    /// The table and the id.
+    fn parts(&self) -> (&str, &str)
+        ensures table { result.0.now ≡ self.now.table }
+        ensures id { result.1.now ≡ self.now.id }
+        ensures key { IsKey self.now }
+    {
+        self.text.as_str().split_at(self.table_bytes as usize)
+    }
+}
+
+impl Hash for KeyText {
+    ghost hash_input = { key_input };
+
+    ghost respects_eq = { Prim.search (hashing, rules) };
+
+    // No UTF-8 has the byte 0xFF, so what is read of one key never begins what is read of another.
+    fn hash<H: Hasher>(&self, state: &mut H) {
+        state.write(self.text.as_str().as_bytes());
+        state.write(&[0xff, self.table_bytes]);
+    }
+}
+
+impl fmt::Debug for KeyText {
+    fn fmt<W: fmt::Write>(&self, f: &mut fmt::Formatter<W>) -> fmt::Result {
+        let (table, id) = self.parts();
+        f.debug_struct("KeyText")
+            .field("table", &table)
+            .field("id", &id)
+            .finish()
+    }
 }
 
 /// What a loader is asked for: a table and an id in it. A copy shares the texts and costs one
-/// atomic step. Equality, order and hash are over the table, then the id, by their bytes.
+/// atomic step. Equality and order are over the table, then the id, by their bytes; a hash reads both
+/// in one piece, and then how much of it is the table.
 #[derive(Debug, Drop)]
 pub struct FetchKey {
     both: Arc<KeyText>,
@@ -81,9 +134,8 @@ impl FetchKey {
         if id.len() > ID_BYTES {
             return Err(KeyFault::IdTooLong);
         }
-        let table = Text::new(alloc, table).map_err(|_| KeyFault::OutOfMemory)?;
-        let id = Text::new(alloc, id).map_err(|_| KeyFault::OutOfMemory)?;
-        let both = Arc::new(alloc, KeyText { table, id }).map_err(|_| KeyFault::OutOfMemory)?;
+        let both = KeyText::new(alloc, table, id).map_err(|_| KeyFault::OutOfMemory)?;
+        let both = Arc::new(alloc, both).map_err(|_| KeyFault::OutOfMemory)?;
         Ok(FetchKey { both })
     }
 
@@ -92,7 +144,7 @@ impl FetchKey {
         ensures text { result.now ≡ self.now.table }
         ensures key { IsKey self.now }
     {
-        self.both.table.as_str()
+        self.both.parts().0
     }
 
     /// The id in the table.
@@ -100,7 +152,7 @@ impl FetchKey {
         ensures text { result.now ≡ self.now.id }
         ensures key { IsKey self.now }
     {
-        self.both.id.as_str()
+        self.both.parts().1
     }
 
     /// The same key. It shares the texts and takes no memory; the error is a count of copies at its end.
@@ -155,7 +207,9 @@ impl Ord for FetchKey {
     ghost matches_eq = { Prim.search (comparing, rules) };
 
     fn cmp(&self, other: &FetchKey) -> Ordering {
-        (*self.both).cmp(&*other.both)
+        self.table()
+            .cmp(other.table())
+            .then_with(|| self.id().cmp(other.id()))
     }
 }
 

@@ -40,6 +40,7 @@ pub fn show(batches: &mut Vec<StoredBatch>, from: usize, to: usize)
 
 /// The cell that is held for the key; where none is, the new cell is held from now on. The error is want of
 /// memory, and leaves the memo.
+#[inline(always)]
 pub fn hold(
     memo: &mut IndexMap<FetchKey, u32, RandomState>,
     key: FetchKey,

@@ -1,6 +1,6 @@
 //! Texts, which contracts see as their bytes.
 
-ghost use Rattle.std.specs.Prelude.{◌≡◌, IfOk, bytes_eq};
+ghost use Rattle.std.specs.Prelude.{◌≡◌, ◌++◌, IfOk, bytes_eq};
 ghost use Rattle.std.proofs.Common.{rules};
 ghost use Rattle.std.specs.Ordering.{nat_cmp, as_partial_cmp};
 ghost use Rattle.std.specs.Hash as fed;
@@ -33,6 +33,16 @@ impl Text {
         ensures { IfOk result (λ t. t ≡ text.now) }
     {
         let text = String::from_str(alloc, text)?;
+        Ok(Text { text })
+    }
+
+    /// A text, and right after it another. The error is want of memory.
+    pub fn joined(alloc: Global, first: &str, second: &str) -> Result<Text, AllocError>
+        ensures { IfOk result (λ t. t ≡ first.now ++ second.now) }
+    {
+        let mut text = String::with_capacity(alloc, first.len() + second.len())?;
+        text.push_str(first)?;
+        text.push_str(second)?;
         Ok(Text { text })
     }
 

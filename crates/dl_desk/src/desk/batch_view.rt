@@ -80,7 +80,8 @@ impl Desk {
     /// The batch of a number, if it was begun. It takes no memory.
     pub fn batch(&self, number: u32) -> Option<BatchView<'_>>
         ensures none { IfNone result ((history : List Atom) → StandsFor self.now.book history → begun history ≤ number) }
-        ensures some { IfSome result (λ view. (history : List Atom) → StandsFor self.now.book history → (number < begun history) × (view ≡ batch_shown history number)) }
+        ensures some { IfSome result (λ view. (history : List Atom) → StandsFor self.now.book history
+            → (number < begun history) × (view ≡ batch_shown history number)) }
     {
         if number >= self.shown.begun {
             return None;

@@ -23,10 +23,13 @@ impl Desk {
     ) -> Result<Vec<LoadReply>, DeskFault>
         ensures book { self.new.book ≡ self.old.book }
         ensures rules { self.new.prepared.rules ≡ self.old.book.rules }
-        ensures replies { IfOk result (λ replies. (history : List Atom) → StandsFor self.old.book history → replies.items ≡ load_replies self.old.book.rules history keys.now) }
-        ensures stands { OnOk result ((history : List Atom) → StandsFor self.old.book history → StandsFor self.new.prepared (loaded self.old.book.rules history keys.now)) }
+        ensures replies { IfOk result (λ replies. (history : List Atom) → StandsFor self.old.book history
+            → replies.items ≡ load_replies self.old.book.rules history keys.now) }
+        ensures stands { OnOk result ((history : List Atom) → StandsFor self.old.book history
+            → StandsFor self.new.prepared (loaded self.old.book.rules history keys.now)) }
         ensures accepted { OnOk result ((history : List Atom) → StandsFor self.old.book history → refusal self.old.book.rules history (Loads keys.now) ≡ None) }
-        ensures fault { IfErr result (λ fault. (history : List Atom) → StandsFor self.old.book history → IsRefusal self.old.book.rules history (Loads keys.now) fault) }
+        ensures fault { IfErr result (λ fault. (history : List Atom) → StandsFor self.old.book history
+            → IsRefusal self.old.book.rules history (Loads keys.now) fault) }
     {
         self.discard();
         let mut replies = Vec::with_capacity(alloc, keys.len())?;
@@ -44,10 +47,14 @@ impl Desk {
     pub fn prepare_load(&mut self, alloc: Global, key: &FetchKey) -> Result<LoadReply, DeskFault>
         ensures book { self.new.book ≡ self.old.book }
         ensures rules { self.new.prepared.rules ≡ self.old.book.rules }
-        ensures reply { IfOk result (λ reply. (history : List Atom) → StandsFor self.old.book history → reply ≡ load_reply self.old.book.rules history key.now) }
-        ensures stands { OnOk result ((history : List Atom) → StandsFor self.old.book history → StandsFor self.new.prepared (after self.old.book.rules history (Loads (key.now ∷ [])))) }
-        ensures accepted { OnOk result ((history : List Atom) → StandsFor self.old.book history → refusal self.old.book.rules history (Loads (key.now ∷ [])) ≡ None) }
-        ensures fault { IfErr result (λ fault. (history : List Atom) → StandsFor self.old.book history → IsRefusal self.old.book.rules history (Loads (key.now ∷ [])) fault) }
+        ensures reply { IfOk result (λ reply. (history : List Atom) → StandsFor self.old.book history
+            → reply ≡ load_reply self.old.book.rules history key.now) }
+        ensures stands { OnOk result ((history : List Atom) → StandsFor self.old.book history
+            → StandsFor self.new.prepared (after self.old.book.rules history (Loads (key.now ∷ [])))) }
+        ensures accepted { OnOk result ((history : List Atom) → StandsFor self.old.book history
+            → refusal self.old.book.rules history (Loads (key.now ∷ [])) ≡ None) }
+        ensures fault { IfErr result (λ fault. (history : List Atom) → StandsFor self.old.book history
+            → IsRefusal self.old.book.rules history (Loads (key.now ∷ [])) fault) }
     {
         self.discard();
         self.load_step(alloc, key)
@@ -59,10 +66,14 @@ impl Desk {
     /// `CellsFull` where the key isn't held and all cells are begun; `OutOfMemory`.
     pub fn load(&mut self, alloc: Global, key: &FetchKey) -> Result<LoadReply, DeskFault>
         ensures rules { self.new.book.rules ≡ self.old.book.rules }
-        ensures reply { IfOk result (λ reply. (history : List Atom) → StandsFor self.old.book history → reply ≡ load_reply self.old.book.rules history key.now) }
-        ensures stands { OnOk result ((history : List Atom) → StandsFor self.old.book history → StandsFor self.new.book (after self.old.book.rules history (Loads (key.now ∷ [])))) }
-        ensures accepted { OnOk result ((history : List Atom) → StandsFor self.old.book history → refusal self.old.book.rules history (Loads (key.now ∷ [])) ≡ None) }
-        ensures fault { IfErr result (λ fault. (history : List Atom) → StandsFor self.old.book history → IsRefusal self.old.book.rules history (Loads (key.now ∷ [])) fault) }
+        ensures reply { IfOk result (λ reply. (history : List Atom) → StandsFor self.old.book history
+            → reply ≡ load_reply self.old.book.rules history key.now) }
+        ensures stands { OnOk result ((history : List Atom) → StandsFor self.old.book history
+            → StandsFor self.new.book (after self.old.book.rules history (Loads (key.now ∷ [])))) }
+        ensures accepted { OnOk result ((history : List Atom) → StandsFor self.old.book history
+            → refusal self.old.book.rules history (Loads (key.now ∷ [])) ≡ None) }
+        ensures fault { IfErr result (λ fault. (history : List Atom) → StandsFor self.old.book history
+            → IsRefusal self.old.book.rules history (Loads (key.now ∷ [])) fault) }
         ensures err { OnErr result (self.new.book ≡ self.old.book) }
     {
         let reply = self.prepare_load(alloc, key)?;
@@ -81,10 +92,13 @@ impl Desk {
         keys: &[FetchKey],
     ) -> Result<Vec<LoadReply>, DeskFault>
         ensures rules { self.new.book.rules ≡ self.old.book.rules }
-        ensures replies { IfOk result (λ replies. (history : List Atom) → StandsFor self.old.book history → replies.items ≡ load_replies self.old.book.rules history keys.now) }
-        ensures stands { OnOk result ((history : List Atom) → StandsFor self.old.book history → StandsFor self.new.book (after self.old.book.rules history (Loads keys.now))) }
+        ensures replies { IfOk result (λ replies. (history : List Atom) → StandsFor self.old.book history
+            → replies.items ≡ load_replies self.old.book.rules history keys.now) }
+        ensures stands { OnOk result ((history : List Atom) → StandsFor self.old.book history
+            → StandsFor self.new.book (after self.old.book.rules history (Loads keys.now))) }
         ensures accepted { OnOk result ((history : List Atom) → StandsFor self.old.book history → refusal self.old.book.rules history (Loads keys.now) ≡ None) }
-        ensures fault { IfErr result (λ fault. (history : List Atom) → StandsFor self.old.book history → IsRefusal self.old.book.rules history (Loads keys.now) fault) }
+        ensures fault { IfErr result (λ fault. (history : List Atom) → StandsFor self.old.book history
+            → IsRefusal self.old.book.rules history (Loads keys.now) fault) }
         ensures err { OnErr result (self.new.book ≡ self.old.book) }
     {
         let replies = self.prepare_loads(alloc, keys)?;
@@ -100,9 +114,11 @@ impl Desk {
         ensures book { self.new.book ≡ self.old.book }
         ensures rules { self.new.prepared.rules ≡ self.old.book.rules }
         ensures reply { IfOk result (λ reply. (history : List Atom) → StandsFor self.old.book history → reply ≡ prime_reply history key.now) }
-        ensures stands { OnOk result ((history : List Atom) → StandsFor self.old.book history → StandsFor self.new.prepared (after self.old.book.rules history (Primes key.now))) }
+        ensures stands { OnOk result ((history : List Atom) → StandsFor self.old.book history
+            → StandsFor self.new.prepared (after self.old.book.rules history (Primes key.now))) }
         ensures accepted { OnOk result ((history : List Atom) → StandsFor self.old.book history → refusal self.old.book.rules history (Primes key.now) ≡ None) }
-        ensures fault { IfErr result (λ fault. (history : List Atom) → StandsFor self.old.book history → IsRefusal self.old.book.rules history (Primes key.now) fault) }
+        ensures fault { IfErr result (λ fault. (history : List Atom) → StandsFor self.old.book history
+            → IsRefusal self.old.book.rules history (Primes key.now) fault) }
     {
         self.discard();
         self.prime_step(key)
@@ -116,9 +132,11 @@ impl Desk {
     pub fn prime(&mut self, key: &FetchKey) -> Result<DeskPrime, DeskFault>
         ensures rules { self.new.book.rules ≡ self.old.book.rules }
         ensures reply { IfOk result (λ reply. (history : List Atom) → StandsFor self.old.book history → reply ≡ prime_reply history key.now) }
-        ensures stands { OnOk result ((history : List Atom) → StandsFor self.old.book history → StandsFor self.new.book (after self.old.book.rules history (Primes key.now))) }
+        ensures stands { OnOk result ((history : List Atom) → StandsFor self.old.book history
+            → StandsFor self.new.book (after self.old.book.rules history (Primes key.now))) }
         ensures accepted { OnOk result ((history : List Atom) → StandsFor self.old.book history → refusal self.old.book.rules history (Primes key.now) ≡ None) }
-        ensures fault { IfErr result (λ fault. (history : List Atom) → StandsFor self.old.book history → IsRefusal self.old.book.rules history (Primes key.now) fault) }
+        ensures fault { IfErr result (λ fault. (history : List Atom) → StandsFor self.old.book history
+            → IsRefusal self.old.book.rules history (Primes key.now) fault) }
         ensures err { OnErr result (self.new.book ≡ self.old.book) }
     {
         let reply = self.prepare_prime(key)?;
@@ -131,7 +149,8 @@ impl Desk {
         ensures book { self.new.book ≡ self.old.book }
         ensures rules { self.new.prepared.rules ≡ self.old.book.rules }
         ensures reply { IfOk result (λ sent. (history : List Atom) → StandsFor self.old.book history → sent.items ≡ jobs history) }
-        ensures stands { OnOk result ((history : List Atom) → StandsFor self.old.book history → StandsFor self.new.prepared (after self.old.book.rules history Sends)) }
+        ensures stands { OnOk result ((history : List Atom) → StandsFor self.old.book history
+            → StandsFor self.new.prepared (after self.old.book.rules history Sends)) }
     {
         self.discard();
         let jobs = self.jobs(alloc)?;
@@ -144,7 +163,8 @@ impl Desk {
     pub fn dispatch(&mut self, alloc: Global) -> Result<Vec<Job>, AllocError>
         ensures rules { self.new.book.rules ≡ self.old.book.rules }
         ensures reply { IfOk result (λ sent. (history : List Atom) → StandsFor self.old.book history → sent.items ≡ jobs history) }
-        ensures stands { OnOk result ((history : List Atom) → StandsFor self.old.book history → StandsFor self.new.book (after self.old.book.rules history Sends)) }
+        ensures stands { OnOk result ((history : List Atom) → StandsFor self.old.book history
+            → StandsFor self.new.book (after self.old.book.rules history Sends)) }
         ensures err { OnErr result (self.new.book ≡ self.old.book) }
     {
         let jobs = self.prepare_dispatch(alloc)?;
@@ -155,7 +175,8 @@ impl Desk {
     /// Forgets the key, if it is held (DataLoader: `clear`). It takes no memory.
     pub fn clear(&mut self, key: &FetchKey)
         ensures rules { self.new.book.rules ≡ self.old.book.rules }
-        ensures stands { (history : List Atom) → StandsFor self.old.book history → StandsFor self.new.book (after self.old.book.rules history (Clears key.now)) }
+        ensures stands { (history : List Atom) → StandsFor self.old.book history
+            → StandsFor self.new.book (after self.old.book.rules history (Clears key.now)) }
     {
         self.discard();
         let _ = self.memo.swap_remove(key);

@@ -89,9 +89,11 @@ impl Desk {
     /// `NoBatch`, `NotSent`, `SettledBefore`, in this order.
     pub fn settle(&mut self, number: u32) -> Result<(), DeskFault>
         ensures rules { self.new.book.rules ≡ self.old.book.rules }
-        ensures stands { OnOk result ((history : List Atom) → StandsFor self.old.book history → StandsFor self.new.book (after self.old.book.rules history (Settles number))) }
+        ensures stands { OnOk result ((history : List Atom) → StandsFor self.old.book history
+            → StandsFor self.new.book (after self.old.book.rules history (Settles number))) }
         ensures accepted { OnOk result ((history : List Atom) → StandsFor self.old.book history → refusal self.old.book.rules history (Settles number) ≡ None) }
-        ensures fault { IfErr result (λ fault. (history : List Atom) → StandsFor self.old.book history → refusal self.old.book.rules history (Settles number) ≡ Some fault) }
+        ensures fault { IfErr result (λ fault. (history : List Atom) → StandsFor self.old.book history
+            → refusal self.old.book.rules history (Settles number) ≡ Some fault) }
         ensures err { OnErr result (self.new.book ≡ self.old.book) }
     {
         self.check_end(number)?;
@@ -106,9 +108,11 @@ impl Desk {
     /// `NoBatch`, `NotSent`, `SettledBefore`, in this order.
     pub fn fail(&mut self, number: u32) -> Result<(), DeskFault>
         ensures rules { self.new.book.rules ≡ self.old.book.rules }
-        ensures stands { OnOk result ((history : List Atom) → StandsFor self.old.book history → StandsFor self.new.book (after self.old.book.rules history (Fails number))) }
+        ensures stands { OnOk result ((history : List Atom) → StandsFor self.old.book history
+            → StandsFor self.new.book (after self.old.book.rules history (Fails number))) }
         ensures accepted { OnOk result ((history : List Atom) → StandsFor self.old.book history → refusal self.old.book.rules history (Fails number) ≡ None) }
-        ensures fault { IfErr result (λ fault. (history : List Atom) → StandsFor self.old.book history → refusal self.old.book.rules history (Fails number) ≡ Some fault) }
+        ensures fault { IfErr result (λ fault. (history : List Atom) → StandsFor self.old.book history
+            → refusal self.old.book.rules history (Fails number) ≡ Some fault) }
         ensures err { OnErr result (self.new.book ≡ self.old.book) }
     {
         self.check_end(number)?;

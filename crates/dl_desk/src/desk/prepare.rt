@@ -22,7 +22,8 @@ impl Desk {
         ensures book { self.new.book ≡ self.old.book }
         ensures ready { IfOk result (IsReadyFor self.new (Loads keys.now)) }
         ensures accepted { OnOk result ((history : List Atom) → StandsFor self.old.book history → refusal self.old.book.rules history (Loads keys.now) ≡ None) }
-        ensures fault { IfErr result (λ fault. (history : List Atom) → StandsFor self.old.book history → IsRefusal self.old.book.rules history (Loads keys.now) fault) }
+        ensures fault { IfErr result (λ fault. (history : List Atom) → StandsFor self.old.book history
+            → IsRefusal self.old.book.rules history (Loads keys.now) fault) }
     {
         let replies = self.prepare_loads(alloc, keys)?;
         Ok(Ready {
@@ -38,7 +39,8 @@ impl Desk {
         ensures book { self.new.book ≡ self.old.book }
         ensures ready { IfOk result (IsReadyFor self.new (Primes key.now)) }
         ensures accepted { OnOk result ((history : List Atom) → StandsFor self.old.book history → refusal self.old.book.rules history (Primes key.now) ≡ None) }
-        ensures fault { IfErr result (λ fault. (history : List Atom) → StandsFor self.old.book history → IsRefusal self.old.book.rules history (Primes key.now) fault) }
+        ensures fault { IfErr result (λ fault. (history : List Atom) → StandsFor self.old.book history
+            → IsRefusal self.old.book.rules history (Primes key.now) fault) }
     {
         let reply = self.prepare_prime(key)?;
         Ok(Ready {
@@ -63,8 +65,10 @@ impl Desk {
         requires { (call : DeskCall) × IsReadyFor self.old call ready }
         ensures told { result ≡ ready.reply }
         ensures rules { self.new.book.rules ≡ self.old.book.rules }
-        ensures reply { (call : DeskCall) → IsReadyFor self.old call ready → (history : List Atom) → StandsFor self.old.book history → IsReplyTo self.old.book.rules history call result }
-        ensures stands { (call : DeskCall) → IsReadyFor self.old call ready → (history : List Atom) → StandsFor self.old.book history → StandsFor self.new.book (after self.old.book.rules history call) }
+        ensures reply { (call : DeskCall) → IsReadyFor self.old call ready → (history : List Atom) → StandsFor self.old.book history
+            → IsReplyTo self.old.book.rules history call result }
+        ensures stands { (call : DeskCall) → IsReadyFor self.old call ready → (history : List Atom) → StandsFor self.old.book history
+            → StandsFor self.new.book (after self.old.book.rules history call) }
     {
         self.make_prepared();
         ready.reply

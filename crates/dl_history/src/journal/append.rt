@@ -42,6 +42,8 @@ impl<L: LoaderName> Journal<L> {
     ///
     /// # Errors
     /// `OutOfMemory`, `LogRefused`. The journal and the share then tell what they told before.
+    // Inlined, so that an event is made where it will lie, and not moved there.
+    #[inline(always)]
     pub fn append(
         &mut self,
         alloc: Global,
@@ -98,7 +100,8 @@ impl<L: LoaderName> Journal<L> {
     }
 }
 
-// Readers, in order, of so many cells from one on, which know nothing of them.
+// Readers, in order, of so many cells from one on, which know nothing of them. Most calls begin no cell.
+#[inline(always)]
 fn blank_readers(
     alloc: Global,
     row: &CellRow<Ending>,

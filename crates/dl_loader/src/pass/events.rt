@@ -25,6 +25,8 @@ impl<L: LoaderName> Pass<L> {
     /// # Errors
     /// `OutOfMemory`; `LogRefused` where the log's cell has another event. The journal and the pass then tell
     /// what they told before.
+    // Inlined, so that an event is made where it will lie, and not moved there.
+    #[inline(always)]
     pub(crate) fn make_event(
         &mut self,
         alloc: Global,
@@ -50,6 +52,7 @@ impl<L: LoaderName> Pass<L> {
     }
 
     // The same, where the pass has room.
+    #[inline(always)]
     fn add_event(
         &mut self,
         alloc: Global,

@@ -14,7 +14,10 @@ loop-place-preserved c =
     let held : before c.member-cell.result.0.now ≡ c.copied.result = sym c.get.ensures.value ∙ sym c.copied.ensures in
     rw (take-next c.args.batch.now.members c.loop-place.place _ c.member-cell.ensures) (elim c.if-eq.branch [
       | then-eq w ↦
-          (forgot_removed first before (λ k. lookup (key_eq k) c.if-eq.memo.entries) _ c.member-cell.result.0.now c.member-cell.result.1 forgot (held ∙ option_eq-true c.copied.result c.member-cell.result.1 (sym c.eq.ensures ∙ w.if-eq.true)) (λ q. rw w.memo-is (w.swap_remove.ensures.updates.0 q))).is
+          (forgot_removed first before (λ k. lookup (key_eq k) c.if-eq.memo.entries) _ c.member-cell.result.0.now c.member-cell.result.1 forgot
+          (held ∙ option_eq-true c.copied.result c.member-cell.result.1 (sym c.eq.ensures ∙ w.if-eq.true))
+          (λ q. rw w.memo-is (w.swap_remove.ensures.updates.0 q))).is
       | else-eq w ↦
-          (forgot_kept first before (λ k. lookup (key_eq k) c.if-eq.memo.entries) _ c.member-cell.result.0.now c.member-cell.result.1 forgot (λ e. option_eq-false c.copied.result c.member-cell.result.1 (sym c.eq.ensures ∙ w.if-eq.false) (sym held ∙ e)) (λ q. rw w.memo-is refl)).is
+          (forgot_kept first before (λ k. lookup (key_eq k) c.if-eq.memo.entries) _ c.member-cell.result.0.now c.member-cell.result.1 forgot
+          (λ e. option_eq-false c.copied.result c.member-cell.result.1 (sym c.eq.ensures ∙ w.if-eq.false) (sym held ∙ e)) (λ q. rw w.memo-is refl)).is
     ])

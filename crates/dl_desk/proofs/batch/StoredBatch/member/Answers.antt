@@ -26,4 +26,6 @@ pub returns : goal.returns
 returns c =
     let h = rw (← c.self.view_is) at c.requires in
     let l : c.args.place < length c.self.inside.cells.items = rw (length-zip_same c.self.inside.keys.keys c.self.inside.cells.items c.self.invariant.0) at h in
-    rw (← c.self.view_is) (get-zip c.self.inside.keys.keys c.self.inside.cells.items c.args.place c.index-keys-place.result c.index.result.now c.self.invariant.0 (rw c.self.invariant.0 l) (rw c.as_slice-keys.ensures.keys at c.index-keys-place.is) c.index.ensures)
+    rw (← c.self.view_is)
+    (get-zip c.self.inside.keys.keys c.self.inside.cells.items c.args.place c.index-keys-place.result c.index.result.now c.self.invariant.0
+    (rw c.self.invariant.0 l) (rw c.as_slice-keys.ensures.keys at c.index-keys-place.is) c.index.ensures)

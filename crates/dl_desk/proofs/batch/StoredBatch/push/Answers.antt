@@ -5,13 +5,16 @@ use Rattle.dl_desk.proofs.Zips.{IsPushed, has_member-zip, pushed_same, pushed_wi
 use Rattle.dl_desk.proofs.batch.StoredBatch.push.Goals as goal
 
 is_new : (c : goal.After-unwrap) → true ≡ not (has_member (zip c.self.inside.keys.keys c.self.inside.cells.items) c.args.key)
-is_new c = rw (has_member-zip c.self.inside.keys.keys c.self.inside.cells.items c.args.key c.self.invariant.0) (sym c.if-not-branch.false ∙ c.in_ok-insert.ensures.added)
+is_new c =
+    rw (has_member-zip c.self.inside.keys.keys c.self.inside.cells.items c.args.key c.self.invariant.0)
+    (sym c.if-not-branch.false ∙ c.in_ok-insert.ensures.added)
 
 absent : (has : Bool) → true ≡ not has → has ≡ false
 absent true none = absurd (true≢false none)
 absent false none = refl
 
-pushed : (c : goal.After-unwrap) → IsPushed c.self.inside.keys.keys c.self.inside.cells.items c.self.inside.seen c.args.key c.args.cell c.insert.new.self.keys c.push.new.self.items
+pushed : (c : goal.After-unwrap) → IsPushed c.self.inside.keys.keys c.self.inside.cells.items c.self.inside.seen c.args.key c.args.cell c.insert.new.self.keys
+    c.push.new.self.items
 pushed c = record {
   same = c.self.invariant.0;
   within = c.self.invariant.1;
@@ -24,7 +27,11 @@ pub invariant_of-self-2 : goal.invariant_of-self-2
 invariant_of-self-2 c = (pushed_same (pushed c), pushed_within (pushed c))
 
 pub returns-then-not-branch-clause-is_new : goal.returns-then-not-branch-clause-is_new
-returns-then-not-branch-clause-is_new c = rw (← c.self.view_is, has_member-zip c.self.inside.keys.keys c.self.inside.cells.items c.args.key c.self.invariant.0) (sym c.if-not-branch.true ∙ c.in_ok-insert.ensures.added)
+returns-then-not-branch-clause-is_new c = rw (
+  ← c.self.view_is,
+  has_member-zip c.self.inside.keys.keys c.self.inside.cells.items c.args.key
+      c.self.invariant.0,
+) (sym c.if-not-branch.true ∙ c.in_ok-insert.ensures.added)
 
 pub returns-clause-is_new : goal.returns-clause-is_new
 returns-clause-is_new c = rw (← c.self.view_is) (is_new c)

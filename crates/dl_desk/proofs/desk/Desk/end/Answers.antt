@@ -12,4 +12,6 @@ returns-in-Settled-clause-stands c = λ history stands.
 pub returns-in-Failed-clause-stands : goal.returns-in-Failed-clause-stands
 returns-in-Failed-clause-stands c = λ history stands.
     let forgets : Forgets c.args.self.now.book c.args.number c.forget_own.new.self.book = rw c.discard.ensures.book at c.forget_own.ensures.forgets in
-    rw c.in-Failed.is (stands_failed c.args.self.now.book c.forget_own.new.self.book c.mark-in-Failed.new.self.book history c.args.number stands c.requires forgets c.mark-in-Failed.ensures)
+    rw c.in-Failed.is
+    (stands_failed c.args.self.now.book c.forget_own.new.self.book c.mark-in-Failed.new.self.book history c.args.number stands c.requires forgets
+    c.mark-in-Failed.ensures)

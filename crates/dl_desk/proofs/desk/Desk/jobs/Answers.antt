@@ -13,7 +13,8 @@ at c =
     slice_get_read c.self.inside.batches.items (length c.self.inside.batches.items) c.loop-number.number c.index.result.now refl (omega arith) c.index.ensures
 
 members : (c : goal.In_ok-push) → members_at c.args.self.now.prepared c.loop-number.number ≡ c.index.result.now.members
-members c = members_at-stored whole c.args.self.now.prepared c.self.inside.prepared.begun c.loop-number.number c.self.inside.batches.items c.index.result.now (sym (ap (λ (d : Desk). d.prepared.batches) c.self.view_is)) c.loop-number-test.true (at c)
+members c = members_at-stored whole c.args.self.now.prepared c.self.inside.prepared.begun c.loop-number.number c.self.inside.batches.items c.index.result.now
+    (sym (ap (λ (d : Desk). d.prepared.batches) c.self.view_is)) c.loop-number-test.true (at c)
 
 pub loop-number-preserved : goal.loop-number-preserved
 loop-number-preserved c =

@@ -5,7 +5,9 @@ use Rattle.dl_desk.proofs.desk.Desk.prepare_loads.Goals as goal
 pub returns-in_err-load_step-clause-fault : goal.returns-in_err-load_step-clause-fault
 returns-in_err-load_step-clause-fault c =
     let p = err_from_is_err_and c.from_residual-in_err-load_step.result c.from_residual-in_err-load_step.ensures.1 in
-    rw (p.1, p.2) (loading_refused c.args.self.now.book c.loop-key.self c.args.keys.now c.loop-key.key-index c.loop-key.replies.items c.key-item.result _ c.loop-key-test.true c.key-item.is c.loop-key.invariant c.in_err-load_step.ensures.fault)
+    rw (p.1, p.2)
+    (loading_refused c.args.self.now.book c.loop-key.self c.args.keys.now c.loop-key.key-index c.loop-key.replies.items c.key-item.result _
+    c.loop-key-test.true c.key-item.is c.loop-key.invariant c.in_err-load_step.ensures.fault)
 
 loaded : (c : goal.In_ok-push) → Loaded c.loop-key.self c.load_step.new.self c.key-item.result c.in_ok-load_step.field-0
 loaded c = record {
@@ -17,7 +19,10 @@ loaded c = record {
 }
 
 pub loop-key-preserved : goal.loop-key-preserved
-loop-key-preserved c = rw c.in_ok-push.ensures.items (loading_at c.args.self.now.book c.loop-key.self c.load_step.new.self c.args.keys.now c.loop-key.key-index c.loop-key.replies.items c.key-item.result c.in_ok-load_step.field-0 c.loop-key-test.true c.key-item.is c.loop-key.invariant (loaded c))
+loop-key-preserved c = rw c.in_ok-push.ensures.items (loading_at c.args.self.now.book c.loop-key.self c.load_step.new.self c.args.keys.now
+    c.loop-key.key-index c.loop-key.replies.items c.key-item.result c.in_ok-load_step.field-0 c.loop-key-test.true c.key-item.is c.loop-key.invariant
+    (loaded c))
 
 pub returns-clause-accepted : goal.returns-clause-accepted
-returns-clause-accepted c = loading_accepted c.args.self.now.book c.loop-key.self c.args.keys.now c.loop-key.replies.items (loading_all c.args.self.now.book c.loop-key.self c.args.keys.now c.loop-key.key-index c.loop-key.replies.items c.loop-key-test.false c.loop-key.invariant)
+returns-clause-accepted c = loading_accepted c.args.self.now.book c.loop-key.self c.args.keys.now c.loop-key.replies.items
+    (loading_all c.args.self.now.book c.loop-key.self c.args.keys.now c.loop-key.key-index c.loop-key.replies.items c.loop-key-test.false c.loop-key.invariant)

@@ -9,7 +9,8 @@ use Rattle.dl_desk.proofs.Prepares.{lookup-noted, members-taken, length-begun, l
 use Rattle.dl_desk.proofs.desk.Desk.put.Goals as goal
 
 pub invariant_of-self-in_err-batch : goal.invariant_of-self-in_err-batch
-invariant_of-self-in_err-batch c = desk_grown _ (length c.self.inside.memo.entries) _ _ _ _ _ c.self.inside.batches.items _ c.self.invariant c.in_err-batch.ensures.err (rw (c.in_ok-held.ensures.noted (ap Ok c.in_default.is), length-append) (let m = c.self.invariant.memo in omega arith))
+invariant_of-self-in_err-batch c = desk_grown _ (length c.self.inside.memo.entries) _ _ _ _ _ c.self.inside.batches.items _ c.self.invariant
+    c.in_err-batch.ensures.err (rw (c.in_ok-held.ensures.noted (ap Ok c.in_default.is), length-append) (let m = c.self.invariant.memo in omega arith))
 
 noted : (c : goal.After-self-4-1) → c.hold.new.memo.entries ≡ c.self.inside.memo.entries ++ (c.args.key.now, c.self.inside.prepared.cells) ∷ []
 noted c = rw c.in_ok-try_copy.ensures at (c.in_ok-held.ensures.noted (ap Ok c.in_default.is))
@@ -33,7 +34,8 @@ room c =
     let number : c.in_ok-batch.batch ≡ cond (has (members_of (slice_get batches newest))) inside.prepared.begun newest = c.in_ok-batch.ensures.number in
     let taken = members-taken _ _ _ _ newest batches c.self.invariant.prepared_book (newest_low c) in
     let begun = length-begun _ _ _ _ batches c.self.invariant.prepared_book in
-    let chosen : cond (has (members_of (slice_get (take inside.prepared.begun batches) newest))) (length (take inside.prepared.begun batches)) newest ≡ book_room c.args.self.now.prepared key = rw (← c.self.view_is) (c.newest-newest.ensures.room key) in
+    let chosen : cond (has (members_of (slice_get (take inside.prepared.begun batches) newest))) (length (take inside.prepared.begun batches))
+    newest ≡ book_room c.args.self.now.prepared key = rw (← c.self.view_is) (c.newest-newest.ensures.room key) in
     number
     ∙ ap (λ ms. cond (has ms) inside.prepared.begun newest) (sym taken)
     ∙ ap (λ n. cond (has (members_of (slice_get (take inside.prepared.begun batches) newest))) n newest) (sym begun)
@@ -41,13 +43,17 @@ room c =
 
 pub invariant_of-self-3 : goal.invariant_of-self-3
 invariant_of-self-3 c = rw (c.max-self-inside.ensures, c.min-self-inside.ensures)
-    (desk_put _ (length c.self.inside.memo.entries) _ _ _ _ (c.args.key.now, c.self.inside.prepared.cells) c.self.inside.prepared _ c.self.inside.batches.items _ c.self.invariant c.in_ok-batch.ensures.added (next c)
+    (desk_put _ (length c.self.inside.memo.entries) _ _ _ _ (c.args.key.now, c.self.inside.prepared.cells) c.self.inside.prepared _
+    c.self.inside.batches.items _ c.self.invariant c.in_ok-batch.ensures.added (next c)
     (rw (← c.self.view_is) at c.requires.not_full)
     (rw (noted c, length-append) (let m = c.self.invariant.memo in omega arith)))
 
 pub returns-clause-book : goal.returns-clause-book
 returns-clause-book c = rw (← c.self.view_is, noted c)
-    (same_book _ _ _ _ _ _ _ (memo_shown _ _ _ c.self.invariant.memo) (batches_shown _ _ _ _ _ _ c.self.inside.batches.items _ c.self.invariant.shown_book c.in_ok-batch.ensures.added))
+    (same_book
+    _ _ _ _ _
+    _ _ (memo_shown _ _ _ c.self.invariant.memo) (batches_shown _ _ _ _ _ _ c.self.inside.batches.items _ c.self.invariant.shown_book
+    c.in_ok-batch.ensures.added))
 
 pub returns-clause-put : goal.returns-clause-put
 returns-clause-put c = (

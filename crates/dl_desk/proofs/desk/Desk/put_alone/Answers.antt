@@ -1,4 +1,4 @@
-use Rattle.std.proofs.Common.{◌≡◌, ◌∙◌, ap, sym, Ok, None, ◌++◌, ◌∷◌, [], refl}
+use Rattle.std.proofs.Common.{◌≡◌, ◌∙◌, ap, sym, Ok, None, refl}
 use Rattle.std.specs.Map.{lookup}
 use Rattle.dl_desk.specs.Key.{key_eq}
 use Rattle.dl_desk.proofs.Prepares.{lookup-noted}
