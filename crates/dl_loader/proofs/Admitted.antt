@@ -1,14 +1,11 @@
 -- A pass that may make an event.
-use Rattle.std.proofs.Common.{◌≡◌, sym, subst, ℕ, ◌<◌, ◌≤◌, Bool, true, false, cond, List, length, Option, Some, None, nat_lt, nat_le, refl}
+use Rattle.std.proofs.Common.{◌≡◌, ℕ, ◌<◌, ◌≤◌, Bool, true, false, cond, length, Option, Some, None, nat_lt, nat_le, refl}
 use Rattle.std.proofs.lemmas.Bool.{ltb-false, leb-false}
-use Rattle.dl_desk.specs.BatchBook.{BatchBook}
-use Rattle.dl_history.specs.declared.event.Event.{Event}
 use Rattle.dl_loader.specs.declared.fault.CallFault.{CallFault}
 use Rattle.dl_loader.specs.declared.fault.CallFault.TheVariants.{Stopped, Behind, LogFull}
 use Rattle.dl_history.specs.Service.{Service}
 use Rattle.dl_history.specs.Entries.{front_of}
-use Rattle.dl_history.specs.Journal.{Cell}
-use Rattle.dl_loader.specs.Book.{Locked, locked}
+use Rattle.dl_loader.specs.Book.{Locked}
 use Rattle.dl_loader.specs.Pass.{Part}
 use Rattle.dl_desk.specs.declared.reply.Job.{Job}
 use Rattle.dl_history.specs.declared.event.Call.{Call}
@@ -32,11 +29,6 @@ pub ready_facts : (s : Service) (b : Locked) (p : Part) → unready s b p ≡ No
 ready_facts s b p none =
     ready_at s.rules.limits.max_calls (front_of p.entries) (length b.history) b.stopped (nat_lt (length b.history) (front_of p.entries))
     (nat_le s.rules.limits.max_calls (length b.history)) refl refl none
-
--- so the history that the book was seen to have is not full
-pub ready_room : (s : Service) (b : Locked) (p : Part) (es : List Event) (d : BatchBook) (xs : List Cell) (stopped : Bool) → locked es d xs stopped ≡ b
-    → unready s b p ≡ None → length es < s.rules.limits.max_calls
-ready_room s b p es d xs stopped view ready = (ready_facts s (locked es d xs stopped) p (subst (λ (x : Locked). unready s x p ≡ None) (sym view) ready)).1
 
 -- so a pass whose call was accepted has seen no more than there is
 pub accepted_after : (s : Service) (b : Locked) (p : Part) (call : Call) (job : Option Job) → refusal s b p call job ≡ None

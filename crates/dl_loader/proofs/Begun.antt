@@ -1,27 +1,18 @@
 -- How many cells a call of a desk begins, and that an accepted one's fit.
-use Rattle.std.proofs.Common.{◌≡◌, ◌∙◌, sym, ap, ℕ, ◌+◌, ◌≤◌, Bool, true, false, cond, List, [], ◌∷◌, Option, Some, None, nat_lt, refl, arith}
+use Rattle.std.proofs.Common.{◌≡◌, ◌∙◌, sym, ℕ, ◌+◌, ◌≤◌, Bool, true, false, cond, List, [], ◌∷◌, Option, Some, None, nat_lt, refl, arith}
 use Rattle.std.proofs.lemmas.Bool.{ltb-false}
 use Rattle.std.proofs.lemmas.List.Sums.{sum_by-cons}
 use Rattle.dl_desk.specs.Key.{Key}
 use Rattle.dl_desk.specs.Limits.{Rules}
 use Rattle.dl_desk.specs.History.{Atom, Load, Prime, begins, count_cell, cells, held, load_reply, load_replies, loaded, prime_reply, prime_reply_at}
-use Rattle.dl_desk.specs.Events.{atoms}
 use Rattle.dl_desk.specs.BatchBook.{BatchBook, StandsFor}
 use Rattle.dl_desk.specs.Calls.{Loads, Primes, new_count, full, refusal}
 use Rattle.dl_desk.specs.declared.fault.DeskFault.{DeskFault}
 use Rattle.dl_desk.specs.declared.fault.DeskFault.TheVariants.{CellsFull}
 use Rattle.dl_desk.specs.declared.reply.LoadReply.{LoadReply}
 use Rattle.dl_desk.specs.declared.reply.LoadReply.TheVariants.{Hit, Fresh}
-use Rattle.dl_desk.specs.declared.reply.DeskPrime.{DeskPrime}
 use Rattle.dl_desk.specs.declared.reply.DeskPrime.TheVariants.{Primed, Kept}
-use Rattle.dl_desk.specs.declared.outcome.Outcome.{Outcome}
 use Rattle.dl_desk.proofs.Counts.{cells-loaded}
-use Rattle.dl_history.specs.declared.event.Event.{Event}
-use Rattle.dl_history.specs.declared.event.Call.TheVariants as call
-use Rattle.dl_history.specs.declared.event.Reply.{Reply}
-use Rattle.dl_history.specs.declared.event.Reply.TheVariants as reply
-use Rattle.dl_history.specs.Service.{Service}
-use Rattle.dl_history.specs.History.{log, primed, reply_to, IsNext}
 use Rattle.dl_loader.specs.Inside.Begun.{begun_by, cells_begun}
 
 -- ---- an atom that begins no cell
@@ -111,27 +102,3 @@ primed_fits rules history k c old is before none =
     let low = fits rules history (k ∷ []) none in
     let were = before.cells in
     omega arith
-
--- ---- the prime of an event
-
-primed_by : (c : ℕ) (r : DeskPrime) → primed r ≡ reply.Primed c → r ≡ Primed c
-primed_by c (Primed d) is = let two : reply.Primed d ≡ reply.Primed c = is in let same : d ≡ c = cc in ap Primed same
-primed_by c Kept is = absurd (let bad : reply.Kept ≡ reply.Primed c = is in cc)
-
-kept_by : (r : DeskPrime) → primed r ≡ reply.Kept → r ≡ Kept
-kept_by (Primed d) is = absurd (let bad : reply.Primed d ≡ reply.Kept = is in cc)
-kept_by Kept is = refl
-
-event_prime : (s : Service) (es : List Event) (e : Event) (k : Key) (o : Outcome) (r : Reply) → IsNext s es e → e.call ≡ call.Prime k o → e.reply ≡ r
-    → primed (prime_reply (atoms (log es)) k) ≡ r
-event_prime s es e k o r next is given = sym (ap (reply_to s.rules (atoms (log es))) is) ∙ (sym next.reply ∙ given)
-
--- a next event that is a prime of a key that is not held has the reply that the desk gives
-pub primed_reply : (s : Service) (es : List Event) (e : Event) (k : Key) (o : Outcome) (c : ℕ) → IsNext s es e → e.call ≡ call.Prime k o
-    → e.reply ≡ reply.Primed c → prime_reply (atoms (log es)) k ≡ Primed c
-primed_reply s es e k o c next is given = primed_by c (prime_reply (atoms (log es)) k) (event_prime s es e k o (reply.Primed c) next is given)
-
--- and so has one of a key that is held
-pub kept_reply : (s : Service) (es : List Event) (e : Event) (k : Key) (o : Outcome) → IsNext s es e → e.call ≡ call.Prime k o → e.reply ≡ reply.Kept
-    → prime_reply (atoms (log es)) k ≡ Kept
-kept_reply s es e k o next is given = kept_by (prime_reply (atoms (log es)) k) (event_prime s es e k o reply.Kept next is given)

@@ -1,206 +1,164 @@
 -- What the book of a loader keeps after a call on a key, a clear of all keys and a dispatch, told by what the
 -- record of the event and the desk promise.
-use Rattle.std.proofs.Common.{◌≡◌, ◌∙◌, sym, ap, subst, ℕ, ◌+◌, ◌<◌, Bool, true, false, cond, List, [], ◌∷◌, ◌++◌, length, set, Some, None, MatchBool}
-use Rattle.std.proofs.Common.{slice_get, refl, arith}
+use Rattle.std.proofs.Common.{◌≡◌, ◌∙◌, sym, ap, subst, ℕ, ◌+◌, Bool, true, false, cond, List, [], ◌∷◌, ◌++◌, length, set, Some, None, MatchBool}
+use Rattle.std.proofs.Common.{slice_get, refl}
 use Rattle.std.specs.List.{repeat}
 use Rattle.std.proofs.lemmas.List.Sums.{fold-append}
 use Rattle.dl_desk.specs.Key.{Key}
+use Rattle.dl_desk.specs.Limits.{Rules}
 use Rattle.dl_desk.specs.History.{Atom, prime_reply, jobs}
 use Rattle.dl_desk.specs.History as atom
 use Rattle.dl_desk.specs.Events.{atoms}
-use Rattle.dl_desk.specs.Calls.{Primes, Clears, ClearsAll, Sends, refusal, after}
+use Rattle.dl_desk.specs.Calls.{Primes, Clears, ClearsAll, Sends, refusal}
 use Rattle.dl_desk.specs.BatchBook.{BatchBook, StandsFor}
 use Rattle.dl_desk.specs.declared.outcome.Outcome.{Outcome}
 use Rattle.dl_desk.specs.declared.reply.DeskPrime.{DeskPrime}
 use Rattle.dl_desk.specs.declared.reply.DeskPrime.TheVariants as prime
-use Rattle.dl_desk.specs.declared.reply.DeskReply.TheVariants as desk
 use Rattle.dl_desk.specs.declared.reply.Job.{Job}
 use Rattle.dl_history.specs.declared.event.Event.{Event}
 use Rattle.dl_history.specs.declared.event.Ending.{Ending}
-use Rattle.dl_history.specs.declared.event.Call.{Call}
 use Rattle.dl_history.specs.declared.event.Call.TheVariants.{Prime, Clear, ClearAll, Dispatch}
 use Rattle.dl_history.specs.declared.event.Reply.{Reply}
 use Rattle.dl_history.specs.declared.event.Reply.TheVariants.{Done, Sent}
 use Rattle.dl_history.specs.Service.{Service}
-use Rattle.dl_history.specs.History.{log, primed, IsNext}
+use Rattle.dl_history.specs.History.{log, primed}
 use Rattle.dl_history.specs.Journal.{Cell, waiting, showing, refused, Refuses, is_refused, refusals}
-use Rattle.dl_loader.specs.Book.{Locked, locked, Keeps}
-use Rattle.dl_history.specs.Kept.{ShowsEnd}
-use Rattle.dl_loader.specs.Pass.{Part}
-use Rattle.dl_loader.specs.Refusals.{unready}
-use Rattle.dl_loader.proofs.Admitted.{ready_room}
+use Rattle.dl_history.specs.Kept.{Kept, kept, IsKept, ShowsEnd}
 use Rattle.dl_history.proofs.Logs.{get-append_at}
+use Rattle.dl_history.proofs.CellLists.{set_last, gets_end}
 use Rattle.dl_history.proofs.Endings.{primed_cell}
-use Rattle.dl_history.proofs.CellLists.{repeat_none, set_last, gets_end}
-use Rattle.dl_loader.proofs.Kept.{begun_cells}
-use Rattle.dl_loader.proofs.KeptCalls.{keeps_clear, keeps_clear_all, keeps_dispatch, keeps_prime_held, keeps_prime_new}
+use Rattle.dl_loader.proofs.Begun.{same_cells, kept_count, primed_count, primed_fits}
+use Rattle.dl_loader.proofs.Kept.{MayCall, Recorded, Steps, Grows, event, grows, grown, begun_cells, keeps_primed}
+use Rattle.dl_loader.proofs.KeptCalls.{keeps_unbegun}
 
 -- ---- an event with no cells
 
-abbrev pub event : ℕ → Call → Reply → Event
-event caller call reply = record { caller = caller; call = call; reply = reply }
-
--- the book with the history and the cells that the record left
-recorded : (s : Service) (es now : List Event) (e : Event) (d : BatchBook) (xs ys : List Cell) (stopped : Bool) → now ≡ es ++ e ∷ []
-    → ys ≡ xs ++ repeat 0 (waiting ∷ []) → Keeps s (locked (es ++ e ∷ []) d xs stopped) → Keeps s (locked now d ys stopped)
-recorded s es now e d xs ys stopped history cells kept =
-    let same : ys ≡ xs = cells ∙ sym (repeat_none xs waiting) in
-    let with_cells : Keeps s (locked (es ++ e ∷ []) d ys stopped) = subst (λ (cs : List Cell). Keeps s (locked (es ++ e ∷ []) d cs stopped)) (sym same) kept in
-    subst (λ (hs : List Event). Keeps s (locked hs d ys stopped)) (sym history) with_cells
-
 -- after a clear of a key, where the event has a copy of the key
-pub clear_kept : (s : Service) (b : Locked) (p : Part) (es now : List Event) (k j : Key) (caller : ℕ) (old new : BatchBook) (xs ys : List Cell) (stopped : Bool)
-    → locked es old xs stopped ≡ b → unready s b p ≡ None → Keeps s (locked es old xs stopped) → caller ≡ p.caller → p.caller < s.callers → k ≡ j
-    → now ≡ es ++ event caller (Clear k) Done ∷ [] → ys ≡ xs ++ repeat 0 (waiting ∷ [])
-    → new.rules ≡ old.rules → ((h : List Atom) → StandsFor old h → StandsFor new (after old.rules h (Clears j)))
-    → Keeps s (locked now new ys stopped)
-clear_kept s b p es now k j caller old new xs ys stopped view ready kept own below copy history cells rules stands =
-    let e : Event = event caller (Clear k) Done in
-    let next : IsNext s es e = record { caller = omega arith; reply = refl; made = tt } in
-    let stands_now : StandsFor new (atom.Clear k ∷ atoms (log es)) =
-    subst (λ (x : Key). StandsFor new (atom.Clear x ∷ atoms (log es))) (sym copy) (stands (atoms (log es)) kept.desk) in
-    recorded s es now e new xs ys stopped history cells
-    (keeps_clear s es e k old new xs stopped kept next refl (ready_room s b p es old xs stopped view ready) rules stands_now)
+pub clear_kept : {s : Service} {seen : Kept} {caller : ℕ} {k j : Key} {now : List Event} {new : BatchBook} {ys : List Cell} → MayCall s seen caller → k ≡ j
+    → Recorded seen (event caller (Clear k) Done) 0 now ys → Steps seen.desk new (Clears j) → IsKept s (kept now new ys)
+clear_kept {s} {seen} {caller} {k} {new = new} may copy recorded step =
+    let H = atoms (log seen.history) in
+    let here : Steps seen.desk new (Clears k) = subst (λ (x : Key). Steps seen.desk new (Clears x)) (sym copy) step in
+    let same = same_cells H (atom.Clear k) seen.desk new refl may.kept.desk (here.stands H may.kept.desk) in
+    keeps_unbegun (grows (event caller (Clear k) Done) may refl tt) refl recorded here same
 
 -- after a clear of all keys
-pub clear_all_kept : (s : Service) (b : Locked) (p : Part) (es now : List Event) (caller : ℕ) (old new : BatchBook) (xs ys : List Cell) (stopped : Bool)
-    → locked es old xs stopped ≡ b → unready s b p ≡ None → Keeps s (locked es old xs stopped) → caller ≡ p.caller → p.caller < s.callers
-    → now ≡ es ++ event caller ClearAll Done ∷ [] → ys ≡ xs ++ repeat 0 (waiting ∷ [])
-    → new.rules ≡ old.rules → ((h : List Atom) → StandsFor old h → StandsFor new (after old.rules h ClearsAll))
-    → Keeps s (locked now new ys stopped)
-clear_all_kept s b p es now caller old new xs ys stopped view ready kept own below history cells rules stands =
-    let e : Event = event caller ClearAll Done in
-    let next : IsNext s es e = record { caller = omega arith; reply = refl; made = tt } in
-    recorded s es now e new xs ys stopped history cells
-    (keeps_clear_all s es e old new xs stopped kept next refl (ready_room s b p es old xs stopped view ready) rules (stands (atoms (log es)) kept.desk))
-
--- ---- a dispatch
+pub clear_all_kept : {s : Service} {seen : Kept} {caller : ℕ} {now : List Event} {new : BatchBook} {ys : List Cell} → MayCall s seen caller
+    → Recorded seen (event caller ClearAll Done) 0 now ys → Steps seen.desk new ClearsAll → IsKept s (kept now new ys)
+clear_all_kept {s} {seen} {caller} {new = new} may recorded step =
+    let H = atoms (log seen.history) in
+    let same = same_cells H atom.ClearAll seen.desk new refl may.kept.desk (step.stands H may.kept.desk) in
+    keeps_unbegun (grows (event caller ClearAll Done) may refl tt) refl recorded step same
 
 -- after a dispatch that the desk has prepared
-pub dispatch_kept : (s : Service) (b : Locked) (p : Part) (es now : List Event) (js : List Job) (caller : ℕ) (old new : BatchBook) (xs ys : List Cell)
-    (stopped : Bool)
-    → locked es old xs stopped ≡ b → unready s b p ≡ None → Keeps s (locked es old xs stopped) → caller ≡ p.caller → p.caller < s.callers
-    → ((h : List Atom) → StandsFor old h → js ≡ jobs h)
-    → now ≡ es ++ event caller Dispatch (Sent js) ∷ [] → ys ≡ xs ++ repeat 0 (waiting ∷ [])
-    → new.rules ≡ old.rules → StandsFor new (after old.rules (atoms (log es)) Sends)
-    → Keeps s (locked now new ys stopped)
-dispatch_kept s b p es now js caller old new xs ys stopped view ready kept own below sent history cells rules stands =
-    let e : Event = event caller Dispatch (Sent js) in
-    let next : IsNext s es e = record { caller = omega arith; reply = ap Sent (sent (atoms (log es)) kept.desk); made = tt } in
-    recorded s es now e new xs ys stopped history cells
-    (keeps_dispatch s es e old new xs stopped kept next refl (ready_room s b p es old xs stopped view ready) rules stands)
+pub dispatch_kept : {s : Service} {seen : Kept} {caller : ℕ} {js : List Job} {now : List Event} {new : BatchBook} {ys : List Cell} → MayCall s seen caller
+    → ((h : List Atom) → StandsFor seen.desk h → js ≡ jobs h) → Recorded seen (event caller Dispatch (Sent js)) 0 now ys → Steps seen.desk new Sends
+    → IsKept s (kept now new ys)
+dispatch_kept {s} {seen} {caller} {js} {new = new} may sent recorded step =
+    let H = atoms (log seen.history) in
+    let same = same_cells H (atom.Dispatch (jobs H)) seen.desk new refl may.kept.desk (step.stands H may.kept.desk) in
+    keeps_unbegun (grows (event caller Dispatch (Sent js)) may (ap Sent (sent H may.kept.desk)) tt) refl recorded step same
 
 -- ---- a prime
 
--- An event that a prime of a key is to make: with the pass's caller, a copy of the key, and the reply that the
--- desk has prepared.
-pub record IsPrime (s : Service) (p : Part) (k j : Key) (caller : ℕ) (reply : Reply) (r : DeskPrime) (old : BatchBook) : Type 0 where
-  pub own : caller ≡ p.caller
-  pub below : p.caller < s.callers
+-- A prime of a key, by a copy of it, with the reply that the desk has accepted and prepared.
+pub record IsPrime (old : BatchBook) (k j : Key) (reply : Reply) (r : DeskPrime) : Type 0 where
   pub copy : k ≡ j
-  pub replies : reply ≡ primed r
   pub told : (h : List Atom) → StandsFor old h → r ≡ prime_reply h j
+  pub accepted : (h : List Atom) → StandsFor old h → refusal old.rules h (Primes j) ≡ None
+  pub replies : reply ≡ primed r
 
-prime_told : (s : Service) (p : Part) (es : List Event) (k j : Key) (caller : ℕ) (reply : Reply) (r : DeskPrime) (old : BatchBook) (xs : List Cell)
-    (stopped : Bool)
-    → Keeps s (locked es old xs stopped) → IsPrime s p k j caller reply r old → r ≡ prime_reply (atoms (log es)) k
-prime_told s p es k j caller reply r old xs stopped kept is =
-    let H = atoms (log es) in
-    is.told H kept.desk ∙ sym (ap (prime_reply H) is.copy)
+pub is_prime : {old : BatchBook} {k j : Key} {reply : Reply} {r : DeskPrime} → k ≡ j → ((h : List Atom) → StandsFor old h → r ≡ prime_reply h j)
+    → ((h : List Atom) → StandsFor old h → refusal old.rules h (Primes j) ≡ None) → reply ≡ primed r → IsPrime old k j reply r
+is_prime copy told accepted replies = record { copy = copy; told = told; accepted = accepted; replies = replies }
 
-prime_next : (s : Service) (p : Part) (es : List Event) (k j : Key) (o : Outcome) (caller : ℕ) (reply : Reply) (r : DeskPrime) (old : BatchBook)
-    (xs : List Cell)
-    (stopped : Bool)
-    → Keeps s (locked es old xs stopped) → IsPrime s p k j caller reply r old → IsNext s es (event caller (Prime k o) reply)
-prime_next s p es k j o caller reply r old xs stopped kept is =
-    let own = is.own in
-    let below = is.below in
-    let told = prime_told s p es k j caller reply r old xs stopped kept is in
-    record { caller = omega arith; reply = is.replies ∙ ap primed told; made = tt }
+prime_told : {s : Service} {seen : Kept} {k j : Key} {reply : Reply} {r : DeskPrime} → IsKept s seen → IsPrime seen.desk k j reply r
+    → r ≡ prime_reply (atoms (log seen.history)) k
+prime_told {s} {seen} keeps is =
+    let H = atoms (log seen.history) in
+    is.told H keeps.desk ∙ sym (ap (prime_reply H) is.copy)
 
-prime_stands : (s : Service) (p : Part) (es : List Event) (k j : Key) (caller : ℕ) (reply : Reply) (r : DeskPrime) (old new : BatchBook) (xs : List Cell)
-    (stopped : Bool)
-    → Keeps s (locked es old xs stopped) → IsPrime s p k j caller reply r old → StandsFor new (after old.rules (atoms (log es)) (Primes j))
-    → StandsFor new (atom.Prime k (prime_reply (atoms (log es)) k) ∷ atoms (log es))
-prime_stands s p es k j caller reply r old new xs stopped kept is stands =
-    let H = atoms (log es) in
-    subst (λ (x : Key). StandsFor new (atom.Prime x (prime_reply H x) ∷ H)) (sym is.copy) stands
+prime_grows : {s : Service} {seen : Kept} {k j : Key} {caller : ℕ} {reply : Reply} {r : DeskPrime} (o : Outcome) → MayCall s seen caller
+    → IsPrime seen.desk k j reply r → Grows s seen (event caller (Prime k o) reply)
+prime_grows {k = k} {caller = caller} {reply = reply} o may is =
+    grows (event caller (Prime k o) reply) may (is.replies ∙ ap primed (prime_told may.kept is)) tt
 
 -- after a prime of a key that is held
-pub held_kept : (s : Service) (b : Locked) (p : Part) (es now : List Event) (k j : Key) (o : Outcome) (caller : ℕ) (reply : Reply) (r : DeskPrime)
-    (old new : BatchBook) (xs ys : List Cell) (stopped : Bool)
-    → locked es old xs stopped ≡ b → unready s b p ≡ None → Keeps s (locked es old xs stopped) → IsPrime s p k j caller reply r old → r ≡ prime.Kept
-    → now ≡ es ++ event caller (Prime k o) reply ∷ [] → ys ≡ xs ++ repeat 0 (waiting ∷ [])
-    → new.rules ≡ old.rules → StandsFor new (after old.rules (atoms (log es)) (Primes j))
-    → Keeps s (locked now new ys stopped)
-held_kept s b p es now k j o caller reply r old new xs ys stopped view ready kept is held history cells rules stands =
-    let e : Event = event caller (Prime k o) reply in
-    let next : IsNext s es e = prime_next s p es k j o caller reply r old xs stopped kept is in
-    let stands_now = prime_stands s p es k j caller reply r old new xs stopped kept is stands in
-    recorded s es now e new xs ys stopped history cells
-    (keeps_prime_held s es e k o old new xs stopped kept next refl (is.replies ∙ ap primed held) (ready_room s b p es old xs stopped view ready) rules
-    stands_now)
+pub held_kept : {s : Service} {seen : Kept} {caller : ℕ} {k j : Key} {o : Outcome} {reply : Reply} {r : DeskPrime} {now : List Event} {new : BatchBook}
+    {ys : List Cell} → MayCall s seen caller → IsPrime seen.desk k j reply r → r ≡ prime.Kept → Recorded seen (event caller (Prime k o) reply) 0 now ys
+    → Steps seen.desk new (Primes j) → IsKept s (kept now new ys)
+held_kept {s} {seen} {caller} {k} {o = o} {new = new} may is held recorded step =
+    let H = atoms (log seen.history) in
+    let here : Steps seen.desk new (Primes k) = subst (λ (x : Key). Steps seen.desk new (Primes x)) (sym is.copy) step in
+    let same = kept_count H k seen.desk new (sym (prime_told may.kept is) ∙ held) may.kept.desk (here.stands H may.kept.desk) in
+    let reply_is = is.replies ∙ ap primed held in
+    keeps_unbegun (prime_grows o may is) (rw reply_is refl) recorded here same
 
 -- a new cell is the next one
-pub primed_next : (s : Service) (p : Part) (es : List Event) (k j : Key) (o : Outcome) (caller c : ℕ) (reply : Reply) (r : DeskPrime) (old : BatchBook)
-    (xs : List Cell) (stopped : Bool)
-    → Keeps s (locked es old xs stopped) → IsPrime s p k j caller reply r old → r ≡ prime.Primed c → c ≡ length xs
-primed_next s p es k j o caller c reply r old xs stopped kept is new =
-    let next = prime_next s p es k j o caller reply r old xs stopped kept is in
-    let counted = primed_cell s es (event caller (Prime k o) reply) k o c next refl (is.replies ∙ ap primed new) in
-    counted ∙ sym (begun_cells s es old xs stopped kept)
+primed_next : {s : Service} {seen : Kept} {caller c : ℕ} {k j : Key} {reply : Reply} {r : DeskPrime} (o : Outcome) → MayCall s seen caller
+    → IsPrime seen.desk k j reply r → r ≡ prime.Primed c → c ≡ length seen.cells
+primed_next {s} {seen} {caller} {c} {k} {reply = reply} o may is new =
+    let g = prime_grows o may is in
+    let counted = primed_cell s seen.history (event caller (Prime k o) reply) k o c g.next refl (is.replies ∙ ap primed new) in
+    counted ∙ sym (begun_cells may.kept)
 
 -- and it waits until it has its end
-pub primed_waits : (xs mids : List Cell) (c : ℕ) → mids ≡ xs ++ repeat 1 (waiting ∷ []) → c ≡ length xs → slice_get mids c ≡ Some waiting
-primed_waits xs mids c cells new = rw (cells, new) (get-append_at xs waiting [])
+pub primed_waits : {s : Service} {seen : Kept} {caller c : ℕ} {k j : Key} {reply : Reply} {r : DeskPrime} {mids : List Cell} (o : Outcome)
+    → MayCall s seen caller → IsPrime seen.desk k j reply r → r ≡ prime.Primed c → mids ≡ seen.cells ++ repeat 1 (waiting ∷ [])
+    → slice_get mids c ≡ Some waiting
+primed_waits {seen = seen} o may is new cells = rw (cells, primed_next o may is new) (get-append_at seen.cells waiting [])
 
 -- the cells once the new one has its end
-ended_new : (xs mids ys : List Cell) (c : ℕ) (x : Cell) → mids ≡ xs ++ repeat 1 (waiting ∷ []) → c ≡ length xs → ys ≡ set mids c x → ys ≡ xs ++ x ∷ []
-ended_new xs mids ys c x cells new is = rw (is, cells, new) (set_last xs waiting x)
+ended_new : {mids ys : List Cell} {c : ℕ} (xs : List Cell) (x : Cell) → mids ≡ xs ++ repeat 1 (waiting ∷ []) → c ≡ length xs → ys ≡ set mids c x
+    → ys ≡ xs ++ x ∷ []
+ended_new xs x cells new is = rw (is, cells, new) (set_last xs waiting x)
 
-ending_is : (end : Ending) (at n : ℕ) (o given : Outcome) → end ≡ record { at = at; outcome = given } → at ≡ n → o ≡ given
-    → end ≡ record { at = n; outcome = o }
-ending_is end at n o given is place copy = rw (is, place, copy) refl
+-- The end of a new cell: the outcome, a copy of which it took or refused, at the place of the prime.
+pub record GetsEnd (o : Outcome) (at c : ℕ) (took : Bool) (mids ys : List Cell) : Type 0 where
+  pub end : Ending
+  pub end_is : end ≡ record { at = at; outcome = o }
+  pub ends : MatchBool took (ys ≡ set mids c (showing end)) (Refuses mids ys c end)
+
+pub gets_copy : {o given : Outcome} {at place c : ℕ} {mids ys : List Cell} (took : Bool) (end : Ending) → end ≡ record { at = place; outcome = given }
+    → place ≡ at → o ≡ given → MatchBool took (ys ≡ set mids c (showing end)) (Refuses mids ys c end) → GetsEnd o at c took mids ys
+gets_copy took end is here copy ends = record { end = end; end_is = rw (is, here, copy) refl; ends = ends }
 
 -- after a prime of a key that is not held, whose cell has its end
-pub primed_kept : (s : Service) (b : Locked) (p : Part) (es now : List Event) (k j : Key) (o : Outcome) (caller c : ℕ) (reply : Reply) (r : DeskPrime)
-    (old new : BatchBook) (xs mids ys : List Cell) (stopped took : Bool) (end : Ending) (at : ℕ) (given : Outcome)
-    → locked es old xs stopped ≡ b → unready s b p ≡ None → Keeps s (locked es old xs stopped) → IsPrime s p k j caller reply r old → r ≡ prime.Primed c
-    → ((h : List Atom) → StandsFor old h → refusal old.rules h (Primes j) ≡ None)
-    → now ≡ es ++ event caller (Prime k o) reply ∷ [] → mids ≡ xs ++ repeat 1 (waiting ∷ [])
-    → new.rules ≡ old.rules → StandsFor new (after old.rules (atoms (log es)) (Primes j))
-    → end ≡ record { at = at; outcome = given } → at ≡ length es → o ≡ given
-    → MatchBool took (ys ≡ set mids c (showing end)) (Refuses mids ys c end)
-    → Keeps s (locked now new ys stopped)
-primed_kept s b p es now k j o caller c reply r old new xs mids ys stopped took end at given view ready kept is fresh accepted history cells rules stands ending
-    place copy ends =
-    let H = atoms (log es) in
+pub primed_kept : {s : Service} {seen : Kept} {caller c : ℕ} {k j : Key} {o : Outcome} {reply : Reply} {r : DeskPrime} {now : List Event} {new : BatchBook}
+    {mids ys : List Cell} {took : Bool} → MayCall s seen caller → IsPrime seen.desk k j reply r → r ≡ prime.Primed c
+    → Recorded seen (event caller (Prime k o) reply) 1 now mids → Steps seen.desk new (Primes j) → GetsEnd o (length seen.history) c took mids ys
+    → IsKept s (kept now new ys)
+primed_kept {s} {seen} {caller} {c} {k} {j} {o} {reply} {now = now} {new = new} {mids = mids} {ys = ys} {took = took} may is fresh recorded step gets =
+    let H = atoms (log seen.history) in
+    let here : Steps seen.desk new (Primes k) = subst (λ (x : Key). Steps seen.desk new (Primes x)) (sym is.copy) step in
+    let told = sym (prime_told may.kept is) ∙ fresh in
+    let count = primed_count H k c seen.desk new told may.kept.desk (here.stands H may.kept.desk) in
+    let accepted = subst (λ (x : Key). refusal seen.desk.rules H (Primes x) ≡ None) (sym is.copy) (is.accepted H may.kept.desk) in
+    let none = subst (λ (rules : Rules). refusal rules H (Primes k) ≡ None) may.kept.rules accepted in
+    let fit = primed_fits s.rules H k c seen.desk told may.kept.desk none in
+    let cell = gets_end took mids ys c gets.end gets.ends in
+    let shows = subst (λ (x : Ending). ShowsEnd (Some x) cell.0.mark cell.0.shows) gets.end_is cell.2 in
+    let last = ended_new seen.cells cell.0 recorded.cells (primed_next o may is fresh) cell.1 in
     let e : Event = event caller (Prime k o) reply in
-    let next : IsNext s es e = prime_next s p es k j o caller reply r old xs stopped kept is in
-    let last : c ≡ length xs = primed_next s p es k j o caller c reply r old xs stopped kept is fresh in
-    let stands_now = prime_stands s p es k j caller reply r old new xs stopped kept is stands in
-    let none : refusal old.rules H (Primes k) ≡ None = subst (λ (x : Key). refusal old.rules H (Primes x) ≡ None) (sym is.copy) (accepted H kept.desk) in
-    let cell = gets_end took mids ys c end ends in
-    let shows = subst (λ (x : Ending). ShowsEnd (Some x) cell.0.mark cell.0.shows) (ending_is end at (length es) o given ending place copy) cell.2 in
-    let all : Keeps s (locked (es ++ e ∷ []) new ys stopped) =
-    keeps_prime_new s es e k o c old new xs ys cell.0 stopped kept next refl (is.replies ∙ ap primed fresh) (ready_room s b p es old xs stopped view ready)
-    rules stands_now none shows (ended_new xs mids ys c cell.0 cells last cell.1) in
-    subst (λ (hs : List Event). Keeps s (locked hs new ys stopped)) (sym history) all
+    let all : IsKept s (grown seen e new (seen.cells ++ cell.0 ∷ [])) =
+    keeps_primed cell.0 (prime_grows o may is) refl (is.replies ∙ ap primed fresh) here count fit shows in
+    rw (recorded.history, last) all
 
 -- ---- how many cells refused their outcome
 
 refusals-snoc : (xs : List Cell) (x : Cell) → refusals (xs ++ x ∷ []) ≡ refusals xs + cond (is_refused x.mark) 1 0
 refusals-snoc xs x = fold-append (λ (n : ℕ) (y : Cell). n + cond (is_refused y.mark) 1 0) 0 xs (x ∷ [])
 
+refusals_new : {mids : List Cell} {c : ℕ} (xs ys : List Cell) (took : Bool) (end : Ending) → mids ≡ xs ++ repeat 1 (waiting ∷ []) → c ≡ length xs
+    → MatchBool took (ys ≡ set mids c (showing end)) (Refuses mids ys c end) → refusals ys ≡ refusals xs + cond took 0 1
+refusals_new xs ys true end cells new ends = ap refusals (ended_new xs (showing end) cells new ends) ∙ refusals-snoc xs (showing end)
+refusals_new xs ys false end cells new ends =
+    let x = refused ends.0 ends.1 in
+    ap refusals (ended_new xs x cells new ends.3) ∙ refusals-snoc xs x
+
 -- one more where the new cell refused it
-pub primed_refusals : (xs mids ys : List Cell) (c n : ℕ) (took : Bool) (end : Ending) → mids ≡ xs ++ repeat 1 (waiting ∷ []) → c ≡ length xs → n ≡ cond took 0 1
-    → MatchBool took (ys ≡ set mids c (showing end)) (Refuses mids ys c end)
-    → refusals ys ≡ refusals xs + n
-primed_refusals xs mids ys c n true end cells new many ends =
-    let all = ended_new xs mids ys c (showing end) cells new ends in
-    let count = refusals-snoc xs (showing end) in
-    ap refusals all ∙ (count ∙ ap (λ m. refusals xs + m) (sym many))
-primed_refusals xs mids ys c n false end cells new many ends =
-    let all = ended_new xs mids ys c (refused ends.0 ends.1) cells new ends.3 in
-    let count = refusals-snoc xs (refused ends.0 ends.1) in
-    ap refusals all ∙ (count ∙ ap (λ m. refusals xs + m) (sym many))
+pub primed_refusals : {s : Service} {seen : Kept} {caller at c : ℕ} {k j : Key} {o : Outcome} {reply : Reply} {r : DeskPrime} {mids ys : List Cell}
+    {took : Bool} → MayCall s seen caller → IsPrime seen.desk k j reply r → r ≡ prime.Primed c → mids ≡ seen.cells ++ repeat 1 (waiting ∷ [])
+    → GetsEnd o at c took mids ys → refusals ys ≡ refusals seen.cells + cond took 0 1
+primed_refusals {seen = seen} {o = o} {ys = ys} {took = took} may is fresh cells gets =
+    refusals_new seen.cells ys took gets.end cells (primed_next o may is fresh) gets.ends

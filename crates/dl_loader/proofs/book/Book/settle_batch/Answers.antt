@@ -1,28 +1,23 @@
-use Rattle.dl_loader.specs.Book.{locked}
+use Rattle.std.proofs.Common.{refl}
+use Rattle.dl_loader.proofs.Kept.{may_call}
 use Rattle.dl_loader.proofs.BatchEnds.{few_end_view, can_end_view, may_end_in, settle_kept, settle_brings}
 use Rattle.dl_loader.proofs.book.Book.settle_batch.Goals as goal
 
 pub make_end-requires-clause-few : goal.make_end-requires-clause-few
-make_end-requires-clause-few g c =
-    few_end_view g.L.LoaderName.service (locked c.self.inside.journal.history c.self.inside.desk.book c.self.inside.journal.cells c.self.inside.stopped)
-    c.args.self.now c.args.batch c.args.cells.now c.self.view_is c.self.invariant c.requires.cells
+make_end-requires-clause-few g c = few_end_view c.args.batch c.self.view_is c.self.invariant c.requires.cells
 
 pub make_end-requires-clause-can : goal.make_end-requires-clause-can
-make_end-requires-clause-can g c =
-    can_end_view g.L.LoaderName.service (locked c.self.inside.journal.history c.self.inside.desk.book c.self.inside.journal.cells c.self.inside.stopped)
-    c.args.self.now c.args.batch c.args.cells.now c.self.view_is c.self.invariant c.requires.may.0 c.requires.cells
+make_end-requires-clause-can g c = can_end_view c.self.view_is c.self.invariant c.requires.may.0 c.requires.cells
 
 pub make_end-requires-clause-brings : goal.make_end-requires-clause-brings
 make_end-requires-clause-brings g c = settle_brings c.args.batch c.args.outcomes c.args.cells.now c.requires.as_many
 
 pub end-requires : goal.end-requires
-end-requires g c = may_end_in g.L.LoaderName.service
-    (locked c.self.inside.journal.history c.self.inside.desk.book c.self.inside.journal.cells c.self.inside.stopped) c.args.self.now c.args.batch c.self.view_is
-    c.self.invariant c.requires.may.0
+end-requires g c = may_end_in c.self.view_is c.self.invariant c.requires.may.0
 
 pub invariant_of-self-2 : goal.invariant_of-self-2
 invariant_of-self-2 g c =
-    settle_kept g.L.LoaderName.service (locked c.self.inside.journal.history c.self.inside.desk.book c.self.inside.journal.cells c.self.inside.stopped)
-    c.args.self.now c.make_end.new.journal.history c.args.pass.now.part c.args.batch c.args.outcomes c.end.new.self.book c.args.cells.now
-    c.make_end.new.journal.cells c.self.view_is c.self.invariant c.in_ok-settled.ensures.below c.requires.ready c.requires.may c.requires.cells
-    c.in_ok-settled.ensures.history c.end.ensures.rules c.end.ensures.stands c.in_ok-settled.ensures.given
+    let may = may_call c.args.pass.now.part c.self.view_is c.self.invariant c.requires.ready refl c.in_ok-settled.ensures.below in
+    settle_kept c.self.view_is may c.requires.may c.requires.cells
+    (record { history = c.in_ok-settled.ensures.history; given = c.in_ok-settled.ensures.given })
+    (record { rules = c.end.ensures.rules; stands = c.end.ensures.stands })
