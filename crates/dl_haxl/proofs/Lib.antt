@@ -1,0 +1,7 @@
+pub mod Shown
+pub mod Paired
+pub mod Explored
+pub mod Reading
+pub mod Ended
+pub mod RoundMade
+pub mod Stretched

@@ -1,0 +1,6 @@
+pub mod Future
+pub mod Pairs
+pub mod Reads
+pub mod Run
+pub mod Seen
+pub mod Stretch

@@ -1,0 +1,70 @@
+-- The entries that an evaluation adds to a pass: rounds, each of a loadMany, a dispatch, ends of jobs and reads.
+use Rattle.std.specs.Prelude.{◌≡◌, ◌≢◌, ◌⊎◌, ℕ, zero, suc, List, [], ◌∷◌, ◌++◌, length, map}
+use Rattle.dl_desk.specs.Key.{Key}
+use Rattle.dl_desk.specs.declared.outcome.Outcome.{Outcome}
+use Rattle.dl_desk.specs.declared.reply.Job.{Job}
+use Rattle.dl_desk.specs.declared.reply.LoadReply.{LoadReply}
+use Rattle.dl_history.specs.Entries.{Line}
+use Rattle.dl_history.specs.Service.{Service}
+use Rattle.dl_history.specs.declared.event.Call.{Call}
+use Rattle.dl_history.specs.declared.event.Call.TheVariants.{LoadMany, Dispatch}
+use Rattle.dl_history.specs.declared.event.Ending.{Ending}
+use Rattle.dl_history.specs.declared.event.Reply.TheVariants.{Many, Sent, Done}
+use Rattle.dl_loader.specs.Added.{line, saws}
+use Rattle.dl_terms.specs.declared.answer.Answer.{Answer}
+use Rattle.dl_terms.specs.Tree.{Tree}
+use Rattle.dl_terms.specs.Gives.{Pairs, frontier, gives}
+use Rattle.dl_workers.specs.Ending.{end_answered, end_unanswered}
+use Rattle.dl_haxl.specs.Pairs.{paired}
+
+-- ---- the ends of jobs that are fetched on the caller's own thread
+
+-- the entry of the end of a job: by what the source answers to its keys, or for want of memory
+abbrev pub InlineEnd : Service → ℕ → Job → Line → Type 0
+InlineEnd service caller job l =
+    (at : ℕ) × (call : Call) × ((call ≡ end_answered service job) ⊎ (call ≡ end_unanswered job)) × (l ≡ line caller at call Done)
+
+-- one end of each job, in order
+abbrev pub InlineEnds : Service → ℕ → List Job → List Line → Type 0
+InlineEnds service caller [] [] = Unit {0}
+InlineEnds service caller [] (l ∷ ls) = ⊥
+InlineEnds service caller (job ∷ jobs) [] = ⊥
+InlineEnds service caller (job ∷ jobs) (l ∷ ls) = InlineEnd service caller job l × InlineEnds service caller jobs ls
+
+-- ---- rounds
+
+-- A round loads the wanted keys by one loadMany, dispatches, and reads the outcome of each load, in order.
+pub record Round (JobsEnd : List Job → List Line → Type 0) (caller : ℕ) (wanted : List Key) (lines : List Line) (outcomes : List Outcome) : Type 0 where
+  pub load_at : ℕ
+  pub dispatch_at : ℕ
+  pub replies : List LoadReply
+  pub jobs : List Job
+  pub ends : List Line
+  pub endings : List Ending
+  pub reply_each : length replies ≡ length wanted
+  pub read_each : length endings ≡ length wanted
+  pub jobs_end : JobsEnd jobs ends
+  pub tells : lines ≡ line caller load_at (LoadMany wanted) (Many replies) ∷ line caller dispatch_at Dispatch (Sent jobs) ∷ (ends ++ saws replies endings)
+  pub outcomes_are : outcomes ≡ map (λ e. e.outcome) endings
+
+module _ (JobsEnd : List Job → List Line → Type 0) (caller : ℕ) (t : Tree) where
+  -- a round of all keys that the term waits for, which gains their outcomes
+  pub record LastRound (known : Pairs) (lines : List Line) (more : Pairs) : Type 0 where
+    pub outcomes : List Outcome
+    pub some : frontier t known ≢ []
+    pub round : Round JobsEnd caller (frontier t known) lines outcomes
+    pub gains : more ≡ known ++ paired (frontier t known) outcomes
+
+  -- so many rounds, one after another
+  abbrev pub Rounds : ℕ → List Line → Pairs → Type 0
+  Rounds zero lines known = (lines ≡ []) × (known ≡ [])
+  Rounds (suc n) lines known = (before : List Line) × (last : List Line) × (past : Pairs)
+      × (lines ≡ before ++ last) × Rounds n before past × LastRound past last known
+
+  -- an evaluation: after so many rounds the term waits for no key, and gives the answer
+  abbrev pub Evaluates : List Line → Answer → ℕ → Type 0
+  Evaluates lines a rounds = (known : Pairs) × Rounds rounds lines known × (frontier t known ≡ []) × gives t known a
+
+-- an evaluation whose jobs are fetched on the caller's own thread
+abbrev pub EvaluatesInline : Service → ℕ → Tree → List Line → Answer → ℕ → Type 0
+EvaluatesInline service caller t = Evaluates (InlineEnds service caller) caller t

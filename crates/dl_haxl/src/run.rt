@@ -1,0 +1,196 @@
+//! The answer of a term as a future.
+
+ghost use Rattle.std.specs.Prelude.{◌≡◌};
+ghost use Rattle.dl_terms.specs.Node.{node_view};
+ghost use Rattle.dl_terms.specs.Reduces.{pairs_of};
+ghost use Rattle.dl_haxl.specs.Run.{Supplied, Waiting, run_at};
+ghost use Rattle.dl_haxl.specs.declared.stage.Stage.TheVariants.{Learning, Wanting};
+
+use crate::fault::PollFault;
+use crate::learning::{all_shown, learn};
+use crate::stage::Stage;
+use dl_desk::FetchKey;
+use dl_loader::{LoaderName, Ticket};
+use dl_terms::{Answer, Known, Node, Term, Wanted, explore, plan};
+use futures::future::Future;
+use futures::task::{Context, Poll};
+use indexmap::{IndexMap, IndexSet};
+use std::alloc::{AllocError, Global};
+use std::hash::RandomState;
+
+/// The answer of a term, as a future. It is polled in turns with the loads that it waits for: after a
+/// pending poll [`TermRun::wanted`] tells the keys to load, and [`TermRun::supply`] takes their tickets. A
+/// key is wanted once in a run: its first outcome serves all of the term.
+///
+/// A poll walks the term as deep as it is high, as [`Term`] says.
+#[derive(Drop)]
+pub struct TermRun<'l, L: LoaderName> {
+    alloc: Global,
+    // What is left of the term.
+    root: Node,
+    // The outcomes that were learned.
+    known: Known<'l>,
+    // The keys that are wanted, or whose tickets were supplied.
+    keys: Wanted,
+    // The tickets that were supplied last.
+    tickets: Vec<Ticket<'l, L>>,
+    stage: Stage,
+    ghost supplied: { stage ≡ Learning → Supplied (run_at stage (node_view root) (pairs_of known) keys.keys tickets.items) },
+    ghost waiting: { stage ≡ Wanting → Waiting (run_at stage (node_view root) (pairs_of known) keys.keys tickets.items) },
+}
+
+impl<'l, L: LoaderName> TermRun<'l, L> {
+    ghost use Rattle.std.specs.Prelude.{◌≢◌, IfErr, IfNone, IfOk, IfSome, None, OnErr, OnSome, Some, [], length, Err};
+    ghost use Rattle.futures.specs.Poll.{IfReady, OnPending};
+    ghost use Rattle.futures.specs.declared.task.Poll.TheVariants as poll;
+    ghost use Rattle.dl_terms.specs.Tree.{Tree};
+    ghost use Rattle.dl_terms.specs.View.{term_view};
+    ghost use Rattle.dl_haxl.specs.Future.{end_after};
+    ghost use Rattle.dl_haxl.specs.Pairs.{AllLater};
+    ghost use Rattle.dl_haxl.specs.Run.{Answers, IsRunOf, Pends, asked_by, ended_by, wanted_by};
+    ghost use Rattle.dl_haxl.specs.Seen.{seen};
+    ghost use Rattle.dl_haxl.specs.declared.fault.PollFault.TheVariants.{Finished, OutOfMemory};
+    ghost use Rattle.dl_haxl.specs.declared.stage.Stage.TheVariants.{Ended};
+
+    /// A run of the term, of which nothing was explored yet. It hashes keys by `hashing`, of which nothing
+    /// is seen. The error is want of memory.
+    pub fn new(
+        alloc: Global,
+        hashing: RandomState,
+        term: Term,
+    ) -> Result<TermRun<'l, L>, AllocError>
+        ensures run { IfOk result (λ run. IsRunOf (term_view term) (seen run)) }
+        ensures learned { IfOk result (λ run. (seen run).learned ≡ []) }
+        ensures tickets { IfOk result (λ run. (seen run).tickets ≡ []) }
+        ensures wanted { IfOk result (λ run. wanted_by (seen run) ≡ []) }
+        ensures asked { IfOk result (λ run. asked_by (seen run) ≡ []) }
+        ensures open { IfOk result (λ run. ended_by (seen run) ≡ None) }
+    {
+        Ok(TermRun {
+            alloc,
+            root: plan(alloc, term)?,
+            known: IndexMap::with_hasher(alloc, hashing),
+            keys: IndexSet::with_hasher(alloc, hashing),
+            tickets: Vec::new(alloc),
+            stage: Stage::Learning,
+        })
+    }
+
+    /// The keys that the term waits for, after a pending poll that found all tickets to show their outcomes:
+    /// left to right, each once. There are none before the first poll, from a supply of tickets to the poll
+    /// that finds them all shown, and after an answer or a refusal. It takes no memory.
+    pub fn wanted(&self) -> &[FetchKey]
+        ensures { result.now ≡ wanted_by (seen self.now) }
+    {
+        match self.stage {
+            Stage::Wanting => self.keys.as_slice(),
+            Stage::Learning | Stage::Ended(_) => &[],
+        }
+    }
+
+    /// Takes a ticket for each wanted key, in order, all of one call of
+    /// [`load_many`](dl_loader::Loader::load_many). With nothing wanted nothing changes. It takes no memory.
+    pub fn supply(&mut self, tickets: Vec<Ticket<'l, L>>)
+        requires each { length tickets.items ≡ length (wanted_by (seen self.old)) }
+        ensures run { (t : Tree) → IsRunOf t (seen self.old) → IsRunOf t (seen self.new) }
+        ensures learned { (seen self.new).learned ≡ (seen self.old).learned }
+        ensures wanted { wanted_by (seen self.new) ≡ [] }
+        ensures asked { wanted_by (seen self.old) ≢ [] → asked_by (seen self.new) ≡ wanted_by (seen self.old) }
+        ensures tickets { wanted_by (seen self.old) ≢ [] → (seen self.new).tickets ≡ tickets.entry.items }
+        ensures none { wanted_by (seen self.old) ≡ [] → seen self.new ≡ seen self.old }
+    {
+        if let Stage::Wanting = self.stage {
+            self.tickets = tickets;
+            self.stage = Stage::Learning;
+        }
+    }
+
+    /// What a poll of the run answers. It never waits.
+    pub(crate) fn advance(&mut self) -> Poll<Result<Answer, PollFault>>
+        ensures ended { IfSome (ended_by (seen self.old)) (λ fault. result ≡ poll.Ready (Err fault)) }
+        ensures after { IfReady result (λ r. ended_by (seen self.new) ≡ Some (end_after r)) }
+        ensures fault { ended_by (seen self.old) ≡ None → IfReady result (λ r. IfErr r (λ fault. fault ≡ OutOfMemory)) }
+        ensures tickets { AllLater (seen self.old).tickets (seen self.new).tickets }
+        ensures answer { IfReady result (λ r. IfOk r (Answers (seen self.old) (seen self.new))) }
+        ensures waits { OnPending result (Pends (seen self.old) (seen self.new)) }
+    {
+        match self.stage {
+            Stage::Ended(fault) => Poll::Ready(Err(fault)),
+            Stage::Wanting => Poll::Pending,
+            Stage::Learning => match self.explore() {
+                Ok(Some(answer)) => Poll::Ready(Ok(answer)),
+                Ok(None) => Poll::Pending,
+                Err(AllocError) => Poll::Ready(Err(PollFault::OutOfMemory)),
+            },
+        }
+    }
+
+    // Explores what is left of the term with what the tickets show, once all of them show their outcomes. What fails on
+    // the way has failed for good.
+    fn explore(&mut self) -> Result<Option<Answer>, AllocError>
+        requires learning { self.old.stage ≡ Learning }
+        ensures tickets { AllLater (seen self.old).tickets (seen self.new).tickets }
+        ensures answer { IfOk result (λ r. IfSome r (Answers (seen self.old) (seen self.new))) }
+        ensures finished { IfOk result (λ r. OnSome r (self.new.stage ≡ Ended Finished)) }
+        ensures waits { IfOk result (λ r. IfNone r (Pends (seen self.old) (seen self.new))) }
+        ensures failed { OnErr result (self.new.stage ≡ Ended OutOfMemory) }
+    {
+        if !all_shown(self.tickets.as_mut_slice()) {
+            return Ok(None);
+        }
+        self.stage = Stage::Ended(PollFault::OutOfMemory);
+        learn(
+            &mut self.known,
+            self.keys.as_slice(),
+            self.tickets.as_mut_slice(),
+        )?;
+        self.keys.clear();
+        explore(self.alloc, &mut self.root, &self.known, &mut self.keys)?;
+        let answer = self.root.take_answer();
+        self.stage = match answer {
+            Some(_) => Stage::Ended(PollFault::Finished),
+            None => Stage::Wanting,
+        };
+        Ok(answer)
+    }
+}
+
+impl<L: LoaderName> Future for TermRun<'_, L> {
+    ghost use Rattle.std.specs.Prelude.{IfErr, IfOk, IfSome, None, Some, ⊤, Err};
+    ghost use Rattle.futures.specs.Poll.{IfReady, OnPending};
+    ghost use Rattle.futures.specs.Task.{Covers, Keeps};
+    ghost use Rattle.futures.specs.declared.task.Poll.TheVariants as poll;
+    ghost use Rattle.dl_haxl.specs.Future.{end_after};
+    ghost use Rattle.dl_haxl.specs.Pairs.{AllLater};
+    ghost use Rattle.dl_haxl.specs.Run.{Answers, MayAnswer, Pends, ended_by};
+    ghost use Rattle.dl_haxl.specs.Seen.{seen};
+    ghost use Rattle.dl_haxl.specs.declared.fault.PollFault.TheVariants.{OutOfMemory};
+
+    type Output = Result<Answer, PollFault>;
+
+    ghost gives = { λ run r. MayAnswer (seen run) r };
+
+    /// The answer of the term, once all that it waits for was learned. While a supplied ticket shows no outcome,
+    /// the poll is pending and nothing is wanted; else it learns what the tickets show and goes on.
+    ///
+    /// # Errors
+    /// `Finished` after the answer was given; `OutOfMemory` where a growth was refused, and from then on.
+    fn poll(&mut self, cx: &mut Context<'_>) -> Poll<Result<Answer, PollFault>>
+        ensures value { IfReady result (MayAnswer (seen self.old)) }
+        ensures again { OnPending result ⊤ }
+        ensures same { OnPending result ((r : _) → MayAnswer (seen self.new) r → MayAnswer (seen self.old) r) }
+        ensures registered { OnPending result (Covers cx.new (λ _. ⊥)) }
+        ensures kept { Keeps cx.old cx.new }
+        ensures ended { IfSome (ended_by (seen self.old)) (λ fault. result ≡ poll.Ready (Err fault)) }
+        ensures after { IfReady result (λ r. ended_by (seen self.new) ≡ Some (end_after r)) }
+        ensures fault { ended_by (seen self.old) ≡ None → IfReady result (λ r. IfErr r (λ fault. fault ≡ OutOfMemory)) }
+        ensures tickets { AllLater (seen self.old).tickets (seen self.new).tickets }
+        ensures answer { IfReady result (λ r. IfOk r (Answers (seen self.old) (seen self.new))) }
+        ensures waits { OnPending result (Pends (seen self.old) (seen self.new)) }
+    {
+        match self.advance() {
+            Poll::Ready(answer) => Poll::Ready(answer),
+            Poll::Pending => cx.yield_now(),
+        }
+    }
+}
