@@ -3,37 +3,68 @@
 use dl_desk::LARGEST_LIMIT;
 use thiserror::Error;
 
-/// A workload and its size: how many keys, and the most keys of a batch or how many callers.
-#[derive(Clone, Copy, Debug, PartialEq, Eq)]
-pub enum Command {
-    /// Loads the keys one by one, then dispatches.
-    Loads { keys: u32, batch: u32 },
-    /// Loads the keys in one call.
-    Many { keys: u32, batch: u32 },
-    /// Loads the keys one by one. Their ids share one hash under a seed that is known.
-    Hostile { keys: u32 },
-    /// Loads the keys one by one. Their ids are as long, and share no hash.
-    Harmless { keys: u32 },
-    /// Loads the keys one by one, twice.
-    Hits { keys: u32 },
+/// What is run.
+#[derive(Clone, Copy)]
+pub enum Workload {
+    /// Calls of one desk.
+    Desk(Calls),
     /// Loads, clears and loads again each key in turn.
-    Clears { keys: u32 },
-    /// For each batch of keys: loads them in one call, dispatches, settles.
-    Rounds { keys: u32, batch: u32 },
+    Clears,
     /// Reads a script that loads the keys one by one, and answers it.
-    Script { keys: u32 },
+    Script,
     /// Reads tables with a row for each key, and fetches the keys, a batch at a time.
-    Tables { keys: u32, batch: u32 },
+    Tables,
     /// One caller of a shared loader: for each batch of keys it loads them in one call, dispatches, settles,
     /// and reads each outcome.
-    Loader { keys: u32, batch: u32 },
+    Loader,
     /// Callers of a shared loader, each on a thread of its own: each loads the keys one by one. Then the first
     /// dispatches, and settles.
-    Threads { keys: u32, callers: u32 },
+    Threads,
+}
+
+/// The calls of one desk.
+#[derive(Clone, Copy)]
+pub enum Calls {
+    /// Loads the keys one by one, then dispatches.
+    Loads,
+    /// Loads the keys in one call.
+    Many,
+    /// Loads the keys one by one. Their ids share one hash under a seed that is known.
+    Hostile,
+    /// Loads the keys one by one. Their ids are as long, and share no hash.
+    Harmless,
+    /// Loads the keys one by one, twice.
+    Hits,
+    /// For each batch of keys: loads them in one call, dispatches, settles.
+    Rounds,
+}
+
+/// The word that asks for each workload, and the most keys of its batches, where the words don't say it.
+const WORKLOADS: [(&str, Option<u32>, Workload); 11] = [
+    ("loads", None, Workload::Desk(Calls::Loads)),
+    ("many", None, Workload::Desk(Calls::Many)),
+    ("hostile", Some(64), Workload::Desk(Calls::Hostile)),
+    ("harmless", Some(64), Workload::Desk(Calls::Harmless)),
+    ("hits", Some(LARGEST_LIMIT), Workload::Desk(Calls::Hits)),
+    ("clears", Some(LARGEST_LIMIT), Workload::Clears),
+    ("rounds", None, Workload::Desk(Calls::Rounds)),
+    ("script", Some(LARGEST_LIMIT), Workload::Script),
+    ("tables", None, Workload::Tables),
+    ("loader", None, Workload::Loader),
+    ("threads", None, Workload::Threads),
+];
+
+/// A workload and its size.
+#[derive(Clone, Copy)]
+pub struct Command {
+    pub workload: Workload,
+    pub keys: u32,
+    /// The most keys of a batch; of `Threads`, how many callers.
+    pub most: u32,
 }
 
 /// Why words are no command.
-#[derive(Clone, Copy, Debug, PartialEq, Eq, Error)]
+#[derive(Debug, Drop, Error)]
 pub enum CommandFault {
     #[error("usage: dl_bench loads|many|rounds|tables|loader N B, dl_bench hostile|harmless|hits|clears|script N, or dl_bench threads N C")]
     Usage,
@@ -43,39 +74,30 @@ pub enum CommandFault {
 
 impl Command {
     /// The command of these words, of which the first is the program's name.
-    pub fn from_words(words: &[&str]) -> Result<Command, CommandFault> {
+    pub fn from_words(words: &[String]) -> Result<Command, CommandFault> {
         match words {
-            [_, "loads", keys, batch] => Ok(Command::Loads {
-                keys: size(keys)?,
-                batch: size(batch)?,
-            }),
-            [_, "many", keys, batch] => Ok(Command::Many {
-                keys: size(keys)?,
-                batch: size(batch)?,
-            }),
-            [_, "hostile", keys] => Ok(Command::Hostile { keys: size(keys)? }),
-            [_, "harmless", keys] => Ok(Command::Harmless { keys: size(keys)? }),
-            [_, "hits", keys] => Ok(Command::Hits { keys: size(keys)? }),
-            [_, "clears", keys] => Ok(Command::Clears { keys: size(keys)? }),
-            [_, "rounds", keys, batch] => Ok(Command::Rounds {
-                keys: size(keys)?,
-                batch: size(batch)?,
-            }),
-            [_, "script", keys] => Ok(Command::Script { keys: size(keys)? }),
-            [_, "tables", keys, batch] => Ok(Command::Tables {
-                keys: size(keys)?,
-                batch: size(batch)?,
-            }),
-            [_, "loader", keys, batch] => Ok(Command::Loader {
-                keys: size(keys)?,
-                batch: size(batch)?,
-            }),
-            [_, "threads", keys, callers] => Ok(Command::Threads {
-                keys: size(keys)?,
-                callers: size(callers)?,
-            }),
+            [_, name, keys] => Command::named(name.as_str(), size(keys.as_str())?, None),
+            [_, name, keys, most] => {
+                let most = size(most.as_str())?;
+                Command::named(name.as_str(), size(keys.as_str())?, Some(most))
+            }
             _ => Err(CommandFault::Usage),
         }
+    }
+
+    /// The command of a workload's name, whose batches are limited by the workload or by a word, and not by both.
+    fn named(word: &str, keys: u32, most: Option<u32>) -> Result<Command, CommandFault> {
+        for (name, own, workload) in WORKLOADS {
+            if name == word {
+                let most = own.xor(most).ok_or(CommandFault::Usage)?;
+                return Ok(Command {
+                    workload,
+                    keys,
+                    most,
+                });
+            }
+        }
+        Err(CommandFault::Usage)
     }
 }
 

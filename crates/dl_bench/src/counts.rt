@@ -6,7 +6,7 @@ use dl_source::BatchAnswer;
 
 /// Loads that began a cell and loads that were hits, batches begun, jobs sent, batches settled, lines
 /// printed, outcomes fetched or read, and the batch of the newest cell.
-#[derive(Clone, Copy, Debug, Default, PartialEq, Eq)]
+#[derive(Clone, Copy, Default)]
 pub struct Counts {
     pub cells: u64,
     pub hits: u64,
@@ -19,7 +19,7 @@ pub struct Counts {
 }
 
 impl Counts {
-    /// What the events of a history add to counts.
+    /// What the events of a history add to counts, and the outcomes that its first caller read.
     pub fn of_history(history: &History) -> Counts {
         let mut counts = Counts::default();
         let events = history.events();
@@ -27,6 +27,9 @@ impl Counts {
             if let Some(event) = events.get(at) {
                 counts.event(event);
             }
+        }
+        for kind in history.entries(0) {
+            counts.entry(*kind);
         }
         counts
     }
@@ -62,7 +65,7 @@ impl Counts {
     }
 
     /// Counts the outcome of an entry that is one.
-    pub fn entry(&mut self, kind: EntryKind) {
+    fn entry(&mut self, kind: EntryKind) {
         if let EntryKind::Saw { .. } = kind {
             self.outcomes = self.outcomes.saturating_add(1);
         }

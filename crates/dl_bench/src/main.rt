@@ -11,7 +11,7 @@ mod threads;
 mod trial;
 mod workloads;
 
-use crate::command::Command;
+use crate::command::{Command, Workload};
 use crate::counts::Counts;
 use anyhow::Result;
 use std::alloc::Global;
@@ -22,45 +22,52 @@ use std::random::RandomSource;
 use std::sync::Wait;
 use std::thread::Threads;
 
+/// Runs a workload, and counts what it did.
 fn run<R: RandomSource + Threads + Wait + Sync>(
     rt: &R,
     alloc: Global,
     command: Command,
 ) -> Result<Counts> {
     let hashing = RandomState::new(rt)?;
-    match command {
-        Command::Loads { keys, batch } => workloads::loads(alloc, hashing, keys, batch),
-        Command::Many { keys, batch } => workloads::many(alloc, hashing, keys, batch),
-        Command::Hostile { keys } => workloads::hostile(alloc, hashing, keys),
-        Command::Harmless { keys } => workloads::harmless(alloc, hashing, keys),
-        Command::Hits { keys } => workloads::hits(alloc, hashing, keys),
-        Command::Clears { keys } => workloads::clears(alloc, hashing, keys),
-        Command::Rounds { keys, batch } => workloads::rounds(alloc, hashing, keys, batch),
-        Command::Script { keys } => workloads::script(alloc, hashing, keys),
-        Command::Tables { keys, batch } => workloads::tables(alloc, hashing, keys, batch),
-        Command::Loader { keys, batch } => shared::loader(rt, alloc, hashing, keys, batch),
-        Command::Threads { keys, callers } => threads::threads(rt, alloc, hashing, keys, callers),
+    let Command {
+        workload,
+        keys,
+        most,
+    } = command;
+    match workload {
+        Workload::Desk(calls) => workloads::on_desk(alloc, hashing, calls, keys, most),
+        Workload::Clears => workloads::clears(alloc, hashing, keys, most),
+        Workload::Script => workloads::script(alloc, hashing, keys),
+        Workload::Tables => workloads::tables(alloc, hashing, keys, most),
+        Workload::Loader => shared::loader(rt, alloc, hashing, keys, most),
+        Workload::Threads => threads::threads(rt, alloc, hashing, keys, most),
     }
 }
 
+/// Prints the counts, each on a line of its own.
 fn print(rt: &impl Print, counts: &Counts) -> Result<()> {
-    println!(rt; "cells {}", counts.cells)?;
-    println!(rt; "hits {}", counts.hits)?;
-    println!(rt; "batches {}", counts.batches)?;
-    println!(rt; "jobs {}", counts.jobs)?;
-    println!(rt; "settled {}", counts.settled)?;
-    println!(rt; "lines {}", counts.lines)?;
-    println!(rt; "outcomes {}", counts.outcomes)?;
+    for (name, count) in [
+        ("cells", counts.cells),
+        ("hits", counts.hits),
+        ("batches", counts.batches),
+        ("jobs", counts.jobs),
+        ("settled", counts.settled),
+        ("lines", counts.lines),
+        ("outcomes", counts.outcomes),
+    ] {
+        println!(rt; "{name} {count}")?;
+    }
     Ok(())
 }
 
+/// The command that the program's words spell.
+fn asked(rt: &HostRuntime) -> Result<Command> {
+    let words = env::args(rt)?.collect::<Vec<_>>(rt.alloc())?;
+    Ok(Command::from_words(&words)?)
+}
+
 fn main(rt: HostRuntime) -> Result<()> {
-    let arguments = env::args(&rt)?.collect::<Vec<_>>(rt.alloc())?;
-    let mut words = Vec::new(rt.alloc());
-    for argument in &arguments {
-        words.push(argument.as_str())?;
-    }
-    let command = Command::from_words(words.as_slice())?;
+    let command = asked(&rt)?;
     let counts = run(&rt, rt.alloc(), command)?;
     print(&rt, &counts)
 }

@@ -47,23 +47,41 @@ fn one_caller<L: LoaderName, S: Source, R: Wait>(
     requires names { Names S.answer opening L.service L.parts L.log L.outcomes L.name }
 {
     let (loader, mut passes) = Loader::<L>::start(alloc, opening)?;
-    let Some(mut pass) = passes.pop() else {
+    rounds(rt, alloc, source, &loader, &mut passes, keys, limits)?;
+    close(alloc, loader, passes)
+}
+
+/// Closes a loader, and counts what its callers did, and what the first of them read.
+pub fn close<L: LoaderName>(
+    alloc: Global,
+    loader: Loader<L>,
+    passes: Vec<Pass<L>>,
+) -> Result<Counts> {
+    match loader.close(alloc, passes) {
+        Ok(history) => Ok(Counts::of_history(&history)),
+        Err((fault, _, _)) => Err(fault.into()),
+    }
+}
+
+/// A round of the first caller for each batch of keys.
+fn rounds<L: LoaderName, S: Source, R: Wait>(
+    rt: &R,
+    alloc: Global,
+    source: &S,
+    loader: &Loader<L>,
+    passes: &mut [Pass<L>],
+    keys: &[FetchKey],
+    limits: Limits,
+) -> Result<()>
+    requires { Answers (S.answer source.now) L.service }
+{
+    let Some(pass) = passes.first_mut() else {
         bail!("a loader without a caller");
     };
     for part in keys.chunks(limits.max_batch() as usize) {
-        round(rt, alloc, source, &loader, &mut pass, part)?;
+        round(rt, alloc, source, loader, pass, part)?;
     }
-    passes.push(pass)?;
-    match loader.close(alloc, passes) {
-        Ok(history) => {
-            let mut counts = Counts::of_history(&history);
-            for kind in history.entries(0) {
-                counts.entry(*kind);
-            }
-            Ok(counts)
-        }
-        Err((fault, _, _)) => Err(fault.into()),
-    }
+    Ok(())
 }
 
 /// Loads keys in one call, dispatches, settles what was sent, and reads each outcome.

@@ -1,14 +1,16 @@
 //! A workload of callers on threads of their own, who share one loader.
 
 ghost use Rattle.std.specs.Prelude.{◌≡◌};
+ghost use Rattle.dl_history.specs.Service.{Answers};
 ghost use Rattle.dl_loader.specs.Opening.{Names};
 
 use crate::alike::Alike;
 use crate::counts::Counts;
+use crate::shared::close;
 use crate::workloads::{keys_of, limits};
 use anyhow::{Result, bail};
 use dl_desk::FetchKey;
-use dl_loader::{CallFault, Loader, LoaderName, Opening, Pass};
+use dl_loader::{Loader, LoaderName, MOST_CALLERS, Opening, Pass};
 use dl_source::Source;
 use dl_workers::end_jobs;
 use std::alloc::Global;
@@ -48,17 +50,27 @@ fn each_caller<L: LoaderName + Send + Sync, S: Source, R: Threads + Wait + Sync>
     requires source { opening.source ≡ source.now }
     requires names { Names S.answer opening L.service L.parts L.log L.outcomes L.name }
 {
-    let (loader, passes) = Loader::<L>::start(alloc, opening)?;
-    let mut passes = load_by_each(rt, alloc, &loader, passes, keys)?;
+    let (loader, mut passes) = Loader::<L>::start(alloc, opening)?;
+    load_by_each(rt, alloc, &loader, &mut passes, keys);
+    end_all(rt, alloc, source, &loader, &mut passes)?;
+    close(alloc, loader, passes)
+}
+
+/// The first caller dispatches, and settles what was sent.
+fn end_all<L: LoaderName, S: Source, R: Wait>(
+    rt: &R,
+    alloc: Global,
+    source: &S,
+    loader: &Loader<L>,
+    passes: &mut [Pass<L>],
+) -> Result<()>
+    requires { Answers (S.answer source.now) L.service }
+{
     let Some(pass) = passes.first_mut() else {
         bail!("a loader without a caller");
     };
     let jobs = loader.dispatch(rt, alloc, pass)?;
-    end_jobs(rt, alloc, &loader, source, pass, jobs)?;
-    match loader.close(alloc, passes) {
-        Ok(history) => Ok(Counts::of_history(&history)),
-        Err((fault, _, _)) => Err(fault.into()),
-    }
+    Ok(end_jobs(rt, alloc, loader, source, pass, jobs)?)
 }
 
 /// Each caller loads the keys, one by one, on a thread of its own.
@@ -66,31 +78,29 @@ fn load_by_each<L: LoaderName + Send + Sync, R: Threads + Wait + Sync>(
     rt: &R,
     alloc: Global,
     loader: &Loader<L>,
-    passes: Vec<Pass<L>>,
+    passes: &mut [Pass<L>],
     keys: &[FetchKey],
-) -> Result<Vec<Pass<L>>> {
-    let results = thread::map_vec(
+) {
+    thread::for_each_mut(
         rt,
         passes,
-        &|pass: Pass<L>| -> Result<Pass<L>, CallFault> { load_each(rt, alloc, loader, pass, keys) },
-    )?;
-    let mut after = Vec::with_capacity(alloc, results.len())?;
-    for result in results {
-        after.push(result?)?;
-    }
-    Ok(after)
+        MOST_CALLERS as usize,
+        &|_: usize, pass: &mut Pass<L>| load_each(rt, alloc, loader, pass, keys),
+    );
 }
 
-/// Loads the keys one by one, and gives the pass back.
+/// Loads the keys one by one. Where a load is refused the loader is stopped, so that its next call tells of it.
 fn load_each<L: LoaderName, R: Wait>(
     rt: &R,
     alloc: Global,
     loader: &Loader<L>,
-    mut pass: Pass<L>,
+    pass: &mut Pass<L>,
     keys: &[FetchKey],
-) -> Result<Pass<L>, CallFault> {
+) {
     for key in keys {
-        loader.load(rt, alloc, &mut pass, key)?;
+        if loader.load(rt, alloc, pass, key).is_err() {
+            loader.stop(rt);
+            break;
+        }
     }
-    Ok(pass)
 }

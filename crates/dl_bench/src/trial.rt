@@ -1,7 +1,7 @@
 //! A desk, with counts of what it did.
 
 use crate::counts::Counts;
-use dl_desk::{Desk, DeskFault, FetchKey, Job, Limits};
+use dl_desk::{Desk, DeskFault, FetchKey, Limits};
 use std::alloc::{AllocError, Global};
 use std::hash::RandomState;
 
@@ -40,20 +40,22 @@ impl Trial {
         self.desk.clear(key);
     }
 
-    /// Dispatches, and gives the jobs.
-    pub fn dispatch(&mut self, alloc: Global) -> Result<Vec<Job>, AllocError> {
+    /// Dispatches, and drops the jobs.
+    pub fn dispatch(&mut self, alloc: Global) -> Result<(), AllocError> {
         let jobs = self.desk.dispatch(alloc)?;
         self.counts.jobs = self.counts.jobs.saturating_add(jobs.len() as u64);
-        Ok(jobs)
+        Ok(())
     }
 
     /// Dispatches, and settles each batch that was sent.
     pub fn settle(&mut self, alloc: Global) -> Result<(), DeskFault> {
-        let jobs = self.dispatch(alloc)?;
+        let jobs = self.desk.dispatch(alloc)?;
         for job in &jobs {
             self.desk.settle(job.batch)?;
         }
-        self.counts.settled = self.counts.settled.saturating_add(jobs.len() as u64);
+        let count = jobs.len() as u64;
+        self.counts.jobs = self.counts.jobs.saturating_add(count);
+        self.counts.settled = self.counts.settled.saturating_add(count);
         Ok(())
     }
 }

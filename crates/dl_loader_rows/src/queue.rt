@@ -49,41 +49,46 @@ fn numbers_out_of_range(rt: HostRuntime) {
     }
 }
 
+/// The tally of a queue has these numbers.
+fn assert_tally(rt: &impl Abort, tally: Tally, sent: u64, taken: u64, left: u64) {
+    assert_eq!(rt; tally, Tally { sent, taken, left });
+}
+
 #[test]
 fn one_job_and_then_shut(rt: HostRuntime) -> Result<(), Fail> {
-    let alloc = rt.alloc();
-    let (queue, mut senders, mut takers) = JobQueue::new(alloc, 1, 1, 1)?;
-    assert_eq!(rt; send(&rt, &queue, &mut senders[0], job(alloc, 0)?), None);
-    assert_eq!(rt; take(&rt, &queue, &mut takers[0]), Some(0));
-    queue.shut(&rt, &mut senders[0]);
-    assert_eq!(rt; send(&rt, &queue, &mut senders[0], job(alloc, 1)?), Some(1));
-    assert_eq!(rt; take(&rt, &queue, &mut takers[0]), None);
-    let tally = queue.finish(&rt, senders, takers);
-    assert_eq!(rt;
-        tally,
-        Tally {
-            sent: 1,
-            taken: 1,
-            left: 0
-        }
-    );
+    let (queue, mut senders, mut takers) = JobQueue::new(rt.alloc(), 1, 1, 1)?;
+    send_and_shut(&rt, rt.alloc(), &queue, &mut senders[0], &mut takers[0])?;
+    assert_tally(&rt, queue.finish(&rt, senders, takers), 1, 1, 0);
+    Ok(())
+}
+
+/// One job is sent and taken. Once the queue is shut the next one comes back, and none is taken.
+fn send_and_shut<R: Abort + Wait>(
+    rt: &R,
+    alloc: Global,
+    queue: &JobQueue,
+    sender: &mut Sender,
+    taker: &mut Taker,
+) -> Result<(), Fail>
+    requires sender { IsSenderOf queue.now sender.old }
+    requires taker { IsTakerOf queue.now taker.old }
+    ensures sender { OnOk result (IsSenderOf queue.now sender.new) }
+    ensures taker { OnOk result (IsTakerOf queue.now taker.new) }
+{
+    assert_eq!(rt; send(rt, queue, sender, job(alloc, 0)?), None);
+    assert_eq!(rt; take(rt, queue, taker), Some(0));
+    queue.shut(rt, sender);
+    assert_eq!(rt; send(rt, queue, sender, job(alloc, 1)?), Some(1));
+    assert_eq!(rt; take(rt, queue, taker), None);
     Ok(())
 }
 
 #[test]
 fn one_job_left(rt: HostRuntime) -> Result<(), Fail> {
-    let alloc = rt.alloc();
-    let (queue, mut senders, takers) = JobQueue::new(alloc, 2, 1, 1)?;
-    assert_eq!(rt; send(&rt, &queue, &mut senders[0], job(alloc, 0)?), None);
-    let tally = queue.finish(&rt, senders, takers);
-    assert_eq!(rt;
-        tally,
-        Tally {
-            sent: 1,
-            taken: 0,
-            left: 1
-        }
-    );
+    let job = job(rt.alloc(), 0)?;
+    let (queue, mut senders, takers) = JobQueue::new(rt.alloc(), 2, 1, 1)?;
+    assert_eq!(rt; send(&rt, &queue, &mut senders[0], job), None);
+    assert_tally(&rt, queue.finish(&rt, senders, takers), 1, 0, 1);
     Ok(())
 }
 
@@ -130,15 +135,7 @@ fn what_is_left_comes_before_the_end(rt: HostRuntime) -> Result<(), Fail> {
     let (queue, mut senders, mut takers) = JobQueue::new(rt.alloc(), 3, 2, 2)?;
     fill_and_shut(&rt, rt.alloc(), &queue, &mut senders)?;
     take_the_rest(&rt, &queue, &mut takers);
-    let tally = queue.finish(&rt, senders, takers);
-    assert_eq!(rt;
-        tally,
-        Tally {
-            sent: 3,
-            taken: 3,
-            left: 0
-        }
-    );
+    assert_tally(&rt, queue.finish(&rt, senders, takers), 3, 3, 0);
     Ok(())
 }
 
@@ -297,14 +294,6 @@ fn four_threads(rt: HostRuntime) -> Result<(), Fail> {
     senders.push(high)?;
     takers.push(one.seat)?;
     takers.push(other.seat)?;
-    let tally = queue.finish(&rt, senders, takers);
-    assert_eq!(rt;
-        tally,
-        Tally {
-            sent: 200,
-            taken: 200,
-            left: 0
-        }
-    );
+    assert_tally(&rt, queue.finish(&rt, senders, takers), 200, 200, 0);
     Ok(())
 }

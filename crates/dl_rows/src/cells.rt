@@ -40,71 +40,114 @@ fn look(row: &CellRow<u8>, place: u32, reader: &mut Reader<u8>) -> Option<u8>
 
 #[test]
 fn one_cell_is_set_once(rt: HostRuntime) -> Result<(), Fail> {
-    let alloc = rt.alloc();
-    let row = CellRow::new(alloc, 1)?;
+    let row = CellRow::new(rt.alloc(), 1)?;
     let mut reader = row.reader(0)?;
-    assert_eq!(rt; look(&row, 0, &mut reader), None);
-    assert_eq!(rt; show(alloc, &row, 0, &mut reader, 5)?, None);
-    assert_eq!(rt; look(&row, 0, &mut reader), Some(5));
-    assert_eq!(rt; show(alloc, &row, 0, &mut reader, 6)?, Some(6));
-    assert_eq!(rt; look(&row, 0, &mut reader), Some(5));
+    set_twice(&rt, rt.alloc(), &row, &mut reader)
+}
+
+/// An empty cell 0 takes the value 5, and no other.
+fn set_twice(
+    rt: &impl Abort,
+    alloc: Global,
+    row: &CellRow<u8>,
+    reader: &mut Reader<u8>,
+) -> Result<(), Fail>
+    requires in_row { 0 < row_len row.now }
+    requires of_cell { reader.old.cell ≡ cell_of row.now 0 }
+{
+    assert_eq!(rt; look(row, 0, reader), None);
+    assert_eq!(rt; show(alloc, row, 0, reader, 5)?, None);
+    assert_eq!(rt; look(row, 0, reader), Some(5));
+    assert_eq!(rt; show(alloc, row, 0, reader, 6)?, Some(6));
+    assert_eq!(rt; look(row, 0, reader), Some(5));
     Ok(())
 }
 
 #[test]
 fn cells_of_other_segments_stay_empty(rt: HostRuntime) -> Result<(), Fail> {
-    let alloc = rt.alloc();
-    let row = CellRow::new(alloc, 130)?;
+    let row = CellRow::new(rt.alloc(), 130)?;
     let mut first = row.reader(0)?;
     let mut last = row.reader(129)?;
-    assert_eq!(rt; look(&row, 0, &mut first), None);
-    assert_eq!(rt; show(alloc, &row, 129, &mut last, 7)?, None);
-    assert_eq!(rt; look(&row, 129, &mut last), Some(7));
-    assert_eq!(rt; look(&row, 0, &mut first), None);
+    set_last(&rt, rt.alloc(), &row, &mut first, &mut last)
+}
+
+/// Cell 129 takes the value 7, and cell 0 stays empty.
+fn set_last(
+    rt: &impl Abort,
+    alloc: Global,
+    row: &CellRow<u8>,
+    first: &mut Reader<u8>,
+    last: &mut Reader<u8>,
+) -> Result<(), Fail>
+    requires in_row { 129 < row_len row.now }
+    requires of_first { first.old.cell ≡ cell_of row.now 0 }
+    requires of_last { last.old.cell ≡ cell_of row.now 129 }
+{
+    assert_eq!(rt; look(row, 0, first), None);
+    assert_eq!(rt; show(alloc, row, 129, last, 7)?, None);
+    assert_eq!(rt; look(row, 129, last), Some(7));
+    assert_eq!(rt; look(row, 0, first), None);
     Ok(())
+}
+
+/// What a fresh reader of a cell finds.
+fn look_afresh(row: &CellRow<u8>, place: u32) -> Result<Option<u8>, AllocError>
+    requires { place < row_len row.now }
+{
+    let mut reader = row.reader(place)?;
+    Ok(look(row, place, &mut reader))
+}
+
+/// Shows a value in a cell by a fresh reader. The answer is the value, where it came back.
+fn show_afresh(
+    alloc: Global,
+    row: &CellRow<u8>,
+    place: u32,
+    value: u8,
+) -> Result<Option<u8>, AllocError>
+    requires { place < row_len row.now }
+{
+    let mut reader = row.reader(place)?;
+    show(alloc, row, place, &mut reader, value)
 }
 
 #[test]
 fn a_fresh_reader_finds_a_shown_value(rt: HostRuntime) -> Result<(), Fail> {
-    let alloc = rt.alloc();
-    let row = CellRow::new(alloc, 65_536)?;
-    assert_eq!(rt;
-        show(alloc, &row, 65_535, &mut row.reader(65_535)?, 9)?,
-        None
-    );
-    let mut fresh = row.reader(65_535)?;
-    assert_eq!(rt; look(&row, 65_535, &mut fresh), Some(9));
-    assert_eq!(rt; look(&row, 65_535, &mut fresh.again()), Some(9));
-    assert_eq!(rt; look(&row, 65_534, &mut row.reader(65_534)?), None);
+    let row = CellRow::new(rt.alloc(), 65_536)?;
+    assert_eq!(rt; show_afresh(rt.alloc(), &row, 65_535, 9)?, None);
+    assert_eq!(rt; look_afresh(&row, 65_535)?, Some(9));
+    assert_eq!(rt; look_afresh(&row, 65_534)?, None);
     Ok(())
 }
 
-/// Shows the value in a cell twice: the first time it is set, and the second time it comes back.
-fn show_twice(
-    rt: &impl Abort,
+/// Shows a copy of the value in a cell. The answer is whether it was set.
+fn show_copy(
     alloc: Global,
     row: &CellRow<Arc<u8>>,
     place: u32,
     value: &Arc<u8>,
-) -> Result<(), Fail>
+) -> Result<bool, Fail>
     requires { place < row_len row.now }
 {
     let mut reader = row.reader(place)?;
-    let first = Box::new(alloc, value.clone()?)?;
-    assert!(rt; row.show(place, &mut reader, first).is_ok());
-    let second = Box::new(alloc, value.clone()?)?;
-    assert!(rt; row.show(place, &mut reader, second).is_err());
+    let copy = Box::new(alloc, value.clone()?)?;
+    Ok(row.show(place, &mut reader, copy).is_ok())
+}
+
+/// Shows copies of the value in a new row: in each cell one, and one that comes back.
+fn show_copies(rt: &impl Abort, alloc: Global, value: &Arc<u8>) -> Result<(), Fail> {
+    let row = CellRow::new(alloc, 65)?;
+    for (place, is_set) in [(0, true), (0, false), (64, true), (64, false)] {
+        assert_eq!(rt; show_copy(alloc, &row, place, value)?, is_set);
+    }
+    assert_eq!(rt; Arc::strong_count(value), 3);
     Ok(())
 }
 
 #[test]
 fn each_value_is_dropped_once(rt: HostRuntime) -> Result<(), Fail> {
     let counted = Arc::new(rt.alloc(), 0u8)?;
-    let row = CellRow::new(rt.alloc(), 65)?;
-    show_twice(&rt, rt.alloc(), &row, 0, &counted)?;
-    show_twice(&rt, rt.alloc(), &row, 64, &counted)?;
-    assert_eq!(rt; Arc::strong_count(&counted), 3);
-    drop(row);
+    show_copies(&rt, rt.alloc(), &counted)?;
     assert_eq!(rt; Arc::strong_count(&counted), 1);
     Ok(())
 }
@@ -120,24 +163,43 @@ fn reader_again(row: &CellRow<u8>, place: u32) -> Result<Reader<u8>, AllocError>
     }
 }
 
+/// A row of 130 cells, for which a refused call is made again.
+fn row_again(alloc: Global) -> Result<CellRow<u8>, AllocError>
+    ensures { IfOk result (λ row. row_len row ≡ 130) }
+{
+    match CellRow::new(alloc, 130) {
+        Ok(row) => Ok(row),
+        Err(AllocError) => CellRow::new(alloc, 130),
+    }
+}
+
+/// Shows 7 in cell 64. A refused call is made again.
+fn show_again(
+    alloc: Global,
+    row: &CellRow<u8>,
+    reader: &mut Reader<u8>,
+) -> Result<Option<u8>, AllocError>
+    requires in_row { 64 < row_len row.now }
+    requires of_cell { reader.old.cell ≡ cell_of row.now 64 }
+    ensures { reader.new.cell ≡ reader.old.cell }
+{
+    match show(alloc, row, 64, reader, 7) {
+        Ok(shown) => Ok(shown),
+        Err(AllocError) => show(alloc, row, 64, reader, 7),
+    }
+}
+
 /// With ample memory nothing is refused here. Under `rt try --test --fail-alloc N` the N-th growth is,
 /// for each N in turn: the call says so, and the same call made again succeeds.
 #[test]
 fn a_call_refused_memory_can_be_made_again(rt: HostRuntime) -> Result<(), Fail> {
-    let alloc = rt.alloc();
-    let row = match CellRow::new(alloc, 130) {
-        Ok(row) => row,
-        Err(AllocError) => CellRow::new(alloc, 130)?,
-    };
-    let _first = reader_again(&row, 0)?;
+    let row = row_again(rt.alloc())?;
+    let first = reader_again(&row, 0)?;
+    drop(first);
     // The segment of cell 63 was made for cell 0, and that of cell 64 wasn't.
     assert!(rt; row.reader(63).is_ok());
     let mut reader = reader_again(&row, 64)?;
-    let shown = match show(alloc, &row, 64, &mut reader, 7) {
-        Ok(shown) => shown,
-        Err(AllocError) => show(alloc, &row, 64, &mut reader, 7)?,
-    };
-    assert_eq!(rt; shown, None);
+    assert_eq!(rt; show_again(rt.alloc(), &row, &mut reader)?, None);
     assert_eq!(rt; look(&row, 64, &mut reader), Some(7));
     Ok(())
 }
@@ -223,10 +285,15 @@ fn race_once<R: Abort + Threads + Sync>(rt: &R, alloc: Global) -> Result<(), Fai
     let row = CellRow::new(alloc, 1)?;
     let (five, six) = (Box::new(alloc, 5u8)?, Box::new(alloc, 6u8)?);
     let (by_five, by_six) = race(rt, &row, five, six)?;
+    assert_one_won(rt, &by_five, &by_six);
+    Ok(())
+}
+
+/// One of the values 5 and 6 was set, and both threads saw it.
+fn assert_one_won(rt: &impl Abort, by_five: &Offer, by_six: &Offer) {
     assert_eq!(rt; by_five.seen, by_six.seen);
     assert!(rt; by_five.accepted != by_six.accepted);
     assert_eq!(rt; by_five.seen, if by_five.accepted { 5 } else { 6 });
-    Ok(())
 }
 
 #[test]

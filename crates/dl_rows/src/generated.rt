@@ -8,6 +8,7 @@ use dl_desk::{FetchKey, Keys, Limits};
 use dl_plans::{Calls, Script, ScriptCall, run_script};
 use std::alloc::Global;
 use std::hash::RandomState;
+use std::process::Abort;
 use std::test::Fail;
 
 /// Numbers that look random, the same on each run.
@@ -87,15 +88,27 @@ impl Numbers {
     }
 }
 
+/// The desk prints of a script what the reference loader prints.
+fn assert_same(
+    rt: &impl Abort,
+    alloc: Global,
+    hashing: RandomState,
+    script: &Script,
+    seed: u64,
+) -> Result<(), Fail> {
+    let want = lines_of(alloc, &mixed(script.limits), script.calls.as_slice())?;
+    let text = run_script(alloc, hashing, script)?;
+    assert_eq!(rt; text.as_str(), want.as_str(), "at seed {seed}");
+    Ok(())
+}
+
 #[test]
 fn the_desk_prints_what_the_reference_loader_prints(rt: HostRuntime) -> Result<(), Fail> {
-    let alloc = rt.alloc();
+    let hashing = RandomState::new(&rt)?;
     for seed in 0..300u64 {
         let mut numbers = Numbers { state: seed };
-        let script = numbers.script(alloc)?;
-        let want = lines_of(alloc, &mixed(script.limits), script.calls.as_slice())?;
-        let text = run_script(alloc, RandomState::new(&rt)?, &script)?;
-        assert_eq!(rt; text.as_str(), want.as_str(), "at seed {seed}");
+        let script = numbers.script(rt.alloc())?;
+        assert_same(&rt, rt.alloc(), hashing, &script, seed)?;
     }
     Ok(())
 }

@@ -73,7 +73,7 @@ fn copies(alloc: Global, keys: &[FetchKey]) -> Result<Vec<FetchKey>, AllocError>
 }
 
 /// A call of a script, as the reference loader has it.
-pub(crate) fn call_of(alloc: Global, call: &ScriptCall) -> Result<Call, AllocError> {
+fn call_of(alloc: Global, call: &ScriptCall) -> Result<Call, AllocError> {
     Ok(match call {
         ScriptCall::Load(key) => Call::Load(key.try_copy()?),
         ScriptCall::LoadMany(keys) => Call::LoadMany(copies(alloc, keys.as_slice())?),

@@ -4,6 +4,7 @@ use dl_plans::{Options, PlanFault, RunError, options, run};
 use std::alloc::Global;
 use std::hash::RandomState;
 use std::io::{self, ErrorKind, Read, Write};
+use std::process::Abort;
 use std::test::Fail;
 
 /// A document, and the text that it gives.
@@ -92,15 +93,40 @@ fn open(alloc: Global) -> Cut {
     }
 }
 
+/// Runs the program on a reader and a writer.
+fn run_on(
+    alloc: Global,
+    hashing: RandomState,
+    mut reader: Drip,
+    writer: &mut Cut,
+) -> Result<(), RunError> {
+    run(alloc, hashing, &mut reader, writer, OPTIONS)
+}
+
+/// The answer to the document is written by a few bytes at a time.
 #[test]
 fn a_document_is_answered(rt: HostRuntime) -> Result<(), Fail> {
     let hashing = RandomState::new(&rt)?;
     let mut writer = open(rt.alloc());
     writer.most = 7;
-    let ran = run(rt.alloc(), hashing, &mut whole(), &mut writer, OPTIONS);
+    let ran = run_on(rt.alloc(), hashing, whole(), &mut writer);
     assert_eq!(rt; ran, Ok(()));
     assert_eq!(rt; writer.written.as_slice(), TEXT.as_bytes());
     Ok(())
+}
+
+/// A run over this reader ends so, and leaves nothing written.
+fn assert_unwritten(
+    rt: &impl Abort,
+    alloc: Global,
+    hashing: RandomState,
+    reader: Drip,
+    want: RunError,
+) {
+    let mut writer = open(alloc);
+    let ran = run_on(alloc, hashing, reader, &mut writer);
+    assert_eq!(rt; ran, Err(want));
+    assert!(rt; writer.written.is_empty());
 }
 
 #[test]
@@ -114,12 +140,22 @@ fn a_reader_that_fails_leaves_nothing_written(rt: HostRuntime) -> Result<(), Fai
         let mut reader = whole();
         reader.good_reads = good_reads;
         reader.kind = kind;
-        let mut writer = open(rt.alloc());
-        let ran = run(rt.alloc(), hashing, &mut reader, &mut writer, OPTIONS);
-        assert_eq!(rt; ran, Err(RunError::Read), "after {good_reads} reads");
-        assert!(rt; writer.written.is_empty());
+        assert_unwritten(&rt, rt.alloc(), hashing, reader, RunError::Read);
     }
     Ok(())
+}
+
+/// A run over a writer that takes so many bytes ends so, and what was written is the front of the text.
+fn assert_front(
+    rt: &impl Abort,
+    alloc: Global,
+    hashing: RandomState,
+    mut writer: Cut,
+    front: &[u8],
+) {
+    let ran = run_on(alloc, hashing, whole(), &mut writer);
+    assert_eq!(rt; ran, Err(RunError::Write));
+    assert_eq!(rt; writer.written.as_slice(), front);
 }
 
 #[test]
@@ -131,9 +167,8 @@ fn a_writer_that_fails_has_a_front(rt: HostRuntime) -> Result<(), Fail> {
             writer.room = room;
             writer.most = 10;
             writer.fails = fails;
-            let ran = run(rt.alloc(), hashing, &mut whole(), &mut writer, OPTIONS);
-            assert_eq!(rt; ran, Err(RunError::Write), "after {room} bytes");
-            assert_eq!(rt; writer.written.as_slice(), &TEXT.as_bytes()[..room]);
+            let front = &TEXT.as_bytes()[..room];
+            assert_front(&rt, rt.alloc(), hashing, writer, front);
         }
     }
     Ok(())
@@ -144,9 +179,7 @@ fn a_flush_that_fails_is_told(rt: HostRuntime) -> Result<(), Fail> {
     let hashing = RandomState::new(&rt)?;
     let mut writer = open(rt.alloc());
     writer.flush_fails = true;
-    let ran = run(rt.alloc(), hashing, &mut whole(), &mut writer, OPTIONS);
-    assert_eq!(rt; ran, Err(RunError::Write));
-    assert_eq!(rt; writer.written.as_slice(), TEXT.as_bytes());
+    assert_front(&rt, rt.alloc(), hashing, writer, TEXT.as_bytes());
     Ok(())
 }
 
@@ -155,10 +188,8 @@ fn a_refused_document_leaves_nothing_written(rt: HostRuntime) -> Result<(), Fail
     let hashing = RandomState::new(&rt)?;
     let mut reader = whole();
     reader.rest = &DOCUMENT.as_bytes()[1..];
-    let mut writer = open(rt.alloc());
-    let ran = run(rt.alloc(), hashing, &mut reader, &mut writer, OPTIONS);
-    assert_eq!(rt; ran, Err(RunError::Refused(PlanFault::NotJson)));
-    assert!(rt; writer.written.is_empty());
+    let want = RunError::Refused(PlanFault::NotJson);
+    assert_unwritten(&rt, rt.alloc(), hashing, reader, want);
     Ok(())
 }
 
@@ -187,15 +218,18 @@ fn the_command_line_is_read(rt: HostRuntime) {
     assert_eq!(rt; options(rt.alloc(), &words).ok(), Some(most));
 }
 
+/// The status with which clap ends a program of these words, where it does.
+fn status(alloc: Global, words: &[&str]) -> Option<i32> {
+    match options(alloc, words) {
+        Ok(_) => None,
+        Err(error) => Some(error.exit_code()),
+    }
+}
+
 #[test]
 fn other_command_lines_are_refused(rt: HostRuntime) {
-    for number in ["0", "17"] {
-        let words = ["--workers", number];
-        let status = options(rt.alloc(), &words).err().map(|e| e.exit_code());
-        assert_eq!(rt; status, Some(2), "of {number}");
-    }
-    let status = options(rt.alloc(), &["--help"])
-        .err()
-        .map(|e| e.exit_code());
-    assert_eq!(rt; status, Some(0));
+    let alloc = rt.alloc();
+    assert_eq!(rt; status(alloc, &["--workers", "0"]), Some(2));
+    assert_eq!(rt; status(alloc, &["--workers", "17"]), Some(2));
+    assert_eq!(rt; status(alloc, &["--help"]), Some(0));
 }

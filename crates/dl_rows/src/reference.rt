@@ -1,14 +1,12 @@
-//! The reference loader: it prints the texts of the worked scripts, and its history tells what was held, sent
-//! and ended.
+//! The reference loader: it prints the texts of the worked scripts.
 
-use crate::lines::{call_of, lines_of};
-use crate::scripts::{ENDS, ROWS, script};
-use dl_desk::{DeskPrime, End, FetchKey, Limits, LoadReply, Text};
+use crate::lines::lines_of;
+use crate::scripts::{ROWS, script};
+use dl_desk::{Limits, Text};
 use dl_plans::Script;
-use dl_reference::{
-    Atom, Call, Rules, begun, end_of, held, jobs, load_reply, members, prime_reply, reply_to, sent,
-};
+use dl_reference::Rules;
 use std::alloc::Global;
+use std::process::Abort;
 use std::test::Fail;
 
 /// Loads of the tables t and s in turn, and a dispatch.
@@ -27,82 +25,38 @@ pub(crate) fn mixed(limits: Limits) -> Rules {
     }
 }
 
-/// A key of the table t.
-fn key(alloc: Global, id: &str) -> Result<FetchKey, Fail> {
-    Ok(FetchKey::new(alloc, "t", id)?)
+/// The reference loader gives a script this text.
+fn assert_lines(
+    rt: &impl Abort,
+    alloc: Global,
+    rules: &Rules,
+    script: &Script,
+    want: &str,
+) -> Result<(), Fail> {
+    let text = lines_of(alloc, rules, script.calls.as_slice())?;
+    assert_eq!(rt; text.as_str(), want);
+    Ok(())
 }
 
 #[test]
 fn the_reference_loader_gives_a_script_its_text(rt: HostRuntime) -> Result<(), Fail> {
-    for (about, document, want) in ROWS {
+    for (_about, document, want) in &ROWS {
         let script = script(rt.alloc(), document)?;
-        let text = lines_of(rt.alloc(), &mixed(script.limits), script.calls.as_slice())?;
-        assert_eq!(rt; text.as_str(), want, "{about}");
+        assert_lines(&rt, rt.alloc(), &mixed(script.limits), &script, want)?;
     }
     Ok(())
+}
+
+/// Rules of a loader whose batches have one table each, and those of s one key.
+fn by_table(alloc: Global, limits: Limits) -> Result<Rules, Fail> {
+    let table = Text::new(alloc, "s")?;
+    let tables = Some(vec![in alloc; (table, 1)]?);
+    Ok(Rules { limits, tables })
 }
 
 #[test]
 fn batches_by_table_hold_one_table_each(rt: HostRuntime) -> Result<(), Fail> {
-    let alloc = rt.alloc();
-    let script = script(alloc, TWO_TABLES)?;
-    let rules = Rules {
-        limits: script.limits,
-        tables: Some(vec![in alloc; (Text::new(alloc, "s")?, 1)]?),
-    };
-    let text = lines_of(alloc, &rules, script.calls.as_slice())?;
-    assert_eq!(rt; text.as_str(), BY_TABLE);
-    Ok(())
-}
-
-/// The history that a script leaves.
-fn history_of(alloc: Global, rules: &Rules, script: &Script) -> Result<Vec<Atom>, Fail> {
-    let mut history: Vec<Atom> = Vec::new(alloc);
-    for call in script.calls.as_slice() {
-        let _ = reply_to(alloc, rules, &mut history, &call_of(alloc, call)?)?;
-    }
-    Ok(history)
-}
-
-#[test]
-fn the_history_tells_what_was_sent_and_ended(rt: HostRuntime) -> Result<(), Fail> {
-    let alloc = rt.alloc();
-    let script = script(alloc, ENDS)?;
-    let history = history_of(alloc, &mixed(script.limits), &script)?;
-    let first = members(alloc, history.as_slice(), 0)?;
-    assert_eq!(rt; first.as_slice(), [(key(alloc, "a")?, 0)].as_slice());
-    for (batch, end) in [(0, Some(End::Failed)), (1, Some(End::Settled)), (2, None)] {
-        assert_eq!(rt; end_of(history.as_slice(), batch), end, "of batch {batch}");
-    }
-    assert_eq!(rt; sent(history.as_slice()), 3);
-    assert_eq!(rt; begun(history.as_slice()), 3);
-    Ok(())
-}
-
-#[test]
-fn the_history_tells_what_is_held(rt: HostRuntime) -> Result<(), Fail> {
-    let alloc = rt.alloc();
-    let script = script(alloc, ENDS)?;
-    let history = history_of(alloc, &mixed(script.limits), &script)?;
-    let a = key(alloc, "a")?;
-    assert_eq!(rt; held(history.as_slice(), &a), Some(2));
-    assert_eq!(rt; prime_reply(history.as_slice(), &a)?, DeskPrime::Kept);
-    assert_eq!(rt; held(history.as_slice(), &key(alloc, "c")?), None);
-    Ok(())
-}
-
-#[test]
-fn a_load_after_the_history_waits(rt: HostRuntime) -> Result<(), Fail> {
-    let alloc = rt.alloc();
-    let script = script(alloc, ENDS)?;
-    let rules = mixed(script.limits);
-    let mut history = history_of(alloc, &rules, &script)?;
-    let c = key(alloc, "c")?;
-    let fresh = LoadReply::Fresh { cell: 3, batch: 3 };
-    assert_eq!(rt; load_reply(alloc, &rules, history.as_slice(), &c)?, fresh);
-    let _ = reply_to(alloc, &rules, &mut history, &Call::Load(c))?;
-    let waiting = jobs(alloc, history.as_slice())?;
-    assert_eq!(rt; waiting.len(), 1);
-    assert_eq!(rt; waiting[0].batch, 3);
-    Ok(())
+    let script = script(rt.alloc(), TWO_TABLES)?;
+    let rules = by_table(rt.alloc(), script.limits)?;
+    assert_lines(&rt, rt.alloc(), &rules, &script, BY_TABLE)
 }

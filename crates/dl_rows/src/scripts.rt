@@ -4,10 +4,11 @@ use dl_desk::LimitFault;
 use dl_plans::{Input, PlanFault, RunError, Script, read_input, run_script};
 use std::alloc::Global;
 use std::hash::RandomState;
+use std::process::Abort;
 use std::test::Fail;
 
 /// A script whose batches of one key end in any order, and whose keys are then loaded again.
-pub(crate) const ENDS: &str =
+const ENDS: &str =
     r#"{"script":1,"maxBatchSize":1,"calls":[{"load":["t","a"]},{"load":["t","b"]},{"dispatch":true},{"settle":1},{"fail":0},{"load":["t","a"]},{"load":["t","b"]},{"dispatch":true}]}"#;
 
 /// Worked rows: what each shows, a script's document, and the text that the script gives.
@@ -132,34 +133,42 @@ pub(crate) fn script(alloc: Global, document: &str) -> Result<Script, Fail> {
 #[test]
 fn a_script_gives_its_text(rt: HostRuntime) -> Result<(), Fail> {
     let hashing = RandomState::new(&rt)?;
-    for (about, document, want) in ROWS {
+    for (about, document, want) in &ROWS {
         let script = script(rt.alloc(), document)?;
         let text = run_script(rt.alloc(), hashing, &script)?;
-        assert_eq!(rt; text.as_str(), want, "{about}");
+        assert_eq!(rt; text.as_str(), *want, "{about}");
     }
+    Ok(())
+}
+
+/// A document is refused for this fault, which has this line.
+fn assert_refused(
+    rt: &impl Abort,
+    alloc: Global,
+    document: &[u8],
+    want: PlanFault,
+    line: &str,
+) -> Result<(), Fail> {
+    let fault = read_input(alloc, document).err();
+    assert_eq!(rt; fault, Some(want), "{line}");
+    let shown = format!(in alloc; "{}", RunError::Refused(want))?;
+    assert_eq!(rt; shown.as_str(), line);
     Ok(())
 }
 
 #[test]
 fn other_documents_are_refused(rt: HostRuntime) -> Result<(), Fail> {
-    for (document, want, line) in REFUSALS {
-        let fault = read_input(rt.alloc(), document.as_bytes()).err();
-        assert_eq!(rt; fault, Some(want), "of {document}");
-        let shown = format!(in rt.alloc(); "{}", RunError::Refused(want))?;
-        assert_eq!(rt; shown.as_str(), line);
+    for (document, want, line) in &REFUSALS {
+        assert_refused(&rt, rt.alloc(), document.as_bytes(), *want, line)?;
     }
     Ok(())
 }
 
 #[test]
 fn a_document_has_a_most_of_bytes(rt: HostRuntime) -> Result<(), Fail> {
+    let (large, not_json) = ("refused: too large", "refused: not json");
     let mut spaces = vec![in rt.alloc(); b' '; 1_048_577]?;
-    let fault = read_input(rt.alloc(), &spaces).err();
-    assert_eq!(rt; fault, Some(PlanFault::TooLarge));
-    let shown = format!(in rt.alloc(); "{}", RunError::Refused(PlanFault::TooLarge))?;
-    assert_eq!(rt; shown.as_str(), "refused: too large");
+    assert_refused(&rt, rt.alloc(), &spaces, PlanFault::TooLarge, large)?;
     spaces.truncate(1_048_576);
-    let fault = read_input(rt.alloc(), &spaces).err();
-    assert_eq!(rt; fault, Some(PlanFault::NotJson));
-    Ok(())
+    assert_refused(&rt, rt.alloc(), &spaces, PlanFault::NotJson, not_json)
 }

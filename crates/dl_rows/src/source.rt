@@ -52,7 +52,7 @@ struct Row {
     want: &'static str,
 }
 
-const ROWS: [Row; 5] = [
+const ROWS: [Row; 6] = [
     Row {
         about: "a key with an error, and one with no row",
         tables: USERS,
@@ -88,55 +88,28 @@ const ROWS: [Row; 5] = [
         ids: &["y", "x"],
         want: "break q",
     },
+    Row {
+        about: "no keys have no outcomes",
+        tables: TWO_BREAKS,
+        table: "t",
+        ids: &[],
+        want: "",
+    },
 ];
+
+/// The tables answer the keys of a row so.
+fn assert_answer(rt: &impl Abort, alloc: Global, tables: &Tables, row: &Row) -> Result<(), Fail> {
+    let answer = asked(alloc, tables, row.table, row.ids)?;
+    assert_eq!(rt; answer.as_str(), row.want, "{}", row.about);
+    Ok(())
+}
 
 #[test]
 fn keys_are_answered(rt: HostRuntime) -> Result<(), Fail> {
     for row in &ROWS {
         let tables = tables(&rt, rt.alloc(), row.tables)?;
-        let answer = asked(rt.alloc(), &tables, row.table, row.ids)?;
-        assert_eq!(rt; answer.as_str(), row.want, "{}", row.about);
+        assert_answer(&rt, rt.alloc(), &tables, row)?;
     }
-    Ok(())
-}
-
-#[test]
-fn no_keys_have_no_outcomes(rt: HostRuntime) -> Result<(), Fail> {
-    let two = tables(&rt, rt.alloc(), TWO_BREAKS)?;
-    let BatchAnswer::Each(outcomes) = two.fetch(rt.alloc(), &[])? else {
-        return Err("no keys break nothing".into());
-    };
-    assert_eq!(rt; outcomes.as_slice().len(), 0);
-    Ok(())
-}
-
-#[test]
-fn a_fetched_job_keeps_its_batch_and_keys(rt: HostRuntime) -> Result<(), Fail> {
-    let users = tables(&rt, rt.alloc(), USERS)?;
-    let job = job(rt.alloc(), 7, "user", &["u9"])?;
-    let Ok(fetched) = fetch_job(rt.alloc(), &users, job) else {
-        return Err("no memory".into());
-    };
-    assert_eq!(rt; fetched.batch(), 7);
-    assert_eq!(rt; fetched.keys().len(), 1);
-    let job = fetched.into_job();
-    assert_eq!(rt; job.batch, 7);
-    Ok(())
-}
-
-#[test]
-fn a_fetched_job_gives_its_answer_away(rt: HostRuntime) -> Result<(), Fail> {
-    let users = tables(&rt, rt.alloc(), USERS)?;
-    let job = job(rt.alloc(), 7, "user", &["u9"])?;
-    let Ok(fetched) = fetch_job(rt.alloc(), &users, job) else {
-        return Err("no memory".into());
-    };
-    let (job, answer) = fetched.into_parts();
-    assert_eq!(rt; job.batch, 7);
-    let BatchAnswer::Each(outcomes) = answer else {
-        return Err("u9 breaks nothing".into());
-    };
-    assert_eq!(rt; outcomes.into_vec().len(), 1);
     Ok(())
 }
 
@@ -169,37 +142,56 @@ const REFUSED: [(&str, TableFault); 10] = [
     ),
 ];
 
+/// Why the tree of a text spells no tables, where it spells none.
+fn fault_of(alloc: Global, hashing: RandomState, text: &str) -> Result<Option<TableFault>, Fail> {
+    let value = Value::from_str(alloc, text)?;
+    Ok(Tables::from_value(alloc, hashing, &value).err())
+}
+
 #[test]
 fn other_trees_are_refused(rt: HostRuntime) -> Result<(), Fail> {
     let hashing = RandomState::new(&rt)?;
-    for (text, want) in REFUSED {
-        let value = Value::from_str(rt.alloc(), text)?;
-        let fault = Tables::from_value(rt.alloc(), hashing, &value).err();
-        assert_eq!(rt; fault, Some(want), "{text}");
+    for (text, want) in &REFUSED {
+        assert_eq!(rt; fault_of(rt.alloc(), hashing, text)?, Some(*want), "{text}");
     }
     Ok(())
 }
 
 // One table that lists an error with a text of this length.
-fn table_with_error(alloc: Global, length: usize) -> Result<Value, Fail> {
+fn table_with_error(alloc: Global, length: usize) -> Result<String, Fail> {
     let mut text = String::from_str(alloc, r#"[{"name":"t","rows":[],"errors":[["a",""#)?;
     for _ in 0..length {
         text.push('x')?;
     }
     text.push_str(r#""]]}]"#)?;
-    Ok(Value::from_str(alloc, text.as_str())?)
+    Ok(text)
+}
+
+/// Tables that list an error with a text of this length are refused so.
+fn assert_fault(
+    rt: &impl Abort,
+    alloc: Global,
+    hashing: RandomState,
+    length: usize,
+    want: Option<TableFault>,
+) -> Result<(), Fail> {
+    let text = table_with_error(alloc, length)?;
+    assert_eq!(rt; fault_of(alloc, hashing, text.as_str())?, want);
+    Ok(())
 }
 
 #[test]
 fn takes_texts_up_to_their_limit(rt: HostRuntime) -> Result<(), Fail> {
-    let alloc = rt.alloc();
     let hashing = RandomState::new(&rt)?;
     assert_eq!(rt; TEXT_BYTES, 1_024);
-    let most = Tables::from_value(alloc, hashing, &table_with_error(alloc, 1_024)?)?;
-    assert_eq!(rt; asked(alloc, &most, "t", &["a"])?.len(), 1_031);
-    let more = Tables::from_value(alloc, hashing, &table_with_error(alloc, 1_025)?);
-    assert_eq!(rt; more.err(), Some(TableFault::TextTooLong));
-    Ok(())
+    assert_fault(&rt, rt.alloc(), hashing, 1_024, None)?;
+    assert_fault(
+        &rt,
+        rt.alloc(),
+        hashing,
+        1_025,
+        Some(TableFault::TextTooLong),
+    )
 }
 
 fn assert_copied(
@@ -214,20 +206,26 @@ fn assert_copied(
     Ok(())
 }
 
-#[test]
-fn copies_of_values_are_the_same(rt: HostRuntime) -> Result<(), Fail> {
-    let alloc = rt.alloc();
+/// A value of two members.
+fn json(rt: &impl Abort, alloc: Global) -> Result<Json, Fail> {
     let value = Value::from_str(alloc, r#"{"b":[1,-2],"a":null}"#)?;
     assert!(rt; !has_float(&value));
-    let json = Json::new(alloc, value)?;
-    let copy = json.try_copy()?.into_value()?;
-    assert_eq!(rt; copy.to_string(alloc)?.as_str(), r#"{"a":null,"b":[1,-2]}"#);
-    assert_copied(
-        &rt,
-        alloc,
-        &Outcome::Value(json),
-        r#"{"a":null,"b":[1,-2]}"#,
-    )
+    Ok(Json::new(alloc, value)?)
+}
+
+/// The text of a value that is copied out of a shared one.
+fn copied_out(alloc: Global, json: &Json) -> Result<String, Fail> {
+    let value = json.try_copy()?.into_value()?;
+    Ok(value.to_string(alloc)?)
+}
+
+#[test]
+fn copies_of_values_are_the_same(rt: HostRuntime) -> Result<(), Fail> {
+    let json = json(&rt, rt.alloc())?;
+    let text = copied_out(rt.alloc(), &json)?;
+    assert_eq!(rt; text.as_str(), r#"{"a":null,"b":[1,-2]}"#);
+    let outcome = Outcome::Value(json);
+    assert_copied(&rt, rt.alloc(), &outcome, r#"{"a":null,"b":[1,-2]}"#)
 }
 
 #[test]
@@ -236,11 +234,7 @@ fn copies_of_failures_are_the_same(rt: HostRuntime) -> Result<(), Fail> {
     let gone = Outcome::KeyError(Message::new(alloc, "gone")?);
     assert_copied(&rt, alloc, &gone, "error gone")?;
     let down = BatchFault::Source(Message::new(alloc, "down")?);
-    assert_copied(&rt, alloc, &Outcome::BatchFailed(down), "batch down")?;
-    let memory = Outcome::BatchFailed(BatchFault::Memory);
-    assert_copied(&rt, alloc, &memory, "memory")?;
-    let unsent = Outcome::BatchFailed(BatchFault::Unsent);
-    assert_copied(&rt, alloc, &unsent, "unsent")
+    assert_copied(&rt, alloc, &Outcome::BatchFailed(down), "batch down")
 }
 
 // A source that has no memory left.

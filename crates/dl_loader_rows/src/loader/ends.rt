@@ -2,9 +2,9 @@
 
 ghost use Rattle.dl_history.specs.Service.{Answers};
 
-use super::steps::{assert_ends, assert_job, close, not_closed, only_job, settle_job, user};
+use super::steps::{assert_ends, assert_job, only_job, settle_job, user};
 use dl_desk::{FetchKey, Job, Keys};
-use dl_loader::{CallFault, CloseFault, GiveUp, Loader, LoaderName, Pass, Stopped};
+use dl_loader::{CallFault, GiveUp, History, Loader, LoaderName, Pass, Stopped};
 use dl_source::{Source, fetch_job};
 use std::alloc::Global;
 use std::process::Abort;
@@ -12,25 +12,8 @@ use std::slice;
 use std::sync::Wait;
 use std::test::Fail;
 
-/// A batch ends only once it is sent, only by its own keys, and only once. A stopped loader takes no calls, and
-/// is closed.
-pub(super) fn try_ends<L: LoaderName, S: Source, R: Abort + Wait>(
-    rt: &R,
-    alloc: Global,
-    source: &S,
-    loader: Loader<L>,
-    mut pass: Pass<L>,
-) -> Result<(), Fail>
-    requires source { Answers (S.answer source.now) L.service }
-{
-    refuse_ends(rt, alloc, source, &loader, &mut pass)?;
-    let history = close(alloc, loader, pass)?;
-    assert_eq!(rt; history.events().len(), 3);
-    assert_ends(rt, alloc, &history, &[(0, true)])
-}
-
-/// The calls before the close.
-fn refuse_ends<L: LoaderName, S: Source, R: Abort + Wait>(
+/// A batch ends only once it is sent, only by its own keys, and only once. A stopped loader takes no calls.
+pub(super) fn refuse_ends<L: LoaderName, S: Source, R: Abort + Wait>(
     rt: &R,
     alloc: Global,
     source: &S,
@@ -40,35 +23,80 @@ fn refuse_ends<L: LoaderName, S: Source, R: Abort + Wait>(
     requires source { Answers (S.answer source.now) L.service }
 {
     let key = user(alloc, "u1")?;
-    let other = user(alloc, "u2")?;
-    let _ticket = loader.load(rt, alloc, pass, &key)?;
-    assert_no_fail(rt, alloc, loader, pass, 0, &key, CallFault::NotSent)?;
+    refuse_unsent(rt, alloc, loader, pass, &key)?;
     let job = only_job(rt, alloc, loader, pass, &key)?;
-    assert_no_fail(rt, alloc, loader, pass, 0, &other, CallFault::WrongKeys)?;
-    assert_no_fail(rt, alloc, loader, pass, 5, &key, CallFault::NoBatch)?;
-    let copy = job.try_copy()?;
-    settle_job(rt, alloc, source, loader, pass, job)?;
-    assert_no_settle(rt, alloc, source, loader, pass, copy, &key)?;
+    refuse_others(rt, alloc, loader, pass, &key)?;
+    end_twice(rt, alloc, source, loader, pass, job, &key)?;
     loader.stop(rt);
     let refused = loader.clear(rt, alloc, pass, &key);
     assert_eq!(rt; refused, Err(CallFault::Stopped));
     Ok(())
 }
 
+/// The key is loaded, and its batch isn't sent.
+fn refuse_unsent<L: LoaderName, R: Abort + Wait>(
+    rt: &R,
+    alloc: Global,
+    loader: &Loader<L>,
+    pass: &mut Pass<L>,
+    key: &FetchKey,
+) -> Result<(), Fail> {
+    loader.load(rt, alloc, pass, key)?;
+    assert_no_fail(rt, alloc, loader, pass, 0, key, CallFault::NotSent)
+}
+
+/// The sent batch has the key alone, and there is no batch 5.
+fn refuse_others<L: LoaderName, R: Abort + Wait>(
+    rt: &R,
+    alloc: Global,
+    loader: &Loader<L>,
+    pass: &mut Pass<L>,
+    key: &FetchKey,
+) -> Result<(), Fail> {
+    let other = user(alloc, "u2")?;
+    assert_no_fail(rt, alloc, loader, pass, 0, &other, CallFault::WrongKeys)?;
+    assert_no_fail(rt, alloc, loader, pass, 5, key, CallFault::NoBatch)
+}
+
+/// The job of the first batch, which has this key, is settled. A copy of it isn't.
+fn end_twice<L: LoaderName, S: Source, R: Abort + Wait>(
+    rt: &R,
+    alloc: Global,
+    source: &S,
+    loader: &Loader<L>,
+    pass: &mut Pass<L>,
+    job: Job,
+    key: &FetchKey,
+) -> Result<(), Fail>
+    requires source { Answers (S.answer source.now) L.service }
+{
+    let copy = job.try_copy()?;
+    settle_job(rt, alloc, source, loader, pass, job)?;
+    assert_no_settle(rt, alloc, source, loader, pass, copy, key)
+}
+
+/// The history of the accepted calls: the load, the dispatch and the settle.
+pub(super) fn assert_history(
+    rt: &impl Abort,
+    alloc: Global,
+    history: &History,
+) -> Result<(), Fail> {
+    assert_eq!(rt; history.events().len(), 3);
+    assert_ends(rt, alloc, history, &[(0, true)])
+}
+
 /// At a stopped loader a wait for a cell that has not ended is given up.
 pub(super) fn wait_stopped<L: LoaderName, R: Abort + Wait>(
     rt: &R,
     alloc: Global,
-    loader: Loader<L>,
-    mut pass: Pass<L>,
+    loader: &Loader<L>,
+    pass: &mut Pass<L>,
 ) -> Result<(), Fail> {
     let key = user(alloc, "u1")?;
-    let mut ticket = loader.load(rt, alloc, &mut pass, &key)?;
+    let mut ticket = loader.load(rt, alloc, pass, &key)?;
     loader.stop(rt);
-    assert_eq!(rt; loader.wait(rt, &mut pass, &mut ticket), Err(Stopped));
-    drop(ticket);
+    assert_eq!(rt; loader.wait(rt, pass, &mut ticket), Err(Stopped));
     assert_eq!(rt; pass.entries().len(), 1);
-    not_closed(rt, alloc, loader, pass, CloseFault::Unsettled { batch: 0 })?;
     Ok(())
 }
 

@@ -13,11 +13,11 @@ pub(super) fn begin_too_many<L: LoaderName, R: Abort + Wait>(
     rt: &R,
     alloc: Global,
     loader: &Loader<L>,
-    mut pass: Pass<L>,
+    pass: &mut Pass<L>,
 ) -> Result<(), Fail> {
     let keys = [user(alloc, "u1")?, user(alloc, "u2")?];
-    loader.load(rt, alloc, &mut pass, &keys[0])?;
-    assert_refused(rt, alloc, loader, &mut pass, &keys);
+    loader.load(rt, alloc, pass, &keys[0])?;
+    assert_refused(rt, alloc, loader, pass, &keys);
     assert_entries(rt, pass.entries(), &[EntryKind::Call { at: 0 }]);
     Ok(())
 }

@@ -1,7 +1,7 @@
 //! One event by the law, on the locked book.
 
 use super::steps::{assert_entries, user};
-use dl_desk::LoadReply;
+use dl_desk::{FetchKey, LoadReply};
 use dl_loader::{Ask, EntryKind, Loader, LoaderName, Pass, Reply, laws};
 use dl_source::Source;
 use std::alloc::Global;
@@ -14,24 +14,34 @@ pub(super) fn load_by_the_law<S: Source, L: LoaderName, R: Abort + Wait>(
     rt: &R,
     alloc: Global,
     loader: &Loader<L>,
-    mut pass: Pass<L>,
+    pass: &mut Pass<L>,
 ) -> Result<(), Fail> {
     let key = user(alloc, "u1")?;
-    let ask: Ask<'_, S> = Ask::Load(&key);
-    let mut book = loader.lock(rt);
-    let made = laws::event(alloc, loader, &mut *book, &mut pass, ask).ok();
-    drop(book);
+    let made = load::<S, _, _>(rt, alloc, loader, pass, &key);
     assert!(rt;
         matches!(
             made,
             Some((Reply::Loaded(LoadReply::Fresh { cell: 0, batch: 0 }), 0))
         )
     );
-    loader.clear_all(rt, alloc, &mut pass)?;
+    loader.clear_all(rt, alloc, pass)?;
     assert_entries(
         rt,
         pass.entries(),
         &[EntryKind::Call { at: 0 }, EntryKind::Call { at: 1 }],
     );
     Ok(())
+}
+
+/// The event of a load, and how many cells refused it.
+fn load<S: Source, L: LoaderName, R: Wait>(
+    rt: &R,
+    alloc: Global,
+    loader: &Loader<L>,
+    pass: &mut Pass<L>,
+    key: &FetchKey,
+) -> Option<(Reply, u32)> {
+    let ask: Ask<'_, S> = Ask::Load(key);
+    let mut book = loader.lock(rt);
+    laws::event(alloc, loader, &mut *book, pass, ask).ok()
 }

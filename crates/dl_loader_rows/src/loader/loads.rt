@@ -2,11 +2,9 @@
 
 ghost use Rattle.dl_history.specs.Service.{Answers};
 
-use super::steps::{
-    ADA, assert_ends, assert_entries, assert_shows, close, only_job, settle_job, user,
-};
+use super::steps::{ADA, assert_ends, assert_entries, assert_shows, end_only_job, user};
 use dl_desk::{FetchKey, LoadReply};
-use dl_loader::{EntryKind, History, Loader, LoaderName, Pass};
+use dl_loader::{EntryKind, History, Loader, LoaderName, Pass, Ticket};
 use dl_source::Source;
 use std::alloc::Global;
 use std::process::Abort;
@@ -23,24 +21,8 @@ const ENTRIES: [EntryKind; 6] = [
     EntryKind::Call { at: 4 },
 ];
 
-/// A key is loaded, its batch is sent, fetched and settled, the outcome is read, the key is forgotten, and
-/// the loader is closed.
+/// A key is loaded, its batch is sent, fetched and settled, the outcome is read, and the key is forgotten.
 pub(super) fn load_to_the_end<L: LoaderName, S: Source, R: Abort + Wait>(
-    rt: &R,
-    alloc: Global,
-    source: &S,
-    loader: Loader<L>,
-    mut pass: Pass<L>,
-) -> Result<(), Fail>
-    requires source { Answers (S.answer source.now) L.service }
-{
-    make_calls(rt, alloc, source, &loader, &mut pass)?;
-    let history = close(alloc, loader, pass)?;
-    assert_history(rt, alloc, &history)
-}
-
-/// The calls before the close.
-fn make_calls<L: LoaderName, S: Source, R: Abort + Wait>(
     rt: &R,
     alloc: Global,
     source: &S,
@@ -72,27 +54,44 @@ fn load_and_read<L: LoaderName, S: Source, R: Abort + Wait>(
     requires source { Answers (S.answer source.now) L.service }
 {
     let mut ticket = loader.load(rt, alloc, pass, key)?;
-    assert_eq!(rt; ticket.reply(), LoadReply::Fresh { cell: 0, batch: 0 });
-    assert_eq!(rt; ticket.cell(), 0);
+    assert_fresh(rt, &ticket);
     assert!(rt; ticket.look().is_none());
-    let job = only_job(rt, alloc, loader, pass, key)?;
-    settle_job(rt, alloc, source, loader, pass, job)?;
+    end_only_job(rt, alloc, source, loader, pass, key)?;
     loader.wait(rt, pass, &mut ticket)?;
     assert_shows(rt, alloc, &mut ticket, ADA)
 }
 
+/// The ticket is that of the first load of a loader.
+fn assert_fresh<L: LoaderName>(rt: &impl Abort, ticket: &Ticket<'_, L>) {
+    assert_eq!(rt; ticket.reply(), LoadReply::Fresh { cell: 0, batch: 0 });
+    assert_eq!(rt; ticket.cell(), 0);
+}
+
 /// What the close leaves: the five calls of caller 0, and nothing of a caller 1.
-fn assert_history(rt: &impl Abort, alloc: Global, history: &History) -> Result<(), Fail> {
+pub(super) fn assert_history(
+    rt: &impl Abort,
+    alloc: Global,
+    history: &History,
+) -> Result<(), Fail> {
     history.keeps();
     assert_eq!(rt; history.events().len(), 5);
     assert!(rt; history.events().get(5).is_none());
     assert_ends(rt, alloc, history, &[(0, true)])?;
     assert_eq!(rt; history.entries(0), ENTRIES.as_slice());
-    assert_eq!(rt;
-        history.of_caller(alloc, 0)?.as_slice(),
-        [0, 1, 2, 3, 4].as_slice()
-    );
+    assert_places(rt, alloc, history, 0, &[0, 1, 2, 3, 4])?;
     assert!(rt; history.entries(1).is_empty());
-    assert!(rt; history.of_caller(alloc, 1)?.is_empty());
+    assert_places(rt, alloc, history, 1, &[])
+}
+
+/// The events of a caller stand at these places.
+fn assert_places(
+    rt: &impl Abort,
+    alloc: Global,
+    history: &History,
+    caller: u32,
+    want: &[u32],
+) -> Result<(), Fail> {
+    let places = history.of_caller(alloc, caller)?;
+    assert_eq!(rt; places.as_slice(), want);
     Ok(())
 }

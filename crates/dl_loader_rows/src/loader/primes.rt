@@ -1,8 +1,8 @@
 //! A key that is primed, and loads of it.
 
-use super::steps::{assert_entries, assert_replies, assert_shows, not_closed, user};
+use super::steps::{assert_entries, assert_replies, assert_shows, user};
 use dl_desk::{FetchKey, Json, LoadReply, Outcome, has_float};
-use dl_loader::{CloseFault, EntryKind, Loader, LoaderName, Pass, PrimeReply};
+use dl_loader::{EntryKind, Loader, LoaderName, Pass, PrimeReply};
 use serde_json::Value;
 use std::alloc::Global;
 use std::process::Abort;
@@ -11,37 +11,19 @@ use std::test::Fail;
 
 /// A primed key is held with its outcome: a load hits it, and a second prime changes nothing. The batch of
 /// another key keeps the loader from being closed.
-pub(super) fn prime_and_load<L: LoaderName, R: Abort + Wait>(
-    rt: &R,
-    alloc: Global,
-    loader: Loader<L>,
-    mut pass: Pass<L>,
-) -> Result<(), Fail> {
-    load_primed(rt, alloc, &loader, &mut pass)?;
-    not_closed(rt, alloc, loader, pass, CloseFault::Unsettled { batch: 0 })?;
-    Ok(())
-}
-
-/// The calls before the close.
-fn load_primed<L: LoaderName, R: Abort + Wait>(
+pub(super) fn load_primed<L: LoaderName, R: Abort + Wait>(
     rt: &R,
     alloc: Global,
     loader: &Loader<L>,
     pass: &mut Pass<L>,
 ) -> Result<(), Fail> {
     let key = user(alloc, "u1")?;
-    let primed = loader.prime(rt, alloc, pass, &key, one(rt, alloc)?)?;
-    assert_eq!(rt;
-        primed,
-        PrimeReply::Primed {
-            cell: 0,
-            shown: true
-        }
-    );
-    let mut ticket = loader.load(rt, alloc, pass, &key)?;
-    assert_eq!(rt; ticket.reply(), LoadReply::Hit(0));
-    assert_shows(rt, alloc, &mut ticket, "1")?;
-    pass.saw(&mut ticket);
+    let shown = PrimeReply::Primed {
+        cell: 0,
+        shown: true,
+    };
+    prime(rt, alloc, loader, pass, &key, shown)?;
+    read_primed(rt, alloc, loader, pass, &key)?;
     assert_entries(
         rt,
         pass.entries(),
@@ -51,9 +33,38 @@ fn load_primed<L: LoaderName, R: Abort + Wait>(
             EntryKind::Saw { cell: 0, at: 0 },
         ],
     );
-    let again = loader.prime(rt, alloc, pass, &key, one(rt, alloc)?)?;
-    assert_eq!(rt; again, PrimeReply::Kept);
+    prime(rt, alloc, loader, pass, &key, PrimeReply::Kept)?;
     load_both(rt, alloc, loader, pass, key)
+}
+
+/// A prime of the key with the value 1 has this reply.
+fn prime<L: LoaderName, R: Abort + Wait>(
+    rt: &R,
+    alloc: Global,
+    loader: &Loader<L>,
+    pass: &mut Pass<L>,
+    key: &FetchKey,
+    want: PrimeReply,
+) -> Result<(), Fail> {
+    let outcome = one(rt, alloc)?;
+    let reply = loader.prime(rt, alloc, pass, key, outcome)?;
+    assert_eq!(rt; reply, want);
+    Ok(())
+}
+
+/// A load of the primed key hits its cell, which shows the value.
+fn read_primed<L: LoaderName, R: Abort + Wait>(
+    rt: &R,
+    alloc: Global,
+    loader: &Loader<L>,
+    pass: &mut Pass<L>,
+    key: &FetchKey,
+) -> Result<(), Fail> {
+    let mut ticket = loader.load(rt, alloc, pass, key)?;
+    assert_eq!(rt; ticket.reply(), LoadReply::Hit(0));
+    assert_shows(rt, alloc, &mut ticket, "1")?;
+    pass.saw(&mut ticket);
+    Ok(())
 }
 
 /// A load of the primed key and of another.

@@ -72,6 +72,22 @@ pub(super) fn settle_job<L: LoaderName, S: Source, R: Abort + Wait>(
     }
 }
 
+/// Sends the only batch that waits to be sent, which is the first, with this key, and settles it.
+pub(super) fn end_only_job<L: LoaderName, S: Source, R: Abort + Wait>(
+    rt: &R,
+    alloc: Global,
+    source: &S,
+    loader: &Loader<L>,
+    pass: &mut Pass<L>,
+    key: &FetchKey,
+) -> Result<(), Fail>
+    requires source { Answers (S.answer source.now) L.service }
+    ensures { OnOk result (pass.new.part.tickets ≡ pass.old.part.tickets) }
+{
+    let job = only_job(rt, alloc, loader, pass, key)?;
+    settle_job(rt, alloc, source, loader, pass, job)
+}
+
 /// Fails a job of one key for want of memory.
 pub(super) fn fail_job<L: LoaderName, R: Abort + Wait>(
     rt: &R,
@@ -142,38 +158,40 @@ pub(super) fn assert_entries<L: LoaderName>(
     }
 }
 
-/// Closes the loader of one caller.
-pub(super) fn close<L: LoaderName>(
-    alloc: Global,
-    loader: Loader<L>,
-    pass: Pass<L>,
-) -> Result<History, Fail> {
-    let mut passes = Vec::new(alloc);
-    passes.push(pass)?;
-    loader
-        .close(alloc, passes)
-        .map_err(|(fault, _, _)| fault.into())
-}
-
-/// A close of the loader of one caller is refused so. The loader and the pass come back.
+/// A close of the loader with these passes is refused so. The loader and the passes come back.
 pub(super) fn not_closed<L: LoaderName>(
     rt: &impl Abort,
     alloc: Global,
     loader: Loader<L>,
-    pass: Pass<L>,
+    passes: Vec<Pass<L>>,
     want: CloseFault,
-) -> Result<(Loader<L>, Pass<L>), Fail> {
-    let mut passes = Vec::new(alloc);
-    passes.push(pass)?;
-    let Err((fault, loader, mut passes)) = loader.close(alloc, passes) else {
-        return Err("the loader was closed".into());
+) -> Result<(Loader<L>, Vec<Pass<L>>), Fail> {
+    let count = passes.len();
+    match loader.close(alloc, passes) {
+        Ok(_history) => Err("the loader was closed".into()),
+        Err((fault, loader, passes)) => {
+            assert_eq!(rt; fault, want);
+            assert_eq!(rt; passes.len(), count);
+            Ok((loader, passes))
+        }
+    }
+}
+
+/// The history has one batch, which has this key alone.
+pub(super) fn assert_only_batch(
+    rt: &impl Abort,
+    history: &History,
+    key: &FetchKey,
+    is_settled: bool,
+) -> Result<(), Fail> {
+    let batches = history.batches();
+    let Some(batch) = batches.get(0) else {
+        return Err("no batch".into());
     };
-    assert_eq!(rt; fault, want);
-    assert_eq!(rt; passes.len(), 1);
-    let Some(pass) = passes.pop() else {
-        return Err("no pass came back".into());
-    };
-    Ok((loader, pass))
+    assert_eq!(rt; batch.is_settled(), is_settled);
+    assert_eq!(rt; batch.keys(), slice::from_ref(key));
+    assert!(rt; batches.get(1).is_none());
+    Ok(())
 }
 
 /// The events of a history end these batches, in this order, where `true` says that a batch is settled.

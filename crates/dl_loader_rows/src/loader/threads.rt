@@ -5,7 +5,7 @@ ghost use Rattle.dl_history.specs.Service.{Answers};
 ghost use Rattle.dl_loader.specs.Opening.{Names};
 ghost use Rattle.dl_loader.specs.Pass.{GaveTicket};
 
-use super::steps::{ADA, assert_ends, assert_entries, assert_shows, only_job, settle_job, user};
+use super::steps::{ADA, assert_ends, assert_shows, end_only_job, user};
 use dl_desk::{FetchKey, LoadReply};
 use dl_loader::laws::looks_agree;
 use dl_loader::{CallFault, EntryKind, History, Loader, LoaderName, Opening, Pass, Reply, Ticket};
@@ -27,13 +27,8 @@ pub(super) fn load_by_two<L: LoaderName + Send + Sync, S: Source, R: Abort + Thr
     requires source { opening.source ≡ source.now }
     requires names { Names S.answer opening L.service L.parts L.log L.outcomes L.name }
 {
-    let (loader, mut passes) = Loader::<L>::start(alloc, opening)?;
-    let (Some(other), Some(one)) = (passes.pop(), passes.pop()) else {
-        return Err("no passes".into());
-    };
-    let (one, other) = read_by_two(rt, alloc, source, &loader, one, other)?;
-    passes.push(one)?;
-    passes.push(other)?;
+    let (loader, passes) = Loader::<L>::start(alloc, opening)?;
+    let passes = read_by_two(rt, alloc, source, &loader, passes)?;
     match loader.close(alloc, passes) {
         Ok(history) => assert_history(rt, alloc, &history),
         Err((fault, _, _)) => Err(fault.into()),
@@ -42,6 +37,25 @@ pub(super) fn load_by_two<L: LoaderName + Send + Sync, S: Source, R: Abort + Thr
 
 /// The calls before the close.
 fn read_by_two<L: LoaderName + Send + Sync, S: Source, R: Abort + Threads + Wait + Sync>(
+    rt: &R,
+    alloc: Global,
+    source: &S,
+    loader: &Loader<L>,
+    mut passes: Vec<Pass<L>>,
+) -> Result<Vec<Pass<L>>, Fail>
+    requires source { Answers (S.answer source.now) L.service }
+{
+    let (Some(other), Some(one)) = (passes.pop(), passes.pop()) else {
+        return Err("no passes".into());
+    };
+    let (one, other) = load_by_both(rt, alloc, source, loader, one, other)?;
+    passes.push(one)?;
+    passes.push(other)?;
+    Ok(passes)
+}
+
+/// The calls of both callers, and their passes.
+fn load_by_both<L: LoaderName + Send + Sync, S: Source, R: Abort + Threads + Wait + Sync>(
     rt: &R,
     alloc: Global,
     source: &S,
@@ -55,13 +69,17 @@ fn read_by_two<L: LoaderName + Send + Sync, S: Source, R: Abort + Threads + Wait
     let (one, other) = start_threads(rt, alloc, loader, &key, one, other)?;
     let (mut one, mut first) = one;
     let (mut other, mut second) = other;
-    let job = only_job(rt, alloc, loader, &mut one, &key)?;
-    settle_job(rt, alloc, source, loader, &mut one, job)?;
+    end_only_job(rt, alloc, source, loader, &mut one, &key)?;
     read(rt, alloc, loader, &mut one, &mut first)?;
     read(rt, alloc, loader, &mut other, &mut second)?;
-    assert_eq!(rt; first.cell(), second.cell());
-    looks_agree(&first, &second);
+    assert_agree(rt, &first, &second);
     Ok((one, other))
+}
+
+/// Tickets of one key are of one cell, and have shown one outcome.
+fn assert_agree<L: LoaderName>(rt: &impl Abort, first: &Ticket<'_, L>, second: &Ticket<'_, L>) {
+    assert_eq!(rt; first.cell(), second.cell());
+    looks_agree(first, second);
 }
 
 /// Two callers load the key, each on a thread of its own.

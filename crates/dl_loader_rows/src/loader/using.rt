@@ -4,7 +4,7 @@ ghost use Rattle.std.specs.Prelude.{◌≡◌};
 ghost use Rattle.dl_history.specs.Service.{Answers};
 ghost use Rattle.dl_loader.specs.Opening.{Names};
 
-use super::steps::ADA;
+use super::steps::{ADA, assert_only_batch};
 use dl_desk::FetchKey;
 use dl_fixtures::outcome_text;
 use dl_loader::{CallFault, EntryKind, History, Loader, LoaderName, MOST_CALLERS, Opening, Pass};
@@ -14,8 +14,8 @@ use std::alloc::Global;
 use std::process::Abort;
 use std::sync::Wait;
 use std::test::Fail;
+use std::thread;
 use std::thread::Threads;
-use std::{slice, thread};
 
 /// Opens a loader, has each of its callers load the key on a thread of its own, and closes it: its history.
 pub(super) fn load_by_each<L: LoaderName + Send + Sync, S: Source + Sync, R: Threads + Wait + Sync>(
@@ -97,13 +97,10 @@ pub(super) fn assert_history(
     history: &History,
     key: &FetchKey,
 ) -> Result<(), Fail> {
-    let batches = history.batches();
-    let (Some(batch), Some(outcome)) = (batches.get(0), history.outcome(0)) else {
-        return Err("no batch".into());
+    assert_only_batch(rt, history, key, true)?;
+    let Some(outcome) = history.outcome(0) else {
+        return Err("no outcome".into());
     };
-    assert!(rt; batch.is_settled());
-    assert_eq!(rt; batch.keys(), slice::from_ref(key));
-    assert!(rt; batches.get(1).is_none());
     assert_eq!(rt; outcome_text(alloc, outcome)?.as_str(), ADA);
     for caller in 0..2 {
         let Some(last) = history.entries(caller).last() else {

@@ -15,10 +15,10 @@ use Rattle.dl_loader.specs.contracts.loader.Loader as Loader
 use Rattle.dl_bench.proofs.threads.load_by_each.Goals as goal
 
 -- a closure may be called on each thread where what it captures may be shared
-pub map_vec-requires-sync-F : goal.map_vec-requires-sync-F
-map_vec-requires-sync-F g c κs within =
+pub for_each_mut-requires-sync-F : goal.for_each_mut-requires-sync-F
+for_each_mut-requires-sync-F g c κs within =
     let L = param 0 g.row.L in
     let n = g.L.LoaderName in
     let l = g.L.Ledger in
     let Ts = ShrRef _ _ (param 1 g.row.R) ∷ ShrRef _ _ Heap.the_row ∷ ShrRef _ _ (Loader.the_row L n l) ∷ ShrSlice _ _ FetchKey.the_row ∷ [] in
-    param_sync 4 _ (arg_sync _ yes (TupleAt _ Ts) (captures_sync _ Ts (shr_sync _ _ _ c.type_bounds.sync-R, (shr_sync _ _ _ sync, (shr_sync _ _ _ (Loader-sync L n l), (shr_slice_sync _ _ _ key.the_sync, tt))))))
+    param_sync 2 _ (arg_sync _ yes (TupleAt _ Ts) (captures_sync _ Ts (shr_sync _ _ _ c.type_bounds.sync-R, (shr_sync _ _ _ sync, (shr_sync _ _ _ (Loader-sync L n l), (shr_slice_sync _ _ _ key.the_sync, tt))))))

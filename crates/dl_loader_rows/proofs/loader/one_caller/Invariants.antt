@@ -3,8 +3,8 @@ use Rattle.dl_source.specs.Answer.{answer_of}
 use Rattle.dl_loader_rows.proofs.loader.one_caller.Given as goal
 
 -- the type names the loader after its opening
-abbrev pub ghosts-make_calls-L-LoaderName : goal.ghosts-make_calls-L-LoaderName
-ghosts-make_calls-L-LoaderName g a = record { log = a.opening.log; outcomes = a.opening.outcomes; service = service_of answer_of a.opening }
+abbrev pub ghosts-open-L-LoaderName : goal.ghosts-open-L-LoaderName
+ghosts-open-L-LoaderName g a = record { log = a.opening.log; outcomes = a.opening.outcomes; service = service_of answer_of a.opening }
 
-abbrev pub ghosts-make_calls-L-Ledger : goal.ghosts-make_calls-L-Ledger
-ghosts-make_calls-L-Ledger g a = record { name = a.opening.ledger; parts = a.opening.callers }
+abbrev pub ghosts-open-L-Ledger : goal.ghosts-open-L-Ledger
+ghosts-open-L-Ledger g a = record { name = a.opening.ledger; parts = a.opening.callers }

@@ -1,6 +1,6 @@
 use Rattle.dl_loader.specs.Opening.{service_of}
 use Rattle.dl_source.specs.Answer.{answer_of}
-use Rattle.dl_loader_rows.proofs.loader.two_callers_of_one_key.Given as goal
+use Rattle.dl_loader_rows.proofs.loader.two_callers.Given as goal
 
 -- the type names the loader after its opening
 abbrev pub ghosts-load_by_two-L-LoaderName : goal.ghosts-load_by_two-L-LoaderName

@@ -1,6 +1,6 @@
 use Rattle.dl_loader.specs.Opening.{service_of}
 use Rattle.dl_source.specs.Answer.{answer_of}
-use Rattle.dl_loader_rows.proofs.loader.callers_on_threads_of_their_own.Given as goal
+use Rattle.dl_loader_rows.proofs.loader.callers_on_threads.Given as goal
 
 -- the type names the loader after its opening
 abbrev pub ghosts-load_by_each-L-LoaderName : goal.ghosts-load_by_each-L-LoaderName
