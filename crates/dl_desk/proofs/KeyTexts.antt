@@ -36,8 +36,10 @@ joined_eq-Decides : (j k : Key) → Decides (joined_eq j k) (j ≡ k)
 joined_eq-Decides j k = (joined_eq-same j k, λ e. rw e (all k))
   where
     all : (q : Key) → joined_eq q q ≡ true
-    all q = and_from (bytes_eq (joined q) (joined q)) (nat_eq (length q.table) (length q.table)) ((bytes_eq-Decides (joined q) (joined q)).1 refl)
-        (eq-eqb (length q.table) (length q.table) refl)
+    all q =
+        let text : bytes_eq (joined q) (joined q) ≡ true = (bytes_eq-Decides (joined q) (joined q)).1 refl in
+        let count : nat_eq (length q.table) (length q.table) ≡ true = eq-eqb (length q.table) (length q.table) refl in
+        and_from (bytes_eq (joined q) (joined q)) (nat_eq (length q.table) (length q.table)) text count
 
 -- two joined texts with tables of one length are those of one key exactly if the keys are equal
 pub joined_eq-is : (j k : Key) → joined_eq j k ≡ key_eq j k
