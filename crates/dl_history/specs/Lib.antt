@@ -6,6 +6,5 @@ pub mod Agrees
 pub mod Journal
 pub mod Kept
 pub mod Closed
-
 -- words of private functions, and of what values are made of
 pub mod Inside

@@ -7,6 +7,5 @@ pub mod Output
 pub mod Options
 pub mod Run
 pub mod Reading
-
 -- words of private functions, and of what values are made of
 pub mod Inside

@@ -5,6 +5,5 @@ pub mod AnswerFits
 pub mod Spelling
 pub mod Faults
 pub mod Fetched
-
 -- words of private functions, and of what values are made of
 pub mod Inside
