@@ -6,52 +6,64 @@ use thiserror::Error;
 /// What is run.
 #[derive(Clone, Copy)]
 pub enum Workload {
-    /// Calls of one desk.
-    Desk(Calls),
+    /// Loads the keys one by one on a desk, then dispatches.
+    OneByOne(Ids),
+    /// Makes the keys, and then calls of a desk.
+    Listed(Calls),
     /// Loads, clears and loads again each key in turn.
     Clears,
     /// Reads a script that loads the keys one by one, and answers it.
     Script,
     /// Reads tables with a row for each key, and fetches the keys, a batch at a time.
     Tables,
-    /// One caller of a shared loader: for each batch of keys it loads them in one call, dispatches, settles,
-    /// and reads each outcome.
-    Loader,
-    /// Callers of a shared loader, each on a thread of its own: each loads the keys one by one. Then the first
-    /// dispatches, and settles.
-    Threads,
+    /// Calls of a shared loader.
+    Shared(Callers),
 }
 
-/// The calls of one desk.
+/// The ids of keys that are loaded one by one.
+#[derive(Clone, Copy)]
+pub enum Ids {
+    /// The keys' numbers.
+    Short,
+    /// They share one hash under a seed that is known.
+    Hostile,
+    /// They are as long, and share no hash.
+    Harmless,
+}
+
+/// The calls of a desk whose keys are made first.
 #[derive(Clone, Copy)]
 pub enum Calls {
-    /// Loads the keys one by one, then dispatches.
-    Loads,
     /// Loads the keys in one call.
     Many,
-    /// Loads the keys one by one. Their ids share one hash under a seed that is known.
-    Hostile,
-    /// Loads the keys one by one. Their ids are as long, and share no hash.
-    Harmless,
     /// Loads the keys one by one, twice.
     Hits,
     /// For each batch of keys: loads them in one call, dispatches, settles.
     Rounds,
 }
 
+/// Who calls a shared loader.
+#[derive(Clone, Copy)]
+pub enum Callers {
+    /// One caller: for each batch of keys it loads them in one call, dispatches, settles, and reads each outcome.
+    One,
+    /// Callers each on a thread of its own: each loads the keys one by one. Then the first dispatches, and settles.
+    Threads,
+}
+
 /// The word that asks for each workload, and the most keys of its batches, where the words don't say it.
 const WORKLOADS: [(&str, Option<u32>, Workload); 11] = [
-    ("loads", None, Workload::Desk(Calls::Loads)),
-    ("many", None, Workload::Desk(Calls::Many)),
-    ("hostile", Some(64), Workload::Desk(Calls::Hostile)),
-    ("harmless", Some(64), Workload::Desk(Calls::Harmless)),
-    ("hits", Some(LARGEST_LIMIT), Workload::Desk(Calls::Hits)),
+    ("loads", None, Workload::OneByOne(Ids::Short)),
+    ("hostile", Some(64), Workload::OneByOne(Ids::Hostile)),
+    ("harmless", Some(64), Workload::OneByOne(Ids::Harmless)),
+    ("many", None, Workload::Listed(Calls::Many)),
+    ("hits", Some(LARGEST_LIMIT), Workload::Listed(Calls::Hits)),
+    ("rounds", None, Workload::Listed(Calls::Rounds)),
     ("clears", Some(LARGEST_LIMIT), Workload::Clears),
-    ("rounds", None, Workload::Desk(Calls::Rounds)),
     ("script", Some(LARGEST_LIMIT), Workload::Script),
     ("tables", None, Workload::Tables),
-    ("loader", None, Workload::Loader),
-    ("threads", None, Workload::Threads),
+    ("loader", None, Workload::Shared(Callers::One)),
+    ("threads", None, Workload::Shared(Callers::Threads)),
 ];
 
 /// A workload and its size.
@@ -59,7 +71,7 @@ const WORKLOADS: [(&str, Option<u32>, Workload); 11] = [
 pub struct Command {
     pub workload: Workload,
     pub keys: u32,
-    /// The most keys of a batch; of `Threads`, how many callers.
+    /// The most keys of a batch; of `threads`, how many callers.
     pub most: u32,
 }
 

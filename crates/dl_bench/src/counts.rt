@@ -1,12 +1,12 @@
 //! Counts of what a workload did.
 
-use dl_desk::LoadReply;
-use dl_loader::{Call, EntryKind, Event, History, Reply};
+use dl_desk::{Job, LARGEST_LIMIT, LoadReply};
+use dl_loader::{EndedBatch, EntryKind, History};
 use dl_source::BatchAnswer;
 
 /// Loads that began a cell and loads that were hits, batches begun, jobs sent, batches settled, lines
 /// printed, outcomes fetched or read, and the batch of the newest cell.
-#[derive(Clone, Copy, Default)]
+#[derive(Default, Drop)]
 pub struct Counts {
     pub cells: u64,
     pub hits: u64,
@@ -19,22 +19,34 @@ pub struct Counts {
 }
 
 impl Counts {
-    /// What the events of a history add to counts, and the outcomes that its first caller read.
-    pub fn of_history(history: &History) -> Counts {
-        let mut counts = Counts::default();
-        let events = history.events();
-        for at in 0..events.len() {
-            if let Some(event) = events.get(at) {
-                counts.event(event);
-            }
+    /// Counts the batches of a history, with the cells of their keys, and the outcomes that its first caller read.
+    pub fn history(&mut self, history: &History) {
+        let batches = history.batches();
+        for number in 0..LARGEST_LIMIT {
+            let Some(batch) = batches.get(number) else {
+                break;
+            };
+            self.batch(&batch);
         }
         for kind in history.entries(0) {
-            counts.entry(*kind);
+            if let EntryKind::Saw { .. } = kind {
+                self.outcomes = self.outcomes.saturating_add(1);
+            }
         }
-        counts
+    }
+
+    /// Counts a batch of a history, which was sent as a job.
+    fn batch(&mut self, batch: &EndedBatch<'_>) {
+        self.batches = self.batches.saturating_add(1);
+        self.jobs = self.jobs.saturating_add(1);
+        self.cells = self.cells.saturating_add(batch.keys().len() as u64);
+        if batch.is_settled() {
+            self.settle();
+        }
     }
 
     /// Counts a load, and a batch where it isn't that of the newest cell.
+    #[inline]
     pub fn load(&mut self, reply: LoadReply) {
         match reply {
             LoadReply::Hit(_) => self.hits = self.hits.saturating_add(1),
@@ -55,34 +67,21 @@ impl Counts {
         }
     }
 
+    /// Counts jobs that were sent.
+    pub fn jobs(&mut self, jobs: &[Job]) {
+        self.jobs = self.jobs.saturating_add(jobs.len() as u64);
+    }
+
+    /// Counts a batch that was settled.
+    pub fn settle(&mut self) {
+        self.settled = self.settled.saturating_add(1);
+    }
+
     /// Counts the outcomes of an answer.
     pub fn answer(&mut self, answer: &BatchAnswer) {
         if let BatchAnswer::Each(outcomes) = answer {
-            self.outcomes = self
-                .outcomes
-                .saturating_add(outcomes.as_slice().len() as u64);
-        }
-    }
-
-    /// Counts the outcome of an entry that is one.
-    fn entry(&mut self, kind: EntryKind) {
-        if let EntryKind::Saw { .. } = kind {
-            self.outcomes = self.outcomes.saturating_add(1);
-        }
-    }
-
-    /// Counts the loads or the jobs of an event's reply, and the batch that its call settles.
-    fn event(&mut self, event: &Event) {
-        if let Call::Settle { .. } = &event.call {
-            self.settled = self.settled.saturating_add(1);
-        }
-        match &event.reply {
-            Reply::Loaded(reply) => self.load(*reply),
-            Reply::Many(replies) => self.loads(replies.as_slice()),
-            Reply::Sent(jobs) => {
-                self.jobs = self.jobs.saturating_add(jobs.as_slice().len() as u64);
-            }
-            Reply::Primed(_) | Reply::Kept | Reply::Done => {}
+            let count = outcomes.as_slice().len() as u64;
+            self.outcomes = self.outcomes.saturating_add(count);
         }
     }
 }

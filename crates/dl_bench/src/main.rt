@@ -6,10 +6,10 @@
 mod alike;
 mod command;
 mod counts;
+mod desk;
+mod documents;
+mod keys;
 mod shared;
-mod threads;
-mod trial;
-mod workloads;
 
 use crate::command::{Command, Workload};
 use crate::counts::Counts;
@@ -27,7 +27,8 @@ fn run<R: RandomSource + Threads + Wait + Sync>(
     rt: &R,
     alloc: Global,
     command: Command,
-) -> Result<Counts> {
+    counts: &mut Counts,
+) -> Result<()> {
     let hashing = RandomState::new(rt)?;
     let Command {
         workload,
@@ -35,12 +36,14 @@ fn run<R: RandomSource + Threads + Wait + Sync>(
         most,
     } = command;
     match workload {
-        Workload::Desk(calls) => workloads::on_desk(alloc, hashing, calls, keys, most),
-        Workload::Clears => workloads::clears(alloc, hashing, keys, most),
-        Workload::Script => workloads::script(alloc, hashing, keys),
-        Workload::Tables => workloads::tables(alloc, hashing, keys, most),
-        Workload::Loader => shared::loader(rt, alloc, hashing, keys, most),
-        Workload::Threads => threads::threads(rt, alloc, hashing, keys, most),
+        Workload::OneByOne(ids) => desk::one_by_one(alloc, hashing, counts, ids, keys, most),
+        Workload::Listed(calls) => desk::listed(alloc, hashing, counts, calls, keys, most),
+        Workload::Clears => desk::clears(alloc, hashing, counts, keys, most),
+        Workload::Script => documents::script(alloc, hashing, counts, keys),
+        Workload::Tables => documents::tables(alloc, hashing, counts, keys, most),
+        Workload::Shared(callers) => {
+            shared::on_loader(rt, alloc, hashing, counts, callers, keys, most)
+        }
     }
 }
 
@@ -68,6 +71,7 @@ fn asked(rt: &HostRuntime) -> Result<Command> {
 
 fn main(rt: HostRuntime) -> Result<()> {
     let command = asked(&rt)?;
-    let counts = run(&rt, rt.alloc(), command)?;
+    let mut counts = Counts::default();
+    run(&rt, rt.alloc(), command, &mut counts)?;
     print(&rt, &counts)
 }

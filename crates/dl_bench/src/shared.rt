@@ -1,66 +1,92 @@
-//! A workload of one caller of a shared loader.
+//! The workloads of callers of a shared loader.
 
 ghost use Rattle.std.specs.Prelude.{◌≡◌};
 ghost use Rattle.dl_history.specs.Service.{Answers};
 ghost use Rattle.dl_loader.specs.Opening.{Names};
 
 use crate::alike::Alike;
+use crate::command::Callers;
 use crate::counts::Counts;
-use crate::workloads::{keys_of, limits};
+use crate::keys::{keys_of, limits};
 use anyhow::{Result, bail};
 use dl_desk::{FetchKey, Limits};
-use dl_loader::{Loader, LoaderName, Opening, Pass};
+use dl_loader::{Loader, LoaderName, MOST_CALLERS, Opening, Pass};
 use dl_source::Source;
 use dl_workers::end_jobs;
 use std::alloc::Global;
 use std::hash::RandomState;
 use std::marker::Brand;
 use std::sync::Wait;
+use std::thread;
+use std::thread::Threads;
 
-/// One caller of a loader over a source that answers every key `null`: for each batch of keys it loads them in
-/// one call, dispatches, settles what was sent by what the source answers, and reads each outcome. At the end it
-/// closes the loader.
-pub fn loader<R: Wait>(
+/// The most keys of a batch where there are several callers.
+const BATCH: u32 = 64;
+
+/// Calls of a loader over a source that answers every key `null`. At the end the loader is closed.
+///
+/// One caller makes a round for each batch of keys, of at most so many. As many callers as that, each on a thread of
+/// its own, load the same keys, one by one, and when all have, the first of them ends what was begun.
+pub fn on_loader<R: Threads + Wait + Sync>(
     rt: &R,
     alloc: Global,
     hashing: RandomState,
+    counts: &mut Counts,
+    callers: Callers,
     keys: u32,
-    batch: u32,
-) -> Result<Counts> {
+    most: u32,
+) -> Result<()> {
+    let (batch, passes) = match callers {
+        Callers::One => (most, 1),
+        Callers::Threads => (BATCH, most),
+    };
     let limits = limits(batch)?;
     let source = Alike::null(alloc)?;
     let keys = keys_of(alloc, keys)?;
-    let opening = Opening::new(alloc, hashing, &source, limits, 1)?;
-    one_caller::<Brand, _, _>(rt, alloc, &source, opening, &keys, limits)
+    let opening = Opening::new(alloc, hashing, &source, limits, passes)?;
+    each_call::<Brand, _, _>(rt, alloc, &source, opening, counts, callers, &keys, limits)?;
+    let loads = (keys.len() as u64).saturating_mul(u64::from(passes));
+    counts.hits = loads.saturating_sub(counts.cells);
+    Ok(())
 }
 
-/// The calls of one caller on the loader of an opening, which `L` stands for, and what they count.
-fn one_caller<L: LoaderName, S: Source, R: Wait>(
+/// The calls on the loader of an opening, which `L` stands for, and what they count.
+fn each_call<L: LoaderName + Send + Sync, S: Source, R: Threads + Wait + Sync>(
     rt: &R,
     alloc: Global,
     source: &S,
     opening: Opening<'_, S>,
+    counts: &mut Counts,
+    callers: Callers,
     keys: &[FetchKey],
     limits: Limits,
-) -> Result<Counts>
+) -> Result<()>
     requires source { opening.source ≡ source.now }
     requires names { Names S.answer opening L.service L.parts L.log L.outcomes L.name }
 {
     let (loader, mut passes) = Loader::<L>::start(alloc, opening)?;
-    rounds(rt, alloc, source, &loader, &mut passes, keys, limits)?;
-    close(alloc, loader, passes)
+    match callers {
+        Callers::One => rounds(rt, alloc, source, &loader, &mut passes, keys, limits)?,
+        Callers::Threads => {
+            load_by_each(rt, alloc, &loader, &mut passes, keys);
+            end_all(rt, alloc, source, &loader, &mut passes)?;
+        }
+    }
+    close(alloc, loader, passes, counts)
 }
 
 /// Closes a loader, and counts what its callers did, and what the first of them read.
-pub fn close<L: LoaderName>(
+fn close<L: LoaderName>(
     alloc: Global,
     loader: Loader<L>,
     passes: Vec<Pass<L>>,
-) -> Result<Counts> {
+    counts: &mut Counts,
+) -> Result<()> {
     match loader.close(alloc, passes) {
-        Ok(history) => Ok(Counts::of_history(&history)),
-        Err((fault, _, _)) => Err(fault.into()),
+        Ok(history) => counts.history(&history),
+        Err((fault, _, _)) => return Err(fault.into()),
     }
+    Ok(())
 }
 
 /// A round of the first caller for each batch of keys.
@@ -103,4 +129,53 @@ fn round<L: LoaderName, S: Source, R: Wait>(
         pass.saw(&mut ticket);
     }
     Ok(())
+}
+
+/// The first caller dispatches, and settles what was sent.
+fn end_all<L: LoaderName, S: Source, R: Wait>(
+    rt: &R,
+    alloc: Global,
+    source: &S,
+    loader: &Loader<L>,
+    passes: &mut [Pass<L>],
+) -> Result<()>
+    requires { Answers (S.answer source.now) L.service }
+{
+    let Some(pass) = passes.first_mut() else {
+        bail!("a loader without a caller");
+    };
+    let jobs = loader.dispatch(rt, alloc, pass)?;
+    Ok(end_jobs(rt, alloc, loader, source, pass, jobs)?)
+}
+
+/// Each caller loads the keys, one by one, on a thread of its own.
+fn load_by_each<L: LoaderName + Send + Sync, R: Threads + Wait + Sync>(
+    rt: &R,
+    alloc: Global,
+    loader: &Loader<L>,
+    passes: &mut [Pass<L>],
+    keys: &[FetchKey],
+) {
+    thread::for_each_mut(
+        rt,
+        passes,
+        MOST_CALLERS as usize,
+        &|_: usize, pass: &mut Pass<L>| load_each(rt, alloc, loader, pass, keys),
+    );
+}
+
+/// Loads the keys one by one. Where a load is refused the loader is stopped, so that its next call tells of it.
+fn load_each<L: LoaderName, R: Wait>(
+    rt: &R,
+    alloc: Global,
+    loader: &Loader<L>,
+    pass: &mut Pass<L>,
+    keys: &[FetchKey],
+) {
+    for key in keys {
+        if loader.load(rt, alloc, pass, key).is_err() {
+            loader.stop(rt);
+            break;
+        }
+    }
 }

@@ -50,6 +50,8 @@ impl<T: Drop> CellRow<T> {
 
     /// A reader of cell `i` that knows nothing yet. Makes the cell's segment where it isn't there, and
     /// fails only where there is no memory for it.
+    // Inlined, since each event makes a reader, and mostly of a cell whose segment is there.
+    #[inline(always)]
     pub fn reader(&self, i: u32) -> Result<Reader<T>, AllocError>
         requires { i < row_len self.now }
         ensures cell { IfOk result (λ reader. reader.cell ≡ cell_of self.now i) }

@@ -1,5 +1,5 @@
 -- Marking a stored batch as ended.
-use Rattle.std.proofs.Common.{◌≡◌, ◌∙◌, sym, ap, ℕ, zero, suc, ◌+◌, ◌<◌, min, true, false, List, [], ◌∷◌, ◌++◌, inl, inr, length, map, set, take, Option}
+use Rattle.std.proofs.Common.{Bool, ◌≡◌, ◌∙◌, sym, ap, ℕ, zero, suc, ◌+◌, ◌<◌, min, true, false, List, [], ◌∷◌, ◌++◌, inl, inr, length, map, set, take, Option}
 use Rattle.std.proofs.Common.{Some, None, slice_get, nat_eq, refl, arith}
 use Rattle.std.specs.Option.{option_eq}
 use Rattle.std.proofs.lemmas.Bool.{cases_eq, eqb-true, eq-eqb, true≢false}
@@ -78,10 +78,10 @@ pub record IsMarked (prepared shown n : ℕ) (xs : List Stored) (x y : Stored) (
   pub is_whole : whole y ≡ with_end (whole x) e
   pub is_front : front y ≡ with_end (front x) e
 
-pub desk_marked : (most memo_len shown_memo touched n : ℕ) (prepared shown : Extent) (xs : List Stored) (x y : Stored) (e : End)
-    → IsDesk most prepared shown memo_len shown_memo touched xs → IsMarked prepared.begun shown.begun n xs x y e
-    → IsDesk most prepared shown memo_len shown_memo touched (set xs n y)
-desk_marked most memo_len shown_memo touched n prepared shown xs x y e is m = record {
+pub desk_marked : (b : Bool) (most memo_len shown_memo touched n : ℕ) (prepared shown : Extent) (xs : List Stored) (x y : Stored) (e : End)
+    → IsDesk b most prepared shown memo_len shown_memo touched xs → IsMarked prepared.begun shown.begun n xs x y e
+    → IsDesk b most prepared shown memo_len shown_memo touched (set xs n y)
+desk_marked b most memo_len shown_memo touched n prepared shown xs x y e is m = record {
   prepared_book
       = rw map-set
       (stored_set prepared.begun prepared.sent prepared.cells most n (map whole xs) (whole y) is.prepared_book
@@ -98,6 +98,7 @@ desk_marked most memo_len shown_memo touched n prepared shown xs x y e is m = re
         rw (← y_is) (m.is_front ∙ (ap (λ (b : Batch). with_end b e) f ∙ sym m.is_whole))
     | inr other ↦ is.same b outside z (sym (get-set_other xs n b y other) ∙ at)
   ];
+  unmarked = is.unmarked;
 }
 
 pub batches_marked : (prepared shown n : ℕ) (xs : List Stored) (x y : Stored) (e : End) → IsMarked prepared shown n xs x y e

@@ -1,7 +1,7 @@
 -- What cutting, showing and preparing leave of a desk's fields.
-use Rattle.std.proofs.Common.{◌≡◌, ◌∙◌, sym, ℕ, zero, suc, ◌+◌, ◌<◌, ◌≤◌, inl, inr, min, max, List, [], ◌∷◌, ◌++◌, length, map, set, take, length-append}
+use Rattle.std.proofs.Common.{◌≡◌, ◌∙◌, sym, Bool, true, false, ℕ, zero, suc, ◌+◌, ◌<◌, ◌≤◌, inl, inr, min, max, List, [], ◌∷◌, ◌++◌, length, map, set, take, length-append}
 use Rattle.std.proofs.Common.{Option, Some, None, slice_get, refl, arith}
-use Rattle.std.proofs.lemmas.Bool.{cases_lt, cases_eq}
+use Rattle.std.proofs.lemmas.Bool.{cases_lt, cases_eq, true≢false}
 use Rattle.std.proofs.lemmas.Option.{slice_get-map, slice_get_past}
 use Rattle.std.proofs.lemmas.List.{map-append, map-set, length-set, length-map, take_all}
 use Rattle.dl_desk.specs.Key.{Key}
@@ -23,24 +23,26 @@ none_prepared xs same b x at =
     let e : ◌≡◌ {A = Option Batch} (Some (front x)) (Some (whole x)) = sym g ∙ w in
     cc
 
-pub desk_cut : (most memo_len memo_left shown_memo touched : ℕ) (prepared shown : Extent) (xs ys : List Stored)
-    → IsDesk most prepared shown memo_len shown_memo touched xs → map whole ys ≡ map front xs → map front ys ≡ map front xs → shown_memo ≤ memo_left
-    → IsDesk most shown shown memo_left shown_memo shown.begun ys
-desk_cut most memo_len memo_left shown_memo touched prepared shown xs ys is w f left = record {
+pub desk_cut : (b : Bool) (most memo_len memo_left shown_memo touched : ℕ) (prepared shown : Extent) (xs ys : List Stored)
+    → IsDesk b most prepared shown memo_len shown_memo touched xs → map whole ys ≡ map front xs → map front ys ≡ map front xs → memo_left ≡ shown_memo
+    → IsDesk false most shown shown memo_left shown_memo shown.begun ys
+desk_cut b most memo_len memo_left shown_memo touched prepared shown xs ys is w f left = record {
   prepared_book = rw w is.shown_book;
   shown_book = rw f is.shown_book;
-  memo = left;
+  memo = omega arith;
   same = λ b outside x at. none_prepared ys (f ∙ sym w) b x at;
+  unmarked = λ _. record { extent = refl; all_memo = left; none_touched = refl };
 }
 
-pub desk_shown : (most memo_len shown_memo touched : ℕ) (prepared shown : Extent) (xs ys : List Stored)
-    → IsDesk most prepared shown memo_len shown_memo touched xs → map whole ys ≡ map whole xs → map front ys ≡ map whole xs
-    → IsDesk most prepared prepared memo_len memo_len prepared.begun ys
-desk_shown most memo_len shown_memo touched prepared shown xs ys is w f = record {
+pub desk_shown : (b : Bool) (most memo_len shown_memo touched : ℕ) (prepared shown : Extent) (xs ys : List Stored)
+    → IsDesk b most prepared shown memo_len shown_memo touched xs → map whole ys ≡ map whole xs → map front ys ≡ map whole xs
+    → IsDesk false most prepared prepared memo_len memo_len prepared.begun ys
+desk_shown b most memo_len shown_memo touched prepared shown xs ys is w f = record {
   prepared_book = rw w is.prepared_book;
   shown_book = rw f is.prepared_book;
   memo = omega arith;
   same = λ b outside x at. none_prepared ys (f ∙ sym w) b x at;
+  unmarked = λ _. record { extent = refl; all_memo = refl; none_touched = refl };
 }
 
 -- ---- one more batch
@@ -78,20 +80,22 @@ same_grown from to xs same b outside x at = elim (cases_lt b (length xs)) [
   ]
 ]
 
-pub desk_grown : (most memo_len memo_left shown_memo touched : ℕ) (prepared shown : Extent) (xs ys : List Stored)
-    → IsDesk most prepared shown memo_len shown_memo touched xs → Grows xs ys → shown_memo ≤ memo_left
-    → IsDesk most prepared shown memo_left shown_memo touched ys
-desk_grown most memo_len memo_left shown_memo touched prepared shown xs ys is (inl same) left = record {
+pub desk_grown : (b : Bool) (most memo_len memo_left shown_memo touched : ℕ) (prepared shown : Extent) (xs ys : List Stored)
+    → IsDesk b most prepared shown memo_len shown_memo touched xs → Grows xs ys → shown_memo ≤ memo_left
+    → IsDesk true most prepared shown memo_left shown_memo touched ys
+desk_grown b most memo_len memo_left shown_memo touched prepared shown xs ys is (inl same) left = record {
   prepared_book = rw same is.prepared_book;
   shown_book = rw same is.shown_book;
   memo = left;
   same = rw same is.same;
+  unmarked = λ e. absurd (true≢false e);
 }
-desk_grown most memo_len memo_left shown_memo touched prepared shown xs ys is (inr one) left = record {
+desk_grown b most memo_len memo_left shown_memo touched prepared shown xs ys is (inr one) left = record {
   prepared_book = rw (one, map-append) (stored_grown prepared.begun prepared.sent prepared.cells most (map whole xs) is.prepared_book);
   shown_book = rw (one, map-append) (stored_grown shown.begun shown.sent shown.cells most (map front xs) is.shown_book);
   memo = left;
   same = rw one (same_grown touched prepared.begun xs is.same);
+  unmarked = λ e. absurd (true≢false e);
 }
 
 -- ---- one more member
@@ -106,11 +110,11 @@ stored_put begun sent cells most n xs y is low next room = record {
   spare = λ b high inside. get-set_other xs n b y (λ e. absurd (omega arith)) ∙ is.spare b (omega arith) (rw length-set at inside);
 }
 
-pub desk_put : (most memo_len memo_left shown_memo touched n : ℕ) (m : Key × ℕ) (prepared shown : Extent) (xs ys : List Stored)
-    → IsDesk most prepared shown memo_len shown_memo touched xs → IsAdded xs n m ys → n ≤ prepared.begun → prepared.cells < most → shown_memo ≤ memo_left
-    → IsDesk most (record { begun = max prepared.begun (n + 1); sent = prepared.sent; cells = prepared.cells + 1 }) shown memo_left shown_memo (min touched n)
+pub desk_put : (b : Bool) (most memo_len memo_left shown_memo touched n : ℕ) (m : Key × ℕ) (prepared shown : Extent) (xs ys : List Stored)
+    → IsDesk b most prepared shown memo_len shown_memo touched xs → IsAdded xs n m ys → n ≤ prepared.begun → prepared.cells < most → shown_memo ≤ memo_left
+    → IsDesk true most (record { begun = max prepared.begun (n + 1); sent = prepared.sent; cells = prepared.cells + 1 }) shown memo_left shown_memo (min touched n)
     ys
-desk_put most memo_len memo_left shown_memo touched n m prepared shown xs ys is added next room left = record {
+desk_put b most memo_len memo_left shown_memo touched n m prepared shown xs ys is added next room left = record {
   prepared_book
       = rw (
         added.is,
@@ -124,10 +128,11 @@ desk_put most memo_len memo_left shown_memo touched n m prepared shown xs ys is 
       let ne : b ≡ n → ⊥ = λ e. elim outside [ inl below ↦ omega arith | inr above ↦ omega arith ] in
       grown.same b (elim outside [ inl below ↦ inl (omega arith) | inr above ↦ inr (omega arith) ]) x
       (sym (get-set_other added.grown n b added.then ne) ∙ (let here : slice_get (set added.grown n added.then) b ≡ Some x = rw added.is at at in here));
+  unmarked = λ e. absurd (true≢false e);
 }
   where
-    grown : IsDesk most prepared shown memo_left shown_memo touched added.grown
-    grown = desk_grown most memo_len memo_left shown_memo touched prepared shown xs added.grown is added.grows left
+    grown : IsDesk true most prepared shown memo_left shown_memo touched added.grown
+    grown = desk_grown b most memo_len memo_left shown_memo touched prepared shown xs added.grown is added.grows left
 
 -- the grown batches are stored as well
 pub stored_grows : (begun sent cells most : ℕ) (xs grown : List Stored) → IsStored begun sent cells most (map whole xs) → Grows xs grown
@@ -156,8 +161,8 @@ grown_members xs grown n x (inr one) at low = elim (cases_lt n (length xs)) [
 ]
 
 -- where nothing is prepared, the two books have the same entries and the same batches
-pub desk_unprepared : (most memo_len shown_memo touched : ℕ) (prepared shown : Extent) (entries : List (Key × ℕ)) (xs : List Stored)
-    → IsDesk most prepared shown memo_len shown_memo touched xs → length entries ≡ shown_memo → touched ≡ prepared.begun
+pub desk_unprepared : (b : Bool) (most memo_len shown_memo touched : ℕ) (prepared shown : Extent) (entries : List (Key × ℕ)) (xs : List Stored)
+    → IsDesk b most prepared shown memo_len shown_memo touched xs → length entries ≡ shown_memo → touched ≡ prepared.begun
     → (take shown_memo entries ≡ entries) × (map front xs ≡ map whole xs)
-desk_unprepared most memo_len shown_memo touched prepared shown entries xs is all done =
+desk_unprepared b most memo_len shown_memo touched prepared shown entries xs is all done =
     (rw (← all) (take_all (length entries) entries (omega arith)), same_all touched prepared.begun xs (omega arith) is.same)

@@ -1,15 +1,15 @@
 -- The order of keys, and what a hash of one reads.
-use Rattle.std.specs.Prelude.{ℕ, List, [], ◌∷◌, length}
+use Rattle.std.specs.Prelude.{ℕ, List, [], ◌∷◌}
 use Rattle.std.specs.declared.cmp.Ordering.{Ordering}
 use Rattle.std.specs.Ordering.{then_cmp, on, nat_cmp}
 use Rattle.std.specs.Cmp.Lexicographic.{slice_cmp}
 use Rattle.dl_desk.specs.Key.{Key}
-use Rattle.dl_desk.specs.Inside.KeyText.{joined}
+use Rattle.dl_desk.specs.Inside.KeyText.{marked}
 
 -- keys are ordered by table, and keys of one table by id, each by its bytes
 abbrev pub key_cmp : Key → Key → Ordering
 key_cmp = then_cmp (on (λ k. k.table) (slice_cmp nat_cmp)) (on (λ k. k.id) (slice_cmp nat_cmp))
 
--- a hash reads both texts in one piece, and then a byte that no text has and how much of it is the table
+-- a hash reads both texts in one piece, and before them how many bytes the table has
 abbrev pub key_input : Key → List (List ℕ)
-key_input k = joined k ∷ (255 ∷ length k.table ∷ []) ∷ []
+key_input k = marked k ∷ []

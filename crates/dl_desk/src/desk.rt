@@ -28,7 +28,7 @@ use std::hash::RandomState;
 use std::marker::Model;
 
 /// How far a desk has come: batches begun, batches sent, cells begun.
-#[derive(Clone, Copy, Debug, PartialEq, Eq)]
+#[derive(Clone, Copy)]
 pub struct Extent {
     begun: u32,
     sent: u32,
@@ -50,6 +50,8 @@ pub struct Desk {
     prepared: Extent,
     shown: Extent,
     shown_memo: usize,
+    // Whether anything may be prepared that is not shown.
+    is_prepared: bool,
     // In no batch outside of touched..prepared.begun anything is prepared.
     touched: u32,
 }
@@ -68,7 +70,7 @@ impl Model for Desk {
       prepared = record { rules = mixed d.limits; cells = d.prepared.cells; sent = d.prepared.sent; memo = d.memo.entries; batches = take d.prepared.begun (map whole d.batches.items) };
     } };
 
-    ghost invariant = { λ d. IsDesk d.limits.max_cells d.prepared d.shown (length d.memo.entries) d.shown_memo d.touched d.batches.items };
+    ghost invariant = { λ d. IsDesk d.is_prepared d.limits.max_cells d.prepared d.shown (length d.memo.entries) d.shown_memo d.touched d.batches.items };
 }
 
 impl Desk {
@@ -90,6 +92,7 @@ impl Desk {
             prepared: start,
             shown: start,
             shown_memo: 0,
+            is_prepared: false,
             touched: 0,
         }
     }
@@ -120,6 +123,7 @@ impl Desk {
         );
         self.prepared = self.shown;
         self.touched = self.prepared.begun;
+        self.is_prepared = false;
     }
 
     /// Whether nothing is prepared.
@@ -127,13 +131,22 @@ impl Desk {
         ensures shown { IsTrue result → self.now.prepared ≡ self.now.book }
         ensures within { self.now.prepared.cells ≤ self.now.prepared.rules.limits.max_cells }
     {
-        self.memo.len() == self.shown_memo
-            && self.touched == self.prepared.begun
-            && self.prepared == self.shown
+        !self.is_prepared
     }
 
     /// Makes the call that was prepared last, if one was: shows what is prepared. It takes no memory.
     pub fn make_prepared(&mut self)
+        ensures rules { self.new.book.rules ≡ self.old.book.rules }
+        ensures book { self.new.book ≡ self.old.prepared }
+        ensures prepared { self.new.prepared ≡ self.old.prepared }
+    {
+        if !self.is_shown() {
+            self.show_prepared();
+        }
+    }
+
+    /// Shows what is prepared.
+    fn show_prepared(&mut self)
         ensures rules { self.new.book.rules ≡ self.old.book.rules }
         ensures book { self.new.book ≡ self.old.prepared }
         ensures prepared { self.new.prepared ≡ self.old.prepared }
@@ -146,6 +159,7 @@ impl Desk {
         self.shown_memo = self.memo.len();
         self.shown = self.prepared;
         self.touched = self.prepared.begun;
+        self.is_prepared = false;
     }
 
     /// The cell that is held for the key, with what is prepared.
@@ -199,6 +213,7 @@ impl Desk {
         if let Some(held) = memo_and_batches::hold(&mut self.memo, key.try_copy()?, cell)? {
             return Ok(LoadReply::Hit(held));
         }
+        self.is_prepared = true;
         let newest = self.newest();
         let batch = memo_and_batches::join(
             &mut self.batches,
@@ -226,6 +241,7 @@ impl Desk {
         if let Some(_) = memo_and_batches::hold(&mut self.memo, key.try_copy()?, cell)? {
             return Ok(DeskPrime::Kept);
         }
+        self.is_prepared = true;
         self.prepared.cells += 1;
         Ok(DeskPrime::Primed(cell))
     }

@@ -24,31 +24,26 @@ pub const TABLE_BYTES: usize = 64;
 /// The most bytes of a key's id.
 pub const ID_BYTES: usize = 128;
 
-/// The two texts of a key as one: the table, and right after it the id.
+/// The two texts of a key as one: a character whose code is how many bytes the table has, then the table, then the id.
+/// So no two keys have one text.
 #[derive(PartialEq, Eq, Drop)]
 struct KeyText {
     text: Text,
-    table_bytes: u8,
 }
 
 impl Model for KeyText {
     ghost use Rattle.dl_desk.specs.Key.{Key};
-    ghost use Rattle.std.specs.Prelude.{length};
-    ghost use Rattle.dl_desk.specs.Inside.KeyText.{joined, split, IsSplit};
-    ghost use Rattle.std.proofs.lemmas.List.{take-append-drop, length-take-le};
+    ghost use Rattle.dl_desk.specs.Inside.KeyText.{marked, unmarked, IsMarked};
 
     ghost Value = { Key };
 
-    ghost view = { λ k. split k.text k.table_bytes };
+    ghost view = { λ k. unmarked k.text };
 
-    ghost invariant = { λ k. IsSplit k.text k.table_bytes };
+    ghost invariant = { λ k. IsMarked k.text };
 
-    ghost inverse = { λ k. record { text = joined k; table_bytes = length k.table } };
+    ghost inverse = { λ k. record { text = marked k } };
 
-    ghost inverse_ok = { λ k h i. record {
-      text = take-append-drop k.table_bytes k.text i;
-      table_bytes = length-take-le k.table_bytes k.text h.boundary.0 i;
-    } };
+    ghost inverse_ok = { λ k h i. record { text = h.own i } };
 }
 
 impl KeyText {
@@ -57,9 +52,8 @@ impl KeyText {
         requires { IsKey (record { table = table.now; id = id.now }) }
         ensures { IfOk result (λ k. k ≡ record { table = table.now; id = id.now }) }
     {
-        let text = Text::joined(alloc, table, id)?;
-        let table_bytes = table.len() as u8;
-        Ok(KeyText { text, table_bytes })
+        let text = Text::marked(alloc, table.len() as u8, table, id)?;
+        Ok(KeyText { text })
     }
 
     /// The table and the id.
@@ -68,7 +62,8 @@ impl KeyText {
         ensures id { result.1.now ≡ self.now.id }
         ensures key { IsKey self.now }
     {
-        self.text.as_str().split_at(self.table_bytes as usize)
+        let (mark, both) = self.text.as_str().split_at(1);
+        both.split_at(mark.as_bytes()[0] as usize)
     }
 }
 
@@ -77,10 +72,8 @@ impl Hash for KeyText {
 
     ghost respects_eq = { Prim.search (hashing, rules) };
 
-    // No UTF-8 has the byte 0xFF, so what is read of one key never begins what is read of another.
     fn hash<H: Hasher>(&self, state: &mut H) {
         state.write(self.text.as_str().as_bytes());
-        state.write(&[0xff, self.table_bytes]);
     }
 }
 
@@ -96,7 +89,7 @@ impl fmt::Debug for KeyText {
 
 /// What a loader is asked for: a table and an id in it. A copy shares the texts and costs one
 /// atomic step. Equality and order are over the table, then the id, by their bytes; a hash reads both
-/// in one piece, and then how much of it is the table.
+/// in one piece.
 #[derive(Debug, Drop)]
 pub struct FetchKey {
     both: Arc<KeyText>,

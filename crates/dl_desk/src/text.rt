@@ -1,6 +1,6 @@
 //! Texts, which contracts see as their bytes.
 
-ghost use Rattle.std.specs.Prelude.{◌≡◌, ◌++◌, IfOk, bytes_eq};
+ghost use Rattle.std.specs.Prelude.{◌≡◌, ◌<◌, ◌∷◌, ◌++◌, IfOk, bytes_eq};
 ghost use Rattle.std.proofs.Common.{rules};
 ghost use Rattle.std.specs.Ordering.{nat_cmp, as_partial_cmp};
 ghost use Rattle.std.specs.Hash as fed;
@@ -36,11 +36,13 @@ impl Text {
         Ok(Text { text })
     }
 
-    /// A text, and right after it another. The error is want of memory.
-    pub fn joined(alloc: Global, first: &str, second: &str) -> Result<Text, AllocError>
-        ensures { IfOk result (λ t. t ≡ first.now ++ second.now) }
+    /// The character of an ASCII code, right after it a text, and after that another. The error is want of memory.
+    pub fn marked(alloc: Global, mark: u8, first: &str, second: &str) -> Result<Text, AllocError>
+        requires { mark < 128 }
+        ensures { IfOk result (λ t. t ≡ mark ∷ (first.now ++ second.now)) }
     {
-        let mut text = String::with_capacity(alloc, first.len() + second.len())?;
+        let mut text = String::with_capacity(alloc, 1 + first.len() + second.len())?;
+        text.push(char::from(mark))?;
         text.push_str(first)?;
         text.push_str(second)?;
         Ok(Text { text })

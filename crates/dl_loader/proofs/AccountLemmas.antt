@@ -1,6 +1,6 @@
 -- The accounts of the passes with which a loader is closed.
 use Rattle.std.proofs.Common.{◌≡◌, ◌∙◌, sym, ap, ℕ, ◌+◌, ◌<◌, List, [], ◌∷◌, ◌++◌, length, map, Option, Some, None, MatchOption, sum_by, arith}
-use Rattle.std.proofs.lemmas.List.{length-map, map-append, length_push}
+use Rattle.std.proofs.lemmas.List.{map-append, length_push}
 use Rattle.std.proofs.lemmas.List.Sums.{sum_by-cons, sum_by_push}
 use Rattle.dl_desk.specs.Limits.{AreLimits}
 use Rattle.dl_history.specs.declared.event.Event.{Event}

@@ -10,32 +10,40 @@ use Rattle.dl_desk.specs.Key.{Key, key_eq}
 use Rattle.dl_desk.specs.Events.{atoms}
 use Rattle.dl_desk.specs.History.{Atom, Begun, begins, cells, count_cell, is_number, add_member, begun, sent, end_of, members, MayEnd}
 use Rattle.dl_desk.specs.History as atom
-use Rattle.dl_desk.specs.BatchBook.{BatchBook}
-use Rattle.dl_desk.specs.Calls.{Settles, Fails, unfit}
-use Rattle.dl_desk.specs.Prepared.{MayEndIn}
+use Rattle.dl_desk.specs.BatchBook.{BatchBook, StandsFor}
+use Rattle.dl_desk.specs.Limits.{Rules}
+use Rattle.dl_desk.specs.Calls.{Settles, Fails, ended_so, refusal, unfit}
 use Rattle.dl_desk.specs.declared.fault.DeskFault.{DeskFault}
 use Rattle.dl_desk.specs.declared.fault.DeskFault.TheVariants as desk_fault
 use Rattle.dl_desk.specs.declared.outcome.Outcome.{Outcome}
 use Rattle.dl_desk.specs.declared.outcome.Outcome.TheVariants.{BatchFailed}
 use Rattle.dl_desk.specs.declared.outcome.BatchFault.{BatchFault}
 use Rattle.dl_desk.specs.declared.reply.End.{End}
-use Rattle.dl_desk.proofs.Facts.{sent-le}
 use Rattle.dl_desk.proofs.KeyLemmas.{key_eq-same, key_eq-refl}
 use Rattle.dl_desk.specs.declared.outcome.BatchAnswer.{BatchAnswer}
+use Rattle.dl_desk.specs.declared.outcome.BatchAnswer.TheVariants.{Each, Break}
+use Rattle.dl_desk.specs.declared.reply.Job.{Job}
+use Rattle.dl_source.specs.Source.{IsFor}
 use Rattle.dl_loader.specs.declared.due_endings.Due.{Due}
+use Rattle.dl_history.specs.declared.event.Call.{Call}
 use Rattle.dl_history.specs.declared.event.Call.TheVariants.{Settle, Fail}
 use Rattle.dl_history.specs.declared.event.Event.{Event}
 use Rattle.dl_history.specs.declared.event.Reply.TheVariants.{Done}
 use Rattle.dl_history.specs.declared.event.Ending.{Ending}
 use Rattle.dl_loader.specs.declared.fault.CallFault.{CallFault}
 use Rattle.dl_loader.specs.declared.fault.CallFault.TheVariants.{WrongKeys}
-use Rattle.dl_loader.specs.Book.{Locked, Keeps, kept_of}
-use Rattle.dl_loader.specs.Inside.Dues.{end_refusal, outcome_by, AreDue, CanEnd, AreGiven}
+use Rattle.dl_loader.specs.Book.{Locked, Keeps}
+use Rattle.dl_loader.specs.Asks.{end_by, fault_of}
+use Rattle.dl_loader.specs.declared.ask.GiveUp.{GiveUp}
+use Rattle.dl_loader.specs.declared.ask.GiveUp.TheVariants.{Memory, Unsent}
+use Rattle.dl_loader.specs.Inside.Dues.{end_as, end_refusal, outcome_by, AreDue, CanEnd, AreGiven}
 use Rattle.dl_loader.specs.Inside.EndedUpTo.{EndedUpTo}
 use Rattle.dl_history.specs.History.{log, keys_of, call_of, MayBeMade, ending_of}
 use Rattle.dl_history.specs.Kept.{Kept, kept, IsKept}
 use Rattle.dl_history.specs.Journal.{Cell, waiting}
+use Rattle.dl_loader.specs.Pass.{Part}
 use Rattle.dl_loader.specs.Refusals.{call_fault, same_keys}
+use Rattle.dl_loader.specs.Refusals as call_refusal
 use Rattle.dl_history.specs.Service.{Service}
 use Rattle.dl_history.proofs.CellBatches.{NoCell}
 use Rattle.dl_history.proofs.BatchEndings.{settled_end, failed_end, settled_others, failed_others}
@@ -43,7 +51,7 @@ use Rattle.dl_history.proofs.CellLists.{shows_same}
 use Rattle.dl_history.proofs.Endings.{member_open, member_begun, members_distinct}
 use Rattle.dl_loader.proofs.GivenDues.{get_mapped, unmapped}
 use Rattle.dl_loader.proofs.Begun.{same_cells}
-use Rattle.dl_loader.proofs.Kept.{MayCall, Steps, Grows, event, grows, begun_cells}
+use Rattle.dl_loader.proofs.Kept.{MayCall, Steps, MayStand, event, may_stand, begun_cells}
 use Rattle.dl_loader.proofs.KeptEnds.{members_in, cell_waits, keeps_ended}
 
 -- ---- when an end is refused
@@ -72,7 +80,7 @@ keys_same : (ks js : List Key) → same_keys ks js ≡ true → ks ≡ js
 keys_same ks js same = (slice_eq-Decides key_decides ks js (same_keys ks js) refl).0 same
 
 -- an end that is not refused is of a batch that may end, by its keys
-may_end : (history : List Atom) (b : ℕ) (ks : List Key) → end_refusal history b ks ≡ None → MayEnd history b
+pub may_end : (history : List Atom) (b : ℕ) (ks : List Key) → end_refusal history b ks ≡ None → MayEnd history b
 may_end history b ks none =
     let both = none_both (unfit history b) (cond (same_keys ks (keys_of history b)) None (Some WrongKeys)) none in
     let fit = unfit_at b (begun history) (sent history) (end_of history b) (nat_le (begun history) b) (nat_le (sent history) b) refl refl both.0 in
@@ -142,7 +150,7 @@ pub record Ended (seen : Kept) (e : Event) (cs : List ℕ) (now : List Event) (y
   pub given : (dues : List Due) × AreDue e.call (length seen.history) cs dues × AreGiven dues seen.cells ys
 
 -- a book keeps what it keeps after the end of a batch
-end_kept : {s : Service} {seen : Kept} {e : Event} {cs : List ℕ} {n : ℕ} {now : List Event} {new : BatchBook} {ys : List Cell} → Grows s seen e
+end_kept : {s : Service} {seen : Kept} {e : Event} {cs : List ℕ} {n : ℕ} {now : List Event} {new : BatchBook} {ys : List Cell} → MayStand s seen e
     → GivesMembers seen e n → cs ≡ member_cells seen.history n → Ended seen e cs now ys → Steps seen.desk new (call_of e.call)
     → new.cells ≡ seen.desk.cells → IsKept s (kept now new ys)
 end_kept {s} {seen} {e} {n = n} {new = new} {ys = ys} g gives cells ended step count =
@@ -161,13 +169,10 @@ settle_brings b os cs same i low = some_inside os i (omega arith)
 
 -- ---- as the book's calls have it
 
--- the same in a book as it is seen
-pub can_end_view : {s : Service} {view b : Locked} {n : ℕ} {cs : List ℕ} → view ≡ b → Keeps s view → MayEnd (atoms (log b.history)) n
-    → cs ≡ member_cells b.history n → CanEnd cs view.cells
-can_end_view {s} {view} {b} {n} is keeps may cells =
-    let here : MayEnd (atoms (log view.history)) n = subst (λ (v : Locked). MayEnd (atoms (log v.history)) n) (sym is) may in
-    let own = cells ∙ ap (λ (v : Locked). member_cells v.history n) (sym is) in
-    subst (λ (ns : List ℕ). CanEnd ns view.cells) (sym own) (can_end {seen = kept_of view} keeps here)
+-- the same for cells that are those of a batch's members
+pub can_end_cells : {s : Service} {seen : Kept} {n : ℕ} {cs : List ℕ} → IsKept s seen → MayEnd (atoms (log seen.history)) n
+    → cs ≡ member_cells seen.history n → CanEnd cs seen.cells
+can_end_cells {seen = seen} keeps may cells = subst (λ (ns : List ℕ). CanEnd ns seen.cells) (sym cells) (can_end keeps may)
 
 members_few : (history : List Atom) (b : ℕ) → length (members history b) ≤ cells history
 members_few [] b = omega arith
@@ -183,69 +188,101 @@ members_few (a ∷ before) b = by (begins a) (members_few before b)
     by (Some g) few = put (is_number b g.batch) (g.key, g.cell) few
 
 -- a batch has no more members than there may be cells
-pub few_end_view : {s : Service} {view b : Locked} {cs : List ℕ} (n : ℕ) → view ≡ b → Keeps s view
-    → cs ≡ member_cells b.history n → length cs ≤ s.rules.limits.max_cells
-few_end_view {s} {view} {b} {cs} n is keeps cells =
-    let H = atoms (log view.history) in
-    let own = cells ∙ ap (λ (v : Locked). member_cells v.history n) (sym is) in
-    let long : length cs ≡ length (members H n) = ap length own ∙ length-map (members H n) (λ (m : Key × ℕ). m.1) in
+pub few_end : {s : Service} {seen : Kept} {cs : List ℕ} (n : ℕ) → IsKept s seen → cs ≡ member_cells seen.history n → length cs ≤ s.rules.limits.max_cells
+few_end {s} {seen} {cs} n keeps cells =
+    let H = atoms (log seen.history) in
+    let long : length cs ≡ length (members H n) = ap length cells ∙ length-map (members H n) (λ (m : Key × ℕ). m.1) in
     let few = members_few H n in
     let all = keeps.desk.cells in
     let fit = keeps.cells_fit in
     omega arith
 
--- a batch that may end may end in the book of a desk that stands for the history
-pub may_end_in : {s : Service} {view b : Locked} {n : ℕ} → view ≡ b → Keeps s view → MayEnd (atoms (log b.history)) n → MayEndIn view.desk n
-may_end_in {s} {view} {b} {n} is keeps may =
-    let H = atoms (log view.history) in
-    let here : MayEnd H n = subst (λ (v : Locked). MayEnd (atoms (log v.history)) n) (sym is) may in
-    let low = sent-le H in
-    let sent_is = here.is_sent in
-    let count = keeps.desk.count in
-    let sent_are = keeps.desk.sent in
-    let begun_is : n < begun H = omega arith in
-    record {
-      is_begun = omega arith;
-      is_sent = omega arith;
-      no_end = rw (keeps.desk.batches n begun_is) here.no_end;
-    }
-
 -- what the book keeps after its settle
-pub settle_kept : {s : Service} {view b : Locked} {caller n : ℕ} {os : List Outcome} {cs : List ℕ} {now : List Event} {new : BatchBook} {ys : List Cell}
-    → view ≡ b → MayCall s (kept_of view) caller → MayBeMade s.answer (atoms (log b.history)) (Settle n os)
-    → cs ≡ member_cells b.history n → Ended (kept_of view) (event caller (Settle n os) Done) cs now ys
-    → Steps view.desk new (Settles n) → IsKept s (kept now new ys)
-settle_kept {s} {view} {b} {caller} {n} {os} {new = new} is may made cells ended step =
-    let es = view.history in
+settle_kept : {s : Service} {seen : Kept} {caller n : ℕ} {os : List Outcome} {cs : List ℕ} {now : List Event} {new : BatchBook} {ys : List Cell}
+    → MayCall s seen caller → MayBeMade s.answer (atoms (log seen.history)) (Settle n os) → cs ≡ member_cells seen.history n
+    → Ended seen (event caller (Settle n os) Done) cs now ys → Steps seen.desk new (Settles n) → IsKept s (kept now new ys)
+settle_kept {s} {seen} {caller} {n} {os} {new = new} may made cells ended step =
+    let es = seen.history in
     let H = atoms (log es) in
     let e : Event = event caller (Settle n os) Done in
-    let g : Grows s (kept_of view) e = grows e may refl (subst (λ (v : Locked). MayBeMade s.answer (atoms (log v.history)) (Settle n os)) (sym is) made) in
-    let count = same_cells H (atom.Settle n) view.desk new refl may.kept.desk (step.stands H may.kept.desk) in
-    let gives : GivesMembers (kept_of view) e n = record {
+    let g : MayStand s seen e = may_stand e may refl made in
+    let count = same_cells H (atom.Settle n) seen.desk new refl may.kept.desk (step.stands H may.kept.desk) in
+    let gives : GivesMembers seen e n = record {
       ends = λ j m o got brings. settled_end s es e n os j m o may.kept.legal g.next refl got brings;
       others = λ c none. settled_others s es e n os c may.kept.legal g.next refl none;
     } in
-    end_kept g gives (cells ∙ ap (λ (v : Locked). member_cells v.history n) (sym is)) ended step count
+    end_kept g gives cells ended step count
 
 -- and after its fail
-pub fail_kept : {s : Service} {view b : Locked} {caller n : ℕ} {why : BatchFault} {cs : List ℕ} {now : List Event} {new : BatchBook} {ys : List Cell}
-    → view ≡ b → MayCall s (kept_of view) caller → MayBeMade s.answer (atoms (log b.history)) (Fail n why)
-    → cs ≡ member_cells b.history n → Ended (kept_of view) (event caller (Fail n why) Done) cs now ys
-    → Steps view.desk new (Fails n) → IsKept s (kept now new ys)
-fail_kept {s} {view} {b} {caller} {n} {why} {new = new} is may made cells ended step =
-    let es = view.history in
+pub fail_kept : {s : Service} {seen : Kept} {caller n : ℕ} {why : BatchFault} {cs : List ℕ} {now : List Event} {new : BatchBook} {ys : List Cell}
+    → MayCall s seen caller → MayBeMade s.answer (atoms (log seen.history)) (Fail n why) → cs ≡ member_cells seen.history n
+    → Ended seen (event caller (Fail n why) Done) cs now ys → Steps seen.desk new (Fails n) → IsKept s (kept now new ys)
+fail_kept {s} {seen} {caller} {n} {why} {new = new} may made cells ended step =
+    let es = seen.history in
     let H = atoms (log es) in
     let e : Event = event caller (Fail n why) Done in
-    let g : Grows s (kept_of view) e = grows e may refl (subst (λ (v : Locked). MayBeMade s.answer (atoms (log v.history)) (Fail n why)) (sym is) made) in
-    let count = same_cells H (atom.Fail n) view.desk new refl may.kept.desk (step.stands H may.kept.desk) in
-    let gives : GivesMembers (kept_of view) e n = record {
+    let g : MayStand s seen e = may_stand e may refl made in
+    let count = same_cells H (atom.Fail n) seen.desk new refl may.kept.desk (step.stands H may.kept.desk) in
+    let gives : GivesMembers seen e n = record {
       ends = λ j m o got brings.
           let two : ◌≡◌ {A = Option Outcome} (Some (BatchFailed why)) (Some o) = brings in
           let same : BatchFailed why ≡ o = cc in
           rw (← same) (failed_end s es e n why j m may.kept.legal g.next refl got);
       others = λ c none. failed_others s es e n why c may.kept.legal g.next refl none;
     } in
-    end_kept g gives (cells ∙ ap (λ (v : Locked). member_cells v.history n) (sym is)) ended step count
+    end_kept g gives cells ended step count
+
+-- a batch that may end may be given up
+pub given_up : {history : List Atom} {b : ℕ} (answer : List Key → BatchAnswer) (g : GiveUp) → MayEnd history b
+    → MayBeMade answer history (Fail b (fault_of g))
+given_up answer Memory may = (may, tt)
+given_up answer Unsent may = (may, tt)
+
+-- ---- an end by what a source answered
+
+-- an answer brings each cell of its keys an outcome
+pub answer_brings : (b : ℕ) (a : BatchAnswer) (ks : List Key) (cs : List ℕ) → IsFor ks a → length cs ≡ length ks → (i : ℕ) → i < length cs
+    → IsSome (outcome_by (end_by b a) i)
+answer_brings b (Each os) ks cs fits same = settle_brings b os cs (fits ∙ sym same)
+answer_brings b (Break text) ks cs fits same = λ i low. refl
+
+-- a batch that may end may end by what the source answers to its keys
+made_by : (answer : List Key → BatchAnswer) (history : List Atom) (b : ℕ) (a : BatchAnswer) → MayEnd history b → answer (keys_of history b) ≡ a
+    → MayBeMade answer history (end_by b a)
+made_by answer history b (Each os) may asked = (may, asked)
+made_by answer history b (Break text) may asked = (may, asked)
+
+-- what the book keeps after an end by an answer
+pub answer_kept : {s : Service} {seen : Kept} {caller n : ℕ} {cs : List ℕ} {now : List Event} {new : BatchBook} {ys : List Cell} (a : BatchAnswer)
+    → MayCall s seen caller → MayEnd (atoms (log seen.history)) n × (s.answer (keys_of (atoms (log seen.history)) n) ≡ a)
+    → cs ≡ member_cells seen.history n → Ended seen (event caller (end_by n a) Done) cs now ys → new.rules ≡ seen.desk.rules
+    → ((h : List Atom) → StandsFor seen.desk h → StandsFor new (ended_so (end_as a) n ∷ h)) → IsKept s (kept now new ys)
+answer_kept {s} {seen} {n = n} (Each os) may asked cells ended rules stands =
+    settle_kept may (made_by s.answer (atoms (log seen.history)) n (Each os) asked.0 asked.1) cells ended (record { rules = rules; stands = stands })
+answer_kept {s} {seen} {n = n} (Break text) may asked cells ended rules stands =
+    fail_kept may (made_by s.answer (atoms (log seen.history)) n (Break text) asked.0 asked.1) cells ended (record { rules = rules; stands = stands })
+
+-- ---- the refusal of an end
+
+pub refusal_by : (rules : Rules) (b : ℕ) (a : BatchAnswer) (h : List Atom) → refusal rules h (call_of (end_by b a)) ≡ unfit h b
+refusal_by rules b (Each os) h = refl
+refusal_by rules b (Break text) h = refl
+
+-- where the pass may make an event, an end is refused as its batch and its keys tell
+pub end_refused : {s : Service} {view b : Locked} {x : Option CallFault} (p : Part) (call : Call) (job : Job) → view ≡ b → Keeps s view
+    → call_refusal.unready s b p ≡ None → ((h : List Atom) → refusal s.rules h (call_of call) ≡ unfit h job.batch)
+    → ((h : List Atom) → StandsFor view.desk h → end_refusal h job.batch job.keys ≡ x) → call_refusal.refusal s b p call (Some job) ≡ x
+end_refused {s} {view} {b} p call job is keeps ready own found =
+    let H = atoms (log b.history) in
+    let here = found H (subst (λ (v : Locked). StandsFor view.desk (atoms (log v.history))) is keeps.desk) in
+    rw (ready, own H) here
+
+-- an end that is not refused is of as many cells as keys
+pub as_many : (history : List Atom) (b : ℕ) (ks : List Key) (cs : List ℕ) → end_refusal history b ks ≡ None
+    → cs ≡ map (λ m. m.1) (members history b) → length cs ≡ length ks
+as_many history b ks cs none cells =
+    let ms = members history b in
+    ap length cells ∙ (length-map ms (λ m. m.1) ∙ (sym (length-map ms (λ m. m.0)) ∙ sym (ap length (own_keys history b ks none))))
 
 -- what a source answers to the keys of a job is what the loader's source answers to them
 pub answered_so : {a : BatchAnswer} {ks : List Key} (answer source : List Key → BatchAnswer) (js : List Key) → a ≡ source js → source js ≡ answer js

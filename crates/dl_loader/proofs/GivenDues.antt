@@ -4,7 +4,6 @@ use Rattle.std.proofs.Common.{Option, Some, None, MatchBool, slice_get, get_or, 
 use Rattle.std.proofs.lemmas.List.{length-set, take_more}
 use Rattle.std.proofs.lemmas.List.Sums.{sum_by-cons}
 use Rattle.std.proofs.lemmas.Option.{slice_get_within, slice_get_read, slice_get-map}
-use Rattle.dl_desk.specs.declared.outcome.Outcome.{Outcome}
 use Rattle.dl_loader.specs.declared.due_endings.Due.{Due}
 use Rattle.dl_history.specs.declared.event.Call.{Call}
 use Rattle.dl_history.specs.declared.event.Ending.{Ending}
@@ -40,12 +39,11 @@ due_there call at cells dues d e j due brings place (inl old) = due.ends_are j e
 due_there call at cells dues d e j due brings place (inr new) = rw (new.0, new.1) (brings, place)
 
 -- the due of one cell more
-pub due_more : (call : Call) (at n : ℕ) (cells : List ℕ) (dues longer : List Due) (d : Due) (o : Outcome) → AreDue call at (take n cells) dues → length dues ≡ n
-    → n < length cells → d.cell ≡ get_or cells n 0
-    → outcome_by call n ≡ Some o → d.ending.value.outcome ≡ o → d.ending.value.at ≡ at → longer ≡ dues ++ d ∷ [] → AreDue call at (take (n + 1) cells) longer
-due_more call at n cells dues longer d o due count low is brings outcome place grown =
-    let own : outcome_by call (length dues) ≡ Some d.ending.value.outcome =
-    ap (outcome_by call) count ∙ (brings ∙ ap (λ (x : Outcome). Some x) (sym outcome)) in
+pub due_more : (call : Call) (at n : ℕ) (cells : List ℕ) (dues longer : List Due) (d : Due) → AreDue call at (take n cells) dues → length dues ≡ n
+    → n < length cells → d.cell ≡ get_or cells n 0 → outcome_by call n ≡ Some d.ending.value.outcome → d.ending.value.at ≡ at → longer ≡ dues ++ d ∷ []
+    → AreDue call at (take (n + 1) cells) longer
+due_more call at n cells dues longer d due count low is brings place grown =
+    let own : outcome_by call (length dues) ≡ Some d.ending.value.outcome = ap (outcome_by call) count ∙ brings in
     record {
       cells_are = rw (grown, map-snoc (λ (e : Due). e.cell) dues d, due.cells_are, is, take_more cells n 0 low) refl;
       ends_are = λ j e got. due_there call at (take n cells) dues d e j due own place (get-snoc dues d e j (rw grown at got));

@@ -68,15 +68,15 @@ prepared_step {old} {call = call} same rules book stands = record {
 -- ---- every event
 
 -- An event that may stand next in a book, which keeps what it keeps and has room for it.
-pub record Grows (s : Service) (seen : Kept) (e : Event) : Type 0 where
+pub record MayStand (s : Service) (seen : Kept) (e : Event) : Type 0 where
   pub kept : IsKept s seen
   pub room : length seen.history < s.rules.limits.max_calls
   pub next : IsNext s seen.history e
 
 -- so does a call that a caller may make, with its reply
-pub grows : {s : Service} {seen : Kept} (e : Event) → MayCall s seen e.caller → e.reply ≡ reply_to s.rules (atoms (log seen.history)) e.call
-    → MayBeMade s.answer (atoms (log seen.history)) e.call → Grows s seen e
-grows e may reply made = record { kept = may.kept; room = may.room; next = record { caller = may.below; reply = reply; made = made } }
+pub may_stand : {s : Service} {seen : Kept} (e : Event) → MayCall s seen e.caller → e.reply ≡ reply_to s.rules (atoms (log seen.history)) e.call
+    → MayBeMade s.answer (atoms (log seen.history)) e.call → MayStand s seen e
+may_stand e may reply made = record { kept = may.kept; room = may.room; next = record { caller = may.below; reply = reply; made = made } }
 
 -- the book with the event
 abbrev pub grown : Kept → Event → BatchBook → List Cell → Kept
@@ -87,7 +87,7 @@ pub begun_cells : {s : Service} {seen : Kept} → IsKept s seen → length seen.
 begun_cells keeps = keeps.all_cells ∙ keeps.desk.cells
 
 -- what the book keeps, where each cell shows the end that it has after one event more
-pub keeps_more : {s : Service} {seen : Kept} {e : Event} {new : BatchBook} {ys : List Cell} → Grows s seen e → Steps seen.desk new (call_of e.call)
+pub keeps_more : {s : Service} {seen : Kept} {e : Event} {new : BatchBook} {ys : List Cell} → MayStand s seen e → Steps seen.desk new (call_of e.call)
     → length ys ≡ new.cells → new.cells ≤ s.rules.limits.max_cells
     → ((c : ℕ) (x : Cell) → slice_get ys c ≡ Some x → ShowsEnd (ending_of (seen.history ++ e ∷ []) c) x.mark x.shows) → IsKept s (grown seen e new ys)
 keeps_more {s} {seen} {e} {new} g step all fit ends = record {
@@ -108,7 +108,7 @@ keeps_more {s} {seen} {e} {new} g step all fit ends = record {
 
 -- ---- an event that gives nothing to cells
 
-quiet_ends : {s : Service} {seen : Kept} {e : Event} (n c : ℕ) (x : Cell) → Grows s seen e → gave e.call e.reply ≡ Nothing
+quiet_ends : {s : Service} {seen : Kept} {e : Event} (n c : ℕ) (x : Cell) → MayStand s seen e → gave e.call e.reply ≡ Nothing
     → ((c < length seen.cells) × (slice_get seen.cells c ≡ Some x))
     ⊎ ((length seen.cells ≤ c) × (slice_get (repeat n (waiting ∷ [])) (c - length seen.cells) ≡ Some x))
     → ShowsEnd (ending_of (seen.history ++ e ∷ []) c) x.mark x.shows
@@ -123,7 +123,7 @@ quiet_ends {s} {seen} {e} n c x g none (inr new) =
     waiting_shows (ending_of (seen.history ++ e ∷ []) c) x no_end (get-repeat n waiting x (c - length seen.cells) new.1)
 
 -- a book still keeps it after an event that gives nothing to cells, with a cell that waits for each that it began
-pub keeps_quiet : {s : Service} {seen : Kept} {e : Event} {n : ℕ} {now : List Event} {new : BatchBook} {ys : List Cell} → Grows s seen e
+pub keeps_quiet : {s : Service} {seen : Kept} {e : Event} {n : ℕ} {now : List Event} {new : BatchBook} {ys : List Cell} → MayStand s seen e
     → gave e.call e.reply ≡ Nothing → Recorded seen e n now ys → Steps seen.desk new (call_of e.call) → new.cells ≡ seen.desk.cells + n
     → seen.desk.cells + n ≤ s.rules.limits.max_cells → IsKept s (kept now new ys)
 keeps_quiet {s} {seen} {e} {n} {now} {new} {ys} g none recorded step count fit =
@@ -137,7 +137,7 @@ keeps_quiet {s} {seen} {e} {n} {now} {new} {ys} g none recorded step count fit =
 
 -- ---- a prime of a key that is not held
 
-primed_ends : {s : Service} {seen : Kept} {e : Event} {k : Key} {o : Outcome} {d : ℕ} (y : Cell) (c : ℕ) (x : Cell) → Grows s seen e → e.call ≡ Prime k o
+primed_ends : {s : Service} {seen : Kept} {e : Event} {k : Key} {o : Outcome} {d : ℕ} (y : Cell) (c : ℕ) (x : Cell) → MayStand s seen e → e.call ≡ Prime k o
     → e.reply ≡ Primed d → ShowsEnd (Some (record { at = length seen.history; outcome = o })) y.mark y.shows
     → ((c < length seen.cells) × (slice_get seen.cells c ≡ Some x)) ⊎ ((c ≡ length seen.cells) × (x ≡ y))
     → ShowsEnd (ending_of (seen.history ++ e ∷ []) c) x.mark x.shows
@@ -159,7 +159,7 @@ primed_ends {s} {seen} {e} {k} {o} {d} y c x g is reply shows (inr new) =
     shows_same (Some end) (ending_of (seen.history ++ e ∷ []) c) x shown (subst P (sym new.1) shows)
 
 -- a book still keeps it after a prime of a key that is not held, with a cell that shows the outcome
-pub keeps_primed : {s : Service} {seen : Kept} {e : Event} {k : Key} {o : Outcome} {d : ℕ} {new : BatchBook} (x : Cell) → Grows s seen e → e.call ≡ Prime k o
+pub keeps_primed : {s : Service} {seen : Kept} {e : Event} {k : Key} {o : Outcome} {d : ℕ} {new : BatchBook} (x : Cell) → MayStand s seen e → e.call ≡ Prime k o
     → e.reply ≡ Primed d → Steps seen.desk new (call_of e.call) → new.cells ≡ seen.desk.cells + 1 → seen.desk.cells + 1 ≤ s.rules.limits.max_cells
     → ShowsEnd (Some (record { at = length seen.history; outcome = o })) x.mark x.shows → IsKept s (grown seen e new (seen.cells ++ x ∷ []))
 keeps_primed {s} {seen} x g is reply step count fit shows =

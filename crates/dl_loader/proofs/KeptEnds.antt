@@ -15,7 +15,7 @@ use Rattle.dl_history.proofs.Logs.{get-inside}
 use Rattle.dl_history.proofs.CellBatches.{HasCell, NoCell, has_cell}
 use Rattle.dl_history.proofs.CellLists.{shows_same, open_waits}
 use Rattle.dl_loader.specs.Inside.EndedUpTo.{EndedUpTo}
-use Rattle.dl_loader.proofs.Kept.{Steps, Grows, grown, keeps_more}
+use Rattle.dl_loader.proofs.Kept.{Steps, MayStand, grown, keeps_more}
 
 -- ---- the cell of a member that has no end yet
 
@@ -36,7 +36,7 @@ cell_waits {s} {seen} c keeps low none = waits_at c keeps low none (slice_get se
 abbrev pub members_in : Kept → ℕ → List (Key × ℕ)
 members_in seen b = members (atoms (log seen.history)) b
 
-finish_ends : {s : Service} {seen : Kept} {e : Event} {ys : List Cell} (b c : ℕ) (x : Cell) → Grows s seen e
+finish_ends : {s : Service} {seen : Kept} {e : Event} {ys : List Cell} (b c : ℕ) (x : Cell) → MayStand s seen e
     → EndedUpTo (seen.history ++ e ∷ []) (members_in seen b) (length (members_in seen b)) seen.cells ys
     → ((d : ℕ) → NoCell (members_in seen b) d → ending_of (seen.history ++ e ∷ []) d ≡ ending_of seen.history d)
     → slice_get ys c ≡ Some x → ShowsEnd (ending_of (seen.history ++ e ∷ []) c) x.mark x.shows
@@ -52,7 +52,7 @@ finish_ends {s} {seen} {e} {ys} b c x g upto stay got = by (has_cell (members_in
         shows_same (ending_of seen.history c) (ending_of (seen.history ++ e ∷ []) c) x (stay c none) (g.kept.ends c x was)
 
 -- Past the last member the book keeps what it kept, where each cell that is no member's shows what it showed.
-pub keeps_ended : {s : Service} {seen : Kept} {e : Event} {new : BatchBook} {ys : List Cell} (b : ℕ) → Grows s seen e
+pub keeps_ended : {s : Service} {seen : Kept} {e : Event} {new : BatchBook} {ys : List Cell} (b : ℕ) → MayStand s seen e
     → ((c : ℕ) → NoCell (members_in seen b) c → ending_of (seen.history ++ e ∷ []) c ≡ ending_of seen.history c)
     → Steps seen.desk new (call_of e.call) → new.cells ≡ seen.desk.cells
     → EndedUpTo (seen.history ++ e ∷ []) (members_in seen b) (length (members_in seen b)) seen.cells ys → IsKept s (grown seen e new ys)

@@ -1,7 +1,7 @@
 -- What the book of a loader keeps after a call on a key, a clear of all keys and a dispatch, told by what the
 -- record of the event and the desk promise.
 use Rattle.std.proofs.Common.{◌≡◌, ◌∙◌, sym, ap, subst, ℕ, ◌+◌, Bool, true, false, cond, List, [], ◌∷◌, ◌++◌, length, set, Some, None, MatchBool}
-use Rattle.std.proofs.Common.{slice_get, refl}
+use Rattle.std.proofs.Common.{◌≤◌, slice_get, refl, arith}
 use Rattle.std.specs.List.{repeat}
 use Rattle.std.proofs.lemmas.List.Sums.{fold-append}
 use Rattle.dl_desk.specs.Key.{Key}
@@ -28,7 +28,7 @@ use Rattle.dl_history.proofs.Logs.{get-append_at}
 use Rattle.dl_history.proofs.CellLists.{set_last, gets_end}
 use Rattle.dl_history.proofs.Endings.{primed_cell}
 use Rattle.dl_loader.proofs.Begun.{same_cells, kept_count, primed_count, primed_fits}
-use Rattle.dl_loader.proofs.Kept.{MayCall, Recorded, Steps, Grows, event, grows, grown, begun_cells, keeps_primed}
+use Rattle.dl_loader.proofs.Kept.{MayCall, Recorded, Steps, MayStand, event, may_stand, grown, begun_cells, keeps_primed}
 use Rattle.dl_loader.proofs.KeptCalls.{keeps_unbegun}
 
 -- ---- an event with no cells
@@ -40,7 +40,7 @@ clear_kept {s} {seen} {caller} {k} {new = new} may copy recorded step =
     let H = atoms (log seen.history) in
     let here : Steps seen.desk new (Clears k) = subst (λ (x : Key). Steps seen.desk new (Clears x)) (sym copy) step in
     let same = same_cells H (atom.Clear k) seen.desk new refl may.kept.desk (here.stands H may.kept.desk) in
-    keeps_unbegun (grows (event caller (Clear k) Done) may refl tt) refl recorded here same
+    keeps_unbegun (may_stand (event caller (Clear k) Done) may refl tt) refl recorded here same
 
 -- after a clear of all keys
 pub clear_all_kept : {s : Service} {seen : Kept} {caller : ℕ} {now : List Event} {new : BatchBook} {ys : List Cell} → MayCall s seen caller
@@ -48,7 +48,7 @@ pub clear_all_kept : {s : Service} {seen : Kept} {caller : ℕ} {now : List Even
 clear_all_kept {s} {seen} {caller} {new = new} may recorded step =
     let H = atoms (log seen.history) in
     let same = same_cells H atom.ClearAll seen.desk new refl may.kept.desk (step.stands H may.kept.desk) in
-    keeps_unbegun (grows (event caller ClearAll Done) may refl tt) refl recorded step same
+    keeps_unbegun (may_stand (event caller ClearAll Done) may refl tt) refl recorded step same
 
 -- after a dispatch that the desk has prepared
 pub dispatch_kept : {s : Service} {seen : Kept} {caller : ℕ} {js : List Job} {now : List Event} {new : BatchBook} {ys : List Cell} → MayCall s seen caller
@@ -57,7 +57,7 @@ pub dispatch_kept : {s : Service} {seen : Kept} {caller : ℕ} {js : List Job} {
 dispatch_kept {s} {seen} {caller} {js} {new = new} may sent recorded step =
     let H = atoms (log seen.history) in
     let same = same_cells H (atom.Dispatch (jobs H)) seen.desk new refl may.kept.desk (step.stands H may.kept.desk) in
-    keeps_unbegun (grows (event caller Dispatch (Sent js)) may (ap Sent (sent H may.kept.desk)) tt) refl recorded step same
+    keeps_unbegun (may_stand (event caller Dispatch (Sent js)) may (ap Sent (sent H may.kept.desk)) tt) refl recorded step same
 
 -- ---- a prime
 
@@ -78,10 +78,10 @@ prime_told {s} {seen} keeps is =
     let H = atoms (log seen.history) in
     is.told H keeps.desk ∙ sym (ap (prime_reply H) is.copy)
 
-prime_grows : {s : Service} {seen : Kept} {k j : Key} {caller : ℕ} {reply : Reply} {r : DeskPrime} (o : Outcome) → MayCall s seen caller
-    → IsPrime seen.desk k j reply r → Grows s seen (event caller (Prime k o) reply)
-prime_grows {k = k} {caller = caller} {reply = reply} o may is =
-    grows (event caller (Prime k o) reply) may (is.replies ∙ ap primed (prime_told may.kept is)) tt
+prime_may_stand : {s : Service} {seen : Kept} {k j : Key} {caller : ℕ} {reply : Reply} {r : DeskPrime} (o : Outcome) → MayCall s seen caller
+    → IsPrime seen.desk k j reply r → MayStand s seen (event caller (Prime k o) reply)
+prime_may_stand {k = k} {caller = caller} {reply = reply} o may is =
+    may_stand (event caller (Prime k o) reply) may (is.replies ∙ ap primed (prime_told may.kept is)) tt
 
 -- after a prime of a key that is held
 pub held_kept : {s : Service} {seen : Kept} {caller : ℕ} {k j : Key} {o : Outcome} {reply : Reply} {r : DeskPrime} {now : List Event} {new : BatchBook}
@@ -92,13 +92,23 @@ held_kept {s} {seen} {caller} {k} {o = o} {new = new} may is held recorded step 
     let here : Steps seen.desk new (Primes k) = subst (λ (x : Key). Steps seen.desk new (Primes x)) (sym is.copy) step in
     let same = kept_count H k seen.desk new (sym (prime_told may.kept is) ∙ held) may.kept.desk (here.stands H may.kept.desk) in
     let reply_is = is.replies ∙ ap primed held in
-    keeps_unbegun (prime_grows o may is) (rw reply_is refl) recorded here same
+    keeps_unbegun (prime_may_stand o may is) (rw reply_is refl) recorded here same
+
+-- there is a number for the cell of a prime of a key that is not held
+pub primed_room : {s : Service} {seen : Kept} {j : Key} {c : ℕ} → IsKept s seen → ((h : List Atom) → StandsFor seen.desk h → prime.Primed c ≡ prime_reply h j)
+    → ((h : List Atom) → StandsFor seen.desk h → refusal seen.desk.rules h (Primes j) ≡ None) → length seen.cells + 1 ≤ s.rules.limits.max_cells
+primed_room {s} {seen} {j} {c} keeps told accepted =
+    let H = atoms (log seen.history) in
+    let none = subst (λ (rules : Rules). refusal rules H (Primes j) ≡ None) keeps.rules (accepted H keeps.desk) in
+    let fit = primed_fits s.rules H j c seen.desk (sym (told H keeps.desk)) keeps.desk none in
+    let all = keeps.all_cells in
+    omega arith
 
 -- a new cell is the next one
 primed_next : {s : Service} {seen : Kept} {caller c : ℕ} {k j : Key} {reply : Reply} {r : DeskPrime} (o : Outcome) → MayCall s seen caller
     → IsPrime seen.desk k j reply r → r ≡ prime.Primed c → c ≡ length seen.cells
 primed_next {s} {seen} {caller} {c} {k} {reply = reply} o may is new =
-    let g = prime_grows o may is in
+    let g = prime_may_stand o may is in
     let counted = primed_cell s seen.history (event caller (Prime k o) reply) k o c g.next refl (is.replies ∙ ap primed new) in
     counted ∙ sym (begun_cells may.kept)
 
@@ -141,7 +151,7 @@ primed_kept {s} {seen} {caller} {c} {k} {j} {o} {reply} {now = now} {new = new} 
     let last = ended_new seen.cells cell.0 recorded.cells (primed_next o may is fresh) cell.1 in
     let e : Event = event caller (Prime k o) reply in
     let all : IsKept s (grown seen e new (seen.cells ++ cell.0 ∷ [])) =
-    keeps_primed cell.0 (prime_grows o may is) refl (is.replies ∙ ap primed fresh) here count fit shows in
+    keeps_primed cell.0 (prime_may_stand o may is) refl (is.replies ∙ ap primed fresh) here count fit shows in
     rw (recorded.history, last) all
 
 -- ---- how many cells refused their outcome

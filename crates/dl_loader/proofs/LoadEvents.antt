@@ -22,7 +22,7 @@ use Rattle.dl_history.proofs.Logs.{get-append_at}
 use Rattle.dl_history.proofs.EntryLists.{cells_of-append}
 use Rattle.dl_loader.specs.Pass.{Part, with_call}
 use Rattle.dl_loader.specs.Inside.Begun.{begun_by, cells_begun}
-use Rattle.dl_loader.proofs.Kept.{MayCall, Recorded, Steps, event, grows}
+use Rattle.dl_loader.proofs.Kept.{MayCall, Recorded, Steps, event, may_stand}
 use Rattle.dl_loader.proofs.KeptCalls.{Prepared, prepared_replies, prepared_fit, keeps_loads}
 
 -- ---- cells that wait
@@ -79,7 +79,7 @@ pub many_kept : {s : Service} {seen : Kept} {caller : ℕ} {js ks : List Key} {c
     → Recorded seen (event caller (LoadMany js) (Many copied)) n now ys → Steps seen.desk new (Loads ks) → IsKept s (kept now new ys)
 many_kept {caller = caller} {js = js} {copied = copied} may keys copy prepared begun recorded step =
     let told = ap Many (copy ∙ prepared_replies may.kept prepared) in
-    let g = grows (event caller (LoadMany js) (Many copied)) may (rw keys told) tt in
+    let g = may_stand (event caller (LoadMany js) (Many copied)) may (rw keys told) tt in
     keeps_loads g refl (ap Loads keys) prepared begun recorded step
 
 -- the load of a key, as loads of keys
@@ -105,5 +105,5 @@ pub one_kept : {s : Service} {seen : Kept} {caller : ℕ} {j k : Key} {r : LoadR
 one_kept {s} {seen} {caller} {j} {k} {r} may copy prepared begun recorded step =
     let replies = prepared_replies may.kept prepared in
     let told : r ≡ load_reply s.rules (atoms (log seen.history)) k = cc in
-    let g = grows (event caller (Load j) (Loaded r)) may (rw copy (ap Loaded told)) tt in
+    let g = may_stand (event caller (Load j) (Loaded r)) may (rw copy (ap Loaded told)) tt in
     keeps_loads g refl (ap (λ (x : Key). Loads (x ∷ [])) copy) prepared (begun ∙ sym (one_begun r)) recorded step

@@ -16,12 +16,14 @@ pub(crate) struct Due {
 }
 
 impl Due {
-    // The due of a cell: an outcome that the event at a place gives it. The error is want of memory.
-    fn new(alloc: Global, cell: u32, at: u16, outcome: Outcome) -> Result<Due, AllocError>
+    // The due of a cell: the outcome that a call at a place of the history brings its member. The error is want of memory.
+    fn new(alloc: Global, at: u16, cell: u32, call: &Call, place: usize) -> Result<Due, AllocError>
+        requires { IsSome (outcome_by call.now place) }
         ensures cell { IfOk result (λ due. due.cell ≡ cell) }
         ensures at { IfOk result (λ due. due.ending.value.at ≡ at) }
-        ensures outcome { IfOk result (λ due. due.ending.value.outcome ≡ outcome) }
+        ensures outcome { IfOk result (λ due. outcome_by call.now place ≡ Some due.ending.value.outcome) }
     {
+        let outcome = outcome_at(call, place)?;
         let ending = Box::new(alloc, Ending { at, outcome }).map_err(AllocError::from)?;
         Ok(Due { cell, ending })
     }
@@ -40,9 +42,7 @@ pub(crate) fn dues(
 {
     let mut dues = Vec::with_capacity(alloc, cells.len())?;
     for place in 0..cells.len() {
-        let outcome = outcome_at(call, place)?;
-        let due = Due::new(alloc, cells[place], at, outcome)?;
-        dues.push(due)?;
+        dues.push_reserved(Due::new(alloc, at, cells[place], call, place)?);
     }
     Ok(dues)
 }
@@ -73,7 +73,7 @@ pub(crate) fn copy_outcomes(alloc: Global, outcomes: &Outcomes) -> Result<Outcom
     let outcomes = outcomes.as_slice();
     let mut copies = Vec::with_capacity(alloc, outcomes.len())?;
     for outcome in outcomes {
-        copies.push(outcome.try_copy()?)?;
+        copies.push_reserved(outcome.try_copy()?);
     }
     Ok(Outcomes::new(copies))
 }

@@ -8,7 +8,7 @@ ghost use Rattle.dl_loader.specs.Pass.{GaveTicket, fresh, with_saw};
 
 mod accounts;
 mod close;
-pub(crate) mod unshown;
+mod unshown;
 
 use crate::book::Book;
 use crate::fault::{StartFault, Stopped};

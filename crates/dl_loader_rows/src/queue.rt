@@ -1,7 +1,6 @@
 //! The job queue of `dl_workers`: the worked rows, and what no clause says of a call that waits.
 
-ghost use Rattle.std.specs.Prelude.{◌≡◌, All, OnOk, vec_len};
-ghost use Rattle.dl_workers.specs.Seats.{IsSenderOf, IsTakerOf};
+ghost use Rattle.dl_workers.specs.Seats.{AreSeatsOf, IsSenderOf, IsTakerOf};
 
 use dl_desk::{FetchKey, Job, Keys};
 use dl_workers::{JobQueue, QueueFault, Sender, Taker, Tally};
@@ -21,122 +20,158 @@ fn job(alloc: Global, batch: u32) -> Result<Job, Fail> {
     Ok(Job { batch, keys })
 }
 
-/// Sends a job of this number. The answer is the number of the job that came back.
-fn send(rt: &impl Wait, queue: &JobQueue, sender: &mut Sender, job: Job) -> Option<u32>
-    requires { IsSenderOf queue.now sender.old }
-    ensures { IsSenderOf queue.now sender.new }
-{
-    queue.send(rt, sender, job).err().map(|job| job.batch)
-}
-
-/// Takes a job. The answer is its number.
-fn take(rt: &impl Wait, queue: &JobQueue, taker: &mut Taker) -> Option<u32>
-    requires { IsTakerOf queue.now taker.old }
-    ensures { IsTakerOf queue.now taker.new }
-{
-    queue.take(rt, taker).map(|job| job.batch)
-}
+// Capacities and numbers of senders and takers: the bounds, and what lies past them.
+const NUMBERS: [(u32, u32, u32, Option<QueueFault>); 11] = [
+    (0, 1, 1, Some(QueueFault::BadCapacity)),
+    (1_025, 1, 1, Some(QueueFault::BadCapacity)),
+    (0, 0, 0, Some(QueueFault::BadCapacity)),
+    (1, 0, 1, Some(QueueFault::BadCounts)),
+    (1, 33, 1, Some(QueueFault::BadCounts)),
+    (1, 1, 0, Some(QueueFault::BadCounts)),
+    (1, 1, 33, Some(QueueFault::BadCounts)),
+    (1, 1, 1, None),
+    (1_024, 1, 1, None),
+    (1, 32, 1, None),
+    (1, 1, 32, None),
+];
 
 #[test]
 fn numbers_out_of_range(rt: HostRuntime) {
-    let alloc = rt.alloc();
-    for (capacity, senders, takers, fault) in [
-        (0, 1, 1, QueueFault::BadCapacity),
-        (1, 0, 1, QueueFault::BadCounts),
-    ] {
-        let made = JobQueue::new(alloc, capacity, senders, takers);
-        assert_eq!(rt; made.err(), Some(fault));
+    for (capacity, senders, takers, fault) in NUMBERS {
+        let made = JobQueue::new(rt.alloc(), capacity, senders, takers);
+        assert_eq!(rt; made.err(), fault);
     }
 }
 
-/// The tally of a queue has these numbers.
-fn assert_tally(rt: &impl Abort, tally: Tally, sent: u64, taken: u64, left: u64) {
-    assert_eq!(rt; tally, Tally { sent, taken, left });
+/// A call of a queue on one thread, and what it must answer. Seats are counted from 0.
+enum Turn {
+    /// A sender sends the job of a number. The number is that of the job that must come back.
+    Send(usize, u32, Option<u32>),
+    /// A taker takes the job of this number.
+    Take(usize, Option<u32>),
+    /// A sender shuts the queue.
+    Shut(usize),
 }
+
+/// A queue with all of its seats.
+#[derive(Drop)]
+struct Seats {
+    queue: JobQueue,
+    senders: Vec<Sender>,
+    takers: Vec<Taker>,
+    ghost all: { AreSeatsOf queue senders.items takers.items },
+}
+
+impl Seats {
+    /// Takes a turn.
+    fn turn<R: Abort + Wait>(&mut self, rt: &R, alloc: Global, turn: &Turn) -> Result<(), Fail> {
+        match turn {
+            Turn::Send(sender, batch, want) => {
+                let back = self.send(rt, *sender, job(alloc, *batch)?);
+                assert_eq!(rt; back, *want);
+            }
+            Turn::Take(taker, want) => assert_eq!(rt; self.take(rt, *taker), *want),
+            Turn::Shut(sender) => self.shut(rt, *sender),
+        }
+        Ok(())
+    }
+
+    /// Sends a job. The answer is the number of the job that came back.
+    fn send<R: Abort + Wait>(&mut self, rt: &R, sender: usize, job: Job) -> Option<u32> {
+        assert!(rt; sender < self.senders.len());
+        let back = self.queue.send(rt, &mut self.senders[sender], job).err()?;
+        Some(back.batch)
+    }
+
+    /// Takes a job. The answer is its number.
+    fn take<R: Abort + Wait>(&mut self, rt: &R, taker: usize) -> Option<u32> {
+        assert!(rt; taker < self.takers.len());
+        let job = self.queue.take(rt, &mut self.takers[taker])?;
+        Some(job.batch)
+    }
+
+    /// Shuts the queue.
+    fn shut<R: Abort + Wait>(&mut self, rt: &R, sender: usize) {
+        assert!(rt; sender < self.senders.len());
+        self.queue.shut(rt, &mut self.senders[sender]);
+    }
+}
+
+/// Takes turns at a queue of this capacity with so many senders and takers. At the end it has this tally.
+fn play<R: Abort + Wait>(
+    rt: &R,
+    alloc: Global,
+    (capacity, senders, takers): (u32, u32, u32),
+    turns: &[Turn],
+    tally: Tally,
+) -> Result<(), Fail> {
+    let (queue, senders, takers) = JobQueue::new(alloc, capacity, senders, takers)?;
+    let mut seats = Seats {
+        queue,
+        senders,
+        takers,
+    };
+    for turn in turns {
+        seats.turn(rt, alloc, turn)?;
+    }
+    assert_eq!(rt; seats.queue.finish(rt, seats.senders, seats.takers), tally);
+    Ok(())
+}
+
+const ONE_JOB: [Turn; 5] = [
+    Turn::Send(0, 0, None),
+    Turn::Take(0, Some(0)),
+    Turn::Shut(0),
+    Turn::Send(0, 1, Some(1)),
+    Turn::Take(0, None),
+];
 
 #[test]
 fn one_job_and_then_shut(rt: HostRuntime) -> Result<(), Fail> {
-    let (queue, mut senders, mut takers) = JobQueue::new(rt.alloc(), 1, 1, 1)?;
-    send_and_shut(&rt, rt.alloc(), &queue, &mut senders[0], &mut takers[0])?;
-    assert_tally(&rt, queue.finish(&rt, senders, takers), 1, 1, 0);
-    Ok(())
-}
-
-/// One job is sent and taken. Once the queue is shut the next one comes back, and none is taken.
-fn send_and_shut<R: Abort + Wait>(
-    rt: &R,
-    alloc: Global,
-    queue: &JobQueue,
-    sender: &mut Sender,
-    taker: &mut Taker,
-) -> Result<(), Fail>
-    requires sender { IsSenderOf queue.now sender.old }
-    requires taker { IsTakerOf queue.now taker.old }
-    ensures sender { OnOk result (IsSenderOf queue.now sender.new) }
-    ensures taker { OnOk result (IsTakerOf queue.now taker.new) }
-{
-    assert_eq!(rt; send(rt, queue, sender, job(alloc, 0)?), None);
-    assert_eq!(rt; take(rt, queue, taker), Some(0));
-    queue.shut(rt, sender);
-    assert_eq!(rt; send(rt, queue, sender, job(alloc, 1)?), Some(1));
-    assert_eq!(rt; take(rt, queue, taker), None);
-    Ok(())
+    let tally = Tally {
+        sent: 1,
+        taken: 1,
+        left: 0,
+    };
+    play(&rt, rt.alloc(), (1, 1, 1), &ONE_JOB, tally)
 }
 
 #[test]
 fn one_job_left(rt: HostRuntime) -> Result<(), Fail> {
-    let job = job(rt.alloc(), 0)?;
-    let (queue, mut senders, takers) = JobQueue::new(rt.alloc(), 2, 1, 1)?;
-    assert_eq!(rt; send(&rt, &queue, &mut senders[0], job), None);
-    assert_tally(&rt, queue.finish(&rt, senders, takers), 1, 0, 1);
-    Ok(())
+    let tally = Tally {
+        sent: 1,
+        taken: 0,
+        left: 1,
+    };
+    play(&rt, rt.alloc(), (2, 1, 1), &[Turn::Send(0, 0, None)], tally)
 }
 
-/// Two senders fill a queue of three places and shut it, each of them, and then their jobs come back.
-fn fill_and_shut<R: Abort + Wait>(
-    rt: &R,
-    alloc: Global,
-    queue: &JobQueue,
-    senders: &mut Vec<Sender>,
-) -> Result<(), Fail>
-    requires two { vec_len senders.old ≡ 2 }
-    requires seats { All (IsSenderOf queue.now) senders.old.items }
-    ensures two { OnOk result (vec_len senders.new ≡ 2) }
-    ensures seats { OnOk result (All (IsSenderOf queue.now) senders.new.items) }
-{
-    assert_eq!(rt; send(rt, queue, &mut senders[0], job(alloc, 0)?), None);
-    assert_eq!(rt; send(rt, queue, &mut senders[1], job(alloc, 1)?), None);
-    assert_eq!(rt; send(rt, queue, &mut senders[0], job(alloc, 2)?), None);
-    queue.shut(rt, &mut senders[1]);
-    queue.shut(rt, &mut senders[0]);
-    assert_eq!(rt; send(rt, queue, &mut senders[0], job(alloc, 3)?), Some(3));
-    assert_eq!(rt; send(rt, queue, &mut senders[1], job(alloc, 4)?), Some(4));
-    Ok(())
-}
+// Three jobs and two end marks fill the queue: a second `shut` that sent marks would wait for ever. Each sender's
+// jobs come back then, and the takers first get what is left, and then the end, which comes again.
+const FULL: [Turn; 13] = [
+    Turn::Send(0, 0, None),
+    Turn::Send(1, 1, None),
+    Turn::Send(0, 2, None),
+    Turn::Shut(1),
+    Turn::Shut(0),
+    Turn::Send(0, 3, Some(3)),
+    Turn::Send(1, 4, Some(4)),
+    Turn::Take(0, Some(0)),
+    Turn::Take(0, Some(1)),
+    Turn::Take(1, Some(2)),
+    Turn::Take(1, None),
+    Turn::Take(1, None),
+    Turn::Take(0, None),
+];
 
-/// Two takers take three jobs, and then the end, which comes again.
-fn take_the_rest<R: Abort + Wait>(rt: &R, queue: &JobQueue, takers: &mut Vec<Taker>)
-    requires two { vec_len takers.old ≡ 2 }
-    requires seats { All (IsTakerOf queue.now) takers.old.items }
-    ensures two { vec_len takers.new ≡ 2 }
-    ensures seats { All (IsTakerOf queue.now) takers.new.items }
-{
-    assert_eq!(rt; take(rt, queue, &mut takers[0]), Some(0));
-    assert_eq!(rt; take(rt, queue, &mut takers[0]), Some(1));
-    assert_eq!(rt; take(rt, queue, &mut takers[1]), Some(2));
-    assert_eq!(rt; take(rt, queue, &mut takers[1]), None);
-    assert_eq!(rt; take(rt, queue, &mut takers[1]), None);
-    assert_eq!(rt; take(rt, queue, &mut takers[0]), None);
-}
-
-// Three jobs and two end marks fill the queue: a second `shut` that sent marks would wait for ever.
 #[test]
 fn what_is_left_comes_before_the_end(rt: HostRuntime) -> Result<(), Fail> {
-    let (queue, mut senders, mut takers) = JobQueue::new(rt.alloc(), 3, 2, 2)?;
-    fill_and_shut(&rt, rt.alloc(), &queue, &mut senders)?;
-    take_the_rest(&rt, &queue, &mut takers);
-    assert_tally(&rt, queue.finish(&rt, senders, takers), 3, 3, 0);
-    Ok(())
+    let tally = Tally {
+        sent: 3,
+        taken: 3,
+        left: 0,
+    };
+    play(&rt, rt.alloc(), (3, 2, 2), &FULL, tally)
 }
 
 // Under `rt try --test --fail-alloc N` each growth of `new` is refused in turn.
@@ -294,6 +329,11 @@ fn four_threads(rt: HostRuntime) -> Result<(), Fail> {
     senders.push(high)?;
     takers.push(one.seat)?;
     takers.push(other.seat)?;
-    assert_tally(&rt, queue.finish(&rt, senders, takers), 200, 200, 0);
+    let tally = Tally {
+        sent: 200,
+        taken: 200,
+        left: 0,
+    };
+    assert_eq!(rt; queue.finish(&rt, senders, takers), tally);
     Ok(())
 }

@@ -2,6 +2,7 @@ pub mod Trees
 pub mod CallLaws
 pub mod CallLists
 pub mod Given
+pub mod KeyLists
 pub mod Bytes
 pub mod Known
 pub mod Runs

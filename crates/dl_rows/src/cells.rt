@@ -11,112 +11,157 @@ use std::test::Fail;
 use std::thread;
 use std::thread::Threads;
 
-/// Shows a value in a cell. The answer is the value, where it came back.
-fn show(
-    alloc: Global,
-    row: &CellRow<u8>,
+/// A cell of a row, with a reader of it.
+#[derive(Drop)]
+struct Watched<'a> {
+    row: &'a CellRow<u8>,
     place: u32,
-    reader: &mut Reader<u8>,
-    value: u8,
-) -> Result<Option<u8>, AllocError>
-    requires in_row { place < row_len row.now }
-    requires of_cell { reader.old.cell ≡ cell_of row.now place }
-    ensures { reader.new.cell ≡ reader.old.cell }
-{
-    match row.show(place, reader, Box::new(alloc, value)?) {
-        Ok(()) => Ok(None),
-        Err(back) => Ok(Some(Box::into_inner(back))),
+    reader: Reader<u8>,
+    ghost in_row: { place < row_len row.now },
+    ghost of_cell: { reader.cell ≡ cell_of row.now place },
+}
+
+impl<'a> Watched<'a> {
+    /// A cell with a fresh reader.
+    fn new(row: &'a CellRow<u8>, place: u32) -> Result<Watched<'a>, AllocError>
+        requires { place < row_len row.now }
+    {
+        let reader = row.reader(place)?;
+        Ok(Watched { row, place, reader })
+    }
+
+    /// Shows a value in the cell. The answer is the value, where it came back.
+    fn show(&mut self, alloc: Global, value: u8) -> Result<Option<u8>, AllocError> {
+        let value = Box::new(alloc, value)?;
+        match self.row.show(self.place, &mut self.reader, value) {
+            Ok(()) => Ok(None),
+            Err(back) => Ok(Some(Box::into_inner(back))),
+        }
+    }
+
+    /// What the cell shows.
+    fn look(&mut self) -> Option<u8> {
+        self.row.look(self.place, &mut self.reader).copied()
+    }
+
+    /// What a fresh reader of the cell finds.
+    fn look_afresh(&self) -> Result<Option<u8>, AllocError> {
+        Ok(Watched::new(self.row, self.place)?.look())
     }
 }
 
-/// What a cell shows.
-fn look(row: &CellRow<u8>, place: u32, reader: &mut Reader<u8>) -> Option<u8>
-    requires in_row { place < row_len row.now }
-    requires of_cell { reader.old.cell ≡ cell_of row.now place }
-    ensures { reader.new.cell ≡ reader.old.cell }
-{
-    row.look(place, reader).copied()
+/// A call on a cell. It answers a value where one is seen, or came back.
+enum Call {
+    Show(u8),
+    Look,
+    LookAfresh,
 }
 
-#[test]
-fn one_cell_is_set_once(rt: HostRuntime) -> Result<(), Fail> {
-    let row = CellRow::new(rt.alloc(), 1)?;
-    let mut reader = row.reader(0)?;
-    set_twice(&rt, rt.alloc(), &row, &mut reader)
+/// The cells of a row: the one whose value is shown, and another.
+enum Which {
+    Shown,
+    Other,
 }
 
-/// An empty cell 0 takes the value 5, and no other.
-fn set_twice(
+/// Calls on two cells of a row, each with its answer.
+struct Row {
+    about: &'static str,
+    len: u32,
+    shown: u32,
+    other: u32,
+    calls: &'static [(Which, Call, Option<u8>)],
+}
+
+const ROWS: [Row; 3] = [
+    Row {
+        about: "one cell is set once",
+        len: 1,
+        shown: 0,
+        other: 0,
+        calls: &[
+            (Which::Shown, Call::Look, None),
+            (Which::Shown, Call::Show(5), None),
+            (Which::Shown, Call::Look, Some(5)),
+            (Which::Shown, Call::Show(6), Some(6)),
+            (Which::Shown, Call::Look, Some(5)),
+            (Which::Other, Call::Look, Some(5)),
+        ],
+    },
+    Row {
+        about: "cells of other segments stay empty",
+        len: 130,
+        shown: 129,
+        other: 0,
+        calls: &[
+            (Which::Other, Call::Look, None),
+            (Which::Shown, Call::Show(7), None),
+            (Which::Shown, Call::Look, Some(7)),
+            (Which::Other, Call::Look, None),
+        ],
+    },
+    Row {
+        about: "a fresh reader finds a shown value",
+        len: 65_536,
+        shown: 65_535,
+        other: 65_534,
+        calls: &[
+            (Which::Shown, Call::Show(9), None),
+            (Which::Shown, Call::LookAfresh, Some(9)),
+            (Which::Other, Call::LookAfresh, None),
+        ],
+    },
+];
+
+/// What a call on a cell answers.
+fn answer(alloc: Global, cell: &mut Watched<'_>, call: &Call) -> Result<Option<u8>, AllocError> {
+    match call {
+        Call::Show(value) => cell.show(alloc, *value),
+        Call::Look => Ok(cell.look()),
+        Call::LookAfresh => cell.look_afresh(),
+    }
+}
+
+/// The calls of a row on its two cells answer so.
+fn assert_answers<'a>(
     rt: &impl Abort,
     alloc: Global,
-    row: &CellRow<u8>,
-    reader: &mut Reader<u8>,
-) -> Result<(), Fail>
-    requires in_row { 0 < row_len row.now }
-    requires of_cell { reader.old.cell ≡ cell_of row.now 0 }
-{
-    assert_eq!(rt; look(row, 0, reader), None);
-    assert_eq!(rt; show(alloc, row, 0, reader, 5)?, None);
-    assert_eq!(rt; look(row, 0, reader), Some(5));
-    assert_eq!(rt; show(alloc, row, 0, reader, 6)?, Some(6));
-    assert_eq!(rt; look(row, 0, reader), Some(5));
+    shown: &mut Watched<'a>,
+    other: &mut Watched<'a>,
+    row: &Row,
+) -> Result<(), AllocError> {
+    for (which, call, want) in row.calls {
+        let cell = match which {
+            Which::Shown => &mut *shown,
+            Which::Other => &mut *other,
+        };
+        let got = answer(alloc, cell, call)?;
+        assert_eq!(rt; got, *want, "{}", row.about);
+    }
     Ok(())
 }
 
-#[test]
-fn cells_of_other_segments_stay_empty(rt: HostRuntime) -> Result<(), Fail> {
-    let row = CellRow::new(rt.alloc(), 130)?;
-    let mut first = row.reader(0)?;
-    let mut last = row.reader(129)?;
-    set_last(&rt, rt.alloc(), &row, &mut first, &mut last)
-}
-
-/// Cell 129 takes the value 7, and cell 0 stays empty.
-fn set_last(
+/// The calls of a row answer so.
+fn assert_row(
     rt: &impl Abort,
     alloc: Global,
-    row: &CellRow<u8>,
-    first: &mut Reader<u8>,
-    last: &mut Reader<u8>,
-) -> Result<(), Fail>
-    requires in_row { 129 < row_len row.now }
-    requires of_first { first.old.cell ≡ cell_of row.now 0 }
-    requires of_last { last.old.cell ≡ cell_of row.now 129 }
+    cells: &CellRow<u8>,
+    row: &Row,
+) -> Result<(), AllocError>
+    requires shown { row.now.shown < row_len cells.now }
+    requires other { row.now.other < row_len cells.now }
 {
-    assert_eq!(rt; look(row, 0, first), None);
-    assert_eq!(rt; show(alloc, row, 129, last, 7)?, None);
-    assert_eq!(rt; look(row, 129, last), Some(7));
-    assert_eq!(rt; look(row, 0, first), None);
-    Ok(())
-}
-
-/// What a fresh reader of a cell finds.
-fn look_afresh(row: &CellRow<u8>, place: u32) -> Result<Option<u8>, AllocError>
-    requires { place < row_len row.now }
-{
-    let mut reader = row.reader(place)?;
-    Ok(look(row, place, &mut reader))
-}
-
-/// Shows a value in a cell by a fresh reader. The answer is the value, where it came back.
-fn show_afresh(
-    alloc: Global,
-    row: &CellRow<u8>,
-    place: u32,
-    value: u8,
-) -> Result<Option<u8>, AllocError>
-    requires { place < row_len row.now }
-{
-    let mut reader = row.reader(place)?;
-    show(alloc, row, place, &mut reader, value)
+    let mut shown = Watched::new(cells, row.shown)?;
+    let mut other = Watched::new(cells, row.other)?;
+    assert_answers(rt, alloc, &mut shown, &mut other, row)
 }
 
 #[test]
-fn a_fresh_reader_finds_a_shown_value(rt: HostRuntime) -> Result<(), Fail> {
-    let row = CellRow::new(rt.alloc(), 65_536)?;
-    assert_eq!(rt; show_afresh(rt.alloc(), &row, 65_535, 9)?, None);
-    assert_eq!(rt; look_afresh(&row, 65_535)?, Some(9));
-    assert_eq!(rt; look_afresh(&row, 65_534)?, None);
+fn cells_answer(rt: HostRuntime) -> Result<(), Fail> {
+    for row in &ROWS {
+        assert!(rt; row.shown < row.len && row.other < row.len);
+        let cells = CellRow::new(rt.alloc(), row.len)?;
+        assert_row(&rt, rt.alloc(), &cells, row)?;
+    }
     Ok(())
 }
 
@@ -126,7 +171,7 @@ fn show_copy(
     row: &CellRow<Arc<u8>>,
     place: u32,
     value: &Arc<u8>,
-) -> Result<bool, Fail>
+) -> Result<bool, AllocError>
     requires { place < row_len row.now }
 {
     let mut reader = row.reader(place)?;
@@ -135,10 +180,11 @@ fn show_copy(
 }
 
 /// Shows copies of the value in a new row: in each cell one, and one that comes back.
-fn show_copies(rt: &impl Abort, alloc: Global, value: &Arc<u8>) -> Result<(), Fail> {
+fn show_copies(rt: &impl Abort, alloc: Global, value: &Arc<u8>) -> Result<(), AllocError> {
     let row = CellRow::new(alloc, 65)?;
     for (place, is_set) in [(0, true), (0, false), (64, true), (64, false)] {
-        assert_eq!(rt; show_copy(alloc, &row, place, value)?, is_set);
+        let was_set = show_copy(alloc, &row, place, value)?;
+        assert_eq!(rt; was_set, is_set);
     }
     assert_eq!(rt; Arc::strong_count(value), 3);
     Ok(())
@@ -152,41 +198,28 @@ fn each_value_is_dropped_once(rt: HostRuntime) -> Result<(), Fail> {
     Ok(())
 }
 
-/// A reader of a cell, for which a refused call is made again.
-fn reader_again(row: &CellRow<u8>, place: u32) -> Result<Reader<u8>, AllocError>
+/// A call that is made again where it is refused.
+macro_rules! again {
+    ($call:expr) => {
+        match $call {
+            Ok(done) => Ok(done),
+            Err(AllocError) => $call,
+        }
+    };
+}
+
+/// A cell of a row, for which a refused call is made again.
+fn watched_again(row: &CellRow<u8>, place: u32) -> Result<Watched<'_>, AllocError>
     requires { place < row_len row.now }
-    ensures { IfOk result (λ reader. reader.cell ≡ cell_of row.now place) }
 {
-    match row.reader(place) {
-        Ok(reader) => Ok(reader),
-        Err(AllocError) => row.reader(place),
-    }
+    again!(Watched::new(row, place))
 }
 
 /// A row of 130 cells, for which a refused call is made again.
 fn row_again(alloc: Global) -> Result<CellRow<u8>, AllocError>
     ensures { IfOk result (λ row. row_len row ≡ 130) }
 {
-    match CellRow::new(alloc, 130) {
-        Ok(row) => Ok(row),
-        Err(AllocError) => CellRow::new(alloc, 130),
-    }
-}
-
-/// Shows 7 in cell 64. A refused call is made again.
-fn show_again(
-    alloc: Global,
-    row: &CellRow<u8>,
-    reader: &mut Reader<u8>,
-) -> Result<Option<u8>, AllocError>
-    requires in_row { 64 < row_len row.now }
-    requires of_cell { reader.old.cell ≡ cell_of row.now 64 }
-    ensures { reader.new.cell ≡ reader.old.cell }
-{
-    match show(alloc, row, 64, reader, 7) {
-        Ok(shown) => Ok(shown),
-        Err(AllocError) => show(alloc, row, 64, reader, 7),
-    }
+    again!(CellRow::new(alloc, 130))
 }
 
 /// With ample memory nothing is refused here. Under `rt try --test --fail-alloc N` the N-th growth is,
@@ -194,54 +227,48 @@ fn show_again(
 #[test]
 fn a_call_refused_memory_can_be_made_again(rt: HostRuntime) -> Result<(), Fail> {
     let row = row_again(rt.alloc())?;
-    let first = reader_again(&row, 0)?;
-    drop(first);
+    let _first = watched_again(&row, 0)?;
     // The segment of cell 63 was made for cell 0, and that of cell 64 wasn't.
     assert!(rt; row.reader(63).is_ok());
-    let mut reader = reader_again(&row, 64)?;
-    assert_eq!(rt; show_again(rt.alloc(), &row, &mut reader)?, None);
-    assert_eq!(rt; look(&row, 64, &mut reader), Some(7));
+    let mut cell = watched_again(&row, 64)?;
+    assert_eq!(rt; again!(cell.show(rt.alloc(), 7))?, None);
+    assert_eq!(rt; cell.look(), Some(7));
     Ok(())
 }
 
 #[test]
 fn threads_look_by_one_shared_reader(rt: HostRuntime) -> Result<(), Fail> {
     let row = CellRow::new(rt.alloc(), 1)?;
-    let mut reader = row.reader(0)?;
-    assert_eq!(rt; show(rt.alloc(), &row, 0, &mut reader, 3)?, None);
-    let (row, reader) = (&row, &reader);
-    let seen = thread::join(
-        &rt,
-        move || look_again(row, reader),
-        move || look_again(row, reader),
-    );
+    let mut cell = Watched::new(&row, 0)?;
+    assert_eq!(rt; cell.show(rt.alloc(), 3)?, None);
+    let cell = &cell;
+    let seen = thread::join(&rt, move || look_again(cell), move || look_again(cell));
     assert_eq!(rt; seen, (Some(3), Some(3)));
     Ok(())
 }
 
-// What a copy of a reader of cell 0 sees there.
-fn look_again(row: &CellRow<u8>, reader: &Reader<u8>) -> Option<u8>
-    requires in_row { 0 < row_len row.now }
-    requires of_cell { reader.now.cell ≡ cell_of row.now 0 }
-{
-    look(row, 0, &mut reader.again())
+/// What a copy of a cell's reader sees.
+fn look_again(cell: &Watched<'_>) -> Option<u8> {
+    let mut reader = cell.reader.again();
+    cell.row.look(cell.place, &mut reader).copied()
 }
 
 /// What one thread saw in a cell, with the reader that saw it.
 #[derive(Drop)]
 struct Offer {
-    // Whether this thread's value is the one that was set.
+    /// Whether this thread's value is the one that was set.
     accepted: bool,
     seen: u8,
     reader: Reader<u8>,
     ghost known: { reader.known ≡ Some seen },
 }
 
-// Shows a value in cell 0, and then looks, by a reader of its own.
-fn show_and_look(row: &CellRow<u8>, value: Box<u8>) -> Result<Offer, AllocError>
+/// Shows a value in cell 0, and then looks, by a reader of its own.
+fn show_and_look(alloc: Global, row: &CellRow<u8>, value: u8) -> Result<Offer, AllocError>
     requires { 0 < row_len row.now }
     ensures { IfOk result (λ offer. offer.reader.cell ≡ cell_of row.now 0) }
 {
+    let value = Box::new(alloc, value)?;
     let mut reader = row.reader(0)?;
     let accepted = row.show(0, &mut reader, value).is_ok();
     match row.look(0, &mut reader) {
@@ -254,46 +281,44 @@ fn show_and_look(row: &CellRow<u8>, value: Box<u8>) -> Result<Offer, AllocError>
     }
 }
 
-// Two threads race to set cell 0. That both see the same value in the end is proved.
+/// Two threads race to set cell 0, one to 5 and one to 6. That both see the same value in the end is proved.
 fn race<R: Threads + Sync>(
     rt: &R,
+    alloc: Global,
     row: &CellRow<u8>,
-    one: Box<u8>,
-    other: Box<u8>,
 ) -> Result<(Offer, Offer), AllocError>
     requires { 0 < row_len row.now }
     ensures { IfOk result (λ offers. offers.0.seen ≡ offers.1.seen) }
 {
-    let (one, other) = thread::join(
+    let (five, six) = thread::join(
         rt,
         move || -> Result<Offer, AllocError>
             requires { 0 < row_len row.now }
             ensures { IfOk result (λ offer. offer.reader.cell ≡ cell_of row.entry.now 0) }
-        { show_and_look(row, one) },
+        { show_and_look(alloc, row, 5) },
         move || -> Result<Offer, AllocError>
             requires { 0 < row_len row.now }
             ensures { IfOk result (λ offer. offer.reader.cell ≡ cell_of row.entry.now 0) }
-        { show_and_look(row, other) },
+        { show_and_look(alloc, row, 6) },
     );
-    let (one, other) = (one?, other?);
-    one.reader.agree(&other.reader);
-    Ok((one, other))
+    let (five, six) = (five?, six?);
+    five.reader.agree(&six.reader);
+    Ok((five, six))
 }
 
 /// One race, which one of the two threads wins.
-fn race_once<R: Abort + Threads + Sync>(rt: &R, alloc: Global) -> Result<(), Fail> {
+fn race_once<R: Abort + Threads + Sync>(rt: &R, alloc: Global) -> Result<(), AllocError> {
     let row = CellRow::new(alloc, 1)?;
-    let (five, six) = (Box::new(alloc, 5u8)?, Box::new(alloc, 6u8)?);
-    let (by_five, by_six) = race(rt, &row, five, six)?;
-    assert_one_won(rt, &by_five, &by_six);
+    let (five, six) = race(rt, alloc, &row)?;
+    assert_one_won(rt, &five, &six);
     Ok(())
 }
 
 /// One of the values 5 and 6 was set, and both threads saw it.
-fn assert_one_won(rt: &impl Abort, by_five: &Offer, by_six: &Offer) {
-    assert_eq!(rt; by_five.seen, by_six.seen);
-    assert!(rt; by_five.accepted != by_six.accepted);
-    assert_eq!(rt; by_five.seen, if by_five.accepted { 5 } else { 6 });
+fn assert_one_won(rt: &impl Abort, five: &Offer, six: &Offer) {
+    assert_eq!(rt; five.seen, six.seen);
+    assert!(rt; five.accepted != six.accepted);
+    assert_eq!(rt; five.seen, if five.accepted { 5 } else { 6 });
 }
 
 #[test]

@@ -1,46 +1,55 @@
 //! The desk, its keys and its limits: what a user sees with ample memory.
 
 use dl_desk::{
-    BatchState, Desk, DeskPrime, DeskReply, FetchKey, Job, KeyFault, LimitFault, Limits, LoadReply,
+    BatchState, BatchView, Desk, DeskPrime, DeskReply, FetchKey, Job, KeyFault, LimitFault, Limits,
+    LoadReply,
 };
-use std::alloc::Global;
+use std::alloc::{AllocError, Global};
 use std::hash::RandomState;
 use std::process::Abort;
 use std::random::RandomSource;
 use std::slice;
 use std::test::Fail;
 
-fn key(alloc: Global, id: &str) -> Result<FetchKey, Fail> {
-    Ok(FetchKey::new(alloc, "t", id)?)
+fn key(alloc: Global, id: &str) -> Result<FetchKey, KeyFault> {
+    FetchKey::new(alloc, "t", id)
 }
 
 /// A text of so many bytes.
-fn long(alloc: Global, bytes: usize) -> Result<String, Fail> {
+fn long(alloc: Global, bytes: usize) -> Result<String, AllocError> {
     let mut text = String::new(alloc);
     for _ in 0..bytes {
-        text.push_str("x")?;
+        text.push('x')?;
     }
     Ok(text)
 }
 
-/// Each pair of a table and an id is refused so.
-fn assert_refused(rt: &impl Abort, alloc: Global, rows: &[(&str, &str, KeyFault)]) {
-    for (table, id, fault) in rows {
-        assert_eq!(rt; FetchKey::new(alloc, table, id).err(), Some(*fault));
-    }
+/// Bytes of a table's name and of an id, and why there is no key of them, where there is none.
+const KEYS: [(usize, usize, Option<KeyFault>); 9] = [
+    (0, 0, Some(KeyFault::EmptyTable)),
+    (0, 129, Some(KeyFault::EmptyTable)),
+    (65, 0, Some(KeyFault::TableTooLong)),
+    (65, 129, Some(KeyFault::TableTooLong)),
+    (1, 0, Some(KeyFault::EmptyId)),
+    (64, 0, Some(KeyFault::EmptyId)),
+    (1, 129, Some(KeyFault::IdTooLong)),
+    (1, 1, None),
+    (64, 128, None),
+];
+
+/// Why there is no key of texts of so many bytes, where there is none.
+fn key_fault(alloc: Global, table: usize, id: usize) -> Result<Option<KeyFault>, AllocError> {
+    let table = long(alloc, table)?;
+    let id = long(alloc, id)?;
+    Ok(FetchKey::new(alloc, table.as_str(), id.as_str()).err())
 }
 
 #[test]
 fn keys_are_refused_for_their_first_fault(rt: HostRuntime) -> Result<(), Fail> {
-    let table = long(rt.alloc(), 65)?;
-    let id = long(rt.alloc(), 129)?;
-    let rows = [
-        ("", "", KeyFault::EmptyTable),
-        (table.as_str(), "", KeyFault::TableTooLong),
-        ("t", "", KeyFault::EmptyId),
-        ("t", id.as_str(), KeyFault::IdTooLong),
-    ];
-    assert_refused(&rt, rt.alloc(), &rows);
+    for (table, id, want) in KEYS {
+        let fault = key_fault(rt.alloc(), table, id)?;
+        assert_eq!(rt; fault, want, "a table of {table} bytes, an id of {id}");
+    }
     Ok(())
 }
 
@@ -53,15 +62,24 @@ fn a_copy_of_a_longest_key_is_equal(rt: HostRuntime) -> Result<(), Fail> {
     Ok(())
 }
 
+/// The three numbers of limits, and why they are none, where they are none.
+const LIMITS: [(u32, u32, u32, Option<LimitFault>); 9] = [
+    (0, 0, 0, Some(LimitFault::BatchLimit)),
+    (0, 1, 1, Some(LimitFault::BatchLimit)),
+    (65_537, 1, 1, Some(LimitFault::BatchLimit)),
+    (1, 0, 0, Some(LimitFault::CellLimit)),
+    (1, 65_537, 0, Some(LimitFault::CellLimit)),
+    (1, 1, 0, Some(LimitFault::CallLimit)),
+    (1, 1, 65_537, Some(LimitFault::CallLimit)),
+    (1, 1, 1, None),
+    (65_536, 65_536, 65_536, None),
+];
+
 #[test]
 fn limits_are_refused_for_their_first_fault(rt: HostRuntime) {
-    for (max_batch, max_cells, max_calls, fault) in [
-        (0, 0, 0, Some(LimitFault::BatchLimit)),
-        (1, 65_537, 0, Some(LimitFault::CellLimit)),
-        (1, 1, 0, Some(LimitFault::CallLimit)),
-        (65_536, 65_536, 65_536, None),
-    ] {
-        assert_eq!(rt; Limits::new(max_batch, max_cells, max_calls).err(), fault);
+    for (max_batch, max_cells, max_calls, want) in LIMITS {
+        let fault = Limits::new(max_batch, max_cells, max_calls).err();
+        assert_eq!(rt; fault, want, "{max_batch} {max_cells} {max_calls}");
     }
 }
 
@@ -91,66 +109,61 @@ fn use_desk(alloc: Global, desk: &mut Desk) -> Result<(), Fail> {
     send_both(alloc, desk)
 }
 
-#[test]
-fn batches_end_in_any_order(rt: HostRuntime) -> Result<(), Fail> {
-    let mut desk = new_desk(&rt, rt.alloc())?;
-    try_ends(&rt, rt.alloc(), &mut desk)
-}
+/// The states of the batches of a used desk, with the id and the cell of each one's only member.
+const BATCHES: [(u32, BatchState, &str, u32); 3] = [
+    (0, BatchState::Failed, "a", 0),
+    (1, BatchState::Settled, "b", 1),
+    (2, BatchState::Sent, "a", 2),
+];
 
-/// What a new desk shows once it is used.
-fn try_ends(rt: &impl Abort, alloc: Global, desk: &mut Desk) -> Result<(), Fail> {
-    use_desk(alloc, desk)?;
-    assert_states(rt, desk);
-    let a = key(alloc, "a")?;
-    assert_eq!(rt; desk.held(&a), Some(2));
-    assert_members(rt, desk, &a)
-}
-
-/// The states of the four first batches of a used desk.
-fn assert_states(rt: &impl Abort, desk: &Desk) {
-    for (batch, state) in [
-        (0, Some(BatchState::Failed)),
-        (1, Some(BatchState::Settled)),
-        (2, Some(BatchState::Sent)),
-        (3, None),
-    ] {
-        assert_eq!(rt; desk.batch(batch).map(|batch| batch.state()), state);
+/// Whether the batch has one member alone, of this id and with this cell.
+fn has_only(batch: &BatchView<'_>, id: &str, cell: u32) -> bool {
+    match batch.members().next() {
+        Some((key, held)) => batch.keys().len() == 1 && key.id() == id && *held == cell,
+        None => false,
     }
 }
 
-/// The first batch has this key alone, with the first cell.
-fn assert_members(rt: &impl Abort, desk: &Desk, key: &FetchKey) -> Result<(), Fail> {
-    let Some(batch) = desk.batch(0) else {
-        return Err("no batch".into());
-    };
-    let mut members = batch.members();
-    let Some((member, cell)) = members.next() else {
-        return Err("no member".into());
-    };
-    assert!(rt; *member == *key);
-    assert_eq!(rt; *cell, 0);
-    assert!(rt; members.next().is_none());
+/// The batches of a used desk are so.
+fn assert_batches(rt: &impl Abort, desk: &Desk) -> Result<(), Fail> {
+    for (number, state, id, cell) in BATCHES {
+        let batch = desk.batch(number).ok_or("no batch")?;
+        assert_eq!(rt; batch.state(), state);
+        assert!(rt; has_only(&batch, id, cell));
+    }
+    assert!(rt; desk.batch(3).is_none());
     Ok(())
+}
+
+#[test]
+fn batches_end_in_any_order(rt: HostRuntime) -> Result<(), Fail> {
+    let mut desk = new_desk(&rt, rt.alloc())?;
+    use_desk(rt.alloc(), &mut desk)?;
+    assert_batches(&rt, &desk)?;
+    assert_eq!(rt; held(rt.alloc(), &desk, "a")?, Some(2));
+    Ok(())
+}
+
+/// The cell that is held for an id of the table t.
+fn held(alloc: Global, desk: &Desk, id: &str) -> Result<Option<u32>, KeyFault> {
+    let key = key(alloc, id)?;
+    Ok(desk.held(&key))
 }
 
 #[test]
 fn a_call_made_ready_is_seen_once_it_is_committed(rt: HostRuntime) -> Result<(), Fail> {
     let mut desk = new_desk(&rt, rt.alloc())?;
-    try_ready(&rt, rt.alloc(), &mut desk)
+    use_desk(rt.alloc(), &mut desk)?;
+    let c = key(rt.alloc(), "c")?;
+    load_by_ready(&rt, rt.alloc(), &mut desk, &c)?;
+    let a = key(rt.alloc(), "a")?;
+    assert!(rt; ready_to_keep(&mut desk, &a)?);
+    assert!(rt; ready_to_send(rt.alloc(), &mut desk, &c)?);
+    Ok(())
 }
 
-/// Calls made ready on a new desk once it is used.
-fn try_ready(rt: &impl Abort, alloc: Global, desk: &mut Desk) -> Result<(), Fail> {
-    use_desk(alloc, desk)?;
-    let c = key(alloc, "c")?;
-    ready_to_load(rt, alloc, desk, &c)?;
-    assert_eq!(rt; desk.held(&c), Some(3));
-    ready_to_keep(rt, alloc, desk)?;
-    ready_to_send(rt, alloc, desk, &c)
-}
-
-/// A load of the key that is made ready and then committed.
-fn ready_to_load(
+/// A load of the key c that is made ready isn't seen before it is committed.
+fn load_by_ready(
     rt: &impl Abort,
     alloc: Global,
     desk: &mut Desk,
@@ -159,43 +172,40 @@ fn ready_to_load(
     let ready = desk.ready_loads(alloc, slice::from_ref(key))?;
     assert_eq!(rt; desk.held(key), None);
     let reply = desk.commit(ready);
-    let fresh = LoadReply::Fresh { cell: 3, batch: 3 };
-    match &reply {
-        DeskReply::Loads(replies) => assert_eq!(rt; replies.as_slice(), slice::from_ref(&fresh)),
-        _ => assert!(rt; false, "loads were made ready"),
-    }
+    assert!(rt; is_fresh(&reply));
+    assert_eq!(rt; desk.held(key), Some(3));
     Ok(())
 }
 
-/// A prime of a held key that is made ready is to be kept.
-fn ready_to_keep(rt: &impl Abort, alloc: Global, desk: &mut Desk) -> Result<(), Fail> {
-    let a = key(alloc, "a")?;
-    let ready = desk.ready_prime(&a)?;
-    match ready.reply() {
-        DeskReply::Primed(reply) => assert_eq!(rt; *reply, DeskPrime::Kept),
-        _ => assert!(rt; false, "a prime was made ready"),
+/// Whether the reply is that of one load, which begins the cell 3 in the batch 3.
+fn is_fresh(reply: &DeskReply) -> bool {
+    match reply {
+        DeskReply::Loads(replies) => {
+            matches!(replies.as_slice(), [LoadReply::Fresh { cell: 3, batch: 3 }])
+        }
+        _ => false,
     }
-    Ok(())
 }
 
-/// A dispatch that is made ready is to send the batch 3, with this key alone.
-fn ready_to_send(
-    rt: &impl Abort,
-    alloc: Global,
-    desk: &mut Desk,
-    key: &FetchKey,
-) -> Result<(), Fail> {
+/// Whether a prime of the key, made ready, is to keep what is held.
+fn ready_to_keep(desk: &mut Desk, key: &FetchKey) -> Result<bool, Fail> {
+    let ready = desk.ready_prime(key)?;
+    Ok(matches!(ready.reply(), DeskReply::Primed(DeskPrime::Kept)))
+}
+
+/// Whether a dispatch, made ready, is to send one job, which is of batch 3 and has this key alone.
+fn ready_to_send(alloc: Global, desk: &mut Desk, key: &FetchKey) -> Result<bool, Fail> {
     let ready = desk.ready_dispatch(alloc)?;
     match ready.reply() {
-        DeskReply::Sent(jobs) => assert_sent(rt, jobs, key),
-        _ => assert!(rt; false, "a dispatch was made ready"),
+        DeskReply::Sent(jobs) => Ok(is_sent(jobs, key)),
+        _ => Ok(false),
     }
-    Ok(())
 }
 
-/// The only job is of batch 3, with this key alone.
-fn assert_sent(rt: &impl Abort, jobs: &[Job], key: &FetchKey) {
-    assert_eq!(rt; jobs.len(), 1);
-    assert_eq!(rt; jobs[0].batch, 3);
-    assert_eq!(rt; jobs[0].keys.as_slice(), slice::from_ref(key));
+/// Whether there is one job, which is of batch 3 and has this key alone.
+fn is_sent(jobs: &[Job], key: &FetchKey) -> bool {
+    match jobs {
+        [job] => job.batch == 3 && job.keys.as_slice() == slice::from_ref(key),
+        _ => false,
+    }
 }

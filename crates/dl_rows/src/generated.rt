@@ -4,12 +4,21 @@ ghost use Rattle.std.specs.Prelude.{◌<◌};
 
 use crate::lines::lines_of;
 use crate::reference::mixed;
-use dl_desk::{FetchKey, Keys, Limits};
-use dl_plans::{Calls, Script, ScriptCall, run_script};
-use std::alloc::Global;
+use crate::scripts::script;
+use dl_plans::{Script, run_script};
+use std::alloc::{AllocError, Global};
 use std::hash::RandomState;
 use std::process::Abort;
 use std::test::Fail;
+
+/// Keys of two tables, as a script has them.
+const KEYS: [&str; 5] = [
+    r#"["t","a"]"#,
+    r#"["t","b"]"#,
+    r#"["t","c"]"#,
+    r#"["s","a"]"#,
+    r#"["s","b"]"#,
+];
 
 /// Numbers that look random, the same on each run.
 #[derive(Drop)]
@@ -30,61 +39,60 @@ impl Numbers {
         ((self.state >> 33) % u64::from(bound)) as u32
     }
 
-    /// One of five keys of two tables.
-    fn key(&mut self, alloc: Global) -> Result<FetchKey, Fail> {
-        let (table, id) = match self.below(5) {
-            0 => ("t", "a"),
-            1 => ("t", "b"),
-            2 => ("t", "c"),
-            3 => ("s", "a"),
-            _ => ("s", "b"),
-        };
-        Ok(FetchKey::new(alloc, table, id)?)
+    /// One of the keys.
+    fn key(&mut self) -> &'static str {
+        KEYS[self.below(5) as usize]
     }
 
-    /// A list of up to three keys.
-    fn keys(&mut self, alloc: Global) -> Result<Keys, Fail> {
-        let mut keys = Vec::new(alloc);
-        for _ in 0..self.below(4) {
-            keys.push(self.key(alloc)?)?;
+    /// Writes a call with a key.
+    fn write_of_key(&mut self, text: &mut String, name: &str) -> Result<(), AllocError> {
+        let key = self.key();
+        write!(text, "{{\"{name}\":{key}}}")
+    }
+
+    /// Writes a loadMany of up to three keys.
+    fn write_many(&mut self, text: &mut String) -> Result<(), AllocError> {
+        text.push_str("{\"loadMany\":[")?;
+        for index in 0..self.below(4) {
+            text.push_str(if index == 0 { "" } else { "," })?;
+            text.push_str(self.key())?;
         }
-        Ok(Keys::new(alloc, keys)?)
+        text.push_str("]}")
     }
 
-    /// A call of a batch that may not be there.
-    fn end(&mut self) -> ScriptCall {
-        let number = self.below(6);
-        if self.below(2) == 0 {
-            ScriptCall::Settle(number)
-        } else {
-            ScriptCall::Fail(number)
+    /// Writes the end of a batch that may not be there.
+    fn write_end(&mut self, text: &mut String) -> Result<(), AllocError> {
+        let batch = self.below(6);
+        let name = if self.below(2) == 0 { "settle" } else { "fail" };
+        write!(text, "{{\"{name}\":{batch}}}")
+    }
+
+    /// Writes a call of a script.
+    fn write_call(&mut self, text: &mut String) -> Result<(), AllocError> {
+        match self.below(16) {
+            0..=5 => self.write_of_key(text, "load"),
+            6..=7 => self.write_many(text),
+            8 => self.write_of_key(text, "prime"),
+            9 => self.write_of_key(text, "clear"),
+            10 => text.push_str("{\"clearAll\":true}"),
+            11..=12 => text.push_str("{\"dispatch\":true}"),
+            _ => self.write_end(text),
         }
     }
 
-    /// A call of a script.
-    fn call(&mut self, alloc: Global) -> Result<ScriptCall, Fail> {
-        Ok(match self.below(16) {
-            0..=5 => ScriptCall::Load(self.key(alloc)?),
-            6..=7 => ScriptCall::LoadMany(self.keys(alloc)?),
-            8 => ScriptCall::Prime(self.key(alloc)?),
-            9 => ScriptCall::Clear(self.key(alloc)?),
-            10 => ScriptCall::ClearAll,
-            11..=12 => ScriptCall::Dispatch,
-            _ => self.end(),
-        })
-    }
-
-    /// A script of 30 calls.
-    fn script(&mut self, alloc: Global) -> Result<Script, Fail> {
-        let limits = Limits::new(1 + self.below(3), 4 + self.below(12), 65_536)?;
-        let mut calls = Vec::new(alloc);
-        for _ in 0..30 {
-            calls.push(self.call(alloc)?)?;
+    /// Writes a script of 30 calls.
+    fn write_script(&mut self, text: &mut String) -> Result<(), AllocError> {
+        let max_batch = 1 + self.below(3);
+        let max_cells = 4 + self.below(12);
+        write!(
+            text,
+            "{{\"script\":1,\"maxBatchSize\":{max_batch},\"maxCells\":{max_cells},\"calls\":["
+        )?;
+        for index in 0..30 {
+            text.push_str(if index == 0 { "" } else { "," })?;
+            self.write_call(text)?;
         }
-        Ok(Script {
-            limits,
-            calls: Calls::new(calls),
-        })
+        text.push_str("]}")
     }
 }
 
@@ -94,21 +102,22 @@ fn assert_same(
     alloc: Global,
     hashing: RandomState,
     script: &Script,
-    seed: u64,
-) -> Result<(), Fail> {
-    let want = lines_of(alloc, &mixed(script.limits), script.calls.as_slice())?;
+) -> Result<(), AllocError> {
+    let want = lines_of(alloc, &mixed(script.limits), script)?;
     let text = run_script(alloc, hashing, script)?;
-    assert_eq!(rt; text.as_str(), want.as_str(), "at seed {seed}");
+    assert_eq!(rt; text.as_str(), want.as_str());
     Ok(())
 }
 
 #[test]
 fn the_desk_prints_what_the_reference_loader_prints(rt: HostRuntime) -> Result<(), Fail> {
     let hashing = RandomState::new(&rt)?;
+    let mut document = String::new(rt.alloc());
     for seed in 0..300u64 {
-        let mut numbers = Numbers { state: seed };
-        let script = numbers.script(rt.alloc())?;
-        assert_same(&rt, rt.alloc(), hashing, &script, seed)?;
+        document.clear();
+        Numbers { state: seed }.write_script(&mut document)?;
+        let script = script(rt.alloc(), document.as_str())?;
+        assert_same(&rt, rt.alloc(), hashing, &script)?;
     }
     Ok(())
 }

@@ -1,5 +1,6 @@
 //! `dl_plans` over readers and writers, and its command line.
 
+use dl_desk::LimitFault;
 use dl_plans::{Options, PlanFault, RunError, options, run};
 use std::alloc::Global;
 use std::hash::RandomState;
@@ -20,11 +21,10 @@ const OPTIONS: Options = Options {
     batches: false,
 };
 
-/// A reader that gives a few bytes a read, and fails at one of them.
+/// A reader that gives at most 100 bytes a read, and fails at one of them.
 #[derive(Drop)]
 struct Drip {
     rest: &'static [u8],
-    most: usize,
     good_reads: usize,
     kind: ErrorKind,
 }
@@ -35,7 +35,7 @@ impl Read for Drip {
             return Err(io::Error::from(self.kind));
         }
         self.good_reads -= 1;
-        let count = self.most.min(self.rest.len()).min(buffer.len());
+        let count = self.rest.len().min(buffer.len()).min(100);
         buffer[..count].copy_from_slice(&self.rest[..count]);
         self.rest = &self.rest[count..];
         Ok(count)
@@ -72,61 +72,53 @@ impl Write for Cut {
     }
 }
 
-/// A reader of the document.
-fn whole() -> Drip {
+/// A reader of these bytes that fails once so many reads were good.
+fn reader(rest: &'static [u8], good_reads: usize, kind: ErrorKind) -> Drip {
     Drip {
-        rest: DOCUMENT.as_bytes(),
-        most: 100,
-        good_reads: usize::MAX,
-        kind: ErrorKind::Other,
+        rest,
+        good_reads,
+        kind,
     }
 }
 
-/// A writer that takes everything.
-fn open(alloc: Global) -> Cut {
+/// A reader of the document.
+fn whole() -> Drip {
+    reader(DOCUMENT.as_bytes(), usize::MAX, ErrorKind::Other)
+}
+
+/// A writer that takes so many bytes, so many a write, and then nothing.
+fn writer(alloc: Global, room: usize, most: usize) -> Cut {
     Cut {
         written: Vec::new(alloc),
-        room: usize::MAX,
-        most: usize::MAX,
+        room,
+        most,
         fails: false,
         flush_fails: false,
     }
 }
 
-/// Runs the program on a reader and a writer.
-fn run_on(
-    alloc: Global,
+/// A run of the program on a reader and a writer ends so, and these bytes are written.
+fn assert_run(
+    rt: &impl Abort,
     hashing: RandomState,
     mut reader: Drip,
-    writer: &mut Cut,
-) -> Result<(), RunError> {
-    run(alloc, hashing, &mut reader, writer, OPTIONS)
+    mut writer: Cut,
+    want: Result<(), RunError>,
+    written: &[u8],
+) {
+    let alloc = *writer.written.allocator();
+    let ran = run(alloc, hashing, &mut reader, &mut writer, OPTIONS);
+    assert_eq!(rt; ran, want);
+    assert_eq!(rt; writer.written.as_slice(), written);
 }
 
 /// The answer to the document is written by a few bytes at a time.
 #[test]
 fn a_document_is_answered(rt: HostRuntime) -> Result<(), Fail> {
     let hashing = RandomState::new(&rt)?;
-    let mut writer = open(rt.alloc());
-    writer.most = 7;
-    let ran = run_on(rt.alloc(), hashing, whole(), &mut writer);
-    assert_eq!(rt; ran, Ok(()));
-    assert_eq!(rt; writer.written.as_slice(), TEXT.as_bytes());
+    let writer = writer(rt.alloc(), usize::MAX, 7);
+    assert_run(&rt, hashing, whole(), writer, Ok(()), TEXT.as_bytes());
     Ok(())
-}
-
-/// A run over this reader ends so, and leaves nothing written.
-fn assert_unwritten(
-    rt: &impl Abort,
-    alloc: Global,
-    hashing: RandomState,
-    reader: Drip,
-    want: RunError,
-) {
-    let mut writer = open(alloc);
-    let ran = run_on(alloc, hashing, reader, &mut writer);
-    assert_eq!(rt; ran, Err(want));
-    assert!(rt; writer.written.is_empty());
 }
 
 #[test]
@@ -137,25 +129,21 @@ fn a_reader_that_fails_leaves_nothing_written(rt: HostRuntime) -> Result<(), Fai
         (1, ErrorKind::Interrupted),
         (2, ErrorKind::Other),
     ] {
-        let mut reader = whole();
-        reader.good_reads = good_reads;
-        reader.kind = kind;
-        assert_unwritten(&rt, rt.alloc(), hashing, reader, RunError::Read);
+        let reader = reader(DOCUMENT.as_bytes(), good_reads, kind);
+        let writer = writer(rt.alloc(), usize::MAX, usize::MAX);
+        assert_run(&rt, hashing, reader, writer, Err(RunError::Read), b"");
     }
     Ok(())
 }
 
-/// A run over a writer that takes so many bytes ends so, and what was written is the front of the text.
-fn assert_front(
-    rt: &impl Abort,
-    alloc: Global,
-    hashing: RandomState,
-    mut writer: Cut,
-    front: &[u8],
-) {
-    let ran = run_on(alloc, hashing, whole(), &mut writer);
-    assert_eq!(rt; ran, Err(RunError::Write));
-    assert_eq!(rt; writer.written.as_slice(), front);
+#[test]
+fn a_refused_document_leaves_nothing_written(rt: HostRuntime) -> Result<(), Fail> {
+    let hashing = RandomState::new(&rt)?;
+    let reader = reader(&DOCUMENT.as_bytes()[1..], usize::MAX, ErrorKind::Other);
+    let writer = writer(rt.alloc(), usize::MAX, usize::MAX);
+    let want = Err(RunError::Refused(PlanFault::NotJson));
+    assert_run(&rt, hashing, reader, writer, want, b"");
+    Ok(())
 }
 
 #[test]
@@ -163,12 +151,10 @@ fn a_writer_that_fails_has_a_front(rt: HostRuntime) -> Result<(), Fail> {
     let hashing = RandomState::new(&rt)?;
     for room in 0..TEXT.len() {
         for fails in [false, true] {
-            let mut writer = open(rt.alloc());
-            writer.room = room;
-            writer.most = 10;
+            let mut writer = writer(rt.alloc(), room, 10);
             writer.fails = fails;
             let front = &TEXT.as_bytes()[..room];
-            assert_front(&rt, rt.alloc(), hashing, writer, front);
+            assert_run(&rt, hashing, whole(), writer, Err(RunError::Write), front);
         }
     }
     Ok(())
@@ -177,59 +163,85 @@ fn a_writer_that_fails_has_a_front(rt: HostRuntime) -> Result<(), Fail> {
 #[test]
 fn a_flush_that_fails_is_told(rt: HostRuntime) -> Result<(), Fail> {
     let hashing = RandomState::new(&rt)?;
-    let mut writer = open(rt.alloc());
+    let mut writer = writer(rt.alloc(), usize::MAX, usize::MAX);
     writer.flush_fails = true;
-    assert_front(&rt, rt.alloc(), hashing, writer, TEXT.as_bytes());
+    assert_run(
+        &rt,
+        hashing,
+        whole(),
+        writer,
+        Err(RunError::Write),
+        TEXT.as_bytes(),
+    );
     Ok(())
 }
 
-#[test]
-fn a_refused_document_leaves_nothing_written(rt: HostRuntime) -> Result<(), Fail> {
-    let hashing = RandomState::new(&rt)?;
-    let mut reader = whole();
-    reader.rest = &DOCUMENT.as_bytes()[1..];
-    let want = RunError::Refused(PlanFault::NotJson);
-    assert_unwritten(&rt, rt.alloc(), hashing, reader, want);
-    Ok(())
-}
+/// How a run fails, and its line.
+const LINES: [(RunError, &str); 12] = [
+    (RunError::Read, "failed: read"),
+    (RunError::Write, "failed: write"),
+    (RunError::OutOfMemory, "failed: memory"),
+    (RunError::Refused(PlanFault::TooLarge), "refused: too large"),
+    (RunError::Refused(PlanFault::NotJson), "refused: not json"),
+    (RunError::Refused(PlanFault::Version), "refused: version"),
+    (RunError::Refused(PlanFault::Top), "refused: top"),
+    (
+        RunError::Refused(PlanFault::BadCall { call: 0 }),
+        "refused: call 0",
+    ),
+    (
+        RunError::Refused(PlanFault::BadCall { call: 1 }),
+        "refused: call 1",
+    ),
+    (
+        RunError::Refused(PlanFault::Limit(LimitFault::BatchLimit)),
+        "refused: limit BatchLimit",
+    ),
+    (
+        RunError::Refused(PlanFault::Limit(LimitFault::CellLimit)),
+        "refused: limit CellLimit",
+    ),
+    (
+        RunError::Refused(PlanFault::Limit(LimitFault::CallLimit)),
+        "refused: limit CallLimit",
+    ),
+];
 
 #[test]
 fn failures_have_lines(rt: HostRuntime) -> Result<(), Fail> {
-    for (error, line) in [
-        (RunError::Read, "failed: read"),
-        (RunError::Write, "failed: write"),
-        (RunError::OutOfMemory, "failed: memory"),
-    ] {
+    for (error, line) in LINES {
         let shown = format!(in rt.alloc(); "{error}")?;
         assert_eq!(rt; shown.as_str(), line);
     }
     Ok(())
 }
 
-#[test]
-fn the_command_line_is_read(rt: HostRuntime) {
-    let none: [&str; 0] = [];
-    assert_eq!(rt; options(rt.alloc(), &none).ok(), Some(OPTIONS));
-    let most = Options {
-        workers: 16,
-        batches: true,
-    };
-    let words = ["--batches", "--workers", "16"];
-    assert_eq!(rt; options(rt.alloc(), &words).ok(), Some(most));
-}
+/// Words of a command line, and the options that they are, or the status with which they end the program.
+const WORDS: [(&[&str], Result<Options, i32>); 5] = [
+    (&[], Ok(OPTIONS)),
+    (
+        &["--batches", "--workers", "16"],
+        Ok(Options {
+            workers: 16,
+            batches: true,
+        }),
+    ),
+    (&["--workers", "0"], Err(2)),
+    (&["--workers", "17"], Err(2)),
+    (&["--help"], Err(0)),
+];
 
-/// The status with which clap ends a program of these words, where it does.
-fn status(alloc: Global, words: &[&str]) -> Option<i32> {
+/// The options of words, or the status with which clap ends a program of them.
+fn asked(alloc: Global, words: &[&str]) -> Result<Options, i32> {
     match options(alloc, words) {
-        Ok(_) => None,
-        Err(error) => Some(error.exit_code()),
+        Ok(options) => Ok(options),
+        Err(error) => Err(error.exit_code()),
     }
 }
 
 #[test]
-fn other_command_lines_are_refused(rt: HostRuntime) {
-    let alloc = rt.alloc();
-    assert_eq!(rt; status(alloc, &["--workers", "0"]), Some(2));
-    assert_eq!(rt; status(alloc, &["--workers", "17"]), Some(2));
-    assert_eq!(rt; status(alloc, &["--help"]), Some(0));
+fn the_command_line_is_read(rt: HostRuntime) {
+    for (words, want) in WORDS {
+        assert_eq!(rt; asked(rt.alloc(), words), want);
+    }
 }

@@ -5,7 +5,7 @@ use crate::scripts::{ROWS, script};
 use dl_desk::{Limits, Text};
 use dl_plans::Script;
 use dl_reference::Rules;
-use std::alloc::Global;
+use std::alloc::{AllocError, Global};
 use std::process::Abort;
 use std::test::Fail;
 
@@ -25,6 +25,13 @@ pub(crate) fn mixed(limits: Limits) -> Rules {
     }
 }
 
+/// Rules of a loader whose batches have one table each, and those of s one key.
+fn by_table(alloc: Global, limits: Limits) -> Result<Rules, AllocError> {
+    let table = Text::new(alloc, "s")?;
+    let tables = Some(vec![in alloc; (table, 1)]?);
+    Ok(Rules { limits, tables })
+}
+
 /// The reference loader gives a script this text.
 fn assert_lines(
     rt: &impl Abort,
@@ -32,8 +39,8 @@ fn assert_lines(
     rules: &Rules,
     script: &Script,
     want: &str,
-) -> Result<(), Fail> {
-    let text = lines_of(alloc, rules, script.calls.as_slice())?;
+) -> Result<(), AllocError> {
+    let text = lines_of(alloc, rules, script)?;
     assert_eq!(rt; text.as_str(), want);
     Ok(())
 }
@@ -47,16 +54,10 @@ fn the_reference_loader_gives_a_script_its_text(rt: HostRuntime) -> Result<(), F
     Ok(())
 }
 
-/// Rules of a loader whose batches have one table each, and those of s one key.
-fn by_table(alloc: Global, limits: Limits) -> Result<Rules, Fail> {
-    let table = Text::new(alloc, "s")?;
-    let tables = Some(vec![in alloc; (table, 1)]?);
-    Ok(Rules { limits, tables })
-}
-
 #[test]
 fn batches_by_table_hold_one_table_each(rt: HostRuntime) -> Result<(), Fail> {
     let script = script(rt.alloc(), TWO_TABLES)?;
     let rules = by_table(rt.alloc(), script.limits)?;
-    assert_lines(&rt, rt.alloc(), &rules, &script, BY_TABLE)
+    assert_lines(&rt, rt.alloc(), &rules, &script, BY_TABLE)?;
+    Ok(())
 }

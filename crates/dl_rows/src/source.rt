@@ -11,7 +11,7 @@ use std::test::Fail;
 
 const TWO_BREAKS: &str = r#"[{"name":"t","rows":[],"breaks":[["x","p"],["y","q"]]}]"#;
 
-// A job for keys of one table.
+/// A job for keys of one table.
 fn job(alloc: Global, batch: u32, table: &str, ids: &[&str]) -> Result<Job, Fail> {
     let mut keys = Vec::new(alloc);
     for id in ids {
@@ -21,7 +21,7 @@ fn job(alloc: Global, batch: u32, table: &str, ids: &[&str]) -> Result<Job, Fail
     Ok(Job { batch, keys })
 }
 
-// Each outcome on a line of its own, or the text of the break.
+/// Each outcome on a line of its own, or the text of the break.
 fn answer_text(alloc: Global, answer: &BatchAnswer) -> Result<String, AllocError> {
     let outcomes = match answer {
         BatchAnswer::Break(cause) => return format!(in alloc; "break {}", cause.as_str()),
@@ -97,18 +97,12 @@ const ROWS: [Row; 6] = [
     },
 ];
 
-/// The tables answer the keys of a row so.
-fn assert_answer(rt: &impl Abort, alloc: Global, tables: &Tables, row: &Row) -> Result<(), Fail> {
-    let answer = asked(alloc, tables, row.table, row.ids)?;
-    assert_eq!(rt; answer.as_str(), row.want, "{}", row.about);
-    Ok(())
-}
-
 #[test]
 fn keys_are_answered(rt: HostRuntime) -> Result<(), Fail> {
     for row in &ROWS {
         let tables = tables(&rt, rt.alloc(), row.tables)?;
-        assert_answer(&rt, rt.alloc(), &tables, row)?;
+        let answer = asked(rt.alloc(), &tables, row.table, row.ids)?;
+        assert_eq!(rt; answer.as_str(), row.want, "{}", row.about);
     }
     Ok(())
 }
@@ -151,14 +145,15 @@ fn fault_of(alloc: Global, hashing: RandomState, text: &str) -> Result<Option<Ta
 #[test]
 fn other_trees_are_refused(rt: HostRuntime) -> Result<(), Fail> {
     let hashing = RandomState::new(&rt)?;
-    for (text, want) in &REFUSED {
-        assert_eq!(rt; fault_of(rt.alloc(), hashing, text)?, Some(*want), "{text}");
+    for (text, want) in REFUSED {
+        let fault = fault_of(rt.alloc(), hashing, text)?;
+        assert_eq!(rt; fault, Some(want), "{text}");
     }
     Ok(())
 }
 
-// One table that lists an error with a text of this length.
-fn table_with_error(alloc: Global, length: usize) -> Result<String, Fail> {
+/// One table that lists an error with a text of this length.
+fn table_with_error(alloc: Global, length: usize) -> Result<String, AllocError> {
     let mut text = String::from_str(alloc, r#"[{"name":"t","rows":[],"errors":[["a",""#)?;
     for _ in 0..length {
         text.push('x')?;
@@ -167,77 +162,74 @@ fn table_with_error(alloc: Global, length: usize) -> Result<String, Fail> {
     Ok(text)
 }
 
-/// Tables that list an error with a text of this length are refused so.
-fn assert_fault(
-    rt: &impl Abort,
-    alloc: Global,
-    hashing: RandomState,
-    length: usize,
-    want: Option<TableFault>,
-) -> Result<(), Fail> {
-    let text = table_with_error(alloc, length)?;
-    assert_eq!(rt; fault_of(alloc, hashing, text.as_str())?, want);
-    Ok(())
-}
-
 #[test]
 fn takes_texts_up_to_their_limit(rt: HostRuntime) -> Result<(), Fail> {
     let hashing = RandomState::new(&rt)?;
     assert_eq!(rt; TEXT_BYTES, 1_024);
-    assert_fault(&rt, rt.alloc(), hashing, 1_024, None)?;
-    assert_fault(
-        &rt,
-        rt.alloc(),
-        hashing,
-        1_025,
-        Some(TableFault::TextTooLong),
-    )
-}
-
-fn assert_copied(
-    rt: &impl Abort,
-    alloc: Global,
-    outcome: &Outcome,
-    want: &str,
-) -> Result<(), Fail> {
-    let copy = outcome.try_copy()?;
-    assert_eq!(rt; outcome_text(alloc, &copy)?.as_str(), want);
-    assert_eq!(rt; outcome_text(alloc, outcome)?.as_str(), want);
+    for (length, want) in [(1_024, None), (1_025, Some(TableFault::TextTooLong))] {
+        let text = table_with_error(rt.alloc(), length)?;
+        let fault = fault_of(rt.alloc(), hashing, text.as_str())?;
+        assert_eq!(rt; fault, want, "{length} bytes");
+    }
     Ok(())
 }
 
-/// A value of two members.
-fn json(rt: &impl Abort, alloc: Global) -> Result<Json, Fail> {
-    let value = Value::from_str(alloc, r#"{"b":[1,-2],"a":null}"#)?;
+/// The value of a text, whose numbers are whole.
+pub(crate) fn json(rt: &impl Abort, alloc: Global, text: &str) -> Result<Json, Fail> {
+    let value = Value::from_str(alloc, text)?;
     assert!(rt; !has_float(&value));
     Ok(Json::new(alloc, value)?)
 }
 
 /// The text of a value that is copied out of a shared one.
-fn copied_out(alloc: Global, json: &Json) -> Result<String, Fail> {
+fn copied_out(alloc: Global, json: &Json) -> Result<String, AllocError> {
     let value = json.try_copy()?.into_value()?;
-    Ok(value.to_string(alloc)?)
+    value.to_string(alloc)
+}
+
+fn assert_text(
+    rt: &impl Abort,
+    alloc: Global,
+    outcome: &Outcome,
+    want: &str,
+) -> Result<(), AllocError> {
+    let text = outcome_text(alloc, outcome)?;
+    assert_eq!(rt; text.as_str(), want);
+    Ok(())
+}
+
+/// An outcome and its copy have this text.
+fn assert_copied(
+    rt: &impl Abort,
+    alloc: Global,
+    outcome: &Outcome,
+    want: &str,
+) -> Result<(), AllocError> {
+    let copy = outcome.try_copy()?;
+    assert_text(rt, alloc, &copy, want)?;
+    assert_text(rt, alloc, outcome, want)
 }
 
 #[test]
 fn copies_of_values_are_the_same(rt: HostRuntime) -> Result<(), Fail> {
-    let json = json(&rt, rt.alloc())?;
+    let want = r#"{"a":null,"b":[1,-2]}"#;
+    let json = json(&rt, rt.alloc(), r#"{"b":[1,-2],"a":null}"#)?;
     let text = copied_out(rt.alloc(), &json)?;
-    assert_eq!(rt; text.as_str(), r#"{"a":null,"b":[1,-2]}"#);
-    let outcome = Outcome::Value(json);
-    assert_copied(&rt, rt.alloc(), &outcome, r#"{"a":null,"b":[1,-2]}"#)
+    assert_eq!(rt; text.as_str(), want);
+    assert_copied(&rt, rt.alloc(), &Outcome::Value(json), want)?;
+    Ok(())
 }
 
 #[test]
 fn copies_of_failures_are_the_same(rt: HostRuntime) -> Result<(), Fail> {
-    let alloc = rt.alloc();
-    let gone = Outcome::KeyError(Message::new(alloc, "gone")?);
-    assert_copied(&rt, alloc, &gone, "error gone")?;
-    let down = BatchFault::Source(Message::new(alloc, "down")?);
-    assert_copied(&rt, alloc, &Outcome::BatchFailed(down), "batch down")
+    let gone = Outcome::KeyError(Message::new(rt.alloc(), "gone")?);
+    assert_copied(&rt, rt.alloc(), &gone, "error gone")?;
+    let down = BatchFault::Source(Message::new(rt.alloc(), "down")?);
+    assert_copied(&rt, rt.alloc(), &Outcome::BatchFailed(down), "batch down")?;
+    Ok(())
 }
 
-// A source that has no memory left.
+/// A source that has no memory left.
 #[derive(Drop)]
 struct Starved;
 

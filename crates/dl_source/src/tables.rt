@@ -3,7 +3,7 @@
 ghost use Rattle.std.specs.Prelude.{◌≡◌, ◌⊎◌, [], ◌∷◌, ◌++◌, true, false, not, if◌then◌else◌, option_copied, IfOk, IfErr, OnOk};
 ghost use Rattle.std.specs.List.{list_any};
 ghost use Rattle.std.specs.Result.{result_copied};
-ghost use Rattle.dl_source.specs.Answer.{entry_at, found};
+ghost use Rattle.dl_source.specs.Answer.{entry_at, found, first_break, outcomes_of};
 ghost use Rattle.dl_source.specs.Faults.{is_not_whole, lists, repeats, has_other_number, has_repeated_key};
 
 use crate::fault::TableFault;
@@ -157,11 +157,27 @@ impl Tables {
     {
         let mut tables = Tables::new(alloc, hashing)?;
         for table in listed {
-            let copy = Table::copy_of(alloc, hashing, table.entries())?;
-            let copy = copy.ok_or(TableFault::DuplicateKey)?;
-            tables.add(alloc, table.name(), copy)?;
+            tables.add_copy(alloc, hashing, table)?;
         }
         Ok(tables)
+    }
+
+    /// Adds a copy of a table under a new name, unless the table lists an id twice.
+    fn add_copy(
+        &mut self,
+        alloc: Global,
+        hashing: RandomState,
+        listed: &ListedTable<'_>,
+    ) -> Result<(), TableFault>
+        requires name { lists listed.now.0 self.old ≡ false }
+        requires whole { list_any (λ e. is_not_whole e.1) listed.now.1 ≡ false }
+        ensures ok { OnOk result ((self.new ≡ self.old ++ listed.now ∷ []) × (repeats listed.now.1 ≡ false)) }
+        ensures err { IfErr result (λ f. (f ≡ TableFault.OutOfMemory) ⊎ ((f ≡ TableFault.DuplicateKey) × (repeats listed.now.1 ≡ true))) }
+    {
+        let copy = Table::copy_of(alloc, hashing, listed.entries())?;
+        let copy = copy.ok_or(TableFault::DuplicateKey)?;
+        self.add(alloc, listed.name(), copy)?;
+        Ok(())
     }
 
     fn new(alloc: Global, hashing: RandomState) -> Result<Tables, AllocError>
@@ -182,6 +198,27 @@ impl Tables {
         let name = String::from_str(alloc, name)?;
         self.tables.insert(name, table)?;
         Ok(())
+    }
+
+    /// Adds the outcome of each key, up to the first that is listed under its table's breaks, whose
+    /// text is the answer. The error is want of memory.
+    fn add_outcomes(
+        &self,
+        outcomes: &mut Vec<Outcome>,
+        keys: &[FetchKey],
+    ) -> Result<Option<Message>, AllocError>
+        ensures broken { IfOk result (λ text. text ≡ first_break self.now keys.now) }
+        ensures added { result ≡ Ok None → outcomes.new.items ≡ outcomes.old.items ++ outcomes_of self.now keys.now }
+    {
+        for key in keys {
+            let outcome = match self.entry(key) {
+                Ok(Entry::Row(value)) => Outcome::Value(value.try_copy()?),
+                Ok(Entry::Error(text)) | Err(text) => Outcome::KeyError(text.try_copy()?),
+                Ok(Entry::Break(text)) => return Ok(Some(text.try_copy()?)),
+            };
+            outcomes.push(outcome)?;
+        }
+        Ok(None)
     }
 
     // What is listed under the key, or why nothing is.
@@ -207,14 +244,9 @@ impl Source for Tables {
     /// row or error, or that it has no row or no table.
     fn fetch(&self, alloc: Global, keys: &[FetchKey]) -> Result<BatchAnswer, AllocError> {
         let mut outcomes = Vec::with_capacity(alloc, keys.len())?;
-        for key in keys {
-            let outcome = match self.entry(key) {
-                Ok(Entry::Row(value)) => Outcome::Value(value.try_copy()?),
-                Ok(Entry::Error(text)) | Err(text) => Outcome::KeyError(text.try_copy()?),
-                Ok(Entry::Break(text)) => return Ok(BatchAnswer::Break(text.try_copy()?)),
-            };
-            outcomes.push(outcome)?;
+        match self.add_outcomes(&mut outcomes, keys)? {
+            Some(text) => Ok(BatchAnswer::Break(text)),
+            None => Ok(BatchAnswer::Each(Outcomes::new(outcomes))),
         }
-        Ok(BatchAnswer::Each(Outcomes::new(outcomes)))
     }
 }

@@ -1,7 +1,7 @@
 -- After as many rounds as it is deep, a term has an answer.
-use Rattle.std.proofs.Common.{◌≡◌, ◌∙◌, ap, sym, subst, refl, inl, inr, ℕ, zero, suc, ◌≤◌, Bool, true, false, cond, filter, not, List, [], ◌∷◌, ◌++◌, Option}
+use Rattle.std.proofs.Common.{◌≡◌, ◌∙◌, ap, sym, subst, refl, inl, inr, ℕ, zero, suc, ◌+◌, ◌≤◌, Bool, true, false, cond, filter, not, List, [], ◌∷◌, ◌++◌, Option}
 use Rattle.std.proofs.Common.{Some, None, arith}
-use Rattle.std.specs.Prelude.{⊤, IsSome}
+use Rattle.std.specs.Prelude.{⊤, IsSome, max}
 use Rattle.std.specs.List.{AllByRecursion}
 use Rattle.std.specs.Option.{option_map, option_and_then}
 use Rattle.std.proofs.lemmas.List.Elements.{recursion_from_All}
@@ -122,34 +122,48 @@ module _ (m q : Key → Option Outcome) (more : KnowsMore m q) where
       let found = goes a (subst (λ o. Known q (waits_after o next)) e after) in
       (found.0, ap (option_and_then f) (answer_kept m q more t a e) ∙ found.1)
 
+-- ---- bounds of depths, apart from what is known of terms
+
+none_above : (n : ℕ) → n + 1 ≤ 0 → ⊥
+none_above n low = omega arith
+
+one_less : (n r : ℕ) → n + 1 ≤ suc r → n ≤ r
+one_less n r low = omega arith
+
+left_below : (a b r : ℕ) → max a b ≤ r → a ≤ r
+left_below a b r low = omega arith
+
+right_below : (a b r : ℕ) → max a b ≤ r → b ≤ r
+right_below a b r low = omega arith
+
 mutual
   has : (s : Tree) (r : ℕ) (q : Key → Option Outcome) → depth_of s ≤ r → Rises s r q → (a : Answer) × (answer q s ≡ Some a)
   has (ended a) r q low h = (a, refl)
-  has (load k) zero q low h = absurd (omega arith)
+  has (load k) zero q low h = absurd (none_above 0 low)
   has (load k) (suc r) q low (m, past, more, known) = load_has m q more k (m k) refl known
   has (pick t field) r q low h = has_map (picked field) (answer q t) (has t r q low (rises_of t (pick t field) (λ m p k. k) r q h))
-  has (follow t field table) zero q low h = absurd (omega arith)
+  has (follow t field table) zero q low h = absurd (none_above (depth_of t) low)
   has (follow t field table) (suc r) q low (m, past, more, known) =
       let fewer = λ (n : Key → Option Outcome) (p : Key → Option Outcome) (k : Known p (waits n (follow t field table))). known_left p (waits n t)
       (waits_after (answer n t) (λ a. target_waits n (target_in table (picked field a)))) k in
       follow_has m q more t (λ a. target_answer q (target_in table (picked field a))) (λ a. target_waits m (target_in table (picked field a)))
       (λ a. target_has m q more (target_in table (picked field a)))
-      (has t r m (omega arith) (rises_of t (follow t field table) fewer r m past)) known
-  has (each t field table) zero q low h = absurd (omega arith)
+      (has t r m (one_less (depth_of t) r low) (rises_of t (follow t field table) fewer r m past)) known
+  has (each t field table) zero q low h = absurd (none_above (depth_of t) low)
   has (each t field table) (suc r) q low (m, past, more, known) =
       let fewer = λ (n : Key → Option Outcome) (p : Key → Option Outcome) (k : Known p (waits n (each t field table))). known_left p (waits n t)
       (waits_after (answer n t) (λ a. targets_waits n (targets_in table (picked field a)))) k in
       follow_has m q more t (λ a. targets_answer q (targets_in table (picked field a))) (λ a. targets_waits m (targets_in table (picked field a)))
       (λ a. targets_have m q more (targets_in table (picked field a)))
-      (has t r m (omega arith) (rises_of t (each t field table) fewer r m past)) known
+      (has t r m (one_less (depth_of t) r low) (rises_of t (each t field table) fewer r m past)) known
   has (all ts) r q low h = has_map gathered (answers q ts) (all_have ts r q low h)
 
   all_have : (ts : Trees) (r : ℕ) (q : Key → Option Outcome) → depth_of_all ts ≤ r → Rises (all ts) r q → (ls : List Answer) × (answers q ts ≡ Some ls)
   all_have no_trees r q low h = ([], refl)
   all_have (tree t ts) r q low h =
       has_both (answer q t) (answers q ts)
-      (has t r q (omega arith) (rises_of t (all (tree t ts)) (λ m p k. known_left p (waits m t) (all_wait m ts) k) r q h))
-      (all_have ts r q (omega arith) (rises_of (all ts) (all (tree t ts)) (λ m p k. known_right p (waits m t) (all_wait m ts) k) r q h))
+      (has t r q (left_below (depth_of t) (depth_of_all ts) r low) (rises_of t (all (tree t ts)) (λ m p k. known_left p (waits m t) (all_wait m ts) k) r q h))
+      (all_have ts r q (right_below (depth_of t) (depth_of_all ts) r low) (rises_of (all ts) (all (tree t ts)) (λ m p k. known_right p (waits m t) (all_wait m ts) k) r q h))
 
 rises : (t : Tree) (r : ℕ) (p q : Pairs) → GainsFrontier t r p q → Rises t r (outcome_in q)
 rises t zero p q e = tt

@@ -12,7 +12,7 @@ use std::mem;
 
 /// What is left of a term, with the answers of the parts that have ended. A run of a term holds one,
 /// made by [`plan`] and rewritten in place by [`explore`](crate::explore), once a round.
-#[derive(Debug, Drop)]
+#[derive(Drop)]
 pub enum Node {
     /// It has ended.
     Done(Answer),
@@ -48,12 +48,10 @@ impl Node {
         ensures answer { result ≡ result_of (node_view self.old) }
         ensures kept { result ≡ None → self.new ≡ self.old }
     {
-        match mem::replace(self, HOLLOW) {
-            Node::Done(answer) => Some(answer),
-            node => {
-                *self = node;
-                None
-            }
+        if self.has_ended() {
+            mem::replace(self, HOLLOW).into_answer()
+        } else {
+            None
         }
     }
 

@@ -15,7 +15,7 @@ use dl_desk::{FetchKey, Json, Text};
 /// wants. With 8 MiB of stack and an unoptimised build, a chain of picks was explored at a height of
 /// 700 and ran out of stack at 1,000; planning it held at 1,500, dropping it at 5,000 and counting
 /// its depth and height at 7,000. Whoever takes terms from strangers bounds their height.
-#[derive(Debug, Drop)]
+#[derive(Drop)]
 pub enum Term {
     /// A value.
     Value(Json),

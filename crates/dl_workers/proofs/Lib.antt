@@ -4,3 +4,4 @@ mod Finish
 mod Jobs
 mod Steps
 mod Totals
+mod Working

@@ -4,3 +4,4 @@ pub mod QueueFaults
 pub mod Seats
 pub mod Balance
 pub mod Ending
+pub mod Worked

@@ -19,12 +19,16 @@
 
 mod ending;
 mod fault;
+mod gate;
 mod queue;
 mod rule;
 mod seating;
 mod seats;
+mod worker;
 
 pub use ending::{end_job, end_jobs};
 pub use fault::QueueFault;
+pub use gate::{Gate, NoGate};
 pub use queue::{JobQueue, LARGEST_CAPACITY, MOST_SEATS, Tally};
 pub use seats::{Sender, Taker};
+pub use worker::{WorkerEnd, work};

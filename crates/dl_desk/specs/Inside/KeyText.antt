@@ -1,17 +1,20 @@
--- The two texts of a key as one, and where it is cut.
-use Rattle.std.specs.Prelude.{ℕ, List, ◌++◌, take, drop}
+-- The two texts of a key as one.
+use Rattle.std.specs.Prelude.{◌≡◌, ℕ, List, [], ◌∷◌, ◌++◌, length, take, drop}
 use Rattle.std.specs.Str.{IsCharBoundary}
 use Rattle.dl_desk.specs.Key.{Key, IsKey}
 
--- the table, and right after it the id
-abbrev pub joined : Key → List ℕ
-joined k = k.table ++ k.id
+-- how many bytes the table has, then the table, then the id
+abbrev pub marked : Key → List ℕ
+marked k = length k.table ∷ (k.table ++ k.id)
 
--- the key of a text whose table is its first bytes, as many as said
-abbrev pub split : List ℕ → ℕ → Key
-split text count = record { table = take count text; id = drop count text }
+-- the key of such a text
+abbrev pub unmarked : List ℕ → Key
+unmarked [] = record { table = []; id = [] }
+unmarked (count ∷ text) = record { table = take count text; id = drop count text }
 
--- The text may be cut there, between two characters, and what it is cut into is a key.
-pub record IsSplit (text : List ℕ) (count : ℕ) : Type 0 where
-  pub boundary : IsCharBoundary text count
-  pub key : IsKey (split text count)
+-- The text is that of a key. It may be cut after its first byte, and then after the table.
+pub record IsMarked (text : List ℕ) : Type 0 where
+  pub own : marked (unmarked text) ≡ text
+  pub mark : IsCharBoundary text 1
+  pub seam : IsCharBoundary (drop 1 text) (length (unmarked text).table)
+  pub key : IsKey (unmarked text)

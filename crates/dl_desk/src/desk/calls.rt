@@ -155,6 +155,7 @@ impl Desk {
         self.discard();
         let jobs = self.jobs(alloc)?;
         self.prepared.sent = self.prepared.begun;
+        self.is_prepared = true;
         Ok(jobs)
     }
 

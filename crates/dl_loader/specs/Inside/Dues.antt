@@ -4,8 +4,12 @@ use Rattle.std.specs.Option.{option_or}
 use Rattle.dl_desk.specs.Key.{Key}
 use Rattle.dl_desk.specs.History.{Atom}
 use Rattle.dl_desk.specs.Calls.{unfit}
+use Rattle.dl_desk.specs.declared.outcome.BatchAnswer.{BatchAnswer}
+use Rattle.dl_desk.specs.declared.outcome.BatchAnswer.TheVariants.{Each, Break}
 use Rattle.dl_desk.specs.declared.outcome.Outcome.{Outcome}
 use Rattle.dl_desk.specs.declared.outcome.Outcome.TheVariants.{BatchFailed}
+use Rattle.dl_desk.specs.declared.reply.End.{End}
+use Rattle.dl_desk.specs.declared.reply.End.TheVariants.{Settled, Failed}
 use Rattle.dl_loader.specs.declared.due_endings.Due.{Due}
 use Rattle.dl_history.specs.declared.event.Call.{Call}
 use Rattle.dl_history.specs.declared.event.Call.TheVariants.{Settle, Fail}
@@ -19,6 +23,11 @@ use Rattle.dl_loader.specs.Refusals.{call_fault, same_keys}
 -- The refusal of an end of a batch by a job with these keys: the batch may not end, or its keys are others.
 abbrev pub end_refusal : List Atom → ℕ → List Key → Option CallFault
 end_refusal history b keys = option_or (option_map call_fault (unfit history b)) (if same_keys keys (keys_of history b) then None else Some WrongKeys)
+
+-- how an answer of its source ends a batch
+abbrev pub end_as : BatchAnswer → End
+end_as (Each os) = Settled
+end_as (Break text) = Failed
 
 -- the outcome that the end of a batch brings its member at a place
 abbrev pub outcome_by : Call → ℕ → Option Outcome

@@ -3,40 +3,23 @@
 ghost use Rattle.std.specs.Prelude.{◌≡◌, ◌<◌, ◌≤◌, IfNone, IfSome, MatchBool, None, length};
 ghost use Rattle.dl_desk.specs.Events.{atoms};
 ghost use Rattle.dl_desk.specs.History.{begun, end_of};
-ghost use Rattle.dl_history.specs.Agrees.{Meets, unshown};
 ghost use Rattle.dl_history.specs.History.{AllEnded, HasEnd, log};
 ghost use Rattle.dl_history.specs.Kept.{kept};
-ghost use Rattle.dl_history.specs.Lists.{Every};
 ghost use Rattle.dl_loader.specs.Book.{kept_of};
-ghost use Rattle.dl_loader.specs.Closing.{IsFirstOpen, IsLeastOf, accounts_of};
+ghost use Rattle.dl_loader.specs.Closing.{IsFirstOpen};
 
 use crate::book::Book;
-use crate::loader::unshown::least_unshown;
-use crate::pass::Pass;
 use dl_desk::{BatchState, Desk};
-use dl_history::{Entry, Journal, LoaderName, Rows};
+use dl_history::{Journal, LoaderName, Rows};
 use std::sync::ledger::Share;
 
 impl<L: LoaderName> Book<L> {
-    /// How many events there are.
-    pub(crate) fn len(&self) -> usize
-        ensures { result ≡ length self.now.history }
+    /// The journal, which has the history and the cells.
+    pub(crate) fn journal(&self) -> &Journal<L>
+        ensures history { result.now.history ≡ self.now.history }
+        ensures cells { result.now.cells ≡ self.now.cells }
     {
-        self.journal.len()
-    }
-
-    /// What the book has at the entries' places, or of their cells, is what the entries tell.
-    pub(crate) fn agree(&self, entries: &[Entry<L>])
-        ensures { Every (Meets self.now.history self.now.cells) entries.now }
-    {
-        self.journal.agree(entries);
-    }
-
-    /// The least cell that refused its outcome and of which one of the passes has an entry.
-    pub(crate) fn unshown(&self, passes: &[Pass<L>]) -> Option<u32>
-        ensures { IsLeastOf result (unshown self.now.cells (accounts_of passes.now)) }
-    {
-        least_unshown(&self.journal, passes)
+        &self.journal
     }
 
     /// The least batch that has not ended, sent or not.

@@ -4,7 +4,6 @@ ghost use Rattle.std.specs.Prelude.{◌≡◌, ◌+◌, IfErr, IfOk, None, OnErr
 ghost use Rattle.dl_history.specs.declared.event.Call.TheVariants as made;
 ghost use Rattle.dl_history.specs.declared.event.Reply.TheVariants as reply;
 ghost use Rattle.dl_loader.specs.EventReplies.{refused_by, told_by};
-ghost use Rattle.dl_history.specs.History.{primed};
 ghost use Rattle.dl_history.specs.Journal.{refusals};
 ghost use Rattle.dl_loader.specs.Made.{Makes};
 ghost use Rattle.dl_loader.specs.Refusals.{IsRefusal, refusal};
@@ -14,7 +13,7 @@ use crate::fault::CallFault;
 use crate::pass::Pass;
 use crate::reply::PrimeReply;
 use dl_desk::{DeskPrime, FetchKey, Job, Outcome};
-use dl_history::{Call, Ending, Event, Jobs, LoaderName, Reply, Rows};
+use dl_history::{Call, Ending, Event, LoaderName, Reply, Rows};
 use std::alloc::{AllocError, Global};
 
 impl<L: LoaderName> Book<L> {
@@ -91,12 +90,7 @@ impl<L: LoaderName> Book<L> {
     {
         self.admit(rows, pass)?;
         let jobs = self.desk.prepare_dispatch(alloc)?;
-        let event = Event {
-            caller: pass.caller(),
-            call: Call::Dispatch,
-            reply: Reply::Sent(Jobs::copy_of(alloc, jobs.as_slice())?),
-        };
-        pass.make_event(alloc, rows, &mut self.journal, event, 0, 0)?;
+        pass.make_dispatch(alloc, rows, &mut self.journal, jobs.as_slice())?;
         self.desk.make_prepared();
         Ok(jobs)
     }
@@ -121,37 +115,22 @@ impl<L: LoaderName> Book<L> {
         ensures unchanged { OnErr result ((self.new ≡ self.old) × (pass.new.part ≡ pass.old.part)) }
     {
         self.admit(rows, pass)?;
-        let call = Call::Prime(key.try_copy()?, outcome.try_copy()?);
-        let primed = self.desk.prepare_prime(key)?;
-        let event = Event {
-            caller: pass.caller(),
-            call,
-            reply: prime_reply(primed),
-        };
-        match primed {
+        match self.desk.prepare_prime(key)? {
             DeskPrime::Kept => {
-                pass.make_event(alloc, rows, &mut self.journal, event, 0, 0)?;
+                let primed = DeskPrime::Kept;
+                pass.make_prime(alloc, rows, &mut self.journal, key, outcome, primed)?;
                 self.desk.make_prepared();
                 Ok(PrimeReply::Kept)
             }
             DeskPrime::Primed(cell) => {
                 let ending = new_ending(alloc, self.journal.next_place(rows), outcome)?;
-                pass.make_event(alloc, rows, &mut self.journal, event, 1, 0)?;
+                let primed = DeskPrime::Primed(cell);
+                pass.make_prime(alloc, rows, &mut self.journal, key, outcome, primed)?;
                 self.desk.make_prepared();
                 let shown = self.journal.end(rows, cell, ending);
                 Ok(PrimeReply::Primed { cell, shown })
             }
         }
-    }
-}
-
-// The desk's reply to a prime, as the history has it.
-fn prime_reply(reply: DeskPrime) -> Reply
-    ensures { result ≡ primed reply }
-{
-    match reply {
-        DeskPrime::Primed(cell) => Reply::Primed(cell),
-        DeskPrime::Kept => Reply::Kept,
     }
 }
 

@@ -9,11 +9,11 @@ ghost use Rattle.dl_loader.specs.Refusals.{IsRefusal, refusal};
 
 use crate::book::Book;
 use crate::fault::CallFault;
-use crate::load_replies::{add_tickets, begun_by, new_cells};
+use crate::load_replies::{add_tickets, begun_by};
 use crate::pass::Pass;
 use crate::ticket::load_cell;
-use dl_desk::{FetchKey, Keys, LoadReply};
-use dl_history::{Call, Event, LoaderName, Replies, Reply, Rows};
+use dl_desk::{FetchKey, LoadReply};
+use dl_history::{Call, Event, LoaderName, Reply, Rows};
 use std::alloc::Global;
 
 impl<L: LoaderName> Book<L> {
@@ -68,13 +68,7 @@ impl<L: LoaderName> Book<L> {
         self.admit(rows, pass)?;
         let replies = self.desk.prepare_loads(alloc, keys)?;
         let loads = replies.as_slice();
-        let event = Event {
-            caller: pass.caller(),
-            call: Call::LoadMany(Keys::copy_of(alloc, keys)?),
-            reply: Reply::Many(Replies::copy_of(alloc, loads)?),
-        };
-        let cells = new_cells(rows, loads);
-        pass.make_event(alloc, rows, &mut self.journal, event, cells, loads.len())?;
+        pass.make_loads(alloc, rows, &mut self.journal, keys, loads)?;
         self.desk.make_prepared();
         add_tickets(pass, loads);
         Ok(replies)

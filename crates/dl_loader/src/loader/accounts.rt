@@ -57,7 +57,7 @@ fn gather<L: LoaderName>(book: &Book<L>, passes: Vec<Pass<L>>) -> Option<Share<L
 {
     let mut all = None;
     for pass in passes {
-        book.agree(pass.entries());
+        book.journal().agree(pass.entries());
         all = Some(joined(all, pass.into_share()));
     }
     all

@@ -10,6 +10,7 @@ use crate::book::Book;
 use crate::fault::CloseFault;
 use crate::loader::Loader;
 use crate::loader::accounts::{accounts_of, history_of};
+use crate::loader::unshown::least_unshown;
 use crate::pass::Pass;
 use dl_history::{Account, History, LoaderName, Rows};
 use std::alloc::Global;
@@ -87,12 +88,13 @@ fn check<L: LoaderName>(
     if got < callers {
         return Err(CloseFault::PassesMissing { want: callers, got });
     }
-    let len = book.len();
+    let journal = book.journal();
+    let len = journal.len();
     if let Some((_, front)) = behind(len, passes) {
         let len = len as u32;
         return Err(CloseFault::Behind { front, len });
     }
-    if let Some(cell) = book.unshown(passes) {
+    if let Some(cell) = least_unshown(journal, passes) {
         return Err(CloseFault::Unshown { cell });
     }
     match book.open_batch(rows) {

@@ -4,18 +4,23 @@ ghost use Rattle.std.specs.Prelude.{◌≡◌, ℕ, List, IsSome, ◌+◌, ◌<�
 ghost use Rattle.std.specs.List.{repeat};
 ghost use Rattle.dl_loader.specs.declared.fault.CallFault.TheVariants.{LogRefused, OutOfMemory};
 ghost use Rattle.dl_loader.specs.declared.due_endings.Due.{Due};
-ghost use Rattle.dl_history.specs.declared.event.Reply.TheVariants.{Done};
+ghost use Rattle.dl_history.specs.declared.event.Call.TheVariants.{Dispatch, LoadMany, Prime};
+ghost use Rattle.dl_history.specs.declared.event.Reply.TheVariants.{Done, Many, Sent};
+ghost use Rattle.dl_loader.specs.Inside.Begun.{cells_begun, cells_primed};
 ghost use Rattle.dl_loader.specs.Inside.Dues.{AreDue, AreGiven, CanEnd, outcome_by};
 ghost use Rattle.dl_history.specs.Entries.{front_of};
+ghost use Rattle.dl_history.specs.History.{primed};
 ghost use Rattle.dl_history.specs.Journal.{refusals, waiting};
 ghost use Rattle.dl_loader.specs.Made.{event_of, with_event};
 ghost use Rattle.dl_loader.specs.Pass.{with_call};
 
 use crate::due_endings::{dues, give};
 use crate::fault::CallFault;
+use crate::load_replies::new_cells;
 use crate::pass::Pass;
 use crate::reply::Settled;
-use dl_history::{Call, Entry, Event, Journal, LoaderName, Reply, Rows};
+use dl_desk::{DeskPrime, FetchKey, Job, Keys, LoadReply, Outcome};
+use dl_history::{Call, Entry, Event, Jobs, Journal, LoaderName, Replies, Reply, Rows};
 use std::alloc::Global;
 
 impl<L: LoaderName> Pass<L> {
@@ -80,6 +85,99 @@ impl<L: LoaderName> Pass<L> {
         Ok(())
     }
 
+    /// Adds the event of loads that the desk replied to so, with the cells that they begin, and makes room for a ticket
+    /// for each.
+    ///
+    /// # Errors
+    /// As [`make_event`](Pass::make_event).
+    pub(crate) fn make_loads(
+        &mut self,
+        alloc: Global,
+        rows: &Rows<L>,
+        journal: &mut Journal<L>,
+        keys: &[FetchKey],
+        replies: &[LoadReply],
+    ) -> Result<(), CallFault>
+        requires room { length journal.old.history < L.service.rules.limits.max_calls }
+        requires cells_room { length journal.old.cells + cells_begun replies.now ≤ L.service.rules.limits.max_cells }
+        requires after { front_of self.old.part.entries ≤ length journal.old.history }
+        ensures history { OnOk result (journal.new.history ≡ journal.old.history ++ event_of self.old.part (LoadMany keys.now) (Many replies.now) ∷ []) }
+        ensures cells { OnOk result (journal.new.cells ≡ journal.old.cells ++ repeat (cells_begun replies.now) (waiting ∷ [])) }
+        ensures part { OnOk result (self.new.part ≡ with_call self.old.part (length journal.old.history) (event_of self.old.part (LoadMany keys.now) (Many replies.now))) }
+        ensures room { OnOk result (length replies.now ≤ self.new.spare) }
+        ensures below { self.old.part.caller < L.service.callers }
+        ensures unchanged { OnErr result ((journal.new.history ≡ journal.old.history) × (journal.new.cells ≡ journal.old.cells) × (self.new.part ≡ self.old.part)) }
+        ensures fault { IfErr result (λ fault. (fault ≡ OutOfMemory) ⊎ (fault ≡ LogRefused)) }
+    {
+        let event = Event {
+            caller: self.caller(),
+            call: Call::LoadMany(Keys::copy_of(alloc, keys)?),
+            reply: Reply::Many(Replies::copy_of(alloc, replies)?),
+        };
+        let cells = new_cells(rows, replies);
+        self.make_event(alloc, rows, journal, event, cells, replies.len())
+    }
+
+    /// Adds the event of a prime that the desk replied to so, with the cell that it begins.
+    ///
+    /// # Errors
+    /// As [`make_event`](Pass::make_event).
+    pub(crate) fn make_prime(
+        &mut self,
+        alloc: Global,
+        rows: &Rows<L>,
+        journal: &mut Journal<L>,
+        key: &FetchKey,
+        outcome: &Outcome,
+        reply: DeskPrime,
+    ) -> Result<(), CallFault>
+        requires room { length journal.old.history < L.service.rules.limits.max_calls }
+        requires cells_room { length journal.old.cells + cells_primed reply ≤ L.service.rules.limits.max_cells }
+        requires after { front_of self.old.part.entries ≤ length journal.old.history }
+        ensures history { OnOk result (journal.new.history ≡ journal.old.history ++ event_of self.old.part (Prime key.now outcome.now) (primed reply) ∷ []) }
+        ensures cells { OnOk result (journal.new.cells ≡ journal.old.cells ++ repeat (cells_primed reply) (waiting ∷ [])) }
+        ensures part { OnOk result (self.new.part ≡ with_call self.old.part (length journal.old.history) (event_of self.old.part (Prime key.now outcome.now) (primed reply))) }
+        ensures below { self.old.part.caller < L.service.callers }
+        ensures unchanged { OnErr result ((journal.new.history ≡ journal.old.history) × (journal.new.cells ≡ journal.old.cells) × (self.new.part ≡ self.old.part)) }
+        ensures fault { IfErr result (λ fault. (fault ≡ OutOfMemory) ⊎ (fault ≡ LogRefused)) }
+    {
+        let event = Event {
+            caller: self.caller(),
+            call: Call::Prime(key.try_copy()?, outcome.try_copy()?),
+            reply: prime_reply(reply),
+        };
+        self.make_event(alloc, rows, journal, event, cells_primed(reply), 0)
+    }
+
+    /// Adds the event of a dispatch that sends these jobs.
+    ///
+    /// # Errors
+    /// As [`make_event`](Pass::make_event).
+    pub(crate) fn make_dispatch(
+        &mut self,
+        alloc: Global,
+        rows: &Rows<L>,
+        journal: &mut Journal<L>,
+        jobs: &[Job],
+    ) -> Result<(), CallFault>
+        requires room { length journal.old.history < L.service.rules.limits.max_calls }
+        requires cells_room { length journal.old.cells ≤ L.service.rules.limits.max_cells }
+        requires after { front_of self.old.part.entries ≤ length journal.old.history }
+        ensures history { OnOk result (journal.new.history ≡ journal.old.history ++ event_of self.old.part Dispatch (Sent jobs.now) ∷ []) }
+        ensures cells { OnOk result (journal.new.cells ≡ journal.old.cells) }
+        ensures part { OnOk result (self.new.part ≡ with_call self.old.part (length journal.old.history) (event_of self.old.part Dispatch (Sent jobs.now))) }
+        ensures below { self.old.part.caller < L.service.callers }
+        ensures unchanged { OnErr result ((journal.new.history ≡ journal.old.history) × (journal.new.cells ≡ journal.old.cells) × (self.new.part ≡ self.old.part)) }
+        ensures fault { IfErr result (λ fault. (fault ≡ OutOfMemory) ⊎ (fault ≡ LogRefused)) }
+    {
+        let event = Event {
+            caller: self.caller(),
+            call: Call::Dispatch,
+            reply: Reply::Sent(Jobs::copy_of(alloc, jobs)?),
+        };
+        self.make_event(alloc, rows, journal, event, 0, 0)
+    }
+
     /// Adds an event of this caller that ends a batch whose members have these cells, gives each of them its
     /// outcome, and tells how they took it.
     ///
@@ -118,6 +216,26 @@ impl<L: LoaderName> Pass<L> {
         self.make_event(alloc, rows, journal, event, 0, 0)?;
         let refused = give(journal, rows, dues);
         Ok(settled(rows, cells.len(), refused))
+    }
+}
+
+// The desk's reply to a prime, as the history has it.
+fn prime_reply(reply: DeskPrime) -> Reply
+    ensures { result ≡ primed reply }
+{
+    match reply {
+        DeskPrime::Primed(cell) => Reply::Primed(cell),
+        DeskPrime::Kept => Reply::Kept,
+    }
+}
+
+// How many cells a prime begins.
+fn cells_primed(reply: DeskPrime) -> u32
+    ensures { result ≡ cells_primed reply }
+{
+    match reply {
+        DeskPrime::Primed(_) => 1,
+        DeskPrime::Kept => 0,
     }
 }
 

@@ -1,27 +1,17 @@
-//! What the rows of calls share: calls with their answers, and what is asked of a history.
+//! What the tests with threads share: calls with their answers, and what is asked of a history.
 
 ghost use Rattle.std.specs.Prelude.{◌≡◌, IsSome, OnOk};
 ghost use Rattle.dl_history.specs.Service.{Answers};
 
-use dl_desk::{FetchKey, Job, LoadReply};
+use dl_desk::{FetchKey, Job};
 use dl_fixtures::outcome_text;
-use dl_loader::{
-    Call, CloseFault, Entry, EntryKind, GiveUp, History, Loader, LoaderName, Pass, Settled, Ticket,
-};
+use dl_loader::{Call, History, Loader, LoaderName, Pass, Settled, Ticket};
 use dl_source::{Source, fetch_job};
 use std::alloc::Global;
 use std::process::Abort;
 use std::slice;
 use std::sync::Wait;
 use std::test::Fail;
-
-/// The row of the user `u1`.
-pub(super) const ADA: &str = r#"{"best":"u2","friends":["u2","u3"],"name":"Ada"}"#;
-
-/// The key of a user.
-pub(super) fn user(alloc: Global, id: &str) -> Result<FetchKey, Fail> {
-    Ok(FetchKey::new(alloc, "user", id)?)
-}
 
 /// Sends the only batch that waits to be sent, which is the first, with this key.
 pub(super) fn only_job<L: LoaderName, R: Abort + Wait>(
@@ -88,23 +78,6 @@ pub(super) fn end_only_job<L: LoaderName, S: Source, R: Abort + Wait>(
     settle_job(rt, alloc, source, loader, pass, job)
 }
 
-/// Fails a job of one key for want of memory.
-pub(super) fn fail_job<L: LoaderName, R: Abort + Wait>(
-    rt: &R,
-    alloc: Global,
-    loader: &Loader<L>,
-    pass: &mut Pass<L>,
-    job: Job,
-) -> Result<(), Fail> {
-    match loader.fail(rt, alloc, pass, job, GiveUp::Memory) {
-        Ok(settled) => {
-            assert_one_shown(rt, settled);
-            Ok(())
-        }
-        Err((fault, _)) => Err(fault.into()),
-    }
-}
-
 /// The one cell of a batch shows its outcome.
 fn assert_one_shown(rt: &impl Abort, settled: Settled) {
     assert_eq!(rt;
@@ -132,49 +105,6 @@ pub(super) fn assert_shows<L: LoaderName>(
     };
     assert_eq!(rt; outcome_text(alloc, outcome)?.as_str(), want);
     Ok(())
-}
-
-/// The tickets have these replies.
-pub(super) fn assert_replies<L: LoaderName>(
-    rt: &impl Abort,
-    tickets: &[Ticket<'_, L>],
-    want: &[LoadReply],
-) {
-    assert_eq!(rt; tickets.len(), want.len());
-    for (ticket, want) in tickets.iter().zip(want.iter()) {
-        assert_eq!(rt; ticket.reply(), *want);
-    }
-}
-
-/// The entries are of these kinds.
-pub(super) fn assert_entries<L: LoaderName>(
-    rt: &impl Abort,
-    entries: &[Entry<L>],
-    want: &[EntryKind],
-) {
-    assert_eq!(rt; entries.len(), want.len());
-    for (entry, want) in entries.iter().zip(want.iter()) {
-        assert_eq!(rt; entry.kind(), *want);
-    }
-}
-
-/// A close of the loader with these passes is refused so. The loader and the passes come back.
-pub(super) fn not_closed<L: LoaderName>(
-    rt: &impl Abort,
-    alloc: Global,
-    loader: Loader<L>,
-    passes: Vec<Pass<L>>,
-    want: CloseFault,
-) -> Result<(Loader<L>, Vec<Pass<L>>), Fail> {
-    let count = passes.len();
-    match loader.close(alloc, passes) {
-        Ok(_history) => Err("the loader was closed".into()),
-        Err((fault, loader, passes)) => {
-            assert_eq!(rt; fault, want);
-            assert_eq!(rt; passes.len(), count);
-            Ok((loader, passes))
-        }
-    }
 }
 
 /// The history has one batch, which has this key alone.

@@ -5,7 +5,9 @@ ghost use Rattle.dl_history.specs.Service.{Answers};
 ghost use Rattle.dl_loader.specs.Opening.{Names};
 ghost use Rattle.dl_loader.specs.Pass.{GaveTicket};
 
-use super::steps::{ADA, assert_ends, assert_shows, end_only_job, user};
+use super::keys::user;
+use super::step::ADA;
+use super::steps::{assert_ends, assert_shows, end_only_job};
 use dl_desk::{FetchKey, LoadReply};
 use dl_loader::laws::looks_agree;
 use dl_loader::{CallFault, EntryKind, History, Loader, LoaderName, Opening, Pass, Reply, Ticket};

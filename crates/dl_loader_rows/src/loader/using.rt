@@ -4,7 +4,8 @@ ghost use Rattle.std.specs.Prelude.{◌≡◌};
 ghost use Rattle.dl_history.specs.Service.{Answers};
 ghost use Rattle.dl_loader.specs.Opening.{Names};
 
-use super::steps::{ADA, assert_only_batch};
+use super::step::ADA;
+use super::steps::assert_only_batch;
 use dl_desk::FetchKey;
 use dl_fixtures::outcome_text;
 use dl_loader::{CallFault, EntryKind, History, Loader, LoaderName, MOST_CALLERS, Opening, Pass};

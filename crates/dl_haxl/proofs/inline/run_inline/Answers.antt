@@ -1,76 +1,18 @@
-use Rattle.std.proofs.Common.{◌≡◌, ◌∙◌, ap, sym, subst, refl, ◌+◌, List, ◌++◌, arith}
-use Rattle.dl_history.specs.Entries.{Line}
-use Rattle.dl_history.specs.Service.{Service}
-use Rattle.dl_desk.specs.declared.reply.Job.{Job}
-use Rattle.dl_loader.specs.Added.{Adds}
-use Rattle.dl_loader.proofs.AddedLemmas.{grows_after}
+use Rattle.std.specs.Prelude.{◌≤◌, ℕ, IfOk, Ok, Err, Result}
+use Rattle.dl_terms.specs.Tree.{Tree, depth_of}
 use Rattle.dl_terms.specs.View.{term_view}
-use Rattle.dl_haxl.specs.Pairs.{all_show, outcomes_shown, paired}
-use Rattle.dl_haxl.specs.Run.{Answers, asked_by, wanted_by}
+use Rattle.dl_terms.specs.declared.answer.Answer.{Answer}
+use Rattle.dl_haxl.specs.Run.{IsRunOf, Run}
 use Rattle.dl_haxl.specs.Seen.{seen}
-use Rattle.dl_haxl.specs.Stretch.{Evaluates, InlineEnds, Round, Rounds}
-use Rattle.dl_haxl.proofs.RoundMade.{on_err}
-use Rattle.dl_haxl.proofs.Stretched.{learned_now, rounds_next, rounds_within, run_ends, wants_now, with_supplied}
+use Rattle.dl_haxl.specs.declared.fault.RunFault.{RunFault}
 use Rattle.dl_haxl.proofs.inline.run_inline.Goals as goal
 
-pub returns-in-Ready-Ok-clause-evaluates : goal.returns-in-Ready-Ok-clause-evaluates
-returns-in-Ready-Ok-clause-evaluates g c =
-    let s : Service = g.L.LoaderName.service in
-    let old = c.args.pass.now.part in
-    let kept = c.loop.invariant in
-    let given : Answers (seen c.loop.run) (seen c.advance.new.self) c.in-Ready-Ok.answer = rw c.in-Ready-Ok.field-0-is at c.in-Ready-Ok.ensures.answer in
-    let ends : List Job → List Line → Type 0 = InlineEnds s old.caller in
-    let t = term_view c.args.term in
-    let evaluated = run_ends ends old.caller t c.loop.rounds old c.loop.pass.part (seen c.loop.run) (seen c.advance.new.self)
-    c.in-Ready-Ok.answer kept.stretch kept.shown c.in-Ready-Ok.ensures.tickets given kept.run in
-    subst (λ a. Adds old c.loop.pass.part (λ lines. Evaluates ends old.caller t lines a c.loop.rounds)) (sym c.in-Ready-Ok.answer-is) evaluated
+-- what holds of each term that a run is of holds of its own
+of_own : (r : Result (Answer × ℕ) RunFault) (t : Tree) (run : Run) → IsRunOf t run
+    → IfOk r (λ x. (u : Tree) → IsRunOf u run → x.1 ≤ depth_of u) → IfOk r (λ x. x.1 ≤ depth_of t)
+of_own (Ok x) t run is few = few t is
+of_own (Err fault) t run is few = tt
 
-pub returns-in-Ready-Ok-clause-rounds : goal.returns-in-Ready-Ok-clause-rounds
-returns-in-Ready-Ok-clause-rounds g c =
-    let s : Service = g.L.LoaderName.service in
-    let caller = c.args.pass.now.part.caller in
-    let stretch = c.loop.invariant.stretch in
-    rounds_within (InlineEnds s caller) caller (term_view c.args.term) c.gives_by_depth.ensures c.loop.rounds stretch.1
-    (with_supplied (seen c.loop.run)) stretch.3
-
-pub returns-in_err-tickets-clause-grows : goal.returns-in_err-tickets-clause-grows
-returns-in_err-tickets-clause-grows g c =
-    let stretch = c.loop.invariant.stretch in
-    on_err c.from_residual-in_err-tickets.result
-    (grows_after c.args.pass.now.part c.loop.pass.part c.round.new.pass.part (stretch.0, stretch.1, stretch.2) c.in_err-tickets.ensures.grows)
-
-pub loop-preserved : goal.loop-preserved
-loop-preserved g c =
-    let s : Service = g.L.LoaderName.service in
-    let old = c.args.pass.now.part in
-    let now = c.loop.pass.part in
-    let new = c.round.new.pass.part in
-    let caller = old.caller in
-    let t = term_view c.args.term in
-    let n = c.loop.rounds in
-    let ends : List Job → List Line → Type 0 = InlineEnds s caller in
-    let kept = c.loop.invariant in
-    let before = seen c.loop.run in
-    let after = seen c.advance.new.self in
-    let last = seen c.supply.new.self in
-    let wants = wants_now before after kept.shown c.in-Pending.ensures.tickets c.in-Pending.ensures.waits in
-    let learned = learned_now before after kept.shown c.in-Pending.ensures.tickets wants.learns in
-    let outcomes = outcomes_shown c.in_ok-tickets.tickets.items in
-    let start = subst (λ ps. Adds old now (λ lines. Rounds ends caller t n lines ps)) (sym learned) kept.stretch in
-    let round = subst (λ who. Adds now new (λ lines. Round (InlineEnds s who) who (wanted_by after) lines outcomes)) kept.stretch.0
-    (subst (λ ks. Adds now new (λ lines. Round (InlineEnds s now.caller) now.caller ks lines outcomes)) c.wanted.ensures c.in_ok-tickets.ensures.round) in
-    let next = rounds_next ends caller t n old now new after.learned (wanted_by after) outcomes refl start round (wants.all t kept.run) wants.some in
-    let supplied : with_supplied last ≡ after.learned ++ paired (wanted_by after) outcomes =
-    ap (λ ps. ps ++ paired (asked_by last) (outcomes_shown last.tickets)) c.supply.ensures.learned
-    ∙ (ap (λ ks. after.learned ++ paired ks (outcomes_shown last.tickets)) (c.supply.ensures.asked wants.some)
-    ∙ ap (λ ts. after.learned ++ paired (wanted_by after) (outcomes_shown ts)) (c.supply.ensures.tickets wants.some)) in
-    let low = kept.front in
-    let high = c.in_ok-tickets.ensures.front in
-    record {
-      can_next = tt;
-      is_finite = tt;
-      run = c.supply.ensures.run t (c.in-Pending.ensures.waits.run t kept.run);
-      shown = ap all_show (c.supply.ensures.tickets wants.some) ∙ c.in_ok-tickets.ensures.shown;
-      stretch = subst (λ ps. Adds old new (λ lines. Rounds ends caller t (n + 1) lines ps)) (sym supplied) next;
-      front = omega (arith, low, high);
-    }
+pub returns-clause-rounds : goal.returns-clause-rounds
+returns-clause-rounds g c =
+    of_own c.evaluate.result (term_view c.args.term) (seen c.in_ok-run.run') c.in_ok-run.ensures.run c.evaluate.ensures.rounds

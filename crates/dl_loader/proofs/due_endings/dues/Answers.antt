@@ -7,7 +7,8 @@ loop-place-preserved c =
     let count = c.loop-place.invariant.count in
     record {
       count = search rules;
-      due = due_more c.args.call.now c.args.at c.loop-place.place c.args.cells.now c.loop-place.dues.items c.push.new.self.items c.in_ok-due.due
-          c.in_ok-outcome.outcome c.loop-place.invariant.due count c.loop-place-test.true c.in_ok-due.ensures.cell c.in_ok-outcome.ensures
-          c.in_ok-due.ensures.outcome c.in_ok-due.ensures.at c.in_ok-push.ensures.items;
+      room = rw c.push_reserved.ensures.capacity c.loop-place.invariant.room;
+      due = due_more c.args.call.now c.args.at c.loop-place.place c.args.cells.now c.loop-place.dues.items c.push_reserved.new.self.items c.in_ok-new.field-0
+          c.loop-place.invariant.due count c.loop-place-test.true c.in_ok-new.ensures.cell c.in_ok-new.ensures.outcome c.in_ok-new.ensures.at
+          c.push_reserved.ensures.items;
     }

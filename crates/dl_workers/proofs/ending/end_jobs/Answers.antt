@@ -1,7 +1,7 @@
 use Rattle.std.proofs.Common.{◌∙◌, Result, Ok, Err, OnErr, rules}
 use Rattle.std.proofs.lemmas.Iterator.Adapters.{YieldsList-from_vec}
 use Rattle.std.proofs.lemmas.Iterator.Consumers.{YieldsList-turn, YieldsList-so_far}
-use Rattle.dl_history.specs.Service.{Service, service}
+use Rattle.dl_history.specs.Service.{Service}
 use Rattle.dl_workers.proofs.Endings.{ended_before, ended_more}
 use Rattle.dl_workers.proofs.ending.end_jobs.Goals as goal
 

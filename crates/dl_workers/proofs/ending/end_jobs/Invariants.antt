@@ -1,5 +1,4 @@
 use Rattle.std.proofs.Common.{◌≡◌}
-use Rattle.dl_history.specs.Service.{service}
 use Rattle.dl_workers.specs.Ending.{WereEnded}
 use Rattle.dl_workers.proofs.ending.end_jobs.Given as goal
 

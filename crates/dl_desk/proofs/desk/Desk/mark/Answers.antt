@@ -22,7 +22,7 @@ marked c =
     }
 
 pub invariant_of-self : goal.invariant_of-self
-invariant_of-self c = desk_marked _ _ _ _ _ c.self.inside.prepared c.self.inside.shown c.self.inside.batches.items c.index_mut.result.now c.finish.new.self
+invariant_of-self c = desk_marked _ _ _ _ _ _ c.self.inside.prepared c.self.inside.shown c.self.inside.batches.items c.index_mut.result.now c.finish.new.self
     c.args.end c.self.invariant (marked c)
 
 pub returns : goal.returns

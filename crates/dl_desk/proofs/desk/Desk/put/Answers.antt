@@ -9,22 +9,22 @@ use Rattle.dl_desk.proofs.Prepares.{lookup-noted, members-taken, length-begun, l
 use Rattle.dl_desk.proofs.desk.Desk.put.Goals as goal
 
 pub invariant_of-self-in_err-batch : goal.invariant_of-self-in_err-batch
-invariant_of-self-in_err-batch c = desk_grown _ (length c.self.inside.memo.entries) _ _ _ _ _ c.self.inside.batches.items _ c.self.invariant
+invariant_of-self-in_err-batch c = desk_grown _ _ (length c.self.inside.memo.entries) _ _ _ _ _ c.self.inside.batches.items _ c.self.invariant
     c.in_err-batch.ensures.err (rw (c.in_ok-held.ensures.noted (ap Ok c.in_default.is), length-append) (let m = c.self.invariant.memo in omega arith))
 
-noted : (c : goal.After-self-4-1) → c.hold.new.memo.entries ≡ c.self.inside.memo.entries ++ (c.args.key.now, c.self.inside.prepared.cells) ∷ []
+noted : (c : goal.After-self-5-1) → c.hold.new.memo.entries ≡ c.self.inside.memo.entries ++ (c.args.key.now, c.self.inside.prepared.cells) ∷ []
 noted c = rw c.in_ok-try_copy.ensures at (c.in_ok-held.ensures.noted (ap Ok c.in_default.is))
 
-not_held : (c : goal.After-self-4-1) → lookup (key_eq c.args.key.now) c.self.inside.memo.entries ≡ None
+not_held : (c : goal.After-self-5-1) → lookup (key_eq c.args.key.now) c.self.inside.memo.entries ≡ None
 not_held c = rw c.in_ok-try_copy.ensures at (sym c.in_ok-held.ensures.held ∙ c.in_default.is)
 
-newest_low : (c : goal.After-self-4-1) → c.newest-newest.result ≤ c.self.inside.prepared.begun
+newest_low : (c : goal.After-self-5-1) → c.newest-newest.result ≤ c.self.inside.prepared.begun
 newest_low c = below_begun _ _ _ _ _ _ c.self.invariant.prepared_book c.newest-newest.ensures.low
 
-next : (c : goal.After-self-4-1) → c.in_ok-batch.batch ≤ c.self.inside.prepared.begun
+next : (c : goal.After-self-5-1) → c.in_ok-batch.batch ≤ c.self.inside.prepared.begun
 next c = low_choice _ c.self.inside.prepared.begun c.newest-newest.result c.in_ok-batch.batch (newest_low c) c.in_ok-batch.ensures.number
 
-room : (c : goal.After-self-4-1) → c.in_ok-batch.batch ≡ book_room c.args.self.now.prepared c.args.key.now
+room : (c : goal.After-self-5-1) → c.in_ok-batch.batch ≡ book_room c.args.self.now.prepared c.args.key.now
 room c =
     let inside = c.self.inside in
     let batches : List Batch = map whole inside.batches.items in
@@ -43,7 +43,7 @@ room c =
 
 pub invariant_of-self-3 : goal.invariant_of-self-3
 invariant_of-self-3 c = rw (c.max-self-inside.ensures, c.min-self-inside.ensures)
-    (desk_put _ (length c.self.inside.memo.entries) _ _ _ _ (c.args.key.now, c.self.inside.prepared.cells) c.self.inside.prepared _
+    (desk_put _ _ (length c.self.inside.memo.entries) _ _ _ _ (c.args.key.now, c.self.inside.prepared.cells) c.self.inside.prepared _
     c.self.inside.batches.items _ c.self.invariant c.in_ok-batch.ensures.added (next c)
     (rw (← c.self.view_is) at c.requires.not_full)
     (rw (noted c, length-append) (let m = c.self.invariant.memo in omega arith)))

@@ -1,10 +1,10 @@
 -- The joined texts are compared.
 use Rattle.std.proofs.Common.{◌≡◌, ◌∙◌}
 use Rattle.dl_desk.specs.Key.{key_eq}
-use Rattle.dl_desk.proofs.KeyTexts.{joined_eq-is}
+use Rattle.dl_desk.proofs.KeyTexts.{marked_eq-is}
 use Rattle.dl_desk.proofs.key.FetchKeyPartialEq.eq.Goals as goal
 
 pub returns : goal.returns
 returns c =
-    let is : c.eq.result ≡ key_eq c.deref.result.now c.deref-2.result.now = c.eq.ensures ∙ joined_eq-is c.deref.result.now c.deref-2.result.now in
+    let is : c.eq.result ≡ key_eq c.deref.result.now c.deref-2.result.now = c.eq.ensures ∙ marked_eq-is c.deref.result.now c.deref-2.result.now in
     rw (← c.self.view_is, ← c.other.view_is, ← c.deref.ensures, ← c.deref-2.ensures) is

@@ -8,7 +8,8 @@ use Rattle.dl_loader.proofs.loader.accounts.gather.Goals as goal
 pub loop-pass-preserved : goal.loop-pass-preserved
 loop-pass-preserved g c =
     let pass = c.in-Some.pass in
-    let meets = subst (λ (es : List Line). Every (Meets c.args.book.now.history c.args.book.now.cells) es) c.entries.ensures c.agree.ensures in
+    let meets = subst (λ (es : List Line). Every (Meets c.args.book.now.history c.args.book.now.cells) es) c.entries.ensures
+    (rw (c.journal.ensures.history, c.journal.ensures.cells) at c.agree.ensures) in
     let longer = length_more c.loop-pass.yielded pass c.into_share.result.parts c.into_share.ensures.one_part in
     record {
       can_next = tt;

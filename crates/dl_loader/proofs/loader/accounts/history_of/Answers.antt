@@ -1,9 +1,9 @@
-use Rattle.std.proofs.Common.{◌≡◌, ◌∙◌, ap, length, subst, sym}
+use Rattle.std.proofs.Common.{◌∙◌, ap, length, subst, sym}
 use Rattle.std.proofs.lemmas.List.{length-map}
-use Rattle.dl_history.specs.Closed.{Closed, IsClosed, closed}
+use Rattle.dl_history.specs.Closed.{IsClosed}
 use Rattle.dl_history.specs.Kept.{Kept, IsKept}
 use Rattle.dl_loader.specs.Book.{kept_of}
-use Rattle.dl_loader.specs.Closing.{account_of, accounts_of}
+use Rattle.dl_loader.specs.Closing.{account_of}
 use Rattle.dl_loader.proofs.AccountLemmas.{passes_count, all_parts, passes_closed, closed_told}
 use Rattle.dl_loader.proofs.loader.accounts.history_of.Goals as goal
 

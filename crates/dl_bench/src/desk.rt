@@ -1,0 +1,177 @@
+//! The workloads on a desk.
+
+use crate::command::{Calls, Ids};
+use crate::counts::Counts;
+use crate::keys::{fronted_key, key_of, keys_of, limits};
+use anyhow::Result;
+use dl_desk::{Desk, DeskFault, FetchKey, Limits};
+use std::alloc::Global;
+use std::hash::RandomState;
+use std::ops::Range;
+
+/// The most keys that can be loaded, cleared and loaded again on one desk, since each begins two
+/// cells.
+const LOADED_TWICE: u32 = 32_768;
+
+/// The front of ids of the table `trips` that all have one hash where keys are hashed by the kit's `FoldHasher`, which
+/// has a fixed seed. Of the 32 bytes that are read of such a key (the table's length, the table, the id) it first
+/// multiplies halves of the first 16 into its state. Then it joins that by xor with the next eight bytes, and multiplies
+/// by the last eight. Its state is spelled by those next eight bytes, so that the product is 0.
+const HOSTILE: &str = "hostileu7hlkD2YNg6";
+
+/// The front of ids that have hashes of their own.
+const HARMLESS: &str = "harmless to anyone";
+
+/// Loads keys one by one on a new desk, then dispatches.
+pub fn one_by_one(
+    alloc: Global,
+    hashing: RandomState,
+    counts: &mut Counts,
+    ids: Ids,
+    keys: u32,
+    batch: u32,
+) -> Result<()> {
+    let mut desk = Desk::new(alloc, hashing, limits(batch)?);
+    match ids {
+        Ids::Short => loads(alloc, &mut desk, counts, keys)?,
+        Ids::Hostile => fronted(alloc, &mut desk, counts, keys, HOSTILE)?,
+        Ids::Harmless => fronted(alloc, &mut desk, counts, keys, HARMLESS)?,
+    }
+    counts.jobs(&desk.dispatch(alloc)?);
+    Ok(())
+}
+
+/// Loads the keys of the first numbers.
+fn loads(alloc: Global, desk: &mut Desk, counts: &mut Counts, keys: u32) -> Result<()> {
+    for number in 0..keys {
+        let key = key_of(alloc, number)?;
+        counts.load(desk.load(alloc, &key)?);
+    }
+    Ok(())
+}
+
+/// Loads keys of which each id is the front and then the key's number in eight digits.
+fn fronted(
+    alloc: Global,
+    desk: &mut Desk,
+    counts: &mut Counts,
+    keys: u32,
+    front: &str,
+) -> Result<()> {
+    let mut id = String::new(alloc);
+    for number in 0..keys {
+        let key = fronted_key(alloc, &mut id, front, number)?;
+        counts.load(desk.load(alloc, &key)?);
+    }
+    Ok(())
+}
+
+/// Makes the keys, and then calls of a new desk.
+pub fn listed(
+    alloc: Global,
+    hashing: RandomState,
+    counts: &mut Counts,
+    calls: Calls,
+    keys: u32,
+    batch: u32,
+) -> Result<()> {
+    let limits = limits(batch)?;
+    let keys = keys_of(alloc, keys)?;
+    let mut desk = Desk::new(alloc, hashing, limits);
+    make_calls(alloc, &mut desk, counts, calls, &keys, limits)?;
+    Ok(())
+}
+
+fn make_calls(
+    alloc: Global,
+    desk: &mut Desk,
+    counts: &mut Counts,
+    calls: Calls,
+    keys: &[FetchKey],
+    limits: Limits,
+) -> Result<(), DeskFault> {
+    match calls {
+        Calls::Many => load_many(alloc, desk, counts, keys),
+        Calls::Hits => hits(alloc, desk, counts, keys),
+        Calls::Rounds => rounds(alloc, desk, counts, keys, limits),
+    }
+}
+
+/// Loads the keys in one call.
+fn load_many(
+    alloc: Global,
+    desk: &mut Desk,
+    counts: &mut Counts,
+    keys: &[FetchKey],
+) -> Result<(), DeskFault> {
+    let replies = desk.load_many(alloc, keys)?;
+    counts.loads(&replies);
+    Ok(())
+}
+
+/// Loads the keys one by one, and then again.
+fn hits(
+    alloc: Global,
+    desk: &mut Desk,
+    counts: &mut Counts,
+    keys: &[FetchKey],
+) -> Result<(), DeskFault> {
+    for key in keys.iter().chain(keys) {
+        counts.load(desk.load(alloc, key)?);
+    }
+    Ok(())
+}
+
+/// For each batch of keys: loads them in one call, dispatches, and settles what was sent.
+fn rounds(
+    alloc: Global,
+    desk: &mut Desk,
+    counts: &mut Counts,
+    keys: &[FetchKey],
+    limits: Limits,
+) -> Result<(), DeskFault> {
+    for part in keys.chunks(limits.max_batch() as usize) {
+        load_many(alloc, desk, counts, part)?;
+        settle(alloc, desk, counts)?;
+    }
+    Ok(())
+}
+
+/// Dispatches, and settles each batch that was sent.
+fn settle(alloc: Global, desk: &mut Desk, counts: &mut Counts) -> Result<(), DeskFault> {
+    let jobs = desk.dispatch(alloc)?;
+    counts.jobs(&jobs);
+    for job in &jobs {
+        desk.settle(job.batch)?;
+        counts.settle();
+    }
+    Ok(())
+}
+
+/// Loads, clears and loads again each key in turn, on a new desk where the first can take no more.
+pub fn clears(
+    alloc: Global,
+    hashing: RandomState,
+    counts: &mut Counts,
+    keys: u32,
+    batch: u32,
+) -> Result<()> {
+    let limits = limits(batch)?;
+    let first = keys.min(LOADED_TWICE);
+    for numbers in [0..first, first..keys] {
+        let mut desk = Desk::new(alloc, hashing, limits);
+        reloads(alloc, &mut desk, counts, numbers)?;
+    }
+    Ok(())
+}
+
+/// Loads, clears and loads again the key of each number in a range.
+fn reloads(alloc: Global, desk: &mut Desk, counts: &mut Counts, numbers: Range<u32>) -> Result<()> {
+    for number in numbers {
+        let key = key_of(alloc, number)?;
+        counts.load(desk.load(alloc, &key)?);
+        desk.clear(&key);
+        counts.load(desk.load(alloc, &key)?);
+    }
+    Ok(())
+}

@@ -1,0 +1,92 @@
+//! The workloads on a script and on tables.
+
+use crate::counts::Counts;
+use crate::keys::{keys_of, limits};
+use anyhow::Result;
+use dl_desk::{FetchKey, Limits};
+use dl_plans::{Input, read_input, run_script};
+use dl_source::{Source, Tables};
+use serde_json::Value;
+use std::alloc::{AllocError, Global};
+use std::hash::RandomState;
+
+/// Reads a script that loads the keys one by one, answers it, and counts the lines of the answer.
+pub fn script(alloc: Global, hashing: RandomState, counts: &mut Counts, keys: u32) -> Result<()> {
+    let text = script_of(alloc, keys)?;
+    let output = output_of(alloc, hashing, text.as_bytes())?;
+    counts.lines = output.bytes().filter(|byte| *byte == b'\n').count() as u64;
+    Ok(())
+}
+
+/// The text that a script's document gives.
+fn output_of(alloc: Global, hashing: RandomState, document: &[u8]) -> Result<String> {
+    let Input::Script(script) = read_input(alloc, document)?;
+    Ok(run_script(alloc, hashing, &script)?)
+}
+
+/// The text of a script that loads the keys one by one.
+fn script_of(alloc: Global, keys: u32) -> Result<String, AllocError> {
+    let mut text = String::from_str(alloc, "{\"script\":1,\"calls\":[")?;
+    for number in 0..keys {
+        if number > 0 {
+            text.push_str(",")?;
+        }
+        write!(text, "{{\"load\":[\"users\",\"{number}\"]}}")?;
+    }
+    text.push_str("]}")?;
+    Ok(text)
+}
+
+/// Reads tables with a row for each key, fetches the keys, a batch at a time, and counts their outcomes.
+pub fn tables(
+    alloc: Global,
+    hashing: RandomState,
+    counts: &mut Counts,
+    keys: u32,
+    batch: u32,
+) -> Result<()> {
+    let limits = limits(batch)?;
+    let tables = tables_of(alloc, hashing, keys)?;
+    let keys = keys_of(alloc, keys)?;
+    fetch_all(alloc, counts, &tables, &keys, limits)?;
+    Ok(())
+}
+
+/// Fetches the keys, a batch at a time, and counts their outcomes.
+fn fetch_all(
+    alloc: Global,
+    counts: &mut Counts,
+    tables: &Tables,
+    keys: &[FetchKey],
+    limits: Limits,
+) -> Result<(), AllocError> {
+    for part in keys.chunks(limits.max_batch() as usize) {
+        let answer = tables.fetch(alloc, part)?;
+        counts.answer(&answer);
+    }
+    Ok(())
+}
+
+/// Tables with a row for each key, read from their text.
+fn tables_of(alloc: Global, hashing: RandomState, keys: u32) -> Result<Tables> {
+    let tree = tree_of(alloc, keys)?;
+    Ok(Tables::from_value(alloc, hashing, &tree)?)
+}
+
+/// A tree of one table, with a row for each key, read from its text.
+fn tree_of(alloc: Global, keys: u32) -> Result<Value> {
+    let text = tree_text(alloc, keys)?;
+    Ok(Value::from_str(alloc, text.as_str())?)
+}
+
+fn tree_text(alloc: Global, keys: u32) -> Result<String, AllocError> {
+    let mut text = String::from_str(alloc, "[{\"name\":\"users\",\"rows\":[")?;
+    for number in 0..keys {
+        if number > 0 {
+            text.push_str(",")?;
+        }
+        write!(text, "[\"{number}\",{number}]")?;
+    }
+    text.push_str("]}]")?;
+    Ok(text)
+}

@@ -1,0 +1,33 @@
+//! The keys of numbers, and the limits of a loader for them.
+
+use anyhow::Result;
+use dl_desk::{FetchKey, LARGEST_LIMIT, LimitFault, Limits};
+use itoa::Buffer;
+use std::alloc::Global;
+
+/// The limit of a batch, beside the largest other limits.
+pub fn limits(batch: u32) -> Result<Limits, LimitFault> {
+    Limits::new(batch, LARGEST_LIMIT, LARGEST_LIMIT)
+}
+
+/// The key of a number: its id is the number in decimal.
+pub fn key_of(alloc: Global, number: u32) -> Result<FetchKey> {
+    let mut buffer = Buffer::new();
+    Ok(FetchKey::new(alloc, "users", buffer.format(number))?)
+}
+
+/// The keys of the first numbers.
+pub fn keys_of(alloc: Global, count: u32) -> Result<Vec<FetchKey>> {
+    let mut keys = Vec::with_capacity(alloc, count as usize)?;
+    for number in 0..count {
+        keys.push(key_of(alloc, number)?)?;
+    }
+    Ok(keys)
+}
+
+/// The key of a front and a number in eight digits, whose id is written in the room of the last one.
+pub fn fronted_key(alloc: Global, id: &mut String, front: &str, number: u32) -> Result<FetchKey> {
+    id.clear();
+    write!(id, "{front}{number:08}")?;
+    Ok(FetchKey::new(alloc, "trips", id.as_str())?)
+}

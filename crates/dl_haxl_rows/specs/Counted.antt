@@ -1,0 +1,16 @@
+-- What tables answer that count how often they are asked.
+use Rattle.std.specs.Prelude.{List}
+use Rattle.dl_desk.specs.Key.{Key}
+use Rattle.dl_desk.specs.declared.outcome.BatchAnswer.{BatchAnswer}
+use Rattle.dl_source.specs.Source.{IsFor}
+use Rattle.dl_source.specs.Answer.{answer_of}
+use Rattle.dl_source.specs.AnswerFits.{answer_fits}
+use Rattle.dl_haxl_rows.specs.declared.counted.Counted.{Counted}
+
+-- what the tables answer, however often they were asked
+abbrev pub answer_counted : Counted → List Key → BatchAnswer
+answer_counted source keys = answer_of source.tables keys
+
+-- which has as many outcomes as there are keys, or breaks
+pub counted_fits : (source : Counted) (keys : List Key) → IsFor keys (answer_counted source keys)
+counted_fits source keys = answer_fits source.tables keys

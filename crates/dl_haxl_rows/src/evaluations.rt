@@ -1,0 +1,299 @@
+//! Terms that are evaluated on the caller's own thread: their answers, their rounds, and the batches that these make.
+
+ghost use Rattle.dl_history.specs.Service.{Answers};
+
+use crate::rows::{Player, Row, try_row};
+use crate::shapes::{BEST, FRIENDS, Shape, U1, U2, term};
+use crate::texts::{answer_text, list_text};
+use dl_haxl::run_inline;
+use dl_loader::{Loader, LoaderName, Pass};
+use dl_source::Source;
+use std::alloc::Global;
+use std::hash::RandomState;
+use std::process::Abort;
+use std::sync::Wait;
+use std::test::Fail;
+
+/// The row of the user `u1`.
+pub(crate) const ADA: &str = r#"{"best":"u2","friends":["u2","u3"],"name":"Ada"}"#;
+
+/// The rows of the users `u2` and `u3`.
+const TWO_FRIENDS: &str = r#"[{"best":"u1","friends":[],"name":"Bob"},{"name":"Cy"}]"#;
+
+/// A row of a term that needs no load, from which the others differ.
+const ROW: Row<'static> = Row {
+    about: "a value",
+    term: Shape::Value("7"),
+    max_batch: 2,
+    max_cells: 8,
+    answer: "7",
+    rounds: 0,
+    batches: &[],
+    settled: true,
+};
+
+const ROWS: [Row<'static>; 19] = [
+    Row {
+        about: "a value",
+        term: Shape::Value("7"),
+        answer: "7",
+        rounds: 0,
+        batches: &[],
+        ..ROW
+    },
+    Row {
+        about: "a load",
+        term: U1,
+        answer: ADA,
+        rounds: 1,
+        batches: &[&["u1"]],
+        ..ROW
+    },
+    Row {
+        about: "the name of a friend",
+        term: Shape::Pick(&BEST, "name"),
+        answer: r#""Bob""#,
+        rounds: 2,
+        batches: &[&["u1"], &["u2"]],
+        ..ROW
+    },
+    Row {
+        about: "all friends",
+        term: FRIENDS,
+        answer: TWO_FRIENDS,
+        rounds: 2,
+        batches: &[&["u1"], &["u2", "u3"]],
+        ..ROW
+    },
+    Row {
+        about: "all friends, in batches of one key",
+        term: FRIENDS,
+        max_batch: 1,
+        answer: TWO_FRIENDS,
+        rounds: 2,
+        batches: &[&["u1"], &["u2"], &["u3"]],
+        ..ROW
+    },
+    Row {
+        about: "no friends",
+        term: Shape::Each(&U2, "friends"),
+        answer: "[]",
+        rounds: 1,
+        batches: &[&["u2"]],
+        ..ROW
+    },
+    Row {
+        about: "nothing at all",
+        term: Shape::All(&[]),
+        answer: "[]",
+        rounds: 0,
+        batches: &[],
+        ..ROW
+    },
+    Row {
+        about: "a key twice",
+        term: Shape::All(&[
+            Shape::Pick(&U1, "name"),
+            Shape::Pick(&U2, "name"),
+            Shape::Pick(&U1, "name"),
+        ]),
+        answer: r#"["Ada","Bob","Ada"]"#,
+        rounds: 1,
+        batches: &[&["u1", "u2"]],
+        ..ROW
+    },
+    Row {
+        about: "a key that was loaded before it is followed",
+        term: Shape::All(&[U2, BEST]),
+        answer: r#"[{"best":"u1","friends":[],"name":"Bob"},{"best":"u1","friends":[],"name":"Bob"}]"#,
+        rounds: 1,
+        batches: &[&["u2", "u1"]],
+        ..ROW
+    },
+    Row {
+        about: "a field of no object beside a load",
+        term: Shape::All(&[Shape::Pick(&Shape::Value("1"), "x"), U1]),
+        answer: "no field",
+        rounds: 1,
+        batches: &[&["u1"]],
+        ..ROW
+    },
+    Row {
+        about: "items that are no keys",
+        term: Shape::Each(&Shape::Value(r#"{"f":["",1,"u2"]}"#), "f"),
+        answer: "not a key",
+        rounds: 1,
+        batches: &[&["u2"]],
+        ..ROW
+    },
+    Row {
+        about: "more than 1,024 items",
+        term: Shape::Each(&Shape::Crowd(1_025), "f"),
+        answer: "too many",
+        rounds: 0,
+        batches: &[],
+        ..ROW
+    },
+    Row {
+        about: "a field that is no list",
+        term: Shape::Each(&Shape::Load("user", "u3"), "name"),
+        answer: "not a list",
+        rounds: 1,
+        batches: &[&["u3"]],
+        ..ROW
+    },
+    Row {
+        about: "a field that is no id",
+        term: Shape::Follow(&U1, "friends"),
+        answer: "not a key",
+        rounds: 1,
+        batches: &[&["u1"]],
+        ..ROW
+    },
+    Row {
+        about: "a key with an error",
+        term: Shape::Load("user", "u9"),
+        answer: "key u9: gone",
+        rounds: 1,
+        batches: &[&["u9"]],
+        ..ROW
+    },
+    Row {
+        about: "a key with no row",
+        term: Shape::Load("user", "u7"),
+        answer: "key u7: no row",
+        rounds: 1,
+        batches: &[&["u7"]],
+        ..ROW
+    },
+    Row {
+        about: "a key of no table",
+        term: Shape::Load("shop", "s"),
+        answer: "key s: no table",
+        rounds: 1,
+        batches: &[&["s"]],
+        ..ROW
+    },
+    Row {
+        about: "a key that breaks its batch",
+        term: Shape::All(&[U1, Shape::Load("user", "u13")]),
+        settled: false,
+        answer: "batch of u1: db down",
+        rounds: 1,
+        batches: &[&["u1", "u13"]],
+        ..ROW
+    },
+    Row {
+        about: "two cells where there is one",
+        term: Shape::All(&[U1, U2]),
+        max_cells: 1,
+        answer: "Call(CellsFull { limit: 1 })",
+        rounds: 0,
+        batches: &[],
+        ..ROW
+    },
+];
+
+#[test]
+fn terms_and_their_batches(rt: HostRuntime) -> Result<(), Fail> {
+    for row in &ROWS {
+        try_row(&rt, rt.alloc(), Player::Inline, row)?;
+    }
+    Ok(())
+}
+
+/// Each of 1,024 users.
+const CROWD: Shape = Shape::Each(&Shape::Crowd(1_024), "f");
+
+#[test]
+fn as_many_items_as_there_may_be(rt: HostRuntime) -> Result<(), Fail> {
+    let users = list_text(rt.alloc(), ADA, 1_024)?;
+    let row = Row {
+        about: "1,024 items",
+        term: CROWD,
+        answer: users.as_str(),
+        rounds: 1,
+        batches: &[&["u1"]],
+        ..ROW
+    };
+    try_row(&rt, rt.alloc(), Player::Inline, &row)
+}
+
+/// Evaluates the term of a row, whose answer and rounds are as the row says.
+pub(crate) fn evaluate<L: LoaderName, S: Source, R: Abort + Wait>(
+    rt: &R,
+    alloc: Global,
+    hashing: RandomState,
+    source: &S,
+    loader: &Loader<L>,
+    pass: &mut Pass<L>,
+    row: &Row<'_>,
+) -> Result<(), Fail>
+    requires { Answers (S.answer source.now) L.service }
+{
+    let (text, rounds) = evaluated(rt, alloc, hashing, source, loader, pass, row)?;
+    assert_eq!(rt; text.as_str(), row.answer, "of {}", row.about);
+    assert_eq!(rt; rounds, row.rounds, "of {}", row.about);
+    Ok(())
+}
+
+/// The text of what the evaluation of a row's term gives, and how many rounds it takes.
+fn evaluated<L: LoaderName, S: Source, R: Wait>(
+    rt: &R,
+    alloc: Global,
+    hashing: RandomState,
+    source: &S,
+    loader: &Loader<L>,
+    pass: &mut Pass<L>,
+    row: &Row<'_>,
+) -> Result<(String, u32), Fail>
+    requires { Answers (S.answer source.now) L.service }
+{
+    let term = term(alloc, &row.term)?;
+    match run_inline(rt, alloc, hashing, loader, source, pass, term) {
+        Ok((answer, rounds)) => Ok((answer_text(alloc, &answer)?, rounds)),
+        Err(fault) => Ok((format!(in alloc; "{fault:?}")?, 0)),
+    }
+}
+
+/// What an evaluation may give in place of its answer where a growth is refused.
+const STARVED: [&str; 5] = [
+    "batch of u1: no memory",
+    "batch of u2: no memory",
+    "Call(OutOfMemory)",
+    "Stopped",
+    "OutOfMemory",
+];
+
+// Under `rt try --test --fail-alloc N` each growth is refused in turn.
+#[test]
+fn a_refused_growth(rt: HostRuntime) -> Result<(), Fail> {
+    let row = Row {
+        about: "all friends, where a growth may be refused",
+        term: FRIENDS,
+        answer: TWO_FRIENDS,
+        ..ROW
+    };
+    try_row(&rt, rt.alloc(), Player::Starved, &row)
+}
+
+/// Evaluates the term of a row, where a growth may be refused.
+pub(crate) fn starve<L: LoaderName, S: Source, R: Abort + Wait>(
+    rt: &R,
+    alloc: Global,
+    hashing: RandomState,
+    source: &S,
+    loader: &Loader<L>,
+    pass: &mut Pass<L>,
+    row: &Row<'_>,
+) -> Result<(), Fail>
+    requires { Answers (S.answer source.now) L.service }
+{
+    let (text, _rounds) = evaluated(rt, alloc, hashing, source, loader, pass, row)?;
+    let text = text.as_str();
+    assert!(rt;
+        text == row.answer || STARVED.contains(&text),
+        "an evaluation gave {text}"
+    );
+    Ok(())
+}

@@ -1,0 +1,168 @@
+//! Rows of terms, and how they are played: each on a loader of its own, over the users' tables.
+
+ghost use Rattle.std.specs.Prelude.{◌≡◌};
+ghost use Rattle.dl_history.specs.Service.{Answers};
+ghost use Rattle.dl_loader.specs.Opening.{Names};
+
+use crate::counted::Counted;
+use crate::shapes::Shape;
+use crate::{evaluations, polls};
+use dl_desk::{FetchKey, Limits};
+use dl_fixtures::{USERS, tables};
+use dl_loader::{History, Loader, LoaderName, Opening, Pass};
+use dl_source::Source;
+use std::alloc::{AllocGlobal, Global};
+use std::hash::RandomState;
+use std::marker::Brand;
+use std::process::Abort;
+use std::random::RandomSource;
+use std::sync::Wait;
+use std::test::Fail;
+
+/// A term, the limits of its loader's batches and cells, and what it gives.
+#[derive(Clone, Copy)]
+pub(crate) struct Row<'a> {
+    pub(crate) about: &'static str,
+    pub(crate) term: Shape,
+    pub(crate) max_batch: u32,
+    pub(crate) max_cells: u32,
+    /// The text of its answer.
+    pub(crate) answer: &'a str,
+    /// How many rounds of loads it takes.
+    pub(crate) rounds: u32,
+    /// The ids of each batch.
+    pub(crate) batches: &'static [&'static [&'static str]],
+    /// Whether the batches are settled.
+    pub(crate) settled: bool,
+}
+
+/// How the answer of a row's term is found.
+#[derive(Clone, Copy)]
+pub(crate) enum Player {
+    /// It is evaluated on the caller's own thread.
+    Inline,
+    /// A run of it is polled by hand.
+    Run,
+    /// It is a load, whose future is polled by hand.
+    Future,
+    /// It is evaluated where a growth may be refused.
+    Starved,
+    /// A run of it is polled where a growth may be refused.
+    StarvedRun,
+}
+
+/// Plays a row over the users' tables.
+pub(crate) fn try_row<R: Abort + AllocGlobal + RandomSource + Wait>(
+    rt: &R,
+    alloc: Global,
+    player: Player,
+    row: &Row<'_>,
+) -> Result<(), Fail> {
+    let source = Counted::new(tables(rt, alloc, USERS)?);
+    over(rt, alloc, &source, player, row)
+}
+
+/// Plays a row over a source, which is asked once for each batch.
+fn over<R: Abort + AllocGlobal + RandomSource + Wait>(
+    rt: &R,
+    alloc: Global,
+    source: &Counted,
+    player: Player,
+    row: &Row<'_>,
+) -> Result<(), Fail> {
+    let limits = Limits::new(row.max_batch, row.max_cells, 16)?;
+    let hashing = RandomState::new(rt)?;
+    let opening = Opening::new(alloc, hashing, source, limits, 1)?;
+    match (
+        player,
+        run::<Brand, _, _>(rt, alloc, hashing, source, opening, player, row)?,
+    ) {
+        (Player::Starved | Player::StarvedRun, _) => Ok(()),
+        (_, None) => Err("the loader can't be closed".into()),
+        (_, Some(history)) => {
+            assert_eq!(rt;
+                source.fetches() as usize,
+                row.batches.len(),
+                "of {}",
+                row.about
+            );
+            assert_history(rt, &history, row)
+        }
+    }
+}
+
+/// Plays a row on the loader of an opening, which `L` stands for, and closes it: its history, if it can be closed.
+fn run<L: LoaderName, S: Source, R: Abort + AllocGlobal + RandomSource + Wait>(
+    rt: &R,
+    alloc: Global,
+    hashing: RandomState,
+    source: &S,
+    opening: Opening<'_, S>,
+    player: Player,
+    row: &Row<'_>,
+) -> Result<Option<History>, Fail>
+    requires source { opening.source ≡ source.now }
+    requires names { Names S.answer opening L.service L.parts L.log L.outcomes L.name }
+{
+    let (loader, mut passes) = Loader::<L>::start(alloc, opening)?;
+    play(
+        rt,
+        alloc,
+        hashing,
+        source,
+        &loader,
+        passes.as_mut_slice(),
+        player,
+        row,
+    )?;
+    Ok(loader.close(alloc, passes).ok())
+}
+
+/// Plays a row by the first of these passes.
+fn play<L: LoaderName, S: Source, R: Abort + AllocGlobal + RandomSource + Wait>(
+    rt: &R,
+    alloc: Global,
+    hashing: RandomState,
+    source: &S,
+    loader: &Loader<L>,
+    passes: &mut [Pass<L>],
+    player: Player,
+    row: &Row<'_>,
+) -> Result<(), Fail>
+    requires { Answers (S.answer source.now) L.service }
+{
+    let Some(pass) = passes.first_mut() else {
+        return Err("no pass".into());
+    };
+    match player {
+        Player::Inline => evaluations::evaluate(rt, alloc, hashing, source, loader, pass, row),
+        Player::Run => polls::poll_run(rt, alloc, hashing, source, loader, pass, row),
+        Player::Future => polls::poll_load(rt, alloc, source, loader, pass, row),
+        Player::Starved => evaluations::starve(rt, alloc, hashing, source, loader, pass, row),
+        Player::StarvedRun => polls::starve_run::<L, _>(rt, alloc, hashing, row),
+    }
+}
+
+/// The history has the batches of the row, each of which ended as the row says. Its events are two for each round, a
+/// loadMany and a dispatch, and one end of each batch.
+fn assert_history(rt: &impl Abort, history: &History, row: &Row<'_>) -> Result<(), Fail> {
+    let batches = history.batches();
+    for (number, ids) in row.batches.iter().enumerate() {
+        let Some(batch) = batches.get(u32::try_from(number)?) else {
+            return Err("a batch too few".into());
+        };
+        assert_ids(rt, batch.keys(), ids);
+        assert_eq!(rt; batch.is_settled(), row.settled, "of {}", row.about);
+    }
+    let events = 2 * row.rounds as usize + row.batches.len();
+    assert_eq!(rt; history.events().len() as usize, events, "of {}", row.about);
+    Ok(())
+}
+
+/// The keys have these ids.
+pub(crate) fn assert_ids(rt: &impl Abort, keys: &[FetchKey], want: &[&str]) {
+    assert_eq!(rt; keys.len(), want.len());
+    for (key, want) in keys.iter().zip(want.iter()) {
+        assert_eq!(rt; key.id(), *want);
+    }
+}

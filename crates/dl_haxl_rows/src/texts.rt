@@ -1,0 +1,50 @@
+//! How answers are written in rows.
+
+use dl_desk::BatchFault;
+use dl_terms::{Answer, EvalFault};
+use std::alloc::{AllocError, Global};
+
+/// The text of an answer: of a value its JSON, else why there is none.
+pub(crate) fn answer_text(alloc: Global, answer: &Answer) -> Result<String, AllocError> {
+    match answer {
+        Answer::Value(value) => value.to_text(alloc),
+        Answer::Fault(fault) => fault_text(alloc, fault),
+    }
+}
+
+fn fault_text(alloc: Global, fault: &EvalFault) -> Result<String, AllocError> {
+    match fault {
+        EvalFault::Key { key, text } => format!(in alloc; "key {}: {}", key.id(), text.as_str()),
+        EvalFault::Batch { key, fault } => format!(in alloc;
+            "batch of {}: {}",
+            key.id(),
+            cause(fault)
+        ),
+        EvalFault::NoField => String::from_str(alloc, "no field"),
+        EvalFault::NotAKey => String::from_str(alloc, "not a key"),
+        EvalFault::NotAList => String::from_str(alloc, "not a list"),
+        EvalFault::TooMany => String::from_str(alloc, "too many"),
+    }
+}
+
+/// Why a batch failed.
+fn cause(fault: &BatchFault) -> &str {
+    match fault {
+        BatchFault::Source(text) => text.as_str(),
+        BatchFault::Memory => "no memory",
+        BatchFault::Unsent => "unsent",
+    }
+}
+
+/// The JSON list that has an item so many times.
+pub(crate) fn list_text(alloc: Global, item: &str, times: usize) -> Result<String, AllocError> {
+    let mut text = String::from_str(alloc, "[")?;
+    for place in 0..times {
+        if place > 0 {
+            text.push_str(",")?;
+        }
+        text.push_str(item)?;
+    }
+    text.push_str("]")?;
+    Ok(text)
+}

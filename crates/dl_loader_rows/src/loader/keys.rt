@@ -1,0 +1,83 @@
+//! Keys, jobs and outcomes, made from data and held against it.
+
+use super::step::{Ids, Primed};
+use dl_desk::{BatchFault, FetchKey, Job, Json, Keys, Message, Outcome, has_float};
+use dl_fixtures::outcome_text;
+use serde_json::Value;
+use std::alloc::Global;
+use std::process::Abort;
+use std::test::Fail;
+
+/// The key of a user.
+pub(super) fn user(alloc: Global, id: &str) -> Result<FetchKey, Fail> {
+    Ok(FetchKey::new(alloc, "user", id)?)
+}
+
+/// The keys of users.
+pub(super) fn users(alloc: Global, ids: &[&str]) -> Result<Vec<FetchKey>, Fail> {
+    let mut keys = Vec::new(alloc);
+    for id in ids {
+        keys.push(user(alloc, id)?)?;
+    }
+    Ok(keys)
+}
+
+/// The job of a batch with the keys of users.
+pub(super) fn job(alloc: Global, batch: u32, ids: &[&str]) -> Result<Job, Fail> {
+    let keys = Keys::new(alloc, users(alloc, ids)?)?;
+    Ok(Job { batch, keys })
+}
+
+/// The keys are those of these users.
+pub(super) fn assert_keys(rt: &impl Abort, keys: &[FetchKey], ids: &[&str]) {
+    assert_eq!(rt; keys.len(), ids.len());
+    for (key, id) in keys.iter().zip(ids.iter()) {
+        assert_eq!(rt; key.table(), "user");
+        assert_eq!(rt; key.id(), *id);
+    }
+}
+
+/// The job is of this batch, with the keys of these users.
+pub(super) fn assert_job(rt: &impl Abort, job: &Job, batch: u32, ids: &[&str]) {
+    assert_eq!(rt; job.batch, batch);
+    assert_keys(rt, job.keys.as_slice(), ids);
+}
+
+/// The jobs of a dispatch are of these batches, with the keys of these users.
+pub(super) fn assert_jobs(rt: &impl Abort, jobs: &[Job], want: &[(u32, Ids)]) {
+    assert_eq!(rt; jobs.len(), want.len());
+    for (job, (batch, ids)) in jobs.iter().zip(want.iter()) {
+        assert_job(rt, job, *batch, ids);
+    }
+}
+
+/// The outcome that a key is primed with.
+pub(super) fn outcome(rt: &impl Abort, alloc: Global, primed: &Primed) -> Result<Outcome, Fail> {
+    match primed {
+        Primed::Value(text) => value(rt, alloc, text),
+        Primed::KeyError(text) => Ok(Outcome::KeyError(Message::new(alloc, text)?)),
+        Primed::NoMemory => Ok(Outcome::BatchFailed(BatchFault::Memory)),
+    }
+}
+
+/// The value of a JSON text.
+fn value(rt: &impl Abort, alloc: Global, text: &str) -> Result<Outcome, Fail> {
+    let value = Value::from_str(alloc, text)?;
+    assert!(rt; !has_float(&value));
+    Ok(Outcome::Value(Json::new(alloc, value)?))
+}
+
+/// An outcome of this text is shown.
+pub(super) fn assert_shows(
+    rt: &impl Abort,
+    alloc: Global,
+    outcome: Option<&Outcome>,
+    want: Option<&str>,
+) -> Result<(), Fail> {
+    assert_eq!(rt; outcome.is_some(), want.is_some());
+    if let (Some(outcome), Some(want)) = (outcome, want) {
+        let text = outcome_text(alloc, outcome)?;
+        assert_eq!(rt; text.as_str(), want);
+    }
+    Ok(())
+}

@@ -1,0 +1,111 @@
+//! A row from its opening to its last close.
+
+ghost use Rattle.std.specs.Prelude.{◌≡◌};
+ghost use Rattle.dl_history.specs.Service.{Answers};
+ghost use Rattle.dl_loader.specs.Opening.{Names};
+
+use super::closed::assert_closed;
+use super::hand::Hand;
+use super::player::Stage;
+use super::step::{Part, Step};
+use dl_loader::{Loader, LoaderName, Opening, Pass};
+use dl_source::Source;
+use std::alloc::{AllocError, Global};
+use std::process::Abort;
+use std::sync::Wait;
+use std::test::Fail;
+
+/// Makes the calls and the closes of a row on the loader of an opening, which `L` stands for.
+pub(super) fn play<L: LoaderName, S: Source, R: Abort + Wait>(
+    rt: &R,
+    alloc: Global,
+    source: &S,
+    opening: Opening<'_, S>,
+    parts: &[Part],
+) -> Result<(), Fail>
+    requires source { opening.source ≡ source.now }
+    requires names { Names S.answer opening L.service L.parts L.log L.outcomes L.name }
+{
+    let (mut loader, mut passes) = Loader::<L>::start(alloc, opening)?;
+    for part in parts {
+        passes = make_calls(rt, alloc, source, &loader, passes, part.steps)?;
+        let Some(back) = close(rt, alloc, loader, passes, part)? else {
+            return Ok(());
+        };
+        (loader, passes) = back;
+    }
+    Ok(())
+}
+
+/// Makes calls of the callers that have these passes, which come back.
+fn make_calls<L: LoaderName, S: Source, R: Abort + Wait>(
+    rt: &R,
+    alloc: Global,
+    source: &S,
+    loader: &Loader<L>,
+    passes: Vec<Pass<L>>,
+    steps: &[(usize, Step)],
+) -> Result<Vec<Pass<L>>, Fail>
+    requires { Answers (S.answer source.now) L.service }
+{
+    let stage = Stage {
+        rt,
+        alloc,
+        source,
+        loader,
+    };
+    let mut hands = hands_of(alloc, passes)?;
+    stage.play(hands.as_mut_slice(), steps)?;
+    Ok(passes_of(alloc, hands)?)
+}
+
+/// The hands of callers that hold no ticket. The error is want of memory.
+fn hands_of<'a, L: LoaderName>(
+    alloc: Global,
+    passes: Vec<Pass<L>>,
+) -> Result<Vec<Hand<'a, L>>, AllocError> {
+    let mut hands = Vec::new(alloc);
+    for pass in passes {
+        hands.push(Hand { pass, ticket: None })?;
+    }
+    Ok(hands)
+}
+
+/// The passes of callers, whose tickets are let go. The error is want of memory.
+fn passes_of<L: LoaderName>(
+    alloc: Global,
+    hands: Vec<Hand<'_, L>>,
+) -> Result<Vec<Pass<L>>, AllocError> {
+    let mut passes = Vec::new(alloc);
+    for hand in hands {
+        passes.push(hand.pass)?;
+    }
+    Ok(passes)
+}
+
+/// Closes the loader as the part says. Where that is refused the loader and the passes come back.
+fn close<L: LoaderName>(
+    rt: &impl Abort,
+    alloc: Global,
+    loader: Loader<L>,
+    mut passes: Vec<Pass<L>>,
+    part: &Part,
+) -> Result<Option<(Loader<L>, Vec<Pass<L>>)>, Fail> {
+    let count = part.passes.min(passes.len());
+    let kept = passes.split_off(count)?;
+    match loader.close(alloc, passes) {
+        Ok(history) => {
+            let Ok(closed) = part.close else {
+                return Err("the loader was closed".into());
+            };
+            assert_closed(rt, alloc, &history, closed)?;
+            Ok(None)
+        }
+        Err((fault, loader, mut passes)) => {
+            assert_eq!(rt; Some(fault), part.close.err());
+            assert_eq!(rt; passes.len(), count);
+            passes.extend(kept)?;
+            Ok(Some((loader, passes)))
+        }
+    }
+}

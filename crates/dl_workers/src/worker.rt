@@ -1,0 +1,102 @@
+//! Fetch workers: each takes jobs from a queue and ends their batches.
+
+ghost use Rattle.std.specs.Prelude.{◌≡◌, ◌⊎◌, ◌++◌, MatchBool, length};
+ghost use Rattle.dl_history.specs.Service.{Answers};
+ghost use Rattle.dl_workers.specs.Ending.{WasEnded};
+ghost use Rattle.dl_workers.specs.Seats.{IsTakerOf, taken_jobs};
+ghost use Rattle.dl_workers.specs.Worked.{Took, Worked};
+
+use crate::ending::end_job;
+use crate::gate::Gate;
+use crate::queue::JobQueue;
+use crate::seats::Taker;
+use dl_desk::Job;
+use dl_loader::{Loader, LoaderName, Pass};
+use dl_source::Source;
+use std::alloc::Global;
+use std::sync::Wait;
+
+/// How a worker ended.
+#[derive(Clone, Copy, Debug, PartialEq, Eq)]
+pub enum WorkerEnd {
+    /// The queue was shut, or the seat is full: the worker took so many jobs, and ended the batch of each.
+    Done { batches: u32 },
+    /// The worker stopped the loader, since it couldn't end this batch, or since a cell of it refused its outcome.
+    GaveUp { batch: u32 },
+}
+
+/// Takes jobs from a queue until it is shut, and ends the batch of each as [`end_job`] does: by what the loader's
+/// source answers, or, where there is no memory for that, as one that failed for want of memory. The gate is told of
+/// each step.
+///
+/// Where a batch can't be ended, or a cell of it refuses its outcome, the worker stops the loader, takes the jobs
+/// that are left until the queue is shut, and drops them.
+pub fn work<L: LoaderName, S: Source, G: Gate, R: Wait>(
+    rt: &R,
+    alloc: Global,
+    loader: &Loader<L>,
+    source: &S,
+    pass: &mut Pass<L>,
+    queue: &JobQueue,
+    taker: &mut Taker,
+    gate: &G,
+) -> WorkerEnd
+    requires source { Answers (S.answer source.now) L.service }
+    requires seat { IsTakerOf queue.now taker.old }
+    ensures seat { IsTakerOf queue.now taker.new }
+    ensures worked { Worked L.service result (taken_jobs taker.old) (taken_jobs taker.new) pass.old.part pass.new.part }
+    ensures tickets { pass.new.part.tickets ≡ pass.old.part.tickets }
+{
+    let mut batches = 0;
+    for _ in rt.forever() {
+        let Some(job) = queue.take(rt, taker) else {
+            return WorkerEnd::Done { batches };
+        };
+        let batch = job.batch;
+        if !end_shown(rt, alloc, loader, source, pass, job, gate) {
+            loader.stop(rt);
+            drop_rest(rt, queue, taker);
+            return WorkerEnd::GaveUp { batch };
+        }
+        batches += 1;
+    }
+    unreachable!()
+}
+
+// Ends the batch of a job, between the two steps that the gate is told of, and answers whether each of its cells took
+// its outcome.
+fn end_shown<L: LoaderName, S: Source, G: Gate>(
+    rt: &impl Wait,
+    alloc: Global,
+    loader: &Loader<L>,
+    source: &S,
+    pass: &mut Pass<L>,
+    job: Job,
+    gate: &G,
+) -> bool
+    requires source { Answers (S.answer source.now) L.service }
+    ensures ended { MatchBool result (WasEnded L.service pass.old.part job pass.new.part)
+        ((pass.new.part ≡ pass.old.part) ⊎ WasEnded L.service pass.old.part job pass.new.part) }
+    ensures tickets { pass.new.part.tickets ≡ pass.old.part.tickets }
+{
+    let batch = job.batch;
+    gate.before_fetch(batch);
+    let Ok(settled) = end_job(rt, alloc, loader, source, pass, job) else {
+        return false;
+    };
+    gate.after_settle(batch);
+    settled.refused == 0
+}
+
+// Takes jobs until the queue is shut, and drops them.
+fn drop_rest<R: Wait>(rt: &R, queue: &JobQueue, taker: &mut Taker)
+    requires { IsTakerOf queue.now taker.old }
+    ensures seat { IsTakerOf queue.now taker.new }
+    ensures took { Took (taken_jobs taker.old) (taken_jobs taker.new) }
+{
+    for _ in rt.forever() {
+        if queue.take(rt, taker).is_none() {
+            return;
+        }
+    }
+}
