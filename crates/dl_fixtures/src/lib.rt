@@ -1,6 +1,9 @@
-//! What the tests of several crates share: the tables of users that worked rows read from.
+//! What the tests of several crates share: the tables of users that worked rows read from, and tables that count how
+//! often they are asked.
 #![tactic(auto)]
 
+mod counted;
 mod users;
 
+pub use counted::Counted;
 pub use users::{USERS, outcome_text, tables};

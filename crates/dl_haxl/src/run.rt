@@ -23,7 +23,6 @@ use std::hash::RandomState;
 /// key is wanted once in a run: its first outcome serves all of the term.
 ///
 /// A poll walks the term as deep as it is high, as [`Term`] says.
-#[derive(Drop)]
 pub struct TermRun<'l, L: LoaderName> {
     alloc: Global,
     // What is left of the term.
@@ -152,6 +151,24 @@ impl<'l, L: LoaderName> TermRun<'l, L> {
             None => Stage::Wanting,
         };
         Ok(answer)
+    }
+}
+
+// Written out: a derived drop is proved anew in each function that lets a run go.
+impl<L: LoaderName> Drop for TermRun<'_, L> {
+    fn drop(self) {
+        let TermRun {
+            alloc: _,
+            root,
+            known,
+            keys,
+            tickets,
+            stage: _,
+        } = self;
+        drop(root);
+        drop(known);
+        drop(keys);
+        drop(tickets);
     }
 }
 

@@ -3,8 +3,6 @@
 #![tactic(auto)]
 
 #[cfg(test)]
-mod counted;
-#[cfg(test)]
 mod evaluations;
 #[cfg(test)]
 mod polls;

@@ -4,11 +4,10 @@ ghost use Rattle.std.specs.Prelude.{◌≡◌};
 ghost use Rattle.dl_history.specs.Service.{Answers};
 ghost use Rattle.dl_loader.specs.Opening.{Names};
 
-use crate::counted::Counted;
 use crate::shapes::Shape;
 use crate::{evaluations, polls};
 use dl_desk::{FetchKey, Limits};
-use dl_fixtures::{USERS, tables};
+use dl_fixtures::{Counted, USERS, tables};
 use dl_loader::{History, Loader, LoaderName, Opening, Pass};
 use dl_source::Source;
 use std::alloc::{AllocGlobal, Global};

@@ -38,13 +38,6 @@ fn cause(fault: &BatchFault) -> &str {
 
 /// The JSON list that has an item so many times.
 pub(crate) fn list_text(alloc: Global, item: &str, times: usize) -> Result<String, AllocError> {
-    let mut text = String::from_str(alloc, "[")?;
-    for place in 0..times {
-        if place > 0 {
-            text.push_str(",")?;
-        }
-        text.push_str(item)?;
-    }
-    text.push_str("]")?;
-    Ok(text)
+    let items = [item].repeat(alloc, times)?.join(alloc, ",")?;
+    format!(in alloc; "[{}]", items.as_str())
 }

@@ -5,7 +5,7 @@ use Rattle.dl_desk.specs.declared.outcome.BatchAnswer.{BatchAnswer}
 use Rattle.dl_source.specs.Source.{IsFor}
 use Rattle.dl_source.specs.Answer.{answer_of}
 use Rattle.dl_source.specs.AnswerFits.{answer_fits}
-use Rattle.dl_haxl_rows.specs.declared.counted.Counted.{Counted}
+use Rattle.dl_fixtures.specs.declared.counted.Counted.{Counted}
 
 -- what the tables answer, however often they were asked
 abbrev pub answer_counted : Counted → List Key → BatchAnswer

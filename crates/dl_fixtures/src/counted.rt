@@ -7,14 +7,14 @@ use std::sync::atomic::{AtomicU32, Ordering};
 
 /// Tables that count how often they are asked.
 #[derive(Drop)]
-pub(crate) struct Counted {
+pub struct Counted {
     tables: Tables,
     fetches: AtomicU32,
 }
 
 impl Counted {
     /// The tables, which were not asked yet.
-    pub(crate) fn new(tables: Tables) -> Counted {
+    pub fn new(tables: Tables) -> Counted {
         Counted {
             tables,
             fetches: AtomicU32::new(0),
@@ -22,13 +22,13 @@ impl Counted {
     }
 
     /// How often they were asked.
-    pub(crate) fn fetches(&self) -> u32 {
+    pub fn fetches(&self) -> u32 {
         self.fetches.load(Ordering::Relaxed)
     }
 }
 
 impl Source for Counted {
-    ghost use Rattle.dl_haxl_rows.specs.Counted.{answer_counted, counted_fits};
+    ghost use Rattle.dl_fixtures.specs.Counted.{answer_counted, counted_fits};
 
     ghost answer = { answer_counted };
 
