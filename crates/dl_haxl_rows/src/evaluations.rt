@@ -32,7 +32,7 @@ const ROW: Row<'static> = Row {
     settled: true,
 };
 
-const ROWS: [Row<'static>; 19] = [
+static ROWS: [Row<'static>; 19] = [
     Row {
         about: "a value",
         term: Shape::Value("7"),
