@@ -88,7 +88,8 @@ impl<T> Learned<T> {
     pub(crate) fn look<'a>(&mut self, cell: &'a OnceBox<T>) -> Option<&'a T>
         requires { self.old.cell ≡ cell_name cell.now }
         ensures cell { self.new.cell ≡ self.old.cell }
-        ensures value { MatchOption result ((self.old.known ≡ None) × (self.new.known ≡ None)) (λ r. (self.new.known ≡ Some r.now) × Agrees self.old.known r.now) }
+        ensures value { MatchOption result ((self.old.known ≡ None) × (self.new.known ≡ None))
+            (λ r. (self.new.known ≡ Some r.now) × Agrees self.old.known r.now) }
     {
         let mut note = self.note(cell);
         let value = cell.get_as(&mut note);

@@ -62,6 +62,7 @@ impl<T: Drop> CellRow<T> {
     }
 
     // As `reader`, where `make` makes a segment that isn't there.
+    #[inline(always)]
     fn reader_with<F: FnOnce() -> Result<Box<Segment<T>>, AllocError>>(
         &self,
         i: u32,

@@ -18,7 +18,8 @@ pub marked_is : (k : Key) → IsUtf8 k.table → IsUtf8 k.id → IsKey k → IsM
 marked_is k table id is = record {
   own = ap marked (unmarked_marked k);
   mark = IsCharBoundary-at_seam (marked k) (length k.table ∷ []) (k.table ++ k.id) refl (IsUtf8-append k.table k.id table id);
-  seam = subst (λ (q : Key). IsCharBoundary (k.table ++ k.id) (length q.table)) (sym (unmarked_marked k)) (IsCharBoundary-at_seam (k.table ++ k.id) k.table k.id refl id);
+  seam = subst (λ (q : Key). IsCharBoundary (k.table ++ k.id) (length q.table)) (sym (unmarked_marked k))
+      (IsCharBoundary-at_seam (k.table ++ k.id) k.table k.id refl id);
   key = subst IsKey (sym (unmarked_marked k)) is;
 }
 

@@ -1,6 +1,6 @@
 -- What cutting, showing and preparing leave of a desk's fields.
-use Rattle.std.proofs.Common.{◌≡◌, ◌∙◌, sym, Bool, true, false, ℕ, zero, suc, ◌+◌, ◌<◌, ◌≤◌, inl, inr, min, max, List, [], ◌∷◌, ◌++◌, length, map, set, take, length-append}
-use Rattle.std.proofs.Common.{Option, Some, None, slice_get, refl, arith}
+use Rattle.std.proofs.Common.{◌≡◌, ◌∙◌, sym, Bool, true, false, ℕ, zero, suc, ◌+◌, ◌<◌, ◌≤◌, inl, inr, min, max, List, [], ◌∷◌, ◌++◌, length, map, set, take}
+use Rattle.std.proofs.Common.{Option, Some, None, slice_get, refl, arith, length-append}
 use Rattle.std.proofs.lemmas.Bool.{cases_lt, cases_eq, true≢false}
 use Rattle.std.proofs.lemmas.Option.{slice_get-map, slice_get_past}
 use Rattle.std.proofs.lemmas.List.{map-append, map-set, length-set, length-map, take_all}
@@ -112,8 +112,8 @@ stored_put begun sent cells most n xs y is low next room = record {
 
 pub desk_put : (b : Bool) (most memo_len memo_left shown_memo touched n : ℕ) (m : Key × ℕ) (prepared shown : Extent) (xs ys : List Stored)
     → IsDesk b most prepared shown memo_len shown_memo touched xs → IsAdded xs n m ys → n ≤ prepared.begun → prepared.cells < most → shown_memo ≤ memo_left
-    → IsDesk true most (record { begun = max prepared.begun (n + 1); sent = prepared.sent; cells = prepared.cells + 1 }) shown memo_left shown_memo (min touched n)
-    ys
+    → IsDesk true most (record { begun = max prepared.begun (n + 1); sent = prepared.sent; cells = prepared.cells + 1 }) shown
+    memo_left shown_memo (min touched n) ys
 desk_put b most memo_len memo_left shown_memo touched n m prepared shown xs ys is added next room left = record {
   prepared_book
       = rw (

@@ -66,8 +66,20 @@ impl Model for Desk {
     ghost Value = { Desk };
 
     ghost view = { λ d. record {
-      book = record { rules = mixed d.limits; cells = d.shown.cells; sent = d.shown.sent; memo = take d.shown_memo d.memo.entries; batches = take d.shown.begun (map front d.batches.items) };
-      prepared = record { rules = mixed d.limits; cells = d.prepared.cells; sent = d.prepared.sent; memo = d.memo.entries; batches = take d.prepared.begun (map whole d.batches.items) };
+      book = record {
+        rules = mixed d.limits;
+        cells = d.shown.cells;
+        sent = d.shown.sent;
+        memo = take d.shown_memo d.memo.entries;
+        batches = take d.shown.begun (map front d.batches.items);
+      };
+      prepared = record {
+        rules = mixed d.limits;
+        cells = d.prepared.cells;
+        sent = d.prepared.sent;
+        memo = d.memo.entries;
+        batches = take d.prepared.begun (map whole d.batches.items);
+      };
     } };
 
     ghost invariant = { λ d. IsDesk d.is_prepared d.limits.max_cells d.prepared d.shown (length d.memo.entries) d.shown_memo d.touched d.batches.items };
@@ -290,7 +302,8 @@ impl Desk {
     /// The jobs of the batches that are begun and not sent, with what is prepared. The error is
     /// want of memory.
     fn jobs(&self, alloc: Global) -> Result<Vec<Job>, AllocError>
-        ensures { IfOk result (λ jobs. jobs.items ≡ book_jobs self.now.prepared self.now.prepared.sent (length self.now.prepared.batches - self.now.prepared.sent)) }
+        ensures { IfOk result (λ jobs. jobs.items
+            ≡ book_jobs self.now.prepared self.now.prepared.sent (length self.now.prepared.batches - self.now.prepared.sent)) }
     {
         let Extent { begun, sent, .. } = self.prepared;
         let mut jobs = Vec::with_capacity(alloc, (begun - sent) as usize)?;

@@ -170,6 +170,7 @@ impl PartialEq for FetchKey {
 
     ghost laws = { Prim.search (comparing, rules) };
 
+    #[inline(always)]
     fn eq(&self, other: &FetchKey) -> bool {
         *self.both == *other.both
     }

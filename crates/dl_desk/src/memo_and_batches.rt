@@ -96,7 +96,8 @@ pub fn join(
     requires newest { newest ≤ vec_len batches.old }
     requires next { next ≤ vec_len batches.old }
     requires next_is_empty { members_of (slice_get (map whole batches.old.items) next) ≡ [] }
-    ensures number { IfOk result (λ number. number ≡ (if has_member (members_of (slice_get (map whole batches.old.items) newest)) key.now then next else newest)) }
+    ensures number { IfOk result (λ number. number
+        ≡ (if has_member (members_of (slice_get (map whole batches.old.items) newest)) key.now then next else newest)) }
     ensures added { IfOk result (λ number. IsAdded batches.old.items number (key.now, cell) batches.new.items) }
     ensures err { OnErr result (Grows batches.old.items batches.new.items) }
 {

@@ -51,7 +51,8 @@ impl Model for History {
 
     ghost view = { λ h. closed h.events (accounts_at h.events h.accounts.items) };
 
-    ghost invariant = { λ h. (service : Service) × IsHistory service (kept h.events h.desk.book h.cells) (closed h.events (accounts_at h.events h.accounts.items)) };
+    ghost invariant = { λ h. (service : Service)
+        × IsHistory service (kept h.events h.desk.book h.cells) (closed h.events (accounts_at h.events h.accounts.items)) };
 }
 
 impl History {

@@ -52,8 +52,8 @@ impl<L: LoaderName> Model for Pass<L> {
 
     ghost view = { λ p. viewed p.caller p.unseen (vec_capacity p.entries) (vec_capacity p.tickets) p.entries.items p.tickets.items };
 
-    ghost invariant = { λ p. IsPass L.service.callers p.caller p.front p.calls p.share.parts p.share.amount p.unseen (vec_capacity p.entries) (vec_capacity p.tickets)
-        p.entries.items p.tickets.items };
+    ghost invariant = { λ p. IsPass L.service.callers p.caller p.front p.calls p.share.parts p.share.amount p.unseen
+        (vec_capacity p.entries) (vec_capacity p.tickets) p.entries.items p.tickets.items };
 }
 
 impl<L: LoaderName> Pass<L> {

@@ -1,6 +1,6 @@
 -- After as many rounds as it is deep, a term has an answer.
-use Rattle.std.proofs.Common.{◌≡◌, ◌∙◌, ap, sym, subst, refl, inl, inr, ℕ, zero, suc, ◌+◌, ◌≤◌, Bool, true, false, cond, filter, not, List, [], ◌∷◌, ◌++◌, Option}
-use Rattle.std.proofs.Common.{Some, None, arith}
+use Rattle.std.proofs.Common.{◌≡◌, ◌∙◌, ap, sym, subst, refl, inl, inr, ℕ, zero, suc, ◌+◌, ◌≤◌, Bool, true, false, cond, filter, not, List, [], ◌∷◌, ◌++◌}
+use Rattle.std.proofs.Common.{Option, Some, None, arith}
 use Rattle.std.specs.Prelude.{⊤, IsSome, max}
 use Rattle.std.specs.List.{AllByRecursion}
 use Rattle.std.specs.Option.{option_map, option_and_then}
@@ -163,7 +163,8 @@ mutual
   all_have (tree t ts) r q low h =
       has_both (answer q t) (answers q ts)
       (has t r q (left_below (depth_of t) (depth_of_all ts) r low) (rises_of t (all (tree t ts)) (λ m p k. known_left p (waits m t) (all_wait m ts) k) r q h))
-      (all_have ts r q (right_below (depth_of t) (depth_of_all ts) r low) (rises_of (all ts) (all (tree t ts)) (λ m p k. known_right p (waits m t) (all_wait m ts) k) r q h))
+      (all_have ts r q (right_below (depth_of t) (depth_of_all ts) r low)
+      (rises_of (all ts) (all (tree t ts)) (λ m p k. known_right p (waits m t) (all_wait m ts) k) r q h))
 
 rises : (t : Tree) (r : ℕ) (p q : Pairs) → GainsFrontier t r p q → Rises t r (outcome_in q)
 rises t zero p q e = tt

@@ -86,7 +86,8 @@ impl<L: LoaderName> Loader<L> {
         ensures made { OnOk result (WasMade L.service pass.old.part (end_by (job_of fetched.now).batch (answer_of fetched.now)) reply.Done pass.new.part) }
         ensures tickets { OnOk result (pass.new.part.tickets ≡ pass.old.part.tickets) }
         ensures each { IfOk result (λ settled. settled.shown + settled.refused ≡ length (job_of fetched.now).keys) }
-        ensures fault { IfErr result (WasRefused L.service pass.old.part (end_by (job_of fetched.now).batch (answer_of fetched.now)) (Some (job_of fetched.now))) }
+        ensures fault { IfErr result
+            (WasRefused L.service pass.old.part (end_by (job_of fetched.now).batch (answer_of fetched.now)) (Some (job_of fetched.now))) }
         ensures unchanged { OnErr result (pass.new.part ≡ pass.old.part) }
     {
         let mut guard = self.book.lock(rt);

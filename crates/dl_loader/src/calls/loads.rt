@@ -55,7 +55,8 @@ impl<L: LoaderName> Loader<L> {
         pass: &mut Pass<L>,
         keys: &[FetchKey],
     ) -> Result<Vec<Ticket<'a, L>>, CallFault>
-        ensures made { IfOk result (λ tickets. WasMade L.service pass.old.part (call.LoadMany keys.now) (reply.Many (map (λ t. t.reply) tickets.items)) pass.new.part) }
+        ensures made { IfOk result (λ tickets.
+            WasMade L.service pass.old.part (call.LoadMany keys.now) (reply.Many (map (λ t. t.reply) tickets.items)) pass.new.part) }
         ensures each { IfOk result (λ tickets. length tickets.items ≡ length keys.now) }
         ensures gave { IfOk result (λ tickets. GaveTickets pass.new.part (length pass.old.part.tickets) tickets.items) }
         ensures fault { IfErr result (WasRefused L.service pass.old.part (call.LoadMany keys.now) None) }

@@ -11,7 +11,7 @@ ghost use Rattle.dl_loader.specs.Inside.Dues.{AreDue, AreGiven, CanEnd, outcome_
 ghost use Rattle.dl_history.specs.Entries.{front_of};
 ghost use Rattle.dl_history.specs.History.{primed};
 ghost use Rattle.dl_history.specs.Journal.{refusals, waiting};
-ghost use Rattle.dl_loader.specs.Made.{event_of, with_event};
+ghost use Rattle.dl_loader.specs.Made.{NothingMade, event_of, with_call_made, with_event};
 ghost use Rattle.dl_loader.specs.Pass.{with_call};
 
 use crate::due_endings::{dues, give};
@@ -49,7 +49,7 @@ impl<L: LoaderName> Pass<L> {
         ensures cells { OnOk result (journal.new.cells ≡ journal.old.cells ++ repeat cells (waiting ∷ [])) }
         ensures part { OnOk result (self.new.part ≡ with_call self.old.part (length journal.old.history) event) }
         ensures pass_room { OnOk result (tickets ≤ self.new.spare) }
-        ensures unchanged { OnErr result ((journal.new.history ≡ journal.old.history) × (journal.new.cells ≡ journal.old.cells) × (self.new.part ≡ self.old.part)) }
+        ensures unchanged { OnErr result (NothingMade journal.old journal.new self.old.part self.new.part) }
         ensures fault { IfErr result (λ fault. (fault ≡ OutOfMemory) ⊎ (fault ≡ LogRefused)) }
     {
         self.reserve(tickets)?;
@@ -75,7 +75,7 @@ impl<L: LoaderName> Pass<L> {
         ensures cells { OnOk result (journal.new.cells ≡ journal.old.cells ++ repeat cells (waiting ∷ [])) }
         ensures part { OnOk result (self.new.part ≡ with_call self.old.part (length journal.old.history) event) }
         ensures pass_room { OnOk result (self.old.spare ≤ self.new.spare + 1) }
-        ensures unchanged { OnErr result ((journal.new.history ≡ journal.old.history) × (journal.new.cells ≡ journal.old.cells) × (self.new.part ≡ self.old.part)) }
+        ensures unchanged { OnErr result (NothingMade journal.old journal.new self.old.part self.new.part) }
         ensures fault { IfErr result (λ fault. (fault ≡ OutOfMemory) ⊎ (fault ≡ LogRefused)) }
     {
         let stored = journal.append(alloc, rows, &mut self.share, event, cells)?;
@@ -103,10 +103,10 @@ impl<L: LoaderName> Pass<L> {
         requires after { front_of self.old.part.entries ≤ length journal.old.history }
         ensures history { OnOk result (journal.new.history ≡ journal.old.history ++ event_of self.old.part (LoadMany keys.now) (Many replies.now) ∷ []) }
         ensures cells { OnOk result (journal.new.cells ≡ journal.old.cells ++ repeat (cells_begun replies.now) (waiting ∷ [])) }
-        ensures part { OnOk result (self.new.part ≡ with_call self.old.part (length journal.old.history) (event_of self.old.part (LoadMany keys.now) (Many replies.now))) }
+        ensures part { OnOk result (self.new.part ≡ with_call_made self.old.part (length journal.old.history) (LoadMany keys.now) (Many replies.now)) }
         ensures room { OnOk result (length replies.now ≤ self.new.spare) }
         ensures below { self.old.part.caller < L.service.callers }
-        ensures unchanged { OnErr result ((journal.new.history ≡ journal.old.history) × (journal.new.cells ≡ journal.old.cells) × (self.new.part ≡ self.old.part)) }
+        ensures unchanged { OnErr result (NothingMade journal.old journal.new self.old.part self.new.part) }
         ensures fault { IfErr result (λ fault. (fault ≡ OutOfMemory) ⊎ (fault ≡ LogRefused)) }
     {
         let event = Event {
@@ -136,9 +136,9 @@ impl<L: LoaderName> Pass<L> {
         requires after { front_of self.old.part.entries ≤ length journal.old.history }
         ensures history { OnOk result (journal.new.history ≡ journal.old.history ++ event_of self.old.part (Prime key.now outcome.now) (primed reply) ∷ []) }
         ensures cells { OnOk result (journal.new.cells ≡ journal.old.cells ++ repeat (cells_primed reply) (waiting ∷ [])) }
-        ensures part { OnOk result (self.new.part ≡ with_call self.old.part (length journal.old.history) (event_of self.old.part (Prime key.now outcome.now) (primed reply))) }
+        ensures part { OnOk result (self.new.part ≡ with_call_made self.old.part (length journal.old.history) (Prime key.now outcome.now) (primed reply)) }
         ensures below { self.old.part.caller < L.service.callers }
-        ensures unchanged { OnErr result ((journal.new.history ≡ journal.old.history) × (journal.new.cells ≡ journal.old.cells) × (self.new.part ≡ self.old.part)) }
+        ensures unchanged { OnErr result (NothingMade journal.old journal.new self.old.part self.new.part) }
         ensures fault { IfErr result (λ fault. (fault ≡ OutOfMemory) ⊎ (fault ≡ LogRefused)) }
     {
         let event = Event {
@@ -165,9 +165,9 @@ impl<L: LoaderName> Pass<L> {
         requires after { front_of self.old.part.entries ≤ length journal.old.history }
         ensures history { OnOk result (journal.new.history ≡ journal.old.history ++ event_of self.old.part Dispatch (Sent jobs.now) ∷ []) }
         ensures cells { OnOk result (journal.new.cells ≡ journal.old.cells) }
-        ensures part { OnOk result (self.new.part ≡ with_call self.old.part (length journal.old.history) (event_of self.old.part Dispatch (Sent jobs.now))) }
+        ensures part { OnOk result (self.new.part ≡ with_call_made self.old.part (length journal.old.history) Dispatch (Sent jobs.now)) }
         ensures below { self.old.part.caller < L.service.callers }
-        ensures unchanged { OnErr result ((journal.new.history ≡ journal.old.history) × (journal.new.cells ≡ journal.old.cells) × (self.new.part ≡ self.old.part)) }
+        ensures unchanged { OnErr result (NothingMade journal.old journal.new self.old.part self.new.part) }
         ensures fault { IfErr result (λ fault. (fault ≡ OutOfMemory) ⊎ (fault ≡ LogRefused)) }
     {
         let event = Event {
@@ -200,10 +200,11 @@ impl<L: LoaderName> Pass<L> {
         ensures below { self.old.part.caller < L.service.callers }
         ensures history { OnOk result (journal.new.history ≡ journal.old.history ++ event_of self.old.part call Done ∷ []) }
         ensures part { OnOk result (self.new.part ≡ with_event self.old.part (length journal.old.history) call Done) }
-        ensures given { OnOk result ((dues : List Due) × AreDue call (length journal.old.history) cells.now dues × AreGiven dues journal.old.cells journal.new.cells) }
+        ensures given { OnOk result ((dues : List Due)
+            × AreDue call (length journal.old.history) cells.now dues × AreGiven dues journal.old.cells journal.new.cells) }
         ensures refused { IfOk result (λ settled. refusals journal.new.cells ≡ refusals journal.old.cells + settled.refused) }
         ensures each { IfOk result (λ settled. settled.shown + settled.refused ≡ length cells.now) }
-        ensures unchanged { OnErr result ((journal.new.history ≡ journal.old.history) × (journal.new.cells ≡ journal.old.cells) × (self.new.part ≡ self.old.part)) }
+        ensures unchanged { OnErr result (NothingMade journal.old journal.new self.old.part self.new.part) }
         ensures fault { IfErr result (λ fault. (fault ≡ OutOfMemory) ⊎ (fault ≡ LogRefused)) }
     {
         let caller = self.caller();

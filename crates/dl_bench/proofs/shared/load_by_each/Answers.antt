@@ -21,4 +21,7 @@ for_each_mut-requires-sync-F g c κs within =
     let n = g.L.LoaderName in
     let l = g.L.Ledger in
     let Ts = ShrRef _ _ (param 1 g.row.R) ∷ ShrRef _ _ Heap.the_row ∷ ShrRef _ _ (Loader.the_row L n l) ∷ ShrSlice _ _ FetchKey.the_row ∷ [] in
-    param_sync 2 _ (arg_sync _ yes (TupleAt _ Ts) (captures_sync _ Ts (shr_sync _ _ _ c.type_bounds.sync-R, (shr_sync _ _ _ sync, (shr_sync _ _ _ (Loader-sync L n l), (shr_slice_sync _ _ _ key.the_sync, tt))))))
+    param_sync 2 _ (arg_sync _ yes (TupleAt _ Ts) (captures_sync _ Ts (
+      shr_sync _ _ _ c.type_bounds.sync-R,
+      (shr_sync _ _ _ sync, (shr_sync _ _ _ (Loader-sync L n l), (shr_slice_sync _ _ _ key.the_sync, tt))),
+    )))
