@@ -7,7 +7,6 @@ mod player;
 mod row;
 mod rows;
 mod step;
-mod steps;
 mod threads;
 mod using;
 
@@ -109,5 +108,5 @@ fn callers_on_threads<R: Abort + Threads + Wait + Sync>(
     let key = keys::user(alloc, "u1")?;
     let opening = Opening::new(alloc, hashing, users, limits, 2)?;
     let history = using::load_by_each::<Brand, _, _>(rt, alloc, users, opening, &key)?;
-    using::assert_history(rt, alloc, &history, &key)
+    using::assert_history(rt, alloc, &history)
 }

@@ -41,7 +41,7 @@ fn assert_caller(
 }
 
 /// The events end these batches, in this order, where `true` says that a batch is settled.
-fn assert_ends(
+pub(super) fn assert_ends(
     rt: &impl Abort,
     alloc: Global,
     history: &History,
@@ -71,7 +71,7 @@ fn end_of(call: &Call) -> Option<(u32, bool)> {
 }
 
 /// The batches have these keys, and there is no other.
-fn assert_batches(rt: &impl Abort, batches: &Batches<'_>, want: &[(Ids, bool)]) {
+pub(super) fn assert_batches(rt: &impl Abort, batches: &Batches<'_>, want: &[(Ids, bool)]) {
     let mut number: u32 = 0;
     for (ids, is_settled) in want {
         match batches.get(number) {
@@ -87,7 +87,7 @@ fn assert_batches(rt: &impl Abort, batches: &Batches<'_>, want: &[(Ids, bool)]) 
 }
 
 /// The cells have outcomes of these texts, and there is no other cell.
-fn assert_outcomes(
+pub(super) fn assert_outcomes(
     rt: &impl Abort,
     alloc: Global,
     history: &History,

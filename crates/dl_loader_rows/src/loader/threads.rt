@@ -1,17 +1,18 @@
 //! One key that two callers load, each on a thread of its own.
 
-ghost use Rattle.std.specs.Prelude.{◌≡◌, false, IfOk};
+ghost use Rattle.std.specs.Prelude.{◌≡◌, false, IfOk, OnOk};
 ghost use Rattle.dl_history.specs.Service.{Answers};
 ghost use Rattle.dl_loader.specs.Opening.{Names};
 ghost use Rattle.dl_loader.specs.Pass.{GaveTicket};
 
-use super::keys::user;
+use super::closed::assert_ends;
+use super::keys::{assert_jobs, assert_shows, user};
 use super::step::ADA;
-use super::steps::{assert_ends, assert_shows, end_only_job};
 use dl_desk::{FetchKey, LoadReply};
 use dl_loader::laws::looks_agree;
 use dl_loader::{CallFault, EntryKind, History, Loader, LoaderName, Opening, Pass, Reply, Ticket};
 use dl_source::Source;
+use dl_workers::end_jobs;
 use std::alloc::Global;
 use std::process::Abort;
 use std::sync::Wait;
@@ -71,11 +72,27 @@ fn load_by_both<L: LoaderName + Send + Sync, S: Source, R: Abort + Threads + Wai
     let (one, other) = start_threads(rt, alloc, loader, &key, one, other)?;
     let (mut one, mut first) = one;
     let (mut other, mut second) = other;
-    end_only_job(rt, alloc, source, loader, &mut one, &key)?;
+    end_batch(rt, alloc, source, loader, &mut one)?;
     read(rt, alloc, loader, &mut one, &mut first)?;
     read(rt, alloc, loader, &mut other, &mut second)?;
     assert_agree(rt, &first, &second);
     Ok((one, other))
+}
+
+/// Sends the only batch that waits to be sent, which is the first and has the key alone, and ends it.
+fn end_batch<L: LoaderName, S: Source, R: Abort + Wait>(
+    rt: &R,
+    alloc: Global,
+    source: &S,
+    loader: &Loader<L>,
+    pass: &mut Pass<L>,
+) -> Result<(), CallFault>
+    requires source { Answers (S.answer source.now) L.service }
+    ensures { OnOk result (pass.new.part.tickets ≡ pass.old.part.tickets) }
+{
+    let jobs = loader.dispatch(rt, alloc, pass)?;
+    assert_jobs(rt, jobs.as_slice(), &[(0, &["u1"])]);
+    end_jobs(rt, alloc, loader, source, pass, jobs)
 }
 
 /// Tickets of one key are of one cell, and have shown one outcome.
@@ -133,7 +150,7 @@ fn read<L: LoaderName, R: Abort + Wait>(
     requires { GaveTicket pass.old.part ticket.old false }
 {
     loader.wait(rt, pass, ticket)?;
-    assert_shows(rt, alloc, ticket, ADA)
+    assert_shows(rt, alloc, ticket.look(), Some(ADA))
 }
 
 /// The four events, the first two of which are the loads, in whichever order.

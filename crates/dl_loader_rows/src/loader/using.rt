@@ -4,10 +4,9 @@ ghost use Rattle.std.specs.Prelude.{◌≡◌};
 ghost use Rattle.dl_history.specs.Service.{Answers};
 ghost use Rattle.dl_loader.specs.Opening.{Names};
 
+use super::closed::{assert_batches, assert_outcomes};
 use super::step::ADA;
-use super::steps::assert_only_batch;
 use dl_desk::FetchKey;
-use dl_fixtures::outcome_text;
 use dl_loader::{CallFault, EntryKind, History, Loader, LoaderName, MOST_CALLERS, Opening, Pass};
 use dl_source::Source;
 use dl_workers::end_jobs;
@@ -91,18 +90,14 @@ fn load<L: LoaderName, S: Source, R: Wait>(
     Ok(())
 }
 
-/// The history has one batch, which has the key alone and is settled, and both callers have read the outcome.
+/// The history has one batch, which has the user `u1` alone and is settled, and both callers have read the outcome.
 pub(super) fn assert_history(
     rt: &impl Abort,
     alloc: Global,
     history: &History,
-    key: &FetchKey,
 ) -> Result<(), Fail> {
-    assert_only_batch(rt, history, key, true)?;
-    let Some(outcome) = history.outcome(0) else {
-        return Err("no outcome".into());
-    };
-    assert_eq!(rt; outcome_text(alloc, outcome)?.as_str(), ADA);
+    assert_batches(rt, &history.batches(), &[(&["u1"], true)]);
+    assert_outcomes(rt, alloc, history, &[ADA])?;
     for caller in 0..2 {
         let Some(last) = history.entries(caller).last() else {
             return Err("no entries".into());

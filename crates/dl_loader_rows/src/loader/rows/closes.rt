@@ -16,7 +16,7 @@ const BEGUN: Part = Part {
     close: Err(Unsettled { batch: 0 }),
 };
 
-const FAILED: Row = Row {
+static FAILED: Row = Row {
     limits: (2, 8, 16),
     callers: 1,
     parts: &[
@@ -47,7 +47,7 @@ fn a_close_once_a_batch_has_failed(rt: HostRuntime) -> Result<(), Fail> {
     play(&rt, rt.alloc(), &FAILED)
 }
 
-const UNSETTLED: Row = Row {
+static UNSETTLED: Row = Row {
     limits: (2, 8, 16),
     callers: 1,
     parts: &[
@@ -70,7 +70,7 @@ fn a_close_with_a_batch_that_has_not_ended(rt: HostRuntime) -> Result<(), Fail> 
 }
 
 // The passes are counted first, and of the batches that have not ended, sent or not, the least is named.
-const CAUSES: Row = Row {
+static CAUSES: Row = Row {
     limits: (1, 8, 16),
     callers: 2,
     parts: &[
@@ -149,7 +149,7 @@ fn closes_that_are_refused_by_the_first_cause(rt: HostRuntime) -> Result<(), Fai
     play(&rt, rt.alloc(), &CAUSES)
 }
 
-const MOST_CALLERS: Row = Row {
+static MOST_CALLERS: Row = Row {
     limits: (1, 1, 2),
     callers: 32,
     parts: &[
@@ -182,7 +182,7 @@ fn a_close_with_as_many_callers_as_there_may_be(rt: HostRuntime) -> Result<(), F
 }
 
 // The greatest cells and calls that a loader may have.
-const LARGEST: Row = Row {
+static LARGEST: Row = Row {
     limits: (1, 65_536, 65_536),
     callers: 1,
     parts: &[Part {
@@ -197,7 +197,7 @@ fn a_loader_with_the_greatest_limits(rt: HostRuntime) -> Result<(), Fail> {
     play(&rt, rt.alloc(), &LARGEST)
 }
 
-const LEAST: Row = Row {
+static LEAST: Row = Row {
     limits: (1, 1, 1),
     callers: 1,
     parts: &[Part {

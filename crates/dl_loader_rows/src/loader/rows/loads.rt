@@ -21,7 +21,7 @@ const ENTRIES: [EntryKind; 6] = [
     Call { at: 4 },
 ];
 
-const TO_THE_END: Row = Row {
+static TO_THE_END: Row = Row {
     limits: (2, 8, 16),
     callers: 1,
     parts: &[Part {
@@ -59,7 +59,7 @@ fn a_load_to_its_end(rt: HostRuntime) -> Result<(), Fail> {
 }
 
 // The batch of another key keeps the loader from being closed.
-const PRIMED: Row = Row {
+static PRIMED: Row = Row {
     limits: (2, 8, 16),
     callers: 1,
     parts: &[Part {
@@ -102,7 +102,7 @@ fn a_primed_key(rt: HostRuntime) -> Result<(), Fail> {
 }
 
 // What is primed is read, whatever outcome it is.
-const PRIMED_OTHERS: Row = Row {
+static PRIMED_OTHERS: Row = Row {
     limits: (2, 8, 16),
     callers: 1,
     parts: &[Part {
@@ -162,7 +162,7 @@ fn keys_primed_with_failures(rt: HostRuntime) -> Result<(), Fail> {
 }
 
 // A prime of a key that waits for its outcome changes nothing; once all keys are forgotten it begins a cell.
-const PRIMED_PENDING: Row = Row {
+static PRIMED_PENDING: Row = Row {
     limits: (2, 8, 16),
     callers: 1,
     parts: &[Part {
@@ -195,7 +195,7 @@ fn a_prime_of_a_key_that_waits(rt: HostRuntime) -> Result<(), Fail> {
 }
 
 // An error of a key is kept as a value is.
-const ERRORS: Row = Row {
+static ERRORS: Row = Row {
     limits: (2, 8, 16),
     callers: 1,
     parts: &[Part {
@@ -243,7 +243,7 @@ fn errors_of_keys(rt: HostRuntime) -> Result<(), Fail> {
 }
 
 // Where the source breaks at one key the whole batch fails, and both keys are forgotten.
-const BREAK: Row = Row {
+static BREAK: Row = Row {
     limits: (2, 8, 16),
     callers: 1,
     parts: &[Part {
@@ -274,7 +274,7 @@ fn a_source_that_breaks(rt: HostRuntime) -> Result<(), Fail> {
     play(&rt, rt.alloc(), &BREAK)
 }
 
-const NOTHING: Row = Row {
+static NOTHING: Row = Row {
     limits: (2, 8, 16),
     callers: 1,
     parts: &[Part {
@@ -303,7 +303,7 @@ fn calls_on_nothing(rt: HostRuntime) -> Result<(), Fail> {
     play(&rt, rt.alloc(), &NOTHING)
 }
 
-const BY_THE_LAW: Row = Row {
+static BY_THE_LAW: Row = Row {
     limits: (2, 8, 16),
     callers: 1,
     parts: &[Part {

@@ -16,7 +16,7 @@ use dl_loader::PrimeReply::Kept;
 use dl_loader::{CallFault, CloseFault};
 use std::test::Fail;
 
-const FULL_LOG: Row = Row {
+static FULL_LOG: Row = Row {
     limits: (1, 1, 2),
     callers: 1,
     parts: &[
@@ -59,7 +59,7 @@ fn a_full_log(rt: HostRuntime) -> Result<(), Fail> {
 const LOG_FULL: CallFault = LogFull { limit: 2 };
 
 // Where the log is full, nothing that comes later is looked at: the cells are full too, and no batch has number 5.
-const FULL_LOG_BY_EACH: Row = Row {
+static FULL_LOG_BY_EACH: Row = Row {
     limits: (2, 1, 2),
     callers: 1,
     parts: &[Part {
@@ -98,7 +98,7 @@ fn a_full_log_by_each_call(rt: HostRuntime) -> Result<(), Fail> {
     play(&rt, rt.alloc(), &FULL_LOG_BY_EACH)
 }
 
-const STOPPED_WAIT: Row = Row {
+static STOPPED_WAIT: Row = Row {
     limits: (2, 8, 16),
     callers: 1,
     parts: &[Part {
@@ -126,7 +126,7 @@ fn a_wait_at_a_stopped_loader(rt: HostRuntime) -> Result<(), Fail> {
 }
 
 // A cell that has ended is read after the stop too. The log is full, and yet each call says that the loader is stopped.
-const STOPPED_BY_EACH: Row = Row {
+static STOPPED_BY_EACH: Row = Row {
     limits: (2, 8, 3),
     callers: 1,
     parts: &[Part {
@@ -174,7 +174,7 @@ fn a_stopped_loader_by_each_call(rt: HostRuntime) -> Result<(), Fail> {
 
 const CELLS_FULL: CallFault = CellsFull { limit: 1 };
 
-const FULL_CELLS: Row = Row {
+static FULL_CELLS: Row = Row {
     limits: (1, 1, 8),
     callers: 1,
     parts: &[Part {
@@ -207,7 +207,7 @@ fn a_loader_whose_cells_are_all_begun(rt: HostRuntime) -> Result<(), Fail> {
 }
 
 // A call that would begin more cells than there are left begins none.
-const LAST_CELL: Row = Row {
+static LAST_CELL: Row = Row {
     limits: (2, 2, 8),
     callers: 1,
     parts: &[Part {
@@ -237,7 +237,7 @@ fn a_call_that_needs_too_many_cells(rt: HostRuntime) -> Result<(), Fail> {
     play(&rt, rt.alloc(), &LAST_CELL)
 }
 
-const ENDS: Row = Row {
+static ENDS: Row = Row {
     limits: (2, 8, 16),
     callers: 1,
     parts: &[Part {
@@ -273,7 +273,7 @@ fn ends_that_are_refused(rt: HostRuntime) -> Result<(), Fail> {
 }
 
 // Of two causes the first is answered: the wrong keys come last.
-const FIRST_CAUSES: Row = Row {
+static FIRST_CAUSES: Row = Row {
     limits: (2, 8, 16),
     callers: 1,
     parts: &[Part {
@@ -314,7 +314,7 @@ fn ends_that_are_refused_by_the_first_cause(rt: HostRuntime) -> Result<(), Fail>
 }
 
 // Each way in which keys aren't those of the batch: another one, one too few, one too many, none, another order.
-const WRONG_KEYS: Row = Row {
+static WRONG_KEYS: Row = Row {
     limits: (2, 8, 16),
     callers: 1,
     parts: &[Part {

@@ -12,7 +12,7 @@ use std::test::Fail;
 const DB_DOWN: &str = "batch db down";
 
 // A batch that breaks late forgets its key only where the key isn't held by a newer cell.
-const LATE_FAILURE: Row = Row {
+static LATE_FAILURE: Row = Row {
     limits: (2, 8, 32),
     callers: 2,
     parts: &[
@@ -82,7 +82,7 @@ fn a_late_failure_and_a_newer_cell(rt: HostRuntime) -> Result<(), Fail> {
     play(&rt, rt.alloc(), &LATE_FAILURE)
 }
 
-const TWO_CELLS: Row = Row {
+static TWO_CELLS: Row = Row {
     limits: (2, 8, 32),
     callers: 2,
     parts: &[Part {
@@ -106,7 +106,7 @@ fn an_older_and_a_newer_cell_of_one_key(rt: HostRuntime) -> Result<(), Fail> {
     play(&rt, rt.alloc(), &TWO_CELLS)
 }
 
-const ANY_ORDER: Row = Row {
+static ANY_ORDER: Row = Row {
     limits: (1, 8, 32),
     callers: 1,
     parts: &[Part {
@@ -131,7 +131,7 @@ fn ends_in_any_order(rt: HostRuntime) -> Result<(), Fail> {
 }
 
 // The second load of a key that was cleared stands in the next batch, and so does what comes after it.
-const KEY_ONCE: Row = Row {
+static KEY_ONCE: Row = Row {
     limits: (2, 8, 16),
     callers: 1,
     parts: &[Part {
