@@ -1,7 +1,7 @@
 -- What a round makes of each form stands for it.
 use Rattle.std.proofs.Common.{◌≡◌, ◌∙◌, ap, sym, subst, refl, ℕ, suc, ◌+◌, ◌<◌, ◌≤◌, Bool, true, false, nat_lt, if◌then◌else◌, List, [], ◌∷◌, ◌++◌, take}
-use Rattle.std.proofs.Common.{drop, length, get_or, Option, Some, None}
-use Rattle.std.specs.Prelude.{MatchOption}
+use Rattle.std.proofs.Common.{drop, length, get_or, Option, Some, None, Result, Ok, Err}
+use Rattle.std.specs.Prelude.{MatchOption, OnOk}
 use Rattle.std.specs.Option.{option_map, option_and_then}
 use Rattle.std.specs.List.{AllZip}
 use Rattle.std.proofs.lemmas.List.{take_more, drop_more}
@@ -24,6 +24,7 @@ use Rattle.dl_terms.specs.Gives.{target_answers, target_waits, each_target_waits
 use Rattle.dl_terms.specs.Gives.{answer, answers, waits, all_wait}
 use Rattle.dl_terms.specs.Node.{node_view, nodes_view, result_of, results_of}
 use Rattle.dl_terms.specs.Reduces.{Stands, StandAll, Reduces, ReduceAll, LoadsTarget, LoadsEach, LoadsTargets, PicksOn, FollowsOn, EachOn, GathersOn}
+use Rattle.dl_terms.specs.Reduces.{PartsReduce, parts_wait, GoesOn, own_waits}
 use Rattle.dl_terms.proofs.Options.{none_absurd, some_same, from_both}
 
 pub result_is : (v : Tree) (a : Answer) → result_of v ≡ Some a → v ≡ ended a
@@ -45,6 +46,11 @@ results_answer (tree t ts) ls e q =
       ap (λ u. waits q u ++ all_wait q ts) is
           ∙ rest.1,
     )
+
+-- what follows where there was memory
+on_ok : {X E P Q : Type 0} (r : Result X E) → (P → Q) → OnOk r P → OnOk r Q
+on_ok (Ok x) f h = f h
+on_ok (Err e) f h = tt
 
 module _ (p : Key → Option Outcome) where
   pub load_known : (k : Key) (o : Outcome) → p k ≡ Some o → (u : Tree) → u ≡ ended (loaded k o) → LoadsTarget p (Target.key k) u
@@ -76,7 +82,7 @@ module _ (p : Key → Option Outcome) where
         ending = ap result_of is ∙ ap (option_map (picked field)) (sym e ∙ part.ending);
       }
 
-  pub picks_on : (t v u : Tree) (field : Name) → Reduces p t v → PicksOn v field u → Reduces p (pick t field) u
+  picks_on : (t v u : Tree) (field : Name) → Reduces p t v → PicksOn v field u → Reduces p (pick t field) u
   picks_on t v u field part on = pick_on t v u field (result_of v) refl part on
 
   -- ---- a form that goes on from its part's answer
@@ -113,7 +119,7 @@ module _ (p : Key → Option Outcome) where
   follow_on t v u field table (Some a) e part s =
       goes_on t v u (λ q b. target_answer q (target_in table (picked field b))) (λ q b. target_waits q (target_in table (picked field b))) part a e s
 
-  pub follows_on : (t v u : Tree) (field table : Name) → Reduces p t v → FollowsOn p v field table u → Reduces p (follow t field table) u
+  follows_on : (t v u : Tree) (field table : Name) → Reduces p t v → FollowsOn p v field table u → Reduces p (follow t field table) u
   follows_on t v u field table part on = follow_on t v u field table (result_of v) refl part on
 
   each_goes : (t v u : Tree) (field table : Name) (r : Option Answer) → result_of v ≡ r → Reduces p t v
@@ -124,7 +130,7 @@ module _ (p : Key → Option Outcome) where
   each_goes t v u field table (Some a) e part s =
       goes_on t v u (λ q b. targets_answer q (targets_in table (picked field b))) (λ q b. targets_waits q (targets_in table (picked field b))) part a e s
 
-  pub each_on : (t v u : Tree) (field table : Name) → Reduces p t v → EachOn p v field table u → Reduces p (each t field table) u
+  each_on : (t v u : Tree) (field table : Name) → Reduces p t v → EachOn p v field table u → Reduces p (each t field table) u
   each_on t v u field table part on = each_goes t v u field table (result_of v) refl part on
 
   -- ---- several together
@@ -146,6 +152,59 @@ module _ (p : Key → Option Outcome) where
   pub gathers_on : (say : (Key → Option Outcome) → Option (List Answer)) (lack : (Key → Option Outcome) → List Key) (vs : Trees) (u : Tree)
       → StandAll p say lack vs → GathersOn vs u → Stands p (λ q. option_map gathered (say q)) lack u
   gathers_on say lack vs u s on = gather_on say lack vs u (results_of vs) refl s on
+
+  -- ---- the parts, and then the form over them
+
+  pub parts_go_on : (t v u : Tree) → PartsReduce p t v → GoesOn p v u → Reduces p t u
+  parts_go_on (ended a) v u same on =
+      let is : u ≡ ended a = subst (λ w. GoesOn p w u) same on in
+      record { meaning = λ q more. ap (answer q) is; waiting = λ q more. ap (waits q) is; ending = ap result_of is }
+  parts_go_on (load k) v u same on = subst (λ w. GoesOn p w u) same on
+  parts_go_on (pick t field) v u part on = picks_on t part.0 u field part.1 (subst (λ w. GoesOn p w u) part.2 on)
+  parts_go_on (follow t field table) v u part on = follows_on t part.0 u field table part.1 (subst (λ w. GoesOn p w u) part.2 on)
+  parts_go_on (each t field table) v u part on = each_on t part.0 u field table part.1 (subst (λ w. GoesOn p w u) part.2 on)
+  parts_go_on (all ts) v u parts on =
+      gathers_on (λ q. answers q ts) (λ q. all_wait q ts) parts.0 u parts.1 (subst (λ w. GoesOn p w u) parts.2 on)
+
+  -- a node whose part a round has explored in place
+  module _ {X E : Type 0} (r : Result X E) (node after part now left : Node) (same : now ≡ part)
+      (explored : OnOk r (Reduces p (node_view now) (node_view left))) (field : Name) where
+    part_stands : Reduces p (node_view now) (node_view left) → Reduces p (node_view part) (node_view left)
+    part_stands h = subst (λ n. Reduces p (node_view n) (node_view left)) same h
+
+    pub pick_left : node_view node ≡ pick (node_view part) field → node_view after ≡ pick (node_view left) field
+        → OnOk r (PartsReduce p (node_view node) (node_view after))
+    pick_left e is = on_ok r (λ h. subst (λ t. PartsReduce p t (node_view after)) (sym e) (node_view left, part_stands h, is)) explored
+
+    pub follow_left : (table : Name) → node_view node ≡ follow (node_view part) field table → node_view after ≡ follow (node_view left) field table
+        → OnOk r (PartsReduce p (node_view node) (node_view after))
+    follow_left table e is = on_ok r (λ h. subst (λ t. PartsReduce p t (node_view after)) (sym e) (node_view left, part_stands h, is)) explored
+
+    pub each_left : (table : Name) → node_view node ≡ each (node_view part) field table → node_view after ≡ each (node_view left) field table
+        → OnOk r (PartsReduce p (node_view node) (node_view after))
+    each_left table e is = on_ok r (λ h. subst (λ t. PartsReduce p t (node_view after)) (sym e) (node_view left, part_stands h, is)) explored
+
+  -- what the form adds behind its part
+  adds_own : (t w : Tree) (next : Answer → List Key) (keys : List Key) → Reduces p t w
+      → insert_all key_eq (insert_all key_eq keys (waits p t)) (waits_after (result_of w) next)
+      ≡ insert_all key_eq keys (waits p t ++ waits_after (answer p t) next)
+  adds_own t w next keys part =
+      ap (λ o. insert_all key_eq (insert_all key_eq keys (waits p t)) (waits_after o next)) part.ending
+      ∙ sym (fold-append (insert_key key_eq) keys (waits p t) (waits_after (answer p t) next))
+
+  -- what the parts add, and behind it what the form adds, is all that it waits for
+  pub adds_all : (t v : Tree) (keys : List Key) → PartsReduce p t v
+      → insert_all key_eq (insert_all key_eq keys (parts_wait p t)) (own_waits p v) ≡ insert_all key_eq keys (waits p t)
+  adds_all (ended a) v keys same = ap (λ w. insert_all key_eq keys (own_waits p w)) same
+  adds_all (load k) v keys same = ap (λ w. insert_all key_eq keys (own_waits p w)) same
+  adds_all (pick t field) v keys part = ap (λ w. insert_all key_eq (insert_all key_eq keys (waits p t)) (own_waits p w)) part.2
+  adds_all (follow t field table) v keys part =
+      ap (λ w. insert_all key_eq (insert_all key_eq keys (waits p t)) (own_waits p w)) part.2
+      ∙ adds_own t part.0 (λ a. target_waits p (target_in table (picked field a))) keys part.1
+  adds_all (each t field table) v keys part =
+      ap (λ w. insert_all key_eq (insert_all key_eq keys (waits p t)) (own_waits p w)) part.2
+      ∙ adds_own t part.0 (λ a. targets_waits p (targets_in table (picked field a))) keys part.1
+  adds_all (all ts) v keys parts = ap (λ w. insert_all key_eq (insert_all key_eq keys (all_wait p ts)) (own_waits p w)) parts.2
 
   stand_more : (says : (Key → Option Outcome) → Option Answer) (lacks : (Key → Option Outcome) → List Key) (say : (Key → Option Outcome)
       → Option (List Answer)) (lack : (Key → Option Outcome) → List Key) (u : Tree) (us : Trees)

@@ -7,7 +7,8 @@ ghost use Rattle.dl_desk.specs.Key.{key_eq};
 ghost use Rattle.indexmap.specs.IndexSet.{insert_all};
 ghost use Rattle.dl_terms.specs.Gives.{picked, gathered, waits, all_wait, waits_after, target_in, target_waits, targets_in, targets_waits};
 ghost use Rattle.dl_terms.specs.Node.{node_view, nodes_view, result_of, results_of};
-ghost use Rattle.dl_terms.specs.Reduces.{known_of, Reduces, ReduceAll, LoadsTargets, PicksOn, FollowsOn, EachOn, GathersOn};
+ghost use Rattle.dl_terms.specs.Reduces.{known_of, Reduces, ReduceAll, PartsReduce, parts_wait, GoesOn, own_waits};
+ghost use Rattle.dl_terms.specs.Reduces.{LoadsTargets, PicksOn, FollowsOn, EachOn, GathersOn};
 ghost use Rattle.dl_terms.specs.declared.answer.Answer.TheVariants as answer;
 
 use crate::answer::{Answer, EvalFault};
@@ -38,35 +39,32 @@ pub fn explore(
     ensures wanted { OnOk result (wanted.new.keys
         ≡ insert_all key_eq wanted.old.keys (waits (known_of known.now) (node_view node.old))) }
 {
-    match mem::replace(node, HOLLOW) {
-        Node::Done(answer) => *node = Node::Done(answer),
-        Node::Load(key) => *node = load(key, known, wanted)?,
-        Node::Pick { mut part, field } => {
-            explore(alloc, &mut part, known, wanted)?;
-            *node = pick(alloc, part, field)?;
-        }
-        Node::Follow {
-            mut part,
-            field,
-            table,
-        } => {
-            explore(alloc, &mut part, known, wanted)?;
-            *node = follow(alloc, part, field, table, known, wanted)?;
-        }
-        Node::Each {
-            mut part,
-            field,
-            table,
-        } => {
-            explore(alloc, &mut part, known, wanted)?;
-            *node = each(alloc, part, field, table, known, wanted)?;
-        }
-        Node::All(mut parts) => {
-            explore_all(alloc, &mut parts, known, wanted)?;
-            *node = gather(alloc, parts)?;
-        }
-    }
+    explore_parts(alloc, node, known, wanted)?;
+    let next = advance(alloc, mem::replace(node, HOLLOW), known, wanted)?;
+    // An assignment would spell out here how each form of the old node is let go.
+    drop(mem::replace(node, next));
     Ok(())
+}
+
+/// A round of the node's parts, in place. The node keeps its form.
+#[cycle(exploring)]
+fn explore_parts(
+    alloc: Global,
+    node: &mut Node,
+    known: &Known<'_>,
+    wanted: &mut Wanted,
+) -> Result<(), AllocError>
+    ensures reduce { OnOk result (PartsReduce (known_of known.now) (node_view node.old) (node_view node.new)) }
+    ensures wanted { OnOk result (wanted.new.keys
+        ≡ insert_all key_eq wanted.old.keys (parts_wait (known_of known.now) (node_view node.old))) }
+{
+    match node {
+        Node::Done(_) | Node::Load(_) => Ok(()),
+        Node::Pick { part, .. } => explore(alloc, part, known, wanted),
+        Node::Follow { part, .. } => explore(alloc, part, known, wanted),
+        Node::Each { part, .. } => explore(alloc, part, known, wanted),
+        Node::All(parts) => explore_all(alloc, parts, known, wanted),
+    }
 }
 
 #[cycle(exploring)]
@@ -84,6 +82,27 @@ fn explore_all(
         explore(alloc, &mut parts[place], known, wanted)?;
     }
     Ok(())
+}
+
+/// What comes of a node whose parts were explored.
+fn advance(
+    alloc: Global,
+    node: Node,
+    known: &Known<'_>,
+    wanted: &mut Wanted,
+) -> Result<Node, AllocError>
+    ensures stands { IfOk result (λ n. GoesOn (known_of known.now) (node_view node) (node_view n)) }
+    ensures wanted { OnOk result (wanted.new.keys
+        ≡ insert_all key_eq wanted.old.keys (own_waits (known_of known.now) (node_view node))) }
+{
+    match node {
+        Node::Done(answer) => Ok(Node::Done(answer)),
+        Node::Load(key) => load(key, known, wanted),
+        Node::Pick { part, field } => pick(alloc, part, field),
+        Node::Follow { part, field, table } => follow(alloc, part, field, table, known, wanted),
+        Node::Each { part, field, table } => each(alloc, part, field, table, known, wanted),
+        Node::All(parts) => gather(alloc, parts),
+    }
 }
 
 /// The field of a value.

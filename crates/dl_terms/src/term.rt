@@ -12,9 +12,9 @@ use dl_desk::{FetchKey, Json, Text};
 /// The text of a `table` has 1 to 64 bytes.
 ///
 /// Whatever walks a term recurses as deep as the term is high, and a term is as high as its maker
-/// wants. With 8 MiB of stack and an unoptimised build, a chain of picks was explored at a height of
-/// 700 and ran out of stack at 1,000; planning it held at 1,500, dropping it at 5,000 and counting
-/// its depth and height at 7,000. Whoever takes terms from strangers bounds their height.
+/// wants. With 8 MiB of stack and an unoptimised build, planning a chain of picks held at a height of
+/// 1,500, exploring and dropping it at 5,000, and counting its depth and height at 7,000. Whoever
+/// takes terms from strangers bounds their height.
 #[derive(Drop)]
 pub enum Term {
     /// A value.

@@ -3,57 +3,59 @@ use Rattle.std.specs.List.{AllZip}
 use Rattle.std.proofs.lemmas.List.{take_all, drop_all, take_more_set, length-set, get_or-set_other}
 use Rattle.indexmap.specs.IndexSet.{insert_all}
 use Rattle.dl_desk.specs.Key.{key_eq}
-use Rattle.dl_terms.specs.Tree.{pick, follow, each, all}
-use Rattle.dl_terms.specs.Gives.{answers, waits, all_wait}
+use Rattle.dl_terms.specs.Gives.{waits, all_wait}
 use Rattle.dl_terms.specs.Node.{node_view, nodes_view}
-use Rattle.dl_terms.specs.Reduces.{known_of, Reduces}
-use Rattle.dl_terms.proofs.Views.{node_view-Pick, node_view-Follow, node_view-Each, node_view-All}
-use Rattle.dl_terms.proofs.Reduced.{picks_on, follows_on, each_on, gathers_on, nodes_reduce, zip_next, wanted_next}
+use Rattle.dl_terms.specs.Reduces.{known_of, Reduces, GoesOn, own_waits}
+use Rattle.dl_terms.proofs.Views.{node_view-Pick, node_view-Follow, node_view-Each}
+use Rattle.dl_terms.proofs.Reduced.{parts_go_on, pick_left, follow_left, each_left, adds_all, nodes_reduce, zip_next, wanted_next}
 use Rattle.dl_terms.proofs.exploring.+exploring.Goals as goal
 
-pub explore-returns-in_ok-node-in-Pick-clause-reduces : goal.explore-returns-in_ok-node-in-Pick-clause-reduces
-explore-returns-in_ok-node-in-Pick-clause-reduces t c =
+pub explore-returns-clause-reduces : goal.explore-returns-clause-reduces
+explore-returns-clause-reduces t c =
     let p = known_of c.args.known.now in
-    let before : node_view c.args.node.now ≡ pick (node_view c.in-Pick.part.value) c.in-Pick.field =
-    ap node_view (sym c.in-Pick.ensures.value) ∙ node_view-Pick c.in-Pick.part c.in-Pick.field in
-    let part : Reduces p (node_view c.in-Pick.part.value) (node_view c.explore.new.node) =
-    subst (λ n. Reduces p (node_view n) (node_view c.explore.new.node)) c.deref_mut.ensures.value c.in_ok-explore-in-Pick.ensures.reduces in
-    subst (λ u. Reduces p u (node_view c.in_ok-node-in-Pick.field-0)) (sym before)
-    (picks_on p (node_view c.in-Pick.part.value) (node_view c.explore.new.node) (node_view c.in_ok-node-in-Pick.field-0) c.in-Pick.field part
-    c.in_ok-node-in-Pick.ensures)
+    let before = node_view c.args.node.now in
+    let parts = c.explore_parts.new.node in
+    let next = node_view c.in_ok-next.next in
+    let on : GoesOn p (node_view parts) next = subst (λ n. GoesOn p (node_view n) next) c.replace.ensures.value c.in_ok-next.ensures.stands in
+    subst (λ n. Reduces p before (node_view n)) (sym c.replace-2.ensures.after)
+    (parts_go_on p before (node_view parts) next c.in_ok-explore_parts.ensures.reduce on)
 
-pub explore-returns-in_ok-node-in-Follow-clause-reduces : goal.explore-returns-in_ok-node-in-Follow-clause-reduces
-explore-returns-in_ok-node-in-Follow-clause-reduces t c =
+pub explore-returns-clause-wanted : goal.explore-returns-clause-wanted
+explore-returns-clause-wanted t c =
     let p = known_of c.args.known.now in
+    let parts = c.explore_parts.new.node in
+    let keys = c.explore_parts.new.wanted.keys in
+    c.in_ok-next.ensures.wanted
+    ∙ (ap (λ n. insert_all key_eq keys (own_waits p (node_view n))) c.replace.ensures.value
+    ∙ (ap (λ ks. insert_all key_eq ks (own_waits p (node_view parts))) c.in_ok-explore_parts.ensures.wanted
+    ∙ adds_all p (node_view c.args.node.now) (node_view parts) c.args.wanted.now.keys c.in_ok-explore_parts.ensures.reduce))
+
+pub explore_parts-returns-in-Pick-clause-reduce : goal.explore_parts-returns-in-Pick-clause-reduce
+unfolding Rattle.dl_terms.specs.declared.node.Node.TheViews.out-Node denote.Hole.Carrier.out
+explore_parts-returns-in-Pick-clause-reduce t c =
+    let b = c.in-Pick in
+    let e = c.explore in
+    let same : c.deref_mut.result.now ≡ b.part.value = c.deref_mut.ensures.value ∙ ap (λ x. x.value) b.part-is in
+    pick_left (known_of c.args.known.now) e.result c.args.node.now _ b.part.value _ e.new.node same e.ensures.reduces b.field
+    (ap node_view b.is ∙ node_view-Pick b.part b.field) (rw b.is (node_view-Pick (record b.part { value = e.new.node }) b.field))
+
+pub explore_parts-returns-in-Follow-clause-reduce : goal.explore_parts-returns-in-Follow-clause-reduce
+unfolding Rattle.dl_terms.specs.declared.node.Node.TheViews.out-Node denote.Hole.Carrier.out
+explore_parts-returns-in-Follow-clause-reduce t c =
     let b = c.in-Follow in
-    let before : node_view c.args.node.now ≡ follow (node_view b.part.value) b.field b.table =
-    ap node_view (sym b.ensures.value) ∙ node_view-Follow b.part b.field b.table in
-    let left = node_view c.explore-in-Follow.new.node in
-    let part : Reduces p (node_view b.part.value) left = subst (λ n. Reduces p (node_view n) left) c.deref_mut-in-Follow.ensures.value
-    c.in_ok-explore-in-Follow.ensures.reduces in
-    subst (λ u. Reduces p u (node_view c.in_ok-node-in-Follow.field-0)) (sym before)
-    (follows_on p (node_view b.part.value) left (node_view c.in_ok-node-in-Follow.field-0) b.field b.table part c.in_ok-node-in-Follow.ensures.stands)
+    let e = c.explore-in-Follow in
+    let same : c.deref_mut-in-Follow.result.now ≡ b.part.value = c.deref_mut-in-Follow.ensures.value ∙ ap (λ x. x.value) b.part-is in
+    follow_left (known_of c.args.known.now) e.result c.args.node.now _ b.part.value _ e.new.node same e.ensures.reduces b.field b.table
+    (ap node_view b.is ∙ node_view-Follow b.part b.field b.table) (rw b.is (node_view-Follow (record b.part { value = e.new.node }) b.field b.table))
 
-pub explore-returns-in_ok-node-in-Each-clause-reduces : goal.explore-returns-in_ok-node-in-Each-clause-reduces
-explore-returns-in_ok-node-in-Each-clause-reduces t c =
-    let p = known_of c.args.known.now in
+pub explore_parts-returns-in-Each-clause-reduce : goal.explore_parts-returns-in-Each-clause-reduce
+unfolding Rattle.dl_terms.specs.declared.node.Node.TheViews.out-Node denote.Hole.Carrier.out
+explore_parts-returns-in-Each-clause-reduce t c =
     let b = c.in-Each in
-    let before : node_view c.args.node.now ≡ each (node_view b.part.value) b.field b.table =
-    ap node_view (sym b.ensures.value) ∙ node_view-Each b.part b.field b.table in
-    let left = node_view c.explore-in-Each.new.node in
-    let part : Reduces p (node_view b.part.value) left = subst (λ n. Reduces p (node_view n) left) c.deref_mut-in-Each.ensures.value
-    c.in_ok-explore-in-Each.ensures.reduces in
-    subst (λ u. Reduces p u (node_view c.in_ok-node-in-Each.field-0)) (sym before)
-    (each_on p (node_view b.part.value) left (node_view c.in_ok-node-in-Each.field-0) b.field b.table part c.in_ok-node-in-Each.ensures.stands)
-
-pub explore-returns-in_ok-node-in-All-clause-reduces : goal.explore-returns-in_ok-node-in-All-clause-reduces
-explore-returns-in_ok-node-in-All-clause-reduces t c =
-    let p = known_of c.args.known.now in
-    let parts = nodes_view c.in-All.parts.items in
-    let before : node_view c.args.node.now ≡ all parts = ap node_view (sym c.in-All.ensures.value) ∙ node_view-All c.in-All.parts in
-    subst (λ u. Reduces p u (node_view c.in_ok-node-in-All.field-0)) (sym before)
-    (gathers_on p (λ q. answers q parts) (λ q. all_wait q parts) (nodes_view c.explore_all.new.parts.items) (node_view c.in_ok-node-in-All.field-0)
-    c.in_ok-explore_all-in-All.ensures.reduce c.in_ok-node-in-All.ensures)
+    let e = c.explore-in-Each in
+    let same : c.deref_mut-in-Each.result.now ≡ b.part.value = c.deref_mut-in-Each.ensures.value ∙ ap (λ x. x.value) b.part-is in
+    each_left (known_of c.args.known.now) e.result c.args.node.now _ b.part.value _ e.new.node same e.ensures.reduces b.field b.table
+    (ap node_view b.is ∙ node_view-Each b.part b.field b.table) (rw b.is (node_view-Each (record b.part { value = e.new.node }) b.field b.table))
 
 pub explore_all-loop-place-preserved : goal.explore_all-loop-place-preserved
 explore_all-loop-place-preserved t c =
