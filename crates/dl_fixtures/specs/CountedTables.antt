@@ -5,12 +5,12 @@ use Rattle.dl_desk.specs.declared.outcome.BatchAnswer.{BatchAnswer}
 use Rattle.dl_source.specs.Source.{IsFor}
 use Rattle.dl_source.specs.Answer.{answer_of}
 use Rattle.dl_source.specs.AnswerFits.{answer_fits}
-use Rattle.dl_fixtures.specs.declared.counted.Counted.{Counted}
+use Rattle.dl_fixtures.specs.declared.counted_tables.CountedTables.{CountedTables}
 
 -- what the tables answer, however often they were asked
-abbrev pub answer_counted : Counted → List Key → BatchAnswer
+abbrev pub answer_counted : CountedTables → List Key → BatchAnswer
 answer_counted source keys = answer_of source.tables keys
 
 -- which has as many outcomes as there are keys, or breaks
-pub counted_fits : (source : Counted) (keys : List Key) → IsFor keys (answer_counted source keys)
+pub counted_fits : (source : CountedTables) (keys : List Key) → IsFor keys (answer_counted source keys)
 counted_fits source keys = answer_fits source.tables keys

@@ -7,15 +7,15 @@ use std::sync::atomic::{AtomicU32, Ordering};
 
 /// Tables that count how often they are asked.
 #[derive(Drop)]
-pub struct Counted {
+pub struct CountedTables {
     tables: Tables,
     fetches: AtomicU32,
 }
 
-impl Counted {
+impl CountedTables {
     /// The tables, which were not asked yet.
-    pub fn new(tables: Tables) -> Counted {
-        Counted {
+    pub fn new(tables: Tables) -> CountedTables {
+        CountedTables {
             tables,
             fetches: AtomicU32::new(0),
         }
@@ -27,8 +27,8 @@ impl Counted {
     }
 }
 
-impl Source for Counted {
-    ghost use Rattle.dl_fixtures.specs.Counted.{answer_counted, counted_fits};
+impl Source for CountedTables {
+    ghost use Rattle.dl_fixtures.specs.CountedTables.{answer_counted, counted_fits};
 
     ghost answer = { answer_counted };
 

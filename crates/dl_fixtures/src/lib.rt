@@ -2,8 +2,8 @@
 //! often they are asked.
 #![tactic(auto)]
 
-mod counted;
+mod counted_tables;
 mod users;
 
-pub use counted::Counted;
+pub use counted_tables::CountedTables;
 pub use users::{USERS, outcome_text, tables};

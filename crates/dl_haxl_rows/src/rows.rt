@@ -7,7 +7,7 @@ ghost use Rattle.dl_loader.specs.Opening.{Names};
 use crate::shapes::Shape;
 use crate::{evaluations, polls};
 use dl_desk::{FetchKey, Limits};
-use dl_fixtures::{Counted, USERS, tables};
+use dl_fixtures::{CountedTables, USERS, tables};
 use dl_loader::{History, Loader, LoaderName, Opening, Pass};
 use dl_source::Source;
 use std::alloc::{AllocGlobal, Global};
@@ -57,7 +57,7 @@ pub(crate) fn try_row<R: Abort + AllocGlobal + RandomSource + Wait>(
     player: Player,
     row: &Row<'_>,
 ) -> Result<(), Fail> {
-    let source = Counted::new(tables(rt, alloc, USERS)?);
+    let source = CountedTables::new(tables(rt, alloc, USERS)?);
     over(rt, alloc, &source, player, row)
 }
 
@@ -65,7 +65,7 @@ pub(crate) fn try_row<R: Abort + AllocGlobal + RandomSource + Wait>(
 fn over<R: Abort + AllocGlobal + RandomSource + Wait>(
     rt: &R,
     alloc: Global,
-    source: &Counted,
+    source: &CountedTables,
     player: Player,
     row: &Row<'_>,
 ) -> Result<(), Fail> {

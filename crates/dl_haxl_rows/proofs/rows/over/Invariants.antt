@@ -1,5 +1,5 @@
 use Rattle.dl_loader.specs.Opening.{service_of}
-use Rattle.dl_fixtures.specs.Counted.{answer_counted}
+use Rattle.dl_fixtures.specs.CountedTables.{answer_counted}
 use Rattle.dl_haxl_rows.proofs.rows.over.Given as goal
 
 -- the type names the loader after its opening
