@@ -42,7 +42,6 @@ pub struct Extent {
 /// A call is prepared first, by growths and steps that nobody sees, and then shown by moving
 /// marks, so that a refused call leaves the desk as it was. What was prepared and not shown is
 /// taken back by the next call that changes the desk.
-#[derive(Drop)]
 pub struct Desk {
     limits: Limits,
     memo: IndexMap<FetchKey, u32, RandomState>,
@@ -54,6 +53,24 @@ pub struct Desk {
     is_prepared: bool,
     // In no batch outside of touched..prepared.begun anything is prepared.
     touched: u32,
+}
+
+// Written out: a derived drop is proved anew in each function that lets a desk go.
+impl Drop for Desk {
+    fn drop(self) {
+        let Desk {
+            limits: _,
+            memo,
+            batches,
+            prepared: _,
+            shown: _,
+            shown_memo: _,
+            is_prepared: _,
+            touched: _,
+        } = self;
+        drop(memo);
+        drop(batches);
+    }
 }
 
 impl Model for Desk {

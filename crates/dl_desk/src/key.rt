@@ -90,9 +90,17 @@ impl fmt::Debug for KeyText {
 /// What a loader is asked for: a table and an id in it. A copy shares the texts and costs one
 /// atomic step. Equality and order are over the table, then the id, by their bytes; a hash reads both
 /// in one piece.
-#[derive(Debug, Drop)]
+#[derive(Debug)]
 pub struct FetchKey {
     both: Arc<KeyText>,
+}
+
+// Written out: a derived drop is proved anew in each function that lets a key go.
+impl Drop for FetchKey {
+    fn drop(self) {
+        let FetchKey { both } = self;
+        drop(both);
+    }
 }
 
 impl Model for FetchKey {
@@ -219,9 +227,17 @@ impl Hash for FetchKey {
 
 /// A list of keys that several places share, as a job's. A copy costs one atomic step. Contracts
 /// see the list.
-#[derive(Debug, Drop)]
+#[derive(Debug)]
 pub struct Keys {
     keys: Arc<Vec<FetchKey>>,
+}
+
+// Written out: a derived drop is proved anew in each function that lets keys go.
+impl Drop for Keys {
+    fn drop(self) {
+        let Keys { keys } = self;
+        drop(keys);
+    }
 }
 
 impl Model for Keys {

@@ -8,7 +8,7 @@ use std::alloc::AllocError;
 use std::marker::Model;
 
 /// What a key's load ends with.
-#[derive(Debug, Drop)]
+#[derive(Debug)]
 pub enum Outcome {
     /// The key's value.
     Value(Json),
@@ -16,6 +16,17 @@ pub enum Outcome {
     KeyError(Message),
     /// Why the key's whole batch failed. A memo forgets the batch's keys.
     BatchFailed(BatchFault),
+}
+
+// Written out: a derived drop is proved anew in each function that lets an outcome go.
+impl Drop for Outcome {
+    fn drop(self) {
+        match self {
+            Outcome::Value(value) => drop(value),
+            Outcome::KeyError(text) => drop(text),
+            Outcome::BatchFailed(fault) => drop(fault),
+        }
+    }
 }
 
 /// Why a whole batch failed.

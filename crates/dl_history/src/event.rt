@@ -42,7 +42,7 @@ pub enum Reply {
 }
 
 /// A call of a shared loader with its reply. Its place in the history is how many events stand before it.
-#[derive(Debug, Drop)]
+#[derive(Debug)]
 pub struct Event {
     /// The caller, counted from 0.
     pub caller: u32,
@@ -50,6 +50,19 @@ pub struct Event {
     pub call: Call,
     /// What was replied.
     pub reply: Reply,
+}
+
+// Written out: a derived drop is proved anew in each function that lets an event go.
+impl Drop for Event {
+    fn drop(self) {
+        let Event {
+            caller: _,
+            call,
+            reply,
+        } = self;
+        drop(call);
+        drop(reply);
+    }
 }
 
 /// What a cell of a shared loader shows once it has ended: its outcome, and the place of the event that

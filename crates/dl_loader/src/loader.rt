@@ -23,12 +23,26 @@ use std::sync::ledger::Share;
 use std::sync::{Condvar, Mutex, MutexGuard, Wait};
 
 /// A loader that threads share by reference. Each of its callers has a [`Pass`].
-#[derive(Drop)]
 pub struct Loader<L: LoaderName> {
     callers: u32,
     pub(crate) rows: Rows<L>,
     pub(crate) book: Mutex<Book<L>>,
     pub(crate) changed: Condvar,
+}
+
+// Written out: a derived drop is proved anew in each function that lets a loader go.
+impl<L: LoaderName> Drop for Loader<L> {
+    fn drop(self) {
+        let Loader {
+            callers: _,
+            rows,
+            book,
+            changed,
+        } = self;
+        drop(rows);
+        drop(book);
+        drop(changed);
+    }
 }
 
 impl<L: LoaderName> Model for Loader<L> {

@@ -27,7 +27,6 @@ pub struct GivenTicket {
 
 /// What one caller knows of the history: the calls that it made, the outcomes that it read, and the
 /// tickets that it was given. Contracts see these, and for how many more of them there is room.
-#[derive(Drop)]
 pub struct Pass<L: LoaderName> {
     caller: u32,
     entries: Vec<Entry<L>>,
@@ -39,6 +38,24 @@ pub struct Pass<L: LoaderName> {
     // How many of the tickets have no entry of their outcome.
     unseen: usize,
     share: Share<L>,
+}
+
+// Written out: a derived drop is proved anew in each function that lets a pass go.
+impl<L: LoaderName> Drop for Pass<L> {
+    fn drop(self) {
+        let Pass {
+            caller: _,
+            entries,
+            calls: _,
+            front: _,
+            tickets,
+            unseen: _,
+            share,
+        } = self;
+        drop(entries);
+        drop(tickets);
+        drop(share);
+    }
 }
 
 impl<L: LoaderName> Model for Pass<L> {
@@ -101,7 +118,17 @@ impl<L: LoaderName> Pass<L> {
         ensures one_part { result.parts ≡ 1 }
         ensures counted { result.amount ≡ length (places_of self.part.entries) }
     {
-        let Pass { share, .. } = self;
+        let Pass {
+            caller: _,
+            entries,
+            calls: _,
+            front: _,
+            tickets,
+            unseen: _,
+            share,
+        } = self;
+        drop(entries);
+        drop(tickets);
         share
     }
 

@@ -12,13 +12,26 @@ use std::marker::{Model, PhantomData};
 
 /// A caller's hold on the cell of a load, which shows the outcome once the cell has ended. Contracts
 /// see its number among the tickets of its pass, the reply to the load, and what it knows of the cell.
-#[derive(Drop)]
 pub struct Ticket<'a, L: LoaderName> {
     row: &'a CellRow<Ending>,
     number: usize,
     reply: LoadReply,
     reader: Reader<Ending>,
     of: PhantomData<L>,
+}
+
+// Written out: a derived drop is proved anew in each function that lets a ticket go.
+impl<L: LoaderName> Drop for Ticket<'_, L> {
+    fn drop(self) {
+        let Ticket {
+            row: _,
+            number: _,
+            reply: _,
+            reader,
+            of: _,
+        } = self;
+        drop(reader);
+    }
 }
 
 impl<'a, L: LoaderName> Model for Ticket<'a, L> {

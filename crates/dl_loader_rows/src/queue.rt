@@ -310,6 +310,13 @@ fn exchange<R: Threads + Wait + Sync>(
     )
 }
 
+/// Two threads took each job once between them.
+fn assert_each_once(rt: &impl Abort, one: &Took, other: &Took) {
+    for (times, more) in one.times.iter().zip(other.times.iter()) {
+        assert_eq!(rt; times.saturating_add(*more), 1);
+    }
+}
+
 #[test]
 fn four_threads(rt: HostRuntime) -> Result<(), Fail> {
     let alloc = rt.alloc();
@@ -322,9 +329,7 @@ fn four_threads(rt: HostRuntime) -> Result<(), Fail> {
         unreachable!()
     };
     let ((low, high), (one, other)) = exchange(&rt, &queue, &keys, (low, high), (one, other));
-    for (times, more) in one.times.iter().zip(other.times.iter()) {
-        assert_eq!(rt; times.saturating_add(*more), 1);
-    }
+    assert_each_once(&rt, &one, &other);
     senders.push(low)?;
     senders.push(high)?;
     takers.push(one.seat)?;

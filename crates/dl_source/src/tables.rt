@@ -46,11 +46,24 @@ impl Model for Table {
 
 /// Tables with their names, which are a source. Contracts see the tables in the order of their
 /// document, and in each its rows, then its errors, then its breaks.
-#[derive(Drop)]
 pub struct Tables {
     tables: IndexMap<String, Table, RandomState>,
     no_table: Message,
     no_row: Message,
+}
+
+// Written out: a derived drop is proved anew in each function that lets tables go.
+impl Drop for Tables {
+    fn drop(self) {
+        let Tables {
+            tables,
+            no_table,
+            no_row,
+        } = self;
+        drop(tables);
+        drop(no_table);
+        drop(no_row);
+    }
 }
 
 impl Model for Tables {

@@ -56,8 +56,9 @@ impl<'a, L: LoaderName> Hand<'a, L> {
         self.ticket = None;
         let ask: Ask<'_, S> = Ask::Load(key);
         let mut book = loader.lock(rt);
-        match laws::event(alloc, loader, &mut *book, &mut self.pass, ask) {
-            Ok((Reply::Loaded(reply), 0)) => Some(reply),
+        let made = laws::event(alloc, loader, &mut *book, &mut self.pass, ask).ok()?;
+        match made {
+            (Reply::Loaded(reply), 0) => Some(reply),
             _ => None,
         }
     }

@@ -8,7 +8,7 @@ use super::closed::assert_closed;
 use super::hand::Hand;
 use super::player::Stage;
 use super::step::{Part, Step};
-use dl_loader::{Loader, LoaderName, Opening, Pass};
+use dl_loader::{CloseFault, History, Loader, LoaderName, Opening, Pass};
 use dl_source::Source;
 use std::alloc::{AllocError, Global};
 use std::process::Abort;
@@ -95,17 +95,32 @@ fn close<L: LoaderName>(
     let kept = passes.split_off(count)?;
     match loader.close(alloc, passes) {
         Ok(history) => {
-            let Ok(closed) = part.close else {
-                return Err("the loader was closed".into());
-            };
-            assert_closed(rt, alloc, &history, closed)?;
+            assert_history(rt, alloc, &history, part)?;
             Ok(None)
         }
         Err((fault, loader, mut passes)) => {
-            assert_eq!(rt; Some(fault), part.close.err());
-            assert_eq!(rt; passes.len(), count);
+            assert_refusal(rt, fault, passes.len(), part);
             passes.extend(kept)?;
             Ok(Some((loader, passes)))
         }
     }
+}
+
+/// The part ends in a close, and the history tells what it says.
+fn assert_history(
+    rt: &impl Abort,
+    alloc: Global,
+    history: &History,
+    part: &Part,
+) -> Result<(), Fail> {
+    match part.close {
+        Ok(closed) => assert_closed(rt, alloc, history, closed),
+        Err(_) => Err("the loader was closed".into()),
+    }
+}
+
+/// The part ends in a close that is refused so, and the passes that it was handed come back.
+fn assert_refusal(rt: &impl Abort, fault: CloseFault, passes: usize, part: &Part) {
+    assert_eq!(rt; Some(fault), part.close.err());
+    assert_eq!(rt; passes, part.passes);
 }

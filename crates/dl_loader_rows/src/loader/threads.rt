@@ -72,11 +72,39 @@ fn load_by_both<L: LoaderName + Send + Sync, S: Source, R: Abort + Threads + Wai
     let (one, other) = start_threads(rt, alloc, loader, &key, one, other)?;
     let (mut one, mut first) = one;
     let (mut other, mut second) = other;
-    end_batch(rt, alloc, source, loader, &mut one)?;
-    read(rt, alloc, loader, &mut one, &mut first)?;
-    read(rt, alloc, loader, &mut other, &mut second)?;
-    assert_agree(rt, &first, &second);
+    read_both(
+        rt,
+        alloc,
+        source,
+        loader,
+        &mut one,
+        &mut first,
+        &mut other,
+        &mut second,
+    )?;
     Ok((one, other))
+}
+
+/// The first caller ends the batch, and each caller reads the outcome by its ticket.
+fn read_both<L: LoaderName, S: Source, R: Abort + Wait>(
+    rt: &R,
+    alloc: Global,
+    source: &S,
+    loader: &Loader<L>,
+    one: &mut Pass<L>,
+    first: &mut Ticket<'_, L>,
+    other: &mut Pass<L>,
+    second: &mut Ticket<'_, L>,
+) -> Result<(), Fail>
+    requires source { Answers (S.answer source.now) L.service }
+    requires first { GaveTicket one.old.part first.old false }
+    requires second { GaveTicket other.old.part second.old false }
+{
+    end_batch(rt, alloc, source, loader, one)?;
+    read(rt, alloc, loader, one, first)?;
+    read(rt, alloc, loader, other, second)?;
+    assert_agree(rt, first, second);
+    Ok(())
 }
 
 /// Sends the only batch that waits to be sent, which is the first and has the key alone, and ends it.
