@@ -19,11 +19,19 @@ pub fn options<'a, S: AsStr>(alloc: Global, words: &'a [S]) -> Result<Options, E
     ensures { IfOk result (AreGiven (matches_of plans_app (map S.text words.entry.now))) }
 {
     let mut command = command(alloc)?;
-    let matches = command.try_get_matches_from_mut(words)?;
-    match given(&matches) {
+    match read(&mut command, words)? {
         Some(options) => Ok(options),
         None => Err(command.error(ErrorKind::ValueValidation, "N is not 1 to 16")?),
     }
+}
+
+/// The options that the words give by the command line, if the number of workers is in range.
+fn read<'a, S: AsStr>(command: &mut Command<'a>, words: &'a [S]) -> Result<Option<Options>, Error>
+    requires { app_of command.old ≡ plans_app }
+    ensures { IfOk result (λ options. IfSome options (AreGiven (matches_of plans_app (map S.text words.entry.now)))) }
+{
+    let matches = command.try_get_matches_from_mut(words)?;
+    Ok(given(&matches))
 }
 
 /// The command line of `plans`.
