@@ -5,17 +5,15 @@ use dl_source::Tables;
 use serde_json::Value;
 use std::alloc::{AllocError, Global};
 use std::hash::RandomState;
-use std::random::RandomSource;
-use std::test::Fail;
 
 /// Three users, one whose row is an error, and one that breaks the source.
 pub const USERS: &str =
     r#"[{"name":"user","rows":[["u1",{"best":"u2","friends":["u2","u3"],"name":"Ada"}],["u2",{"best":"u1","friends":[],"name":"Bob"}],["u3",{"name":"Cy"}]],"errors":[["u9","gone"]],"breaks":[["u13","db down"]]}]"#;
 
-/// The tables of a text, which hash by random numbers of their own.
-pub fn tables(rt: &impl RandomSource, alloc: Global, text: &str) -> Result<Tables, Fail> {
-    let value = Value::from_str(alloc, text)?;
-    Ok(Tables::from_value(alloc, RandomState::new(rt)?, &value)?)
+/// The tables that a text spells, if it spells some and there is memory for them.
+pub fn tables(alloc: Global, hashing: RandomState, text: &str) -> Option<Tables> {
+    let value = Value::from_str(alloc, text).ok()?;
+    Tables::from_value(alloc, hashing, &value).ok()
 }
 
 /// The text of an outcome: of a value its JSON, else what failed and why.

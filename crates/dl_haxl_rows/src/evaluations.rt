@@ -4,7 +4,7 @@ ghost use Rattle.dl_history.specs.Service.{Answers};
 
 use crate::rows::{Player, Row, try_row};
 use crate::shapes::{BEST, FRIENDS, Shape, U1, U2, term};
-use crate::texts::{answer_text, list_text};
+use crate::texts::{answer_text, debug_text, list_text};
 use dl_haxl::run_inline;
 use dl_loader::{Loader, LoaderName, Pass};
 use dl_source::Source;
@@ -12,7 +12,6 @@ use std::alloc::Global;
 use std::hash::RandomState;
 use std::process::Abort;
 use std::sync::Wait;
-use std::test::Fail;
 
 /// The row of the user `u1`.
 pub(crate) const ADA: &str = r#"{"best":"u2","friends":["u2","u3"],"name":"Ada"}"#;
@@ -195,19 +194,18 @@ static ROWS: [Row<'static>; 19] = [
 ];
 
 #[test]
-fn terms_and_their_batches(rt: HostRuntime) -> Result<(), Fail> {
+fn terms_and_their_batches(rt: HostRuntime) {
     for row in &ROWS {
-        try_row(&rt, rt.alloc(), Player::Inline, row)?;
+        try_row(&rt, rt.alloc(), Player::Inline, row);
     }
-    Ok(())
 }
 
 /// Each of 1,024 users.
 const CROWD: Shape = Shape::Each(&Shape::Crowd(1_024), "f");
 
 #[test]
-fn as_many_items_as_there_may_be(rt: HostRuntime) -> Result<(), Fail> {
-    let users = list_text(rt.alloc(), ADA, 1_024)?;
+fn as_many_items_as_there_may_be(rt: HostRuntime) {
+    let users = list_text(rt.alloc(), ADA, 1_024).expect(&rt, "no memory");
     let row = Row {
         about: "1,024 items",
         term: CROWD,
@@ -216,7 +214,7 @@ fn as_many_items_as_there_may_be(rt: HostRuntime) -> Result<(), Fail> {
         batches: &[&["u1"]],
         ..ROW
     };
-    try_row(&rt, rt.alloc(), Player::Inline, &row)
+    try_row(&rt, rt.alloc(), Player::Inline, &row);
 }
 
 /// Evaluates the term of a row, whose answer and rounds are as the row says.
@@ -228,17 +226,16 @@ pub(crate) fn evaluate<L: LoaderName, S: Source, R: Abort + Wait>(
     loader: &Loader<L>,
     pass: &mut Pass<L>,
     row: &Row<'_>,
-) -> Result<(), Fail>
+)
     requires { Answers (S.answer source.now) L.service }
 {
-    let (text, rounds) = evaluated(rt, alloc, hashing, source, loader, pass, row)?;
+    let (text, rounds) = evaluated(rt, alloc, hashing, source, loader, pass, row);
     assert_eq!(rt; text.as_str(), row.answer, "of {}", row.about);
     assert_eq!(rt; rounds, row.rounds, "of {}", row.about);
-    Ok(())
 }
 
 /// The text of what the evaluation of a row's term gives, and how many rounds it takes.
-fn evaluated<L: LoaderName, S: Source, R: Wait>(
+fn evaluated<L: LoaderName, S: Source, R: Abort + Wait>(
     rt: &R,
     alloc: Global,
     hashing: RandomState,
@@ -246,14 +243,15 @@ fn evaluated<L: LoaderName, S: Source, R: Wait>(
     loader: &Loader<L>,
     pass: &mut Pass<L>,
     row: &Row<'_>,
-) -> Result<(String, u32), Fail>
+) -> (String, u32)
     requires { Answers (S.answer source.now) L.service }
 {
-    let term = term(alloc, &row.term)?;
-    match run_inline(rt, alloc, hashing, loader, source, pass, term) {
-        Ok((answer, rounds)) => Ok((answer_text(alloc, &answer)?, rounds)),
-        Err(fault) => Ok((format!(in alloc; "{fault:?}")?, 0)),
-    }
+    let term = term(rt, alloc, &row.term);
+    let (text, rounds) = match run_inline(rt, alloc, hashing, loader, source, pass, term) {
+        Ok((answer, rounds)) => (answer_text(alloc, &answer), rounds),
+        Err(fault) => (debug_text(alloc, fault), 0),
+    };
+    (text.expect(rt, "no memory"), rounds)
 }
 
 /// What an evaluation may give in place of its answer where a growth is refused.
@@ -267,14 +265,14 @@ const STARVED: [&str; 5] = [
 
 // Under `rt try --test --fail-alloc N` each growth is refused in turn.
 #[test]
-fn a_refused_growth(rt: HostRuntime) -> Result<(), Fail> {
+fn a_refused_growth(rt: HostRuntime) {
     let row = Row {
         about: "all friends, where a growth may be refused",
         term: FRIENDS,
         answer: TWO_FRIENDS,
         ..ROW
     };
-    try_row(&rt, rt.alloc(), Player::Starved, &row)
+    try_row(&rt, rt.alloc(), Player::Starved, &row);
 }
 
 /// Evaluates the term of a row, where a growth may be refused.
@@ -286,14 +284,13 @@ pub(crate) fn starve<L: LoaderName, S: Source, R: Abort + Wait>(
     loader: &Loader<L>,
     pass: &mut Pass<L>,
     row: &Row<'_>,
-) -> Result<(), Fail>
+)
     requires { Answers (S.answer source.now) L.service }
 {
-    let (text, _rounds) = evaluated(rt, alloc, hashing, source, loader, pass, row)?;
+    let (text, _rounds) = evaluated(rt, alloc, hashing, source, loader, pass, row);
     let text = text.as_str();
     assert!(rt;
         text == row.answer || STARVED.contains(&text),
         "an evaluation gave {text}"
     );
-    Ok(())
 }

@@ -5,10 +5,10 @@ ghost use Rattle.dl_history.specs.Service.{Answers};
 use crate::evaluations::ADA;
 use crate::rows::{Player, Row, assert_ids, try_row};
 use crate::shapes::{Shape, U1, U2, term};
-use crate::texts::answer_text;
+use crate::texts::{answer_text, debug_text};
 use dl_desk::FetchKey;
 use dl_fixtures::outcome_text;
-use dl_haxl::{LoadFuture, PollFault, TermRun};
+use dl_haxl::{LoadFuture, TermRun};
 use dl_loader::{Loader, LoaderName, Pass, Ticket};
 use dl_source::Source;
 use dl_workers::end_jobs;
@@ -19,7 +19,6 @@ use std::hash::RandomState;
 use std::process::Abort;
 use std::random::RandomSource;
 use std::sync::Wait;
-use std::test::Fail;
 
 /// A term of three loads, of which two are of one key.
 const TERM: Row<'static> = Row {
@@ -34,8 +33,8 @@ const TERM: Row<'static> = Row {
 };
 
 #[test]
-fn a_run_of_a_term(rt: HostRuntime) -> Result<(), Fail> {
-    try_row(&rt, rt.alloc(), Player::Run, &TERM)
+fn a_run_of_a_term(rt: HostRuntime) {
+    try_row(&rt, rt.alloc(), Player::Run, &TERM);
 }
 
 /// Polls a run of the row's term, which wants the first two users, until its answer.
@@ -47,12 +46,13 @@ pub(crate) fn poll_run<L: LoaderName, S: Source, R: Abort + AllocGlobal + Random
     loader: &Loader<L>,
     pass: &mut Pass<L>,
     row: &Row<'_>,
-) -> Result<(), Fail>
+)
     requires { Answers (S.answer source.now) L.service }
 {
-    let task = MockTask::new(rt)?;
-    let mut run = TermRun::new(alloc, hashing, term(alloc, &row.term)?)?;
-    poll_to_the_end(rt, alloc, source, loader, pass, &task, &mut run, row.answer)
+    let task = MockTask::new(rt).expect(rt, "no task");
+    let made = TermRun::new(alloc, hashing, term(rt, alloc, &row.term));
+    let mut run = made.expect(rt, "no memory");
+    poll_to_the_end(rt, alloc, source, loader, pass, &task, &mut run, row.answer);
 }
 
 /// Polls a new run, which wants the first two users, until its answer.
@@ -65,16 +65,16 @@ fn poll_to_the_end<'l, L: LoaderName, S: Source, R: Abort + Wait>(
     task: &MockTask,
     run: &mut TermRun<'l, L>,
     answer: &str,
-) -> Result<(), Fail>
+)
     requires { Answers (S.answer source.now) L.service }
 {
     assert_ids(rt, run.wanted(), &[]);
-    assert_waits(rt, alloc, task, run, &["u1", "u2"])?;
-    supply(rt, alloc, loader, pass, run)?;
-    assert_waits(rt, alloc, task, run, &[])?;
-    end_all(rt, alloc, source, loader, pass)?;
-    assert_run(rt, alloc, task, run, answer)?;
-    assert_run(rt, alloc, task, run, "Finished")
+    assert_waits(rt, alloc, task, run, &["u1", "u2"]);
+    supply(rt, alloc, loader, pass, run);
+    assert_waits(rt, alloc, task, run, &[]);
+    end_all(rt, alloc, source, loader, pass);
+    assert_run(rt, alloc, task, run, answer);
+    assert_run(rt, alloc, task, run, "Finished");
 }
 
 /// A poll is pending, and asks for another one. The run then wants these ids.
@@ -84,11 +84,10 @@ fn assert_waits<L: LoaderName>(
     task: &MockTask,
     run: &mut TermRun<'_, L>,
     want: &[&str],
-) -> Result<(), Fail> {
-    assert_run(rt, alloc, task, run, "pending")?;
+) {
+    assert_run(rt, alloc, task, run, "pending");
     assert!(rt; task.is_woken());
     assert_ids(rt, run.wanted(), want);
-    Ok(())
 }
 
 /// A poll of a run gives this text.
@@ -98,10 +97,9 @@ fn assert_run<L: LoaderName>(
     task: &MockTask,
     run: &mut TermRun<'_, L>,
     want: &str,
-) -> Result<(), Fail> {
-    let text = run_text(alloc, task, run)?;
+) {
+    let text = run_text(alloc, task, run).expect(rt, "no memory");
     assert_eq!(rt; text.as_str(), want);
-    Ok(())
 }
 
 /// What a poll of a run gives: that it is pending, the text of the answer, or why there is none.
@@ -113,13 +111,8 @@ fn run_text<L: LoaderName>(
     match task.poll(run) {
         Poll::Pending => String::from_str(alloc, "pending"),
         Poll::Ready(Ok(answer)) => answer_text(alloc, &answer),
-        Poll::Ready(Err(fault)) => fault_text(alloc, fault),
+        Poll::Ready(Err(fault)) => debug_text(alloc, fault),
     }
-}
-
-/// Why a poll gives no answer.
-fn fault_text(alloc: Global, fault: PollFault) -> Result<String, AllocError> {
-    format!(in alloc; "{fault:?}")
 }
 
 /// Loads what the run wants, and supplies the tickets. Nothing is wanted then.
@@ -129,26 +122,24 @@ fn supply<'l, L: LoaderName, R: Abort + Wait>(
     loader: &'l Loader<L>,
     pass: &mut Pass<L>,
     run: &mut TermRun<'l, L>,
-) -> Result<(), Fail> {
-    let tickets = loader.load_many(rt, alloc, pass, run.wanted())?;
-    run.supply(tickets);
+) {
+    let tickets = loader.load_many(rt, alloc, pass, run.wanted());
+    run.supply(tickets.expect(rt, "no tickets"));
     assert_ids(rt, run.wanted(), &[]);
-    Ok(())
 }
 
 /// Sends what waits to be sent, and ends it.
-fn end_all<L: LoaderName, S: Source, R: Wait>(
+fn end_all<L: LoaderName, S: Source, R: Abort + Wait>(
     rt: &R,
     alloc: Global,
     source: &S,
     loader: &Loader<L>,
     pass: &mut Pass<L>,
-) -> Result<(), Fail>
+)
     requires { Answers (S.answer source.now) L.service }
 {
-    let jobs = loader.dispatch(rt, alloc, pass)?;
-    end_jobs(rt, alloc, loader, source, pass, jobs)?;
-    Ok(())
+    let jobs = loader.dispatch(rt, alloc, pass).expect(rt, "no jobs");
+    end_jobs(rt, alloc, loader, source, pass, jobs).expect(rt, "no ends");
 }
 
 /// A load, of the first user.
@@ -161,8 +152,8 @@ const LOAD: Row<'static> = Row {
 };
 
 #[test]
-fn a_future_of_a_load(rt: HostRuntime) -> Result<(), Fail> {
-    try_row(&rt, rt.alloc(), Player::Future, &LOAD)
+fn a_future_of_a_load(rt: HostRuntime) {
+    try_row(&rt, rt.alloc(), Player::Future, &LOAD);
 }
 
 /// Loads the first user, and polls the load's future until the outcome.
@@ -173,26 +164,26 @@ pub(crate) fn poll_load<L: LoaderName, S: Source, R: Abort + AllocGlobal + Rando
     loader: &Loader<L>,
     pass: &mut Pass<L>,
     row: &Row<'_>,
-) -> Result<(), Fail>
+)
     requires { Answers (S.answer source.now) L.service }
 {
-    let task = MockTask::new(rt)?;
-    let ticket = load_first(rt, alloc, loader, pass)?;
+    let task = MockTask::new(rt).expect(rt, "no task");
+    let ticket = load_first(rt, alloc, loader, pass);
     let mut load = LoadFuture::new(ticket);
     poll_until_shown(
         rt, alloc, source, loader, pass, &task, &mut load, row.answer,
-    )
+    );
 }
 
 /// The ticket of a load of the first user.
-fn load_first<'l, L: LoaderName, R: Wait>(
+fn load_first<'l, L: LoaderName, R: Abort + Wait>(
     rt: &R,
     alloc: Global,
     loader: &'l Loader<L>,
     pass: &mut Pass<L>,
-) -> Result<Ticket<'l, L>, Fail> {
-    let key = FetchKey::new(alloc, "user", "u1")?;
-    Ok(loader.load(rt, alloc, pass, &key)?)
+) -> Ticket<'l, L> {
+    let key = FetchKey::new(alloc, "user", "u1").expect(rt, "no key");
+    loader.load(rt, alloc, pass, &key).expect(rt, "no ticket")
 }
 
 /// Polls the future of a load, which is pending until its batch is ended.
@@ -205,14 +196,14 @@ fn poll_until_shown<L: LoaderName, S: Source, R: Abort + Wait>(
     task: &MockTask,
     load: &mut LoadFuture<'_, L>,
     answer: &str,
-) -> Result<(), Fail>
+)
     requires { Answers (S.answer source.now) L.service }
 {
-    assert_load(rt, alloc, task, load, "pending")?;
+    assert_load(rt, alloc, task, load, "pending");
     assert!(rt; task.is_woken());
-    end_all(rt, alloc, source, loader, pass)?;
-    assert_load(rt, alloc, task, load, answer)?;
-    assert_load(rt, alloc, task, load, "Finished")
+    end_all(rt, alloc, source, loader, pass);
+    assert_load(rt, alloc, task, load, answer);
+    assert_load(rt, alloc, task, load, "Finished");
 }
 
 /// A poll of a load's future gives this text.
@@ -222,10 +213,9 @@ fn assert_load<L: LoaderName>(
     task: &MockTask,
     load: &mut LoadFuture<'_, L>,
     want: &str,
-) -> Result<(), Fail> {
-    let text = load_text(alloc, task, load)?;
+) {
+    let text = load_text(alloc, task, load).expect(rt, "no memory");
     assert_eq!(rt; text.as_str(), want);
-    Ok(())
 }
 
 /// What a poll of a load's future gives: that it is pending, the text of the outcome, or why there is none.
@@ -237,14 +227,14 @@ fn load_text<L: LoaderName>(
     match task.poll(load) {
         Poll::Pending => String::from_str(alloc, "pending"),
         Poll::Ready(Ok(outcome)) => outcome_text(alloc, &outcome),
-        Poll::Ready(Err(fault)) => fault_text(alloc, fault),
+        Poll::Ready(Err(fault)) => debug_text(alloc, fault),
     }
 }
 
 // Under `rt try --test --fail-alloc N` each growth is refused in turn.
 #[test]
-fn a_refused_growth(rt: HostRuntime) -> Result<(), Fail> {
-    try_row(&rt, rt.alloc(), Player::StarvedRun, &TERM)
+fn a_refused_growth(rt: HostRuntime) {
+    try_row(&rt, rt.alloc(), Player::StarvedRun, &TERM);
 }
 
 /// Polls a run of the row's term, where a growth may be refused.
@@ -253,21 +243,25 @@ pub(crate) fn starve_run<L: LoaderName, R: Abort + AllocGlobal + RandomSource>(
     alloc: Global,
     hashing: RandomState,
     row: &Row<'_>,
-) -> Result<(), Fail> {
-    let task = MockTask::new(rt)?;
-    let mut run: TermRun<'_, L> = made_run(alloc, hashing, row)?;
-    assert_starves(rt, alloc, &task, &mut run)
+) {
+    let task = MockTask::new(rt).expect(rt, "no task");
+    let mut run: TermRun<'_, L> = made_run(rt, alloc, hashing, row);
+    assert_starves(rt, alloc, &task, &mut run);
 }
 
 /// A run of the row's term. Where it can't be made, another one is.
 fn made_run<'l, L: LoaderName>(
+    rt: &impl Abort,
     alloc: Global,
     hashing: RandomState,
     row: &Row<'_>,
-) -> Result<TermRun<'l, L>, Fail> {
-    match TermRun::new(alloc, hashing, term(alloc, &row.term)?) {
-        Ok(run) => Ok(run),
-        Err(AllocError) => Ok(TermRun::new(alloc, hashing, term(alloc, &row.term)?)?),
+) -> TermRun<'l, L> {
+    match TermRun::new(alloc, hashing, term(rt, alloc, &row.term)) {
+        Ok(run) => run,
+        Err(AllocError) => {
+            let again = TermRun::new(alloc, hashing, term(rt, alloc, &row.term));
+            again.expect(rt, "no memory")
+        }
     }
 }
 
@@ -277,12 +271,12 @@ fn assert_starves<L: LoaderName>(
     alloc: Global,
     task: &MockTask,
     run: &mut TermRun<'_, L>,
-) -> Result<(), Fail> {
-    let text = run_text(alloc, task, run)?;
+) {
+    let text = run_text(alloc, task, run).expect(rt, "no memory");
     if text.as_str() == "pending" {
         assert_ids(rt, run.wanted(), &["u1", "u2"]);
-        return Ok(());
+        return;
     }
     assert_eq!(rt; text.as_str(), "OutOfMemory");
-    assert_run(rt, alloc, task, run, "OutOfMemory")
+    assert_run(rt, alloc, task, run, "OutOfMemory");
 }

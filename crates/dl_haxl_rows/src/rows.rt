@@ -16,7 +16,6 @@ use std::marker::Brand;
 use std::process::Abort;
 use std::random::RandomSource;
 use std::sync::Wait;
-use std::test::Fail;
 
 /// A term, the limits of its loader's batches and cells, and what it gives.
 #[derive(Clone, Copy)]
@@ -56,9 +55,9 @@ pub(crate) fn try_row<R: Abort + AllocGlobal + RandomSource + Wait>(
     alloc: Global,
     player: Player,
     row: &Row<'_>,
-) -> Result<(), Fail> {
-    let source = CountedTables::new(tables(rt, alloc, USERS)?);
-    over(rt, alloc, &source, player, row)
+) {
+    let users = tables(alloc, hashing(rt), USERS).expect(rt, "no tables");
+    over(rt, alloc, &CountedTables::new(users), player, row);
 }
 
 /// Plays a row over a source, which is asked once for each batch.
@@ -68,26 +67,26 @@ fn over<R: Abort + AllocGlobal + RandomSource + Wait>(
     source: &CountedTables,
     player: Player,
     row: &Row<'_>,
-) -> Result<(), Fail> {
-    let limits = Limits::new(row.max_batch, row.max_cells, 16)?;
-    let hashing = RandomState::new(rt)?;
-    let opening = Opening::new(alloc, hashing, source, limits, 1)?;
-    match (
-        player,
-        run::<Brand, _, _>(rt, alloc, hashing, source, opening, player, row)?,
-    ) {
-        (Player::Starved | Player::StarvedRun, _) => Ok(()),
-        (_, None) => Err("the loader can't be closed".into()),
-        (_, Some(history)) => {
-            assert_eq!(rt;
-                source.fetches() as usize,
-                row.batches.len(),
-                "of {}",
-                row.about
-            );
-            assert_history(rt, &history, row)
-        }
+) {
+    let limits = Limits::new(row.max_batch, row.max_cells, 16).expect(rt, "no limits");
+    let hashing = hashing(rt);
+    let opening = Opening::new(alloc, hashing, source, limits, 1).expect(rt, "no opening");
+    let history = run::<Brand, _, _>(rt, alloc, hashing, source, opening, player, row);
+    if matches!(player, Player::Starved | Player::StarvedRun) {
+        return;
     }
+    assert_eq!(rt;
+        source.fetches() as usize,
+        row.batches.len(),
+        "of {}",
+        row.about
+    );
+    assert_history(rt, &history.expect(rt, "the loader can't be closed"), row);
+}
+
+/// A hash by random numbers.
+fn hashing<R: Abort + RandomSource>(rt: &R) -> RandomState {
+    RandomState::new(rt).expect(rt, "no random numbers")
 }
 
 /// Plays a row on the loader of an opening, which `L` stands for, and closes it: its history, if it can be closed.
@@ -99,11 +98,11 @@ fn run<L: LoaderName, S: Source, R: Abort + AllocGlobal + RandomSource + Wait>(
     opening: Opening<'_, S>,
     player: Player,
     row: &Row<'_>,
-) -> Result<Option<History>, Fail>
+) -> Option<History>
     requires source { opening.source ≡ source.now }
     requires names { Names S.answer opening L.service L.parts L.log L.outcomes L.name }
 {
-    let (loader, mut passes) = Loader::<L>::start(alloc, opening)?;
+    let (loader, mut passes) = Loader::<L>::start(alloc, opening).expect(rt, "no loader");
     play(
         rt,
         alloc,
@@ -113,8 +112,8 @@ fn run<L: LoaderName, S: Source, R: Abort + AllocGlobal + RandomSource + Wait>(
         passes.as_mut_slice(),
         player,
         row,
-    )?;
-    Ok(loader.close(alloc, passes).ok())
+    );
+    loader.close(alloc, passes).ok()
 }
 
 /// Plays a row by the first of these passes.
@@ -127,12 +126,10 @@ fn play<L: LoaderName, S: Source, R: Abort + AllocGlobal + RandomSource + Wait>(
     passes: &mut [Pass<L>],
     player: Player,
     row: &Row<'_>,
-) -> Result<(), Fail>
+)
     requires { Answers (S.answer source.now) L.service }
 {
-    let Some(pass) = passes.first_mut() else {
-        return Err("no pass".into());
-    };
+    let pass = passes.first_mut().expect(rt, "no pass");
     match player {
         Player::Inline => evaluations::evaluate(rt, alloc, hashing, source, loader, pass, row),
         Player::Run => polls::poll_run(rt, alloc, hashing, source, loader, pass, row),
@@ -144,18 +141,16 @@ fn play<L: LoaderName, S: Source, R: Abort + AllocGlobal + RandomSource + Wait>(
 
 /// The history has the batches of the row, each of which ended as the row says. Its events are two for each round, a
 /// loadMany and a dispatch, and one end of each batch.
-fn assert_history(rt: &impl Abort, history: &History, row: &Row<'_>) -> Result<(), Fail> {
+fn assert_history(rt: &impl Abort, history: &History, row: &Row<'_>) {
     let batches = history.batches();
     for (number, ids) in row.batches.iter().enumerate() {
-        let Some(batch) = batches.get(u32::try_from(number)?) else {
-            return Err("a batch too few".into());
-        };
+        let number = u32::try_from(number).expect(rt, "no number of a batch");
+        let batch = batches.get(number).expect(rt, "a batch too few");
         assert_ids(rt, batch.keys(), ids);
         assert_eq!(rt; batch.is_settled(), row.settled, "of {}", row.about);
     }
     let events = 2 * row.rounds as usize + row.batches.len();
     assert_eq!(rt; history.events().len() as usize, events, "of {}", row.about);
-    Ok(())
 }
 
 /// The keys have these ids.

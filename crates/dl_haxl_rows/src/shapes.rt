@@ -5,7 +5,7 @@ use dl_desk::{FetchKey, Json, Text, has_float};
 use dl_terms::Term;
 use serde_json::Value;
 use std::alloc::Global;
-use std::test::Fail;
+use std::process::Abort;
 
 /// A term, as rows write it. What is followed is a key of the users' table.
 #[derive(Clone, Copy)]
@@ -38,71 +38,69 @@ pub(crate) const FRIENDS: Shape = Shape::Each(&U1, "friends");
 
 /// The term of a shape.
 #[cycle(making)]
-pub(crate) fn term(alloc: Global, shape: &Shape) -> Result<Term, Fail> {
+pub(crate) fn term(rt: &impl Abort, alloc: Global, shape: &Shape) -> Term {
     match shape {
-        Shape::Value(text) => value(alloc, text),
-        Shape::Crowd(times) => crowd(alloc, *times),
-        Shape::Load(table, id) => load(alloc, table, id),
-        Shape::Pick(part, field) => pick(alloc, term(alloc, part)?, field),
-        Shape::Follow(part, field) => follow(alloc, term(alloc, part)?, field),
-        Shape::Each(part, field) => each(alloc, term(alloc, part)?, field),
-        Shape::All(parts) => all(alloc, parts),
+        Shape::Value(text) => value(rt, alloc, text),
+        Shape::Crowd(times) => crowd(rt, alloc, *times),
+        Shape::Load(table, id) => load(rt, alloc, table, id),
+        Shape::Pick(part, field) => pick(rt, alloc, term(rt, alloc, part), field),
+        Shape::Follow(part, field) => follow(rt, alloc, term(rt, alloc, part), field),
+        Shape::Each(part, field) => each(rt, alloc, term(rt, alloc, part), field),
+        Shape::All(parts) => all(rt, alloc, parts),
     }
 }
 
-fn value(alloc: Global, text: &str) -> Result<Term, Fail> {
-    let value = Value::from_str(alloc, text)?;
-    if has_float(&value) {
-        return Err("a number that isn't whole".into());
-    }
-    Ok(Term::Value(Json::new(alloc, value)?))
+fn value(rt: &impl Abort, alloc: Global, text: &str) -> Term {
+    let value = Value::from_str(alloc, text).expect(rt, "no JSON");
+    assert!(rt; !has_float(&value));
+    Term::Value(Json::new(alloc, value).expect(rt, "no memory"))
 }
 
-fn crowd(alloc: Global, times: usize) -> Result<Term, Fail> {
-    let users = list_text(alloc, "\"u1\"", times)?;
-    let text = format!(in alloc; "{{\"f\":{}}}", users.as_str())?;
-    value(alloc, text.as_str())
+fn crowd(rt: &impl Abort, alloc: Global, times: usize) -> Term {
+    let users = list_text(alloc, "\"u1\"", times).expect(rt, "no memory");
+    let text = format!(in alloc; "{{\"f\":{}}}", users.as_str());
+    value(rt, alloc, text.expect(rt, "no memory").as_str())
 }
 
-fn load(alloc: Global, table: &str, id: &str) -> Result<Term, Fail> {
-    Ok(Term::Load(FetchKey::new(alloc, table, id)?))
+fn load(rt: &impl Abort, alloc: Global, table: &str, id: &str) -> Term {
+    Term::Load(FetchKey::new(alloc, table, id).expect(rt, "no key"))
 }
 
-fn pick(alloc: Global, part: Term, field: &str) -> Result<Term, Fail> {
-    let part = Box::new(alloc, part)?;
-    let field = Text::new(alloc, field)?;
-    Ok(Term::Pick { part, field })
+fn pick(rt: &impl Abort, alloc: Global, part: Term, field: &str) -> Term {
+    let part = Box::new(alloc, part).expect(rt, "no memory");
+    let field = name(rt, alloc, field);
+    Term::Pick { part, field }
 }
 
-fn follow(alloc: Global, part: Term, field: &str) -> Result<Term, Fail> {
-    let part = Box::new(alloc, part)?;
-    let (field, table) = target(alloc, field)?;
-    Ok(Term::Follow { part, field, table })
+fn follow(rt: &impl Abort, alloc: Global, part: Term, field: &str) -> Term {
+    let part = Box::new(alloc, part).expect(rt, "no memory");
+    let (field, table) = (name(rt, alloc, field), name(rt, alloc, "user"));
+    Term::Follow { part, field, table }
 }
 
-fn each(alloc: Global, part: Term, field: &str) -> Result<Term, Fail> {
-    let part = Box::new(alloc, part)?;
-    let (field, table) = target(alloc, field)?;
-    Ok(Term::Each { part, field, table })
+fn each(rt: &impl Abort, alloc: Global, part: Term, field: &str) -> Term {
+    let part = Box::new(alloc, part).expect(rt, "no memory");
+    let (field, table) = (name(rt, alloc, field), name(rt, alloc, "user"));
+    Term::Each { part, field, table }
 }
 
-/// A field, and the users' table.
-fn target(alloc: Global, field: &str) -> Result<(Text, Text), Fail> {
-    let field = Text::new(alloc, field)?;
-    Ok((field, Text::new(alloc, "user")?))
+/// The name of a field or a table.
+fn name(rt: &impl Abort, alloc: Global, text: &str) -> Text {
+    Text::new(alloc, text).expect(rt, "no memory")
 }
 
 #[cycle(making)]
-fn all(alloc: Global, shapes: &[Shape]) -> Result<Term, Fail> {
+fn all(rt: &impl Abort, alloc: Global, shapes: &[Shape]) -> Term {
     let mut parts = Vec::new(alloc);
     for shape in shapes {
-        parts.push(term(alloc, shape)?)?;
+        let part = term(rt, alloc, shape);
+        parts.push(part).expect(rt, "no memory");
     }
-    Ok(Term::All(parts))
+    Term::All(parts)
 }
 
 /// Terms, each with how deep and how high it is.
-const ROWS: [(Shape, u32, u32); 12] = [
+static ROWS: [(Shape, u32, u32); 12] = [
     (Shape::Value("7"), 0, 1),
     (U1, 1, 1),
     (Shape::Pick(&U1, "name"), 1, 2),
@@ -118,11 +116,10 @@ const ROWS: [(Shape, u32, u32); 12] = [
 ];
 
 #[test]
-fn depth_and_height(rt: HostRuntime) -> Result<(), Fail> {
-    for (shape, depth, height) in ROWS {
-        let term = term(rt.alloc(), &shape)?;
-        assert_eq!(rt; term.depth(), depth);
-        assert_eq!(rt; term.height(), height);
+fn depth_and_height(rt: HostRuntime) {
+    for (shape, depth, height) in &ROWS {
+        let term = term(&rt, rt.alloc(), shape);
+        assert_eq!(rt; term.depth(), *depth);
+        assert_eq!(rt; term.height(), *height);
     }
-    Ok(())
 }

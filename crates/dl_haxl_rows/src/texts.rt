@@ -3,6 +3,7 @@
 use dl_desk::BatchFault;
 use dl_terms::{Answer, EvalFault};
 use std::alloc::{AllocError, Global};
+use std::fmt::Debug;
 
 /// The text of an answer: of a value its JSON, else why there is none.
 pub(crate) fn answer_text(alloc: Global, answer: &Answer) -> Result<String, AllocError> {
@@ -34,6 +35,11 @@ fn cause(fault: &BatchFault) -> &str {
         BatchFault::Memory => "no memory",
         BatchFault::Unsent => "unsent",
     }
+}
+
+/// The text of a fault as `Debug` has it.
+pub(crate) fn debug_text<F: Debug + Drop>(alloc: Global, fault: F) -> Result<String, AllocError> {
+    format!(in alloc; "{fault:?}")
 }
 
 /// The JSON list that has an item so many times.

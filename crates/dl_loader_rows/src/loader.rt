@@ -21,13 +21,22 @@ use std::marker::Brand;
 use std::process::Abort;
 use std::random::RandomSource;
 use std::sync::Wait;
-use std::test::Fail;
 use std::thread::Threads;
 
+/// The users' tables.
+fn users<R: Abort + RandomSource>(rt: &R, alloc: Global) -> Tables {
+    tables(alloc, hashing(rt), USERS).expect(rt, "no tables")
+}
+
+/// A hash by random numbers.
+fn hashing<R: Abort + RandomSource>(rt: &R) -> RandomState {
+    RandomState::new(rt).expect(rt, "no random numbers")
+}
+
 /// Makes the calls and the closes of a row on a loader over the users' tables.
-fn play<R: Abort + RandomSource + Wait>(rt: &R, alloc: Global, row: &Row) -> Result<(), Fail> {
-    let users = tables(rt, alloc, USERS)?;
-    play_over(rt, alloc, &users, RandomState::new(rt)?, row)
+fn play<R: Abort + RandomSource + Wait>(rt: &R, alloc: Global, row: &Row) {
+    let (users, hashing) = (users(rt, alloc), hashing(rt));
+    play_over(rt, alloc, &users, hashing, row);
 }
 
 /// Makes the calls and the closes of a row on a loader over these tables.
@@ -37,11 +46,11 @@ fn play_over<R: Abort + Wait>(
     users: &Tables,
     hashing: RandomState,
     row: &Row,
-) -> Result<(), Fail> {
+) {
     let (max_batch, max_cells, max_calls) = row.limits;
-    let limits = Limits::new(max_batch, max_cells, max_calls)?;
-    let opening = Opening::new(alloc, hashing, users, limits, row.callers)?;
-    row::play::<Brand, _, _>(rt, alloc, users, opening, row.parts)
+    let limits = Limits::new(max_batch, max_cells, max_calls).expect(rt, "no limits");
+    let opening = Opening::new(alloc, hashing, users, limits, row.callers).expect(rt, "no opening");
+    row::play::<Brand, _, _>(rt, alloc, users, opening, row.parts);
 }
 
 // The numbers of callers that a loader may have, and those next to them.
@@ -53,30 +62,24 @@ const COUNTS: [(u32, Option<StartFault>); 4] = [
 ];
 
 #[test]
-fn numbers_of_callers_out_of_range(rt: HostRuntime) -> Result<(), Fail> {
-    let users = tables(&rt, rt.alloc(), USERS)?;
-    open_by_counts(&rt, rt.alloc(), &users, RandomState::new(&rt)?)
+fn numbers_of_callers_out_of_range(rt: HostRuntime) {
+    let users = users(&rt, rt.alloc());
+    open_by_counts(&rt, rt.alloc(), &users, hashing(&rt));
 }
 
 /// Openings of loaders over these tables are refused for their numbers of callers.
-fn open_by_counts(
-    rt: &impl Abort,
-    alloc: Global,
-    users: &Tables,
-    hashing: RandomState,
-) -> Result<(), Fail> {
-    let limits = Limits::new(1, 1, 2)?;
+fn open_by_counts(rt: &impl Abort, alloc: Global, users: &Tables, hashing: RandomState) {
+    let limits = Limits::new(1, 1, 2).expect(rt, "no limits");
     for (callers, fault) in COUNTS {
         let refused = Opening::new(alloc, hashing, users, limits, callers).err();
         assert_eq!(rt; refused, fault);
     }
-    Ok(())
 }
 
 #[test]
-fn two_callers_of_one_key(rt: HostRuntime) -> Result<(), Fail> {
-    let users = tables(&rt, rt.alloc(), USERS)?;
-    two_callers(&rt, rt.alloc(), RandomState::new(&rt)?, &users)
+fn two_callers_of_one_key(rt: HostRuntime) {
+    let users = users(&rt, rt.alloc());
+    two_callers(&rt, rt.alloc(), hashing(&rt), &users);
 }
 
 /// Two callers of a loader over these tables load one key.
@@ -85,16 +88,16 @@ fn two_callers<R: Abort + Threads + Wait + Sync>(
     alloc: Global,
     hashing: RandomState,
     users: &Tables,
-) -> Result<(), Fail> {
-    let limits = Limits::new(2, 8, 16)?;
-    let opening = Opening::new(alloc, hashing, users, limits, 2)?;
-    threads::load_by_two::<Brand, _, _>(rt, alloc, users, opening)
+) {
+    let limits = Limits::new(2, 8, 16).expect(rt, "no limits");
+    let opening = Opening::new(alloc, hashing, users, limits, 2).expect(rt, "no opening");
+    threads::load_by_two::<Brand, _, _>(rt, alloc, users, opening);
 }
 
 #[test]
-fn callers_on_threads_of_their_own(rt: HostRuntime) -> Result<(), Fail> {
-    let users = tables(&rt, rt.alloc(), USERS)?;
-    callers_on_threads(&rt, rt.alloc(), RandomState::new(&rt)?, &users)
+fn callers_on_threads_of_their_own(rt: HostRuntime) {
+    let users = users(&rt, rt.alloc());
+    callers_on_threads(&rt, rt.alloc(), hashing(&rt), &users);
 }
 
 /// The callers of a loader over these tables load one key, each on a thread of its own.
@@ -103,10 +106,10 @@ fn callers_on_threads<R: Abort + Threads + Wait + Sync>(
     alloc: Global,
     hashing: RandomState,
     users: &Tables,
-) -> Result<(), Fail> {
-    let limits = Limits::new(2, 8, 16)?;
-    let key = keys::user(alloc, "u1")?;
-    let opening = Opening::new(alloc, hashing, users, limits, 2)?;
-    let history = using::load_by_each::<Brand, _, _>(rt, alloc, users, opening, &key)?;
-    using::assert_history(rt, alloc, &history)
+) {
+    let limits = Limits::new(2, 8, 16).expect(rt, "no limits");
+    let key = keys::user(rt, alloc, "u1");
+    let opening = Opening::new(alloc, hashing, users, limits, 2).expect(rt, "no opening");
+    let history = using::load_by_each::<Brand, _, _>(rt, alloc, users, opening, &key);
+    using::assert_history(rt, alloc, &history);
 }

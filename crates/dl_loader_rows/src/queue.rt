@@ -14,10 +14,10 @@ use std::thread::{Threads, join};
 const JOBS: usize = 200;
 
 /// A job of one key.
-fn job(alloc: Global, batch: u32) -> Result<Job, Fail> {
-    let key = FetchKey::new(alloc, "t", "a")?;
-    let keys = Keys::copy_of(alloc, &[key])?;
-    Ok(Job { batch, keys })
+fn job(rt: &impl Abort, alloc: Global, batch: u32) -> Job {
+    let key = FetchKey::new(alloc, "t", "a").expect(rt, "no key");
+    let keys = Keys::copy_of(alloc, &[key]).expect(rt, "no memory");
+    Job { batch, keys }
 }
 
 // Capacities and numbers of senders and takers: the bounds, and what lies past them.
@@ -64,16 +64,15 @@ struct Seats {
 
 impl Seats {
     /// Takes a turn.
-    fn turn<R: Abort + Wait>(&mut self, rt: &R, alloc: Global, turn: &Turn) -> Result<(), Fail> {
+    fn turn<R: Abort + Wait>(&mut self, rt: &R, alloc: Global, turn: &Turn) {
         match turn {
             Turn::Send(sender, batch, want) => {
-                let back = self.send(rt, *sender, job(alloc, *batch)?);
+                let back = self.send(rt, *sender, job(rt, alloc, *batch));
                 assert_eq!(rt; back, *want);
             }
             Turn::Take(taker, want) => assert_eq!(rt; self.take(rt, *taker), *want),
             Turn::Shut(sender) => self.shut(rt, *sender),
         }
-        Ok(())
     }
 
     /// Sends a job. The answer is the number of the job that came back.
@@ -104,18 +103,18 @@ fn play<R: Abort + Wait>(
     (capacity, senders, takers): (u32, u32, u32),
     turns: &[Turn],
     tally: Tally,
-) -> Result<(), Fail> {
-    let (queue, senders, takers) = JobQueue::new(alloc, capacity, senders, takers)?;
+) {
+    let made = JobQueue::new(alloc, capacity, senders, takers);
+    let (queue, senders, takers) = made.expect(rt, "no queue");
     let mut seats = Seats {
         queue,
         senders,
         takers,
     };
     for turn in turns {
-        seats.turn(rt, alloc, turn)?;
+        seats.turn(rt, alloc, turn);
     }
     assert_eq!(rt; seats.queue.finish(rt, seats.senders, seats.takers), tally);
-    Ok(())
 }
 
 const ONE_JOB: [Turn; 5] = [
@@ -127,23 +126,23 @@ const ONE_JOB: [Turn; 5] = [
 ];
 
 #[test]
-fn one_job_and_then_shut(rt: HostRuntime) -> Result<(), Fail> {
+fn one_job_and_then_shut(rt: HostRuntime) {
     let tally = Tally {
         sent: 1,
         taken: 1,
         left: 0,
     };
-    play(&rt, rt.alloc(), (1, 1, 1), &ONE_JOB, tally)
+    play(&rt, rt.alloc(), (1, 1, 1), &ONE_JOB, tally);
 }
 
 #[test]
-fn one_job_left(rt: HostRuntime) -> Result<(), Fail> {
+fn one_job_left(rt: HostRuntime) {
     let tally = Tally {
         sent: 1,
         taken: 0,
         left: 1,
     };
-    play(&rt, rt.alloc(), (2, 1, 1), &[Turn::Send(0, 0, None)], tally)
+    play(&rt, rt.alloc(), (2, 1, 1), &[Turn::Send(0, 0, None)], tally);
 }
 
 // Three jobs and two end marks fill the queue: a second `shut` that sent marks would wait for ever. Each sender's
@@ -165,13 +164,13 @@ const FULL: [Turn; 13] = [
 ];
 
 #[test]
-fn what_is_left_comes_before_the_end(rt: HostRuntime) -> Result<(), Fail> {
+fn what_is_left_comes_before_the_end(rt: HostRuntime) {
     let tally = Tally {
         sent: 3,
         taken: 3,
         left: 0,
     };
-    play(&rt, rt.alloc(), (3, 2, 2), &FULL, tally)
+    play(&rt, rt.alloc(), (3, 2, 2), &FULL, tally);
 }
 
 // Under `rt try --test --fail-alloc N` each growth of `new` is refused in turn.
@@ -320,7 +319,7 @@ fn assert_each_once(rt: &impl Abort, one: &Took, other: &Took) {
 #[test]
 fn four_threads(rt: HostRuntime) -> Result<(), Fail> {
     let alloc = rt.alloc();
-    let keys = job(alloc, 0)?.keys;
+    let keys = job(&rt, alloc, 0).keys;
     let (queue, mut senders, mut takers) = JobQueue::new(alloc, 4, 2, 2)?;
     let (Some(high), Some(low)) = (senders.pop(), senders.pop()) else {
         unreachable!()
@@ -330,10 +329,10 @@ fn four_threads(rt: HostRuntime) -> Result<(), Fail> {
     };
     let ((low, high), (one, other)) = exchange(&rt, &queue, &keys, (low, high), (one, other));
     assert_each_once(&rt, &one, &other);
-    senders.push(low)?;
-    senders.push(high)?;
-    takers.push(one.seat)?;
-    takers.push(other.seat)?;
+    senders.push(low).expect(&rt, "no memory");
+    senders.push(high).expect(&rt, "no memory");
+    takers.push(one.seat).expect(&rt, "no memory");
+    takers.push(other.seat).expect(&rt, "no memory");
     let tally = Tally {
         sent: 200,
         taken: 200,

@@ -72,7 +72,7 @@ struct Row {
     calls: &'static [(Which, Call, Option<u8>)],
 }
 
-const ROWS: [Row; 3] = [
+static ROWS: [Row; 3] = [
     Row {
         about: "one cell is set once",
         len: 1,

@@ -25,7 +25,7 @@ fn long(alloc: Global, bytes: usize) -> Result<String, AllocError> {
 }
 
 /// Bytes of a table's name and of an id, and why there is no key of them, where there is none.
-const KEYS: [(usize, usize, Option<KeyFault>); 9] = [
+static KEYS: [(usize, usize, Option<KeyFault>); 9] = [
     (0, 0, Some(KeyFault::EmptyTable)),
     (0, 129, Some(KeyFault::EmptyTable)),
     (65, 0, Some(KeyFault::TableTooLong)),
@@ -46,9 +46,9 @@ fn key_fault(alloc: Global, table: usize, id: usize) -> Result<Option<KeyFault>,
 
 #[test]
 fn keys_are_refused_for_their_first_fault(rt: HostRuntime) -> Result<(), Fail> {
-    for (table, id, want) in KEYS {
-        let fault = key_fault(rt.alloc(), table, id)?;
-        assert_eq!(rt; fault, want, "a table of {table} bytes, an id of {id}");
+    for (table, id, want) in &KEYS {
+        let fault = key_fault(rt.alloc(), *table, *id)?;
+        assert_eq!(rt; fault, *want, "a table of {table} bytes, an id of {id}");
     }
     Ok(())
 }
@@ -63,7 +63,7 @@ fn a_copy_of_a_longest_key_is_equal(rt: HostRuntime) -> Result<(), Fail> {
 }
 
 /// The three numbers of limits, and why they are none, where they are none.
-const LIMITS: [(u32, u32, u32, Option<LimitFault>); 9] = [
+static LIMITS: [(u32, u32, u32, Option<LimitFault>); 9] = [
     (0, 0, 0, Some(LimitFault::BatchLimit)),
     (0, 1, 1, Some(LimitFault::BatchLimit)),
     (65_537, 1, 1, Some(LimitFault::BatchLimit)),
@@ -77,9 +77,9 @@ const LIMITS: [(u32, u32, u32, Option<LimitFault>); 9] = [
 
 #[test]
 fn limits_are_refused_for_their_first_fault(rt: HostRuntime) {
-    for (max_batch, max_cells, max_calls, want) in LIMITS {
-        let fault = Limits::new(max_batch, max_cells, max_calls).err();
-        assert_eq!(rt; fault, want, "{max_batch} {max_cells} {max_calls}");
+    for (max_batch, max_cells, max_calls, want) in &LIMITS {
+        let fault = Limits::new(*max_batch, *max_cells, *max_calls).err();
+        assert_eq!(rt; fault, *want, "{max_batch} {max_cells} {max_calls}");
     }
 }
 
@@ -110,7 +110,7 @@ fn use_desk(alloc: Global, desk: &mut Desk) -> Result<(), Fail> {
 }
 
 /// The states of the batches of a used desk, with the id and the cell of each one's only member.
-const BATCHES: [(u32, BatchState, &str, u32); 3] = [
+static BATCHES: [(u32, BatchState, &str, u32); 3] = [
     (0, BatchState::Failed, "a", 0),
     (1, BatchState::Settled, "b", 1),
     (2, BatchState::Sent, "a", 2),
@@ -125,21 +125,20 @@ fn has_only(batch: &BatchView<'_>, id: &str, cell: u32) -> bool {
 }
 
 /// The batches of a used desk are so.
-fn assert_batches(rt: &impl Abort, desk: &Desk) -> Result<(), Fail> {
-    for (number, state, id, cell) in BATCHES {
-        let batch = desk.batch(number).ok_or("no batch")?;
-        assert_eq!(rt; batch.state(), state);
-        assert!(rt; has_only(&batch, id, cell));
+fn assert_batches(rt: &impl Abort, desk: &Desk) {
+    for (number, state, id, cell) in &BATCHES {
+        let batch = desk.batch(*number).expect(rt, "no batch");
+        assert_eq!(rt; batch.state(), *state);
+        assert!(rt; has_only(&batch, id, *cell));
     }
     assert!(rt; desk.batch(3).is_none());
-    Ok(())
 }
 
 #[test]
 fn batches_end_in_any_order(rt: HostRuntime) -> Result<(), Fail> {
     let mut desk = new_desk(&rt, rt.alloc())?;
     use_desk(rt.alloc(), &mut desk)?;
-    assert_batches(&rt, &desk)?;
+    assert_batches(&rt, &desk);
     assert_eq!(rt; held(rt.alloc(), &desk, "a")?, Some(2));
     Ok(())
 }

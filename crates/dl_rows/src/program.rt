@@ -177,7 +177,7 @@ fn a_flush_that_fails_is_told(rt: HostRuntime) -> Result<(), Fail> {
 }
 
 /// How a run fails, and its line.
-const LINES: [(RunError, &str); 12] = [
+static LINES: [(RunError, &str); 12] = [
     (RunError::Read, "failed: read"),
     (RunError::Write, "failed: write"),
     (RunError::OutOfMemory, "failed: memory"),
@@ -209,15 +209,15 @@ const LINES: [(RunError, &str); 12] = [
 
 #[test]
 fn failures_have_lines(rt: HostRuntime) -> Result<(), Fail> {
-    for (error, line) in LINES {
+    for (error, line) in &LINES {
         let shown = format!(in rt.alloc(); "{error}")?;
-        assert_eq!(rt; shown.as_str(), line);
+        assert_eq!(rt; shown.as_str(), *line);
     }
     Ok(())
 }
 
 /// Words of a command line, and the options that they are, or the status with which they end the program.
-const WORDS: [(&[&str], Result<Options, i32>); 5] = [
+static WORDS: [(&[&str], Result<Options, i32>); 5] = [
     (&[], Ok(OPTIONS)),
     (
         &["--batches", "--workers", "16"],
@@ -241,7 +241,7 @@ fn asked(alloc: Global, words: &[&str]) -> Result<Options, i32> {
 
 #[test]
 fn the_command_line_is_read(rt: HostRuntime) {
-    for (words, want) in WORDS {
-        assert_eq!(rt; asked(rt.alloc(), words), want);
+    for (words, want) in &WORDS {
+        assert_eq!(rt; asked(rt.alloc(), words), *want);
     }
 }

@@ -11,7 +11,7 @@ const ENDS: &str =
     r#"{"script":1,"maxBatchSize":1,"calls":[{"load":["t","a"]},{"load":["t","b"]},{"dispatch":true},{"settle":1},{"fail":0},{"load":["t","a"]},{"load":["t","b"]},{"dispatch":true}]}"#;
 
 /// Worked rows: what each shows, a script's document, and the text that the script gives.
-pub(crate) const ROWS: [(&str, &str, &str); 13] = [
+pub(crate) static ROWS: [(&str, &str, &str); 13] = [
     (
         "a second load hits",
         r#"{"script":1,"maxBatchSize":2,"calls":[{"load":["t","a"]},{"load":["t","a"]}]}"#,
@@ -76,7 +76,7 @@ pub(crate) const ROWS: [(&str, &str, &str); 13] = [
 ];
 
 /// Documents that are refused, with the fault.
-const REFUSALS: [(&str, PlanFault); 11] = [
+static REFUSALS: [(&str, PlanFault); 11] = [
     ("", PlanFault::NotJson),
     ("[1]", PlanFault::Version),
     (

@@ -12,13 +12,14 @@ use std::test::Fail;
 const TWO_BREAKS: &str = r#"[{"name":"t","rows":[],"breaks":[["x","p"],["y","q"]]}]"#;
 
 /// A job for keys of one table.
-fn job(alloc: Global, batch: u32, table: &str, ids: &[&str]) -> Result<Job, Fail> {
+fn job(rt: &impl Abort, alloc: Global, batch: u32, table: &str, ids: &[&str]) -> Job {
     let mut keys = Vec::new(alloc);
     for id in ids {
-        keys.push(FetchKey::new(alloc, table, id)?)?;
+        let key = FetchKey::new(alloc, table, id).expect(rt, "no key");
+        keys.push(key).expect(rt, "no memory");
     }
-    let keys = Keys::new(alloc, keys)?;
-    Ok(Job { batch, keys })
+    let keys = Keys::new(alloc, keys).expect(rt, "no memory");
+    Job { batch, keys }
 }
 
 /// Each outcome on a line of its own, or the text of the break.
@@ -35,12 +36,10 @@ fn answer_text(alloc: Global, answer: &BatchAnswer) -> Result<String, AllocError
     Ok(text)
 }
 
-fn asked(alloc: Global, tables: &Tables, table: &str, ids: &[&str]) -> Result<String, Fail> {
-    let job = job(alloc, 0, table, ids)?;
-    match fetch_job(alloc, tables, job) {
-        Ok(fetched) => Ok(answer_text(alloc, fetched.answer())?),
-        Err((_, error)) => Err(error.into()),
-    }
+fn asked(rt: &impl Abort, alloc: Global, tables: &Tables, table: &str, ids: &[&str]) -> String {
+    let job = job(rt, alloc, 0, table, ids);
+    let fetched = fetch_job(alloc, tables, job).expect(rt, "no memory");
+    answer_text(alloc, fetched.answer()).expect(rt, "no memory")
 }
 
 /// Keys of one table, and what the tables answer for them.
@@ -52,7 +51,7 @@ struct Row {
     want: &'static str,
 }
 
-const ROWS: [Row; 6] = [
+static ROWS: [Row; 6] = [
     Row {
         about: "a key with an error, and one with no row",
         tables: USERS,
@@ -99,16 +98,17 @@ const ROWS: [Row; 6] = [
 
 #[test]
 fn keys_are_answered(rt: HostRuntime) -> Result<(), Fail> {
+    let hashing = RandomState::new(&rt)?;
     for row in &ROWS {
-        let tables = tables(&rt, rt.alloc(), row.tables)?;
-        let answer = asked(rt.alloc(), &tables, row.table, row.ids)?;
+        let tables = tables(rt.alloc(), hashing, row.tables).expect(&rt, "no tables");
+        let answer = asked(&rt, rt.alloc(), &tables, row.table, row.ids);
         assert_eq!(rt; answer.as_str(), row.want, "{}", row.about);
     }
     Ok(())
 }
 
 /// Trees that spell no tables, and the first fault of each.
-const REFUSED: [(&str, TableFault); 10] = [
+static REFUSED: [(&str, TableFault); 10] = [
     (r#"[{"name":"","rows":5}]"#, TableFault::Shape),
     (r#"[{"name":"t","rows":[["a",1,2]]}]"#, TableFault::Shape),
     (r#"[{"name":"t","rows":[],"row":[]}]"#, TableFault::Shape),
@@ -145,9 +145,9 @@ fn fault_of(alloc: Global, hashing: RandomState, text: &str) -> Result<Option<Ta
 #[test]
 fn other_trees_are_refused(rt: HostRuntime) -> Result<(), Fail> {
     let hashing = RandomState::new(&rt)?;
-    for (text, want) in REFUSED {
+    for (text, want) in &REFUSED {
         let fault = fault_of(rt.alloc(), hashing, text)?;
-        assert_eq!(rt; fault, Some(want), "{text}");
+        assert_eq!(rt; fault, Some(*want), "{text}");
     }
     Ok(())
 }
@@ -175,10 +175,10 @@ fn takes_texts_up_to_their_limit(rt: HostRuntime) -> Result<(), Fail> {
 }
 
 /// The value of a text, whose numbers are whole.
-pub(crate) fn json(rt: &impl Abort, alloc: Global, text: &str) -> Result<Json, Fail> {
-    let value = Value::from_str(alloc, text)?;
+pub(crate) fn json(rt: &impl Abort, alloc: Global, text: &str) -> Json {
+    let value = Value::from_str(alloc, text).expect(rt, "no JSON");
     assert!(rt; !has_float(&value));
-    Ok(Json::new(alloc, value)?)
+    Json::new(alloc, value).expect(rt, "no memory")
 }
 
 /// The text of a value that is copied out of a shared one.
@@ -213,7 +213,7 @@ fn assert_copied(
 #[test]
 fn copies_of_values_are_the_same(rt: HostRuntime) -> Result<(), Fail> {
     let want = r#"{"a":null,"b":[1,-2]}"#;
-    let json = json(&rt, rt.alloc(), r#"{"b":[1,-2],"a":null}"#)?;
+    let json = json(&rt, rt.alloc(), r#"{"b":[1,-2],"a":null}"#);
     let text = copied_out(rt.alloc(), &json)?;
     assert_eq!(rt; text.as_str(), want);
     assert_copied(&rt, rt.alloc(), &Outcome::Value(json), want)?;
@@ -246,11 +246,10 @@ impl Source for Starved {
 }
 
 #[test]
-fn a_job_comes_back_for_want_of_memory(rt: HostRuntime) -> Result<(), Fail> {
-    let asked = job(rt.alloc(), 3, "t", &["a"])?;
-    let Err((back, AllocError)) = fetch_job(rt.alloc(), &Starved, asked) else {
-        return Err("there was memory".into());
-    };
-    assert_eq!(rt; back.batch, 3);
-    Ok(())
+fn a_job_comes_back_for_want_of_memory(rt: HostRuntime) {
+    let asked = job(&rt, rt.alloc(), 3, "t", &["a"]);
+    match fetch_job(rt.alloc(), &Starved, asked) {
+        Ok(_) => panic!(rt; "there was memory"),
+        Err((back, AllocError)) => assert_eq!(rt; back.batch, 3),
+    }
 }

@@ -1,7 +1,7 @@
 //! Terms over users, round by round.
 
 use crate::source::json;
-use dl_desk::{FetchKey, KeyFault, Outcome, Text};
+use dl_desk::{FetchKey, Outcome, Text};
 use dl_terms::{Answer, Known, Node, Term, Wanted, explore, plan};
 use indexmap::{IndexMap, IndexSet};
 use std::alloc::{AllocError, Global};
@@ -10,49 +10,62 @@ use std::process::Abort;
 use std::random::RandomSource;
 use std::test::Fail;
 
-fn user(alloc: Global, id: &str) -> Result<FetchKey, KeyFault> {
-    FetchKey::new(alloc, "user", id)
+fn user(rt: &impl Abort, alloc: Global, id: &str) -> FetchKey {
+    FetchKey::new(alloc, "user", id).expect(rt, "no key")
 }
 
-fn load(alloc: Global, id: &str) -> Result<Box<Term>, Fail> {
-    let key = user(alloc, id)?;
-    Ok(Box::new(alloc, Term::Load(key))?)
+fn name(rt: &impl Abort, alloc: Global, text: &str) -> Text {
+    Text::new(alloc, text).expect(rt, "no memory")
+}
+
+fn part(rt: &impl Abort, alloc: Global, term: Term) -> Box<Term> {
+    Box::new(alloc, term).expect(rt, "no memory")
 }
 
 /// The load of u1, a field of it, and the table of users.
-fn field_of_u1(alloc: Global, field: &str) -> Result<(Box<Term>, Text, Text), Fail> {
-    let part = load(alloc, "u1")?;
-    let field = Text::new(alloc, field)?;
-    let table = Text::new(alloc, "user")?;
-    Ok((part, field, table))
+fn field_of_u1(rt: &impl Abort, alloc: Global, field: &str) -> (Box<Term>, Text, Text) {
+    let load = Term::Load(user(rt, alloc, "u1"));
+    let (field, table) = (name(rt, alloc, field), name(rt, alloc, "user"));
+    (part(rt, alloc, load), field, table)
 }
 
 /// The name of u1's best friend.
-fn best_name(alloc: Global) -> Result<Term, Fail> {
-    let (part, field, table) = field_of_u1(alloc, "best")?;
-    let part = Box::new(alloc, Term::Follow { part, field, table })?;
-    let field = Text::new(alloc, "name")?;
-    Ok(Term::Pick { part, field })
+fn best_name(rt: &impl Abort, alloc: Global) -> Term {
+    let (part_of_u1, field, table) = field_of_u1(rt, alloc, "best");
+    let best = Term::Follow {
+        part: part_of_u1,
+        field,
+        table,
+    };
+    Term::Pick {
+        part: part(rt, alloc, best),
+        field: name(rt, alloc, "name"),
+    }
 }
 
 /// The friends of u1, the name of u1's best friend, and u3.
-fn friends(alloc: Global) -> Result<Term, Fail> {
+fn friends(rt: &impl Abort, alloc: Global) -> Term {
+    let (part, field, table) = field_of_u1(rt, alloc, "friends");
     let mut parts = Vec::new(alloc);
-    let (part, field, table) = field_of_u1(alloc, "friends")?;
-    parts.push(Term::Each { part, field, table })?;
-    parts.push(best_name(alloc)?)?;
-    parts.push(Term::Load(user(alloc, "u3")?))?;
-    Ok(Term::All(parts))
+    for part in [
+        Term::Each { part, field, table },
+        best_name(rt, alloc),
+        Term::Load(user(rt, alloc, "u3")),
+    ] {
+        parts.push(part).expect(rt, "no memory");
+    }
+    Term::All(parts)
 }
 
 /// The outcomes of all users.
-fn outcomes(rt: &impl Abort, alloc: Global) -> Result<Vec<(FetchKey, Outcome)>, Fail> {
+fn outcomes(rt: &impl Abort, alloc: Global) -> Vec<(FetchKey, Outcome)> {
     let mut outcomes = Vec::new(alloc);
-    for (id, text) in USERS {
-        let json = json(rt, alloc, text)?;
-        outcomes.push((user(alloc, id)?, Outcome::Value(json)))?;
+    for (id, text) in &USERS {
+        let outcome = Outcome::Value(json(rt, alloc, text));
+        let pushed = outcomes.push((user(rt, alloc, id), outcome));
+        pushed.expect(rt, "no memory");
     }
-    Ok(outcomes)
+    outcomes
 }
 
 /// The first so many of the outcomes, by their keys.
@@ -92,14 +105,14 @@ fn explored(
 }
 
 /// The users, each by its id and what its load gives.
-const USERS: [(&str, &str); 3] = [
+static USERS: [(&str, &str); 3] = [
     ("u1", r#"{"best":"u2","friends":["u2","u3","u2"]}"#),
     ("u3", "3"),
     ("u2", r#"{"name":"Bob"}"#),
 ];
 
 /// How many of the users are known in each round, and the ids that are wanted then.
-const ROUNDS: [(usize, &str); 3] = [(0, "u1 u3 "), (2, "u2 "), (3, "")];
+static ROUNDS: [(usize, &str); 3] = [(0, "u1 u3 "), (2, "u2 "), (3, "")];
 
 /// In each round the node wants these ids.
 fn assert_rounds(
@@ -109,10 +122,10 @@ fn assert_rounds(
     node: &mut Node,
     outcomes: &[(FetchKey, Outcome)],
 ) -> Result<(), AllocError> {
-    for (count, want) in ROUNDS {
-        let known = known_of(alloc, hashing, outcomes, count)?;
+    for (count, want) in &ROUNDS {
+        let known = known_of(alloc, hashing, outcomes, *count)?;
         let ids = explored(alloc, hashing, node, &known)?;
-        assert_eq!(rt; ids.as_str(), want);
+        assert_eq!(rt; ids.as_str(), *want);
     }
     Ok(())
 }
@@ -128,8 +141,8 @@ fn answer_text(alloc: Global, node: Node) -> Result<String, AllocError> {
 #[test]
 fn a_term_wants_all_its_keys_at_once(rt: HostRuntime) -> Result<(), Fail> {
     let hashing = RandomState::new(&rt)?;
-    let outcomes = outcomes(&rt, rt.alloc())?;
-    let mut node = plan(rt.alloc(), friends(rt.alloc())?)?;
+    let outcomes = outcomes(&rt, rt.alloc());
+    let mut node = plan(rt.alloc(), friends(&rt, rt.alloc())).expect(&rt, "no memory");
     assert_rounds(&rt, rt.alloc(), hashing, &mut node, &outcomes)?;
     let text = answer_text(rt.alloc(), node)?;
     assert_eq!(rt;

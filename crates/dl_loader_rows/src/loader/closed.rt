@@ -5,24 +5,18 @@ use super::step::{Closed, Ids};
 use dl_loader::{Batches, Call, EntryKind, History};
 use std::alloc::Global;
 use std::process::Abort;
-use std::test::Fail;
 
 /// The history tells this, and nothing beyond.
-pub(super) fn assert_closed(
-    rt: &impl Abort,
-    alloc: Global,
-    history: &History,
-    want: &Closed,
-) -> Result<(), Fail> {
+pub(super) fn assert_closed(rt: &impl Abort, alloc: Global, history: &History, want: &Closed) {
     history.keeps();
     assert_eq!(rt; history.events().len(), want.events);
     assert!(rt; history.events().get(want.events).is_none());
     for (caller, entries, places) in want.callers {
-        assert_caller(rt, alloc, history, *caller, entries, places)?;
+        assert_caller(rt, alloc, history, *caller, entries, places);
     }
-    assert_ends(rt, alloc, history, want.ends)?;
+    assert_ends(rt, alloc, history, want.ends);
     assert_batches(rt, &history.batches(), want.batches);
-    assert_outcomes(rt, alloc, history, want.outcomes)
+    assert_outcomes(rt, alloc, history, want.outcomes);
 }
 
 /// The caller has these entries, and its events stand at these places.
@@ -33,32 +27,23 @@ fn assert_caller(
     caller: u32,
     entries: &[EntryKind],
     places: &[u32],
-) -> Result<(), Fail> {
+) {
     assert_eq!(rt; history.entries(caller), entries);
-    let found = history.of_caller(alloc, caller)?;
+    let found = history.of_caller(alloc, caller).expect(rt, "no memory");
     assert_eq!(rt; found.as_slice(), places);
-    Ok(())
 }
 
 /// The events end these batches, in this order, where `true` says that a batch is settled.
-pub(super) fn assert_ends(
-    rt: &impl Abort,
-    alloc: Global,
-    history: &History,
-    want: &[(u32, bool)],
-) -> Result<(), Fail> {
+pub(super) fn assert_ends(rt: &impl Abort, alloc: Global, history: &History, want: &[(u32, bool)]) {
     let mut ends = Vec::new(alloc);
     let events = history.events();
     for at in 0..events.len() {
-        let Some(event) = events.get(at) else {
-            return Err("no event".into());
-        };
+        let event = events.get(at).expect(rt, "no event");
         if let Some(end) = end_of(&event.call) {
-            ends.push(end)?;
+            ends.push(end).expect(rt, "no memory");
         }
     }
     assert_eq!(rt; ends.as_slice(), want);
-    Ok(())
 }
 
 /// The batch that a call ends, if it ends one, and whether it settles it.
@@ -74,29 +59,20 @@ fn end_of(call: &Call) -> Option<(u32, bool)> {
 pub(super) fn assert_batches(rt: &impl Abort, batches: &Batches<'_>, want: &[(Ids, bool)]) {
     let mut number: u32 = 0;
     for (ids, is_settled) in want {
-        match batches.get(number) {
-            Some(batch) => {
-                assert_keys(rt, batch.keys(), ids);
-                assert_eq!(rt; batch.is_settled(), *is_settled);
-            }
-            None => panic!(rt; "no batch"),
-        }
+        let batch = batches.get(number).expect(rt, "no batch");
+        assert_keys(rt, batch.keys(), ids);
+        assert_eq!(rt; batch.is_settled(), *is_settled);
         number = number.saturating_add(1);
     }
     assert!(rt; batches.get(number).is_none());
 }
 
 /// The cells have outcomes of these texts, and there is no other cell.
-pub(super) fn assert_outcomes(
-    rt: &impl Abort,
-    alloc: Global,
-    history: &History,
-    want: &[&str],
-) -> Result<(), Fail> {
+pub(super) fn assert_outcomes(rt: &impl Abort, alloc: Global, history: &History, want: &[&str]) {
     let mut cell: u32 = 0;
     for text in want {
-        assert_shows(rt, alloc, history.outcome(cell), Some(text))?;
+        assert_shows(rt, alloc, history.outcome(cell), Some(text));
         cell = cell.saturating_add(1);
     }
-    assert_shows(rt, alloc, history.outcome(cell), None)
+    assert_shows(rt, alloc, history.outcome(cell), None);
 }

@@ -6,26 +6,25 @@ use dl_fixtures::outcome_text;
 use serde_json::Value;
 use std::alloc::Global;
 use std::process::Abort;
-use std::test::Fail;
 
 /// The key of a user.
-pub(super) fn user(alloc: Global, id: &str) -> Result<FetchKey, Fail> {
-    Ok(FetchKey::new(alloc, "user", id)?)
+pub(super) fn user(rt: &impl Abort, alloc: Global, id: &str) -> FetchKey {
+    FetchKey::new(alloc, "user", id).expect(rt, "no key")
 }
 
 /// The keys of users.
-pub(super) fn users(alloc: Global, ids: &[&str]) -> Result<Vec<FetchKey>, Fail> {
+pub(super) fn users(rt: &impl Abort, alloc: Global, ids: &[&str]) -> Vec<FetchKey> {
     let mut keys = Vec::new(alloc);
     for id in ids {
-        keys.push(user(alloc, id)?)?;
+        keys.push(user(rt, alloc, id)).expect(rt, "no memory");
     }
-    Ok(keys)
+    keys
 }
 
 /// The job of a batch with the keys of users.
-pub(super) fn job(alloc: Global, batch: u32, ids: &[&str]) -> Result<Job, Fail> {
-    let keys = Keys::new(alloc, users(alloc, ids)?)?;
-    Ok(Job { batch, keys })
+pub(super) fn job(rt: &impl Abort, alloc: Global, batch: u32, ids: &[&str]) -> Job {
+    let keys = Keys::new(alloc, users(rt, alloc, ids)).expect(rt, "no memory");
+    Job { batch, keys }
 }
 
 /// The keys are those of these users.
@@ -52,19 +51,21 @@ pub(super) fn assert_jobs(rt: &impl Abort, jobs: &[Job], want: &[(u32, Ids)]) {
 }
 
 /// The outcome that a key is primed with.
-pub(super) fn outcome(rt: &impl Abort, alloc: Global, primed: &Primed) -> Result<Outcome, Fail> {
+pub(super) fn outcome(rt: &impl Abort, alloc: Global, primed: &Primed) -> Outcome {
     match primed {
         Primed::Value(text) => value(rt, alloc, text),
-        Primed::KeyError(text) => Ok(Outcome::KeyError(Message::new(alloc, text)?)),
-        Primed::NoMemory => Ok(Outcome::BatchFailed(BatchFault::Memory)),
+        Primed::KeyError(text) => {
+            Outcome::KeyError(Message::new(alloc, text).expect(rt, "no message"))
+        }
+        Primed::NoMemory => Outcome::BatchFailed(BatchFault::Memory),
     }
 }
 
 /// The value of a JSON text.
-fn value(rt: &impl Abort, alloc: Global, text: &str) -> Result<Outcome, Fail> {
-    let value = Value::from_str(alloc, text)?;
+fn value(rt: &impl Abort, alloc: Global, text: &str) -> Outcome {
+    let value = Value::from_str(alloc, text).expect(rt, "no JSON");
     assert!(rt; !has_float(&value));
-    Ok(Outcome::Value(Json::new(alloc, value)?))
+    Outcome::Value(Json::new(alloc, value).expect(rt, "no memory"))
 }
 
 /// An outcome of this text is shown.
@@ -73,11 +74,10 @@ pub(super) fn assert_shows(
     alloc: Global,
     outcome: Option<&Outcome>,
     want: Option<&str>,
-) -> Result<(), Fail> {
+) {
     assert_eq!(rt; outcome.is_some(), want.is_some());
     if let (Some(outcome), Some(want)) = (outcome, want) {
-        let text = outcome_text(alloc, outcome)?;
+        let text = outcome_text(alloc, outcome).expect(rt, "no memory");
         assert_eq!(rt; text.as_str(), want);
     }
-    Ok(())
 }

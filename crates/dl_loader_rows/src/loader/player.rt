@@ -1,6 +1,5 @@
 //! The player of rows: it makes their calls, and asserts what they answer.
 
-ghost use Rattle.std.specs.Prelude.{IfOk};
 ghost use Rattle.dl_history.specs.Service.{Answers};
 ghost use Rattle.dl_source.specs.Fetched.{source_of};
 
@@ -15,7 +14,6 @@ use dl_source::{Fetched, Source, fetch_job};
 use std::alloc::Global;
 use std::process::Abort;
 use std::sync::Wait;
-use std::test::Fail;
 
 /// What calls are made on, and with what.
 #[derive(Drop)]
@@ -28,25 +26,18 @@ pub(super) struct Stage<'a, L: LoaderName, S: Source, R: Abort + Wait> {
 
 impl<'a, L: LoaderName, S: Source, R: Abort + Wait> Stage<'a, L, S, R> {
     /// Makes the calls in order, each by its caller.
-    pub(super) fn play(
-        &self,
-        hands: &mut [Hand<'a, L>],
-        steps: &[(usize, Step)],
-    ) -> Result<(), Fail>
+    pub(super) fn play(&self, hands: &mut [Hand<'a, L>], steps: &[(usize, Step)])
         requires { Answers (S.answer self.now.source.now) L.service }
     {
         for (caller, step) in steps {
-            let Some(hand) = hands.get_mut(*caller) else {
-                return Err("no such caller".into());
-            };
+            let hand = hands.get_mut(*caller).expect(self.rt, "no such caller");
             assert_eq!(self.rt; hand.pass.caller() as usize, *caller);
-            self.make(hand, step)?;
+            self.make(hand, step);
         }
-        Ok(())
     }
 
     /// Makes one call.
-    fn make(&self, hand: &mut Hand<'a, L>, step: &Step) -> Result<(), Fail>
+    fn make(&self, hand: &mut Hand<'a, L>, step: &Step)
         requires { Answers (S.answer self.now.source.now) L.service }
     {
         match step {
@@ -77,16 +68,10 @@ impl<'a, L: LoaderName, S: Source, R: Abort + Wait> Stage<'a, L, S, R> {
         want.unwrap_or(&[])
     }
 
-    fn load(
-        &self,
-        hand: &mut Hand<'a, L>,
-        id: &str,
-        want: Result<LoadReply, CallFault>,
-    ) -> Result<(), Fail> {
-        let key = user(self.alloc, id)?;
+    fn load(&self, hand: &mut Hand<'a, L>, id: &str, want: Result<LoadReply, CallFault>) {
+        let key = user(self.rt, self.alloc, id);
         let reply = hand.load(self.rt, self.alloc, self.loader, &key);
         assert_eq!(self.rt; reply, want);
-        Ok(())
     }
 
     fn load_many(
@@ -94,20 +79,18 @@ impl<'a, L: LoaderName, S: Source, R: Abort + Wait> Stage<'a, L, S, R> {
         hand: &mut Hand<'a, L>,
         ids: &[&str],
         want: Result<&[LoadReply], CallFault>,
-    ) -> Result<(), Fail> {
-        let keys = users(self.alloc, ids)?;
+    ) {
+        let keys = users(self.rt, self.alloc, ids);
         match hand.load_many(self.rt, self.alloc, self.loader, keys.as_slice()) {
             Ok(tickets) => assert_replies(self.rt, tickets.as_slice(), self.accepted(want)),
             Err(fault) => assert_eq!(self.rt; Some(fault), want.err()),
         }
-        Ok(())
     }
 
-    fn load_by_law(&self, hand: &mut Hand<'a, L>, id: &str, want: LoadReply) -> Result<(), Fail> {
-        let key = user(self.alloc, id)?;
+    fn load_by_law(&self, hand: &mut Hand<'a, L>, id: &str, want: LoadReply) {
+        let key = user(self.rt, self.alloc, id);
         let reply = hand.load_by_law::<S>(self.rt, self.alloc, self.loader, &key);
         assert_eq!(self.rt; reply, Some(want));
-        Ok(())
     }
 
     fn prime(
@@ -116,56 +99,37 @@ impl<'a, L: LoaderName, S: Source, R: Abort + Wait> Stage<'a, L, S, R> {
         id: &str,
         primed: &Primed,
         want: Result<PrimeReply, CallFault>,
-    ) -> Result<(), Fail> {
-        let key = user(self.alloc, id)?;
-        let outcome = outcome(self.rt, self.alloc, primed)?;
+    ) {
+        let key = user(self.rt, self.alloc, id);
+        let outcome = outcome(self.rt, self.alloc, primed);
         let reply = self
             .loader
             .prime(self.rt, self.alloc, &mut hand.pass, &key, outcome);
         assert_eq!(self.rt; reply, want);
-        Ok(())
     }
 
-    fn clear(
-        &self,
-        hand: &mut Hand<'a, L>,
-        id: &str,
-        want: Result<(), CallFault>,
-    ) -> Result<(), Fail> {
-        let key = user(self.alloc, id)?;
+    fn clear(&self, hand: &mut Hand<'a, L>, id: &str, want: Result<(), CallFault>) {
+        let key = user(self.rt, self.alloc, id);
         let reply = self.loader.clear(self.rt, self.alloc, &mut hand.pass, &key);
         assert_eq!(self.rt; reply, want);
-        Ok(())
     }
 
-    fn clear_all(&self, hand: &mut Hand<'a, L>, want: Result<(), CallFault>) -> Result<(), Fail> {
+    fn clear_all(&self, hand: &mut Hand<'a, L>, want: Result<(), CallFault>) {
         let reply = self.loader.clear_all(self.rt, self.alloc, &mut hand.pass);
         assert_eq!(self.rt; reply, want);
-        Ok(())
     }
 
-    fn dispatch(
-        &self,
-        hand: &mut Hand<'a, L>,
-        want: Result<&[(u32, Ids)], CallFault>,
-    ) -> Result<(), Fail> {
+    fn dispatch(&self, hand: &mut Hand<'a, L>, want: Result<&[(u32, Ids)], CallFault>) {
         match self.loader.dispatch(self.rt, self.alloc, &mut hand.pass) {
             Ok(jobs) => assert_jobs(self.rt, jobs.as_slice(), self.accepted(want)),
             Err(fault) => assert_eq!(self.rt; Some(fault), want.err()),
         }
-        Ok(())
     }
 
-    fn settle(
-        &self,
-        hand: &mut Hand<'a, L>,
-        batch: u32,
-        ids: &[&str],
-        want: Result<u32, CallFault>,
-    ) -> Result<(), Fail>
+    fn settle(&self, hand: &mut Hand<'a, L>, batch: u32, ids: &[&str], want: Result<u32, CallFault>)
         requires { Answers (S.answer self.now.source.now) L.service }
     {
-        let fetched = self.fetch(job(self.alloc, batch, ids)?)?;
+        let fetched = self.fetch(job(self.rt, self.alloc, batch, ids));
         let settled = match self
             .loader
             .settle(self.rt, self.alloc, &mut hand.pass, fetched)
@@ -174,18 +138,14 @@ impl<'a, L: LoaderName, S: Source, R: Abort + Wait> Stage<'a, L, S, R> {
             Err((fault, fetched)) => Err((fault, fetched.into_job())),
         };
         assert_end(self.rt, settled, (batch, ids), want);
-        Ok(())
     }
 
     /// What the source answers to a job.
-    fn fetch(&self, job: Job) -> Result<Fetched<'a, S>, Fail>
+    fn fetch(&self, job: Job) -> Fetched<'a, S>
         requires { Answers (S.answer self.now.source.now) L.service }
-        ensures { IfOk result (λ fetched. Answers (S.answer (source_of fetched)) L.service) }
+        ensures { Answers (S.answer (source_of result)) L.service }
     {
-        match fetch_job(self.alloc, self.source, job) {
-            Ok(fetched) => Ok(fetched),
-            Err((_, error)) => Err(error.into()),
-        }
+        fetch_job(self.alloc, self.source, job).expect(self.rt, "no memory")
     }
 
     fn fail(
@@ -195,54 +155,43 @@ impl<'a, L: LoaderName, S: Source, R: Abort + Wait> Stage<'a, L, S, R> {
         ids: &[&str],
         why: GiveUp,
         want: Result<u32, CallFault>,
-    ) -> Result<(), Fail> {
-        let job = job(self.alloc, batch, ids)?;
+    ) {
+        let job = job(self.rt, self.alloc, batch, ids);
         let failed = self
             .loader
             .fail(self.rt, self.alloc, &mut hand.pass, job, why);
         assert_end(self.rt, failed, (batch, ids), want);
-        Ok(())
     }
 
-    fn look(&self, hand: &mut Hand<'a, L>, cell: u32, want: Option<&str>) -> Result<(), Fail> {
+    fn look(&self, hand: &mut Hand<'a, L>, cell: u32, want: Option<&str>) {
         let Some(ticket) = hand.ticket.as_mut() else {
-            return Err("no ticket".into());
+            panic!(self.rt; "no ticket");
         };
         assert_eq!(self.rt; ticket.cell(), cell);
-        assert_shows(self.rt, self.alloc, ticket.look(), want)
+        assert_shows(self.rt, self.alloc, ticket.look(), want);
     }
 
-    fn wait(&self, hand: &mut Hand<'a, L>, want: Result<&str, Stopped>) -> Result<(), Fail> {
+    fn wait(&self, hand: &mut Hand<'a, L>, want: Result<&str, Stopped>) {
         match hand.wait(self.rt, self.loader) {
             Ok(outcome) => {
                 assert_eq!(self.rt; want.err(), None);
-                assert_shows(self.rt, self.alloc, outcome, want.ok())
+                assert_shows(self.rt, self.alloc, outcome, want.ok());
             }
-            Err(stopped) => {
-                assert_eq!(self.rt; Err(stopped), want);
-                Ok(())
-            }
+            Err(stopped) => assert_eq!(self.rt; Err(stopped), want),
         }
     }
 
-    fn stop(&self) -> Result<(), Fail> {
+    fn stop(&self) {
         self.loader.stop(self.rt);
-        Ok(())
     }
 
-    fn entries(
-        &self,
-        pass: &Pass<L>,
-        kinds: &[EntryKind],
-        (calls, front): (usize, u32),
-    ) -> Result<(), Fail> {
+    fn entries(&self, pass: &Pass<L>, kinds: &[EntryKind], (calls, front): (usize, u32)) {
         assert_eq!(self.rt; pass.calls(), calls);
         assert_eq!(self.rt; pass.front(), front);
         assert_eq!(self.rt; pass.entries().len(), kinds.len());
         for (entry, kind) in pass.entries().iter().zip(kinds.iter()) {
             assert_eq!(self.rt; entry.kind(), *kind);
         }
-        Ok(())
     }
 }
 

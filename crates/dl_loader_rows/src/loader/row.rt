@@ -13,7 +13,6 @@ use dl_source::Source;
 use std::alloc::{AllocError, Global};
 use std::process::Abort;
 use std::sync::Wait;
-use std::test::Fail;
 
 /// Makes the calls and the closes of a row on the loader of an opening, which `L` stands for.
 pub(super) fn play<L: LoaderName, S: Source, R: Abort + Wait>(
@@ -22,19 +21,18 @@ pub(super) fn play<L: LoaderName, S: Source, R: Abort + Wait>(
     source: &S,
     opening: Opening<'_, S>,
     parts: &[Part],
-) -> Result<(), Fail>
+)
     requires source { opening.source ≡ source.now }
     requires names { Names S.answer opening L.service L.parts L.log L.outcomes L.name }
 {
-    let (mut loader, mut passes) = Loader::<L>::start(alloc, opening)?;
+    let (mut loader, mut passes) = Loader::<L>::start(alloc, opening).expect(rt, "no loader");
     for part in parts {
-        passes = make_calls(rt, alloc, source, &loader, passes, part.steps)?;
-        let Some(back) = close(rt, alloc, loader, passes, part)? else {
-            return Ok(());
+        passes = make_calls(rt, alloc, source, &loader, passes, part.steps);
+        let Some(back) = close(rt, alloc, loader, passes, part) else {
+            return;
         };
         (loader, passes) = back;
     }
-    Ok(())
 }
 
 /// Makes calls of the callers that have these passes, which come back.
@@ -45,7 +43,7 @@ fn make_calls<L: LoaderName, S: Source, R: Abort + Wait>(
     loader: &Loader<L>,
     passes: Vec<Pass<L>>,
     steps: &[(usize, Step)],
-) -> Result<Vec<Pass<L>>, Fail>
+) -> Vec<Pass<L>>
     requires { Answers (S.answer source.now) L.service }
 {
     let stage = Stage {
@@ -54,9 +52,9 @@ fn make_calls<L: LoaderName, S: Source, R: Abort + Wait>(
         source,
         loader,
     };
-    let mut hands = hands_of(alloc, passes)?;
-    stage.play(hands.as_mut_slice(), steps)?;
-    Ok(passes_of(alloc, hands)?)
+    let mut hands = hands_of(alloc, passes).expect(rt, "no memory");
+    stage.play(hands.as_mut_slice(), steps);
+    passes_of(alloc, hands).expect(rt, "no memory")
 }
 
 /// The hands of callers that hold no ticket. The error is want of memory.
@@ -90,33 +88,26 @@ fn close<L: LoaderName>(
     loader: Loader<L>,
     mut passes: Vec<Pass<L>>,
     part: &Part,
-) -> Result<Option<(Loader<L>, Vec<Pass<L>>)>, Fail> {
+) -> Option<(Loader<L>, Vec<Pass<L>>)> {
     let count = part.passes.min(passes.len());
-    let kept = passes.split_off(count)?;
+    let kept = passes.split_off(count).expect(rt, "no memory");
     match loader.close(alloc, passes) {
         Ok(history) => {
-            assert_history(rt, alloc, &history, part)?;
-            Ok(None)
+            assert_history(rt, alloc, &history, part);
+            None
         }
         Err((fault, loader, mut passes)) => {
             assert_refusal(rt, fault, passes.len(), part);
-            passes.extend(kept)?;
-            Ok(Some((loader, passes)))
+            passes.extend(kept).expect(rt, "no memory");
+            Some((loader, passes))
         }
     }
 }
 
 /// The part ends in a close, and the history tells what it says.
-fn assert_history(
-    rt: &impl Abort,
-    alloc: Global,
-    history: &History,
-    part: &Part,
-) -> Result<(), Fail> {
-    match part.close {
-        Ok(closed) => assert_closed(rt, alloc, history, closed),
-        Err(_) => Err("the loader was closed".into()),
-    }
+fn assert_history(rt: &impl Abort, alloc: Global, history: &History, part: &Part) {
+    let closed = part.close.expect(rt, "the loader was closed");
+    assert_closed(rt, alloc, history, closed);
 }
 
 /// The part ends in a close that is refused so, and the passes that it was handed come back.

@@ -16,7 +16,6 @@ use dl_workers::end_jobs;
 use std::alloc::Global;
 use std::process::Abort;
 use std::sync::Wait;
-use std::test::Fail;
 use std::thread::{Threads, join};
 
 /// Two callers load a key, each on a thread of its own. Then the first of them ends the batch, both read the
@@ -26,16 +25,15 @@ pub(super) fn load_by_two<L: LoaderName + Send + Sync, S: Source, R: Abort + Thr
     alloc: Global,
     source: &S,
     opening: Opening<'_, S>,
-) -> Result<(), Fail>
+)
     requires source { opening.source ≡ source.now }
     requires names { Names S.answer opening L.service L.parts L.log L.outcomes L.name }
 {
-    let (loader, passes) = Loader::<L>::start(alloc, opening)?;
-    let passes = read_by_two(rt, alloc, source, &loader, passes)?;
-    match loader.close(alloc, passes) {
-        Ok(history) => assert_history(rt, alloc, &history),
-        Err((fault, _, _)) => Err(fault.into()),
-    }
+    let (loader, passes) = Loader::<L>::start(alloc, opening).expect(rt, "no loader");
+    let passes = read_by_two(rt, alloc, source, &loader, passes);
+    let closed = loader.close(alloc, passes).map_err(|(fault, _, _)| fault);
+    let history = closed.expect(rt, "no history");
+    assert_history(rt, alloc, &history);
 }
 
 /// The calls before the close.
@@ -45,16 +43,15 @@ fn read_by_two<L: LoaderName + Send + Sync, S: Source, R: Abort + Threads + Wait
     source: &S,
     loader: &Loader<L>,
     mut passes: Vec<Pass<L>>,
-) -> Result<Vec<Pass<L>>, Fail>
+) -> Vec<Pass<L>>
     requires source { Answers (S.answer source.now) L.service }
 {
-    let (Some(other), Some(one)) = (passes.pop(), passes.pop()) else {
-        return Err("no passes".into());
-    };
-    let (one, other) = load_by_both(rt, alloc, source, loader, one, other)?;
-    passes.push(one)?;
-    passes.push(other)?;
-    Ok(passes)
+    let other = passes.pop().expect(rt, "no pass");
+    let one = passes.pop().expect(rt, "no pass");
+    let (one, other) = load_by_both(rt, alloc, source, loader, one, other);
+    passes.push(one).expect(rt, "no memory");
+    passes.push(other).expect(rt, "no memory");
+    passes
 }
 
 /// The calls of both callers, and their passes.
@@ -65,13 +62,12 @@ fn load_by_both<L: LoaderName + Send + Sync, S: Source, R: Abort + Threads + Wai
     loader: &Loader<L>,
     one: Pass<L>,
     other: Pass<L>,
-) -> Result<(Pass<L>, Pass<L>), Fail>
+) -> (Pass<L>, Pass<L>)
     requires source { Answers (S.answer source.now) L.service }
 {
-    let key = user(alloc, "u1")?;
-    let (one, other) = start_threads(rt, alloc, loader, &key, one, other)?;
-    let (mut one, mut first) = one;
-    let (mut other, mut second) = other;
+    let key = user(rt, alloc, "u1");
+    let loads = start_threads(rt, alloc, loader, &key, one, other);
+    let ((mut one, mut first), (mut other, mut second)) = loads.expect(rt, "no loads");
     read_both(
         rt,
         alloc,
@@ -81,8 +77,8 @@ fn load_by_both<L: LoaderName + Send + Sync, S: Source, R: Abort + Threads + Wai
         &mut first,
         &mut other,
         &mut second,
-    )?;
-    Ok((one, other))
+    );
+    (one, other)
 }
 
 /// The first caller ends the batch, and each caller reads the outcome by its ticket.
@@ -95,16 +91,15 @@ fn read_both<L: LoaderName, S: Source, R: Abort + Wait>(
     first: &mut Ticket<'_, L>,
     other: &mut Pass<L>,
     second: &mut Ticket<'_, L>,
-) -> Result<(), Fail>
+)
     requires source { Answers (S.answer source.now) L.service }
     requires first { GaveTicket one.old.part first.old false }
     requires second { GaveTicket other.old.part second.old false }
 {
-    end_batch(rt, alloc, source, loader, one)?;
-    read(rt, alloc, loader, one, first)?;
-    read(rt, alloc, loader, other, second)?;
+    end_batch(rt, alloc, source, loader, one).expect(rt, "no end");
+    read(rt, alloc, loader, one, first);
+    read(rt, alloc, loader, other, second);
     assert_agree(rt, first, second);
-    Ok(())
 }
 
 /// Sends the only batch that waits to be sent, which is the first and has the key alone, and ends it.
@@ -174,29 +169,24 @@ fn read<L: LoaderName, R: Abort + Wait>(
     loader: &Loader<L>,
     pass: &mut Pass<L>,
     ticket: &mut Ticket<'_, L>,
-) -> Result<(), Fail>
+)
     requires { GaveTicket pass.old.part ticket.old false }
 {
-    loader.wait(rt, pass, ticket)?;
-    assert_shows(rt, alloc, ticket.look(), Some(ADA))
+    loader.wait(rt, pass, ticket).expect(rt, "no outcome");
+    assert_shows(rt, alloc, ticket.look(), Some(ADA));
 }
 
 /// The four events, the first two of which are the loads, in whichever order.
-fn assert_history(rt: &impl Abort, alloc: Global, history: &History) -> Result<(), Fail> {
+fn assert_history(rt: &impl Abort, alloc: Global, history: &History) {
     let events = history.events();
     assert_eq!(rt; events.len(), 4);
     let replies = [LoadReply::Fresh { cell: 0, batch: 0 }, LoadReply::Hit(0)];
     for (at, want) in replies.iter().enumerate() {
-        let Some(event) = events.get(at) else {
-            return Err("no event".into());
-        };
+        let event = events.get(at).expect(rt, "no event");
         assert!(rt; matches!(&event.reply, Reply::Loaded(reply) if *reply == *want));
     }
-    assert_ends(rt, alloc, history, &[(0, true)])?;
+    assert_ends(rt, alloc, history, &[(0, true)]);
     assert_eq!(rt; history.entries(0).len(), 4);
-    let Some(last) = history.entries(1).last() else {
-        return Err("no entries".into());
-    };
+    let last = history.entries(1).last().expect(rt, "no entry");
     assert_eq!(rt; *last, EntryKind::Saw { cell: 0, at: 3 });
-    Ok(())
 }

@@ -13,26 +13,22 @@ use dl_workers::end_jobs;
 use std::alloc::Global;
 use std::process::Abort;
 use std::sync::Wait;
-use std::test::Fail;
 use std::thread;
 use std::thread::Threads;
 
 /// Opens a loader, has each of its callers load the key on a thread of its own, and closes it: its history.
-pub(super) fn load_by_each<L: LoaderName + Send + Sync, S: Source + Sync, R: Threads + Wait + Sync>(
-    rt: &R,
-    alloc: Global,
-    source: &S,
-    opening: Opening<'_, S>,
-    key: &FetchKey,
-) -> Result<History, Fail>
+pub(super) fn load_by_each<
+    L: LoaderName + Send + Sync,
+    S: Source + Sync,
+    R: Abort + Threads + Wait + Sync,
+>(rt: &R, alloc: Global, source: &S, opening: Opening<'_, S>, key: &FetchKey) -> History
     requires source { opening.source ≡ source.now }
     requires names { Names S.answer opening L.service L.parts L.log L.outcomes L.name }
 {
-    let (loader, mut passes) = Loader::<L>::start(alloc, opening)?;
+    let (loader, mut passes) = Loader::<L>::start(alloc, opening).expect(rt, "no loader");
     start_threads(rt, alloc, source, &loader, passes.as_mut_slice(), key);
-    loader
-        .close(alloc, passes)
-        .map_err(|(fault, _, _)| fault.into())
+    let closed = loader.close(alloc, passes).map_err(|(fault, _, _)| fault);
+    closed.expect(rt, "no history")
 }
 
 /// Each caller loads the key on a thread of its own.
@@ -91,18 +87,11 @@ fn load<L: LoaderName, S: Source, R: Wait>(
 }
 
 /// The history has one batch, which has the user `u1` alone and is settled, and both callers have read the outcome.
-pub(super) fn assert_history(
-    rt: &impl Abort,
-    alloc: Global,
-    history: &History,
-) -> Result<(), Fail> {
+pub(super) fn assert_history(rt: &impl Abort, alloc: Global, history: &History) {
     assert_batches(rt, &history.batches(), &[(&["u1"], true)]);
-    assert_outcomes(rt, alloc, history, &[ADA])?;
+    assert_outcomes(rt, alloc, history, &[ADA]);
     for caller in 0..2 {
-        let Some(last) = history.entries(caller).last() else {
-            return Err("no entries".into());
-        };
+        let last = history.entries(caller).last().expect(rt, "no entry");
         assert!(rt; matches!(last, EntryKind::Saw { cell: 0, .. }));
     }
-    Ok(())
 }

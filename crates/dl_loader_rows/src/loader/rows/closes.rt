@@ -7,7 +7,6 @@ use dl_desk::LoadReply::Fresh;
 use dl_loader::CloseFault::{PassesMissing, Unsettled};
 use dl_loader::EntryKind::Call;
 use dl_loader::GiveUp::Memory;
-use std::test::Fail;
 
 /// The load of the first key, and a close, which is refused.
 const BEGUN: Part = Part {
@@ -43,8 +42,8 @@ static FAILED: Row = Row {
 };
 
 #[test]
-fn a_close_once_a_batch_has_failed(rt: HostRuntime) -> Result<(), Fail> {
-    play(&rt, rt.alloc(), &FAILED)
+fn a_close_once_a_batch_has_failed(rt: HostRuntime) {
+    play(&rt, rt.alloc(), &FAILED);
 }
 
 static UNSETTLED: Row = Row {
@@ -65,8 +64,8 @@ static UNSETTLED: Row = Row {
 };
 
 #[test]
-fn a_close_with_a_batch_that_has_not_ended(rt: HostRuntime) -> Result<(), Fail> {
-    play(&rt, rt.alloc(), &UNSETTLED)
+fn a_close_with_a_batch_that_has_not_ended(rt: HostRuntime) {
+    play(&rt, rt.alloc(), &UNSETTLED);
 }
 
 // The passes are counted first, and of the batches that have not ended, sent or not, the least is named.
@@ -145,8 +144,8 @@ static CAUSES: Row = Row {
 };
 
 #[test]
-fn closes_that_are_refused_by_the_first_cause(rt: HostRuntime) -> Result<(), Fail> {
-    play(&rt, rt.alloc(), &CAUSES)
+fn closes_that_are_refused_by_the_first_cause(rt: HostRuntime) {
+    play(&rt, rt.alloc(), &CAUSES);
 }
 
 static MOST_CALLERS: Row = Row {
@@ -177,8 +176,8 @@ static MOST_CALLERS: Row = Row {
 };
 
 #[test]
-fn a_close_with_as_many_callers_as_there_may_be(rt: HostRuntime) -> Result<(), Fail> {
-    play(&rt, rt.alloc(), &MOST_CALLERS)
+fn a_close_with_as_many_callers_as_there_may_be(rt: HostRuntime) {
+    play(&rt, rt.alloc(), &MOST_CALLERS);
 }
 
 // The greatest cells and calls that a loader may have.
@@ -193,8 +192,8 @@ static LARGEST: Row = Row {
 };
 
 #[test]
-fn a_loader_with_the_greatest_limits(rt: HostRuntime) -> Result<(), Fail> {
-    play(&rt, rt.alloc(), &LARGEST)
+fn a_loader_with_the_greatest_limits(rt: HostRuntime) {
+    play(&rt, rt.alloc(), &LARGEST);
 }
 
 static LEAST: Row = Row {
@@ -208,6 +207,6 @@ static LEAST: Row = Row {
 };
 
 #[test]
-fn a_loader_with_the_least_limits(rt: HostRuntime) -> Result<(), Fail> {
-    play(&rt, rt.alloc(), &LEAST)
+fn a_loader_with_the_least_limits(rt: HostRuntime) {
+    play(&rt, rt.alloc(), &LEAST);
 }

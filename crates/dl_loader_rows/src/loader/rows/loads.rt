@@ -10,7 +10,6 @@ use dl_desk::LoadReply::{Fresh, Hit};
 use dl_loader::EntryKind::{Call, Saw as Read};
 use dl_loader::PrimeReply::{Kept, Primed};
 use dl_loader::{CloseFault, EntryKind};
-use std::test::Fail;
 
 const ENTRIES: [EntryKind; 6] = [
     Call { at: 0 },
@@ -54,8 +53,8 @@ static TO_THE_END: Row = Row {
 };
 
 #[test]
-fn a_load_to_its_end(rt: HostRuntime) -> Result<(), Fail> {
-    play(&rt, rt.alloc(), &TO_THE_END)
+fn a_load_to_its_end(rt: HostRuntime) {
+    play(&rt, rt.alloc(), &TO_THE_END);
 }
 
 // The batch of another key keeps the loader from being closed.
@@ -97,8 +96,8 @@ static PRIMED: Row = Row {
 };
 
 #[test]
-fn a_primed_key(rt: HostRuntime) -> Result<(), Fail> {
-    play(&rt, rt.alloc(), &PRIMED)
+fn a_primed_key(rt: HostRuntime) {
+    play(&rt, rt.alloc(), &PRIMED);
 }
 
 // What is primed is read, whatever outcome it is.
@@ -157,8 +156,8 @@ static PRIMED_OTHERS: Row = Row {
 };
 
 #[test]
-fn keys_primed_with_failures(rt: HostRuntime) -> Result<(), Fail> {
-    play(&rt, rt.alloc(), &PRIMED_OTHERS)
+fn keys_primed_with_failures(rt: HostRuntime) {
+    play(&rt, rt.alloc(), &PRIMED_OTHERS);
 }
 
 // A prime of a key that waits for its outcome changes nothing; once all keys are forgotten it begins a cell.
@@ -190,8 +189,8 @@ static PRIMED_PENDING: Row = Row {
 };
 
 #[test]
-fn a_prime_of_a_key_that_waits(rt: HostRuntime) -> Result<(), Fail> {
-    play(&rt, rt.alloc(), &PRIMED_PENDING)
+fn a_prime_of_a_key_that_waits(rt: HostRuntime) {
+    play(&rt, rt.alloc(), &PRIMED_PENDING);
 }
 
 // An error of a key is kept as a value is.
@@ -238,8 +237,8 @@ static ERRORS: Row = Row {
 };
 
 #[test]
-fn errors_of_keys(rt: HostRuntime) -> Result<(), Fail> {
-    play(&rt, rt.alloc(), &ERRORS)
+fn errors_of_keys(rt: HostRuntime) {
+    play(&rt, rt.alloc(), &ERRORS);
 }
 
 // Where the source breaks at one key the whole batch fails, and both keys are forgotten.
@@ -270,8 +269,8 @@ static BREAK: Row = Row {
 };
 
 #[test]
-fn a_source_that_breaks(rt: HostRuntime) -> Result<(), Fail> {
-    play(&rt, rt.alloc(), &BREAK)
+fn a_source_that_breaks(rt: HostRuntime) {
+    play(&rt, rt.alloc(), &BREAK);
 }
 
 static NOTHING: Row = Row {
@@ -299,8 +298,8 @@ static NOTHING: Row = Row {
 };
 
 #[test]
-fn calls_on_nothing(rt: HostRuntime) -> Result<(), Fail> {
-    play(&rt, rt.alloc(), &NOTHING)
+fn calls_on_nothing(rt: HostRuntime) {
+    play(&rt, rt.alloc(), &NOTHING);
 }
 
 static BY_THE_LAW: Row = Row {
@@ -325,6 +324,6 @@ static BY_THE_LAW: Row = Row {
 };
 
 #[test]
-fn a_load_by_the_law(rt: HostRuntime) -> Result<(), Fail> {
-    play(&rt, rt.alloc(), &BY_THE_LAW)
+fn a_load_by_the_law(rt: HostRuntime) {
+    play(&rt, rt.alloc(), &BY_THE_LAW);
 }

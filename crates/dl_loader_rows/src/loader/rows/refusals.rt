@@ -14,7 +14,6 @@ use dl_loader::EntryKind::{Call, Saw};
 use dl_loader::GiveUp::{Memory, Unsent};
 use dl_loader::PrimeReply::Kept;
 use dl_loader::{CallFault, CloseFault};
-use std::test::Fail;
 
 static FULL_LOG: Row = Row {
     limits: (1, 1, 2),
@@ -52,8 +51,8 @@ static FULL_LOG: Row = Row {
 };
 
 #[test]
-fn a_full_log(rt: HostRuntime) -> Result<(), Fail> {
-    play(&rt, rt.alloc(), &FULL_LOG)
+fn a_full_log(rt: HostRuntime) {
+    play(&rt, rt.alloc(), &FULL_LOG);
 }
 
 const LOG_FULL: CallFault = LogFull { limit: 2 };
@@ -94,8 +93,8 @@ static FULL_LOG_BY_EACH: Row = Row {
 };
 
 #[test]
-fn a_full_log_by_each_call(rt: HostRuntime) -> Result<(), Fail> {
-    play(&rt, rt.alloc(), &FULL_LOG_BY_EACH)
+fn a_full_log_by_each_call(rt: HostRuntime) {
+    play(&rt, rt.alloc(), &FULL_LOG_BY_EACH);
 }
 
 static STOPPED_WAIT: Row = Row {
@@ -121,8 +120,8 @@ static STOPPED_WAIT: Row = Row {
 };
 
 #[test]
-fn a_wait_at_a_stopped_loader(rt: HostRuntime) -> Result<(), Fail> {
-    play(&rt, rt.alloc(), &STOPPED_WAIT)
+fn a_wait_at_a_stopped_loader(rt: HostRuntime) {
+    play(&rt, rt.alloc(), &STOPPED_WAIT);
 }
 
 // A cell that has ended is read after the stop too. The log is full, and yet each call says that the loader is stopped.
@@ -168,8 +167,8 @@ static STOPPED_BY_EACH: Row = Row {
 };
 
 #[test]
-fn a_stopped_loader_by_each_call(rt: HostRuntime) -> Result<(), Fail> {
-    play(&rt, rt.alloc(), &STOPPED_BY_EACH)
+fn a_stopped_loader_by_each_call(rt: HostRuntime) {
+    play(&rt, rt.alloc(), &STOPPED_BY_EACH);
 }
 
 const CELLS_FULL: CallFault = CellsFull { limit: 1 };
@@ -202,8 +201,8 @@ static FULL_CELLS: Row = Row {
 };
 
 #[test]
-fn a_loader_whose_cells_are_all_begun(rt: HostRuntime) -> Result<(), Fail> {
-    play(&rt, rt.alloc(), &FULL_CELLS)
+fn a_loader_whose_cells_are_all_begun(rt: HostRuntime) {
+    play(&rt, rt.alloc(), &FULL_CELLS);
 }
 
 // A call that would begin more cells than there are left begins none.
@@ -233,8 +232,8 @@ static LAST_CELL: Row = Row {
 };
 
 #[test]
-fn a_call_that_needs_too_many_cells(rt: HostRuntime) -> Result<(), Fail> {
-    play(&rt, rt.alloc(), &LAST_CELL)
+fn a_call_that_needs_too_many_cells(rt: HostRuntime) {
+    play(&rt, rt.alloc(), &LAST_CELL);
 }
 
 static ENDS: Row = Row {
@@ -268,8 +267,8 @@ static ENDS: Row = Row {
 };
 
 #[test]
-fn ends_that_are_refused(rt: HostRuntime) -> Result<(), Fail> {
-    play(&rt, rt.alloc(), &ENDS)
+fn ends_that_are_refused(rt: HostRuntime) {
+    play(&rt, rt.alloc(), &ENDS);
 }
 
 // Of two causes the first is answered: the wrong keys come last.
@@ -309,8 +308,8 @@ static FIRST_CAUSES: Row = Row {
 };
 
 #[test]
-fn ends_that_are_refused_by_the_first_cause(rt: HostRuntime) -> Result<(), Fail> {
-    play(&rt, rt.alloc(), &FIRST_CAUSES)
+fn ends_that_are_refused_by_the_first_cause(rt: HostRuntime) {
+    play(&rt, rt.alloc(), &FIRST_CAUSES);
 }
 
 // Each way in which keys aren't those of the batch: another one, one too few, one too many, none, another order.
@@ -359,6 +358,6 @@ static WRONG_KEYS: Row = Row {
 };
 
 #[test]
-fn ends_by_other_keys(rt: HostRuntime) -> Result<(), Fail> {
-    play(&rt, rt.alloc(), &WRONG_KEYS)
+fn ends_by_other_keys(rt: HostRuntime) {
+    play(&rt, rt.alloc(), &WRONG_KEYS);
 }

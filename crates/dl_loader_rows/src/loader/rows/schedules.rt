@@ -7,7 +7,6 @@ use dl_desk::LoadReply::{Fresh, Hit};
 use dl_loader::CloseFault::Unsettled;
 use dl_loader::EntryKind::{Call, Saw as Read};
 use dl_loader::GiveUp::{Memory, Unsent};
-use std::test::Fail;
 
 const DB_DOWN: &str = "batch db down";
 
@@ -78,8 +77,8 @@ static LATE_FAILURE: Row = Row {
 };
 
 #[test]
-fn a_late_failure_and_a_newer_cell(rt: HostRuntime) -> Result<(), Fail> {
-    play(&rt, rt.alloc(), &LATE_FAILURE)
+fn a_late_failure_and_a_newer_cell(rt: HostRuntime) {
+    play(&rt, rt.alloc(), &LATE_FAILURE);
 }
 
 static TWO_CELLS: Row = Row {
@@ -102,8 +101,8 @@ static TWO_CELLS: Row = Row {
 };
 
 #[test]
-fn an_older_and_a_newer_cell_of_one_key(rt: HostRuntime) -> Result<(), Fail> {
-    play(&rt, rt.alloc(), &TWO_CELLS)
+fn an_older_and_a_newer_cell_of_one_key(rt: HostRuntime) {
+    play(&rt, rt.alloc(), &TWO_CELLS);
 }
 
 static ANY_ORDER: Row = Row {
@@ -126,8 +125,8 @@ static ANY_ORDER: Row = Row {
 };
 
 #[test]
-fn ends_in_any_order(rt: HostRuntime) -> Result<(), Fail> {
-    play(&rt, rt.alloc(), &ANY_ORDER)
+fn ends_in_any_order(rt: HostRuntime) {
+    play(&rt, rt.alloc(), &ANY_ORDER);
 }
 
 // The second load of a key that was cleared stands in the next batch, and so does what comes after it.
@@ -147,6 +146,6 @@ static KEY_ONCE: Row = Row {
 };
 
 #[test]
-fn a_batch_holds_a_key_once(rt: HostRuntime) -> Result<(), Fail> {
-    play(&rt, rt.alloc(), &KEY_ONCE)
+fn a_batch_holds_a_key_once(rt: HostRuntime) {
+    play(&rt, rt.alloc(), &KEY_ONCE);
 }
