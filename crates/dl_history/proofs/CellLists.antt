@@ -36,11 +36,6 @@ pub length-repeat_one : {X : Type 0} (n : ℕ) (x : X) → length (repeat n (x �
 length-repeat_one zero x = refl
 length-repeat_one (suc n) x = let rest = length-repeat_one n x in omega arith
 
--- no repeats more of an element leave the list
-pub repeat_none : {X : Type 0} (xs : List X) (x : X) → xs ≡ xs ++ repeat 0 (x ∷ [])
-repeat_none {X} [] x = refl
-repeat_none {X} (y ∷ xs) x = ap (λ (zs : List X). y ∷ zs) (repeat_none xs x)
-
 -- ---- one element set
 
 -- the last one set

@@ -38,7 +38,7 @@ impl Account {
     ) -> Result<Account, AllocError>
         ensures { IfOk result (λ account. account ≡ outline caller (map kind_of entries.now)) }
     {
-        let entries = kinds_of(alloc, entries)?;
+        let entries = kinds_in(alloc, entries)?;
         Ok(Account { caller, entries })
     }
 
@@ -58,7 +58,7 @@ impl Account {
 }
 
 // What the entries are, in order. The error is want of memory.
-fn kinds_of<L: LoaderName>(
+fn kinds_in<L: LoaderName>(
     alloc: Global,
     entries: &[Entry<L>],
 ) -> Result<Vec<EntryKind>, AllocError>

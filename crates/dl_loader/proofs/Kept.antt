@@ -17,12 +17,13 @@ use Rattle.dl_history.specs.declared.event.Reply.{Reply}
 use Rattle.dl_history.specs.declared.event.Reply.TheVariants.{Primed}
 use Rattle.dl_history.specs.Service.{Service}
 use Rattle.dl_history.specs.History.{log, gave, call_of, reply_to, MayBeMade, IsNext, ending_of}
-use Rattle.dl_history.specs.Journal.{Cell, waiting}
+use Rattle.dl_history.specs.Journal.{Cell, Journal, waiting}
 use Rattle.dl_history.specs.Kept.{Kept, kept, IsKept, ShowsEnd}
 use Rattle.dl_history.proofs.Logs.{get-snoc, atoms_next, legal_more}
 use Rattle.dl_history.proofs.Endings.{others_stay, new_open, primed_cell, primed_end, primed_others}
 use Rattle.dl_history.proofs.CellLists.{get-append_cases, get-repeat, length-repeat_one, waiting_shows, shows_same}
 use Rattle.dl_loader.specs.Book.{Locked, Keeps, kept_of}
+use Rattle.dl_loader.specs.Inside.Recorded.{Recorded}
 use Rattle.dl_loader.specs.Pass.{Part}
 use Rattle.dl_loader.specs.Refusals.{unready}
 use Rattle.dl_loader.proofs.Admitted.{ready_facts}
@@ -48,9 +49,14 @@ abbrev pub event : ℕ → Call → Reply → Event
 event caller call reply = record { caller = caller; call = call; reply = reply }
 
 -- The event is in the history of the book that was seen, with as many cells more as it began, which wait.
-pub record Recorded (seen : Kept) (e : Event) (n : ℕ) (now : List Event) (ys : List Cell) : Type 0 where
+pub record Gained (seen : Kept) (e : Event) (n : ℕ) (now : List Event) (ys : List Cell) : Type 0 where
   pub history : now ≡ seen.history ++ e ∷ []
   pub cells : ys ≡ seen.cells ++ repeat n (waiting ∷ [])
+
+-- so it is once its journal has recorded it
+pub gained : {before now : Journal} {desk : BatchBook} {old new : Part} {e : Event} {n : ℕ} → Recorded before now old new e n
+    → Gained (kept before.history desk before.cells) e n now.history now.cells
+gained recorded = record { history = recorded.history; cells = recorded.cells }
 
 -- The desk has made a call: whichever history it stood for, it stands for the one after the call.
 pub record Steps (old new : BatchBook) (call : DeskCall) : Type 0 where
@@ -124,7 +130,7 @@ quiet_ends {s} {seen} {e} n c x g none (inr new) =
 
 -- a book still keeps it after an event that gives nothing to cells, with a cell that waits for each that it began
 pub keeps_quiet : {s : Service} {seen : Kept} {e : Event} {n : ℕ} {now : List Event} {new : BatchBook} {ys : List Cell} → MayStand s seen e
-    → gave e.call e.reply ≡ Nothing → Recorded seen e n now ys → Steps seen.desk new (call_of e.call) → new.cells ≡ seen.desk.cells + n
+    → gave e.call e.reply ≡ Nothing → Gained seen e n now ys → Steps seen.desk new (call_of e.call) → new.cells ≡ seen.desk.cells + n
     → seen.desk.cells + n ≤ s.rules.limits.max_cells → IsKept s (kept now new ys)
 keeps_quiet {s} {seen} {e} {n} {now} {new} {ys} g none recorded step count fit =
     let before = g.kept.all_cells in

@@ -14,11 +14,11 @@ use Rattle.dl_history.specs.Journal.{Cell}
 use Rattle.dl_history.specs.Kept.{Kept, kept, IsKept}
 use Rattle.dl_loader.specs.Inside.Begun.{cells_begun}
 use Rattle.dl_loader.proofs.Begun.{loads_count, loads_fit}
-use Rattle.dl_loader.proofs.Kept.{Recorded, Steps, MayStand, keeps_quiet}
+use Rattle.dl_loader.proofs.Kept.{Gained, Steps, MayStand, keeps_quiet}
 
 -- a book still keeps it after an event that gives nothing to cells and begins none
 pub keeps_unbegun : {s : Service} {seen : Kept} {e : Event} {now : List Event} {new : BatchBook} {ys : List Cell} → MayStand s seen e
-    → gave e.call e.reply ≡ Nothing → Recorded seen e 0 now ys → Steps seen.desk new (call_of e.call) → new.cells ≡ seen.desk.cells
+    → gave e.call e.reply ≡ Nothing → Gained seen e 0 now ys → Steps seen.desk new (call_of e.call) → new.cells ≡ seen.desk.cells
     → IsKept s (kept now new ys)
 keeps_unbegun g none recorded step same =
     let fit = g.kept.cells_fit in
@@ -68,7 +68,7 @@ prepared_fit keeps prepared =
 
 -- a book still keeps it after an event whose call is those loads, with a cell that waits for each that they began
 pub keeps_loads : {s : Service} {seen : Kept} {e : Event} {ks : List Key} {rs : List LoadReply} {n : ℕ} {now : List Event} {new : BatchBook} {ys : List Cell}
-    → MayStand s seen e → gave e.call e.reply ≡ Nothing → call_of e.call ≡ Loads ks → Prepared seen.desk ks rs → n ≡ cells_begun rs → Recorded seen e n now ys
+    → MayStand s seen e → gave e.call e.reply ≡ Nothing → call_of e.call ≡ Loads ks → Prepared seen.desk ks rs → n ≡ cells_begun rs → Gained seen e n now ys
     → Steps seen.desk new (Loads ks) → IsKept s (kept now new ys)
 keeps_loads {s} {seen} {e} {ks} {rs} {n} {now} {new} g none is prepared begun recorded step =
     let H = atoms (log seen.history) in

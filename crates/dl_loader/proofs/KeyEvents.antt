@@ -28,14 +28,14 @@ use Rattle.dl_history.proofs.Logs.{get-append_at}
 use Rattle.dl_history.proofs.CellLists.{set_last, gets_end}
 use Rattle.dl_history.proofs.Endings.{primed_cell}
 use Rattle.dl_loader.proofs.Begun.{same_cells, kept_count, primed_count, primed_fits}
-use Rattle.dl_loader.proofs.Kept.{MayCall, Recorded, Steps, MayStand, event, may_stand, grown, begun_cells, keeps_primed}
+use Rattle.dl_loader.proofs.Kept.{MayCall, Gained, Steps, MayStand, event, may_stand, grown, begun_cells, keeps_primed}
 use Rattle.dl_loader.proofs.KeptCalls.{keeps_unbegun}
 
 -- ---- an event with no cells
 
 -- after a clear of a key, where the event has a copy of the key
 pub clear_kept : {s : Service} {seen : Kept} {caller : ℕ} {k j : Key} {now : List Event} {new : BatchBook} {ys : List Cell} → MayCall s seen caller → k ≡ j
-    → Recorded seen (event caller (Clear k) Done) 0 now ys → Steps seen.desk new (Clears j) → IsKept s (kept now new ys)
+    → Gained seen (event caller (Clear k) Done) 0 now ys → Steps seen.desk new (Clears j) → IsKept s (kept now new ys)
 clear_kept {s} {seen} {caller} {k} {new = new} may copy recorded step =
     let H = atoms (log seen.history) in
     let here : Steps seen.desk new (Clears k) = subst (λ (x : Key). Steps seen.desk new (Clears x)) (sym copy) step in
@@ -44,7 +44,7 @@ clear_kept {s} {seen} {caller} {k} {new = new} may copy recorded step =
 
 -- after a clear of all keys
 pub clear_all_kept : {s : Service} {seen : Kept} {caller : ℕ} {now : List Event} {new : BatchBook} {ys : List Cell} → MayCall s seen caller
-    → Recorded seen (event caller ClearAll Done) 0 now ys → Steps seen.desk new ClearsAll → IsKept s (kept now new ys)
+    → Gained seen (event caller ClearAll Done) 0 now ys → Steps seen.desk new ClearsAll → IsKept s (kept now new ys)
 clear_all_kept {s} {seen} {caller} {new = new} may recorded step =
     let H = atoms (log seen.history) in
     let same = same_cells H atom.ClearAll seen.desk new refl may.kept.desk (step.stands H may.kept.desk) in
@@ -52,7 +52,7 @@ clear_all_kept {s} {seen} {caller} {new = new} may recorded step =
 
 -- after a dispatch that the desk has prepared
 pub dispatch_kept : {s : Service} {seen : Kept} {caller : ℕ} {js : List Job} {now : List Event} {new : BatchBook} {ys : List Cell} → MayCall s seen caller
-    → ((h : List Atom) → StandsFor seen.desk h → js ≡ jobs h) → Recorded seen (event caller Dispatch (Sent js)) 0 now ys → Steps seen.desk new Sends
+    → ((h : List Atom) → StandsFor seen.desk h → js ≡ jobs h) → Gained seen (event caller Dispatch (Sent js)) 0 now ys → Steps seen.desk new Sends
     → IsKept s (kept now new ys)
 dispatch_kept {s} {seen} {caller} {js} {new = new} may sent recorded step =
     let H = atoms (log seen.history) in
@@ -85,7 +85,7 @@ prime_may_stand {k = k} {caller = caller} {reply = reply} o may is =
 
 -- after a prime of a key that is held
 pub held_kept : {s : Service} {seen : Kept} {caller : ℕ} {k j : Key} {o : Outcome} {reply : Reply} {r : DeskPrime} {now : List Event} {new : BatchBook}
-    {ys : List Cell} → MayCall s seen caller → IsPrime seen.desk k j reply r → r ≡ prime.Kept → Recorded seen (event caller (Prime k o) reply) 0 now ys
+    {ys : List Cell} → MayCall s seen caller → IsPrime seen.desk k j reply r → r ≡ prime.Kept → Gained seen (event caller (Prime k o) reply) 0 now ys
     → Steps seen.desk new (Primes j) → IsKept s (kept now new ys)
 held_kept {s} {seen} {caller} {k} {o = o} {new = new} may is held recorded step =
     let H = atoms (log seen.history) in
@@ -136,7 +136,7 @@ gets_copy took end is here copy ends = record { end = end; end_is = rw (is, here
 -- after a prime of a key that is not held, whose cell has its end
 pub primed_kept : {s : Service} {seen : Kept} {caller c : ℕ} {k j : Key} {o : Outcome} {reply : Reply} {r : DeskPrime} {now : List Event} {new : BatchBook}
     {mids ys : List Cell} {took : Bool} → MayCall s seen caller → IsPrime seen.desk k j reply r → r ≡ prime.Primed c
-    → Recorded seen (event caller (Prime k o) reply) 1 now mids → Steps seen.desk new (Primes j) → GetsEnd o (length seen.history) c took mids ys
+    → Gained seen (event caller (Prime k o) reply) 1 now mids → Steps seen.desk new (Primes j) → GetsEnd o (length seen.history) c took mids ys
     → IsKept s (kept now new ys)
 primed_kept {s} {seen} {caller} {c} {k} {j} {o} {reply} {now = now} {new = new} {mids = mids} {ys = ys} {took = took} may is fresh recorded step gets =
     let H = atoms (log seen.history) in

@@ -22,7 +22,7 @@ use Rattle.dl_history.proofs.Logs.{get-append_at}
 use Rattle.dl_history.proofs.EntryLists.{cells_of-append}
 use Rattle.dl_loader.specs.Pass.{Part, with_call}
 use Rattle.dl_loader.specs.Inside.Begun.{begun_by, cells_begun}
-use Rattle.dl_loader.proofs.Kept.{MayCall, Recorded, Steps, event, may_stand}
+use Rattle.dl_loader.proofs.Kept.{MayCall, Gained, Steps, event, may_stand}
 use Rattle.dl_loader.proofs.KeptCalls.{Prepared, prepared_replies, prepared_fit, keeps_loads}
 
 -- ---- cells that wait
@@ -76,7 +76,7 @@ many_answered {now} {rs} p at e is reply copy =
 -- a book keeps what it keeps once loads of keys are its last event
 pub many_kept : {s : Service} {seen : Kept} {caller : ℕ} {js ks : List Key} {copied rs : List LoadReply} {n : ℕ} {now : List Event} {new : BatchBook}
     {ys : List Cell} → MayCall s seen caller → js ≡ ks → copied ≡ rs → Prepared seen.desk ks rs → n ≡ cells_begun rs
-    → Recorded seen (event caller (LoadMany js) (Many copied)) n now ys → Steps seen.desk new (Loads ks) → IsKept s (kept now new ys)
+    → Gained seen (event caller (LoadMany js) (Many copied)) n now ys → Steps seen.desk new (Loads ks) → IsKept s (kept now new ys)
 many_kept {caller = caller} {js = js} {copied = copied} may keys copy prepared begun recorded step =
     let told = ap Many (copy ∙ prepared_replies may.kept prepared) in
     let g = may_stand (event caller (LoadMany js) (Many copied)) may (rw keys told) tt in
@@ -100,7 +100,7 @@ one_fits {s} {seen} r keeps prepared = subst (λ (n : ℕ). length seen.cells + 
 
 -- a book keeps what it keeps once the load of a key is its last event
 pub one_kept : {s : Service} {seen : Kept} {caller : ℕ} {j k : Key} {r : LoadReply} {n : ℕ} {now : List Event} {new : BatchBook} {ys : List Cell}
-    → MayCall s seen caller → j ≡ k → Prepared seen.desk (k ∷ []) (r ∷ []) → n ≡ begun_by r → Recorded seen (event caller (Load j) (Loaded r)) n now ys
+    → MayCall s seen caller → j ≡ k → Prepared seen.desk (k ∷ []) (r ∷ []) → n ≡ begun_by r → Gained seen (event caller (Load j) (Loaded r)) n now ys
     → Steps seen.desk new (Loads (k ∷ [])) → IsKept s (kept now new ys)
 one_kept {s} {seen} {caller} {j} {k} {r} may copy prepared begun recorded step =
     let replies = prepared_replies may.kept prepared in

@@ -1,5 +1,5 @@
 -- What contracts see of a loader's book, which lies behind its lock, and what the book keeps.
-use Rattle.std.specs.Prelude.{Bool, List}
+use Rattle.std.specs.Prelude.{◌≡◌, Bool, true, List}
 use Rattle.dl_desk.specs.BatchBook.{BatchBook}
 use Rattle.dl_history.specs.Service.{Service}
 use Rattle.dl_history.specs.Journal.{Cell}
@@ -24,3 +24,7 @@ kept_of b = kept b.history b.desk b.cells
 -- What a book keeps: its history is legal, and its desk and its cells are those of the history.
 abbrev pub Keeps : Service → Locked → Type 0
 Keeps service b = IsKept service (kept_of b)
+
+-- some book that keeps what the loader's does is stopped; that it is the locked one nothing says
+abbrev pub SomeStopped : Service → Type 0
+SomeStopped service = (b : Locked) × Keeps service b × (b.stopped ≡ true)

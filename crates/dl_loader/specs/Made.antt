@@ -27,13 +27,9 @@ loads_of Kept = []
 loads_of Done = []
 loads_of (Sent js) = []
 
--- the part after its event at a place
-abbrev pub with_call_made : Part → ℕ → Call → Reply → Part
-with_call_made p at call reply = with_call p at (event_of p call reply)
-
 -- the part after its event at a place, with its tickets
 abbrev pub with_event : Part → ℕ → Call → Reply → Part
-with_event p at call reply = with_tickets (with_call_made p at call reply) (loads_of reply)
+with_event p at call reply = with_tickets (with_call p at (event_of p call reply)) (loads_of reply)
 
 -- no event was made: the journal and the part tell what they told
 abbrev pub NothingMade : Journal → Journal → Part → Part → Type 0

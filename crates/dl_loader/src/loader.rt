@@ -3,6 +3,7 @@
 ghost use Rattle.std.specs.Prelude.{◌≡◌, Bool, IfErr, IfOk, IfSome, IsSome, None, OnErr, OnOk, Some, map};
 ghost use Rattle.dl_loader.specs.declared.fault.StartFault.TheVariants.{OutOfMemory};
 ghost use Rattle.dl_history.specs.Entries.{cell_of_load, ending_known};
+ghost use Rattle.dl_loader.specs.Book.{SomeStopped};
 ghost use Rattle.dl_loader.specs.Opening.{Names};
 ghost use Rattle.dl_loader.specs.Pass.{GaveTicket, fresh, with_saw};
 
@@ -129,6 +130,7 @@ impl<L: LoaderName> Loader<L> {
             × (pass.new.part ≡ with_saw pass.old.part ticket.old.number (cell_of_load ticket.old.reply) (ending_known ticket.new.known) seen)) }
         ensures unchanged { OnErr result (pass.new.part ≡ pass.old.part) }
         ensures none { OnErr result (ticket.new.known ≡ None) }
+        ensures stopped { OnErr result (SomeStopped L.service) }
     {
         if ticket.look().is_none() {
             self.wait_for(rt, ticket)?;
@@ -144,6 +146,7 @@ impl<L: LoaderName> Loader<L> {
         ensures reply { ticket.new.reply ≡ ticket.old.reply }
         ensures shown { OnOk result (IsSome ticket.new.known) }
         ensures none { OnErr result (ticket.new.known ≡ None) }
+        ensures stopped { OnErr result (SomeStopped L.service) }
     {
         let mut book = self.book.lock(rt);
         for _ in rt.forever() {
@@ -151,6 +154,7 @@ impl<L: LoaderName> Loader<L> {
                 return Ok(());
             }
             if book.is_stopped() {
+                book.keeps();
                 return Err(Stopped);
             }
             book = self.changed.wait(rt, book);

@@ -9,8 +9,10 @@ mod rows;
 mod step;
 mod threads;
 mod using;
+mod waiting;
 
-use crate::loader::step::Row;
+use crate::loader::step::{ADA, Row};
+use crate::loader::waiting::{CALLERS, Crowd};
 use dl_desk::Limits;
 use dl_fixtures::{USERS, tables};
 use dl_loader::{Opening, StartFault};
@@ -112,4 +114,62 @@ fn callers_on_threads<R: Abort + Threads + Wait + Sync>(
     let opening = Opening::new(alloc, hashing, users, limits, 2).expect(rt, "no opening");
     let history = using::load_by_each::<Brand, _, _>(rt, alloc, users, opening, &key);
     using::assert_history(rt, alloc, &history);
+}
+
+// Callers that wait for one batch, for several that end one after another, at a loader that is stopped, and once all
+// is over.
+static CROWDS: [Crowd; 5] = [
+    Crowd {
+        max_batch: 2,
+        loads: &[("u1", ADA)],
+        is_stopped: false,
+        is_late: false,
+    },
+    Crowd {
+        max_batch: 1,
+        loads: &[("u1", ADA), ("u9", "error gone"), ("u13", "batch db down")],
+        is_stopped: false,
+        is_late: false,
+    },
+    Crowd {
+        max_batch: 1,
+        loads: &[("u1", ADA), ("u9", "error gone"), ("u13", "batch db down")],
+        is_stopped: false,
+        is_late: true,
+    },
+    Crowd {
+        max_batch: 1,
+        loads: &[("u1", ADA), ("u2", "")],
+        is_stopped: true,
+        is_late: false,
+    },
+    Crowd {
+        max_batch: 2,
+        loads: &[("u1", ADA), ("u2", "")],
+        is_stopped: true,
+        is_late: true,
+    },
+];
+
+#[test]
+fn callers_that_wait_at_once(rt: HostRuntime) {
+    let users = users(&rt, rt.alloc());
+    for crowd in &CROWDS {
+        for _ in 0..100 {
+            wait_by(&rt, rt.alloc(), hashing(&rt), &users, crowd);
+        }
+    }
+}
+
+/// Callers of a loader over these tables wait at once.
+fn wait_by<R: Abort + Threads + Wait + Sync>(
+    rt: &R,
+    alloc: Global,
+    hashing: RandomState,
+    users: &Tables,
+    crowd: &Crowd,
+) {
+    let limits = Limits::new(crowd.max_batch, 8, 32).expect(rt, "no limits");
+    let opening = Opening::new(alloc, hashing, users, limits, CALLERS).expect(rt, "no opening");
+    waiting::wait_at_once::<Brand, _, _>(rt, alloc, users, opening, crowd);
 }

@@ -14,7 +14,7 @@ use Rattle.dl_terms.specs.declared.node.Node.{Node}
 use Rattle.dl_terms.specs.Gives.{Gathered, gather, gathered, ended_as, with_first, both}
 use Rattle.dl_terms.specs.Node.{node_view, nodes_view, result_of, results_of}
 use Rattle.dl_terms.specs.Tree.{Tree, Trees, ended, all}
-use Rattle.dl_terms.specs.Reduces.{GathersOn}
+use Rattle.dl_terms.specs.Inside.Exploring.{GathersOn}
 
 -- the nodes have ended with the values
 abbrev pub AreValues : List Node → List Json → Type 0

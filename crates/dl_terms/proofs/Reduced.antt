@@ -23,8 +23,9 @@ use Rattle.dl_terms.specs.Gives.{loaded, picked, gathered, both, load_waits_for,
 use Rattle.dl_terms.specs.Gives.{target_answers, target_waits, each_target_waits, Targets, few, list_targets, targets_in, targets_answer, targets_waits}
 use Rattle.dl_terms.specs.Gives.{answer, answers, waits, all_wait}
 use Rattle.dl_terms.specs.Node.{node_view, nodes_view, result_of, results_of}
-use Rattle.dl_terms.specs.Reduces.{Stands, StandAll, Reduces, ReduceAll, LoadsTarget, LoadsEach, LoadsTargets, PicksOn, FollowsOn, EachOn, GathersOn}
-use Rattle.dl_terms.specs.Reduces.{PartsReduce, parts_wait, GoesOn, own_waits}
+use Rattle.dl_terms.specs.Reduces.{Stands, Reduces}
+use Rattle.dl_terms.specs.Inside.Exploring.{StandAll, ReduceAll, LoadsTarget, LoadsEach, LoadsTargets, PicksOn, FollowsOn, EachOn, GathersOn}
+use Rattle.dl_terms.specs.Inside.Exploring.{PartsReduce, parts_wait, GoesOn, own_waits}
 use Rattle.dl_terms.proofs.Options.{none_absurd, some_same, from_both}
 
 pub result_is : (v : Tree) (a : Answer) → result_of v ≡ Some a → v ≡ ended a

@@ -6,3 +6,4 @@ pub mod Rounds
 pub mod Node
 pub mod Reduces
 pub mod Laws
+pub mod Inside

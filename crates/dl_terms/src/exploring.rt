@@ -7,8 +7,9 @@ ghost use Rattle.dl_desk.specs.Key.{key_eq};
 ghost use Rattle.indexmap.specs.IndexSet.{insert_all};
 ghost use Rattle.dl_terms.specs.Gives.{picked, gathered, waits, all_wait, waits_after, target_in, target_waits, targets_in, targets_waits};
 ghost use Rattle.dl_terms.specs.Node.{node_view, nodes_view, result_of, results_of};
-ghost use Rattle.dl_terms.specs.Reduces.{known_of, Reduces, ReduceAll, PartsReduce, parts_wait, GoesOn, own_waits};
-ghost use Rattle.dl_terms.specs.Reduces.{LoadsTargets, PicksOn, FollowsOn, EachOn, GathersOn};
+ghost use Rattle.dl_terms.specs.Reduces.{known_of, Reduces};
+ghost use Rattle.dl_terms.specs.Inside.Exploring.{ReduceAll, PartsReduce, parts_wait, GoesOn, own_waits};
+ghost use Rattle.dl_terms.specs.Inside.Exploring.{LoadsTargets, PicksOn, FollowsOn, EachOn, GathersOn};
 ghost use Rattle.dl_terms.specs.declared.answer.Answer.TheVariants as answer;
 
 use crate::answer::{Answer, EvalFault};

@@ -6,7 +6,8 @@ ghost use Rattle.dl_desk.specs.Key.{key_eq};
 ghost use Rattle.indexmap.specs.IndexSet.{insert_all};
 ghost use Rattle.dl_terms.specs.Gives.{loaded, value_target, target_waits, item_targets, each_target_waits, load_waits, Target};
 ghost use Rattle.dl_terms.specs.Node.{node_view, nodes_view};
-ghost use Rattle.dl_terms.specs.Reduces.{known_of, LoadsTarget, LoadsEach, target_of};
+ghost use Rattle.dl_terms.specs.Reduces.{known_of};
+ghost use Rattle.dl_terms.specs.Inside.Exploring.{LoadsTarget, LoadsEach, target_of};
 
 use crate::answer::{Answer, EvalFault};
 use crate::node::Node;

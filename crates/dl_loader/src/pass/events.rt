@@ -1,7 +1,6 @@
 //! The events of a pass.
 
 ghost use Rattle.std.specs.Prelude.{◌≡◌, ℕ, List, IsSome, ◌+◌, ◌<◌, ◌≤◌, ◌⊎◌, ◌∷◌, ◌++◌, [], IfErr, IfOk, OnErr, OnOk, length};
-ghost use Rattle.std.specs.List.{repeat};
 ghost use Rattle.dl_loader.specs.declared.fault.CallFault.TheVariants.{LogRefused, OutOfMemory};
 ghost use Rattle.dl_loader.specs.declared.due_endings.Due.{Due};
 ghost use Rattle.dl_history.specs.declared.event.Call.TheVariants.{Dispatch, LoadMany, Prime};
@@ -10,9 +9,9 @@ ghost use Rattle.dl_loader.specs.Inside.Begun.{cells_begun, cells_primed};
 ghost use Rattle.dl_loader.specs.Inside.Dues.{AreDue, AreGiven, CanEnd, outcome_by};
 ghost use Rattle.dl_history.specs.Entries.{front_of};
 ghost use Rattle.dl_history.specs.History.{primed};
-ghost use Rattle.dl_history.specs.Journal.{refusals, waiting};
-ghost use Rattle.dl_loader.specs.Made.{NothingMade, event_of, with_call_made, with_event};
-ghost use Rattle.dl_loader.specs.Pass.{with_call};
+ghost use Rattle.dl_history.specs.Journal.{refusals};
+ghost use Rattle.dl_loader.specs.Inside.Recorded.{Recorded};
+ghost use Rattle.dl_loader.specs.Made.{NothingMade, event_of, with_event};
 
 use crate::due_endings::{dues, give};
 use crate::fault::CallFault;
@@ -45,9 +44,7 @@ impl<L: LoaderName> Pass<L> {
         requires cells_room { length journal.old.cells + cells ≤ L.service.rules.limits.max_cells }
         requires after { front_of self.old.part.entries ≤ length journal.old.history }
         requires own { event.caller ≡ self.old.part.caller }
-        ensures history { OnOk result (journal.new.history ≡ journal.old.history ++ event ∷ []) }
-        ensures cells { OnOk result (journal.new.cells ≡ journal.old.cells ++ repeat cells (waiting ∷ [])) }
-        ensures part { OnOk result (self.new.part ≡ with_call self.old.part (length journal.old.history) event) }
+        ensures recorded { OnOk result (Recorded journal.old journal.new self.old.part self.new.part event cells) }
         ensures pass_room { OnOk result (tickets ≤ self.new.spare) }
         ensures unchanged { OnErr result (NothingMade journal.old journal.new self.old.part self.new.part) }
         ensures fault { IfErr result (λ fault. (fault ≡ OutOfMemory) ⊎ (fault ≡ LogRefused)) }
@@ -71,9 +68,7 @@ impl<L: LoaderName> Pass<L> {
         requires cells_room { length journal.old.cells + cells ≤ L.service.rules.limits.max_cells }
         requires after { front_of self.old.part.entries ≤ length journal.old.history }
         requires own { event.caller ≡ self.old.part.caller }
-        ensures history { OnOk result (journal.new.history ≡ journal.old.history ++ event ∷ []) }
-        ensures cells { OnOk result (journal.new.cells ≡ journal.old.cells ++ repeat cells (waiting ∷ [])) }
-        ensures part { OnOk result (self.new.part ≡ with_call self.old.part (length journal.old.history) event) }
+        ensures recorded { OnOk result (Recorded journal.old journal.new self.old.part self.new.part event cells) }
         ensures pass_room { OnOk result (self.old.spare ≤ self.new.spare + 1) }
         ensures unchanged { OnErr result (NothingMade journal.old journal.new self.old.part self.new.part) }
         ensures fault { IfErr result (λ fault. (fault ≡ OutOfMemory) ⊎ (fault ≡ LogRefused)) }
@@ -101,9 +96,8 @@ impl<L: LoaderName> Pass<L> {
         requires room { length journal.old.history < L.service.rules.limits.max_calls }
         requires cells_room { length journal.old.cells + cells_begun replies.now ≤ L.service.rules.limits.max_cells }
         requires after { front_of self.old.part.entries ≤ length journal.old.history }
-        ensures history { OnOk result (journal.new.history ≡ journal.old.history ++ event_of self.old.part (LoadMany keys.now) (Many replies.now) ∷ []) }
-        ensures cells { OnOk result (journal.new.cells ≡ journal.old.cells ++ repeat (cells_begun replies.now) (waiting ∷ [])) }
-        ensures part { OnOk result (self.new.part ≡ with_call_made self.old.part (length journal.old.history) (LoadMany keys.now) (Many replies.now)) }
+        ensures recorded { OnOk result (Recorded journal.old journal.new self.old.part self.new.part
+            (event_of self.old.part (LoadMany keys.now) (Many replies.now)) (cells_begun replies.now)) }
         ensures room { OnOk result (length replies.now ≤ self.new.spare) }
         ensures below { self.old.part.caller < L.service.callers }
         ensures unchanged { OnErr result (NothingMade journal.old journal.new self.old.part self.new.part) }
@@ -134,9 +128,8 @@ impl<L: LoaderName> Pass<L> {
         requires room { length journal.old.history < L.service.rules.limits.max_calls }
         requires cells_room { length journal.old.cells + cells_primed reply ≤ L.service.rules.limits.max_cells }
         requires after { front_of self.old.part.entries ≤ length journal.old.history }
-        ensures history { OnOk result (journal.new.history ≡ journal.old.history ++ event_of self.old.part (Prime key.now outcome.now) (primed reply) ∷ []) }
-        ensures cells { OnOk result (journal.new.cells ≡ journal.old.cells ++ repeat (cells_primed reply) (waiting ∷ [])) }
-        ensures part { OnOk result (self.new.part ≡ with_call_made self.old.part (length journal.old.history) (Prime key.now outcome.now) (primed reply)) }
+        ensures recorded { OnOk result (Recorded journal.old journal.new self.old.part self.new.part
+            (event_of self.old.part (Prime key.now outcome.now) (primed reply)) (cells_primed reply)) }
         ensures below { self.old.part.caller < L.service.callers }
         ensures unchanged { OnErr result (NothingMade journal.old journal.new self.old.part self.new.part) }
         ensures fault { IfErr result (λ fault. (fault ≡ OutOfMemory) ⊎ (fault ≡ LogRefused)) }
@@ -163,9 +156,7 @@ impl<L: LoaderName> Pass<L> {
         requires room { length journal.old.history < L.service.rules.limits.max_calls }
         requires cells_room { length journal.old.cells ≤ L.service.rules.limits.max_cells }
         requires after { front_of self.old.part.entries ≤ length journal.old.history }
-        ensures history { OnOk result (journal.new.history ≡ journal.old.history ++ event_of self.old.part Dispatch (Sent jobs.now) ∷ []) }
-        ensures cells { OnOk result (journal.new.cells ≡ journal.old.cells) }
-        ensures part { OnOk result (self.new.part ≡ with_call_made self.old.part (length journal.old.history) Dispatch (Sent jobs.now)) }
+        ensures recorded { OnOk result (Recorded journal.old journal.new self.old.part self.new.part (event_of self.old.part Dispatch (Sent jobs.now)) 0) }
         ensures below { self.old.part.caller < L.service.callers }
         ensures unchanged { OnErr result (NothingMade journal.old journal.new self.old.part self.new.part) }
         ensures fault { IfErr result (λ fault. (fault ≡ OutOfMemory) ⊎ (fault ≡ LogRefused)) }

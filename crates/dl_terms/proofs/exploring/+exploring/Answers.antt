@@ -5,7 +5,8 @@ use Rattle.indexmap.specs.IndexSet.{insert_all}
 use Rattle.dl_desk.specs.Key.{key_eq}
 use Rattle.dl_terms.specs.Gives.{waits, all_wait}
 use Rattle.dl_terms.specs.Node.{node_view, nodes_view}
-use Rattle.dl_terms.specs.Reduces.{known_of, Reduces, GoesOn, own_waits}
+use Rattle.dl_terms.specs.Reduces.{known_of, Reduces}
+use Rattle.dl_terms.specs.Inside.Exploring.{GoesOn, own_waits}
 use Rattle.dl_terms.proofs.Views.{node_view-Pick, node_view-Follow, node_view-Each}
 use Rattle.dl_terms.proofs.Reduced.{parts_go_on, pick_left, follow_left, each_left, adds_all, nodes_reduce, zip_next, wanted_next}
 use Rattle.dl_terms.proofs.exploring.+exploring.Goals as goal

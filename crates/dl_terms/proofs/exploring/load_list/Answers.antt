@@ -8,7 +8,8 @@ use Rattle.dl_terms.specs.declared.answer.Answer.TheVariants.{Fault}
 use Rattle.dl_terms.specs.declared.answer.EvalFault.TheVariants.{TooMany}
 use Rattle.dl_terms.specs.Gives.{Targets, targets_waits, item_targets, list_targets, target_answers, each_target_waits}
 use Rattle.dl_terms.specs.Node.{node_view, nodes_view}
-use Rattle.dl_terms.specs.Reduces.{known_of, LoadsTargets, LoadsEach, GathersOn}
+use Rattle.dl_terms.specs.Reduces.{known_of}
+use Rattle.dl_terms.specs.Inside.Exploring.{LoadsTargets, LoadsEach, GathersOn}
 use Rattle.dl_terms.proofs.Views.{node_view-Done}
 use Rattle.dl_terms.proofs.Reduced.{fault_loads, too_many, not_many, gathers_on}
 use Rattle.dl_terms.proofs.exploring.load_list.Goals as goal

@@ -4,7 +4,8 @@ use Rattle.std.proofs.lemmas.List.{take_all}
 use Rattle.serde_json.specs.View.{view, items_view}
 use Rattle.dl_terms.specs.Gives.{value_target, item_targets, target_waits, each_target_waits}
 use Rattle.dl_terms.specs.Node.{node_view}
-use Rattle.dl_terms.specs.Reduces.{known_of, LoadsTarget}
+use Rattle.dl_terms.specs.Reduces.{known_of}
+use Rattle.dl_terms.specs.Inside.Exploring.{LoadsTarget}
 use Rattle.dl_terms.proofs.Reduced.{ids_load, zip_next, wanted_next}
 use Rattle.dl_terms.proofs.target.load_ids.Goals as goal
 

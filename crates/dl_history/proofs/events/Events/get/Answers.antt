@@ -1,4 +1,4 @@
-use Rattle.std.proofs.Common.{◌≡◌, ◌∙◌, ap, subst, Bor, List, Some, option_copied, slice_get, arith, rules, Fits, w32}
+use Rattle.std.proofs.Common.{◌≡◌, ◌∙◌, ap, subst, Bor, List, Some, option_copied, slice_get, arith}
 use Rattle.dl_cells.specs.Cells.{Reading}
 use Rattle.dl_history.specs.declared.event.Event.{Event}
 use Rattle.dl_history.proofs.JournalLemmas.{event_seen}

@@ -1,4 +1,4 @@
-use Rattle.std.proofs.Common.{◌≡◌, ◌∙◌, [], ap, map, subst}
+use Rattle.std.proofs.Common.{◌∙◌, ap, map, subst}
 use Rattle.dl_history.specs.Agrees.{entries_of}
 use Rattle.dl_history.specs.Closed.{Closed, IsClosed, kinds_of}
 use Rattle.dl_history.specs.Entries.{kind_of}

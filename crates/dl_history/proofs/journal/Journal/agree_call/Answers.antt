@@ -1,4 +1,4 @@
-use Rattle.std.proofs.Common.{◌≡◌, ◌∙◌, ap, sym, Some, IfSome, List, slice_get, subst, rules}
+use Rattle.std.proofs.Common.{◌≡◌, ap, Some, IfSome, List, slice_get, subst}
 use Rattle.dl_history.specs.declared.event.Event.{Event}
 use Rattle.dl_history.specs.Journal.{Journal}
 use Rattle.dl_history.proofs.JournalLemmas.{event_met, event_unmet}

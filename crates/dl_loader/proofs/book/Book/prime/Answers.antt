@@ -1,7 +1,7 @@
 use Rattle.std.proofs.Common.{◌+◌, ◌∙◌, ap, cond, refl, sym}
 use Rattle.dl_history.specs.Journal.{refusals}
 use Rattle.dl_loader.specs.Book.{Locked}
-use Rattle.dl_loader.proofs.Kept.{may_call, prepared_step}
+use Rattle.dl_loader.proofs.Kept.{gained, may_call, prepared_step}
 use Rattle.dl_loader.proofs.KeyEvents.{is_prime, gets_copy, held_kept, primed_room, primed_waits, primed_kept, primed_refusals}
 use Rattle.dl_loader.proofs.book.Book.prime.Goals as goal
 
@@ -9,7 +9,7 @@ pub invariant_of-self-in-Kept : goal.invariant_of-self-in-Kept
 invariant_of-self-in-Kept g c =
     let may = may_call c.args.pass.now.part c.self.view_is c.self.invariant c.in_ok-admit.ensures.ok refl c.in_ok-make_prime-in-Kept.ensures.below in
     let is = is_prime refl (λ h stands. sym c.in-Kept.is ∙ c.in_ok-prepare_prime.ensures.reply h stands) c.in_ok-prepare_prime.ensures.accepted refl in
-    held_kept may is refl (record { history = c.in_ok-make_prime-in-Kept.ensures.history; cells = c.in_ok-make_prime-in-Kept.ensures.cells })
+    held_kept may is refl (gained c.in_ok-make_prime-in-Kept.ensures.recorded)
     (prepared_step c.prepare_prime.ensures.book c.make_prepared.ensures.rules c.make_prepared.ensures.book c.in_ok-prepare_prime.ensures.stands)
 
 pub make_prime-requires-in-Primed-clause-cells_room : goal.make_prime-requires-in-Primed-clause-cells_room
@@ -20,7 +20,7 @@ pub end-shown-requires-clause-waits : goal.end-shown-requires-clause-waits
 end-shown-requires-clause-waits g c =
     let may = may_call c.args.pass.now.part c.self.view_is c.self.invariant c.in_ok-admit.ensures.ok refl c.in_ok-make_prime-in-Primed.ensures.below in
     let is = is_prime refl (λ h stands. sym c.in-Primed.is ∙ c.in_ok-prepare_prime.ensures.reply h stands) c.in_ok-prepare_prime.ensures.accepted refl in
-    primed_waits c.args.outcome.now may is refl c.in_ok-make_prime-in-Primed.ensures.cells
+    primed_waits c.args.outcome.now may is refl c.in_ok-make_prime-in-Primed.ensures.recorded.cells
 
 pub invariant_of-self-in-Primed : goal.invariant_of-self-in-Primed
 invariant_of-self-in-Primed g c =
@@ -28,8 +28,8 @@ invariant_of-self-in-Primed g c =
     let is = is_prime refl (λ h stands. sym c.in-Primed.is ∙ c.in_ok-prepare_prime.ensures.reply h stands) c.in_ok-prepare_prime.ensures.accepted refl in
     primed_kept may is refl
     (record {
-      history = c.end-shown.ensures.history ∙ c.in_ok-make_prime-in-Primed.ensures.history;
-      cells = c.in_ok-make_prime-in-Primed.ensures.cells;
+      history = c.end-shown.ensures.history ∙ c.in_ok-make_prime-in-Primed.ensures.recorded.history;
+      cells = c.in_ok-make_prime-in-Primed.ensures.recorded.cells;
     })
     (prepared_step c.prepare_prime.ensures.book c.make_prepared-in-Primed.ensures.rules c.make_prepared-in-Primed.ensures.book
     c.in_ok-prepare_prime.ensures.stands)
@@ -40,7 +40,7 @@ pub returns-in_ok-make_prime-in-Primed-clause-refused : goal.returns-in_ok-make_
 returns-in_ok-make_prime-in-Primed-clause-refused g c =
     let may = may_call c.args.pass.now.part c.self.view_is c.self.invariant c.in_ok-admit.ensures.ok refl c.in_ok-make_prime-in-Primed.ensures.below in
     let is = is_prime refl (λ h stands. sym c.in-Primed.is ∙ c.in_ok-prepare_prime.ensures.reply h stands) c.in_ok-prepare_prime.ensures.accepted refl in
-    let count = primed_refusals {ys = c.end-shown.new.self.cells} may is refl c.in_ok-make_prime-in-Primed.ensures.cells
+    let count = primed_refusals {ys = c.end-shown.new.self.cells} may is refl c.in_ok-make_prime-in-Primed.ensures.recorded.cells
     (gets_copy c.end-shown.result c.in_ok-ending-in-Primed.ending.value c.in_ok-ending-in-Primed.ensures c.next_place.ensures refl
     c.end-shown.ensures.ended) in
     count ∙ ap (λ (x : Locked). refusals x.cells + cond c.end-shown.result 0 1) c.self.view_is

@@ -1,0 +1,13 @@
+-- What a recorded event leaves, before its tickets are given and its cells end.
+use Rattle.std.specs.Prelude.{◌≡◌, ℕ, [], ◌∷◌, ◌++◌, length}
+use Rattle.std.specs.List.{repeat}
+use Rattle.dl_history.specs.declared.event.Event.{Event}
+use Rattle.dl_history.specs.Journal.{Journal, waiting}
+use Rattle.dl_loader.specs.Pass.{Part, with_call}
+
+-- The event is the journal's last, with as many cells more as it begins, which wait, and the last call among the pass's
+-- entries, at its place.
+pub record Recorded (before now : Journal) (old new : Part) (event : Event) (begun : ℕ) : Type 0 where
+  pub history : now.history ≡ before.history ++ event ∷ []
+  pub cells : now.cells ≡ before.cells ++ repeat begun (waiting ∷ [])
+  pub part : new ≡ with_call old (length before.history) event

@@ -1,0 +1,180 @@
+//! Callers that wait at once, each on a thread of its own: for one batch or for several, while batches are ended or the
+//! loader is stopped, and after that.
+
+ghost use Rattle.std.specs.Prelude.{◌≡◌};
+ghost use Rattle.dl_history.specs.Service.{Answers};
+ghost use Rattle.dl_loader.specs.Opening.{Names};
+
+use super::keys::{assert_shows, user};
+use dl_loader::{CloseFault, Loader, LoaderName, MOST_CALLERS, Opening, Pass, Stopped, Ticket};
+use dl_source::Source;
+use dl_workers::end_jobs;
+use std::alloc::Global;
+use std::process::Abort;
+use std::sync::Wait;
+use std::sync::atomic::{AtomicBool, AtomicU32, Ordering};
+use std::thread;
+use std::thread::Threads;
+
+/// How many callers there are.
+pub(super) const CALLERS: u32 = 6;
+
+/// How often a caller looks whether the others have come, until it gives up.
+const MOST_LOOKS: u32 = 10_000_000;
+
+/// Callers that wait.
+pub(super) struct Crowd {
+    /// The most keys of a batch.
+    pub(super) max_batch: u32,
+    /// The users that the callers load, in turn, with the outcomes that they are to read.
+    pub(super) loads: &'static [(&'static str, &'static str)],
+    /// Whether the first caller stops the loader once all have loaded. Else it ends each batch.
+    pub(super) is_stopped: bool,
+    /// Whether the other callers wait only after that.
+    pub(super) is_late: bool,
+}
+
+/// What callers tell one another.
+struct Meeting {
+    /// How many have loaded, beside the first.
+    loaded: AtomicU32,
+    /// Whether the first has ended each batch or stopped the loader.
+    is_done: AtomicBool,
+}
+
+impl Meeting {
+    fn new() -> Meeting {
+        Meeting {
+            loaded: AtomicU32::new(0),
+            is_done: AtomicBool::new(false),
+        }
+    }
+
+    /// Returns once all other callers have loaded.
+    fn await_loads(&self, rt: &impl Abort) {
+        for _ in 0..MOST_LOOKS {
+            if self.loaded.load(Ordering::SeqCst) == CALLERS - 1 {
+                return;
+            }
+            thread::yield_now();
+        }
+        panic!(rt; "a caller has not loaded");
+    }
+
+    /// Returns once the first caller is done.
+    fn await_first(&self, rt: &impl Abort) {
+        for _ in 0..MOST_LOOKS {
+            if self.is_done.load(Ordering::SeqCst) {
+                return;
+            }
+            thread::yield_now();
+        }
+        panic!(rt; "the first caller is not done");
+    }
+}
+
+/// Opens a loader, has its callers wait at once, and closes it.
+pub(super) fn wait_at_once<
+    L: LoaderName + Send + Sync,
+    S: Source + Sync,
+    R: Abort + Threads + Wait + Sync,
+>(rt: &R, alloc: Global, source: &S, opening: Opening<'_, S>, crowd: &Crowd)
+    requires source { opening.source ≡ source.now }
+    requires names { Names S.answer opening L.service L.parts L.log L.outcomes L.name }
+{
+    let (loader, mut passes) = Loader::<L>::start(alloc, opening).expect(rt, "no loader");
+    let meeting = Meeting::new();
+    start_threads(
+        rt,
+        alloc,
+        source,
+        &loader,
+        passes.as_mut_slice(),
+        crowd,
+        &meeting,
+    );
+    let refused = loader.close(alloc, passes).err().map(|(fault, _, _)| fault);
+    let unsettled = CloseFault::Unsettled { batch: 0 };
+    assert_eq!(rt; refused, crowd.is_stopped.then_some(unsettled));
+}
+
+/// Each caller takes part on a thread of its own.
+fn start_threads<L: LoaderName + Send + Sync, S: Source + Sync, R: Abort + Threads + Wait + Sync>(
+    rt: &R,
+    alloc: Global,
+    source: &S,
+    loader: &Loader<L>,
+    passes: &mut [Pass<L>],
+    crowd: &Crowd,
+    meeting: &Meeting,
+)
+    requires { Answers (S.answer source.now) L.service }
+{
+    thread::for_each_mut(
+        rt,
+        passes,
+        MOST_CALLERS as usize,
+        &|caller: usize, pass: &mut Pass<L>|
+            requires { Answers (S.answer source.now) L.service }
+        { take_part(rt, alloc, source, loader, pass, caller, crowd, meeting) },
+    );
+}
+
+/// A caller loads its user, and waits for the outcome. Once all have loaded, the first one ends the waiting.
+fn take_part<L: LoaderName, S: Source, R: Abort + Wait>(
+    rt: &R,
+    alloc: Global,
+    source: &S,
+    loader: &Loader<L>,
+    pass: &mut Pass<L>,
+    caller: usize,
+    crowd: &Crowd,
+    meeting: &Meeting,
+)
+    requires { Answers (S.answer source.now) L.service }
+{
+    let (id, text) = crowd
+        .loads
+        .iter()
+        .cycle()
+        .nth(caller)
+        .copied()
+        .expect(rt, "no user");
+    let key = user(rt, alloc, id);
+    let mut ticket = loader.load(rt, alloc, pass, &key).expect(rt, "no ticket");
+    if caller == 0 {
+        lead(rt, alloc, source, loader, pass, crowd, meeting);
+    } else {
+        meeting.loaded.fetch_add(1, Ordering::SeqCst);
+        if crowd.is_late {
+            meeting.await_first(rt);
+        }
+    }
+    let waited = loader.wait(rt, pass, &mut ticket);
+    assert_eq!(rt; waited.err(), crowd.is_stopped.then_some(Stopped));
+    let text = if crowd.is_stopped { None } else { Some(text) };
+    assert_shows(rt, alloc, ticket.look(), text);
+}
+
+/// Once all others have loaded, ends each batch or stops the loader.
+fn lead<L: LoaderName, S: Source, R: Abort + Wait>(
+    rt: &R,
+    alloc: Global,
+    source: &S,
+    loader: &Loader<L>,
+    pass: &mut Pass<L>,
+    crowd: &Crowd,
+    meeting: &Meeting,
+)
+    requires { Answers (S.answer source.now) L.service }
+    ensures { pass.new.part.tickets ≡ pass.old.part.tickets }
+{
+    meeting.await_loads(rt);
+    if crowd.is_stopped {
+        loader.stop(rt);
+    } else {
+        let jobs = loader.dispatch(rt, alloc, pass).expect(rt, "no jobs");
+        end_jobs(rt, alloc, loader, source, pass, jobs).expect(rt, "no end");
+    }
+    meeting.is_done.store(true, Ordering::SeqCst);
+}
