@@ -1,7 +1,6 @@
 -- The limits of a loader, and how its batches are made.
 use Rattle.std.specs.Prelude.{◌≡◌, ℕ, ◌<◌, ◌≤◌, ◌⊎◌, List, Option, Some, None, unwrap_or, bytes_eq}
 use Rattle.std.specs.Map.{lookup}
-use Rattle.dl_desk.specs.declared.limits.TheConstants.{LARGEST_LIMIT}
 use Rattle.dl_desk.specs.declared.fault.LimitFault.{LimitFault}
 use Rattle.dl_desk.specs.declared.fault.LimitFault.TheVariants.{BatchLimit, CellLimit, CallLimit}
 
@@ -11,14 +10,18 @@ pub record Limits : Type 0 where
   pub max_cells : ℕ
   pub max_calls : ℕ
 
+-- the largest number that a limit may be
+abbrev pub largest_limit : ℕ
+largest_limit = 65536
+
 -- a number that a limit may be
 pub record IsLimit (n : ℕ) : Type 0 where
   pub least : 1 ≤ n
-  pub most : n ≤ LARGEST_LIMIT
+  pub most : n ≤ largest_limit
 
 -- a number that no limit may be
 abbrev pub IsNoLimit : ℕ → Type 0
-IsNoLimit n = (n ≡ 0) ⊎ (LARGEST_LIMIT < n)
+IsNoLimit n = (n ≡ 0) ⊎ (largest_limit < n)
 
 -- each of the three numbers may be a limit
 pub record AreLimits (l : Limits) : Type 0 where

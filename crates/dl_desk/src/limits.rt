@@ -1,7 +1,7 @@
 //! The limits of a loader.
 
 ghost use Rattle.std.specs.Prelude.{◌≡◌, ◌&&◌, nat_le, IfOk, IfErr};
-ghost use Rattle.dl_desk.specs.Limits.{AreLimits, RefusedAs};
+ghost use Rattle.dl_desk.specs.Limits.{AreLimits, RefusedAs, largest_limit};
 
 use crate::fault::LimitFault;
 use std::marker::Model;
@@ -81,7 +81,7 @@ impl Limits {
 }
 
 fn is_limit(number: u32) -> bool
-    ensures { result ≡ (nat_le 1 number && nat_le number LARGEST_LIMIT) }
+    ensures { result ≡ (nat_le 1 number && nat_le number largest_limit) }
 {
     (1..=LARGEST_LIMIT).contains(&number)
 }

@@ -7,7 +7,6 @@ use Rattle.dl_desk.specs.declared.outcome.BatchAnswer.{BatchAnswer}
 use Rattle.dl_history.specs.Service.{Service, Answers, AnswersEach, service}
 use Rattle.dl_loader.specs.declared.fault.StartFault.{StartFault}
 use Rattle.dl_loader.specs.declared.fault.StartFault.TheVariants.{NoCallers, TooManyCallers, OutOfMemory}
-use Rattle.dl_loader.specs.declared.opening.TheConstants.{MOST_CALLERS}
 
 -- what contracts see of an opening: its source, how batches will be made, how many callers there will be,
 -- the loader's two rows, and the name of the ledger that counts its events
@@ -19,10 +18,14 @@ pub record Unstarted (S : Type 0) : Type 0 where
   pub outcomes : RowName
   pub ledger : ℕ
 
+-- the most callers of a loader
+abbrev pub most_callers : ℕ
+most_callers = 32
+
 -- a number of callers that a loader may have
 pub record AreCallers (callers : ℕ) : Type 0 where
   pub least : 1 ≤ callers
-  pub most : callers ≤ MOST_CALLERS
+  pub most : callers ≤ most_callers
 
 -- the rows have room for all calls and cells, and each caller has a part of the ledger
 pub record IsOpening (limits : Limits) (callers parts : ℕ) (log outcomes : RowName) : Type 0 where
@@ -34,7 +37,7 @@ pub record IsOpening (limits : Limits) (callers parts : ℕ) (log outcomes : Row
 -- the fault names the first cause why there can't be so many callers
 abbrev pub RefusedAs : ℕ → StartFault → Type 0
 RefusedAs callers NoCallers = callers ≡ 0
-RefusedAs callers TooManyCallers = MOST_CALLERS < callers
+RefusedAs callers TooManyCallers = most_callers < callers
 RefusedAs callers OutOfMemory = AreCallers callers
 
 -- what the loader of an opening will serve by, where sources answer so

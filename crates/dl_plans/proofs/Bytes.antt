@@ -1,9 +1,10 @@
 -- Bytes read and written piece by piece.
-use Rattle.std.proofs.Common.{◌≡◌, ℕ, ◌+◌, ◌≤◌, List, [], length, take, drop, Option, Some, None, append_assoc, append-nil, refl, sym, ◌∙◌, arith}
+use Rattle.std.proofs.Common.{◌≡◌, ℕ, ◌+◌, ◌≤◌, List, [], ◌++◌, length, take, drop, Option, Some, None, append_assoc, append-nil, length-append, length-take, refl, sym, ◌∙◌, arith}
 use Rattle.std.proofs.Math.Seq.{take-add}
 use Rattle.std.proofs.lemmas.List.{take_all, take-append-le}
 use Rattle.std.specs.Io.KnownBytes.{Appends, Consumes, IsAtEnd}
 use Rattle.std.specs.Option.{IfSome}
+use Rattle.dl_plans.specs.Run.{ReadsAtMost}
 
 -- a front of the text, and then a front of the rest
 pub wrote_more : (old mid new : Option (List ℕ)) (text rest : List ℕ) (at count : ℕ) → rest ≡ drop at text → Appends old mid (take at text)
@@ -37,3 +38,19 @@ read_full (Some xs) (Some ys) items most full before =
     let within : most ≤ length items = omega arith in
     let few : length items ≤ most = omega arith in
     rw before (rw take-append-le (sym (take_all most items few)))
+
+-- the reader gave the items, and then more
+consumed_more : (old mid new : Option (List ℕ)) (items more : List ℕ) → Consumes old mid items → Consumes mid new more → Consumes old new (items ++ more)
+consumed_more None mid new items more before now = tt
+consumed_more (Some xs) None new items more before now = absurd before
+consumed_more (Some xs) (Some ys) None items more before now = absurd now
+consumed_more (Some xs) (Some ys) (Some zs) items more before now = before ∙ rw now (sym (append_assoc items more zs))
+
+-- as many bytes were read as there was room for
+pub reads_more : (old mid new : Option (List ℕ)) (items buffer : List ℕ) (most count : ℕ) → length items + length buffer ≤ most → Consumes old mid items
+    → Consumes mid new (take count buffer) → ReadsAtMost most old new
+reads_more old mid new items buffer most count few before now = record {
+  lost = items ++ take count buffer;
+  few = rw (length-append items (take count buffer)) (omega (arith, length-take {A = ℕ} count buffer));
+  consumed = consumed_more old mid new items (take count buffer) before now;
+}

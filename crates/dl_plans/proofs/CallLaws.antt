@@ -7,8 +7,7 @@ use Rattle.std.specs.List.{AllByRecursion}
 use Rattle.serde_json.specs.Data.{Data, unsigned, boolean, number, string, array, object, Items, no_items, item, no_members, member}
 use Rattle.serde_json.specs.Find.{as_str}
 use Rattle.serde_json.specs.View.{items_of}
-use Rattle.dl_desk.specs.Key.{Key, IsKey}
-use Rattle.dl_desk.specs.declared.key.TheConstants.{TABLE_BYTES, ID_BYTES}
+use Rattle.dl_desk.specs.Key.{Key, IsKey, table_bytes, id_bytes}
 use Rattle.dl_plans.specs.Script.{key_tree, one, call_tree, IsCall}
 use Rattle.dl_plans.specs.Reading.{two_of, both, texts_in, is_sized, keyed, key_in, add_key, keys_of, keys_in, is_true, number_in, call_named, call_in}
 use Rattle.dl_plans.specs.declared.script.ScriptCall.{ScriptCall}
@@ -45,10 +44,10 @@ keyed_at false k x h = cc
 
 keyed_is : (t i : List ℕ) (x : Key) → keyed (t, i) ≡ Some x → Spelled key_tree IsKey (array (item (string t) (item (string i) no_items))) x
 keyed_is t i x h =
-    let p = keyed_at (is_sized TABLE_BYTES t && is_sized ID_BYTES i) (record { table = t; id = i }) x h in
-    let q = both_true (is_sized TABLE_BYTES t) (is_sized ID_BYTES i) p.0 in
-    let a = sized TABLE_BYTES t q.0 in
-    let b = sized ID_BYTES i q.1 in
+    let p = keyed_at (is_sized table_bytes t && is_sized id_bytes i) (record { table = t; id = i }) x h in
+    let q = both_true (is_sized table_bytes t) (is_sized id_bytes i) p.0 in
+    let a = sized table_bytes t q.0 in
+    let b = sized id_bytes i q.1 in
     let is : IsKey (record { table = t; id = i }) = record { some_table = a.0; short_table = a.1; some_id = b.0; short_id = b.1 } in
     rw (← p.1) (record { tree = refl; is = is })
 
@@ -88,7 +87,7 @@ pub key_is : (d : Data) (x : Key) → key_in d ≡ Some x → Spelled key_tree I
 key_is d x h = key_at d (texts_in d) x refl h
 
 pub key_again : (k : Key) → IsKey k → key_in (key_tree k) ≡ Some k
-key_again k h = rw (sized_again TABLE_BYTES k.table h.some_table h.short_table, sized_again ID_BYTES k.id h.some_id h.short_id) refl
+key_again k h = rw (sized_again table_bytes k.table h.some_table h.short_table, sized_again id_bytes k.id h.some_id h.short_id) refl
 
 keys_more : (d : Data) (ds : Items) (k : Option Key) (ks : Option (List Key)) (xs : List Key) → ((x : Key) → k ≡ Some x → Spelled key_tree IsKey d x)
     → ((ys : List Key) → ks ≡ Some ys → (ds ≡ items_of (map key_tree ys)) × AllByRecursion IsKey ys)

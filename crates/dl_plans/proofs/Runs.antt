@@ -8,9 +8,8 @@ use Rattle.std.specs.Result.{OnOk}
 use Rattle.serde_json.specs.Data.{Data}
 use Rattle.dl_plans.specs.Document.{IsTextOf, Spells}
 use Rattle.dl_plans.specs.Output.{input_text}
-use Rattle.dl_plans.specs.Faults.{Applies, IsBefore, IsLeast, number}
+use Rattle.dl_plans.specs.Faults.{Applies, IsBefore, IsLeast, number, most_bytes}
 use Rattle.dl_plans.specs.Run.{Answers, AppendsFront, Writes, WritesFront, IsRefused}
-use Rattle.dl_plans.specs.declared.document.TheConstants.{MOST_BYTES}
 use Rattle.dl_plans.specs.declared.fault.PlanFault.{PlanFault}
 use Rattle.dl_plans.specs.declared.fault.PlanFault.TheVariants.{TooLarge, NotJson, Version, Top, BadCall, Limit, OutOfMemory}
 use Rattle.dl_plans.specs.declared.fault.RunError.{RunError}
@@ -19,7 +18,7 @@ use Rattle.dl_plans.specs.declared.program.TheConstants.{MOST_READ}
 use Rattle.dl_plans.specs.declared.script.Input.{Input}
 
 -- the first bytes, if there are no more than a document has, are all
-all_read : (bytes : List ℕ) → length (take MOST_READ bytes) ≤ MOST_BYTES → take MOST_READ bytes ≡ bytes
+all_read : (bytes : List ℕ) → length (take MOST_READ bytes) ≤ most_bytes → take MOST_READ bytes ≡ bytes
 all_read bytes h = take_all MOST_READ bytes (omega (arith, length-take {A = ℕ} MOST_READ bytes))
 
 answers_all : (bytes text : List ℕ) → Answers (take MOST_READ bytes) text → Answers bytes text
@@ -45,7 +44,7 @@ run_ok (Err e) held read text old new is a h = tt
 pub answers_made : (bytes text : List ℕ) (i : Input) → ((d : Data) × IsTextOf bytes d × Spells d i) → ((f : PlanFault) → Applies bytes f → ⊥)
     → text ≡ input_text i → Answers bytes text
 answers_made bytes text i p passes e = record {
-  small = elim (cases_lt MOST_BYTES (length bytes)) [ inl many ↦ absurd (passes TooLarge many) | inr few ↦ few ];
+  small = elim (cases_lt most_bytes (length bytes)) [ inl many ↦ absurd (passes TooLarge many) | inr few ↦ few ];
   tree = p.0;
   input = i;
   is_text = p.1;
@@ -67,7 +66,7 @@ not_before : (g : PlanFault) → IsBefore g TooLarge → ⊥
 not_before g (inl h) = let k = numbered g in omega arith
 not_before g (inr h) = omega (arith, h.1)
 
-large_refused : (bytes : List ℕ) (f : PlanFault) → MOST_BYTES < length bytes → (IsBefore TooLarge f → ⊥) → Applies (take MOST_READ bytes) f
+large_refused : (bytes : List ℕ) (f : PlanFault) → most_bytes < length bytes → (IsBefore TooLarge f → ⊥) → Applies (take MOST_READ bytes) f
     → IsLeast (Applies bytes) f
 large_refused bytes TooLarge h first a = record { applies = h; first = λ g k before. not_before g before }
 large_refused bytes NotJson h first a = absurd (first (inl (omega arith)))
@@ -77,15 +76,15 @@ large_refused bytes (BadCall n) h first a = absurd (first (inl (omega arith)))
 large_refused bytes (Limit l) h first a = absurd (first (inl (omega arith)))
 large_refused bytes OutOfMemory h first a = absurd a
 
-refused_by : (bytes : List ℕ) (f : PlanFault) → (length bytes ≤ MOST_BYTES) ⊎ (MOST_BYTES < length bytes) → IsLeast (Applies (take MOST_READ bytes)) f
+refused_by : (bytes : List ℕ) (f : PlanFault) → (length bytes ≤ most_bytes) ⊎ (most_bytes < length bytes) → IsLeast (Applies (take MOST_READ bytes)) f
     → IsLeast (Applies bytes) f
 refused_by bytes f (inl few) least = rw (take_all MOST_READ bytes (omega arith)) at least
 refused_by bytes f (inr many) least =
-    let large : MOST_BYTES < length (take MOST_READ bytes) = omega (arith, length-take {A = ℕ} MOST_READ bytes) in
+    let large : most_bytes < length (take MOST_READ bytes) = omega (arith, length-take {A = ℕ} MOST_READ bytes) in
     large_refused bytes f many (least.first TooLarge large) least.applies
 
-either_size : (n : ℕ) → (n ≤ MOST_BYTES) ⊎ (MOST_BYTES < n)
-either_size n = elim (cases_lt MOST_BYTES n) [ inl many ↦ inr many | inr few ↦ inl few ]
+either_size : (n : ℕ) → (n ≤ most_bytes) ⊎ (most_bytes < n)
+either_size n = elim (cases_lt most_bytes n) [ inl many ↦ inr many | inr few ↦ inl few ]
 
 refused_all : (bytes : List ℕ) (e : RunError) → IsRefused (take MOST_READ bytes) e → IsRefused bytes e
 refused_all bytes error.Read h = h

@@ -7,11 +7,10 @@ use Rattle.dl_desk.specs.declared.fault.LimitFault.{LimitFault}
 use Rattle.dl_desk.specs.declared.fault.LimitFault.TheVariants.{BatchLimit, CellLimit, CallLimit}
 use Rattle.dl_plans.specs.Document.{IsTextOf, IsScript, SpellsScript, GivesLimits, items_at, number_at}
 use Rattle.dl_plans.specs.Faults.{limit_name, IsBadTop, HasStrange, LacksCalls, HasNoNumber, IsBadAt, IsBadCall, IsBadLimit, Causes, CausesIn, Applies}
-use Rattle.dl_plans.specs.Faults.{IsBefore, IsLeast, number, place}
+use Rattle.dl_plans.specs.Faults.{IsBefore, IsLeast, number, place, most_bytes}
 use Rattle.dl_plans.specs.Numbers.{AreGiven, IsInside, IsFirstOutside}
 use Rattle.dl_plans.specs.Inside.Read.{HasTop, AreCalls, IsFirstBad}
 use Rattle.dl_plans.specs.Script.{IsCall, calls_tree}
-use Rattle.dl_plans.specs.declared.document.TheConstants.{MOST_BYTES}
 use Rattle.dl_plans.specs.declared.fault.PlanFault.{PlanFault}
 use Rattle.dl_plans.specs.declared.fault.PlanFault.TheVariants.{TooLarge, NotJson, Version, Top, BadCall, Limit, OutOfMemory}
 use Rattle.dl_plans.specs.declared.limits.Numbers.{Numbers}
@@ -126,7 +125,7 @@ cause : (bytes : List ℕ) (d : Data) (f : PlanFault) → IsTextOf bytes d → C
 cause bytes d f text h = rw (one_tree bytes d h.tree text h.text) h.cause
 
 -- what applies to the bytes of a tree that aren't too many is a cause in the tree
-cause_of : (bytes : List ℕ) (d : Data) (f : PlanFault) → length bytes ≤ MOST_BYTES → IsTextOf bytes d → Applies bytes f → Causes d f
+cause_of : (bytes : List ℕ) (d : Data) (f : PlanFault) → length bytes ≤ most_bytes → IsTextOf bytes d → Applies bytes f → Causes d f
 cause_of bytes d TooLarge few text h = absurd (omega arith)
 cause_of bytes d NotJson few text h = h d text
 cause_of bytes d Version few text h = cause bytes d Version text h
@@ -136,7 +135,7 @@ cause_of bytes d (Limit l) few text h = cause bytes d (Limit l) text h
 cause_of bytes d OutOfMemory few text h = absurd h
 
 -- the first refusal of the tree is that of the bytes
-pub least_of : (bytes : List ℕ) (d : Data) (f : PlanFault) → length bytes ≤ MOST_BYTES → IsTextOf bytes d → IsLeast (Causes d) f → IsLeast (Applies bytes) f
+pub least_of : (bytes : List ℕ) (d : Data) (f : PlanFault) → length bytes ≤ most_bytes → IsTextOf bytes d → IsLeast (Causes d) f → IsLeast (Applies bytes) f
 least_of bytes d f few text least = record {
   applies = applies bytes d f text least.applies;
   first = λ g h before. least.first g (cause_of bytes d g few text h) before;
@@ -167,5 +166,5 @@ script_passes d s (Limit l) spells h = let g = given_number d l s.limits spells.
 script_passes d s OutOfMemory spells h = h
 
 -- nothing applies to the bytes of a script that aren't too many
-pub passes : (bytes : List ℕ) (d : Data) (s : Script) → length bytes ≤ MOST_BYTES → IsTextOf bytes d → SpellsScript d s → (f : PlanFault) → Applies bytes f → ⊥
+pub passes : (bytes : List ℕ) (d : Data) (s : Script) → length bytes ≤ most_bytes → IsTextOf bytes d → SpellsScript d s → (f : PlanFault) → Applies bytes f → ⊥
 passes bytes d s few text spells f h = script_passes d s f spells (cause_of bytes d f few text h)

@@ -5,8 +5,7 @@ use Rattle.std.specs.List.{AllByRecursion}
 use Rattle.serde_json.specs.Data.{Data, Items, Members, no_members, member}
 use Rattle.serde_json.specs.Find.{get, as_number, as_integer, as_array, as_object}
 use Rattle.serde_json.specs.Read.{read}
-use Rattle.dl_desk.specs.Limits.{Limits, IsLimit}
-use Rattle.dl_desk.specs.declared.limits.TheConstants.{LARGEST_LIMIT}
+use Rattle.dl_desk.specs.Limits.{Limits, IsLimit, largest_limit}
 use Rattle.dl_plans.specs.Script.{IsCall, calls_tree}
 use Rattle.dl_plans.specs.declared.script.Input.{Input}
 use Rattle.dl_plans.specs.declared.script.Input.TheVariants as input
@@ -41,7 +40,7 @@ abbrev pub items_at : List ℕ → Data → Option Items
 items_at name d = option_and_then as_array (get name d)
 
 abbrev pub whole_or_largest : Option Data → Option ℤ
-whole_or_largest None = Some (pos LARGEST_LIMIT)
+whole_or_largest None = Some (pos largest_limit)
 whole_or_largest (Some d) = whole d
 
 -- the whole number that a limit's member is, or the largest limit where there is no such member

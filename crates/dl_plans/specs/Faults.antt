@@ -7,7 +7,6 @@ use Rattle.dl_desk.specs.declared.fault.LimitFault.{LimitFault}
 use Rattle.dl_desk.specs.declared.fault.LimitFault.TheVariants.{BatchLimit, CellLimit, CallLimit}
 use Rattle.dl_plans.specs.Script.{call_tree, IsCall}
 use Rattle.dl_plans.specs.Document.{IsTextOf, IsScript, has_only_known, items_at, number_at}
-use Rattle.dl_plans.specs.declared.document.TheConstants.{MOST_BYTES}
 use Rattle.dl_plans.specs.declared.fault.PlanFault.{PlanFault}
 use Rattle.dl_plans.specs.declared.fault.PlanFault.TheVariants.{TooLarge, NotJson, Version, Top, BadCall, Limit, OutOfMemory}
 use Rattle.dl_plans.specs.declared.script.ScriptCall.{ScriptCall}
@@ -68,9 +67,13 @@ pub record CausesIn (bytes : List ℕ) (f : PlanFault) : Type 0 where
   pub text : IsTextOf bytes tree
   pub cause : Causes tree f
 
+-- the most bytes of a document
+abbrev pub most_bytes : ℕ
+most_bytes = 1048576
+
 -- the refusal has a cause in the bytes
 abbrev pub Applies : List ℕ → PlanFault → Type 0
-Applies bytes TooLarge = MOST_BYTES < length bytes
+Applies bytes TooLarge = most_bytes < length bytes
 Applies bytes NotJson = (d : Data) → IsTextOf bytes d → ⊥
 Applies bytes Version = CausesIn bytes Version
 Applies bytes Top = CausesIn bytes Top

@@ -7,12 +7,16 @@ use Rattle.clap.specs.declared.builder.action.ArgAction.TheVariants.{SetTrue}
 use Rattle.clap.specs.declared.builder.value_parser.ValueParser.TheVariants as vp
 use Rattle.dl_plans.specs.declared.settings.Options.{Options}
 
--- `--workers N`, a number from 1 to 16, and 3 where it isn't given
+-- the most workers
+abbrev pub most_workers : ℕ
+most_workers = 16
+
+-- `--workers N`, a number from 1 to the most, and 3 where it isn't given
 abbrev pub workers_rule : Rule
 workers_rule = record (new_rule (codes "workers")) {
   long = Some (codes "workers");
   value_names = 1;
-  parser = Some (vp.Signed (pos 1) (pos 16));
+  parser = Some (vp.Signed (pos 1) (pos most_workers));
   defaults = codes "3" ∷ [];
 }
 
@@ -43,6 +47,6 @@ pub record GivesNumber (rows : List Row) (id : Text) (n : ℕ) : Type 0 where
 pub record AreGiven (rows : List Row) (o : Options) : Type 0 where
   pub workers : GivesNumber rows (codes "workers") o.workers
   pub least : 1 ≤ o.workers
-  pub most : o.workers ≤ 16
+  pub most : o.workers ≤ most_workers
   pub batches : one_of (codes "batches") rows ≡ Some (codes "true") → o.batches ≡ true
   pub no_batches : one_of (codes "batches") rows ≡ Some (codes "false") → o.batches ≡ false

@@ -3,8 +3,7 @@ use Rattle.std.specs.Prelude.{ℕ, ◌^◌, ◌&&◌, List, [], ◌∷◌, lengt
 use Rattle.std.specs.Prelude.{option_map, option_and_then, unwrap_or}
 use Rattle.serde_json.specs.Data.{Data, Items, no_items, item, Members, no_members, member}
 use Rattle.serde_json.specs.Find.{as_array, as_str, as_object, as_bool, as_number, as_u64}
-use Rattle.dl_desk.specs.Key.{Key}
-use Rattle.dl_desk.specs.declared.key.TheConstants.{TABLE_BYTES, ID_BYTES}
+use Rattle.dl_desk.specs.Key.{Key, table_bytes, id_bytes}
 use Rattle.dl_plans.specs.declared.script.ScriptCall.{ScriptCall}
 use Rattle.dl_plans.specs.declared.script.ScriptCall.TheVariants.{Load, LoadMany, Prime, Clear, ClearAll, Dispatch, Settle, Fail}
 
@@ -40,7 +39,7 @@ abbrev pub is_sized : ℕ → List ℕ → Bool
 is_sized most text = nat_le 1 (length text) && nat_le (length text) most
 
 abbrev pub keyed : List ℕ × List ℕ → Option Key
-keyed p = if is_sized TABLE_BYTES p.0 && is_sized ID_BYTES p.1 then Some (record { table = p.0; id = p.1 }) else None
+keyed p = if is_sized table_bytes p.0 && is_sized id_bytes p.1 then Some (record { table = p.0; id = p.1 }) else None
 
 -- the key that a tree spells
 abbrev pub key_in : Data → Option Key

@@ -1,18 +1,23 @@
 -- What a run reads and writes.
 use Rattle.std.specs.Prelude.{◌≡◌, ℕ, ◌≤◌, List, length, take, Option}
-use Rattle.std.specs.Io.KnownBytes.{Appends}
+use Rattle.std.specs.Io.KnownBytes.{Appends, Consumes}
 use Rattle.serde_json.specs.Data.{Data}
 use Rattle.dl_plans.specs.Document.{IsTextOf, Spells}
 use Rattle.dl_plans.specs.Output.{input_text}
-use Rattle.dl_plans.specs.Faults.{Applies, IsLeast}
-use Rattle.dl_plans.specs.declared.document.TheConstants.{MOST_BYTES}
+use Rattle.dl_plans.specs.Faults.{Applies, IsLeast, most_bytes}
 use Rattle.dl_plans.specs.declared.fault.RunError.{RunError}
 use Rattle.dl_plans.specs.declared.fault.RunError.TheVariants.{Read, Refused, Write, OutOfMemory}
 use Rattle.dl_plans.specs.declared.script.Input.{Input}
 
+-- the reader has lost bytes from the front of those that it had left, at most so many
+pub record ReadsAtMost (most : ℕ) (old new : Option (List ℕ)) : Type 0 where
+  pub lost : List ℕ
+  pub few : length lost ≤ most
+  pub consumed : Consumes old new lost
+
 -- the text answers the bytes: they are a document's, and it is the text that the document gives
 pub record Answers (bytes text : List ℕ) : Type 0 where
-  pub small : length bytes ≤ MOST_BYTES
+  pub small : length bytes ≤ most_bytes
   pub tree : Data
   pub input : Input
   pub is_text : IsTextOf bytes tree

@@ -4,6 +4,7 @@
 mod call;
 mod command;
 mod document;
+mod entry;
 mod fault;
 mod limits;
 mod lines;
@@ -12,9 +13,11 @@ mod program;
 mod script;
 mod script_text;
 mod settings;
+mod status;
 
 pub use command::options;
 pub use document::{MOST_BYTES, read_input};
+pub use entry::plans;
 pub use fault::{PlanFault, RunError};
 pub use program::run;
 pub use script::{Calls, Input, Script, ScriptCall};

@@ -1,8 +1,9 @@
 //! Running the program over a reader and a writer.
 
-ghost use Rattle.std.specs.Prelude.{◌≡◌, ◌≢◌, ◌⊎◌, IfOk, IfErr, IfSome, OnOk, take, string_bytes};
+ghost use Rattle.std.specs.Prelude.{◌≡◌, ◌≢◌, ◌⊎◌, ◌+◌, IfOk, IfErr, IfSome, OnOk, take, string_bytes};
 ghost use Rattle.std.specs.Io.KnownBytes.{Appends, Keeps};
-ghost use Rattle.dl_plans.specs.Run.{Answers, Writes, WritesFront, AppendsFront, IsRefused};
+ghost use Rattle.dl_plans.specs.Faults.{most_bytes};
+ghost use Rattle.dl_plans.specs.Run.{Answers, Writes, WritesFront, AppendsFront, IsRefused, ReadsAtMost};
 
 use crate::document::{MOST_BYTES, read_input};
 use crate::fault::{PlanFault, RunError};
@@ -19,8 +20,8 @@ const MOST_READ: usize = MOST_BYTES + 1;
 /// How many bytes are asked for at a time.
 const BUFFER_BYTES: usize = 4096;
 
-/// Reads a document, and writes the text that it gives once all of it is made. A script has no use
-/// for the options. Keys are hashed by `hashing`, of which nothing is seen.
+/// Reads a document, and writes the text that it gives once all of it is made. At most one byte more is read than
+/// a document has. A script has no use for the options. Keys are hashed by `hashing`, of which nothing is seen.
 ///
 /// # Errors
 /// `Read` where the reader fails, `Refused` where what it holds is no document, want of memory, and
@@ -35,6 +36,7 @@ pub fn run<R: Read, W: Write>(
     ensures ok { OnOk result (IfSome (R.remaining reader.old) (Writes (W.contents writer.old) (W.contents writer.new))) }
     ensures refused { IfErr result (λ e. IfSome (R.remaining reader.old) (λ bytes. IsRefused bytes e)) }
     ensures write { result ≡ Err RunError.Write → IfSome (R.remaining reader.old) (WritesFront (W.contents writer.old) (W.contents writer.new)) }
+    ensures reads { ReadsAtMost (most_bytes + 1) (R.remaining reader.old) (R.remaining reader.new) }
     ensures untouched { IfErr result (λ e. e ≢ RunError.Write → Keeps (W.contents writer.old) (W.contents writer.new)) }
 {
     let bytes = read_all(alloc, reader)?;
@@ -65,6 +67,7 @@ fn output(alloc: Global, hashing: RandomState, bytes: &[u8]) -> Result<String, R
 /// `Read` at a read that fails, also an interrupted one, and want of memory.
 fn read_all<R: Read>(alloc: Global, reader: &mut R) -> Result<Vec<u8>, RunError>
     ensures bytes { IfOk result (λ v. IfSome (R.remaining reader.old) (λ bytes. v.items ≡ take MOST_READ bytes)) }
+    ensures reads { ReadsAtMost (most_bytes + 1) (R.remaining reader.old) (R.remaining reader.new) }
     ensures err { IfErr result (λ e. (e ≡ RunError.Read) ⊎ (e ≡ RunError.OutOfMemory)) }
 {
     let mut bytes = Vec::new(alloc);

@@ -3,8 +3,7 @@ use Rattle.std.specs.Prelude.{◌≡◌, ◌⊎◌, ℕ, ◌<◌, ◌&&◌, ◌|
 use Rattle.std.specs.List.{list_any}
 use Rattle.serde_json.specs.Data.{Data}
 use Rattle.serde_json.specs.Written.{has_float}
-use Rattle.dl_desk.specs.declared.key.TheConstants.{TABLE_BYTES, ID_BYTES}
-use Rattle.dl_source.specs.declared.reading.TheConstants.{TEXT_BYTES}
+use Rattle.dl_desk.specs.Key.{table_bytes, id_bytes}
 use Rattle.dl_source.specs.declared.tables.Entry.{Entry}
 use Rattle.dl_source.specs.declared.tables.Entry.TheVariants.{Row, Error, Break}
 use Rattle.dl_source.specs.declared.fault.TableFault.{TableFault}
@@ -14,16 +13,20 @@ use Rattle.dl_source.specs.Spelling.{Spells}
 
 -- ---- what an entry may not have
 
+-- the most bytes of the text of an error or a break
+abbrev pub text_bytes : ℕ
+text_bytes = 1024
+
 abbrev pub is_sized : ℕ → List ℕ → Bool
 is_sized most text = nat_le 1 (length text) && nat_le (length text) most
 
 abbrev pub has_bad_id : List ℕ × Entry → Bool
-has_bad_id e = not (is_sized ID_BYTES e.0)
+has_bad_id e = not (is_sized id_bytes e.0)
 
 abbrev pub is_long : Entry → Bool
 is_long (Row v) = false
-is_long (Error t) = nat_lt TEXT_BYTES (length t)
-is_long (Break t) = nat_lt TEXT_BYTES (length t)
+is_long (Error t) = nat_lt text_bytes (length t)
+is_long (Break t) = nat_lt text_bytes (length t)
 
 abbrev pub is_not_whole : Entry → Bool
 is_not_whole (Row v) = has_float v
@@ -42,7 +45,7 @@ repeats [] = false
 repeats (e ∷ es) = lists e.0 es || repeats es
 
 abbrev pub has_bad_name : List ℕ × Listing → Bool
-has_bad_name t = not (is_sized TABLE_BYTES t.0)
+has_bad_name t = not (is_sized table_bytes t.0)
 
 abbrev pub has_bad_key : NamedTables → Bool
 has_bad_key tables = list_any (λ t. has_bad_name t || list_any has_bad_id t.1) tables

@@ -21,7 +21,7 @@ use Rattle.dl_terms.specs.declared.node.Node.{Node}
 use Rattle.dl_terms.specs.Tree.{Name, Tree, ended, load, pick, follow, each, all, Trees, no_trees, tree}
 use Rattle.dl_terms.specs.Gives.{loaded, picked, gathered, both, load_waits_for, waits_after, Target, value_target, item_targets, target_in, target_answer}
 use Rattle.dl_terms.specs.Gives.{target_answers, target_waits, each_target_waits, Targets, few, list_targets, targets_in, targets_answer, targets_waits}
-use Rattle.dl_terms.specs.Gives.{answer, answers, waits, all_wait}
+use Rattle.dl_terms.specs.Gives.{answer, answers, waits, all_wait, most_items}
 use Rattle.dl_terms.specs.Node.{node_view, nodes_view, result_of, results_of}
 use Rattle.dl_terms.specs.Reduces.{Stands, Reduces}
 use Rattle.dl_terms.specs.Inside.Exploring.{StandAll, ReduceAll, LoadsTarget, LoadsEach, LoadsTargets, PicksOn, FollowsOn, EachOn, GathersOn}
@@ -267,19 +267,19 @@ items-long : (table : Name) (vs : List Value) → length (item_targets table (it
 items-long table [] = refl
 items-long table (v ∷ vs) = ap suc (items-long table vs)
 
-few_step : (xs : List Target) (b : Bool) → nat_lt 1024 (length xs) ≡ b → few xs ≡ if b then Targets.none why.TooMany else Targets.keys xs
+few_step : (xs : List Target) (b : Bool) → nat_lt most_items (length xs) ≡ b → few xs ≡ if b then Targets.none why.TooMany else Targets.keys xs
 few_step xs b e = ap (λ t. if t then Targets.none why.TooMany else Targets.keys xs) e
 
-pub too_many : (table : Name) (o : Option Items) (vs : List Value) → Some (items_view vs) ≡ o → 1024 < length vs
+pub too_many : (table : Name) (o : Option Items) (vs : List Value) → Some (items_view vs) ≡ o → most_items < length vs
     → list_targets table o ≡ Targets.none why.TooMany
 too_many table o vs e many =
-    ap (list_targets table) (sym e) ∙ few_step (item_targets table (items_view vs)) true (ap (nat_lt 1024) (items-long table vs) ∙ lt-ltb 1024 (length vs) many)
+    ap (list_targets table) (sym e) ∙ few_step (item_targets table (items_view vs)) true (ap (nat_lt most_items) (items-long table vs) ∙ lt-ltb most_items (length vs) many)
 
-pub not_many : (table : Name) (o : Option Items) (vs : List Value) → Some (items_view vs) ≡ o → length vs ≤ 1024
+pub not_many : (table : Name) (o : Option Items) (vs : List Value) → Some (items_view vs) ≡ o → length vs ≤ most_items
     → list_targets table o ≡ Targets.keys (item_targets table (items_view vs))
 not_many table o vs e few_are =
     ap (list_targets table) (sym e) ∙ few_step (item_targets table (items_view vs)) false
-    (ap (nat_lt 1024) (items-long table vs) ∙ le-ltb 1024 (length vs) few_are)
+    (ap (nat_lt most_items) (items-long table vs) ∙ le-ltb most_items (length vs) few_are)
 
 pub fault_loads : (p : Key → Option Outcome) (x : Targets) (f : EvalFault) (u : Tree) → x ≡ Targets.none f → u ≡ ended (Fault f) → LoadsTargets p x u
 fault_loads p x f u e is = record {

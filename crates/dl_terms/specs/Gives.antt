@@ -4,7 +4,7 @@ use Rattle.std.specs.Prelude.{◌≡◌, ℕ, List, [], ◌∷◌, ◌++◌, fil
 use Rattle.std.specs.Prelude.{if◌then◌else◌}
 use Rattle.serde_json.specs.Data.{Data, array, Items, no_items, item}
 use Rattle.serde_json.specs.Find.{get, as_str, as_array}
-use Rattle.dl_desk.specs.Key.{Key, key_eq}
+use Rattle.dl_desk.specs.Key.{Key, key_eq, table_bytes, id_bytes}
 use Rattle.dl_desk.specs.declared.outcome.Outcome.{Outcome}
 use Rattle.dl_desk.specs.declared.outcome.Outcome.TheVariants as outcome
 use Rattle.dl_terms.specs.declared.answer.Answer.{Answer}
@@ -46,7 +46,7 @@ pub data Target : Type 0 where
 
 -- the texts have the lengths of a key's
 abbrev pub is_key : Name → Name → Bool
-is_key table id = nat_le 1 (length table) && nat_le (length table) 64 && nat_le 1 (length id) && nat_le (length id) 128
+is_key table id = nat_le 1 (length table) && nat_le (length table) table_bytes && nat_le 1 (length id) && nat_le (length id) id_bytes
 
 abbrev pub id_target : Name → Option (List ℕ) → Target
 id_target table None = Target.none why.NotAKey
@@ -69,8 +69,12 @@ abbrev pub item_targets : Name → Items → List Target
 item_targets table no_items = []
 item_targets table (item d ds) = value_target table d ∷ item_targets table ds
 
+-- the most items of a list of ids
+abbrev pub most_items : ℕ
+most_items = 1024
+
 abbrev pub few : List Target → Targets
-few xs = if nat_lt 1024 (length xs) then Targets.none why.TooMany else Targets.keys xs
+few xs = if nat_lt most_items (length xs) then Targets.none why.TooMany else Targets.keys xs
 
 abbrev pub list_targets : Name → Option Items → Targets
 list_targets table None = Targets.none why.NotAList

@@ -2,7 +2,7 @@
 
 ghost use Rattle.std.specs.Prelude.{◌≡◌, ◌<◌, ◌≤◌};
 ghost use Rattle.crossbeam_channel.specs.Ends.{sends_on, receives_on};
-ghost use Rattle.dl_workers.specs.declared.queue.TheConstants.{MOST_SEATS};
+ghost use Rattle.dl_workers.specs.QueueFaults.{most_seats};
 
 use crate::fault::QueueFault;
 use crate::rule::{Gather, Item, Lossless, Sends, Takes, Traffic, Whole};
@@ -41,8 +41,8 @@ pub struct JobQueue {
     takers: u32,
     ghost one_channel: { receives_on receives ≡ sends_on sends },
     ghost some_senders: { 0 < senders },
-    ghost few_senders: { senders ≤ MOST_SEATS },
-    ghost few_takers: { takers ≤ MOST_SEATS },
+    ghost few_senders: { senders ≤ most_seats },
+    ghost few_takers: { takers ≤ most_seats },
 }
 
 // Written out: a derived drop is proved anew in each function that lets a queue go.
@@ -249,13 +249,13 @@ impl JobQueue {
     fn gather_senders(&self, whole: &mut Pass<Item, Traffic>, senders: Vec<Sender>) -> u64
         requires seat { IsSeatAt (sends_on self.now.sends) whole.old }
         requires some_seat { 0 < (view whole.old).seats }
-        requires few { length senders.items ≤ MOST_SEATS }
+        requires few { length senders.items ≤ most_seats }
         requires senders { All (IsSenderOf self.now) senders.items }
         ensures seat { IsSeatAt (sends_on self.now.sends) whole.new }
         ensures gathered { view whole.new ≡ traffic ((view whole.old).seats + length senders.items) (view whole.old).all
             ((view whole.old).sent ++ flat_map sent_items senders.items) (view whole.old).taken }
         ensures counted { result ≡ length (flat_map sent_jobs senders.items) }
-        ensures bound { result ≤ MOST_SEATS * 2 ^ 32 }
+        ensures bound { result ≤ most_seats * 2 ^ 32 }
     {
         let mut sent = 0;
         for sender in senders {
@@ -269,13 +269,13 @@ impl JobQueue {
     fn gather_takers(&self, whole: &mut Pass<Item, Traffic>, takers: Vec<Taker>) -> u64
         requires seat { IsSeatAt (sends_on self.now.sends) whole.old }
         requires some_seat { 0 < (view whole.old).seats }
-        requires few { length takers.items ≤ MOST_SEATS }
+        requires few { length takers.items ≤ most_seats }
         requires takers { All (IsTakerOf self.now) takers.items }
         ensures seat { IsSeatAt (sends_on self.now.sends) whole.new }
         ensures gathered { view whole.new ≡ traffic ((view whole.old).seats + length takers.items) (view whole.old).all (view whole.old).sent
             ((view whole.old).taken ++ flat_map taken_items takers.items) }
         ensures counted { result ≡ length (flat_map taken_jobs takers.items) }
-        ensures bound { result ≤ MOST_SEATS * 2 ^ 32 }
+        ensures bound { result ≤ most_seats * 2 ^ 32 }
     {
         let mut taken = 0;
         for taker in takers {

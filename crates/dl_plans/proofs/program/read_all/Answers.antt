@@ -1,7 +1,7 @@
-use Rattle.std.proofs.Common.{rules, arith, ℕ, ◌<◌, length}
+use Rattle.std.proofs.Common.{rules, arith, ℕ, ◌<◌, ◌+◌, ◌≤◌, length}
 use Rattle.std.proofs.lemmas.List.{length-take}
 use Rattle.dl_plans.specs.declared.program.TheConstants.{MOST_READ}
-use Rattle.dl_plans.proofs.Bytes.{read_end, read_full}
+use Rattle.dl_plans.proofs.Bytes.{read_end, read_full, reads_more}
 use Rattle.dl_plans.proofs.program.read_all.Goals as goal
 
 pub returns-in-Ok-eq0-clause-bytes : goal.returns-in-Ok-eq0-clause-bytes
@@ -14,3 +14,9 @@ returns-in-Ok-eq0-clause-bytes g c =
 pub returns-clause-bytes : goal.returns-clause-bytes
 returns-clause-bytes g c =
     read_full (g.R.Read.remaining c.args.reader.now) (g.R.Read.remaining c.reads.reader) c.reads.bytes.items MOST_READ (search rules) c.reads.invariant.consumed
+
+pub returns-in_err-map_err-in-Ok-clause-reads : goal.returns-in_err-map_err-in-Ok-clause-reads
+returns-in_err-map_err-in-Ok-clause-reads g c =
+    let fits : length c.reads.bytes.items + length c.read.new.buf ≤ MOST_READ = omega (arith, length-take {A = ℕ} c.min-room.result c.reads.buffer) in
+    reads_more (g.R.Read.remaining c.args.reader.now) (g.R.Read.remaining c.reads.reader) (g.R.Read.remaining c.read.new.self) c.reads.bytes.items c.read.new.buf
+    MOST_READ c.in-Ok.count fits c.reads.invariant.consumed c.in-Ok.ensures.bytes.0
