@@ -1,8 +1,5 @@
-//! Tests of the shared loader, of the job queue, and of programs that use them: worked rows of calls, one file for
-//! each crate that it exercises.
+//! Tests of the shared loader, and of programs that use it: worked rows of calls.
 #![tactic(auto)]
 
 #[cfg(test)]
 mod loader;
-#[cfg(test)]
-mod queue;

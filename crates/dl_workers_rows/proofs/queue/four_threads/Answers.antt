@@ -1,7 +1,7 @@
 use Rattle.std.proofs.Common.{Some}
 use Rattle.std.proofs.lemmas.List.Elements.{All-pop}
 use Rattle.dl_workers.specs.Seats.{IsSenderOf, IsTakerOf}
-use Rattle.dl_loader_rows.proofs.queue.four_threads.Goals as goal
+use Rattle.dl_workers_rows.proofs.queue.four_threads.Goals as goal
 
 pub exchange-low-requires-clause-senders : goal.exchange-low-requires-clause-senders
 exchange-low-requires-clause-senders g c κs =
