@@ -1,16 +1,16 @@
--- What the ends of jobs add to a pass.
-use Rattle.std.proofs.Common.{◌≡◌, ◌∙◌, ap, sym, subst, refl, List, [], ◌∷◌, ◌++◌, append_assoc, append-nil, inl, inr}
+-- Jobs whose batches are ended, one after another.
+use Rattle.std.proofs.Common.{◌≡◌, ◌∙◌, ap, subst, refl, ℕ, List, [], ◌∷◌, ◌++◌, append_assoc, inl, inr}
 use Rattle.dl_desk.specs.declared.reply.Job.{Job}
 use Rattle.dl_history.specs.Entries.{Line}
 use Rattle.dl_history.specs.Service.{Service}
 use Rattle.dl_history.specs.declared.event.Reply.TheVariants.{Done}
-use Rattle.dl_loader.specs.Added.{line, Adds, Grows}
+use Rattle.dl_loader.specs.Added.{line, Adds}
 use Rattle.dl_loader.specs.Pass.{Part}
 use Rattle.dl_loader.proofs.AddedLemmas.{made_adds}
-use Rattle.dl_workers.specs.Ending.{WasEnded, WereEnded, end_answered, end_unanswered}
-use Rattle.dl_haxl.specs.Stretch.{InlineEnd, InlineEnds}
+use Rattle.dl_workers.specs.Ending.{WasEnded, end_answered, end_unanswered}
+use Rattle.dl_haxl.specs.Stretch.{AddsAndSends, EndedInline, InlineEnd, InlineEnds}
 
-pub end_adds : (s : Service) (old new : Part) (job : Job) → WasEnded s old job new
+end_adds : (s : Service) (old new : Part) (job : Job) → WasEnded s old job new
     → Adds old new (λ lines. (l : Line) × (lines ≡ l ∷ []) × InlineEnd s old.caller job l)
 end_adds s old new job (inl made) =
     let added = made_adds s old new (end_answered s job) Done made in
@@ -21,15 +21,23 @@ end_adds s old new job (inr made) =
     let l : Line = line old.caller added.0 (end_unanswered job) Done in
     (added.1, l ∷ [], added.2, (l, refl, (added.0, end_unanswered job, inr refl, refl)))
 
-pub ends_add : (s : Service) (old new : Part) (jobs : List Job) → WereEnded s old jobs new → Adds old new (InlineEnds s old.caller jobs)
-ends_add s old new [] same = (ap (λ (p : Part). p.caller) same, [], ap (λ (p : Part). p.entries) same ∙ sym (append-nil old.entries), tt)
-ends_add s old new (job ∷ jobs) (next, first, rest) =
-    let one = end_adds s old next job first in
-    let more = ends_add s next new jobs rest in
-    let l : Line = one.3.0 in
-    let entries : new.entries ≡ old.entries ++ (l ∷ more.1) =
-    more.2 ∙ (ap (λ ls. ls ++ more.1) (one.2 ∙ ap (λ ls. old.entries ++ ls) one.3.1) ∙ append_assoc old.entries (l ∷ []) more.1) in
-    (more.0 ∙ one.0, l ∷ more.1, entries, (one.3.2, subst (λ c. InlineEnds s c jobs more.1) one.0 more.3))
+-- one job more
+one_ended : (s : Service) (caller : ℕ) (jobs : List Job) (job : Job) (ends : List Line) (l : Line) → InlineEnds s caller jobs ends → InlineEnd s caller job l
+    → InlineEnds s caller (jobs ++ job ∷ []) (ends ++ l ∷ [])
+one_ended s caller [] job [] l ended end = (end, tt)
+one_ended s caller [] job (x ∷ ends) l ended end = absurd ended
+one_ended s caller (j ∷ jobs) job [] l ended end = absurd ended
+one_ended s caller (j ∷ jobs) job (x ∷ ends) l ended end = (ended.0, one_ended s caller jobs job ends l ended.1 end)
 
-pub ends_grow : (s : Service) (old new : Part) (jobs : List Job) → WereEnded s old jobs new → Grows old new
-ends_grow s old new jobs ended = let added = ends_add s old new jobs ended in (added.0, added.1, added.2)
+abbrev pub EndsJobs : Service → Part → Part → List Job → Type 0
+EndsJobs s old new jobs = AddsAndSends old new [] [] (λ ends sent. EndedInline s old.caller jobs sent ends)
+
+pub ends_more : (s : Service) (old now new : Part) (jobs : List Job) (job : Job) → EndsJobs s old now jobs → WasEnded s now job new
+    → EndsJobs s old new (jobs ++ job ∷ [])
+ends_more s old now new jobs job (sent, unsent, added) ended =
+    let one = end_adds s now new job ended in
+    let l : Line = one.3.0 in
+    let entries : new.entries ≡ old.entries ++ (added.1 ++ l ∷ []) =
+    one.2 ∙ (ap (λ ls. now.entries ++ ls) one.3.1 ∙ (ap (λ ls. ls ++ l ∷ []) added.2 ∙ append_assoc old.entries added.1 (l ∷ []))) in
+    let end : InlineEnd s old.caller job l = subst (λ c. InlineEnd s c job l) added.0 one.3.2 in
+    (sent, unsent, (one.0 ∙ added.0, added.1 ++ l ∷ [], entries, (added.3.0, one_ended s old.caller jobs job added.1 l added.3.1 end)))

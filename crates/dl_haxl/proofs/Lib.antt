@@ -3,5 +3,6 @@ pub mod Paired
 pub mod Explored
 pub mod Reading
 pub mod Ended
+pub mod HandedOver
 pub mod RoundMade
 pub mod Stretched

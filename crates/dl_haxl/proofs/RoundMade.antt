@@ -10,16 +10,14 @@ use Rattle.dl_history.specs.declared.event.Call.{Call}
 use Rattle.dl_history.specs.declared.event.Reply.{Reply}
 use Rattle.dl_history.specs.declared.event.Call.TheVariants.{LoadMany, Dispatch}
 use Rattle.dl_history.specs.declared.event.Reply.TheVariants.{Many, Sent}
-use Rattle.dl_loader.specs.Added.{line, saws, Adds, Grows}
+use Rattle.dl_loader.specs.Added.{line, saws, Grows}
 use Rattle.dl_loader.specs.Made.{WasMade, event_of, loads_of}
 use Rattle.dl_loader.specs.Pass.{Part, Hold, GaveTickets, with_call}
 use Rattle.dl_loader.proofs.AddedLemmas.{made_adds, gave_still, grows_after}
 use Rattle.dl_loader.proofs.Tickets.{tickets_entries}
-use Rattle.dl_workers.specs.Ending.{WereEnded}
 use Rattle.dl_haxl.specs.Pairs.{outcomes_shown}
 use Rattle.dl_haxl.specs.Reads.{Reads}
-use Rattle.dl_haxl.specs.Stretch.{InlineEnds, Round}
-use Rattle.dl_haxl.proofs.Ended.{ends_add, ends_grow}
+use Rattle.dl_haxl.specs.Stretch.{AddsAndSends, Round}
 use Rattle.dl_haxl.proofs.Reading.{reply_of, known_of, reads_shown}
 
 -- tickets that were given are given still, while the pass keeps its tickets
@@ -68,48 +66,68 @@ one_more xs ys ends reads a b is =
     is ∙ (append_assoc ((xs ++ a ∷ []) ++ b ∷ []) ends reads
     ∙ (append_assoc (xs ++ a ∷ []) (b ∷ []) (ends ++ reads) ∙ append_assoc xs (a ∷ []) (b ∷ (ends ++ reads))))
 
-pub round_made : (s : Service) (old loaded dispatched ended new : Part) (ks : List Key) (ts us : List Hold) (jobs : List Job)
-    → WasMade s old (LoadMany ks) (Many (map reply_of ts)) loaded → length ts ≡ length ks → WasMade s loaded Dispatch (Sent jobs) dispatched
-    → WereEnded s dispatched jobs ended → Reads ended new ts us
-    → Adds old new (λ lines. Round (InlineEnds s old.caller) old.caller ks lines (outcomes_shown us))
-round_made s old loaded dispatched ended new ks ts us jobs made each sent ends reads =
-    let first = made_adds s old loaded (LoadMany ks) (Many (map reply_of ts)) made in
-    let second = made_adds s loaded dispatched Dispatch (Sent jobs) sent in
-    let third = ends_add s dispatched ended jobs ends in
-    let caller : dispatched.caller ≡ old.caller = second.1 ∙ first.1 in
-    let load : Line = line old.caller first.0 (LoadMany ks) (Many (map reply_of ts)) in
-    let dispatch : Line = line old.caller second.0 Dispatch (Sent jobs) in
-    let dispatched_is : dispatched.entries ≡ (old.entries ++ load ∷ []) ++ dispatch ∷ [] =
-    second.2 ∙ (ap (λ ls. ls ++ line loaded.caller second.0 Dispatch (Sent jobs) ∷ []) first.2
-    ∙ ap (λ c. (old.entries ++ load ∷ []) ++ line c second.0 Dispatch (Sent jobs) ∷ []) first.1) in
-    let reads_of = saws (map reply_of ts) reads.endings in
-    let entries : new.entries ≡ (((old.entries ++ load ∷ []) ++ dispatch ∷ []) ++ third.1) ++ reads_of =
-    reads.entries ∙ ap (λ ls. ls ++ reads_of) (third.2 ∙ ap (λ ls. ls ++ third.1) dispatched_is) in
-    let long : length us ≡ length ts = sym (length-map us reply_of) ∙ (ap length reads.replies ∙ length-map ts reply_of) in
-    let round : Round (InlineEnds s old.caller) old.caller ks (load ∷ dispatch ∷ (third.1 ++ reads_of)) (outcomes_shown us) = record {
-      load_at = first.0;
-      dispatch_at = second.0;
-      replies = map reply_of ts;
-      jobs = jobs;
-      ends = third.1;
-      endings = reads.endings;
-      reply_each = length-map ts reply_of ∙ each;
-      read_each = sym (length-map reads.endings Some) ∙ (ap length (sym reads.known) ∙ (length-map us known_of ∙ (long ∙ each)));
-      jobs_end = subst (λ c. InlineEnds s c jobs third.1) caller third.3;
-      tells = refl;
-      outcomes_are = (reads_shown us reads.endings reads.known).1;
-    } in
-    (reads.caller ∙ (third.0 ∙ caller), load ∷ dispatch ∷ (third.1 ++ reads_of), one_more old.entries new.entries third.1 reads_of load dispatch entries, round)
+-- The steps of a round: a loadMany with its tickets, a dispatch, what became of its jobs, and the reads of the tickets, which are others then.
+pub record Steps (JobsEnd : ℕ → List Job → List Job → List Line → Type 0) (s : Service) (old new : Part) (before after : List Job)
+    (wanted : List Key) (ts us : List Hold) : Type 0 where
+  pub loaded : Part
+  pub dispatched : Part
+  pub ended : Part
+  pub jobs : List Job
+  pub load : WasMade s old (LoadMany wanted) (Many (map reply_of ts)) loaded
+  pub each : length ts ≡ length wanted
+  pub dispatch : WasMade s loaded Dispatch (Sent jobs) dispatched
+  pub gives_out : AddsAndSends dispatched ended before after (λ ends sent. JobsEnd dispatched.caller jobs sent ends)
+  pub reads : Reads ended new ts us
 
-pub round_front : (s : Service) (old loaded dispatched ended new : Part) (call sent : Call) (reply sent_jobs : Reply) (ts us : List Hold) (jobs : List Job)
-    → WasMade s old call reply loaded → WasMade s loaded sent sent_jobs dispatched → WereEnded s dispatched jobs ended → Reads ended new ts us
-    → front_of old.entries < front_of new.entries
-round_front s old loaded dispatched ended new call sent reply sent_jobs ts us jobs made made2 ends reads =
-    let first = made_front s old loaded call reply made in
-    let second = grown_front loaded dispatched (made_grows s loaded dispatched sent sent_jobs made2) in
-    let third = grown_front dispatched ended (ends_grow s dispatched ended jobs ends) in
-    let last = grown_front ended new (reads.caller, saws (map reply_of ts) reads.endings, reads.entries) in
-    omega (arith, first, second, third, last)
+module _ (JobsEnd : ℕ → List Job → List Job → List Line → Type 0) (s : Service) (old new : Part) (before after : List Job)
+    (ks : List Key) (ts us : List Hold) (steps : Steps JobsEnd s old new before after ks ts us) where
+  pub round_made : AddsAndSends old new before after (λ lines sent. Round (JobsEnd old.caller) old.caller ks lines (outcomes_shown us) sent)
+  round_made =
+      let first = made_adds s old steps.loaded (LoadMany ks) (Many (map reply_of ts)) steps.load in
+      let second = made_adds s steps.loaded steps.dispatched Dispatch (Sent steps.jobs) steps.dispatch in
+      let sent = steps.gives_out.0 in
+      let third = steps.gives_out.2 in
+      let caller : steps.dispatched.caller ≡ old.caller = second.1 ∙ first.1 in
+      let load : Line = line old.caller first.0 (LoadMany ks) (Many (map reply_of ts)) in
+      let dispatch : Line = line old.caller second.0 Dispatch (Sent steps.jobs) in
+      let dispatched_is : steps.dispatched.entries ≡ (old.entries ++ load ∷ []) ++ dispatch ∷ [] =
+      second.2 ∙ (ap (λ ls. ls ++ line steps.loaded.caller second.0 Dispatch (Sent steps.jobs) ∷ []) first.2
+      ∙ ap (λ c. (old.entries ++ load ∷ []) ++ line c second.0 Dispatch (Sent steps.jobs) ∷ []) first.1) in
+      let reads_of = saws (map reply_of ts) steps.reads.endings in
+      let entries : new.entries ≡ (((old.entries ++ load ∷ []) ++ dispatch ∷ []) ++ third.1) ++ reads_of =
+      steps.reads.entries ∙ ap (λ ls. ls ++ reads_of) (third.2 ∙ ap (λ ls. ls ++ third.1) dispatched_is) in
+      let long : length us ≡ length ts = sym (length-map us reply_of) ∙ (ap length steps.reads.replies ∙ length-map ts reply_of) in
+      let round : Round (JobsEnd old.caller) old.caller ks (load ∷ dispatch ∷ (third.1 ++ reads_of)) (outcomes_shown us) sent = record {
+        load_at = first.0;
+        dispatch_at = second.0;
+        replies = map reply_of ts;
+        jobs = steps.jobs;
+        ends = third.1;
+        endings = steps.reads.endings;
+        reply_each = length-map ts reply_of ∙ steps.each;
+        read_each = sym (length-map steps.reads.endings Some) ∙ (ap length (sym steps.reads.known) ∙ (length-map us known_of ∙ (long ∙ steps.each)));
+        jobs_end = subst (λ c. JobsEnd c steps.jobs sent third.1) caller third.3;
+        tells = refl;
+        outcomes_are = (reads_shown us steps.reads.endings steps.reads.known).1;
+      } in (
+        sent,
+        steps.gives_out.1,
+        (
+          steps.reads.caller ∙ (third.0 ∙ caller),
+          load ∷ dispatch ∷ (third.1 ++ reads_of),
+          one_more old.entries new.entries third.1 reads_of load dispatch entries,
+          round,
+        ),
+      )
+
+  pub round_front : front_of old.entries < front_of new.entries
+  round_front =
+      let third = steps.gives_out.2 in
+      let loads = made_front s old steps.loaded (LoadMany ks) (Many (map reply_of ts)) steps.load in
+      let dispatches = grown_front steps.loaded steps.dispatched (made_grows s steps.loaded steps.dispatched Dispatch (Sent steps.jobs) steps.dispatch) in
+      let ends = grown_front steps.dispatched steps.ended (third.0, third.1, third.2) in
+      let last = grown_front steps.ended new (steps.reads.caller, saws (map reply_of ts) steps.reads.endings, steps.reads.entries) in
+      omega (arith, loads, dispatches, ends, last)
 
 pub on_err : {A E P : Type 0} (r : Result A E) → P → OnErr r P
 on_err (Ok x) p = tt

@@ -12,7 +12,6 @@ use Rattle.dl_desk.specs.declared.reply.Job.{Job}
 use Rattle.dl_desk.proofs.KeyLemmas.{key_eq-refl}
 use Rattle.dl_history.specs.Entries.{Line}
 use Rattle.dl_history.specs.declared.event.Ending.{Ending}
-use Rattle.dl_loader.specs.Added.{Adds}
 use Rattle.dl_loader.specs.Pass.{Part, Hold}
 use Rattle.dl_terms.specs.declared.answer.Answer.{Answer}
 use Rattle.dl_terms.specs.Tree.{Tree, ended, load, pick, follow, each, all, depth_of}
@@ -22,7 +21,7 @@ use Rattle.dl_terms.specs.Rounds.{Gains, Covers, GainsFrontier, PartOf}
 use Rattle.dl_terms.proofs.Settled.{answered}
 use Rattle.dl_haxl.specs.Pairs.{AllLater, all_show, outcomes_shown, paired, with_shown}
 use Rattle.dl_haxl.specs.Run.{Run, IsRunOf, Answers, Learns, NowWants, Pends, asked_by}
-use Rattle.dl_haxl.specs.Stretch.{Round, LastRound, Rounds, Evaluates}
+use Rattle.dl_haxl.specs.Stretch.{AddsAndSends, Round, LastRound, Rounds, Evaluates, SentMore}
 use Rattle.dl_haxl.proofs.Explored.{more_known}
 
 -- the pairs of a run once it has learned what its supplied tickets show
@@ -84,10 +83,16 @@ wants_now before after shown later pends = elim pends.waits [
   | inr wants ↦ wants
 ]
 
-module _ (JobsEnd : List Job → List Line → Type 0) (caller : ℕ) (t : Tree) where
-  pub rounds_gain : (n : ℕ) (lines : List Line) (known : Pairs) → Rounds JobsEnd caller t n lines known → GainsFrontier t n [] known
-  rounds_gain zero lines known (none, empty) = sym empty
-  rounds_gain (suc n) lines known (before, last, past, split, rounds, round) =
+-- ---- jobs that were sent, and more
+
+pub sent_after : (before next after : List Job) → SentMore before next → SentMore next after → SentMore before after
+sent_after before next after (sent, first) (more, second) =
+    (sent ++ more, second ∙ (ap (λ js. js ++ more) first ∙ append_assoc before sent more))
+
+module _ (JobsEnd : List Job → List Job → List Line → Type 0) (caller : ℕ) (t : Tree) where
+  pub rounds_gain : (n : ℕ) (lines : List Line) (known : Pairs) (sent : List Job) → Rounds JobsEnd caller t n lines known sent → GainsFrontier t n [] known
+  rounds_gain zero lines known sent (none, empty, unsent) = sym empty
+  rounds_gain (suc n) lines known sent (before, last, past, earlier, later, split, parted, rounds, round) =
       let ks = frontier t past in
       let os = round.outcomes in
       let long : length os ≡ length ks = ap length round.round.outcomes_are
@@ -95,7 +100,7 @@ module _ (JobsEnd : List Job → List Line → Type 0) (caller : ℕ) (t : Tree)
       let gains : Gains past known = subst (λ qs. Gains past qs) (sym round.gains) (more_known past (paired ks os)) in
       let covers : Covers ks known = subst (λ qs. Covers ks qs) (sym round.gains)
       (All-from_recursion (λ k. IsSome (outcome_in (past ++ paired ks os) k)) ks (covered ks os past long)) in
-      (past, rounds_gain n before past rounds, gains, covers)
+      (past, rounds_gain n before past earlier rounds, gains, covers)
 
   -- ---- at most as many as the term is deep
 
@@ -107,43 +112,58 @@ module _ (JobsEnd : List Job → List Line → Type 0) (caller : ℕ) (t : Tree)
   whole (each u field table) = inl refl
   whole (all us) = inl refl
 
-  below_depth : GivesByDepth → (n : ℕ) (before : List Line) (past : Pairs) → Rounds JobsEnd caller t n before past → frontier t past ≢ [] → depth_of t ≤ n → ⊥
-  below_depth law n before past rounds some low =
-      some (answered (outcome_in past) t (law t t n [] past (rounds_gain n before past rounds) (whole t) low))
+  below_depth : GivesByDepth → (n : ℕ) (before : List Line) (past : Pairs) (earlier : List Job) → Rounds JobsEnd caller t n before past earlier
+      → frontier t past ≢ [] → depth_of t ≤ n → ⊥
+  below_depth law n before past earlier rounds some low =
+      some (answered (outcome_in past) t (law t t n [] past (rounds_gain n before past earlier rounds) (whole t) low))
 
-  pub rounds_within : GivesByDepth → (n : ℕ) (lines : List Line) (known : Pairs) → Rounds JobsEnd caller t n lines known → n ≤ depth_of t
-  rounds_within law zero lines known rounds = omega arith
-  rounds_within law (suc n) lines known (before, last, past, split, rounds, round) =
+  pub rounds_within : GivesByDepth → (n : ℕ) (lines : List Line) (known : Pairs) (sent : List Job) → Rounds JobsEnd caller t n lines known sent → n ≤ depth_of t
+  rounds_within law zero lines known sent rounds = omega arith
+  rounds_within law (suc n) lines known sent (before, last, past, earlier, later, split, parted, rounds, round) =
       elim (cases_lt n (depth_of t)) [
         | inl high ↦ (let most : suc n ≤ depth_of t =
             omega (arith, high) in most)
-        | inr low ↦ absurd (below_depth law n before past rounds round.some low)
+        | inr low ↦ absurd (below_depth law n before past earlier rounds round.some low)
       ]
 
   -- ---- one round more, and the end
 
   -- the run has wanted all that the term waits for, and a round has loaded that
-  pub rounds_next : (n : ℕ) (old now new : Part) (known : Pairs) (wanted : List Key) (outcomes : List Outcome) → old.caller ≡ caller
-      → Adds old now (λ lines. Rounds JobsEnd caller t n lines known) → Adds now new (λ lines. Round JobsEnd caller wanted lines outcomes)
-      → wanted ≡ frontier t known → wanted ≢ [] → Adds old new (λ lines. Rounds JobsEnd caller t (n + 1) lines (known ++ paired wanted outcomes))
-  rounds_next n old now new known wanted outcomes own before last is some =
-      let lines = before.1 ++ last.1 in
-      let entries : new.entries ≡ old.entries ++ lines = last.2 ∙ (ap (λ ls. ls ++ last.1) before.2 ∙ append_assoc old.entries before.1 last.1) in
-      let round : LastRound JobsEnd caller t known last.1 (known ++ paired wanted outcomes) = record {
+  pub rounds_next : (n : ℕ) (old now new : Part) (first next last : List Job) (known : Pairs) (wanted : List Key) (outcomes : List Outcome)
+      → AddsAndSends old now first next (λ lines sent. Rounds JobsEnd caller t n lines known sent)
+      → AddsAndSends now new next last (λ lines sent. Round JobsEnd caller wanted lines outcomes sent)
+      → wanted ≡ frontier t known → wanted ≢ []
+      → AddsAndSends old new first last (λ lines sent. Rounds JobsEnd caller t (n + 1) lines (known ++ paired wanted outcomes) sent)
+  rounds_next n old now new first next last known wanted outcomes (earlier, so_far, before) (later, so_far_too, one) is some =
+      let lines = before.1 ++ one.1 in
+      let jobs : last ≡ first ++ (earlier ++ later) = so_far_too ∙ (ap (λ js. js ++ later) so_far ∙ append_assoc first earlier later) in
+      let entries : new.entries ≡ old.entries ++ lines = one.2 ∙ (ap (λ ls. ls ++ one.1) before.2 ∙ append_assoc old.entries before.1 one.1) in
+      let round : LastRound JobsEnd caller t known one.1 (known ++ paired wanted outcomes) later = record {
         outcomes = outcomes;
         some = λ none. some (is ∙ none);
-        round = subst (λ ks. Round JobsEnd caller ks last.1 outcomes) is last.3;
+        round = subst (λ ks. Round JobsEnd caller ks one.1 outcomes later) is one.3;
         gains = ap (λ ks. known ++ paired ks outcomes) is;
       } in
-      let more : Rounds JobsEnd caller t (suc n) lines (known ++ paired wanted outcomes) = (before.1, last.1, known, refl, before.3, round) in
-      (last.0 ∙ before.0, lines, entries, subst (λ m. Rounds JobsEnd caller t m lines (known ++ paired wanted outcomes)) (sym (add-one n)) more)
+      let more : Rounds JobsEnd caller t (suc n) lines (known ++ paired wanted outcomes) (earlier ++ later) =
+      (before.1, one.1, known, earlier, later, refl, refl, before.3, round) in (
+        earlier ++ later,
+        jobs,
+        (
+          one.0 ∙ before.0,
+          lines,
+          entries,
+          subst (λ m. Rounds JobsEnd caller t m lines (known ++ paired wanted outcomes) (earlier ++ later)) (sym (add-one n)) more,
+        ),
+      )
 
   -- the answer of the run is that of the evaluation
-  pub run_ends : (n : ℕ) (old now : Part) (before after : Run) (a : Answer) → Adds old now (λ lines. Rounds JobsEnd caller t n lines (with_supplied before))
+  pub run_ends : (n : ℕ) (old now : Part) (first next : List Job) (before after : Run) (a : Answer)
+      → AddsAndSends old now first next (λ lines sent. Rounds JobsEnd caller t n lines (with_supplied before) sent)
       → all_show before.tickets ≡ true → AllLater before.tickets after.tickets → Answers before after a → IsRunOf t before
-      → Adds old now (λ lines. Evaluates JobsEnd caller t lines a n)
-  run_ends n old now before after a added shown later answers run =
+      → AddsAndSends old now first next (λ lines sent. Evaluates JobsEnd caller t lines a n sent)
+  run_ends n old now first next before after a (sent, jobs, added) shown later answers run =
       let learned : after.learned ≡ with_supplied before = learned_now before after shown later answers.learns in
       let given : gives t after.learned a = answers.given t run in
-      let rounds : Rounds JobsEnd caller t n added.1 after.learned = subst (λ qs. Rounds JobsEnd caller t n added.1 qs) (sym learned) added.3 in
-      (added.0, added.1, added.2, (after.learned, rounds, answered (outcome_in after.learned) t (a, given), given))
+      let rounds : Rounds JobsEnd caller t n added.1 after.learned sent =
+      subst (λ qs. Rounds JobsEnd caller t n added.1 qs sent) (sym learned) added.3 in
+      (sent, jobs, (added.0, added.1, added.2, (after.learned, rounds, answered (outcome_in after.learned) t (a, given), given)))

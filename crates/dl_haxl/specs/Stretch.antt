@@ -1,23 +1,25 @@
--- The entries that an evaluation adds to a pass: rounds, each of a loadMany, a dispatch, ends of jobs and reads.
+-- What an evaluation adds to a pass and sends to a queue: rounds, each of a loadMany, a dispatch, ends of jobs and reads.
 use Rattle.std.specs.Prelude.{◌≡◌, ◌≢◌, ◌⊎◌, ℕ, zero, suc, List, [], ◌∷◌, ◌++◌, length, map}
 use Rattle.dl_desk.specs.Key.{Key}
 use Rattle.dl_desk.specs.declared.outcome.Outcome.{Outcome}
+use Rattle.dl_desk.specs.declared.outcome.BatchFault.TheVariants.{Unsent}
 use Rattle.dl_desk.specs.declared.reply.Job.{Job}
 use Rattle.dl_desk.specs.declared.reply.LoadReply.{LoadReply}
 use Rattle.dl_history.specs.Entries.{Line}
 use Rattle.dl_history.specs.Service.{Service}
 use Rattle.dl_history.specs.declared.event.Call.{Call}
-use Rattle.dl_history.specs.declared.event.Call.TheVariants.{LoadMany, Dispatch}
+use Rattle.dl_history.specs.declared.event.Call.TheVariants.{LoadMany, Dispatch, Fail}
 use Rattle.dl_history.specs.declared.event.Ending.{Ending}
 use Rattle.dl_history.specs.declared.event.Reply.TheVariants.{Many, Sent, Done}
-use Rattle.dl_loader.specs.Added.{line, saws}
+use Rattle.dl_loader.specs.Added.{line, saws, Adds}
+use Rattle.dl_loader.specs.Pass.{Part}
 use Rattle.dl_terms.specs.declared.answer.Answer.{Answer}
 use Rattle.dl_terms.specs.Tree.{Tree}
 use Rattle.dl_terms.specs.Gives.{Pairs, frontier, gives}
 use Rattle.dl_workers.specs.Ending.{end_answered, end_unanswered}
 use Rattle.dl_haxl.specs.Pairs.{paired}
 
--- ---- the ends of jobs that are fetched on the caller's own thread
+-- ---- jobs that are fetched on the caller's own thread
 
 -- the entry of the end of a job: by what the source answers to its keys, or for want of memory
 abbrev pub InlineEnd : Service → ℕ → Job → Line → Type 0
@@ -31,10 +33,35 @@ InlineEnds service caller [] (l ∷ ls) = ⊥
 InlineEnds service caller (job ∷ jobs) [] = ⊥
 InlineEnds service caller (job ∷ jobs) (l ∷ ls) = InlineEnd service caller job l × InlineEnds service caller jobs ls
 
+-- of these jobs none was sent to a queue, and each was ended
+abbrev pub EndedInline : Service → ℕ → List Job → List Job → List Line → Type 0
+EndedInline service caller jobs sent ends = (sent ≡ []) × InlineEnds service caller jobs ends
+
+-- ---- jobs that are handed over to fetch workers
+
+-- of these jobs each, in order, was sent to a queue, or came back and was failed as unsent
+abbrev pub HandedOver : ℕ → List Job → List Job → List Line → Type 0
+HandedOver caller [] sent ends = (sent ≡ []) × (ends ≡ [])
+HandedOver caller (job ∷ jobs) sent ends =
+    ((rest : List Job) × (sent ≡ job ∷ rest) × HandedOver caller jobs rest ends)
+    ⊎ ((at : ℕ) × (rest : List Line) × (ends ≡ line caller at (Fail job.batch Unsent) Done ∷ rest) × HandedOver caller jobs sent rest)
+
+-- ---- what is added and sent
+
+-- some jobs more were sent
+abbrev pub SentMore : List Job → List Job → Type 0
+SentMore before after = (sent : List Job) × (after ≡ before ++ sent)
+
+-- the pass has entries more, and some jobs more were sent, of which this holds
+abbrev pub AddsAndSends : Part → Part → List Job → List Job → (List Line → List Job → Type 0) → Type 0
+AddsAndSends old new before after P = (sent : List Job) × (after ≡ before ++ sent) × Adds old new (λ lines. P lines sent)
+
 -- ---- rounds
 
--- A round loads the wanted keys by one loadMany, dispatches, and reads the outcome of each load, in order.
-pub record Round (JobsEnd : List Job → List Line → Type 0) (caller : ℕ) (wanted : List Key) (lines : List Line) (outcomes : List Outcome) : Type 0 where
+-- A round loads the wanted keys by one loadMany, dispatches, and reads the outcome of each load, in order. Of the
+-- dispatched jobs some were sent, and the others were ended.
+pub record Round (JobsEnd : List Job → List Job → List Line → Type 0) (caller : ℕ) (wanted : List Key)
+    (lines : List Line) (outcomes : List Outcome) (sent : List Job) : Type 0 where
   pub load_at : ℕ
   pub dispatch_at : ℕ
   pub replies : List LoadReply
@@ -43,28 +70,32 @@ pub record Round (JobsEnd : List Job → List Line → Type 0) (caller : ℕ) (w
   pub endings : List Ending
   pub reply_each : length replies ≡ length wanted
   pub read_each : length endings ≡ length wanted
-  pub jobs_end : JobsEnd jobs ends
+  pub jobs_end : JobsEnd jobs sent ends
   pub tells : lines ≡ line caller load_at (LoadMany wanted) (Many replies) ∷ line caller dispatch_at Dispatch (Sent jobs) ∷ (ends ++ saws replies endings)
   pub outcomes_are : outcomes ≡ map (λ e. e.outcome) endings
 
-module _ (JobsEnd : List Job → List Line → Type 0) (caller : ℕ) (t : Tree) where
+module _ (JobsEnd : List Job → List Job → List Line → Type 0) (caller : ℕ) (t : Tree) where
   -- a round of all keys that the term waits for, which gains their outcomes
-  pub record LastRound (known : Pairs) (lines : List Line) (more : Pairs) : Type 0 where
+  pub record LastRound (known : Pairs) (lines : List Line) (more : Pairs) (sent : List Job) : Type 0 where
     pub outcomes : List Outcome
     pub some : frontier t known ≢ []
-    pub round : Round JobsEnd caller (frontier t known) lines outcomes
+    pub round : Round JobsEnd caller (frontier t known) lines outcomes sent
     pub gains : more ≡ known ++ paired (frontier t known) outcomes
 
   -- so many rounds, one after another
-  abbrev pub Rounds : ℕ → List Line → Pairs → Type 0
-  Rounds zero lines known = (lines ≡ []) × (known ≡ [])
-  Rounds (suc n) lines known = (before : List Line) × (last : List Line) × (past : Pairs)
-      × (lines ≡ before ++ last) × Rounds n before past × LastRound past last known
+  abbrev pub Rounds : ℕ → List Line → Pairs → List Job → Type 0
+  Rounds zero lines known sent = (lines ≡ []) × (known ≡ []) × (sent ≡ [])
+  Rounds (suc n) lines known sent = (before : List Line) × (last : List Line) × (past : Pairs) × (earlier : List Job) × (later : List Job)
+      × (lines ≡ before ++ last) × (sent ≡ earlier ++ later) × Rounds n before past earlier × LastRound past last known later
 
   -- an evaluation: after so many rounds the term waits for no key, and gives the answer
-  abbrev pub Evaluates : List Line → Answer → ℕ → Type 0
-  Evaluates lines a rounds = (known : Pairs) × Rounds rounds lines known × (frontier t known ≡ []) × gives t known a
+  abbrev pub Evaluates : List Line → Answer → ℕ → List Job → Type 0
+  Evaluates lines a rounds sent = (known : Pairs) × Rounds rounds lines known sent × (frontier t known ≡ []) × gives t known a
 
 -- an evaluation whose jobs are fetched on the caller's own thread
 abbrev pub EvaluatesInline : Service → ℕ → Tree → List Line → Answer → ℕ → Type 0
-EvaluatesInline service caller t = Evaluates (InlineEnds service caller) caller t
+EvaluatesInline service caller t lines a rounds = Evaluates (EndedInline service caller) caller t lines a rounds []
+
+-- an evaluation whose jobs are handed over to fetch workers
+abbrev pub EvaluatesQueued : ℕ → Tree → List Line → Answer → ℕ → List Job → Type 0
+EvaluatesQueued caller t = Evaluates (HandedOver caller) caller t

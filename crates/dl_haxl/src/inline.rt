@@ -1,21 +1,22 @@
 //! Terms that are evaluated on the caller's own thread.
 
-ghost use Rattle.std.specs.Prelude.{◌≡◌, ◌≤◌, [], IfOk, OnErr};
+ghost use Rattle.std.specs.Prelude.{◌≡◌, ◌≤◌, ℕ, List, [], IfOk, OnErr, OnOk};
+ghost use Rattle.dl_desk.specs.declared.reply.Job.{Job};
 ghost use Rattle.dl_history.specs.Service.{Answers};
 ghost use Rattle.dl_loader.specs.Added.{Adds, Grows};
-ghost use Rattle.dl_terms.specs.Tree.{Tree, depth_of};
+ghost use Rattle.dl_terms.specs.Tree.{depth_of};
 ghost use Rattle.dl_terms.specs.View.{term_view};
-ghost use Rattle.dl_haxl.specs.Run.{IsRunOf, asked_by};
-ghost use Rattle.dl_haxl.specs.Seen.{seen};
-ghost use Rattle.dl_haxl.specs.Stretch.{EvaluatesInline};
+ghost use Rattle.dl_workers.specs.Ending.{WasEnded};
+ghost use Rattle.dl_haxl.specs.Stretch.{EndedInline, EvaluatesInline};
 
+use crate::evaluation::evaluate;
 use crate::fault::RunFault;
-use crate::rounds::round;
-use crate::run::TermRun;
+use crate::outlet::Outlet;
+use dl_desk::Job;
 use dl_loader::{Loader, LoaderName, Pass};
 use dl_source::Source;
-use dl_terms::{Answer, Term, laws};
-use futures::task::Poll;
+use dl_terms::{Answer, Term};
+use dl_workers::end_job;
 use std::alloc::Global;
 use std::hash::RandomState;
 use std::sync::Wait;
@@ -44,39 +45,62 @@ pub fn run_inline<L: LoaderName, S: Source>(
     ensures rounds { IfOk result (λ r. r.1 ≤ depth_of (term_view term)) }
     ensures grows { OnErr result (Grows pass.old.part pass.new.part) }
 {
-    let mut run = TermRun::new(alloc, hashing, term)?;
-    evaluate(rt, alloc, loader, source, pass, &mut run)
+    let outlet = OwnThread { source };
+    evaluate(rt, alloc, hashing, loader, &outlet, &mut (), pass, term)
 }
 
-// Takes a new run to its answer, and answers how many rounds of loads that took.
-fn evaluate<'l, L: LoaderName, S: Source>(
+// The evaluating thread, which fetches from its source.
+#[derive(Drop)]
+struct OwnThread<'s, S> {
+    source: &'s S,
+}
+
+impl<L: LoaderName, S: Source> Outlet<L> for OwnThread<'_, S> {
+    type Seat = ();
+
+    ghost fits = { λ outlet _. Answers (S.answer outlet.source.now) L.service };
+
+    ghost sent_by = { λ _. [] };
+
+    ghost jobs_end = { EndedInline L.service };
+
+    // Ends the batch of each job by what the loader's source answers.
+    fn give_out<R: Wait>(
+        &self,
+        rt: &R,
+        alloc: Global,
+        loader: &Loader<L>,
+        _seat: &mut (),
+        pass: &mut Pass<L>,
+        jobs: Vec<Job>,
+    ) -> Result<(), RunFault> {
+        for job in jobs {
+            if let Err(fault) = end_shown(rt, alloc, loader, self.source, pass, job) {
+                loader.stop(rt);
+                return Err(fault);
+            }
+        }
+        Ok(())
+    }
+}
+
+// Ends the batch of a job, whose cells all show their outcomes then.
+fn end_shown<L: LoaderName, S: Source>(
     rt: &impl Wait,
     alloc: Global,
-    loader: &'l Loader<L>,
+    loader: &Loader<L>,
     source: &S,
     pass: &mut Pass<L>,
-    run: &mut TermRun<'l, L>,
-) -> Result<(Answer, u32), RunFault>
+    job: Job,
+) -> Result<(), RunFault>
     requires source { Answers (S.answer source.now) L.service }
-    requires nothing_learned { (seen run.old).learned ≡ [] }
-    requires nothing_asked { asked_by (seen run.old) ≡ [] }
-    requires no_tickets { (seen run.old).tickets ≡ [] }
-    ensures evaluates { IfOk result (λ r. (t : Tree) → IsRunOf t (seen run.old) → Adds pass.old.part pass.new.part
-        (λ lines. EvaluatesInline L.service pass.old.part.caller t lines r.0 r.1)) }
-    ensures rounds { IfOk result (λ r. (t : Tree) → IsRunOf t (seen run.old) → r.1 ≤ depth_of t) }
+    ensures ended { OnOk result (WasEnded L.service pass.old.part job pass.new.part) }
+    ensures tickets { pass.new.part.tickets ≡ pass.old.part.tickets }
     ensures grows { OnErr result (Grows pass.old.part pass.new.part) }
 {
-    laws::gives_by_depth();
-    let mut rounds = 0;
-    for _ in rt.forever() {
-        match run.advance() {
-            Poll::Ready(Ok(answer)) => return Ok((answer, rounds)),
-            Poll::Ready(Err(_)) => return Err(RunFault::OutOfMemory),
-            Poll::Pending => {}
-        }
-        let tickets = round(rt, alloc, loader, source, pass, run.wanted())?;
-        run.supply(tickets);
-        rounds += 1;
+    let settled = end_job(rt, alloc, loader, source, pass, job)?;
+    if settled.refused > 0 {
+        return Err(RunFault::Stopped);
     }
-    unreachable!()
+    Ok(())
 }

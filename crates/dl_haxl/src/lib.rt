@@ -3,12 +3,19 @@
 //! A [`LoadFuture`] is the outcome of one load. A [`TermRun`] is the answer of a [`Term`]: a poll takes the
 //! term as far as the supplied tickets show, and then tells the keys that it waits for. Both are polled by
 //! hand or by an executor of `futures`, and no poll waits.
+//!
+//! [`run_inline`] and [`run_term`] evaluate a term in rounds. Each round loads the keys that the term waits for,
+//! dispatches, and waits for the outcome of each load. `run_inline` fetches the dispatched jobs on the caller's own
+//! thread, and `run_term` hands them over to fetch workers by a queue.
 #![tactic(auto)]
 
+mod evaluation;
 mod fault;
 mod future;
 mod inline;
 mod learning;
+mod outlet;
+mod queued;
 mod rounds;
 mod run;
 mod stage;
@@ -17,4 +24,5 @@ pub use dl_terms::{Answer, EvalFault, Term, laws};
 pub use fault::{PollFault, RunFault};
 pub use future::LoadFuture;
 pub use inline::run_inline;
+pub use queued::run_term;
 pub use run::TermRun;

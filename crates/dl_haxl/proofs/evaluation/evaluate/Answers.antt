@@ -5,7 +5,7 @@ use Rattle.dl_terms.specs.declared.answer.Answer.{Answer}
 use Rattle.dl_haxl.specs.Run.{IsRunOf, Run}
 use Rattle.dl_haxl.specs.Seen.{seen}
 use Rattle.dl_haxl.specs.declared.fault.RunFault.{RunFault}
-use Rattle.dl_haxl.proofs.inline.run_inline.Goals as goal
+use Rattle.dl_haxl.proofs.evaluation.evaluate.Goals as goal
 
 -- what holds of each term that a run is of holds of its own
 of_own : (r : Result (Answer × ℕ) RunFault) (t : Tree) (run : Run) → IsRunOf t run
@@ -15,4 +15,4 @@ of_own (Err fault) t run is few = tt
 
 pub returns-clause-rounds : goal.returns-clause-rounds
 returns-clause-rounds g c =
-    of_own c.evaluate.result (term_view c.args.term) (seen c.in_ok-run.run') c.in_ok-run.ensures.run c.evaluate.ensures.rounds
+    of_own c.go_on.result (term_view c.args.term) (seen c.in_ok-run.run') c.in_ok-run.ensures.run c.go_on.ensures.rounds

@@ -1,34 +1,38 @@
-use Rattle.std.proofs.Common.{◌≡◌, ◌∙◌, ap, sym, subst, refl, ◌+◌, List, ◌++◌, arith}
+use Rattle.std.proofs.Common.{◌≡◌, ◌∙◌, ap, sym, subst, ◌+◌, ℕ, List, ◌++◌, arith}
 use Rattle.dl_history.specs.Entries.{Line}
-use Rattle.dl_history.specs.Service.{Service}
 use Rattle.dl_desk.specs.declared.reply.Job.{Job}
-use Rattle.dl_loader.specs.Added.{Adds}
 use Rattle.dl_loader.proofs.AddedLemmas.{grows_after}
 use Rattle.dl_haxl.specs.Pairs.{all_show, outcomes_shown, paired}
 use Rattle.dl_haxl.specs.Run.{Answers, asked_by, wanted_by}
 use Rattle.dl_haxl.specs.Seen.{seen}
-use Rattle.dl_haxl.specs.Stretch.{Evaluates, InlineEnds, Round, Rounds}
+use Rattle.dl_haxl.specs.Stretch.{AddsAndSends, Evaluates, Round, Rounds}
 use Rattle.dl_haxl.proofs.RoundMade.{on_err}
-use Rattle.dl_haxl.proofs.Stretched.{learned_now, rounds_next, rounds_within, run_ends, wants_now, with_supplied}
-use Rattle.dl_haxl.proofs.inline.evaluate.Goals as goal
+use Rattle.dl_haxl.proofs.Stretched.{learned_now, rounds_next, rounds_within, run_ends, sent_after, wants_now, with_supplied}
+use Rattle.dl_haxl.proofs.evaluation.go_on.Goals as goal
 
 pub returns-in-Ready-Ok-clause-evaluates : goal.returns-in-Ready-Ok-clause-evaluates
 returns-in-Ready-Ok-clause-evaluates g c = λ t is.
-    let s : Service = g.L.LoaderName.service in
     let old = c.args.pass.now.part in
+    let first = g.O.Outlet.sent_by c.args.seat.now in
+    let next = g.O.Outlet.sent_by c.loop.seat in
     let kept = c.loop.invariant in
     let given : Answers (seen c.loop.run) (seen c.advance.new.self) c.in-Ready-Ok.answer = rw c.in-Ready-Ok.field-0-is at c.in-Ready-Ok.ensures.answer in
-    let ends : List Job → List Line → Type 0 = InlineEnds s old.caller in
-    let evaluated = run_ends ends old.caller t c.loop.rounds old c.loop.pass.part (seen c.loop.run) (seen c.advance.new.self)
+    let ends : List Job → List Job → List Line → Type 0 = g.O.Outlet.jobs_end old.caller in
+    let evaluated = run_ends ends old.caller t c.loop.rounds old c.loop.pass.part first next (seen c.loop.run) (seen c.advance.new.self)
     c.in-Ready-Ok.answer (kept.stretch t is) kept.shown c.in-Ready-Ok.ensures.tickets given (kept.run t is) in
-    subst (λ a. Adds old c.loop.pass.part (λ lines. Evaluates ends old.caller t lines a c.loop.rounds)) (sym c.in-Ready-Ok.answer-is) evaluated
+    subst (λ a. AddsAndSends old c.loop.pass.part first next (λ lines sent. Evaluates ends old.caller t lines a c.loop.rounds sent))
+    (sym c.in-Ready-Ok.answer-is) evaluated
 
 pub returns-in-Ready-Ok-clause-rounds : goal.returns-in-Ready-Ok-clause-rounds
 returns-in-Ready-Ok-clause-rounds g c = λ t is.
-    let s : Service = g.L.LoaderName.service in
     let caller = c.args.pass.now.part.caller in
     let stretch = c.loop.invariant.stretch t is in
-    rounds_within (InlineEnds s caller) caller t c.gives_by_depth.ensures c.loop.rounds stretch.1 (with_supplied (seen c.loop.run)) stretch.3
+    rounds_within (g.O.Outlet.jobs_end caller) caller t c.gives_by_depth.ensures c.loop.rounds stretch.2.1 (with_supplied (seen c.loop.run)) stretch.0 stretch.2.3
+
+pub returns-in_err-tickets-clause-sent : goal.returns-in_err-tickets-clause-sent
+returns-in_err-tickets-clause-sent g c =
+    sent_after (g.O.Outlet.sent_by c.args.seat.now) (g.O.Outlet.sent_by c.loop.seat) (g.O.Outlet.sent_by c.round.new.seat)
+    c.loop.invariant.sent c.round.ensures.sent
 
 pub returns-in_err-tickets-clause-grows : goal.returns-in_err-tickets-clause-grows
 returns-in_err-tickets-clause-grows g c =
@@ -37,13 +41,15 @@ returns-in_err-tickets-clause-grows g c =
 
 pub loop-preserved : goal.loop-preserved
 loop-preserved g c =
-    let s : Service = g.L.LoaderName.service in
     let old = c.args.pass.now.part in
     let now = c.loop.pass.part in
     let new = c.round.new.pass.part in
+    let first = g.O.Outlet.sent_by c.args.seat.now in
+    let sent_before = g.O.Outlet.sent_by c.loop.seat in
+    let sent_now = g.O.Outlet.sent_by c.round.new.seat in
     let caller = old.caller in
     let n = c.loop.rounds in
-    let ends : List Job → List Line → Type 0 = InlineEnds s caller in
+    let ends : ℕ → List Job → List Job → List Line → Type 0 = g.O.Outlet.jobs_end in
     let kept = c.loop.invariant in
     let before = seen c.loop.run in
     let after = seen c.advance.new.self in
@@ -51,9 +57,10 @@ loop-preserved g c =
     let wants = wants_now before after kept.shown c.in-Pending.ensures.tickets c.in-Pending.ensures.waits in
     let learned = learned_now before after kept.shown c.in-Pending.ensures.tickets wants.learns in
     let outcomes = outcomes_shown c.in_ok-tickets.tickets.items in
-    let made = subst (λ ks. Adds now new (λ lines. Round (InlineEnds s now.caller) now.caller ks lines outcomes)) c.wanted.ensures
-    c.in_ok-tickets.ensures.round in
-    let round = subst (λ who. Adds now new (λ lines. Round (InlineEnds s who) who (wanted_by after) lines outcomes)) kept.grows.0 made in
+    let made = subst (λ ks. AddsAndSends now new sent_before sent_now (λ lines sent. Round (ends now.caller) now.caller ks lines outcomes sent))
+    c.wanted.ensures c.in_ok-tickets.ensures.round in
+    let round = subst (λ who. AddsAndSends now new sent_before sent_now (λ lines sent. Round (ends who) who (wanted_by after) lines outcomes sent))
+    kept.grows.0 made in
     let supplied : with_supplied last ≡ after.learned ++ paired (wanted_by after) outcomes =
     ap (λ ps. ps ++ paired (asked_by last) (outcomes_shown last.tickets)) c.supply.ensures.learned
     ∙ (ap (λ ks. after.learned ++ paired ks (outcomes_shown last.tickets)) (c.supply.ensures.asked wants.some)
@@ -63,13 +70,16 @@ loop-preserved g c =
     record {
       can_next = tt;
       is_finite = tt;
+      fits = c.round.ensures.fits;
       run = λ t is. c.supply.ensures.run t (c.in-Pending.ensures.waits.run t (kept.run t is));
       shown = ap all_show (c.supply.ensures.tickets wants.some) ∙ c.in_ok-tickets.ensures.shown;
       stretch = λ t is.
-          let start = subst (λ ps. Adds old now (λ lines. Rounds ends caller t n lines ps)) (sym learned) (kept.stretch t is) in
-          let next = rounds_next ends caller t n old now new after.learned (wanted_by after) outcomes refl start round (wants.all t (kept.run t is))
-          wants.some in
-          subst (λ ps. Adds old new (λ lines. Rounds ends caller t (n + 1) lines ps)) (sym supplied) next;
-      grows = grows_after old now new kept.grows (round.0, round.1, round.2);
+          let start = subst (λ ps. AddsAndSends old now first sent_before (λ lines sent. Rounds (ends caller) caller t n lines ps sent))
+          (sym learned) (kept.stretch t is) in
+          let next = rounds_next (ends caller) caller t n old now new first sent_before sent_now after.learned (wanted_by after) outcomes start round
+          (wants.all t (kept.run t is)) wants.some in
+          subst (λ ps. AddsAndSends old new first sent_now (λ lines sent. Rounds (ends caller) caller t (n + 1) lines ps sent)) (sym supplied) next;
+      sent = sent_after first sent_before sent_now kept.sent c.round.ensures.sent;
+      grows = grows_after old now new kept.grows (round.2.0, round.2.1, round.2.2);
       front = omega (arith, low, high);
     }

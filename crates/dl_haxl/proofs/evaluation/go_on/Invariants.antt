@@ -1,22 +1,25 @@
 use Rattle.std.proofs.Common.{◌≡◌, ◌≤◌, true}
 use Rattle.dl_history.specs.Entries.{front_of}
-use Rattle.dl_loader.specs.Added.{Adds, Grows}
+use Rattle.dl_loader.specs.Added.{Grows}
 use Rattle.dl_terms.specs.Tree.{Tree}
 use Rattle.dl_haxl.specs.Pairs.{all_show}
 use Rattle.dl_haxl.specs.Run.{IsRunOf}
 use Rattle.dl_haxl.specs.Seen.{seen}
-use Rattle.dl_haxl.specs.Stretch.{InlineEnds, Rounds}
+use Rattle.dl_haxl.specs.Stretch.{AddsAndSends, Rounds, SentMore}
 use Rattle.dl_haxl.proofs.Stretched.{with_supplied}
-use Rattle.dl_haxl.proofs.inline.evaluate.Given as goal
+use Rattle.dl_haxl.proofs.evaluation.go_on.Given as goal
 
 abbrev pub invariant-loop : goal.invariant-loop
 invariant-loop g l = record {
   can_next : (goal.iterator-loop g).can_next l.iterator';
   is_finite : (goal.iterator-loop g).is_finite l.iterator';
+  fits : g.O.Outlet.fits l.outlet l.seat;
   run : (t : Tree) → IsRunOf t (seen l.fn.run) → IsRunOf t (seen l.run);
   shown : all_show (seen l.run).tickets ≡ true;
-  stretch : (t : Tree) → IsRunOf t (seen l.fn.run) → Adds l.fn.pass.part l.pass.part
-      (λ lines. Rounds (InlineEnds g.L.LoaderName.service l.fn.pass.part.caller) l.fn.pass.part.caller t l.rounds lines (with_supplied (seen l.run)));
+  stretch : (t : Tree) → IsRunOf t (seen l.fn.run)
+      → AddsAndSends l.fn.pass.part l.pass.part (g.O.Outlet.sent_by l.fn.seat) (g.O.Outlet.sent_by l.seat)
+      (λ lines sent. Rounds (g.O.Outlet.jobs_end l.fn.pass.part.caller) l.fn.pass.part.caller t l.rounds lines (with_supplied (seen l.run)) sent);
+  sent : SentMore (g.O.Outlet.sent_by l.fn.seat) (g.O.Outlet.sent_by l.seat);
   grows : Grows l.fn.pass.part l.pass.part;
   front : l.rounds ≤ front_of l.pass.part.entries;
 }

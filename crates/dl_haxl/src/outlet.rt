@@ -1,0 +1,50 @@
+//! Where the jobs of a round go.
+
+ghost use Rattle.std.specs.Prelude.{◌≡◌, ℕ, List, OnErr, OnOk};
+ghost use Rattle.dl_desk.specs.declared.reply.Job.{Job};
+ghost use Rattle.dl_history.specs.Entries.{Line};
+ghost use Rattle.dl_loader.specs.Added.{Grows};
+ghost use Rattle.dl_haxl.specs.Stretch.{AddsAndSends, SentMore};
+
+use crate::fault::RunFault;
+use dl_desk::Job;
+use dl_loader::{Loader, LoaderName, Pass};
+use std::alloc::Global;
+use std::sync::Wait;
+
+/// Where the jobs of a round go: to the source of the evaluating thread, or to fetch workers.
+pub trait Outlet<L: LoaderName> {
+    /// What the evaluating thread gives them out by.
+    type Seat;
+
+    // The seat is one of this outlet.
+    ghost fits: { Self → Self.Seat → Type 0 };
+
+    // The jobs that the seat has sent to fetch workers.
+    ghost sent_by: { Self.Seat → List Job };
+
+    // Of the jobs of a caller's dispatch, which are sent to fetch workers, and the entries of the ends of the others.
+    ghost jobs_end: { ℕ → List Job → List Job → List Line → Type 0 };
+
+    /// Gives out the jobs of a dispatch, in order. Where a batch can't be ended or a cell refuses its outcome, the loader
+    /// is stopped.
+    ///
+    /// # Errors
+    /// `Call` where a batch can't be ended, and `Stopped` where a cell refuses its outcome.
+    fn give_out<R: Wait>(
+        &self,
+        rt: &R,
+        alloc: Global,
+        loader: &Loader<L>,
+        seat: &mut Self::Seat,
+        pass: &mut Pass<L>,
+        jobs: Vec<Job>,
+    ) -> Result<(), RunFault>
+        requires fits { fits self.now seat.old }
+        ensures fits { fits self.now seat.new }
+        ensures gives_out { OnOk result (AddsAndSends pass.old.part pass.new.part (sent_by seat.old) (sent_by seat.new)
+            (λ ends sent. jobs_end pass.old.part.caller jobs.items sent ends)) }
+        ensures sent { SentMore (sent_by seat.old) (sent_by seat.new) }
+        ensures tickets { pass.new.part.tickets ≡ pass.old.part.tickets }
+        ensures grows { OnErr result (Grows pass.old.part pass.new.part) };
+}

@@ -1,0 +1,104 @@
+//! Terms whose jobs are handed over to fetch workers.
+
+ghost use Rattle.std.specs.Prelude.{◌≡◌, ◌≤◌, ◌++◌, ℕ, List, IfOk, OnErr, OnOk};
+ghost use Rattle.dl_desk.specs.declared.outcome.BatchFault.TheVariants.{Unsent};
+ghost use Rattle.dl_desk.specs.declared.reply.Job.{Job};
+ghost use Rattle.dl_history.specs.declared.event.Call.TheVariants.{Fail};
+ghost use Rattle.dl_history.specs.declared.event.Reply.TheVariants.{Done};
+ghost use Rattle.dl_loader.specs.Added.{Grows};
+ghost use Rattle.dl_loader.specs.Made.{WasMade};
+ghost use Rattle.dl_terms.specs.Tree.{depth_of};
+ghost use Rattle.dl_terms.specs.View.{term_view};
+ghost use Rattle.dl_workers.specs.Seats.{IsSenderOf, sent_jobs};
+ghost use Rattle.dl_haxl.specs.Stretch.{AddsAndSends, EvaluatesQueued, HandedOver, SentMore};
+
+use crate::evaluation::evaluate;
+use crate::fault::RunFault;
+use crate::outlet::Outlet;
+use dl_desk::Job;
+use dl_loader::{GiveUp, Loader, LoaderName, Pass};
+use dl_terms::{Answer, Term};
+use dl_workers::{JobQueue, Sender};
+use std::alloc::Global;
+use std::hash::RandomState;
+use std::sync::Wait;
+
+/// Evaluates a term whose jobs fetch workers end, and answers how many rounds of loads that took. Each round loads
+/// the keys that the term waits for, dispatches, sends each job to the queue, and waits for the outcome of each
+/// load. A job that comes back, since the queue was shut or the seat is full, is failed as one that was not sent.
+/// Keys are hashed by `hashing`, of which nothing is seen.
+///
+/// # Errors
+/// `Call` where the loader refuses a call, `Stopped` where it is stopped or a cell refuses its outcome, and
+/// `OutOfMemory`. What the pass gained before stays, and what was sent is sent. Where a job that came back isn't
+/// failed, or a cell refuses its outcome, the loader is stopped.
+pub fn run_term<L: LoaderName, R: Wait>(
+    rt: &R,
+    alloc: Global,
+    hashing: RandomState,
+    loader: &Loader<L>,
+    pass: &mut Pass<L>,
+    queue: &JobQueue,
+    sender: &mut Sender,
+    term: Term,
+) -> Result<(Answer, u32), RunFault>
+    requires seat { IsSenderOf queue.now sender.old }
+    ensures seat { IsSenderOf queue.now sender.new }
+    ensures evaluates { IfOk result (λ r. AddsAndSends pass.old.part pass.new.part (sent_jobs sender.old) (sent_jobs sender.new)
+        (λ lines sent. EvaluatesQueued pass.old.part.caller (term_view term) lines r.0 r.1 sent)) }
+    ensures rounds { IfOk result (λ r. r.1 ≤ depth_of (term_view term)) }
+    ensures sent { OnErr result (SentMore (sent_jobs sender.old) (sent_jobs sender.new)) }
+    ensures grows { OnErr result (Grows pass.old.part pass.new.part) }
+{
+    evaluate(rt, alloc, hashing, loader, queue, sender, pass, term)
+}
+
+impl<L: LoaderName> Outlet<L> for JobQueue {
+    type Seat = Sender;
+
+    ghost fits = { IsSenderOf };
+
+    ghost sent_by = { sent_jobs };
+
+    ghost jobs_end = { HandedOver };
+
+    // Sends each job. One that comes back is failed as unsent.
+    fn give_out<R: Wait>(
+        &self,
+        rt: &R,
+        alloc: Global,
+        loader: &Loader<L>,
+        seat: &mut Sender,
+        pass: &mut Pass<L>,
+        jobs: Vec<Job>,
+    ) -> Result<(), RunFault> {
+        for job in jobs {
+            if let Err(job) = self.send(rt, seat, job) {
+                if let Err(fault) = fail_unsent(rt, alloc, loader, pass, job) {
+                    loader.stop(rt);
+                    return Err(fault);
+                }
+            }
+        }
+        Ok(())
+    }
+}
+
+// Fails the batch of a job that was not sent, whose cells all show that then.
+fn fail_unsent<L: LoaderName>(
+    rt: &impl Wait,
+    alloc: Global,
+    loader: &Loader<L>,
+    pass: &mut Pass<L>,
+    job: Job,
+) -> Result<(), RunFault>
+    ensures failed { OnOk result (WasMade L.service pass.old.part (Fail job.batch Unsent) Done pass.new.part) }
+    ensures tickets { pass.new.part.tickets ≡ pass.old.part.tickets }
+    ensures grows { OnErr result (Grows pass.old.part pass.new.part) }
+{
+    match loader.fail(rt, alloc, pass, job, GiveUp::Unsent) {
+        Ok(settled) if settled.refused > 0 => Err(RunFault::Stopped),
+        Ok(_) => Ok(()),
+        Err((fault, _)) => Err(RunFault::Call(fault)),
+    }
+}
