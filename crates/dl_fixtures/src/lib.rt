@@ -6,4 +6,4 @@ mod counted_tables;
 mod users;
 
 pub use counted_tables::CountedTables;
-pub use users::{USERS, outcome_text, tables};
+pub use users::{USERS, fault_text, outcome_text, tables};

@@ -25,7 +25,8 @@ pub fn outcome_text(alloc: Global, outcome: &Outcome) -> Result<String, AllocErr
     }
 }
 
-fn fault_text(alloc: Global, fault: &BatchFault) -> Result<String, AllocError> {
+/// Why a batch failed: what broke the source, or that there was no memory or that it wasn't sent.
+pub fn fault_text(alloc: Global, fault: &BatchFault) -> Result<String, AllocError> {
     match fault {
         BatchFault::Source(text) => format!(in alloc; "batch {}", text.as_str()),
         BatchFault::Memory => String::from_str(alloc, "memory"),
