@@ -35,6 +35,7 @@ pub(super) struct Crowd {
 }
 
 /// What callers tell one another.
+#[derive(Drop)]
 struct Meeting {
     /// How many have loaded, beside the first.
     loaded: AtomicU32,
