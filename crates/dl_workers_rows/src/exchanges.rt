@@ -20,6 +20,8 @@ struct Exchange {
     /// How many of its jobs each of the first two senders sends before it shuts the queue. Where that is all of them,
     /// the queue is shut once every sender has sent all.
     shut_after: u32,
+    /// How often the exchange is made.
+    times: u32,
 }
 
 /// The jobs of an exchange, and how often each of them was taken or came back. The jobs are told apart by their numbers.
@@ -228,9 +230,6 @@ fn run<R: Abort + Threads + Wait + Sync>(
     queue.finish(rt, senders, takers)
 }
 
-/// How often each exchange is made.
-const TIMES: u32 = 100;
-
 // The queue is shut once all jobs are sent.
 static ALL_SENT: [Exchange; 4] = [
     Exchange {
@@ -239,6 +238,7 @@ static ALL_SENT: [Exchange; 4] = [
         takers: 2,
         jobs: 100,
         shut_after: 100,
+        times: 100,
     },
     Exchange {
         capacity: 1,
@@ -246,6 +246,7 @@ static ALL_SENT: [Exchange; 4] = [
         takers: 3,
         jobs: 100,
         shut_after: 100,
+        times: 100,
     },
     Exchange {
         capacity: 1,
@@ -253,6 +254,7 @@ static ALL_SENT: [Exchange; 4] = [
         takers: 1,
         jobs: 30,
         shut_after: 30,
+        times: 100,
     },
     Exchange {
         capacity: 8,
@@ -260,6 +262,7 @@ static ALL_SENT: [Exchange; 4] = [
         takers: 32,
         jobs: 10,
         shut_after: 10,
+        times: 25,
     },
 ];
 
@@ -272,7 +275,7 @@ fn each_job_is_taken_once(rt: HostRuntime) {
             taken: all,
             left: 0,
         };
-        for _ in 0..TIMES {
+        for _ in 0..exchange.times {
             assert_eq!(rt; make(&rt, rt.alloc(), exchange), want);
         }
     }
@@ -288,6 +291,7 @@ static SHUT_MEANWHILE: [Exchange; 4] = [
         takers: 1,
         jobs: 40,
         shut_after: 20,
+        times: 100,
     },
     Exchange {
         capacity: 2,
@@ -295,6 +299,7 @@ static SHUT_MEANWHILE: [Exchange; 4] = [
         takers: 2,
         jobs: 40,
         shut_after: 10,
+        times: 100,
     },
     Exchange {
         capacity: 8,
@@ -302,6 +307,7 @@ static SHUT_MEANWHILE: [Exchange; 4] = [
         takers: 1,
         jobs: 20,
         shut_after: 5,
+        times: 100,
     },
     Exchange {
         capacity: 1,
@@ -309,13 +315,14 @@ static SHUT_MEANWHILE: [Exchange; 4] = [
         takers: 32,
         jobs: 10,
         shut_after: 5,
+        times: 25,
     },
 ];
 
 #[test]
 fn each_job_is_taken_or_comes_back(rt: HostRuntime) {
     for exchange in &SHUT_MEANWHILE {
-        for _ in 0..TIMES {
+        for _ in 0..exchange.times {
             make(&rt, rt.alloc(), exchange);
         }
     }
