@@ -1,8 +1,8 @@
 //! The desk, its keys and its limits: what a user sees with ample memory.
 
 use dl_desk::{
-    BatchState, BatchView, Desk, DeskPrime, DeskReply, FetchKey, Job, KeyFault, LimitFault, Limits,
-    LoadReply,
+    BatchState, BatchView, Desk, DeskFault, DeskPrime, DeskReply, FetchKey, Job, KeyFault,
+    LimitFault, Limits, LoadReply,
 };
 use std::alloc::{AllocError, Global};
 use std::hash::RandomState;
@@ -83,10 +83,10 @@ fn limits_are_refused_for_their_first_fault(rt: HostRuntime) {
     }
 }
 
-/// A desk of batches of one key.
-fn new_desk(rt: &impl RandomSource, alloc: Global) -> Result<Desk, Fail> {
+/// A desk of batches of one key, and of so many cells at most.
+fn new_desk(rt: &impl RandomSource, alloc: Global, max_cells: u32) -> Result<Desk, Fail> {
     let hashing = RandomState::new(rt)?;
-    let limits = Limits::new(1, 65_536, 65_536)?;
+    let limits = Limits::new(1, max_cells, 65_536)?;
     Ok(Desk::new(alloc, hashing, limits))
 }
 
@@ -136,7 +136,7 @@ fn assert_batches(rt: &impl Abort, desk: &Desk) {
 
 #[test]
 fn batches_end_in_any_order(rt: HostRuntime) -> Result<(), Fail> {
-    let mut desk = new_desk(&rt, rt.alloc())?;
+    let mut desk = new_desk(&rt, rt.alloc(), 65_536)?;
     use_desk(rt.alloc(), &mut desk)?;
     assert_batches(&rt, &desk);
     assert_eq!(rt; held(rt.alloc(), &desk, "a")?, Some(2));
@@ -151,7 +151,7 @@ fn held(alloc: Global, desk: &Desk, id: &str) -> Result<Option<u32>, KeyFault> {
 
 #[test]
 fn a_call_made_ready_is_seen_once_it_is_committed(rt: HostRuntime) -> Result<(), Fail> {
-    let mut desk = new_desk(&rt, rt.alloc())?;
+    let mut desk = new_desk(&rt, rt.alloc(), 65_536)?;
     use_desk(rt.alloc(), &mut desk)?;
     let c = key(rt.alloc(), "c")?;
     load_by_ready(&rt, rt.alloc(), &mut desk, &c)?;
@@ -207,4 +207,34 @@ fn is_sent(jobs: &[Job], key: &FetchKey) -> bool {
         [job] => job.batch == 3 && job.keys.as_slice() == slice::from_ref(key),
         _ => false,
     }
+}
+
+/// Ids of the table t, where the only cell is that of the id a, and why their loads and primes are refused, where they are.
+static FULL: [(&str, Option<DeskFault>); 2] = [
+    ("a", None),
+    ("b", Some(DeskFault::CellsFull { limit: 1 })),
+];
+
+/// Why a load of the id isn't made ready, and why a prime isn't, where they aren't.
+fn ready_faults(
+    alloc: Global,
+    desk: &mut Desk,
+    id: &str,
+) -> Result<(Option<DeskFault>, Option<DeskFault>), KeyFault> {
+    let key = key(alloc, id)?;
+    let loads = desk.ready_loads(alloc, slice::from_ref(&key)).err();
+    let prime = desk.ready_prime(&key).err();
+    Ok((loads, prime))
+}
+
+#[test]
+fn a_call_that_needs_too_many_cells_is_not_made_ready(rt: HostRuntime) -> Result<(), Fail> {
+    let mut desk = new_desk(&rt, rt.alloc(), 1)?;
+    let a = key(rt.alloc(), "a")?;
+    desk.load(rt.alloc(), &a)?;
+    for (id, want) in &FULL {
+        let faults = ready_faults(rt.alloc(), &mut desk, id)?;
+        assert_eq!(rt; faults, (*want, *want), "{id}");
+    }
+    Ok(())
 }

@@ -19,4 +19,6 @@ mod scripts;
 #[cfg(test)]
 mod source;
 #[cfg(test)]
+mod statuses;
+#[cfg(test)]
 mod terms;

@@ -146,6 +146,27 @@ fn a_refused_document_leaves_nothing_written(rt: HostRuntime) -> Result<(), Fail
     Ok(())
 }
 
+/// Spaces that a reader has, how many of them a run leaves, and why it refuses the others.
+static SPACES: [(u64, u64, PlanFault); 3] = [
+    (1_048_576, 0, PlanFault::NotJson),
+    (1_048_577, 0, PlanFault::TooLarge),
+    (2_000_000, 951_423, PlanFault::TooLarge),
+];
+
+#[test]
+fn one_byte_more_than_a_document_is_read(rt: HostRuntime) -> Result<(), Fail> {
+    let hashing = RandomState::new(&rt)?;
+    for (spaces, left, want) in &SPACES {
+        let mut reader = io::repeat(b' ').take(*spaces);
+        let mut writer = writer(rt.alloc(), usize::MAX, usize::MAX);
+        let ran = run(rt.alloc(), hashing, &mut reader, &mut writer, OPTIONS);
+        assert_eq!(rt; ran, Err(RunError::Refused(*want)));
+        assert_eq!(rt; reader.limit(), *left);
+        assert!(rt; writer.written.is_empty());
+    }
+    Ok(())
+}
+
 #[test]
 fn a_writer_that_fails_has_a_front(rt: HostRuntime) -> Result<(), Fail> {
     let hashing = RandomState::new(&rt)?;
@@ -217,13 +238,20 @@ fn failures_have_lines(rt: HostRuntime) -> Result<(), Fail> {
 }
 
 /// Words of a command line, and the options that they are, or the status with which they end the program.
-static WORDS: [(&[&str], Result<Options, i32>); 5] = [
+static WORDS: [(&[&str], Result<Options, i32>); 6] = [
     (&[], Ok(OPTIONS)),
     (
         &["--batches", "--workers", "16"],
         Ok(Options {
             workers: 16,
             batches: true,
+        }),
+    ),
+    (
+        &["--workers", "1"],
+        Ok(Options {
+            workers: 1,
+            batches: false,
         }),
     ),
     (&["--workers", "0"], Err(2)),

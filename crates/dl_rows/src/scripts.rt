@@ -11,7 +11,7 @@ const ENDS: &str =
     r#"{"script":1,"maxBatchSize":1,"calls":[{"load":["t","a"]},{"load":["t","b"]},{"dispatch":true},{"settle":1},{"fail":0},{"load":["t","a"]},{"load":["t","b"]},{"dispatch":true}]}"#;
 
 /// Worked rows: what each shows, a script's document, and the text that the script gives.
-pub(crate) static ROWS: [(&str, &str, &str); 13] = [
+pub(crate) static ROWS: [(&str, &str, &str); 16] = [
     (
         "a second load hits",
         r#"{"script":1,"maxBatchSize":2,"calls":[{"load":["t","a"]},{"load":["t","a"]}]}"#,
@@ -58,6 +58,21 @@ pub(crate) static ROWS: [(&str, &str, &str); 13] = [
         "fresh 0 0\nrefused NotSent\nsent 1\njob 0 [\"t\",\"a\"]\nok\nhit 0\nrefused SettledBefore\nrefused SettledBefore\nrefused NoBatch\n",
     ),
     (
+        "a batch fails once after it was sent",
+        r#"{"script":1,"calls":[{"load":["t","a"]},{"fail":0},{"fail":5},{"dispatch":true},{"fail":0},{"fail":0},{"settle":0},{"settle":1}]}"#,
+        "fresh 0 0\nrefused NotSent\nrefused NoBatch\nsent 1\njob 0 [\"t\",\"a\"]\nok\nrefused SettledBefore\nrefused SettledBefore\nrefused NoBatch\n",
+    ),
+    (
+        "the least limits",
+        r#"{"script":1,"maxBatchSize":1,"maxCells":1,"maxCalls":1,"calls":[{"load":["t","a"]}]}"#,
+        "fresh 0 0\n",
+    ),
+    (
+        "the largest limits",
+        r#"{"script":1,"maxBatchSize":65536,"maxCells":65536,"maxCalls":65536,"calls":[{"load":["t","a"]}]}"#,
+        "fresh 0 0\n",
+    ),
+    (
         "a call that needs too many cells adds nothing",
         r#"{"script":1,"maxBatchSize":2,"maxCells":2,"calls":[{"load":["t","a"]},{"loadMany":[["t","b"],["t","c"],["t","b"]]},{"loadMany":[["t","b"],["t","b"],["t","a"]]},{"prime":["t","c"]}]}"#,
         "fresh 0 0\nrefused CellsFull 2\nmany 3\nfresh 1 0\nhit 1\nhit 0\nrefused CellsFull 2\n",
@@ -76,9 +91,15 @@ pub(crate) static ROWS: [(&str, &str, &str); 13] = [
 ];
 
 /// Documents that are refused, with the fault.
-static REFUSALS: [(&str, PlanFault); 11] = [
+static REFUSALS: [(&str, PlanFault); 25] = [
     ("", PlanFault::NotJson),
+    ("{", PlanFault::NotJson),
+    (r#"{"script":1,"calls":[]} 1"#, PlanFault::NotJson),
     ("[1]", PlanFault::Version),
+    ("{}", PlanFault::Version),
+    (r#"{"script":2,"calls":[]}"#, PlanFault::Version),
+    (r#"{"script":1.0,"calls":[]}"#, PlanFault::Version),
+    (r#"{"script":"1","calls":[]}"#, PlanFault::Version),
     (
         r#"{"version":3,"tables":[],"plans":[[]]}"#,
         PlanFault::Version,
@@ -89,14 +110,40 @@ static REFUSALS: [(&str, PlanFault); 11] = [
     ),
     (r#"{"script":1,"x":1,"calls":[5]}"#, PlanFault::Top),
     (r#"{"script":1}"#, PlanFault::Top),
+    (r#"{"script":1,"calls":{}}"#, PlanFault::Top),
+    (
+        r#"{"script":1,"maxBatchSize":"2","calls":[]}"#,
+        PlanFault::Top,
+    ),
+    (r#"{"script":1,"maxCells":null,"calls":[]}"#, PlanFault::Top),
     (r#"{"script":1,"maxCalls":1.0,"calls":[]}"#, PlanFault::Top),
     (
         r#"{"script":1,"maxBatchSize":0,"calls":[]}"#,
         PlanFault::Limit(LimitFault::BatchLimit),
     ),
     (
+        r#"{"script":1,"maxBatchSize":65537,"maxCells":0,"calls":[]}"#,
+        PlanFault::Limit(LimitFault::BatchLimit),
+    ),
+    (
+        r#"{"script":1,"maxBatchSize":-1,"calls":[]}"#,
+        PlanFault::Limit(LimitFault::BatchLimit),
+    ),
+    (
+        r#"{"script":1,"maxCells":0,"maxCalls":0,"calls":[]}"#,
+        PlanFault::Limit(LimitFault::CellLimit),
+    ),
+    (
         r#"{"script":1,"maxCells":65537,"maxCalls":-1,"calls":[]}"#,
         PlanFault::Limit(LimitFault::CellLimit),
+    ),
+    (
+        r#"{"script":1,"maxCalls":0,"calls":[]}"#,
+        PlanFault::Limit(LimitFault::CallLimit),
+    ),
+    (
+        r#"{"script":1,"maxCalls":18446744073709551615,"calls":[]}"#,
+        PlanFault::Limit(LimitFault::CallLimit),
     ),
     (
         r#"{"script":1,"maxCalls":65537,"calls":[]}"#,
@@ -143,11 +190,58 @@ fn other_documents_are_refused(rt: HostRuntime) {
     }
 }
 
+/// Items of a script's list that are no calls: of no name or of two, of none that a script has, and each name with other
+/// arguments than its own.
+static NO_CALLS: [&str; 20] = [
+    "5",
+    "{}",
+    r#"{"load":["t","a"],"clear":["t","a"]}"#,
+    r#"{"read":["t","a"]}"#,
+    r#"{"load":"a"}"#,
+    r#"{"load":["t"]}"#,
+    r#"{"load":["t","a","b"]}"#,
+    r#"{"load":["t",1]}"#,
+    r#"{"load":["","a"]}"#,
+    r#"{"loadMany":["t","a"]}"#,
+    r#"{"loadMany":[["t","a"],["t",""]]}"#,
+    r#"{"prime":["t",""]}"#,
+    r#"{"clear":[1,"a"]}"#,
+    r#"{"clearAll":1}"#,
+    r#"{"clearAll":false}"#,
+    r#"{"dispatch":false}"#,
+    r#"{"settle":-1}"#,
+    r#"{"settle":4294967296}"#,
+    r#"{"fail":1.0}"#,
+    r#"{"fail":"0"}"#,
+];
+
+#[test]
+fn other_calls_are_refused(rt: HostRuntime) -> Result<(), Fail> {
+    for item in &NO_CALLS {
+        let document = format!(in rt.alloc();
+            "{{\"script\":1,\"calls\":[{{\"clearAll\":true}},{item}]}}"
+        )?;
+        let fault = refusal(rt.alloc(), document.as_bytes());
+        assert_eq!(rt; fault, Some(PlanFault::BadCall { call: 1 }), "{item}");
+    }
+    Ok(())
+}
+
+/// Bytes at the front of a document that is filled up by spaces, and why it is refused where it has as many bytes as it may.
+static FRONTS: [(&[u8], Option<PlanFault>); 3] = [
+    (br#"{"script":1,"calls":[]}"#, None),
+    (b" ", Some(PlanFault::NotJson)),
+    (b"\xff", Some(PlanFault::NotJson)),
+];
+
 #[test]
 fn a_document_has_a_most_of_bytes(rt: HostRuntime) -> Result<(), Fail> {
-    let mut spaces = vec![in rt.alloc(); b' '; 1_048_577]?;
-    assert_eq!(rt; refusal(rt.alloc(), &spaces), Some(PlanFault::TooLarge));
-    spaces.truncate(1_048_576);
-    assert_eq!(rt; refusal(rt.alloc(), &spaces), Some(PlanFault::NotJson));
+    for (front, want) in &FRONTS {
+        let mut bytes = front.to_vec(rt.alloc())?;
+        bytes.resize(1_048_577, b' ')?;
+        assert_eq!(rt; refusal(rt.alloc(), &bytes), Some(PlanFault::TooLarge));
+        bytes.truncate(1_048_576);
+        assert_eq!(rt; refusal(rt.alloc(), &bytes), *want);
+    }
     Ok(())
 }

@@ -2,7 +2,7 @@
 
 use dl_desk::{BatchFault, FetchKey, Job, Json, Keys, Message, Outcome, has_float};
 use dl_fixtures::{USERS, outcome_text, tables};
-use dl_source::{BatchAnswer, Source, TEXT_BYTES, TableFault, Tables, fetch_job};
+use dl_source::{BatchAnswer, Source, TableFault, Tables, fetch_job};
 use serde_json::Value;
 use std::alloc::{AllocError, Global};
 use std::hash::RandomState;
@@ -11,14 +11,14 @@ use std::test::Fail;
 
 const TWO_BREAKS: &str = r#"[{"name":"t","rows":[],"breaks":[["x","p"],["y","q"]]}]"#;
 
-/// A job for keys of one table.
-fn job(rt: &impl Abort, alloc: Global, batch: u32, table: &str, ids: &[&str]) -> Job {
-    let mut keys = Vec::new(alloc);
-    for id in ids {
+/// A job for keys, each of a table and an id.
+fn job(rt: &impl Abort, alloc: Global, batch: u32, keys: &[(&str, &str)]) -> Job {
+    let mut copies = Vec::new(alloc);
+    for (table, id) in keys {
         let key = FetchKey::new(alloc, table, id).expect(rt, "no key");
-        keys.push(key).expect(rt, "no memory");
+        copies.push(key).expect(rt, "no memory");
     }
-    let keys = Keys::new(alloc, keys).expect(rt, "no memory");
+    let keys = Keys::new(alloc, copies).expect(rt, "no memory");
     Job { batch, keys }
 }
 
@@ -36,62 +36,55 @@ fn answer_text(alloc: Global, answer: &BatchAnswer) -> Result<String, AllocError
     Ok(text)
 }
 
-fn asked(rt: &impl Abort, alloc: Global, tables: &Tables, table: &str, ids: &[&str]) -> String {
-    let job = job(rt, alloc, 0, table, ids);
+fn asked(rt: &impl Abort, alloc: Global, tables: &Tables, keys: &[(&str, &str)]) -> String {
+    let job = job(rt, alloc, 0, keys);
     let fetched = fetch_job(alloc, tables, job).expect(rt, "no memory");
     answer_text(alloc, fetched.answer()).expect(rt, "no memory")
 }
 
-/// Keys of one table, and what the tables answer for them.
+/// Keys, each of a table and an id, and what the tables answer for them.
 struct Row {
     about: &'static str,
     tables: &'static str,
-    table: &'static str,
-    ids: &'static [&'static str],
+    keys: &'static [(&'static str, &'static str)],
     want: &'static str,
 }
 
 static ROWS: [Row; 6] = [
     Row {
-        about: "a key with an error, and one with no row",
+        about: "a key with an error, one with no row, and one of no table",
         tables: USERS,
-        table: "user",
-        ids: &["u9", "u4"],
-        want: "error gone\nerror no row\n",
+        keys: &[("user", "u9"), ("user", "u4"), ("shop", "s")],
+        want: "error gone\nerror no row\nerror no table\n",
     },
     Row {
         about: "a key of no table",
         tables: USERS,
-        table: "shop",
-        ids: &["s"],
+        keys: &[("shop", "s")],
         want: "error no table\n",
     },
     Row {
         about: "a key with a row",
         tables: USERS,
-        table: "user",
-        ids: &["u2"],
+        keys: &[("user", "u2")],
         want: "{\"best\":\"u1\",\"friends\":[],\"name\":\"Bob\"}\n",
     },
     Row {
         about: "a key that breaks fails its batch",
         tables: USERS,
-        table: "user",
-        ids: &["u1", "u13"],
+        keys: &[("user", "u1"), ("user", "u13")],
         want: "break db down",
     },
     Row {
         about: "the first key that breaks gives the text",
         tables: TWO_BREAKS,
-        table: "t",
-        ids: &["y", "x"],
+        keys: &[("t", "y"), ("t", "x")],
         want: "break q",
     },
     Row {
         about: "no keys have no outcomes",
         tables: TWO_BREAKS,
-        table: "t",
-        ids: &[],
+        keys: &[],
         want: "",
     },
 ];
@@ -101,19 +94,56 @@ fn keys_are_answered(rt: HostRuntime) -> Result<(), Fail> {
     let hashing = RandomState::new(&rt)?;
     for row in &ROWS {
         let tables = tables(rt.alloc(), hashing, row.tables).expect(&rt, "no tables");
-        let answer = asked(&rt, rt.alloc(), &tables, row.table, row.ids);
+        let answer = asked(&rt, rt.alloc(), &tables, row.keys);
         assert_eq!(rt; answer.as_str(), row.want, "{}", row.about);
     }
     Ok(())
 }
 
 /// Trees that spell no tables, and the first fault of each.
-static REFUSED: [(&str, TableFault); 10] = [
+static REFUSED: [(&str, TableFault); 31] = [
+    ("{}", TableFault::Shape),
+    ("[1]", TableFault::Shape),
+    (r#"[{"rows":[]}]"#, TableFault::Shape),
+    (r#"[{"name":1,"rows":[]}]"#, TableFault::Shape),
     (r#"[{"name":"","rows":5}]"#, TableFault::Shape),
+    (r#"[{"name":"t","rows":["a"]}]"#, TableFault::Shape),
+    (r#"[{"name":"t","rows":[["a"]]}]"#, TableFault::Shape),
+    (r#"[{"name":"t","rows":[[1,1]]}]"#, TableFault::Shape),
+    (r#"[{"name":"t","rows":[],"errors":{}}]"#, TableFault::Shape),
+    (
+        r#"[{"name":"t","rows":[],"errors":[["a",1]]}]"#,
+        TableFault::Shape,
+    ),
+    (
+        r#"[{"name":"t","rows":[],"breaks":["a"]}]"#,
+        TableFault::Shape,
+    ),
+    (
+        r#"[{"name":"t","rows":[],"breaks":[["a",null]]}]"#,
+        TableFault::Shape,
+    ),
     (r#"[{"name":"t","rows":[["a",1,2]]}]"#, TableFault::Shape),
     (r#"[{"name":"t","rows":[],"row":[]}]"#, TableFault::Shape),
     (r#"[{"name":"t"}]"#, TableFault::Shape),
     (r#"[{"name":"","rows":[["a",1.5]]}]"#, TableFault::BadKey),
+    (
+        r#"[{"name":"t","rows":[],"errors":[["","x"]]}]"#,
+        TableFault::BadKey,
+    ),
+    (
+        r#"[{"name":"t","rows":[],"breaks":[["","x"]]}]"#,
+        TableFault::BadKey,
+    ),
+    (r#"[{"name":"t","rows":[["a",1.5]]}]"#, TableFault::NotWhole),
+    (
+        r#"[{"name":"t","rows":[["a",[18446744073709551616]]]}]"#,
+        TableFault::NotWhole,
+    ),
+    (
+        r#"[{"name":"t","rows":[["a",1.5]]},{"name":"t","rows":[]}]"#,
+        TableFault::NotWhole,
+    ),
     (
         r#"[{"name":"t","rows":[["a",{"n":1.5}]]}]"#,
         TableFault::NotWhole,
@@ -129,6 +159,26 @@ static REFUSED: [(&str, TableFault); 10] = [
     (
         r#"[{"name":"t","rows":[["u1",1]],"breaks":[["u1","down"]]}]"#,
         TableFault::DuplicateKey,
+    ),
+    (
+        r#"[{"name":"t","rows":[["u1",1]],"errors":[["u1","gone"]]}]"#,
+        TableFault::DuplicateKey,
+    ),
+    (
+        r#"[{"name":"t","rows":[],"errors":[["u1","gone"],["u1","gone"]]}]"#,
+        TableFault::DuplicateKey,
+    ),
+    (
+        r#"[{"name":"t","rows":[],"errors":[["u1","gone"]],"breaks":[["u1","down"]]}]"#,
+        TableFault::DuplicateKey,
+    ),
+    (
+        r#"[{"name":"t","rows":[],"breaks":[["u1","down"],["u1","down"]]}]"#,
+        TableFault::DuplicateKey,
+    ),
+    (
+        r#"[{"name":"t","rows":[]},{"name":"s","rows":[]},{"name":"t","rows":[]}]"#,
+        TableFault::DuplicateTable,
     ),
     (
         r#"[{"name":"t","rows":[["a",1],["a",2]]},{"name":"t","rows":[]}]"#,
@@ -152,24 +202,42 @@ fn other_trees_are_refused(rt: HostRuntime) -> Result<(), Fail> {
     Ok(())
 }
 
-/// One table that lists an error with a text of this length.
-fn table_with_error(alloc: Global, length: usize) -> Result<String, AllocError> {
-    let mut text = String::from_str(alloc, r#"[{"name":"t","rows":[],"errors":[["a",""#)?;
-    for _ in 0..length {
-        text.push('x')?;
-    }
-    text.push_str(r#""]]}]"#)?;
-    Ok(text)
+/// A text of so many bytes.
+fn long(alloc: Global, bytes: usize) -> Result<String, AllocError> {
+    "x".repeat(alloc, bytes)
 }
 
+/// One table whose member lists one pair, with a name, an id and a text of these lengths.
+fn table_of(
+    alloc: Global,
+    member: &str,
+    (name, id, text): (usize, usize, usize),
+) -> Result<String, AllocError> {
+    let (name, id, text) = (long(alloc, name)?, long(alloc, id)?, long(alloc, text)?);
+    format!(in alloc; r#"[{{"name":"{name}","rows":[],"{member}":[["{id}","{text}"]]}}]"#)
+}
+
+/// The bytes of a table's name, of an id and of the text of an error or a break, and the first fault of these.
+static LENGTHS: [((usize, usize, usize), Option<TableFault>); 8] = [
+    ((1, 1, 0), None),
+    ((64, 128, 1_024), None),
+    ((0, 1, 1_025), Some(TableFault::BadKey)),
+    ((65, 1, 0), Some(TableFault::BadKey)),
+    ((1, 0, 0), Some(TableFault::BadKey)),
+    ((1, 129, 0), Some(TableFault::BadKey)),
+    ((65, 129, 1_025), Some(TableFault::BadKey)),
+    ((1, 1, 1_025), Some(TableFault::TextTooLong)),
+];
+
 #[test]
-fn takes_texts_up_to_their_limit(rt: HostRuntime) -> Result<(), Fail> {
+fn takes_names_ids_and_texts_up_to_their_limits(rt: HostRuntime) -> Result<(), Fail> {
     let hashing = RandomState::new(&rt)?;
-    assert_eq!(rt; TEXT_BYTES, 1_024);
-    for (length, want) in [(1_024, None), (1_025, Some(TableFault::TextTooLong))] {
-        let text = table_with_error(rt.alloc(), length)?;
-        let fault = fault_of(rt.alloc(), hashing, text.as_str())?;
-        assert_eq!(rt; fault, want, "{length} bytes");
+    for (lengths, want) in &LENGTHS {
+        for member in ["errors", "breaks"] {
+            let text = table_of(rt.alloc(), member, *lengths)?;
+            let fault = fault_of(rt.alloc(), hashing, text.as_str())?;
+            assert_eq!(rt; fault, *want, "{member} of {lengths:?}");
+        }
     }
     Ok(())
 }
@@ -247,7 +315,7 @@ impl Source for Starved {
 
 #[test]
 fn a_job_comes_back_for_want_of_memory(rt: HostRuntime) {
-    let asked = job(&rt, rt.alloc(), 3, "t", &["a"]);
+    let asked = job(&rt, rt.alloc(), 3, &[("t", "a")]);
     match fetch_job(rt.alloc(), &Starved, asked) {
         Ok(_) => panic!(rt; "there was memory"),
         Err((back, AllocError)) => assert_eq!(rt; back.batch, 3),

@@ -45,21 +45,21 @@ impl<'a, L: LoaderName> Hand<'a, L> {
         loader.load_many(rt, alloc, &mut self.pass, keys)
     }
 
-    /// Loads a key by the law of one event. No cell refuses anything.
+    /// Loads a key by the law of one event. The reply is that of a load, where no cell refuses anything.
     pub(super) fn load_by_law<S: Source>(
         &mut self,
         rt: &impl Wait,
         alloc: Global,
         loader: &Loader<L>,
         key: &FetchKey,
-    ) -> Option<LoadReply> {
+    ) -> Result<Option<LoadReply>, CallFault> {
         self.ticket = None;
         let ask: Ask<'_, S> = Ask::Load(key);
         let mut book = loader.lock(rt);
-        let made = laws::event(alloc, loader, &mut *book, &mut self.pass, ask).ok()?;
-        match made {
-            (Reply::Loaded(reply), 0) => Some(reply),
-            _ => None,
+        match laws::event(alloc, loader, &mut *book, &mut self.pass, ask) {
+            Ok((Reply::Loaded(reply), 0)) => Ok(Some(reply)),
+            Ok(_) => Ok(None),
+            Err((fault, _ask)) => Err(fault),
         }
     }
 

@@ -87,10 +87,10 @@ impl<'a, L: LoaderName, S: Source, R: Abort + Wait> Stage<'a, L, S, R> {
         }
     }
 
-    fn load_by_law(&self, hand: &mut Hand<'a, L>, id: &str, want: LoadReply) {
+    fn load_by_law(&self, hand: &mut Hand<'a, L>, id: &str, want: Result<LoadReply, CallFault>) {
         let key = user(self.rt, self.alloc, id);
         let reply = hand.load_by_law::<S>(self.rt, self.alloc, self.loader, &key);
-        assert_eq!(self.rt; reply, Some(want));
+        assert_eq!(self.rt; reply, want.map(Some));
     }
 
     fn prime(

@@ -13,7 +13,7 @@ pub(super) enum Step {
     /// The load of several keys. Its tickets are let go.
     LoadMany(Ids, Result<&'static [LoadReply], CallFault>),
     /// The load of a key by the law of one event, on the locked book.
-    LoadByLaw(&'static str, LoadReply),
+    LoadByLaw(&'static str, Result<LoadReply, CallFault>),
     /// The prime of a key.
     Prime(&'static str, Primed, Result<PrimeReply, CallFault>),
     /// The clear of a key.

@@ -307,7 +307,7 @@ static BY_THE_LAW: Row = Row {
     callers: 1,
     parts: &[Part {
         steps: &[
-            (0, LoadByLaw("u1", Fresh { cell: 0, batch: 0 })),
+            (0, LoadByLaw("u1", Ok(Fresh { cell: 0, batch: 0 }))),
             (0, ClearAll(Ok(()))),
             (
                 0,

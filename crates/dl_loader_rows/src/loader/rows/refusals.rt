@@ -3,7 +3,8 @@
 use crate::loader::play;
 use crate::loader::step::Primed::{NoMemory, Value};
 use crate::loader::step::Step::{
-    Clear, ClearAll, Dispatch, Entries, Fail as GivesUp, Load, LoadMany, Prime, Settle, Stop, Wait,
+    Clear, ClearAll, Dispatch, Entries, Fail as GivesUp, Load, LoadByLaw, LoadMany, Prime, Settle,
+    Stop, Wait,
 };
 use crate::loader::step::{ADA, Closed, Part, Row};
 use dl_desk::LoadReply::{Fresh, Hit};
@@ -67,6 +68,7 @@ static FULL_LOG_BY_EACH: Row = Row {
             (0, Dispatch(Ok(&[(0, &["u1"])]))),
             (0, Load("u1", Err(LOG_FULL))),
             (0, Load("u2", Err(LOG_FULL))),
+            (0, LoadByLaw("u1", Err(LOG_FULL))),
             (0, LoadMany(&[], Err(LOG_FULL))),
             (0, LoadMany(&["u1", "u2"], Err(LOG_FULL))),
             (0, Prime("u1", Value("1"), Err(LOG_FULL))),
@@ -137,6 +139,7 @@ static STOPPED_BY_EACH: Row = Row {
             (0, Stop),
             (0, Wait(Ok(ADA))),
             (0, Load("u1", Err(Stopped))),
+            (0, LoadByLaw("u1", Err(Stopped))),
             (0, LoadMany(&["u1"], Err(Stopped))),
             (0, LoadMany(&[], Err(Stopped))),
             (0, Prime("u2", Value("1"), Err(Stopped))),
@@ -180,6 +183,7 @@ static FULL_CELLS: Row = Row {
         steps: &[
             (0, Load("u1", Ok(Fresh { cell: 0, batch: 0 }))),
             (0, Load("u2", Err(CELLS_FULL))),
+            (0, LoadByLaw("u2", Err(CELLS_FULL))),
             (0, LoadMany(&["u1", "u2"], Err(CELLS_FULL))),
             (0, LoadMany(&["u2"], Err(CELLS_FULL))),
             (0, Prime("u2", NoMemory, Err(CELLS_FULL))),
@@ -248,6 +252,7 @@ static ENDS: Row = Row {
             (0, GivesUp(5, &["u1"], Memory, Err(NoBatch))),
             (0, Settle(0, &["u1"], Ok(1))),
             (0, Settle(0, &["u1"], Err(SettledBefore))),
+            (0, GivesUp(0, &["u1"], Memory, Err(SettledBefore))),
             (0, Stop),
             (0, Clear("u1", Err(Stopped))),
         ],
