@@ -273,7 +273,8 @@ few_step xs b e = ap (λ t. if t then Targets.none why.TooMany else Targets.keys
 pub too_many : (table : Name) (o : Option Items) (vs : List Value) → Some (items_view vs) ≡ o → most_items < length vs
     → list_targets table o ≡ Targets.none why.TooMany
 too_many table o vs e many =
-    ap (list_targets table) (sym e) ∙ few_step (item_targets table (items_view vs)) true (ap (nat_lt most_items) (items-long table vs) ∙ lt-ltb most_items (length vs) many)
+    ap (list_targets table) (sym e) ∙ few_step (item_targets table (items_view vs)) true
+    (ap (nat_lt most_items) (items-long table vs) ∙ lt-ltb most_items (length vs) many)
 
 pub not_many : (table : Name) (o : Option Items) (vs : List Value) → Some (items_view vs) ≡ o → length vs ≤ most_items
     → list_targets table o ≡ Targets.keys (item_targets table (items_view vs))

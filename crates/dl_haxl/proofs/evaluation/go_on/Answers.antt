@@ -27,7 +27,8 @@ pub returns-in-Ready-Ok-clause-rounds : goal.returns-in-Ready-Ok-clause-rounds
 returns-in-Ready-Ok-clause-rounds g c = λ t is.
     let caller = c.args.pass.now.part.caller in
     let stretch = c.loop.invariant.stretch t is in
-    rounds_within (g.O.Outlet.jobs_end caller) caller t c.gives_by_depth.ensures c.loop.rounds stretch.2.1 (with_supplied (seen c.loop.run)) stretch.0 stretch.2.3
+    rounds_within (g.O.Outlet.jobs_end caller) caller t c.gives_by_depth.ensures c.loop.rounds stretch.2.1
+    (with_supplied (seen c.loop.run)) stretch.0 stretch.2.3
 
 pub returns-in_err-tickets-clause-sent : goal.returns-in_err-tickets-clause-sent
 returns-in_err-tickets-clause-sent g c =

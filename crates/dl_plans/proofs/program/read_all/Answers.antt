@@ -18,5 +18,5 @@ returns-clause-bytes g c =
 pub returns-in_err-map_err-in-Ok-clause-reads : goal.returns-in_err-map_err-in-Ok-clause-reads
 returns-in_err-map_err-in-Ok-clause-reads g c =
     let fits : length c.reads.bytes.items + length c.read.new.buf ≤ MOST_READ = omega (arith, length-take {A = ℕ} c.min-room.result c.reads.buffer) in
-    reads_more (g.R.Read.remaining c.args.reader.now) (g.R.Read.remaining c.reads.reader) (g.R.Read.remaining c.read.new.self) c.reads.bytes.items c.read.new.buf
-    MOST_READ c.in-Ok.count fits c.reads.invariant.consumed c.in-Ok.ensures.bytes.0
+    reads_more (g.R.Read.remaining c.args.reader.now) (g.R.Read.remaining c.reads.reader) (g.R.Read.remaining c.read.new.self)
+    c.reads.bytes.items c.read.new.buf MOST_READ c.in-Ok.count fits c.reads.invariant.consumed c.in-Ok.ensures.bytes.0
