@@ -147,10 +147,8 @@ impl<L: LoaderName + Send + Sync, S: Source> Stage<'_, L, S> {
                 ensures { All (IsSenderOf queue.entry.now) result.seats.items × (length result.seats.items ≡ 1) }
             { send_and_wait(rt, alloc, loader, queue, loads, caller) },
             move || -> Worker<L>
-                requires {
-                    Answers (S.answer self.now.source.now) L.service
-                    × All (IsTakerOf self.now.queue.now) worker.seats.items × (length worker.seats.items ≡ 1)
-                }
+                requires { Answers (S.answer self.now.source.now) L.service
+                    × All (IsTakerOf self.now.queue.now) worker.seats.items × (length worker.seats.items ≡ 1) }
                 ensures { All (IsTakerOf self.entry.now.queue.now) result.seats.items × (length result.seats.items ≡ 1) }
             { self.work(rt, worker) },
         )

@@ -24,12 +24,20 @@ join-requires-send-F g c κs within =
     let n = g.L.LoaderName in
     let l = g.L.Ledger in
     let Ts = ShrRef _ _ (param 2 g.row.R) ∷ Heap.the_row ∷ ShrRef _ _ (Loader.the_row L n l) ∷ ShrRef _ _ JobQueue.the_row ∷ ShrRef _ _ Loads.the_row
-        ∷ Caller.the_row L n l ∷ [] in
+    ∷ Caller.the_row L n l ∷ [] in
     param_send
     1 _ (arg_send
     _ yes
     (TupleAt
     _ Ts)
     (captures_send
-    _ Ts (shr_send _ _ _ c.type_bounds.sync-R, (send, (shr_send _ _ _ (Loader-sync L n l),
-    (shr_send _ _ _ queue.the_sync, (shr_send _ _ _ loads.the_sync, (caller.the_send L n l, tt))))))))
+    _ Ts (
+      shr_send _ _ _ c.type_bounds.sync-R,
+      (
+        send,
+        (
+          shr_send _ _ _ (Loader-sync L n l),
+          (shr_send _ _ _ queue.the_sync, (shr_send _ _ _ loads.the_sync, (caller.the_send L n l, tt))),
+        ),
+      ),
+    )))
