@@ -44,9 +44,7 @@ pub fn explore(
     if stays(node) {
         return Ok(());
     }
-    let next = advance(alloc, mem::replace(node, HOLLOW), known, wanted)?;
-    // An assignment would spell out here how each form of the old node is let go.
-    drop(mem::replace(node, next));
+    rewrite(alloc, node, known, wanted)?;
     Ok(())
 }
 
@@ -72,6 +70,7 @@ fn explore_parts(
 }
 
 #[cycle(exploring)]
+#[inline(never)]
 fn explore_all(
     alloc: Global,
     parts: &mut Vec<Node>,
@@ -100,6 +99,25 @@ fn stays(node: &Node) -> bool
         }
         Node::All(parts) => !have_ended(parts.as_slice()),
     }
+}
+
+/// Puts what comes of a node whose parts were explored into its place. Most looks at a node don't come here, so they don't
+/// pay for the room that the old node and the new one take.
+#[inline(never)]
+fn rewrite(
+    alloc: Global,
+    node: &mut Node,
+    known: &Known<'_>,
+    wanted: &mut Wanted,
+) -> Result<(), AllocError>
+    ensures stands { OnOk result (GoesOn (known_of known.now) (node_view node.old) (node_view node.new)) }
+    ensures wanted { OnOk result (wanted.new.keys
+        ≡ insert_all key_eq wanted.old.keys (own_waits (known_of known.now) (node_view node.old))) }
+{
+    let next = advance(alloc, mem::replace(node, HOLLOW), known, wanted)?;
+    // An assignment would spell out here how each form of the old node is let go.
+    drop(mem::replace(node, next));
+    Ok(())
 }
 
 /// What comes of a node whose parts were explored.

@@ -6,7 +6,7 @@ use Rattle.dl_desk.specs.Key.{key_eq}
 use Rattle.dl_terms.specs.Gives.{waits, all_wait}
 use Rattle.dl_terms.specs.Node.{node_view, nodes_view}
 use Rattle.dl_terms.specs.Reduces.{known_of, Reduces}
-use Rattle.dl_terms.specs.Inside.Exploring.{GoesOn, own_waits, parts_wait, stays}
+use Rattle.dl_terms.specs.Inside.Exploring.{own_waits, parts_wait, stays}
 use Rattle.dl_terms.proofs.Views.{node_view-Pick, node_view-Follow, node_view-Each}
 use Rattle.dl_terms.proofs.Reduced.{parts_go_on, pick_left, follow_left, each_left, adds_all, stays_on, waits_no_more, nodes_reduce, zip_next, wanted_next}
 use Rattle.dl_terms.proofs.exploring.+exploring.Goals as goal
@@ -31,22 +31,16 @@ explore-returns-then-stays-clause-wanted t c =
 pub explore-returns-clause-reduces : goal.explore-returns-clause-reduces
 explore-returns-clause-reduces t c =
     let p = known_of c.args.known.now in
-    let before = node_view c.args.node.now in
-    let parts = c.explore_parts.new.node in
-    let next = node_view c.in_ok-next.next in
-    let on : GoesOn p (node_view parts) next = subst (λ n. GoesOn p (node_view n) next) c.replace.ensures.value c.in_ok-next.ensures.stands in
-    subst (λ n. Reduces p before (node_view n)) (sym c.replace-2.ensures.after)
-    (parts_go_on p before (node_view parts) next c.in_ok-explore_parts.ensures.reduce on)
+    parts_go_on p (node_view c.args.node.now) (node_view c.explore_parts.new.node) (node_view c.rewrite.new.node) c.in_ok-explore_parts.ensures.reduce
+    c.in_ok-rewrite.ensures.stands
 
 pub explore-returns-clause-wanted : goal.explore-returns-clause-wanted
 explore-returns-clause-wanted t c =
     let p = known_of c.args.known.now in
-    let parts = c.explore_parts.new.node in
-    let keys = c.explore_parts.new.wanted.keys in
-    c.in_ok-next.ensures.wanted
-    ∙ (ap (λ n. insert_all key_eq keys (own_waits p (node_view n))) c.replace.ensures.value
-    ∙ (ap (λ ks. insert_all key_eq ks (own_waits p (node_view parts))) c.in_ok-explore_parts.ensures.wanted
-    ∙ adds_all p (node_view c.args.node.now) (node_view parts) c.args.wanted.now.keys c.in_ok-explore_parts.ensures.reduce))
+    let v = node_view c.explore_parts.new.node in
+    c.in_ok-rewrite.ensures.wanted
+    ∙ (ap (λ ks. insert_all key_eq ks (own_waits p v)) c.in_ok-explore_parts.ensures.wanted
+    ∙ adds_all p (node_view c.args.node.now) v c.args.wanted.now.keys c.in_ok-explore_parts.ensures.reduce)
 
 pub explore_parts-returns-in-Pick-clause-reduce : goal.explore_parts-returns-in-Pick-clause-reduce
 unfolding Rattle.dl_terms.specs.declared.node.Node.TheViews.out-Node denote.Hole.Carrier.out
