@@ -1,6 +1,7 @@
 //! A source that answers every key alike.
 
-use dl_desk::{FetchKey, Json, Outcome, Outcomes};
+use anyhow::{Result, bail};
+use dl_desk::{FetchKey, Json, Outcome, Outcomes, has_float};
 use dl_source::{BatchAnswer, Source};
 use serde_json::Value;
 use std::alloc::{AllocError, Global};
@@ -15,6 +16,16 @@ impl Alike {
     /// The source that answers `null`. The error is want of memory.
     pub fn null(alloc: Global) -> Result<Alike, AllocError> {
         let value = Json::new(alloc, Value::Null)?;
+        Ok(Alike { value })
+    }
+
+    /// The source that answers a row whose field `next` is the id `1`.
+    pub fn row(alloc: Global) -> Result<Alike> {
+        let value = Value::from_str(alloc, r#"{"next":"1"}"#)?;
+        if has_float(&value) {
+            bail!("a row with a fraction");
+        }
+        let value = Json::new(alloc, value)?;
         Ok(Alike { value })
     }
 }

@@ -18,6 +18,8 @@ pub enum Workload {
     Tables,
     /// Calls of a shared loader.
     Shared(Callers),
+    /// Evaluates a term over a shared loader.
+    Term,
 }
 
 /// The ids of keys that are loaded one by one.
@@ -52,7 +54,7 @@ pub enum Callers {
 }
 
 /// The word that asks for each workload, and the most keys of its batches, where the words don't say it.
-const WORKLOADS: [(&str, Option<u32>, Workload); 11] = [
+const WORKLOADS: [(&str, Option<u32>, Workload); 12] = [
     ("loads", None, Workload::OneByOne(Ids::Short)),
     ("hostile", Some(64), Workload::OneByOne(Ids::Hostile)),
     ("harmless", Some(64), Workload::OneByOne(Ids::Harmless)),
@@ -64,6 +66,7 @@ const WORKLOADS: [(&str, Option<u32>, Workload); 11] = [
     ("tables", None, Workload::Tables),
     ("loader", None, Workload::Shared(Callers::One)),
     ("threads", None, Workload::Shared(Callers::Threads)),
+    ("terms", Some(64), Workload::Term),
 ];
 
 /// A workload and its size.
@@ -78,7 +81,7 @@ pub struct Command {
 /// Why words are no command.
 #[derive(Debug, Drop, Error)]
 pub enum CommandFault {
-    #[error("usage: dl_bench loads|many|rounds|tables|loader N B, dl_bench hostile|harmless|hits|clears|script N, or dl_bench threads N C")]
+    #[error("usage: dl_bench loads|many|rounds|tables|loader N B, dl_bench hostile|harmless|hits|clears|script|terms N, or dl_bench threads N C")]
     Usage,
     #[error("N, B and C are numbers from 1 to 65536, the largest limit of a loader")]
     Size,

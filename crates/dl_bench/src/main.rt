@@ -10,6 +10,7 @@ mod desk;
 mod documents;
 mod keys;
 mod shared;
+mod terms;
 
 use crate::command::{Command, Workload};
 use crate::counts::Counts;
@@ -44,6 +45,7 @@ fn run<R: RandomSource + Threads + Wait + Sync>(
         Workload::Shared(callers) => {
             shared::on_loader(rt, alloc, hashing, counts, callers, keys, most)
         }
+        Workload::Term => terms::evaluated(rt, alloc, hashing, counts, keys, most),
     }
 }
 

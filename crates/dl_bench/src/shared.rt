@@ -76,7 +76,7 @@ fn each_call<L: LoaderName + Send + Sync, S: Source, R: Threads + Wait + Sync>(
 }
 
 /// Closes a loader, and counts what its callers did, and what the first of them read.
-fn close<L: LoaderName>(
+pub fn close<L: LoaderName>(
     alloc: Global,
     loader: Loader<L>,
     passes: Vec<Pass<L>>,

@@ -1,7 +1,7 @@
 -- What a round makes of each form stands for it.
 use Rattle.std.proofs.Common.{◌≡◌, ◌∙◌, ap, sym, subst, refl, ℕ, suc, ◌+◌, ◌<◌, ◌≤◌, Bool, true, false, nat_lt, if◌then◌else◌, List, [], ◌∷◌, ◌++◌, take}
 use Rattle.std.proofs.Common.{drop, length, get_or, Option, Some, None, Result, Ok, Err}
-use Rattle.std.specs.Prelude.{MatchOption, OnOk}
+use Rattle.std.specs.Prelude.{MatchOption, OnOk, is_none}
 use Rattle.std.specs.Option.{option_map, option_and_then}
 use Rattle.std.specs.List.{AllZip}
 use Rattle.std.proofs.lemmas.List.{take_more, drop_more}
@@ -25,7 +25,7 @@ use Rattle.dl_terms.specs.Gives.{answer, answers, waits, all_wait, most_items}
 use Rattle.dl_terms.specs.Node.{node_view, nodes_view, result_of, results_of}
 use Rattle.dl_terms.specs.Reduces.{Stands, Reduces}
 use Rattle.dl_terms.specs.Inside.Exploring.{StandAll, ReduceAll, LoadsTarget, LoadsEach, LoadsTargets, PicksOn, FollowsOn, EachOn, GathersOn}
-use Rattle.dl_terms.specs.Inside.Exploring.{PartsReduce, parts_wait, GoesOn, own_waits}
+use Rattle.dl_terms.specs.Inside.Exploring.{PartsReduce, parts_wait, GoesOn, own_waits, stays}
 use Rattle.dl_terms.proofs.Options.{none_absurd, some_same, from_both}
 
 pub result_is : (v : Tree) (a : Answer) → result_of v ≡ Some a → v ≡ ended a
@@ -101,10 +101,10 @@ module _ (p : Key → Option Outcome) where
           ending = s.ending ∙ ap (option_and_then (f p)) (sym e ∙ part.ending);
         }
 
-    stays : result_of v ≡ None → ((q : Key → Option Outcome) → answer q u ≡ option_and_then (f q) (answer q v))
+    waits_on : result_of v ≡ None → ((q : Key → Option Outcome) → answer q u ≡ option_and_then (f q) (answer q v))
         → ((q : Key → Option Outcome) → waits q u ≡ waits q v ++ waits_after (answer q v) (w q)) → result_of u ≡ None
         → Stands p (λ q. option_and_then (f q) (answer q t)) (λ q. waits q t ++ waits_after (answer q t) (w q)) u
-    stays e says lacks none = record {
+    waits_on e says lacks none = record {
       meaning = λ q more. says q ∙ ap (option_and_then (f q)) (part.meaning q more);
       waiting = λ q more. lacks q
           ∙ (ap (λ ks. ks ++ waits_after (answer q v) (w q)) (part.waiting q more)
@@ -115,7 +115,7 @@ module _ (p : Key → Option Outcome) where
   follow_on : (t v u : Tree) (field table : Name) (r : Option Answer) → result_of v ≡ r → Reduces p t v
       → MatchOption r (u ≡ follow v field table) (λ a. LoadsTarget p (target_in table (picked field a)) u) → Reduces p (follow t field table) u
   follow_on t v u field table None e part is =
-      stays t v u (λ q a. target_answer q (target_in table (picked field a))) (λ q a. target_waits q (target_in table (picked field a))) part e
+      waits_on t v u (λ q a. target_answer q (target_in table (picked field a))) (λ q a. target_waits q (target_in table (picked field a))) part e
       (λ q. ap (answer q) is) (λ q. ap (waits q) is) (ap result_of is)
   follow_on t v u field table (Some a) e part s =
       goes_on t v u (λ q b. target_answer q (target_in table (picked field b))) (λ q b. target_waits q (target_in table (picked field b))) part a e s
@@ -126,7 +126,7 @@ module _ (p : Key → Option Outcome) where
   each_goes : (t v u : Tree) (field table : Name) (r : Option Answer) → result_of v ≡ r → Reduces p t v
       → MatchOption r (u ≡ each v field table) (λ a. LoadsTargets p (targets_in table (picked field a)) u) → Reduces p (each t field table) u
   each_goes t v u field table None e part is =
-      stays t v u (λ q a. targets_answer q (targets_in table (picked field a))) (λ q a. targets_waits q (targets_in table (picked field a))) part e
+      waits_on t v u (λ q a. targets_answer q (targets_in table (picked field a))) (λ q a. targets_waits q (targets_in table (picked field a))) part e
       (λ q. ap (answer q) is) (λ q. ap (waits q) is) (ap result_of is)
   each_goes t v u field table (Some a) e part s =
       goes_on t v u (λ q b. targets_answer q (targets_in table (picked field b))) (λ q b. targets_waits q (targets_in table (picked field b))) part a e s
@@ -166,6 +166,34 @@ module _ (p : Key → Option Outcome) where
   parts_go_on (each t field table) v u part on = each_on t part.0 u field table part.1 (subst (λ w. GoesOn p w u) part.2 on)
   parts_go_on (all ts) v u parts on =
       gathers_on (λ q. answers q ts) (λ q. all_wait q ts) parts.0 u parts.1 (subst (λ w. GoesOn p w u) parts.2 on)
+
+  -- ---- a form that stays as it is
+
+  match_none : {A : Type 0} (o : Option A) (P : Type 0) (Q : A → Type 0) → is_none o ≡ true → P → MatchOption o P Q
+  match_none None P Q e h = h
+  match_none (Some a) P Q e h = absurd (let bad : false ≡ true = e in cc)
+
+  after_none : (o : Option Answer) (next : Answer → List Key) → is_none o ≡ true → waits_after o next ≡ []
+  after_none None next e = refl
+  after_none (Some a) next e = absurd (let bad : false ≡ true = e in cc)
+
+  pub stays_on : (v : Tree) → stays v ≡ true → GoesOn p v v
+  stays_on (ended a) e = refl
+  stays_on (load k) e = absurd (let bad : false ≡ true = e in cc)
+  stays_on (pick v field) e = match_none (result_of v) (pick v field ≡ pick v field) (λ a. pick v field ≡ ended (picked field a)) e refl
+  stays_on (follow v field table) e = match_none (result_of v) (follow v field table ≡ follow v field table)
+      (λ a. LoadsTarget p (target_in table (picked field a)) (follow v field table)) e refl
+  stays_on (each v field table) e = match_none (result_of v) (each v field table ≡ each v field table)
+      (λ a. LoadsTargets p (targets_in table (picked field a)) (each v field table)) e refl
+  stays_on (all vs) e = match_none (results_of vs) (all vs ≡ all vs) (λ ls. all vs ≡ ended (gathered ls)) e refl
+
+  pub waits_no_more : (v : Tree) → stays v ≡ true → own_waits p v ≡ []
+  waits_no_more (ended a) e = refl
+  waits_no_more (load k) e = absurd (let bad : false ≡ true = e in cc)
+  waits_no_more (pick v field) e = refl
+  waits_no_more (follow v field table) e = after_none (result_of v) (λ a. target_waits p (target_in table (picked field a))) e
+  waits_no_more (each v field table) e = after_none (result_of v) (λ a. targets_waits p (targets_in table (picked field a))) e
+  waits_no_more (all vs) e = refl
 
   -- a node whose part a round has explored in place
   module _ {X E : Type 0} (r : Result X E) (node after part now left : Node) (same : now ≡ part)

@@ -8,7 +8,7 @@ ghost use Rattle.indexmap.specs.IndexSet.{insert_all};
 ghost use Rattle.dl_terms.specs.Gives.{picked, gathered, waits, all_wait, waits_after, target_in, target_waits, targets_in, targets_waits};
 ghost use Rattle.dl_terms.specs.Node.{node_view, nodes_view, result_of, results_of};
 ghost use Rattle.dl_terms.specs.Reduces.{known_of, Reduces};
-ghost use Rattle.dl_terms.specs.Inside.Exploring.{ReduceAll, PartsReduce, parts_wait, GoesOn, own_waits};
+ghost use Rattle.dl_terms.specs.Inside.Exploring.{ReduceAll, PartsReduce, parts_wait, GoesOn, own_waits, stays};
 ghost use Rattle.dl_terms.specs.Inside.Exploring.{LoadsTargets, PicksOn, FollowsOn, EachOn, GathersOn};
 ghost use Rattle.dl_terms.specs.declared.answer.Answer.TheVariants as answer;
 
@@ -41,9 +41,10 @@ pub fn explore(
         ≡ insert_all key_eq wanted.old.keys (waits (known_of known.now) (node_view node.old))) }
 {
     explore_parts(alloc, node, known, wanted)?;
-    let next = advance(alloc, mem::replace(node, HOLLOW), known, wanted)?;
-    // An assignment would spell out here how each form of the old node is let go.
-    drop(mem::replace(node, next));
+    if stays(node) {
+        return Ok(());
+    }
+    rewrite(alloc, node, known, wanted)?;
     Ok(())
 }
 
@@ -69,6 +70,7 @@ fn explore_parts(
 }
 
 #[cycle(exploring)]
+#[inline(never)]
 fn explore_all(
     alloc: Global,
     parts: &mut Vec<Node>,
@@ -82,6 +84,39 @@ fn explore_all(
     for place in 0..parts.len() {
         explore(alloc, &mut parts[place], known, wanted)?;
     }
+    Ok(())
+}
+
+/// Whether a node whose parts were explored has ended or waits for a part.
+fn stays(node: &Node) -> bool
+    ensures { result ≡ stays (node_view node.now) }
+{
+    match node {
+        Node::Done(_) => true,
+        Node::Load(_) => false,
+        Node::Pick { part, .. } | Node::Follow { part, .. } | Node::Each { part, .. } => {
+            !part.has_ended()
+        }
+        Node::All(parts) => !have_ended(parts.as_slice()),
+    }
+}
+
+/// Puts what comes of a node whose parts were explored into its place. Most looks at a node don't come here, so they don't
+/// pay for the room that the old node and the new one take.
+#[inline(never)]
+fn rewrite(
+    alloc: Global,
+    node: &mut Node,
+    known: &Known<'_>,
+    wanted: &mut Wanted,
+) -> Result<(), AllocError>
+    ensures stands { OnOk result (GoesOn (known_of known.now) (node_view node.old) (node_view node.new)) }
+    ensures wanted { OnOk result (wanted.new.keys
+        ≡ insert_all key_eq wanted.old.keys (own_waits (known_of known.now) (node_view node.old))) }
+{
+    let next = advance(alloc, mem::replace(node, HOLLOW), known, wanted)?;
+    // An assignment would spell out here how each form of the old node is let go.
+    drop(mem::replace(node, next));
     Ok(())
 }
 

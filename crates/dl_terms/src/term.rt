@@ -15,7 +15,7 @@ use dl_desk::{FetchKey, Json, Text};
 /// wants. With 8 MiB of stack and an unoptimised build, planning a chain of picks held at a height of
 /// 1,500, exploring and dropping it at 5,000, and counting its depth and height at 7,000. Whoever
 /// takes terms from strangers bounds their height.
-#[derive(Drop)]
+#[derive(Debug, Drop)]
 pub enum Term {
     /// A value.
     Value(Json),

@@ -1,5 +1,5 @@
 -- What a round makes of the parts of a term, and of the term over them.
-use Rattle.std.specs.Prelude.{◌≡◌, List, [], Option, Some, None, MatchOption}
+use Rattle.std.specs.Prelude.{◌≡◌, Bool, true, false, List, [], Option, Some, None, MatchOption, is_none}
 use Rattle.dl_desk.specs.Key.{Key}
 use Rattle.dl_desk.specs.declared.outcome.Outcome.{Outcome}
 use Rattle.dl_terms.specs.declared.answer.Answer.{Answer}
@@ -81,6 +81,15 @@ own_waits p (pick v field) = []
 own_waits p (follow v field table) = waits_after (result_of v) (λ a. target_waits p (target_in table (picked field a)))
 own_waits p (each v field table) = waits_after (result_of v) (λ a. targets_waits p (targets_in table (picked field a)))
 own_waits p (all vs) = []
+
+-- v, whose parts a round has explored, has ended or waits for a part, so that it stays as it is
+abbrev pub stays : Tree → Bool
+stays (ended a) = true
+stays (load k) = false
+stays (pick v field) = is_none (result_of v)
+stays (follow v field table) = is_none (result_of v)
+stays (each v field table) = is_none (result_of v)
+stays (all vs) = is_none (results_of vs)
 
 -- the target of an id in a table, where it is a key
 abbrev pub target_of : Option Key → Target

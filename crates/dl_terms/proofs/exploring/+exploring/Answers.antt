@@ -1,4 +1,4 @@
-use Rattle.std.proofs.Common.{◌≡◌, ◌∙◌, ◌<◌, ◌≤◌, ◌+◌, ◌≢◌, length, get_or, set, take, refl, ap, sym, subst, arith}
+use Rattle.std.proofs.Common.{◌≡◌, ◌∙◌, ◌<◌, ◌≤◌, ◌+◌, ◌≢◌, length, get_or, set, take, refl, true, ap, sym, subst, arith}
 use Rattle.std.specs.List.{AllZip}
 use Rattle.std.proofs.lemmas.List.{take_all, drop_all, take_more_set, length-set, get_or-set_other}
 use Rattle.indexmap.specs.IndexSet.{insert_all}
@@ -6,30 +6,41 @@ use Rattle.dl_desk.specs.Key.{key_eq}
 use Rattle.dl_terms.specs.Gives.{waits, all_wait}
 use Rattle.dl_terms.specs.Node.{node_view, nodes_view}
 use Rattle.dl_terms.specs.Reduces.{known_of, Reduces}
-use Rattle.dl_terms.specs.Inside.Exploring.{GoesOn, own_waits}
+use Rattle.dl_terms.specs.Inside.Exploring.{own_waits, parts_wait, stays}
 use Rattle.dl_terms.proofs.Views.{node_view-Pick, node_view-Follow, node_view-Each}
-use Rattle.dl_terms.proofs.Reduced.{parts_go_on, pick_left, follow_left, each_left, adds_all, nodes_reduce, zip_next, wanted_next}
+use Rattle.dl_terms.proofs.Reduced.{parts_go_on, pick_left, follow_left, each_left, adds_all, stays_on, waits_no_more, nodes_reduce, zip_next, wanted_next}
 use Rattle.dl_terms.proofs.exploring.+exploring.Goals as goal
+
+pub explore-returns-then-stays-clause-reduces : goal.explore-returns-then-stays-clause-reduces
+explore-returns-then-stays-clause-reduces t c =
+    let p = known_of c.args.known.now in
+    let v = node_view c.explore_parts.new.node in
+    let same : stays v ≡ true = sym c.stays.ensures ∙ c.if-stays.true in
+    parts_go_on p (node_view c.args.node.now) v v c.in_ok-explore_parts.ensures.reduce (stays_on p v same)
+
+pub explore-returns-then-stays-clause-wanted : goal.explore-returns-then-stays-clause-wanted
+explore-returns-then-stays-clause-wanted t c =
+    let p = known_of c.args.known.now in
+    let v = node_view c.explore_parts.new.node in
+    let same : stays v ≡ true = sym c.stays.ensures ∙ c.if-stays.true in
+    let keys = c.args.wanted.now.keys in
+    let parts = insert_all key_eq keys (parts_wait p (node_view c.args.node.now)) in
+    c.in_ok-explore_parts.ensures.wanted
+    ∙ (ap (insert_all key_eq parts) (sym (waits_no_more p v same)) ∙ adds_all p (node_view c.args.node.now) v keys c.in_ok-explore_parts.ensures.reduce)
 
 pub explore-returns-clause-reduces : goal.explore-returns-clause-reduces
 explore-returns-clause-reduces t c =
     let p = known_of c.args.known.now in
-    let before = node_view c.args.node.now in
-    let parts = c.explore_parts.new.node in
-    let next = node_view c.in_ok-next.next in
-    let on : GoesOn p (node_view parts) next = subst (λ n. GoesOn p (node_view n) next) c.replace.ensures.value c.in_ok-next.ensures.stands in
-    subst (λ n. Reduces p before (node_view n)) (sym c.replace-2.ensures.after)
-    (parts_go_on p before (node_view parts) next c.in_ok-explore_parts.ensures.reduce on)
+    parts_go_on p (node_view c.args.node.now) (node_view c.explore_parts.new.node) (node_view c.rewrite.new.node) c.in_ok-explore_parts.ensures.reduce
+    c.in_ok-rewrite.ensures.stands
 
 pub explore-returns-clause-wanted : goal.explore-returns-clause-wanted
 explore-returns-clause-wanted t c =
     let p = known_of c.args.known.now in
-    let parts = c.explore_parts.new.node in
-    let keys = c.explore_parts.new.wanted.keys in
-    c.in_ok-next.ensures.wanted
-    ∙ (ap (λ n. insert_all key_eq keys (own_waits p (node_view n))) c.replace.ensures.value
-    ∙ (ap (λ ks. insert_all key_eq ks (own_waits p (node_view parts))) c.in_ok-explore_parts.ensures.wanted
-    ∙ adds_all p (node_view c.args.node.now) (node_view parts) c.args.wanted.now.keys c.in_ok-explore_parts.ensures.reduce))
+    let v = node_view c.explore_parts.new.node in
+    c.in_ok-rewrite.ensures.wanted
+    ∙ (ap (λ ks. insert_all key_eq ks (own_waits p v)) c.in_ok-explore_parts.ensures.wanted
+    ∙ adds_all p (node_view c.args.node.now) v c.args.wanted.now.keys c.in_ok-explore_parts.ensures.reduce)
 
 pub explore_parts-returns-in-Pick-clause-reduce : goal.explore_parts-returns-in-Pick-clause-reduce
 unfolding Rattle.dl_terms.specs.declared.node.Node.TheViews.out-Node denote.Hole.Carrier.out
