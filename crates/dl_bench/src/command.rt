@@ -13,16 +13,16 @@ pub enum Workload {
     /// Loads, clears and loads again each key in turn.
     Clears,
     /// Reads a script that loads the keys one by one, and answers it.
-    Script,
+    Script(Ids),
     /// Reads tables with a row for each key, and fetches the keys, a batch at a time.
-    Tables,
+    Tables(Ids),
     /// Calls of a shared loader.
     Shared(Callers),
     /// Evaluates a term over a shared loader.
     Term,
 }
 
-/// The ids of keys that are loaded one by one.
+/// The ids of keys.
 #[derive(Clone, Copy)]
 pub enum Ids {
     /// The keys' numbers.
@@ -54,7 +54,7 @@ pub enum Callers {
 }
 
 /// The word that asks for each workload, and the most keys of its batches, where the words don't say it.
-const WORKLOADS: [(&str, Option<u32>, Workload); 12] = [
+const WORKLOADS: [(&str, Option<u32>, Workload); 16] = [
     ("loads", None, Workload::OneByOne(Ids::Short)),
     ("hostile", Some(64), Workload::OneByOne(Ids::Hostile)),
     ("harmless", Some(64), Workload::OneByOne(Ids::Harmless)),
@@ -62,8 +62,20 @@ const WORKLOADS: [(&str, Option<u32>, Workload); 12] = [
     ("hits", Some(LARGEST_LIMIT), Workload::Listed(Calls::Hits)),
     ("rounds", None, Workload::Listed(Calls::Rounds)),
     ("clears", Some(LARGEST_LIMIT), Workload::Clears),
-    ("script", Some(LARGEST_LIMIT), Workload::Script),
-    ("tables", None, Workload::Tables),
+    ("script", Some(LARGEST_LIMIT), Workload::Script(Ids::Short)),
+    (
+        "hostile-script",
+        Some(LARGEST_LIMIT),
+        Workload::Script(Ids::Hostile),
+    ),
+    (
+        "harmless-script",
+        Some(LARGEST_LIMIT),
+        Workload::Script(Ids::Harmless),
+    ),
+    ("tables", None, Workload::Tables(Ids::Short)),
+    ("hostile-tables", Some(64), Workload::Tables(Ids::Hostile)),
+    ("harmless-tables", Some(64), Workload::Tables(Ids::Harmless)),
     ("loader", None, Workload::Shared(Callers::One)),
     ("threads", None, Workload::Shared(Callers::Threads)),
     ("terms", Some(64), Workload::Term),
@@ -81,7 +93,7 @@ pub struct Command {
 /// Why words are no command.
 #[derive(Debug, Drop, Error)]
 pub enum CommandFault {
-    #[error("usage: dl_bench loads|many|rounds|tables|loader N B, dl_bench hostile|harmless|hits|clears|script|terms N, or dl_bench threads N C")]
+    #[error("usage: dl_bench loads|many|rounds|tables|loader N B, hostile|harmless[-script|-tables] N, hits|clears|script|terms N, or threads N C")]
     Usage,
     #[error("N, B and C are numbers from 1 to 65536, the largest limit of a loader")]
     Size,

@@ -13,15 +13,6 @@ use std::ops::Range;
 /// cells.
 const LOADED_TWICE: u32 = 32_768;
 
-/// The front of ids of the table `trips` that all have one hash where keys are hashed by the kit's `FoldHasher`, which
-/// has a fixed seed. Of the 32 bytes that are read of such a key (the table's length, the table, the id) it first
-/// multiplies halves of the first 16 into its state. Then it joins that by xor with the next eight bytes, and multiplies
-/// by the last eight. Its state is spelled by those next eight bytes, so that the product is 0.
-const HOSTILE: &str = "hostileu7hlkD2YNg6";
-
-/// The front of ids that have hashes of their own.
-const HARMLESS: &str = "harmless to anyone";
-
 /// Loads keys one by one on a new desk, then dispatches.
 pub fn one_by_one(
     alloc: Global,
@@ -32,10 +23,9 @@ pub fn one_by_one(
     batch: u32,
 ) -> Result<()> {
     let mut desk = Desk::new(alloc, hashing, limits(batch)?);
-    match ids {
-        Ids::Short => loads(alloc, &mut desk, counts, keys)?,
-        Ids::Hostile => fronted(alloc, &mut desk, counts, keys, HOSTILE)?,
-        Ids::Harmless => fronted(alloc, &mut desk, counts, keys, HARMLESS)?,
+    match ids.front() {
+        None => loads(alloc, &mut desk, counts, keys)?,
+        Some(front) => fronted(alloc, &mut desk, counts, keys, front)?,
     }
     counts.jobs(&desk.dispatch(alloc)?);
     Ok(())

@@ -1,7 +1,9 @@
 //! The workloads on a script and on tables.
 
+use crate::command::Ids;
 use crate::counts::Counts;
-use crate::keys::{keys_of, limits};
+use crate::ids::{push_id, table_of};
+use crate::keys::{fronted_keys, keys_of, limits};
 use anyhow::Result;
 use dl_desk::{FetchKey, Limits};
 use dl_plans::{Input, read_input, run_script};
@@ -11,8 +13,14 @@ use std::alloc::{AllocError, Global};
 use std::hash::RandomState;
 
 /// Reads a script that loads the keys one by one, answers it, and counts the lines of the answer.
-pub fn script(alloc: Global, hashing: RandomState, counts: &mut Counts, keys: u32) -> Result<()> {
-    let text = script_of(alloc, keys)?;
+pub fn script(
+    alloc: Global,
+    hashing: RandomState,
+    counts: &mut Counts,
+    ids: Ids,
+    keys: u32,
+) -> Result<()> {
+    let text = script_of(alloc, ids.front(), keys)?;
     let output = output_of(alloc, hashing, text.as_bytes())?;
     counts.lines = output.bytes().filter(|byte| *byte == b'\n').count() as u64;
     Ok(())
@@ -24,14 +32,17 @@ fn output_of(alloc: Global, hashing: RandomState, document: &[u8]) -> Result<Str
     Ok(run_script(alloc, hashing, &script)?)
 }
 
-/// The text of a script that loads the keys one by one.
-fn script_of(alloc: Global, keys: u32) -> Result<String, AllocError> {
+/// The text of a script that loads the keys one by one, whose ids have a front or are numbers alone.
+fn script_of(alloc: Global, front: Option<&str>, keys: u32) -> Result<String, AllocError> {
+    let table = table_of(front);
     let mut text = String::from_str(alloc, "{\"script\":1,\"calls\":[")?;
     for number in 0..keys {
         if number > 0 {
             text.push_str(",")?;
         }
-        write!(text, "{{\"load\":[\"users\",\"{number}\"]}}")?;
+        write!(text, "{{\"load\":[\"{table}\",\"")?;
+        push_id(&mut text, front, number)?;
+        text.push_str("\"]}")?;
     }
     text.push_str("]}")?;
     Ok(text)
@@ -42,12 +53,14 @@ pub fn tables(
     alloc: Global,
     hashing: RandomState,
     counts: &mut Counts,
+    ids: Ids,
     keys: u32,
     batch: u32,
 ) -> Result<()> {
     let limits = limits(batch)?;
-    let tables = tables_of(alloc, hashing, keys)?;
-    let keys = keys_of(alloc, keys)?;
+    let front = ids.row_front();
+    let tables = tables_of(alloc, hashing, front, keys)?;
+    let keys = row_keys(alloc, front, keys)?;
     fetch_all(alloc, counts, &tables, &keys, limits)?;
     Ok(())
 }
@@ -67,25 +80,42 @@ fn fetch_all(
     Ok(())
 }
 
+/// The keys of the rows.
+fn row_keys(alloc: Global, front: Option<&str>, keys: u32) -> Result<Vec<FetchKey>> {
+    match front {
+        Some(front) => fronted_keys(alloc, front, keys),
+        None => keys_of(alloc, keys),
+    }
+}
+
 /// Tables with a row for each key, read from their text.
-fn tables_of(alloc: Global, hashing: RandomState, keys: u32) -> Result<Tables> {
-    let tree = tree_of(alloc, keys)?;
+fn tables_of(
+    alloc: Global,
+    hashing: RandomState,
+    front: Option<&str>,
+    keys: u32,
+) -> Result<Tables> {
+    let tree = tree_of(alloc, front, keys)?;
     Ok(Tables::from_value(alloc, hashing, &tree)?)
 }
 
 /// A tree of one table, with a row for each key, read from its text.
-fn tree_of(alloc: Global, keys: u32) -> Result<Value> {
-    let text = tree_text(alloc, keys)?;
+fn tree_of(alloc: Global, front: Option<&str>, keys: u32) -> Result<Value> {
+    let text = tree_text(alloc, front, keys)?;
     Ok(Value::from_str(alloc, text.as_str())?)
 }
 
-fn tree_text(alloc: Global, keys: u32) -> Result<String, AllocError> {
-    let mut text = String::from_str(alloc, "[{\"name\":\"users\",\"rows\":[")?;
+fn tree_text(alloc: Global, front: Option<&str>, keys: u32) -> Result<String, AllocError> {
+    let table = table_of(front);
+    let mut text = String::new(alloc);
+    write!(text, "[{{\"name\":\"{table}\",\"rows\":[")?;
     for number in 0..keys {
         if number > 0 {
             text.push_str(",")?;
         }
-        write!(text, "[\"{number}\",{number}]")?;
+        text.push_str("[\"")?;
+        push_id(&mut text, front, number)?;
+        write!(text, "\",{number}]")?;
     }
     text.push_str("]}]")?;
     Ok(text)

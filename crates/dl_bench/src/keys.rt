@@ -1,5 +1,6 @@
 //! The keys of numbers, and the limits of a loader for them.
 
+use crate::ids::{push_id, table_of};
 use anyhow::Result;
 use dl_desk::{FetchKey, LARGEST_LIMIT, LimitFault, Limits};
 use itoa::Buffer;
@@ -28,6 +29,16 @@ pub fn keys_of(alloc: Global, count: u32) -> Result<Vec<FetchKey>> {
 /// The key of a front and a number in eight digits, whose id is written in the room of the last one.
 pub fn fronted_key(alloc: Global, id: &mut String, front: &str, number: u32) -> Result<FetchKey> {
     id.clear();
-    write!(id, "{front}{number:08}")?;
-    Ok(FetchKey::new(alloc, "trips", id.as_str())?)
+    push_id(id, Some(front), number)?;
+    Ok(FetchKey::new(alloc, table_of(Some(front)), id.as_str())?)
+}
+
+/// The keys of a front and the first numbers.
+pub fn fronted_keys(alloc: Global, front: &str, count: u32) -> Result<Vec<FetchKey>> {
+    let mut keys = Vec::with_capacity(alloc, count as usize)?;
+    let mut id = String::new(alloc);
+    for number in 0..count {
+        keys.push(fronted_key(alloc, &mut id, front, number)?)?;
+    }
+    Ok(keys)
 }

@@ -8,6 +8,7 @@ mod command;
 mod counts;
 mod desk;
 mod documents;
+mod ids;
 mod keys;
 mod shared;
 mod terms;
@@ -40,8 +41,8 @@ fn run<R: RandomSource + Threads + Wait + Sync>(
         Workload::OneByOne(ids) => desk::one_by_one(alloc, hashing, counts, ids, keys, most),
         Workload::Listed(calls) => desk::listed(alloc, hashing, counts, calls, keys, most),
         Workload::Clears => desk::clears(alloc, hashing, counts, keys, most),
-        Workload::Script => documents::script(alloc, hashing, counts, keys),
-        Workload::Tables => documents::tables(alloc, hashing, counts, keys, most),
+        Workload::Script(ids) => documents::script(alloc, hashing, counts, ids, keys),
+        Workload::Tables(ids) => documents::tables(alloc, hashing, counts, ids, keys, most),
         Workload::Shared(callers) => {
             shared::on_loader(rt, alloc, hashing, counts, callers, keys, most)
         }

@@ -78,7 +78,11 @@ impl<T: Drop> CellRow<T> {
         let home = self.home(i);
         let mut note = home.note();
         let place = i % SEGMENT;
-        let cell = home.get_or_try_init_as(make, &mut note)?.cell(place);
+        let segment = match home.get_as(&mut note) {
+            Some(segment) => segment,
+            None => home.get_or_try_init_as(make, &mut note)?,
+        };
+        let cell = segment.cell(place);
         Ok(Reader {
             segment: Learned::of(&mut note),
             place,

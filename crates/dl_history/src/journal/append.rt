@@ -2,7 +2,7 @@
 
 ghost use Rattle.std.specs.Prelude.{◌≡◌, ◌+◌, ◌<◌, ◌≤◌, ◌∷◌, ◌++◌, [], IfOk, OnErr, OnOk, length};
 ghost use Rattle.std.specs.List.{repeat};
-ghost use Rattle.dl_cells.specs.Cells.{row_len};
+ghost use Rattle.dl_cells.specs.Cells.{cell_of, row_len};
 ghost use Rattle.dl_history.specs.declared.journal.append.AppendFault.TheVariants.{OutOfMemory};
 ghost use Rattle.dl_history.specs.Entries.{told};
 ghost use Rattle.dl_history.specs.Journal.{AreBlank, waiting};
@@ -64,16 +64,45 @@ impl<L: LoaderName> Journal<L> {
     {
         let place = self.next_place(rows);
         let first = self.next_cell(rows, cells);
-        let readers = blank_readers(alloc, rows.outcomes(), first, cells)?;
-        let mut reader = rows.log().reader(u32::from(place))?;
-        let event = Box::new(alloc, event).map_err(AllocError::from)?;
-        self.reserve(cells as usize)?;
-        let stored = Told::store(rows.log(), place, &mut reader, event).map_err(
-            |_| AppendFault::LogRefused,
-        )?;
+        let Ok(event) = Box::new(alloc, event) else {
+            return Err(AppendFault::OutOfMemory);
+        };
+        let Ok((mut reader, readers)) = self.grow(alloc, rows, place, first, cells) else {
+            return Err(AppendFault::OutOfMemory);
+        };
+        let Ok(stored) = Told::store(rows.log(), place, &mut reader, event) else {
+            return Err(AppendFault::LogRefused);
+        };
         self.add(&stored, share);
         self.add_cells(readers);
         Ok(stored)
+    }
+
+    // Makes the growths of an event at a place that begins so many cells from one on, and answers readers of the event's
+    // cell and of those cells, which know nothing of them. The error is want of memory.
+    #[inline(always)]
+    fn grow(
+        &mut self,
+        alloc: Global,
+        rows: &Rows<L>,
+        place: u16,
+        first: u32,
+        cells: u32,
+    ) -> Result<(Reader<Event>, Vec<Reader<Ending>>), AllocError>
+        requires place { place < L.service.rules.limits.max_calls }
+        requires in_row { first + cells ≤ L.service.rules.limits.max_cells }
+        requires fits { first + cells ≤ LARGEST_LIMIT }
+        ensures history { self.new.history ≡ self.old.history }
+        ensures cells { self.new.cells ≡ self.old.cells }
+        ensures room { OnOk result (cells + 1 ≤ self.new.spare) }
+        ensures cell { IfOk result (λ readers. readers.0.cell ≡ cell_of L.log place) }
+        ensures count { IfOk result (λ readers. length readers.1.items ≡ cells) }
+        ensures blank { IfOk result (λ readers. AreBlank L.outcomes first readers.1.items) }
+    {
+        self.reserve(cells as usize)?;
+        let reader = rows.log().reader(u32::from(place))?;
+        let readers = blank_readers(alloc, rows.outcomes(), first, cells)?;
+        Ok((reader, readers))
     }
 
     /// The place of the next event.
