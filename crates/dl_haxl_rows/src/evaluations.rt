@@ -4,7 +4,7 @@ ghost use Rattle.dl_history.specs.Service.{Answers};
 
 use crate::rows::{Player, Row, try_row};
 use crate::shapes::{BEST, FRIENDS, Shape, U1, U2, term};
-use crate::texts::{answer_text, debug_text, list_text};
+use crate::texts::{evaluation_text, list_text};
 use dl_haxl::run_inline;
 use dl_loader::{Loader, LoaderName, Pass};
 use dl_source::Source;
@@ -17,7 +17,7 @@ use std::sync::Wait;
 pub(crate) const ADA: &str = r#"{"best":"u2","friends":["u2","u3"],"name":"Ada"}"#;
 
 /// The rows of the users `u2` and `u3`.
-const TWO_FRIENDS: &str = r#"[{"best":"u1","friends":[],"name":"Bob"},{"name":"Cy"}]"#;
+pub(crate) const TWO_FRIENDS: &str = r#"[{"best":"u1","friends":[],"name":"Bob"},{"name":"Cy"}]"#;
 
 /// A row of a term that needs no load, from which the others differ.
 const ROW: Row<'static> = Row {
@@ -31,7 +31,7 @@ const ROW: Row<'static> = Row {
     settled: true,
 };
 
-static ROWS: [Row<'static>; 19] = [
+pub(crate) static ROWS: [Row<'static>; 19] = [
     Row {
         about: "a value",
         term: Shape::Value("7"),
@@ -196,7 +196,8 @@ static ROWS: [Row<'static>; 19] = [
 #[test]
 fn terms_and_their_batches(rt: HostRuntime) {
     for row in &ROWS {
-        try_row(&rt, rt.alloc(), Player::Inline, row);
+        let played = try_row(&rt, rt.alloc(), Player::Inline, row);
+        played.expect(&rt, "a growth was refused");
     }
 }
 
@@ -214,7 +215,8 @@ fn as_many_items_as_there_may_be(rt: HostRuntime) {
         batches: &[&["u1"]],
         ..ROW
     };
-    try_row(&rt, rt.alloc(), Player::Inline, &row);
+    let played = try_row(&rt, rt.alloc(), Player::Inline, &row);
+    played.expect(&rt, "a growth was refused");
 }
 
 /// Evaluates the term of a row, whose answer and rounds are as the row says.
@@ -226,16 +228,17 @@ pub(crate) fn evaluate<L: LoaderName, S: Source, R: Abort + Wait>(
     loader: &Loader<L>,
     pass: &mut Pass<L>,
     row: &Row<'_>,
-)
+) -> Option<()>
     requires { Answers (S.answer source.now) L.service }
 {
-    let (text, rounds) = evaluated(rt, alloc, hashing, source, loader, pass, row);
+    let (text, rounds) = evaluated(rt, alloc, hashing, source, loader, pass, row)?;
     assert_eq!(rt; text.as_str(), row.answer, "of {}", row.about);
     assert_eq!(rt; rounds, row.rounds, "of {}", row.about);
+    Some(())
 }
 
 /// The text of what the evaluation of a row's term gives, and how many rounds it takes.
-fn evaluated<L: LoaderName, S: Source, R: Abort + Wait>(
+fn evaluated<L: LoaderName, S: Source, R: Wait>(
     rt: &R,
     alloc: Global,
     hashing: RandomState,
@@ -243,15 +246,12 @@ fn evaluated<L: LoaderName, S: Source, R: Abort + Wait>(
     loader: &Loader<L>,
     pass: &mut Pass<L>,
     row: &Row<'_>,
-) -> (String, u32)
+) -> Option<(String, u32)>
     requires { Answers (S.answer source.now) L.service }
 {
-    let term = term(rt, alloc, &row.term);
-    let (text, rounds) = match run_inline(rt, alloc, hashing, loader, source, pass, term) {
-        Ok((answer, rounds)) => (answer_text(alloc, &answer), rounds),
-        Err(fault) => (debug_text(alloc, fault), 0),
-    };
-    (text.expect(rt, "no memory"), rounds)
+    let term = term(alloc, &row.term)?;
+    let evaluated = run_inline(rt, alloc, hashing, loader, source, pass, term);
+    evaluation_text(alloc, evaluated)
 }
 
 /// What an evaluation may give in place of its answer where a growth is refused.
@@ -263,7 +263,7 @@ const STARVED: [&str; 5] = [
     "OutOfMemory",
 ];
 
-// Under `rt try --test --fail-alloc N` each growth is refused in turn.
+// Under `rt try --test --fail-alloc N` each growth is refused in turn. Where that isn't one of `run_inline` the test ends.
 #[test]
 fn a_refused_growth(rt: HostRuntime) {
     let row = Row {
@@ -272,7 +272,7 @@ fn a_refused_growth(rt: HostRuntime) {
         answer: TWO_FRIENDS,
         ..ROW
     };
-    try_row(&rt, rt.alloc(), Player::Starved, &row);
+    let _ = try_row(&rt, rt.alloc(), Player::Starved, &row);
 }
 
 /// Evaluates the term of a row, where a growth may be refused.
@@ -284,13 +284,14 @@ pub(crate) fn starve<L: LoaderName, S: Source, R: Abort + Wait>(
     loader: &Loader<L>,
     pass: &mut Pass<L>,
     row: &Row<'_>,
-)
+) -> Option<()>
     requires { Answers (S.answer source.now) L.service }
 {
-    let (text, _rounds) = evaluated(rt, alloc, hashing, source, loader, pass, row);
+    let (text, _rounds) = evaluated(rt, alloc, hashing, source, loader, pass, row)?;
     let text = text.as_str();
     assert!(rt;
         text == row.answer || STARVED.contains(&text),
         "an evaluation gave {text}"
     );
+    Some(())
 }

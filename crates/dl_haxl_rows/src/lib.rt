@@ -1,9 +1,13 @@
 //! Tests of loads and fetch terms over the shared loader: worked rows of terms that are evaluated on the caller's own
-//! thread, and of futures that are polled by hand.
+//! thread, of terms whose jobs are handed over to a worker on a thread of its own, and of futures that are polled by hand.
 #![tactic(auto)]
 
 #[cfg(test)]
 mod evaluations;
+#[cfg(test)]
+mod handing;
+#[cfg(test)]
+mod handovers;
 #[cfg(test)]
 mod polls;
 #[cfg(test)]

@@ -34,7 +34,8 @@ const TERM: Row<'static> = Row {
 
 #[test]
 fn a_run_of_a_term(rt: HostRuntime) {
-    try_row(&rt, rt.alloc(), Player::Run, &TERM);
+    let played = try_row(&rt, rt.alloc(), Player::Run, &TERM);
+    played.expect(&rt, "a growth was refused");
 }
 
 /// Polls a run of the row's term, which wants the first two users, until its answer.
@@ -46,13 +47,13 @@ pub(crate) fn poll_run<L: LoaderName, S: Source, R: Abort + AllocGlobal + Random
     loader: &Loader<L>,
     pass: &mut Pass<L>,
     row: &Row<'_>,
-)
+) -> Option<()>
     requires { Answers (S.answer source.now) L.service }
 {
     let task = MockTask::new(rt).expect(rt, "no task");
-    let made = TermRun::new(alloc, hashing, term(rt, alloc, &row.term));
-    let mut run = made.expect(rt, "no memory");
+    let mut run = TermRun::new(alloc, hashing, term(alloc, &row.term)?).ok()?;
     poll_to_the_end(rt, alloc, source, loader, pass, &task, &mut run, row.answer);
+    Some(())
 }
 
 /// Polls a new run, which wants the first two users, until its answer.
@@ -153,7 +154,8 @@ const LOAD: Row<'static> = Row {
 
 #[test]
 fn a_future_of_a_load(rt: HostRuntime) {
-    try_row(&rt, rt.alloc(), Player::Future, &LOAD);
+    let played = try_row(&rt, rt.alloc(), Player::Future, &LOAD);
+    played.expect(&rt, "a growth was refused");
 }
 
 /// Loads the first user, and polls the load's future until the outcome.
@@ -164,7 +166,7 @@ pub(crate) fn poll_load<L: LoaderName, S: Source, R: Abort + AllocGlobal + Rando
     loader: &Loader<L>,
     pass: &mut Pass<L>,
     row: &Row<'_>,
-)
+) -> Option<()>
     requires { Answers (S.answer source.now) L.service }
 {
     let task = MockTask::new(rt).expect(rt, "no task");
@@ -173,6 +175,7 @@ pub(crate) fn poll_load<L: LoaderName, S: Source, R: Abort + AllocGlobal + Rando
     poll_until_shown(
         rt, alloc, source, loader, pass, &task, &mut load, row.answer,
     );
+    Some(())
 }
 
 /// The ticket of a load of the first user.
@@ -231,10 +234,10 @@ fn load_text<L: LoaderName>(
     }
 }
 
-// Under `rt try --test --fail-alloc N` each growth is refused in turn.
+// Under `rt try --test --fail-alloc N` each growth is refused in turn. Where that isn't one of a `TermRun` the test ends.
 #[test]
 fn a_refused_growth(rt: HostRuntime) {
-    try_row(&rt, rt.alloc(), Player::StarvedRun, &TERM);
+    let _ = try_row(&rt, rt.alloc(), Player::StarvedRun, &TERM);
 }
 
 /// Polls a run of the row's term, where a growth may be refused.
@@ -243,10 +246,10 @@ pub(crate) fn starve_run<L: LoaderName, R: Abort + AllocGlobal + RandomSource>(
     alloc: Global,
     hashing: RandomState,
     row: &Row<'_>,
-) {
-    let task = MockTask::new(rt).expect(rt, "no task");
-    let mut run: TermRun<'_, L> = made_run(rt, alloc, hashing, row);
-    assert_starves(rt, alloc, &task, &mut run);
+) -> Option<()> {
+    let task = MockTask::new(rt).ok()?;
+    let mut run: TermRun<'_, L> = made_run(rt, alloc, hashing, row)?;
+    assert_starves(rt, alloc, &task, &mut run)
 }
 
 /// A run of the row's term. Where it can't be made, another one is.
@@ -255,12 +258,12 @@ fn made_run<'l, L: LoaderName>(
     alloc: Global,
     hashing: RandomState,
     row: &Row<'_>,
-) -> TermRun<'l, L> {
-    match TermRun::new(alloc, hashing, term(rt, alloc, &row.term)) {
-        Ok(run) => run,
+) -> Option<TermRun<'l, L>> {
+    match TermRun::new(alloc, hashing, term(alloc, &row.term)?) {
+        Ok(run) => Some(run),
         Err(AllocError) => {
-            let again = TermRun::new(alloc, hashing, term(rt, alloc, &row.term));
-            again.expect(rt, "no memory")
+            let again = TermRun::new(alloc, hashing, term(alloc, &row.term)?);
+            Some(again.expect(rt, "no memory"))
         }
     }
 }
@@ -271,12 +274,13 @@ fn assert_starves<L: LoaderName>(
     alloc: Global,
     task: &MockTask,
     run: &mut TermRun<'_, L>,
-) {
-    let text = run_text(alloc, task, run).expect(rt, "no memory");
+) -> Option<()> {
+    let text = run_text(alloc, task, run).ok()?;
     if text.as_str() == "pending" {
         assert_ids(rt, run.wanted(), &["u1", "u2"]);
-        return;
+        return Some(());
     }
     assert_eq!(rt; text.as_str(), "OutOfMemory");
     assert_run(rt, alloc, task, run, "OutOfMemory");
+    Some(())
 }

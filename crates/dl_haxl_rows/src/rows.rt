@@ -8,7 +8,7 @@ use crate::shapes::Shape;
 use crate::{evaluations, polls};
 use dl_desk::{FetchKey, Limits};
 use dl_fixtures::{CountedTables, USERS, tables};
-use dl_loader::{History, Loader, LoaderName, Opening, Pass};
+use dl_loader::{CloseFault, History, Loader, LoaderName, Opening, Pass};
 use dl_source::Source;
 use std::alloc::{AllocGlobal, Global};
 use std::hash::RandomState;
@@ -49,31 +49,34 @@ pub(crate) enum Player {
     StarvedRun,
 }
 
-/// Plays a row over the users' tables.
+/// Plays a row over the users' tables. There is no answer where a growth is refused that isn't one of the player's calls.
 pub(crate) fn try_row<R: Abort + AllocGlobal + RandomSource + Wait>(
     rt: &R,
     alloc: Global,
     player: Player,
     row: &Row<'_>,
-) {
-    let users = tables(alloc, hashing(rt), USERS).expect(rt, "no tables");
-    over(rt, alloc, &CountedTables::new(users), player, row);
+) -> Option<()> {
+    let hashing = RandomState::new(rt).ok()?;
+    let users = tables(alloc, hashing, USERS)?;
+    over(rt, alloc, hashing, &CountedTables::new(users), player, row)
 }
 
 /// Plays a row over a source, which is asked once for each batch.
 fn over<R: Abort + AllocGlobal + RandomSource + Wait>(
     rt: &R,
     alloc: Global,
+    hashing: RandomState,
     source: &CountedTables,
     player: Player,
     row: &Row<'_>,
-) {
-    let limits = Limits::new(row.max_batch, row.max_cells, 16).expect(rt, "no limits");
-    let hashing = hashing(rt);
-    let opening = Opening::new(alloc, hashing, source, limits, 1).expect(rt, "no opening");
-    let history = run::<Brand, _, _>(rt, alloc, hashing, source, opening, player, row);
+) -> Option<()> {
+    let limits = Limits::new(row.max_batch, row.max_cells, 16).ok()?;
+    let Ok(opening) = Opening::new(alloc, hashing, source, limits, 1) else {
+        return None;
+    };
+    let closed = run::<Brand, _, _>(rt, alloc, hashing, source, opening, player, row)?;
     if matches!(player, Player::Starved | Player::StarvedRun) {
-        return;
+        return Some(());
     }
     assert_eq!(rt;
         source.fetches() as usize,
@@ -81,15 +84,11 @@ fn over<R: Abort + AllocGlobal + RandomSource + Wait>(
         "of {}",
         row.about
     );
-    assert_history(rt, &history.expect(rt, "the loader can't be closed"), row);
+    assert_history(rt, &closed.expect(rt, "the loader can't be closed"), row);
+    Some(())
 }
 
-/// A hash by random numbers.
-fn hashing<R: Abort + RandomSource>(rt: &R) -> RandomState {
-    RandomState::new(rt).expect(rt, "no random numbers")
-}
-
-/// Plays a row on the loader of an opening, which `L` stands for, and closes it: its history, if it can be closed.
+/// Plays a row on the loader of an opening, which `L` stands for, and closes it: its history, or why it can't be closed.
 fn run<L: LoaderName, S: Source, R: Abort + AllocGlobal + RandomSource + Wait>(
     rt: &R,
     alloc: Global,
@@ -98,38 +97,31 @@ fn run<L: LoaderName, S: Source, R: Abort + AllocGlobal + RandomSource + Wait>(
     opening: Opening<'_, S>,
     player: Player,
     row: &Row<'_>,
-) -> Option<History>
+) -> Option<Result<History, CloseFault>>
     requires source { opening.source ≡ source.now }
     requires names { Names S.answer opening L.service L.parts L.log L.outcomes L.name }
 {
-    let (loader, mut passes) = Loader::<L>::start(alloc, opening).expect(rt, "no loader");
-    play(
-        rt,
-        alloc,
-        hashing,
-        source,
-        &loader,
-        passes.as_mut_slice(),
-        player,
-        row,
-    );
-    loader.close(alloc, passes).ok()
+    let Ok((loader, mut passes)) = Loader::<L>::start(alloc, opening) else {
+        return None;
+    };
+    let pass = passes.first_mut()?;
+    play(rt, alloc, hashing, source, &loader, pass, player, row)?;
+    Some(loader.close(alloc, passes).map_err(|(fault, _, _)| fault))
 }
 
-/// Plays a row by the first of these passes.
+/// Plays a row by this pass.
 fn play<L: LoaderName, S: Source, R: Abort + AllocGlobal + RandomSource + Wait>(
     rt: &R,
     alloc: Global,
     hashing: RandomState,
     source: &S,
     loader: &Loader<L>,
-    passes: &mut [Pass<L>],
+    pass: &mut Pass<L>,
     player: Player,
     row: &Row<'_>,
-)
+) -> Option<()>
     requires { Answers (S.answer source.now) L.service }
 {
-    let pass = passes.first_mut().expect(rt, "no pass");
     match player {
         Player::Inline => evaluations::evaluate(rt, alloc, hashing, source, loader, pass, row),
         Player::Run => polls::poll_run(rt, alloc, hashing, source, loader, pass, row),
@@ -141,7 +133,7 @@ fn play<L: LoaderName, S: Source, R: Abort + AllocGlobal + RandomSource + Wait>(
 
 /// The history has the batches of the row, each of which ended as the row says. Its events are two for each round, a
 /// loadMany and a dispatch, and one end of each batch.
-fn assert_history(rt: &impl Abort, history: &History, row: &Row<'_>) {
+pub(crate) fn assert_history(rt: &impl Abort, history: &History, row: &Row<'_>) {
     let batches = history.batches();
     for (number, ids) in row.batches.iter().enumerate() {
         let number = u32::try_from(number).expect(rt, "no number of a batch");

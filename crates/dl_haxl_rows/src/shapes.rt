@@ -5,7 +5,6 @@ use dl_desk::{FetchKey, Json, Text, has_float};
 use dl_terms::Term;
 use serde_json::Value;
 use std::alloc::Global;
-use std::process::Abort;
 
 /// A term, as rows write it. What is followed is a key of the users' table.
 #[derive(Clone, Copy)]
@@ -36,67 +35,73 @@ pub(crate) const BEST: Shape = Shape::Follow(&U1, "best");
 /// The friends of u1.
 pub(crate) const FRIENDS: Shape = Shape::Each(&U1, "friends");
 
-/// The term of a shape.
+/// The term of a shape, if there is memory for it.
 #[cycle(making)]
-pub(crate) fn term(rt: &impl Abort, alloc: Global, shape: &Shape) -> Term {
+pub(crate) fn term(alloc: Global, shape: &Shape) -> Option<Term> {
     match shape {
-        Shape::Value(text) => value(rt, alloc, text),
-        Shape::Crowd(times) => crowd(rt, alloc, *times),
-        Shape::Load(table, id) => load(rt, alloc, table, id),
-        Shape::Pick(part, field) => pick(rt, alloc, term(rt, alloc, part), field),
-        Shape::Follow(part, field) => follow(rt, alloc, term(rt, alloc, part), field),
-        Shape::Each(part, field) => each(rt, alloc, term(rt, alloc, part), field),
-        Shape::All(parts) => all(rt, alloc, parts),
+        Shape::Value(text) => value(alloc, text),
+        Shape::Crowd(times) => crowd(alloc, *times),
+        Shape::Load(table, id) => load(alloc, table, id),
+        Shape::Pick(part, field) => pick(alloc, term(alloc, part)?, field),
+        Shape::Follow(part, field) => follow(alloc, term(alloc, part)?, field),
+        Shape::Each(part, field) => each(alloc, term(alloc, part)?, field),
+        Shape::All(parts) => all(alloc, parts),
     }
 }
 
-fn value(rt: &impl Abort, alloc: Global, text: &str) -> Term {
-    let value = Value::from_str(alloc, text).expect(rt, "no JSON");
-    assert!(rt; !has_float(&value));
-    Term::Value(Json::new(alloc, value).expect(rt, "no memory"))
+fn value(alloc: Global, text: &str) -> Option<Term> {
+    let value = Value::from_str(alloc, text).ok()?;
+    if has_float(&value) {
+        return None;
+    }
+    let value = Json::new(alloc, value).ok()?;
+    Some(Term::Value(value))
 }
 
-fn crowd(rt: &impl Abort, alloc: Global, times: usize) -> Term {
-    let users = list_text(alloc, "\"u1\"", times).expect(rt, "no memory");
-    let text = format!(in alloc; "{{\"f\":{}}}", users.as_str());
-    value(rt, alloc, text.expect(rt, "no memory").as_str())
+fn crowd(alloc: Global, times: usize) -> Option<Term> {
+    let users = list_text(alloc, "\"u1\"", times).ok()?;
+    let text = format!(in alloc; "{{\"f\":{}}}", users.as_str()).ok()?;
+    value(alloc, text.as_str())
 }
 
-fn load(rt: &impl Abort, alloc: Global, table: &str, id: &str) -> Term {
-    Term::Load(FetchKey::new(alloc, table, id).expect(rt, "no key"))
+fn load(alloc: Global, table: &str, id: &str) -> Option<Term> {
+    let key = FetchKey::new(alloc, table, id).ok()?;
+    Some(Term::Load(key))
 }
 
-fn pick(rt: &impl Abort, alloc: Global, part: Term, field: &str) -> Term {
-    let part = Box::new(alloc, part).expect(rt, "no memory");
-    let field = name(rt, alloc, field);
-    Term::Pick { part, field }
+fn pick(alloc: Global, part: Term, field: &str) -> Option<Term> {
+    let part = Box::new(alloc, part).ok()?;
+    let field = name(alloc, field)?;
+    Some(Term::Pick { part, field })
 }
 
-fn follow(rt: &impl Abort, alloc: Global, part: Term, field: &str) -> Term {
-    let part = Box::new(alloc, part).expect(rt, "no memory");
-    let (field, table) = (name(rt, alloc, field), name(rt, alloc, "user"));
-    Term::Follow { part, field, table }
+fn follow(alloc: Global, part: Term, field: &str) -> Option<Term> {
+    let part = Box::new(alloc, part).ok()?;
+    let field = name(alloc, field)?;
+    let table = name(alloc, "user")?;
+    Some(Term::Follow { part, field, table })
 }
 
-fn each(rt: &impl Abort, alloc: Global, part: Term, field: &str) -> Term {
-    let part = Box::new(alloc, part).expect(rt, "no memory");
-    let (field, table) = (name(rt, alloc, field), name(rt, alloc, "user"));
-    Term::Each { part, field, table }
+fn each(alloc: Global, part: Term, field: &str) -> Option<Term> {
+    let part = Box::new(alloc, part).ok()?;
+    let field = name(alloc, field)?;
+    let table = name(alloc, "user")?;
+    Some(Term::Each { part, field, table })
 }
 
 /// The name of a field or a table.
-fn name(rt: &impl Abort, alloc: Global, text: &str) -> Text {
-    Text::new(alloc, text).expect(rt, "no memory")
+fn name(alloc: Global, text: &str) -> Option<Text> {
+    Text::new(alloc, text).ok()
 }
 
 #[cycle(making)]
-fn all(rt: &impl Abort, alloc: Global, shapes: &[Shape]) -> Term {
+fn all(alloc: Global, shapes: &[Shape]) -> Option<Term> {
     let mut parts = Vec::new(alloc);
     for shape in shapes {
-        let part = term(rt, alloc, shape);
-        parts.push(part).expect(rt, "no memory");
+        let part = term(alloc, shape)?;
+        parts.push(part).ok()?;
     }
-    Term::All(parts)
+    Some(Term::All(parts))
 }
 
 /// Terms, each with how deep and how high it is.
@@ -118,7 +123,7 @@ static ROWS: [(Shape, u32, u32); 12] = [
 #[test]
 fn depth_and_height(rt: HostRuntime) {
     for (shape, depth, height) in &ROWS {
-        let term = term(&rt, rt.alloc(), shape);
+        let term = term(rt.alloc(), shape).expect(&rt, "no memory");
         assert_eq!(rt; term.depth(), *depth);
         assert_eq!(rt; term.height(), *height);
     }

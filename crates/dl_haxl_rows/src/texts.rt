@@ -1,9 +1,22 @@
 //! How answers are written in rows.
 
 use dl_desk::BatchFault;
+use dl_haxl::RunFault;
 use dl_terms::{Answer, EvalFault};
 use std::alloc::{AllocError, Global};
 use std::fmt::Debug;
+
+/// The text of what an evaluation gives, and how many rounds it takes, if there is memory for the text.
+pub(crate) fn evaluation_text(
+    alloc: Global,
+    evaluated: Result<(Answer, u32), RunFault>,
+) -> Option<(String, u32)> {
+    let (text, rounds) = match evaluated {
+        Ok((answer, rounds)) => (answer_text(alloc, &answer), rounds),
+        Err(fault) => (debug_text(alloc, fault), 0),
+    };
+    Some((text.ok()?, rounds))
+}
 
 /// The text of an answer: of a value its JSON, else why there is none.
 pub(crate) fn answer_text(alloc: Global, answer: &Answer) -> Result<String, AllocError> {

@@ -185,8 +185,12 @@ impl JobQueue {
         }
     }
 
-    /// Shuts the queue: a send that begins from now on gives its job back, and each taker first
-    /// gets the jobs that are left and then an end mark. A second call does nothing.
+    /// Shuts the queue: a send that begins once this has returned gives its job back, and each taker
+    /// first gets the jobs that are left and then an end mark. A second call does nothing.
+    ///
+    /// A send that had begun before may put its job behind the end marks, where it is left, or wait
+    /// for ever where there is no place for it. So shut a queue once all sends have returned, or make
+    /// it with a place for the job of each other sender.
     pub fn shut<R: Wait>(&self, rt: &R, sender: &mut Sender)
         requires { IsSenderOf self.now sender.old }
         ensures seat { IsSenderOf self.now sender.new }
