@@ -1,5 +1,6 @@
 //! The shared loader of `dl_loader`: worked rows of its calls, each on a loader of its own.
 
+mod by_law;
 mod closed;
 mod hand;
 mod keys;
@@ -12,7 +13,7 @@ mod using;
 mod waiting;
 
 use crate::loader::step::{ADA, Row};
-use crate::loader::waiting::{CALLERS, Crowd};
+use crate::loader::waiting::{CALLERS, Crowd, Release};
 use dl_desk::Limits;
 use dl_fixtures::{USERS, tables};
 use dl_loader::{Opening, StartFault};
@@ -116,37 +117,49 @@ fn callers_on_threads<R: Abort + Threads + Wait + Sync>(
     using::assert_history(rt, alloc, &history);
 }
 
-// Callers that wait for one batch, for several that end one after another, at a loader that is stopped, and once all
-// is over.
-static CROWDS: [Crowd; 5] = [
+// Callers that wait for one batch that ends or fails, for several that end one after another, at a loader that is
+// stopped, and once all is over.
+static CROWDS: [Crowd; 7] = [
     Crowd {
         max_batch: 2,
         loads: &[("u1", ADA)],
-        is_stopped: false,
+        release: Release::Ends,
         is_late: false,
     },
     Crowd {
         max_batch: 1,
         loads: &[("u1", ADA), ("u9", "error gone"), ("u13", "batch db down")],
-        is_stopped: false,
+        release: Release::Ends,
         is_late: false,
     },
     Crowd {
         max_batch: 1,
         loads: &[("u1", ADA), ("u9", "error gone"), ("u13", "batch db down")],
-        is_stopped: false,
+        release: Release::Ends,
         is_late: true,
     },
     Crowd {
         max_batch: 1,
+        loads: &[("u1", "memory")],
+        release: Release::GivesUp,
+        is_late: false,
+    },
+    Crowd {
+        max_batch: 2,
+        loads: &[("u1", "memory"), ("u2", "memory")],
+        release: Release::GivesUp,
+        is_late: false,
+    },
+    Crowd {
+        max_batch: 1,
         loads: &[("u1", ADA), ("u2", "")],
-        is_stopped: true,
+        release: Release::Stops,
         is_late: false,
     },
     Crowd {
         max_batch: 2,
         loads: &[("u1", ADA), ("u2", "")],
-        is_stopped: true,
+        release: Release::Stops,
         is_late: true,
     },
 ];

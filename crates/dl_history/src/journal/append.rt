@@ -3,6 +3,7 @@
 ghost use Rattle.std.specs.Prelude.{◌≡◌, ◌+◌, ◌<◌, ◌≤◌, ◌∷◌, ◌++◌, [], IfOk, OnErr, OnOk, length};
 ghost use Rattle.std.specs.List.{repeat};
 ghost use Rattle.dl_cells.specs.Cells.{cell_of, row_len};
+ghost use Rattle.dl_desk.specs.Limits.{largest_limit};
 ghost use Rattle.dl_history.specs.declared.journal.append.AppendFault.TheVariants.{OutOfMemory};
 ghost use Rattle.dl_history.specs.Entries.{told};
 ghost use Rattle.dl_history.specs.Journal.{AreBlank, waiting};
@@ -13,7 +14,6 @@ use crate::journal::Journal;
 use crate::name::LoaderName;
 use crate::rows::Rows;
 use dl_cells::{CellRow, Reader};
-use dl_desk::LARGEST_LIMIT;
 use std::alloc::{AllocError, Global};
 use std::sync::ledger::Share;
 
@@ -120,7 +120,7 @@ impl<L: LoaderName> Journal<L> {
     fn next_cell(&self, rows: &Rows<L>, cells: u32) -> u32
         requires { length self.now.cells + cells ≤ L.service.rules.limits.max_cells }
         ensures first { result ≡ length self.now.cells }
-        ensures fits { result + cells ≤ LARGEST_LIMIT }
+        ensures fits { result + cells ≤ largest_limit }
     {
         let most = rows.limits().max_cells() as usize;
         let first = self.cells();
@@ -138,7 +138,7 @@ fn blank_readers(
     count: u32,
 ) -> Result<Vec<Reader<Ending>>, AllocError>
     requires in_row { from + count ≤ row_len row.now }
-    requires fits { from + count ≤ LARGEST_LIMIT }
+    requires fits { from + count ≤ largest_limit }
     ensures count { IfOk result (λ readers. length readers.items ≡ count) }
     ensures blank { IfOk result (λ readers. AreBlank row.now from readers.items) }
 {

@@ -1,7 +1,9 @@
 //! What a caller holds.
 
-ghost use Rattle.std.specs.Prelude.{false};
+ghost use Rattle.std.specs.Prelude.{false, IfSome};
 ghost use Rattle.std.specs.Option.{ForSome};
+ghost use Rattle.dl_history.specs.Service.{Answers};
+ghost use Rattle.dl_loader.specs.Asks.{source_asked};
 ghost use Rattle.dl_loader.specs.Pass.{GaveTicket};
 
 use dl_desk::{FetchKey, LoadReply, Outcome};
@@ -45,20 +47,20 @@ impl<'a, L: LoaderName> Hand<'a, L> {
         loader.load_many(rt, alloc, &mut self.pass, keys)
     }
 
-    /// Loads a key by the law of one event. The reply is that of a load, where no cell refuses anything.
-    pub(super) fn load_by_law<S: Source>(
+    /// Makes a call by the law of one event, and lets the ticket go. The answer has how many cells refused their outcome.
+    pub(super) fn ask<S: Source>(
         &mut self,
         rt: &impl Wait,
         alloc: Global,
         loader: &Loader<L>,
-        key: &FetchKey,
-    ) -> Result<Option<LoadReply>, CallFault> {
+        ask: Ask<'_, S>,
+    ) -> Result<(Reply, u32), CallFault>
+        requires { IfSome (source_asked ask) (λ source. Answers (S.answer source) L.service) }
+    {
         self.ticket = None;
-        let ask: Ask<'_, S> = Ask::Load(key);
         let mut book = loader.lock(rt);
         match laws::event(alloc, loader, &mut *book, &mut self.pass, ask) {
-            Ok((Reply::Loaded(reply), 0)) => Ok(Some(reply)),
-            Ok(_) => Ok(None),
+            Ok(made) => Ok(made),
             Err((fault, _ask)) => Err(fault),
         }
     }

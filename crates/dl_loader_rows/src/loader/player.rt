@@ -43,7 +43,7 @@ impl<'a, L: LoaderName, S: Source, R: Abort + Wait> Stage<'a, L, S, R> {
         match step {
             Step::Load(id, want) => self.load(hand, id, *want),
             Step::LoadMany(ids, want) => self.load_many(hand, ids, *want),
-            Step::LoadByLaw(id, want) => self.load_by_law(hand, id, *want),
+            Step::ByLaw(asked, want) => self.by_law(hand, asked, want),
             Step::Prime(id, primed, want) => self.prime(hand, id, primed, *want),
             Step::Clear(id, want) => self.clear(hand, id, *want),
             Step::ClearAll(want) => self.clear_all(hand, *want),
@@ -85,12 +85,6 @@ impl<'a, L: LoaderName, S: Source, R: Abort + Wait> Stage<'a, L, S, R> {
             Ok(tickets) => assert_replies(self.rt, tickets.as_slice(), self.accepted(want)),
             Err(fault) => assert_eq!(self.rt; Some(fault), want.err()),
         }
-    }
-
-    fn load_by_law(&self, hand: &mut Hand<'a, L>, id: &str, want: Result<LoadReply, CallFault>) {
-        let key = user(self.rt, self.alloc, id);
-        let reply = hand.load_by_law::<S>(self.rt, self.alloc, self.loader, &key);
-        assert_eq!(self.rt; reply, want.map(Some));
     }
 
     fn prime(
@@ -141,7 +135,7 @@ impl<'a, L: LoaderName, S: Source, R: Abort + Wait> Stage<'a, L, S, R> {
     }
 
     /// What the source answers to a job.
-    fn fetch(&self, job: Job) -> Fetched<'a, S>
+    pub(super) fn fetch(&self, job: Job) -> Fetched<'a, S>
         requires { Answers (S.answer self.now.source.now) L.service }
         ensures { Answers (S.answer (source_of result)) L.service }
     {

@@ -12,8 +12,8 @@ pub(super) enum Step {
     Load(&'static str, Result<LoadReply, CallFault>),
     /// The load of several keys. Its tickets are let go.
     LoadMany(Ids, Result<&'static [LoadReply], CallFault>),
-    /// The load of a key by the law of one event, on the locked book.
-    LoadByLaw(&'static str, Result<LoadReply, CallFault>),
+    /// A call by the law of one event, on the locked book.
+    ByLaw(Asked, Result<Told, CallFault>),
     /// The prime of a key.
     Prime(&'static str, Primed, Result<PrimeReply, CallFault>),
     /// The clear of a key.
@@ -40,6 +40,28 @@ pub(super) enum Step {
         calls: usize,
         front: u32,
     },
+}
+
+/// A call as a value, with its arguments.
+pub(super) enum Asked {
+    Load(&'static str),
+    LoadMany(Ids),
+    Prime(&'static str, Primed),
+    Clear(&'static str),
+    ClearAll,
+    Dispatch,
+    Settle(u32, Ids),
+    Fail(u32, Ids, GiveUp),
+}
+
+/// The reply to a call as the history tells it.
+pub(super) enum Told {
+    Loaded(LoadReply),
+    Many(&'static [LoadReply]),
+    Primed(u32),
+    Kept,
+    Done,
+    Sent(&'static [(u32, Ids)]),
 }
 
 /// What a key is primed with.
@@ -88,3 +110,6 @@ pub(super) struct Closed {
 
 /// The row of the user `u1`.
 pub(super) const ADA: &str = r#"{"best":"u2","friends":["u2","u3"],"name":"Ada"}"#;
+
+/// The row of the user `u2`.
+pub(super) const BOB: &str = r#"{"best":"u1","friends":[],"name":"Bob"}"#;

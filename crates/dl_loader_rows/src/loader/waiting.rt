@@ -6,7 +6,9 @@ ghost use Rattle.dl_history.specs.Service.{Answers};
 ghost use Rattle.dl_loader.specs.Opening.{Names};
 
 use super::keys::{assert_shows, user};
-use dl_loader::{CloseFault, Loader, LoaderName, MOST_CALLERS, Opening, Pass, Stopped, Ticket};
+use dl_loader::{
+    CloseFault, GiveUp, Loader, LoaderName, MOST_CALLERS, Opening, Pass, Stopped, Ticket,
+};
 use dl_source::Source;
 use dl_workers::end_jobs;
 use std::alloc::Global;
@@ -22,14 +24,25 @@ pub(super) const CALLERS: u32 = 6;
 /// How often a caller looks whether the others have come, until it gives up.
 const MOST_LOOKS: u32 = 10_000_000;
 
+/// How the first caller releases the others from their waiting.
+#[derive(Clone, Copy, PartialEq, Eq)]
+pub(super) enum Release {
+    /// It ends each batch by what the source answers.
+    Ends,
+    /// It fails the only batch for want of memory.
+    GivesUp,
+    /// It stops the loader.
+    Stops,
+}
+
 /// Callers that wait.
 pub(super) struct Crowd {
     /// The most keys of a batch.
     pub(super) max_batch: u32,
     /// The users that the callers load, in turn, with the outcomes that they are to read.
     pub(super) loads: &'static [(&'static str, &'static str)],
-    /// Whether the first caller stops the loader once all have loaded. Else it ends each batch.
-    pub(super) is_stopped: bool,
+    /// What the first caller does once all have loaded.
+    pub(super) release: Release,
     /// Whether the other callers wait only after that.
     pub(super) is_late: bool,
 }
@@ -39,7 +52,7 @@ pub(super) struct Crowd {
 struct Meeting {
     /// How many have loaded, beside the first.
     loaded: AtomicU32,
-    /// Whether the first has ended each batch or stopped the loader.
+    /// Whether the first has ended the waiting.
     is_done: AtomicBool,
 }
 
@@ -96,7 +109,8 @@ pub(super) fn wait_at_once<
     );
     let refused = loader.close(alloc, passes).err().map(|(fault, _, _)| fault);
     let unsettled = CloseFault::Unsettled { batch: 0 };
-    assert_eq!(rt; refused, crowd.is_stopped.then_some(unsettled));
+    let is_stopped = crowd.release == Release::Stops;
+    assert_eq!(rt; refused, is_stopped.then_some(unsettled));
 }
 
 /// Each caller takes part on a thread of its own.
@@ -152,12 +166,13 @@ fn take_part<L: LoaderName, S: Source, R: Abort + Wait>(
         }
     }
     let waited = loader.wait(rt, pass, &mut ticket);
-    assert_eq!(rt; waited.err(), crowd.is_stopped.then_some(Stopped));
-    let text = if crowd.is_stopped { None } else { Some(text) };
+    let is_stopped = crowd.release == Release::Stops;
+    assert_eq!(rt; waited.err(), is_stopped.then_some(Stopped));
+    let text = if is_stopped { None } else { Some(text) };
     assert_shows(rt, alloc, ticket.look(), text);
 }
 
-/// Once all others have loaded, ends each batch or stops the loader.
+/// Once all others have loaded, ends their waiting.
 fn lead<L: LoaderName, S: Source, R: Abort + Wait>(
     rt: &R,
     alloc: Global,
@@ -171,11 +186,29 @@ fn lead<L: LoaderName, S: Source, R: Abort + Wait>(
     ensures { pass.new.part.tickets ≡ pass.old.part.tickets }
 {
     meeting.await_loads(rt);
-    if crowd.is_stopped {
-        loader.stop(rt);
-    } else {
-        let jobs = loader.dispatch(rt, alloc, pass).expect(rt, "no jobs");
-        end_jobs(rt, alloc, loader, source, pass, jobs).expect(rt, "no end");
+    match crowd.release {
+        Release::Ends => {
+            let jobs = loader.dispatch(rt, alloc, pass).expect(rt, "no jobs");
+            end_jobs(rt, alloc, loader, source, pass, jobs).expect(rt, "no end");
+        }
+        Release::GivesUp => give_up(rt, alloc, loader, pass),
+        Release::Stops => loader.stop(rt),
     }
     meeting.is_done.store(true, Ordering::SeqCst);
+}
+
+/// Sends the only batch, and fails it for want of memory.
+fn give_up<L: LoaderName, R: Abort + Wait>(
+    rt: &R,
+    alloc: Global,
+    loader: &Loader<L>,
+    pass: &mut Pass<L>,
+)
+    ensures { pass.new.part.tickets ≡ pass.old.part.tickets }
+{
+    let mut jobs = loader.dispatch(rt, alloc, pass).expect(rt, "no jobs");
+    let job = jobs.pop().expect(rt, "no job");
+    assert!(rt; jobs.is_empty());
+    let failed = loader.fail(rt, alloc, pass, job, GiveUp::Memory);
+    failed.map_err(|(fault, _)| fault).expect(rt, "no end");
 }

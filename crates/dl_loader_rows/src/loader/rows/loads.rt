@@ -3,11 +3,13 @@
 use crate::loader::play;
 use crate::loader::step::Primed::{KeyError, NoMemory, Value};
 use crate::loader::step::Step::{
-    Clear, ClearAll, Dispatch, Entries, Load, LoadByLaw, LoadMany, Look, Prime, Saw, Settle, Wait,
+    ByLaw, Clear, ClearAll, Dispatch, Entries, Load, LoadMany, Look, Prime, Saw, Settle, Wait,
 };
-use crate::loader::step::{ADA, Closed, Part, Row};
+use crate::loader::step::{ADA, Asked, BOB, Closed, Part, Row, Told};
 use dl_desk::LoadReply::{Fresh, Hit};
+use dl_loader::CallFault::{NoBatch, NotSent, SettledBefore, WrongKeys};
 use dl_loader::EntryKind::{Call, Saw as Read};
+use dl_loader::GiveUp::Memory;
 use dl_loader::PrimeReply::{Kept, Primed};
 use dl_loader::{CloseFault, EntryKind};
 
@@ -302,28 +304,88 @@ fn calls_on_nothing(rt: HostRuntime) {
     play(&rt, rt.alloc(), &NOTHING);
 }
 
+// Each call, made as a value on the locked book.
 static BY_THE_LAW: Row = Row {
     limits: (2, 8, 16),
     callers: 1,
     parts: &[Part {
         steps: &[
-            (0, LoadByLaw("u1", Ok(Fresh { cell: 0, batch: 0 }))),
-            (0, ClearAll(Ok(()))),
             (
                 0,
-                Entries {
-                    kinds: &[Call { at: 0 }, Call { at: 1 }],
-                    calls: 2,
-                    front: 2,
-                },
+                ByLaw(
+                    Asked::Load("u1"),
+                    Ok(Told::Loaded(Fresh { cell: 0, batch: 0 })),
+                ),
+            ),
+            (
+                0,
+                ByLaw(
+                    Asked::LoadMany(&["u1", "u2"]),
+                    Ok(Told::Many(&[Hit(0), Fresh { cell: 1, batch: 0 }])),
+                ),
+            ),
+            (0, ByLaw(Asked::Prime("u1", Value("1")), Ok(Told::Kept))),
+            (
+                0,
+                ByLaw(Asked::Prime("u3", Value("1")), Ok(Told::Primed(2))),
+            ),
+            (0, ByLaw(Asked::Settle(0, &["u1", "u2"]), Err(NotSent))),
+            (0, ByLaw(Asked::Fail(1, &["u1"], Memory), Err(NoBatch))),
+            (
+                0,
+                ByLaw(Asked::Dispatch, Ok(Told::Sent(&[(0, &["u1", "u2"])]))),
+            ),
+            (0, ByLaw(Asked::Settle(0, &["u1"]), Err(WrongKeys))),
+            (0, ByLaw(Asked::Settle(0, &["u1", "u2"]), Ok(Told::Done))),
+            (0, ByLaw(Asked::Clear("u1"), Ok(Told::Done))),
+            (
+                0,
+                ByLaw(
+                    Asked::Load("u1"),
+                    Ok(Told::Loaded(Fresh { cell: 3, batch: 1 })),
+                ),
+            ),
+            (0, ByLaw(Asked::Dispatch, Ok(Told::Sent(&[(1, &["u1"])])))),
+            (0, ByLaw(Asked::Fail(1, &["u1"], Memory), Ok(Told::Done))),
+            (
+                0,
+                ByLaw(Asked::Fail(1, &["u1"], Memory), Err(SettledBefore)),
+            ),
+            (0, ByLaw(Asked::ClearAll, Ok(Told::Done))),
+            (
+                0,
+                ByLaw(Asked::Prime("u2", Value("2")), Ok(Told::Primed(4))),
             ),
         ],
         passes: 1,
-        close: Err(CloseFault::Unsettled { batch: 0 }),
+        close: Ok(&Closed {
+            events: 12,
+            callers: &[(
+                0,
+                &[
+                    Call { at: 0 },
+                    Call { at: 1 },
+                    Call { at: 2 },
+                    Call { at: 3 },
+                    Call { at: 4 },
+                    Call { at: 5 },
+                    Call { at: 6 },
+                    Call { at: 7 },
+                    Call { at: 8 },
+                    Call { at: 9 },
+                    Call { at: 10 },
+                    Call { at: 11 },
+                ],
+                &[0, 1, 2, 3, 4, 5, 6, 7, 8, 9, 10, 11],
+            )],
+            ends: &[(0, true), (1, false)],
+            batches: &[(&["u1", "u2"], true), (&["u1"], false)],
+            outcomes: &[ADA, BOB, "1", "memory", "2"],
+        }),
     }],
 };
 
 #[test]
-fn a_load_by_the_law(rt: HostRuntime) {
+fn each_call_by_the_law(rt: HostRuntime) {
     play(&rt, rt.alloc(), &BY_THE_LAW);
 }

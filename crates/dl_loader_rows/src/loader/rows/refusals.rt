@@ -3,10 +3,10 @@
 use crate::loader::play;
 use crate::loader::step::Primed::{NoMemory, Value};
 use crate::loader::step::Step::{
-    Clear, ClearAll, Dispatch, Entries, Fail as GivesUp, Load, LoadByLaw, LoadMany, Prime, Settle,
+    ByLaw, Clear, ClearAll, Dispatch, Entries, Fail as GivesUp, Load, LoadMany, Prime, Settle,
     Stop, Wait,
 };
-use crate::loader::step::{ADA, Closed, Part, Row};
+use crate::loader::step::{ADA, Asked, Closed, Part, Row};
 use dl_desk::LoadReply::{Fresh, Hit};
 use dl_loader::CallFault::{
     CellsFull, LogFull, NoBatch, NotSent, SettledBefore, Stopped, WrongKeys,
@@ -68,7 +68,7 @@ static FULL_LOG_BY_EACH: Row = Row {
             (0, Dispatch(Ok(&[(0, &["u1"])]))),
             (0, Load("u1", Err(LOG_FULL))),
             (0, Load("u2", Err(LOG_FULL))),
-            (0, LoadByLaw("u1", Err(LOG_FULL))),
+            (0, ByLaw(Asked::Load("u1"), Err(LOG_FULL))),
             (0, LoadMany(&[], Err(LOG_FULL))),
             (0, LoadMany(&["u1", "u2"], Err(LOG_FULL))),
             (0, Prime("u1", Value("1"), Err(LOG_FULL))),
@@ -139,7 +139,7 @@ static STOPPED_BY_EACH: Row = Row {
             (0, Stop),
             (0, Wait(Ok(ADA))),
             (0, Load("u1", Err(Stopped))),
-            (0, LoadByLaw("u1", Err(Stopped))),
+            (0, ByLaw(Asked::Load("u1"), Err(Stopped))),
             (0, LoadMany(&["u1"], Err(Stopped))),
             (0, LoadMany(&[], Err(Stopped))),
             (0, Prime("u2", Value("1"), Err(Stopped))),
@@ -183,7 +183,7 @@ static FULL_CELLS: Row = Row {
         steps: &[
             (0, Load("u1", Ok(Fresh { cell: 0, batch: 0 }))),
             (0, Load("u2", Err(CELLS_FULL))),
-            (0, LoadByLaw("u2", Err(CELLS_FULL))),
+            (0, ByLaw(Asked::Load("u2"), Err(CELLS_FULL))),
             (0, LoadMany(&["u1", "u2"], Err(CELLS_FULL))),
             (0, LoadMany(&["u2"], Err(CELLS_FULL))),
             (0, Prime("u2", NoMemory, Err(CELLS_FULL))),
