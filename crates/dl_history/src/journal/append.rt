@@ -91,7 +91,7 @@ impl<L: LoaderName> Journal<L> {
     ) -> Result<(Reader<Event>, Vec<Reader<Ending>>), AllocError>
         requires place { place < L.service.rules.limits.max_calls }
         requires in_row { first + cells ≤ L.service.rules.limits.max_cells }
-        requires fits { first + cells ≤ LARGEST_LIMIT }
+        requires fits { first + cells ≤ largest_limit }
         ensures history { self.new.history ≡ self.old.history }
         ensures cells { self.new.cells ≡ self.old.cells }
         ensures room { OnOk result (cells + 1 ≤ self.new.spare) }
