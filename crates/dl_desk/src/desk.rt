@@ -232,6 +232,8 @@ impl Desk {
 
     /// Prepares the load of one more key, where more cells may be begun. The error is want of memory, and part of
     /// the step may be prepared then.
+    // Inlined for the sake of loads that find their key.
+    #[inline(always)]
     fn put(&mut self, alloc: Global, key: &FetchKey) -> Result<LoadReply, AllocError>
         requires not_full { self.old.prepared.cells < self.old.prepared.rules.limits.max_cells }
         ensures book { self.new.book ≡ self.old.book }
@@ -276,6 +278,8 @@ impl Desk {
     }
 
     /// Prepares the load of one more key. A refusal may leave part of the step prepared.
+    // Inlined for the sake of loads that find their key.
+    #[inline(always)]
     fn load_step(&mut self, alloc: Global, key: &FetchKey) -> Result<LoadReply, DeskFault>
         ensures book { self.new.book ≡ self.old.book }
         ensures rules { self.new.prepared.rules ≡ self.old.prepared.rules }

@@ -44,6 +44,8 @@ impl Desk {
     ///
     /// # Errors
     /// As [`load`](Desk::load).
+    // Inlined for the sake of loads that find their key.
+    #[inline(always)]
     pub fn prepare_load(&mut self, alloc: Global, key: &FetchKey) -> Result<LoadReply, DeskFault>
         ensures book { self.new.book ≡ self.old.book }
         ensures rules { self.new.prepared.rules ≡ self.old.book.rules }
