@@ -2,7 +2,7 @@
 
 use dl_desk::LimitFault;
 use dl_plans::{Input, PlanFault, Script, read_input, run_script};
-use std::alloc::Global;
+use std::alloc::{AllocError, Global};
 use std::hash::RandomState;
 use std::test::Fail;
 
@@ -11,7 +11,7 @@ const ENDS: &str =
     r#"{"script":1,"maxBatchSize":1,"calls":[{"load":["t","a"]},{"load":["t","b"]},{"dispatch":true},{"settle":1},{"fail":0},{"load":["t","a"]},{"load":["t","b"]},{"dispatch":true}]}"#;
 
 /// Worked rows: what each shows, a script's document, and the text that the script gives.
-pub(crate) static ROWS: [(&str, &str, &str); 16] = [
+pub(crate) static ROWS: [(&str, &str, &str); 17] = [
     (
         "a second load hits",
         r#"{"script":1,"maxBatchSize":2,"calls":[{"load":["t","a"]},{"load":["t","a"]}]}"#,
@@ -86,6 +86,11 @@ pub(crate) static ROWS: [(&str, &str, &str); 16] = [
         "ends come in any order",
         ENDS,
         "fresh 0 0\nfresh 1 1\nsent 2\njob 0 [\"t\",\"a\"]\njob 1 [\"t\",\"b\"]\nok\nok\nfresh 2 2\nhit 1\nsent 1\njob 2 [\"t\",\"a\"]\n",
+    ),
+    (
+        "no batch has the greatest number",
+        r#"{"script":1,"calls":[{"settle":4294967295},{"fail":4294967295}]}"#,
+        "refused NoBatch\nrefused NoBatch\n",
     ),
     ("no calls give nothing", r#"{"script":1,"calls":[]}"#, ""),
 ];
@@ -192,7 +197,7 @@ fn other_documents_are_refused(rt: HostRuntime) {
 
 /// Items of a script's list that are no calls: of no name or of two, of none that a script has, and each name with other
 /// arguments than its own.
-static NO_CALLS: [&str; 20] = [
+static NO_CALLS: [&str; 21] = [
     "5",
     "{}",
     r#"{"load":["t","a"],"clear":["t","a"]}"#,
@@ -211,6 +216,7 @@ static NO_CALLS: [&str; 20] = [
     r#"{"dispatch":false}"#,
     r#"{"settle":-1}"#,
     r#"{"settle":4294967296}"#,
+    r#"{"fail":4294967296}"#,
     r#"{"fail":1.0}"#,
     r#"{"fail":"0"}"#,
 ];
@@ -223,6 +229,35 @@ fn other_calls_are_refused(rt: HostRuntime) -> Result<(), Fail> {
         )?;
         let fault = refusal(rt.alloc(), document.as_bytes());
         assert_eq!(rt; fault, Some(PlanFault::BadCall { call: 1 }), "{item}");
+    }
+    Ok(())
+}
+
+/// Why a script of one call is refused, where that is no call.
+const NO_CALL: Option<PlanFault> = Some(PlanFault::BadCall { call: 0 });
+
+/// Bytes of the table and of the id of a call's key, and why it is no call, where it is none.
+static LENGTHS: [(usize, usize, Option<PlanFault>); 6] = [
+    (1, 1, None),
+    (64, 128, None),
+    (0, 1, NO_CALL),
+    (65, 1, NO_CALL),
+    (1, 0, NO_CALL),
+    (1, 129, NO_CALL),
+];
+
+/// A script that loads a key, whose texts have so many bytes.
+fn load_of(alloc: Global, table: usize, id: usize) -> Result<String, AllocError> {
+    let (table, id) = ("x".repeat(alloc, table)?, "x".repeat(alloc, id)?);
+    format!(in alloc; r#"{{"script":1,"calls":[{{"load":["{table}","{id}"]}}]}}"#)
+}
+
+#[test]
+fn a_call_takes_keys_up_to_their_limits(rt: HostRuntime) -> Result<(), Fail> {
+    for (table, id, want) in &LENGTHS {
+        let document = load_of(rt.alloc(), *table, *id)?;
+        let fault = refusal(rt.alloc(), document.as_bytes());
+        assert_eq!(rt; fault, *want, "a table of {table} bytes, an id of {id}");
     }
     Ok(())
 }

@@ -28,6 +28,8 @@ struct Run {
     fails: Fails,
     status: u8,
     used: Used,
+    /// The line on standard error, where that is the program's own and not of clap.
+    line: Option<&'static str>,
 }
 
 /// What a run used: whether it asked for standard input, and whether it printed on each of the two others.
@@ -46,6 +48,9 @@ struct Host {
     input: Cell<bool>,
     output: Cell<bool>,
     error: Cell<bool>,
+    // How often something was printed on standard error, and how often that was the run's line.
+    prints: Cell<u32>,
+    lines: Cell<u32>,
 }
 
 impl Alloc for Host {
@@ -126,11 +131,16 @@ impl Print for Host {
 impl Eprint for Host {
     fn eprint<D: Display + Drop>(&self, _value: D) -> io::Result<()> {
         self.error.set(true);
+        self.prints.set(self.prints.get().saturating_add(1));
         Ok(())
     }
 
     fn eprintln<D: Display + Drop>(&self, value: D) -> io::Result<()> {
-        self.eprint(value)
+        let text = format!(in self.alloc; "{value}")?;
+        if self.run.line == Some(text.as_str()) {
+            self.lines.set(self.lines.get().saturating_add(1));
+        }
+        self.eprint(text)
     }
 }
 
@@ -167,6 +177,7 @@ const RUN: Run = Run {
     fails: Fails::Nothing,
     status: 0,
     used: ANSWERED,
+    line: None,
 };
 
 static RUNS: [Run; 11] = [
@@ -190,6 +201,7 @@ static RUNS: [Run; 11] = [
         input: "",
         status: 1,
         used: FAILED,
+        line: Some("refused: not json"),
         ..RUN
     },
     Run {
@@ -198,6 +210,7 @@ static RUNS: [Run; 11] = [
         input: "[1]",
         status: 1,
         used: FAILED,
+        line: Some("refused: version"),
         ..RUN
     },
     Run {
@@ -233,6 +246,7 @@ static RUNS: [Run; 11] = [
         fails: Fails::Output,
         status: 3,
         used: FAILED,
+        line: Some("failed: write"),
         ..RUN
     },
     Run {
@@ -252,6 +266,8 @@ fn assert_ends(rt: &impl Abort, alloc: Global, run: &'static Run) {
         input: Cell::new(false),
         output: Cell::new(false),
         error: Cell::new(false),
+        prints: Cell::new(0),
+        lines: Cell::new(0),
     };
     assert_eq!(rt; plans(&host), ExitCode::from(run.status), "{}", run.about);
     let used = Used {
@@ -260,6 +276,10 @@ fn assert_ends(rt: &impl Abort, alloc: Global, run: &'static Run) {
         error: host.error.get(),
     };
     assert_eq!(rt; used, run.used, "{}", run.about);
+    if run.line.is_some() {
+        let printed = (host.lines.get(), host.prints.get());
+        assert_eq!(rt; printed, (1, 1), "{}", run.about);
+    }
 }
 
 #[test]

@@ -2,7 +2,7 @@
 
 use crate::source::json;
 use dl_desk::{FetchKey, Outcome, Text};
-use dl_terms::{Answer, Known, Node, Term, Wanted, explore, plan};
+use dl_terms::{Answer, EvalFault, Known, Node, Term, Wanted, explore, plan};
 use indexmap::{IndexMap, IndexSet};
 use std::alloc::{AllocError, Global};
 use std::hash::RandomState;
@@ -149,5 +149,77 @@ fn a_term_wants_all_its_keys_at_once(rt: HostRuntime) -> Result<(), Fail> {
         text.as_str(),
         r#"[[{"name":"Bob"},3,{"name":"Bob"}],"Bob",3]"#
     );
+    Ok(())
+}
+
+/// Bytes of a table's name and of the text that a field has, and whether that is an id in the table.
+static IDS: [(usize, usize, bool); 5] = [
+    (4, 0, false),
+    (4, 1, true),
+    (4, 128, true),
+    (64, 128, true),
+    (4, 129, false),
+];
+
+/// An object whose field `f` has this JSON text.
+fn object(rt: &impl Abort, alloc: Global, field: &str) -> Box<Term> {
+    let text = format!(in alloc; "{{\"f\":{field}}}").expect(rt, "no memory");
+    part(rt, alloc, Term::Value(json(rt, alloc, text.as_str())))
+}
+
+/// A follow of the id in the table, and an each whose list has it alone.
+fn loads_of(rt: &impl Abort, alloc: Global, table: &str, id: &str) -> (Term, Term) {
+    let text = format!(in alloc; "\"{id}\"").expect(rt, "no memory");
+    let list = format!(in alloc; "[\"{id}\"]").expect(rt, "no memory");
+    let follow = Term::Follow {
+        part: object(rt, alloc, text.as_str()),
+        field: name(rt, alloc, "f"),
+        table: name(rt, alloc, table),
+    };
+    let each = Term::Each {
+        part: object(rt, alloc, list.as_str()),
+        field: name(rt, alloc, "f"),
+        table: name(rt, alloc, table),
+    };
+    (follow, each)
+}
+
+/// The term waits for this id alone, or, where that is none, has ended by the fault of an id that is none.
+fn assert_waits(
+    rt: &impl Abort,
+    alloc: Global,
+    hashing: RandomState,
+    term: Term,
+    id: Option<&str>,
+) {
+    let mut node = plan(alloc, term).expect(rt, "no memory");
+    let known: Known<'_> = IndexMap::with_hasher(alloc, hashing);
+    let wanted = explored(alloc, hashing, &mut node, &known).expect(rt, "no memory");
+    let want = match id {
+        Some(id) => format!(in alloc; "{id} ").expect(rt, "no memory"),
+        None => String::new(alloc),
+    };
+    assert_eq!(rt; wanted.as_str(), want.as_str());
+    assert_eq!(rt; is_no_key(node), id.is_none());
+}
+
+/// Whether a node has ended by the fault of an id that is none.
+fn is_no_key(node: Node) -> bool {
+    matches!(node.into_answer(), Some(Answer::Fault(EvalFault::NotAKey)))
+}
+
+#[test]
+fn an_id_has_1_to_128_bytes(rt: HostRuntime) -> Result<(), Fail> {
+    let hashing = RandomState::new(&rt)?;
+    for (table, id, is_id) in &IDS {
+        let (table, id) = (
+            "t".repeat(rt.alloc(), *table)?,
+            "x".repeat(rt.alloc(), *id)?,
+        );
+        let (follow, each) = loads_of(&rt, rt.alloc(), table.as_str(), id.as_str());
+        let want = is_id.then_some(id.as_str());
+        assert_waits(&rt, rt.alloc(), hashing, follow, want);
+        assert_waits(&rt, rt.alloc(), hashing, each, want);
+    }
     Ok(())
 }
