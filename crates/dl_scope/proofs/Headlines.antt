@@ -1,0 +1,73 @@
+-- The headline, from what serving plans leaves and the history of the closed loader.
+use Rattle.std.proofs.Common.{◌≡◌, ◌∙◌, ap, sym, subst, refl, ℕ, ◌+◌, ◌<◌, ◌≤◌, List, [], ◌∷◌, length, map, Some, arith}
+use Rattle.std.specs.Prelude.{slice_get, Result, Ok, Err, IfOk, OnOk}
+use Rattle.std.proofs.lemmas.List.{length-map}
+use Rattle.dl_history.specs.Agrees.{Account, entries_of}
+use Rattle.dl_history.specs.Closed.{Closed, IsClosed}
+use Rattle.dl_history.specs.Lists.{Every}
+use Rattle.dl_history.specs.Service.{Service}
+use Rattle.dl_loader.specs.Closing.{account_of, accounts_of}
+use Rattle.dl_loader.specs.Pass.{Part, Pass}
+use Rattle.dl_workers.specs.declared.queue.Tally.{Tally}
+use Rattle.dl_scope.specs.Follows.{Follows}
+use Rattle.dl_scope.specs.Headline.{Headline, TellsEnd, given_up}
+use Rattle.dl_scope.specs.Inside.Served.{AreServed}
+use Rattle.dl_scope.specs.Report.{Report, report}
+use Rattle.dl_scope.specs.declared.fault.ScopeFault.{ScopeFault}
+use Rattle.dl_scope.specs.declared.plan.Plan.{Plan}
+use Rattle.dl_scope.specs.declared.plan.StepAnswer.{StepAnswer}
+use Rattle.dl_scope.proofs.Placed.{parts_of, part_account, entries_at, plan_at, served_long, served_numbered, worker_after}
+
+accounts_by_parts : (passes : List Pass) → accounts_of passes ≡ map part_account (parts_of passes)
+accounts_by_parts [] = refl
+accounts_by_parts (p ∷ passes) = ap (λ (given : List Account). account_of p.part ∷ given) (accounts_by_parts passes)
+
+module _ (service : Service) (plans : List Plan) (answers : List (List StepAnswer)) (rounds : List ℕ) (passes : List Pass) (h : Closed)
+    (is : h.accounts ≡ accounts_of passes) (served : AreServed 0 plans answers rounds (parts_of passes)) where
+  -- the entries of a caller are those of its pass
+  entries_are : (n : ℕ) (p : Part) → slice_get (parts_of passes) n ≡ Some p → entries_of n h.accounts ≡ p.entries
+  entries_are n p at =
+      ap (entries_of n) (is ∙ accounts_by_parts passes)
+      ∙ entries_at 0 n n (parts_of passes) p (served_numbered 0 plans answers rounds (parts_of passes) served) (omega arith) at
+
+  plan_follows : (n : ℕ) (plan : Plan) (given : List StepAnswer) (r : ℕ) → slice_get plans n ≡ Some plan
+      → slice_get answers n ≡ Some given → slice_get rounds n ≡ Some r
+      → Follows n plan.steps.items (entries_of n h.accounts) given r
+  plan_follows n plan given r one two three =
+      let found = plan_at 0 n plans answers rounds (parts_of passes) served plan given r one two three in
+      let number : 0 + n ≡ n = omega arith in
+      subst (λ ls. Follows n plan.steps.items ls given r) (sym (entries_are n found.0 found.1))
+      (subst (λ k. Follows k plan.steps.items found.0.entries given r) number found.2)
+
+  long : length (parts_of passes) ≡ length h.accounts
+  long = length-map passes (λ (p : Pass). p.part) ∙ (sym (length-map passes (λ (p : Pass). account_of p.part)) ∙ ap length (sym is))
+
+  worker_ends : length h.accounts ≡ service.callers → (n : ℕ) → length plans ≤ n → n < service.callers → Every TellsEnd (entries_of n h.accounts)
+  worker_ends count n beyond inside =
+      let here : n < length (parts_of passes) = omega (arith, inside, count, long) in
+      let found = worker_after 0 n plans answers rounds (parts_of passes) served beyond here in
+      subst (λ ls. Every TellsEnd ls) (sym (entries_are n found.0 found.1)) found.2
+
+  pub headline : (tally : Tally) → IsClosed service h → tally.sent ≡ tally.taken + tally.left → given_up h.events ≡ []
+      → Headline service plans (report answers rounds h tally)
+  headline tally closed counted fetched =
+      let each = served_long 0 plans answers rounds (parts_of passes) served in
+      record {
+        legal = closed.legal;
+        count = closed.count;
+        each = closed.each;
+        agree = closed.agree;
+        answers_each = each.0;
+        rounds_each = each.1;
+        follow = plan_follows;
+        work = worker_ends closed.count;
+        ended = closed.ended;
+        fetched = fetched;
+        counted = counted;
+      }
+
+  -- the same of a report, if there is one
+  pub headline_of : (tally : Tally) (result : Result Report ScopeFault) → IsClosed service h → tally.sent ≡ tally.taken + tally.left
+      → IfOk result (λ made. made ≡ report answers rounds h tally) → OnOk result (given_up h.events ≡ []) → IfOk result (Headline service plans)
+  headline_of tally (Err fault) closed counted made fetched = tt
+  headline_of tally (Ok r) closed counted made fetched = subst (Headline service plans) (sym made) (headline tally closed counted fetched)

@@ -1,0 +1,15 @@
+mod Crossing
+mod Gave
+mod Headlines
+mod Least
+mod LoadedCells
+mod OwnAnswers
+mod OwnOutcomes
+mod OwnReads
+mod OwnSettles
+mod Placed
+mod Refusing
+mod SeatsBack
+mod Stretches
+mod Unprimed
+mod Worked

@@ -1,0 +1,122 @@
+-- Seats that are dealt out and given back.
+use Rattle.std.proofs.Common.{◌≡◌, ◌∙◌, ap, sym, refl, ℕ, ◌+◌, List, [], ◌∷◌, ◌++◌, length, map, arith, length-append, zero, suc, take, drop}
+use Rattle.std.specs.Prelude.{All, IfOk, Result, Ok, Err}
+use Rattle.std.specs.List.{AllByRecursion, AllZip}
+use Rattle.std.proofs.lemmas.List.{length-map}
+use Rattle.std.proofs.lemmas.List.Elements.{All-from_recursion, recursion_from_All, All-append, All-cons, All-nil, All-same}
+use Rattle.std.proofs.lemmas.Slice.Zip.{AllZip-long}
+use Rattle.dl_history.specs.Service.{Service}
+use Rattle.dl_workers.specs.Seats.{AreSeatsOf, IsSenderOf, IsTakerOf}
+use Rattle.dl_workers.specs.declared.queue.JobQueue.{JobQueue}
+use Rattle.dl_workers.specs.declared.seats.Sender.{Sender}
+use Rattle.dl_workers.specs.declared.seats.Taker.{Taker}
+use Rattle.dl_scope.specs.Inside.Kept.{PlanKept, WorkerKept}
+use Rattle.dl_scope.specs.declared.jobs.PlanJob.{PlanJob}
+use Rattle.dl_scope.specs.declared.jobs.PlanRun.{PlanRun}
+use Rattle.dl_scope.specs.declared.jobs.WorkerJob.{WorkerJob}
+use Rattle.dl_scope.specs.declared.jobs.WorkerRun.{WorkerRun}
+use Rattle.dl_loader.specs.Pass.{Pass, fresh}
+use Rattle.std.specs.declared.alloc.AllocError.{AllocError}
+use Rattle.dl_scope.specs.Inside.Served.{Ran}
+use Rattle.dl_scope.specs.declared.plan.Plan.{Plan}
+use Rattle.dl_scope.specs.declared.threads.Runs.{Runs}
+
+unmapped : {X Y : Type 0} (P : Y → Type 0) (f : X → Y) (xs : List X) → AllByRecursion P (map f xs) → AllByRecursion (λ x. P (f x)) xs
+unmapped P f [] all = tt
+unmapped P f (x ∷ xs) (one, others) = (one, unmapped P f xs others)
+
+-- what holds of each of a list's images
+pub all_unmapped : {X Y : Type 0} (P : Y → Type 0) (f : X → Y) (xs : List X) (ys : List Y) → map f xs ≡ ys → All P ys → All (λ x. P (f x)) xs
+all_unmapped P f xs ys is all = All-from_recursion (λ x. P (f x)) xs (unmapped P f xs (recursion_from_All P (map f xs) (All-same P (map f xs) ys is all)))
+
+front_by : {X : Type 0} (P : X → Type 0) (xs ys : List X) → AllByRecursion P (xs ++ ys) → AllByRecursion P xs
+front_by P [] ys all = tt
+front_by P (x ∷ xs) ys (one, others) = (one, front_by P xs ys others)
+
+last_by : {X : Type 0} (P : X → Type 0) (xs : List X) (y : X) → AllByRecursion P (xs ++ y ∷ []) → P y
+last_by P [] y (one, none) = one
+last_by P (x ∷ xs) y (one, others) = last_by P xs y others
+
+pub all_front : {X : Type 0} (P : X → Type 0) (xs all : List X) (y : X) → all ≡ xs ++ y ∷ [] → All P all → All P xs
+all_front P xs all y is each =
+    All-from_recursion P xs (front_by P xs (y ∷ []) (recursion_from_All P (xs ++ y ∷ []) (All-same P (xs ++ y ∷ []) all (sym is) each)))
+
+pub all_last : {X : Type 0} (P : X → Type 0) (xs all : List X) (y : X) → all ≡ xs ++ y ∷ [] → All P all → P y
+all_last P xs all y is each = last_by P xs y (recursion_from_All P (xs ++ y ∷ []) (All-same P (xs ++ y ∷ []) all (sym is) each))
+
+module _ {L : Type 0} (queue : JobQueue) (service : Service) where
+  senders_by : (jobs : List (PlanJob L)) (runs : List (PlanRun L)) → AllZip (PlanKept queue) jobs runs
+      → AllByRecursion (IsSenderOf queue) (map (λ (run : PlanRun L). run.sender) runs)
+  senders_by [] [] kept = tt
+  senders_by [] (run ∷ runs) kept = absurd kept
+  senders_by (job ∷ jobs) [] kept = absurd kept
+  senders_by (job ∷ jobs) (run ∷ runs) (one, others) = (one.0, senders_by jobs runs others)
+
+  takers_by : (jobs : List (WorkerJob L)) (runs : List (WorkerRun L)) → AllZip (WorkerKept queue service) jobs runs
+      → AllByRecursion (IsTakerOf queue) (map (λ (run : WorkerRun L). run.taker) runs)
+  takers_by [] [] kept = tt
+  takers_by [] (run ∷ runs) kept = absurd kept
+  takers_by (job ∷ jobs) [] kept = absurd kept
+  takers_by (job ∷ jobs) (run ∷ runs) (one, others) = (one.0, takers_by jobs runs others)
+
+  -- all seats are given back
+  pub seats_back : (jobs : List (PlanJob L)) (runs : List (PlanRun L)) (worker_jobs : List (WorkerJob L)) (worker_runs : List (WorkerRun L))
+      (own : Sender) (senders : List Sender) (takers : List Taker)
+      → AllZip (PlanKept queue) jobs runs → AllZip (WorkerKept queue service) worker_jobs worker_runs → IsSenderOf queue own
+      → length jobs + 1 ≡ queue.senders → length worker_jobs ≡ queue.takers
+      → senders ≡ map (λ (run : PlanRun L). run.sender) runs ++ own ∷ [] → takers ≡ map (λ (run : WorkerRun L). run.taker) worker_runs
+      → AreSeatsOf queue senders takers
+  seats_back jobs runs worker_jobs worker_runs own senders takers kept worked is_own count count2 are are2 =
+      let sent = map (λ (run : PlanRun L). run.sender) runs in
+      let took = map (λ (run : WorkerRun L). run.taker) worker_runs in
+      let long = AllZip-long (PlanKept queue) jobs runs kept in
+      let long2 = AllZip-long (WorkerKept queue service) worker_jobs worker_runs worked in
+      let mapped = length-map runs (λ (run : PlanRun L). run.sender) in
+      let mapped2 = length-map worker_runs (λ (run : WorkerRun L). run.taker) in
+      let whole = ap length are ∙ length-append sent (own ∷ []) in
+      let whole2 = ap length are2 in
+      record {
+        all_senders = omega (arith, long, mapped, whole, count);
+        all_takers = omega (arith, long2, mapped2, whole2, count2);
+        senders_of = All-same (IsSenderOf queue) senders (sent ++ own ∷ []) are (All-append (IsSenderOf queue) sent (own ∷ [])
+            (All-from_recursion (IsSenderOf queue) sent (senders_by jobs runs kept)) (All-cons (IsSenderOf queue) own [] is_own (All-nil (IsSenderOf queue))));
+        takers_of = All-same (IsTakerOf queue) takers took are2 (All-from_recursion (IsTakerOf queue) took (takers_by worker_jobs worker_runs worked));
+      }
+
+taken_apart : {X : Type 0} (xs : List X) (n : ℕ) → take n xs ++ drop n xs ≡ xs
+taken_apart [] zero = refl
+taken_apart [] (suc n) = refl
+taken_apart (x ∷ xs) zero = refl
+taken_apart (x ∷ xs) (suc n) = ap (λ ys. x ∷ ys) (taken_apart xs n)
+
+-- a list that was split off at a place
+pub split_at : {X : Type 0} (xs : List X) (n : ℕ) (front back : List X) → front ≡ take n xs → back ≡ drop n xs → front ++ back ≡ xs
+split_at xs n front back is is2 = ap (λ ys. ys ++ back) is ∙ (ap (λ ys. take n xs ++ ys) is2 ∙ taken_apart xs n)
+
+module _ {L : Type 0} (queue : JobQueue) (service : Service) (passes : List Pass) (plans : List Plan) (jobs : List (PlanJob L))
+    (workers : List (WorkerJob L)) where
+  -- what the threads gave back, if they were started
+  pub ran_all : (result : Result (Runs L) AllocError)
+      → map (λ (job : PlanJob L). job.pass) jobs ++ map (λ (job : WorkerJob L). job.pass) workers ≡ passes
+      → map (λ (job : PlanJob L). job.plan) jobs ≡ plans → length jobs + 1 ≡ queue.senders → length workers ≡ queue.takers
+      → IfOk result (λ runs. AllZip (PlanKept queue) jobs runs.plans.items)
+      → IfOk result (λ runs. AllZip (WorkerKept queue service) workers runs.workers.items)
+      → IfOk result (λ runs. IsSenderOf queue runs.own)
+      → IfOk result (Ran queue service passes plans)
+  ran_all (Err e) passes_are plans_are senders takers kept worked own = tt
+  ran_all (Ok runs) passes_are plans_are senders takers kept worked own = record {
+    plan_jobs = jobs;
+    worker_jobs = workers;
+    passes_are = passes_are;
+    plans_are = plans_are;
+    planned = kept;
+    worked = worked;
+    own_is = own;
+    all_senders = senders;
+    all_takers = takers;
+  }
+
+-- as many fresh parts as were asked for
+pub fresh_long : (n k : ℕ) → length (fresh n k) ≡ k
+fresh_long n zero = refl
+fresh_long n (suc k) = ap suc (fresh_long (n + 1) k)

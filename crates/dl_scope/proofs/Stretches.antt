@@ -1,0 +1,129 @@
+-- What steps leave, one after another.
+use Rattle.std.proofs.Common.{◌≡◌, ◌∙◌, ap, sym, subst, refl, ℕ, suc, ◌+◌, List, [], ◌∷◌, ◌++◌, length, append_assoc, append-nil, arith, zero, ◌≤◌}
+use Rattle.std.proofs.Common.{length-append}
+use Rattle.dl_history.specs.Entries.{Line, calls_of}
+use Rattle.dl_history.proofs.EntryLists.{calls_of-append}
+use Rattle.dl_loader.specs.Added.{Adds, Grows}
+use Rattle.dl_loader.specs.Pass.{Part}
+use Rattle.dl_desk.specs.declared.reply.Job.{Job}
+use Rattle.dl_history.specs.declared.event.Call.TheVariants.{LoadMany, Dispatch}
+use Rattle.dl_history.specs.declared.event.Reply.TheVariants.{Many, Sent}
+use Rattle.dl_loader.specs.Added.{line, saws}
+use Rattle.dl_terms.specs.Gives.{Pairs, frontier}
+use Rattle.dl_terms.specs.Tree.{Tree}
+use Rattle.dl_terms.specs.View.{term_view}
+use Rattle.dl_haxl.specs.Stretch.{Rounds, HandedOver}
+use Rattle.dl_scope.specs.declared.plan.Step.TheVariants.{Prime, Clear, ClearAll, Eval}
+use Rattle.dl_scope.specs.Follows.{Stretch, stretch, then, IsStep, AreSteps, Follows}
+use Rattle.dl_scope.specs.declared.plan.Step.{Step}
+use Rattle.dl_scope.specs.declared.plan.StepAnswer.{StepAnswer}
+
+-- stretches of the same entries, answers and rounds
+same_stretch : (ls ms : List Line) (given bs : List StepAnswer) (m n : ℕ) → ls ≡ ms → given ≡ bs → m ≡ n → stretch ls given m ≡ stretch ms bs n
+same_stretch ls ms given bs m n lines answers rounds =
+    ap (λ xs. stretch xs given m) lines ∙ (ap (λ xs. stretch ms xs m) answers ∙ ap (λ r. stretch ms bs r) rounds)
+
+abbrev nothing : Stretch
+nothing = stretch [] [] 0
+
+then_none : (s : Stretch) → then s nothing ≡ s
+then_none s = same_stretch (s.lines ++ []) s.lines (s.answers ++ []) s.answers (s.rounds + 0) s.rounds
+    (append-nil s.lines) (append-nil s.answers) (omega arith)
+
+none_then : (s : Stretch) → then nothing s ≡ s
+none_then s = same_stretch s.lines s.lines s.answers s.answers (0 + s.rounds) s.rounds refl refl (omega arith)
+
+then_assoc : (a b c : Stretch) → then (then a b) c ≡ then a (then b c)
+then_assoc a b c = same_stretch ((a.lines ++ b.lines) ++ c.lines) (a.lines ++ (b.lines ++ c.lines))
+    ((a.answers ++ b.answers) ++ c.answers) (a.answers ++ (b.answers ++ c.answers)) (a.rounds + b.rounds + c.rounds) (a.rounds + (b.rounds + c.rounds))
+    (append_assoc a.lines b.lines c.lines) (append_assoc a.answers b.answers c.answers) (omega arith)
+
+-- one step more
+pub steps_more : (caller first number : ℕ) (steps : List Step) (step : Step) (s own : Stretch) → number ≡ first + length steps
+    → AreSteps caller first steps s → IsStep caller number step own → AreSteps caller first (steps ++ step ∷ []) (then s own)
+steps_more caller first number [] step s own is none one =
+    let same : number ≡ first = omega (arith, is) in
+    let now : then s own ≡ then own nothing = ap (λ t. then t own) none ∙ (none_then own ∙ sym (then_none own)) in
+    (own, nothing, now, subst (λ n. IsStep caller n step own) same one, refl)
+steps_more caller first number (x ∷ steps) step s own is (before, rest, split, taken, others) one =
+    let next : number ≡ suc first + length steps = omega (arith, is) in (
+      before,
+      then rest own,
+      ap (λ t. then t own) split ∙ then_assoc before rest own,
+      taken,
+      steps_more caller (suc first) number steps step rest own next others one,
+    )
+
+-- the same of the entries of a pass
+pub follows_more : (old now new : Part) (steps : List Step) (step : Step) (number : ℕ) (given more : List StepAnswer) (r q : ℕ) → number ≡ length steps
+    → Adds old now (λ lines. Follows old.caller steps lines given r)
+    → Adds now new (λ lines. IsStep now.caller number step (stretch lines more q))
+    → Adds old new (λ lines. Follows old.caller (steps ++ step ∷ []) lines (given ++ more) (r + q))
+follows_more old now new steps step number given more r q is (caller, lines, entries, so_far) (caller2, own, entries2, taken) =
+    let one : IsStep old.caller number step (stretch own more q) = subst (λ n. IsStep n number step (stretch own more q)) caller taken in (
+      caller2 ∙ caller,
+      lines ++ own,
+      entries2 ∙ (ap (λ ls. ls ++ own) entries ∙ append_assoc old.entries lines own),
+      steps_more old.caller 0 number steps step (stretch lines given r) (stretch own more q) (omega (arith, is)) so_far one,
+    )
+
+-- ---- how many rounds there are
+
+module _ (JobsEnd : List Job → List Job → List Line → Type 0) (caller : ℕ) (t : Tree) where
+  -- each round is told by a call at least
+  rounds_called : (n : ℕ) (lines : List Line) (known : Pairs) (sent : List Job) → Rounds JobsEnd caller t n lines known sent → n ≤ length (calls_of lines)
+  rounds_called zero lines known sent rounds = omega arith
+  rounds_called (suc n) lines known sent (before, last, past, earlier, later, split, parted, rounds, round) =
+      let first = rounds_called n before past earlier rounds in
+      let own : List Line = round.round.ends ++ saws round.round.replies round.round.endings in
+      let load : Line = line caller round.round.load_at (LoadMany (frontier t past)) (Many round.round.replies) in
+      let dispatch : Line = line caller round.round.dispatch_at Dispatch (Sent round.round.jobs) in
+      let tells : calls_of last ≡ calls_of (load ∷ dispatch ∷ own) = ap calls_of round.round.tells in
+      let some : 1 ≤ length (calls_of last) = rw tells (omega arith) in
+      let whole : calls_of lines ≡ calls_of before ++ calls_of last = ap calls_of split ∙ calls_of-append before last in
+      let long : length (calls_of lines) ≡ length (calls_of before) + length (calls_of last) =
+      ap length whole ∙ length-append (calls_of before) (calls_of last) in
+      omega (arith, first, some, long)
+
+step_called : (caller number : ℕ) (step : Step) (s : Stretch) → IsStep caller number step s → s.rounds ≤ length (calls_of s.lines)
+step_called caller number (Prime key outcome) s (at, reply, is) = let none : s.rounds ≡ 0 = ap (λ (x : Stretch). x.rounds) is in omega (arith, none)
+step_called caller number (Clear key) s (at, reply, is) = let none : s.rounds ≡ 0 = ap (λ (x : Stretch). x.rounds) is in omega (arith, none)
+step_called caller number ClearAll s (at, reply, is) = let none : s.rounds ≡ 0 = ap (λ (x : Stretch). x.rounds) is in omega (arith, none)
+step_called caller number (Eval term) s (a, sent, answers, (known, rounds, ended, gives)) =
+    rounds_called (HandedOver caller) caller (term_view term) s.rounds s.lines known sent rounds
+
+steps_called : (caller number : ℕ) (steps : List Step) (s : Stretch) → AreSteps caller number steps s → s.rounds ≤ length (calls_of s.lines)
+steps_called caller number [] s none = let zero : s.rounds ≡ 0 = ap (λ (x : Stretch). x.rounds) none in omega (arith, zero)
+steps_called caller number (step ∷ steps) s (own, rest, is, one, others) =
+    let first = step_called caller number step own one in
+    let next = steps_called caller (suc number) steps rest others in
+    let rounds : s.rounds ≡ own.rounds + rest.rounds = ap (λ (x : Stretch). x.rounds) is in
+    let lines : calls_of s.lines ≡ calls_of own.lines ++ calls_of rest.lines =
+    ap (λ (x : Stretch). calls_of x.lines) is ∙ calls_of-append own.lines rest.lines in
+    let long : length (calls_of s.lines) ≡ length (calls_of own.lines) + length (calls_of rest.lines) =
+    ap length lines ∙ length-append (calls_of own.lines) (calls_of rest.lines) in
+    omega (arith, first, next, rounds, long)
+
+-- at most as many as the pass has calls
+pub rounds_few : (old new : Part) (steps : List Step) (answers : List StepAnswer) (r : ℕ)
+    → Adds old new (λ lines. Follows old.caller steps lines answers r) → r ≤ length (calls_of new.entries)
+rounds_few old new steps answers r (caller, lines, entries, follows) =
+    let few = steps_called old.caller 0 steps (stretch lines answers r) follows in
+    let whole : calls_of new.entries ≡ calls_of old.entries ++ calls_of lines = ap calls_of entries ∙ calls_of-append old.entries lines in
+    let long : length (calls_of new.entries) ≡ length (calls_of old.entries) + length (calls_of lines) =
+    ap length whole ∙ length-append (calls_of old.entries) (calls_of lines) in
+    omega (arith, few, long)
+
+-- what steps gave is the same, told otherwise
+pub gains_same : (old new : Part) (steps : List Step) (answers answers2 : List StepAnswer) (r q : ℕ) → answers2 ≡ answers → q ≡ r
+    → Adds old new (λ lines. Follows old.caller steps lines answers r) → Adds old new (λ lines. Follows old.caller steps lines answers2 q)
+gains_same old new steps answers answers2 r q same rounds adds =
+    subst (λ n. Adds old new (λ lines. Follows old.caller steps lines answers2 n)) (sym rounds)
+    (subst (λ given. Adds old new (λ lines. Follows old.caller steps lines given r)) (sym same) adds)
+
+-- after steps and one more the pass has lost no entry
+pub gains_grow : (old now new : Part) (steps : List Step) (step : Step) (number : ℕ) (answers more : List StepAnswer) (r q : ℕ) → number ≡ length steps
+    → Adds old now (λ lines. Follows old.caller steps lines answers r)
+    → Adds now new (λ lines. IsStep now.caller number step (stretch lines more q)) → Grows old new
+gains_grow old now new steps step number answers more r q is so_far taken =
+    let all = follows_more old now new steps step number answers more r q is so_far taken in (all.0, all.1, all.2)

@@ -1,0 +1,81 @@
+-- The headline: what a report is evidence of, whatever the schedule was.
+use Rattle.std.specs.Prelude.{◌≡◌, ℕ, ◌+◌, ◌<◌, ◌≤◌, List, [], ◌∷◌, length, Some, slice_get, flat_map}
+use Rattle.dl_desk.specs.Limits.{mixed}
+use Rattle.dl_desk.specs.Key.{Key}
+use Rattle.dl_desk.specs.declared.outcome.BatchAnswer.{BatchAnswer}
+use Rattle.dl_desk.specs.declared.outcome.BatchFault.TheVariants.{Memory, Unsent, Source}
+use Rattle.dl_history.specs.Agrees.{Agrees, HasEach, entries_of}
+use Rattle.dl_history.specs.Entries.{Line, Called, Saw}
+use Rattle.dl_history.specs.History.{IsLegal, AllEnded}
+use Rattle.dl_history.specs.Lists.{Every}
+use Rattle.dl_history.specs.Service.{Service, service}
+use Rattle.dl_history.specs.declared.event.Call.{Call}
+use Rattle.dl_history.specs.declared.event.Call.TheVariants.{Load, LoadMany, Prime, Clear, ClearAll, Dispatch, Settle, Fail}
+use Rattle.dl_history.specs.declared.event.Event.{Event}
+use Rattle.dl_scope.specs.Follows.{Follows}
+use Rattle.dl_scope.specs.Report.{Report}
+use Rattle.dl_scope.specs.declared.plan.Plan.{Plan}
+use Rattle.dl_scope.specs.declared.plan.Setup.{Setup}
+use Rattle.dl_scope.specs.declared.plan.StepAnswer.{StepAnswer}
+
+-- what a server serves by: its callers are the plans and then the workers, and its source answers by one function
+abbrev pub service_of : Setup → ℕ → (List Key → BatchAnswer) → Service
+service_of setup plans answer = service (mixed setup.limits) (plans + setup.workers) answer
+
+-- the call ends a batch
+abbrev pub IsEnd : Call → Type 0
+IsEnd (Settle b os) = Unit {0}
+IsEnd (Fail b fault) = Unit {0}
+IsEnd (Load k) = ⊥
+IsEnd (LoadMany ks) = ⊥
+IsEnd (Prime k o) = ⊥
+IsEnd (Clear k) = ⊥
+IsEnd ClearAll = ⊥
+IsEnd Dispatch = ⊥
+
+-- the entry is one of a call that ends a batch
+abbrev pub TellsEnd : Line → Type 0
+TellsEnd (Called t) = IsEnd t.event.call
+TellsEnd (Saw r) = ⊥
+
+-- the batch that the call fails without an answer of the source, if it does
+abbrev pub given_up_by : Call → List ℕ
+given_up_by (Fail b Memory) = b ∷ []
+given_up_by (Fail b Unsent) = b ∷ []
+given_up_by (Fail b (Source text)) = []
+given_up_by (Settle b os) = []
+given_up_by (Load k) = []
+given_up_by (LoadMany ks) = []
+given_up_by (Prime k o) = []
+given_up_by (Clear k) = []
+given_up_by ClearAll = []
+given_up_by Dispatch = []
+
+-- the batches that failed without an answer of the source, in the order of their ends
+abbrev pub given_up : List Event → List ℕ
+given_up events = flat_map (λ e. given_up_by e.call) events
+
+-- Whatever the schedule, workers and batch limit, a report holds one history in which every load, loadMany, prime and clear
+-- has the reply of a DataLoader of one thread at its point, each caller's calls stand once in its order, every outcome that was
+-- read is the one that the history gives its load, and every batch is answered once by the source.
+pub record Headline (service : Service) (plans : List Plan) (r : Report) : Type 0 where
+  -- each event has the reply of a data loader of one thread after those before it, and each end of a batch is lawful
+  pub legal : IsLegal service r.history.events
+  -- each caller has exactly one account, and nobody else has one
+  pub count : length r.history.accounts ≡ service.callers
+  pub each : HasEach service.callers r.history.accounts
+  -- a caller's calls stand once in its order, after what it had read before; each outcome read is the one of the history
+  pub agree : Every (Agrees r.history.events) r.history.accounts
+  -- each plan's caller made the calls of its steps and no others, and the report has their answers and rounds
+  pub answers_each : length r.answers ≡ length plans
+  pub rounds_each : length r.rounds ≡ length plans
+  pub follow : (n : ℕ) (plan : Plan) (answers : List StepAnswer) (rounds : ℕ) → slice_get plans n ≡ Some plan
+      → slice_get r.answers n ≡ Some answers → slice_get r.rounds n ≡ Some rounds
+      → Follows n plan.steps.items (entries_of n r.history.accounts) answers rounds
+  -- each worker ended batches, and did nothing else
+  pub work : (n : ℕ) → length plans ≤ n → n < service.callers → Every TellsEnd (entries_of n r.history.accounts)
+  -- every batch has an end, by what the source answers to its keys
+  pub ended : AllEnded r.history.events
+  pub fetched : given_up r.history.events ≡ []
+  -- of the jobs that were sent, each was taken or left
+  pub counted : r.tally.sent ≡ r.tally.taken + r.tally.left

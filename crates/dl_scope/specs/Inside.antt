@@ -1,0 +1,4 @@
+pub mod Gathered
+pub mod Kept
+pub mod Served
+pub mod Taken

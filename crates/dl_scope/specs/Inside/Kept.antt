@@ -1,0 +1,23 @@
+-- What is known of what the threads of a server give back.
+use Rattle.std.specs.Prelude.{IfOk}
+use Rattle.dl_history.specs.Service.{Service}
+use Rattle.dl_loader.specs.Added.{Adds}
+use Rattle.dl_workers.specs.Seats.{IsSenderOf, IsTakerOf, taken_jobs}
+use Rattle.dl_workers.specs.Worked.{Worked}
+use Rattle.dl_workers.specs.declared.queue.JobQueue.{JobQueue}
+use Rattle.dl_scope.specs.Follows.{Follows}
+use Rattle.dl_scope.specs.declared.jobs.PlanJob.{PlanJob}
+use Rattle.dl_scope.specs.declared.jobs.PlanRun.{PlanRun}
+use Rattle.dl_scope.specs.declared.jobs.WorkerJob.{WorkerJob}
+use Rattle.dl_scope.specs.declared.jobs.WorkerRun.{WorkerRun}
+
+module _ {L : Type 0} where
+  -- The sender is one of the queue still. Where no step met a fault, what the pass gained are the entries of the plan's steps.
+  abbrev pub PlanKept : JobQueue → PlanJob L → PlanRun L → Type 0
+  PlanKept queue job run = IsSenderOf queue run.sender × IfOk run.given (λ given. Adds job.pass.part run.pass.part
+      (λ lines. Follows job.pass.part.caller job.plan.steps.items lines given.answers.items given.rounds))
+
+  -- The taker is one of the queue still, and the worker worked.
+  abbrev pub WorkerKept : JobQueue → Service → WorkerJob L → WorkerRun L → Type 0
+  WorkerKept queue service job run = IsTakerOf queue run.taker
+      × Worked service run.end (taken_jobs job.taker) (taken_jobs run.taker) job.pass.part run.pass.part

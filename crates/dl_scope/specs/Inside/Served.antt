@@ -1,0 +1,50 @@
+-- What serving plans leaves before the loader is closed.
+use Rattle.std.specs.Prelude.{◌≡◌, ℕ, suc, ◌+◌, List, [], ◌∷◌, ◌++◌, length, map}
+use Rattle.std.specs.List.{AllZip}
+use Rattle.dl_history.specs.Lists.{Every}
+use Rattle.dl_history.specs.Service.{Service}
+use Rattle.dl_loader.specs.Pass.{Part, Pass}
+use Rattle.dl_workers.specs.Seats.{IsSenderOf}
+use Rattle.dl_workers.specs.declared.queue.JobQueue.{JobQueue}
+use Rattle.dl_scope.specs.Follows.{Follows}
+use Rattle.dl_scope.specs.Headline.{TellsEnd}
+use Rattle.dl_scope.specs.Inside.Kept.{PlanKept, WorkerKept}
+use Rattle.dl_scope.specs.declared.jobs.PlanJob.{PlanJob}
+use Rattle.dl_scope.specs.declared.jobs.WorkerJob.{WorkerJob}
+use Rattle.dl_scope.specs.declared.plan.Plan.{Plan}
+use Rattle.dl_scope.specs.declared.plan.StepAnswer.{StepAnswer}
+use Rattle.dl_scope.specs.declared.threads.Runs.{Runs}
+
+-- ---- by their passes
+
+-- the passes are those of the callers from n on, and each of them ended batches and did nothing else
+abbrev pub WorkersServed : ℕ → List Part → Type 0
+WorkersServed n [] = Unit {0}
+WorkersServed n (p ∷ parts) = (p.caller ≡ n) × Every TellsEnd p.entries × WorkersServed (suc n) parts
+
+-- The first passes are those of the callers from n on, and each follows its plan, with its answers and rounds. The others
+-- are those of workers.
+abbrev pub AreServed : ℕ → List Plan → List (List StepAnswer) → List ℕ → List Part → Type 0
+AreServed n [] [] [] parts = WorkersServed n parts
+AreServed n (plan ∷ plans) (a ∷ answers) (r ∷ rounds) (p ∷ parts) =
+    (p.caller ≡ n) × Follows n plan.steps.items p.entries a r × AreServed (suc n) plans answers rounds parts
+AreServed n (plan ∷ plans) (a ∷ answers) (r ∷ rounds) [] = ⊥
+AreServed n (plan ∷ plans) (a ∷ answers) [] parts = ⊥
+AreServed n (plan ∷ plans) [] rounds parts = ⊥
+AreServed n [] (a ∷ answers) rounds parts = ⊥
+AreServed n [] [] (r ∷ rounds) parts = ⊥
+
+-- ---- by their threads
+
+module _ {L : Type 0} where
+  -- what the threads of plans and workers that were given these passes gave back
+  pub record Ran (queue : JobQueue) (service : Service) (passes : List Pass) (plans : List Plan) (runs : Runs L) : Type 0 where
+    pub plan_jobs : List (PlanJob L)
+    pub worker_jobs : List (WorkerJob L)
+    pub passes_are : map (λ job. job.pass) plan_jobs ++ map (λ job. job.pass) worker_jobs ≡ passes
+    pub plans_are : map (λ job. job.plan) plan_jobs ≡ plans
+    pub planned : AllZip (PlanKept queue) plan_jobs runs.plans.items
+    pub worked : AllZip (WorkerKept queue service) worker_jobs runs.workers.items
+    pub own_is : IsSenderOf queue runs.own
+    pub all_senders : length plan_jobs + 1 ≡ queue.senders
+    pub all_takers : length worker_jobs ≡ queue.takers

@@ -1,0 +1,56 @@
+-- What terms answer by the tables alone, which is the same for every number of workers, every limit, and whatever plans stand beside.
+use Rattle.std.specs.Prelude.{◌≡◌, ℕ, List, length, Some, slice_get}
+use Rattle.dl_desk.specs.Key.{Key}
+use Rattle.dl_desk.specs.declared.outcome.Outcome.{Outcome}
+use Rattle.dl_history.specs.Lists.{Every, Among}
+use Rattle.dl_source.specs.Answer.{answer_of, found, outcome_of}
+use Rattle.dl_source.specs.Listing.{NamedTables}
+use Rattle.dl_terms.specs.Gives.{Pairs, gives}
+use Rattle.dl_terms.specs.Tree.{Tree}
+use Rattle.dl_terms.specs.View.{term_view}
+use Rattle.dl_terms.specs.declared.answer.Answer.{Answer}
+use Rattle.dl_terms.specs.declared.term.Term.{Term}
+use Rattle.dl_scope.specs.Headline.{Headline, service_of}
+use Rattle.dl_scope.specs.Own.{NoneFailed}
+use Rattle.dl_scope.specs.Report.{Report}
+use Rattle.dl_scope.specs.declared.plan.Plan.{Plan}
+use Rattle.dl_scope.specs.declared.plan.Setup.{Setup}
+use Rattle.dl_scope.specs.declared.plan.Step.{Step}
+use Rattle.dl_scope.specs.declared.plan.Step.TheVariants.{Prime, Clear, ClearAll, Eval}
+use Rattle.dl_scope.specs.declared.plan.StepAnswer.{StepAnswer}
+
+-- each key is paired with its own outcome
+abbrev pub AreOwn : (Key → Outcome) → Pairs → Type 0
+AreOwn own pairs = Every (λ p. p.1 ≡ own p.0) pairs
+
+-- the term gives the answer where keys have their own outcomes
+abbrev pub IsOwn : (Key → Outcome) → Tree → Answer → Type 0
+IsOwn own t a = (pairs : Pairs) × AreOwn own pairs × gives t pairs a
+
+-- a key's own outcome in the tables: its row, its error, or why nothing is listed
+abbrev pub listed : NamedTables → Key → Outcome
+listed tables k = outcome_of (found tables k)
+
+-- the step primes no key
+abbrev pub PrimesNone : Step → Type 0
+PrimesNone (Prime key outcome) = ⊥
+PrimesNone (Clear key) = Unit {0}
+PrimesNone ClearAll = Unit {0}
+PrimesNone (Eval term) = Unit {0}
+
+-- the answer is that of a term of the plan, by the tables alone
+abbrev pub AnswersByTables : NamedTables → Plan → StepAnswer → Type 0
+AnswersByTables tables plan given = (term : Term) × (slice_get plan.steps.items given.step ≡ Some (Eval term))
+    × IsOwn (listed tables) (term_view term) given.answer
+
+-- Where no batch failed and no plan primes a key, each answer of a report is what its term gives by the tables alone.
+abbrev pub AnswersAreOwn : Type 0
+AnswersAreOwn = (tables : NamedTables) (setup : Setup) (plans : List Plan) (r : Report)
+    → Headline (service_of setup (length plans) (answer_of tables)) plans r → NoneFailed r.history.events
+    → Every (λ plan. Every PrimesNone plan.steps.items) plans
+    → (n : ℕ) (plan : Plan) (answers : List StepAnswer) → slice_get plans n ≡ Some plan → slice_get r.answers n ≡ Some answers
+    → Every (AnswersByTables tables plan) answers
+
+-- by the tables alone a term has one answer
+abbrev pub OwnAnswersAreOne : Type 0
+OwnAnswersAreOne = (tables : NamedTables) (t : Tree) (a b : Answer) → IsOwn (listed tables) t a → IsOwn (listed tables) t b → a ≡ b

@@ -1,0 +1,133 @@
+//! How what the threads give back is put together.
+
+ghost use Rattle.std.specs.Prelude.{[], ◌≡◌, ◌≤◌, ◌++◌, All, IfErr, IfOk, OnOk, length, map};
+ghost use Rattle.dl_scope.specs.Faults.{most_plans};
+ghost use Rattle.dl_scope.specs.Inside.Gathered.{AllGave, AreGathered, IsRunFault, WasTaken};
+
+use crate::fault::ScopeFault;
+use crate::jobs::{PlanRun, WorkerRun};
+use crate::plan::StepAnswer;
+use crate::steps::Given;
+use crate::threads::Runs;
+use dl_haxl::RunFault;
+use dl_loader::{CallFault, LoaderName, Pass};
+use dl_workers::{Sender, Taker, WorkerEnd};
+use std::alloc::{AllocError, Global};
+
+/// What the threads gave back: passes in the order of their callers, seats, and for each plan what its steps gave.
+#[derive(Drop)]
+pub struct Gathered<L: LoaderName> {
+    pub passes: Vec<Pass<L>>,
+    pub senders: Vec<Sender>,
+    pub takers: Vec<Taker>,
+    pub answers: Vec<Vec<StepAnswer>>,
+    pub rounds: Vec<u64>,
+}
+
+/// Looks whether each plan took its steps and each worker worked to the end.
+///
+/// # Errors
+/// `Run` for the first plan that met a fault, other than that the loader was stopped; `Stopped` where no plan met such a
+/// fault, and a plan or a worker found or made the loader stopped.
+pub fn check<L: LoaderName>(
+    plans: &[PlanRun<L>],
+    workers: &[WorkerRun<L>],
+) -> Result<(), ScopeFault>
+    requires few { length plans.now ≤ most_plans }
+    ensures taken { OnOk result (All WasTaken plans.now) }
+    ensures fault { IfErr result (IsRunFault (length plans.now)) }
+{
+    let mut stopped = false;
+    for (plan, run) in plans.iter().enumerate() {
+        match run.given {
+            Ok(_) => {}
+            Err(RunFault::Stopped | RunFault::Call(CallFault::Stopped)) => stopped = true,
+            Err(fault) => {
+                let plan = plan as u32;
+                return Err(ScopeFault::Run { plan, fault });
+            }
+        }
+    }
+    if stopped || any_gave_up(workers) {
+        return Err(ScopeFault::Stopped);
+    }
+    Ok(())
+}
+
+// Whether a worker gave up.
+fn any_gave_up<L: LoaderName>(workers: &[WorkerRun<L>]) -> bool {
+    for run in workers {
+        if let WorkerEnd::GaveUp { .. } = run.end {
+            return true;
+        }
+    }
+    false
+}
+
+/// Puts together what the threads gave back, where each plan took its steps. The error is want of memory.
+pub fn gather<L: LoaderName>(alloc: Global, runs: Runs<L>) -> Result<Gathered<L>, AllocError>
+    requires taken { All WasTaken runs.plans.items }
+    ensures { IfOk result (AreGathered runs) }
+{
+    let Runs {
+        plans,
+        workers,
+        own,
+    } = runs;
+    let mut all = Gathered {
+        passes: Vec::new(alloc),
+        senders: Vec::new(alloc),
+        takers: Vec::new(alloc),
+        answers: Vec::new(alloc),
+        rounds: Vec::new(alloc),
+    };
+    all.add_plans(plans)?;
+    all.senders.push(own)?;
+    all.add_workers(workers)?;
+    Ok(all)
+}
+
+impl<L: LoaderName> Gathered<L> {
+    // Adds what the threads of plans gave back.
+    fn add_plans(&mut self, plans: Vec<PlanRun<L>>) -> Result<(), AllocError>
+        requires taken { All WasTaken plans.items }
+        requires no_answers { self.old.answers.items ≡ [] }
+        requires no_rounds { self.old.rounds.items ≡ [] }
+        ensures passes { OnOk result (self.new.passes.items ≡ self.old.passes.items ++ map (λ run. run.pass) plans.items) }
+        ensures senders { OnOk result (self.new.senders.items ≡ self.old.senders.items ++ map (λ run. run.sender) plans.items) }
+        ensures takers { OnOk result (self.new.takers.items ≡ self.old.takers.items) }
+        ensures gave { OnOk result (AllGave plans.items (map (λ a. a.items) self.new.answers.items) self.new.rounds.items) }
+    {
+        for run in plans {
+            let PlanRun {
+                pass,
+                sender,
+                given,
+            } = run;
+            let Ok(Given { answers, rounds }) = given else {
+                unreachable!()
+            };
+            self.passes.push(pass)?;
+            self.senders.push(sender)?;
+            self.answers.push(answers)?;
+            self.rounds.push(rounds)?;
+        }
+        Ok(())
+    }
+
+    // Adds what the threads of workers gave back.
+    fn add_workers(&mut self, workers: Vec<WorkerRun<L>>) -> Result<(), AllocError>
+        ensures passes { OnOk result (self.new.passes.items ≡ self.old.passes.items ++ map (λ run. run.pass) workers.items) }
+        ensures senders { OnOk result (self.new.senders.items ≡ self.old.senders.items) }
+        ensures takers { OnOk result (self.new.takers.items ≡ self.old.takers.items ++ map (λ run. run.taker) workers.items) }
+        ensures answers { OnOk result (self.new.answers.items ≡ self.old.answers.items) }
+        ensures rounds { OnOk result (self.new.rounds.items ≡ self.old.rounds.items) }
+    {
+        for run in workers {
+            let WorkerRun { pass, taker, .. } = run;
+            self.passes.push(pass)?;
+            self.takers.push(taker)?;
+        }
+        Ok(())
+    }
+}

@@ -1,0 +1,118 @@
+//! What each thread of a server is given, and what it gives back.
+
+ghost use Rattle.dl_history.specs.Service.{Answers};
+ghost use Rattle.dl_workers.specs.Seats.{IsSenderOf, IsTakerOf};
+ghost use Rattle.dl_scope.specs.Inside.Kept.{PlanKept, WorkerKept};
+
+use crate::plan::Plan;
+use crate::stage::Stage;
+use crate::steps::{Given, take_steps};
+use dl_haxl::RunFault;
+use dl_loader::{LoaderName, Pass};
+use dl_source::Source;
+use dl_workers::{Gate, JobQueue, Sender, Taker, WorkerEnd, work};
+use std::snapshot::Snapshot;
+use std::sync::Wait;
+use std::thread::Promise;
+
+/// What a plan's thread is given.
+#[derive(Drop)]
+pub struct PlanJob<L: LoaderName> {
+    pub pass: Pass<L>,
+    pub sender: Sender,
+    pub plan: Plan,
+}
+
+/// What it gives back.
+#[derive(Drop)]
+pub struct PlanRun<L: LoaderName> {
+    pub pass: Pass<L>,
+    pub sender: Sender,
+    pub given: Result<Given, RunFault>,
+}
+
+impl<L: LoaderName> PlanJob<L> {
+    /// Takes the steps of the plan. Where one meets a fault, the loader is stopped.
+    pub fn run<R: Wait>(self, rt: &R, stage: &Stage<'_, L>) -> PlanRun<L>
+        requires seat { IsSenderOf stage.now.queue.now self.sender }
+        ensures kept { PlanKept stage.now.queue.now self result }
+    {
+        let PlanJob {
+            mut pass,
+            mut sender,
+            plan,
+        } = self;
+        let Plan { steps } = plan;
+        let given = take_steps(rt, stage, &mut pass, &mut sender, steps);
+        if given.is_err() {
+            stage.loader.stop(rt);
+        }
+        PlanRun {
+            pass,
+            sender,
+            given,
+        }
+    }
+}
+
+/// What a worker's thread is given.
+#[derive(Drop)]
+pub struct WorkerJob<L: LoaderName> {
+    pub pass: Pass<L>,
+    pub taker: Taker,
+}
+
+/// What it gives back.
+#[derive(Drop)]
+pub struct WorkerRun<L: LoaderName> {
+    pub pass: Pass<L>,
+    pub taker: Taker,
+    pub end: WorkerEnd,
+}
+
+impl<L: LoaderName> WorkerJob<L> {
+    /// Takes jobs until the queue is shut, and ends the batch of each by what the source answers.
+    pub fn run<S: Source, G: Gate, R: Wait>(
+        self,
+        rt: &R,
+        stage: &Stage<'_, L>,
+        source: &S,
+        gate: &G,
+    ) -> WorkerRun<L>
+        requires source { Answers (S.answer source.now) L.service }
+        requires seat { IsTakerOf stage.now.queue.now self.taker }
+        ensures kept { WorkerKept stage.now.queue.now L.service self result }
+    {
+        let WorkerJob {
+            mut pass,
+            mut taker,
+        } = self;
+        let (alloc, loader, queue) = (stage.alloc, stage.loader, stage.queue);
+        let end = work(
+            rt, alloc, loader, source, &mut pass, queue, &mut taker, gate,
+        );
+        WorkerRun { pass, taker, end }
+    }
+}
+
+/// What is known of what a plan's thread gives back.
+#[derive(Drop)]
+pub struct PlanPromise<'a, L: LoaderName> {
+    pub queue: &'a JobQueue,
+    pub job: Snapshot<PlanJob<L>>,
+}
+
+impl<'a, L: LoaderName> Promise<PlanRun<L>> for PlanPromise<'a, L> {
+    ghost kept_by = { λ p r. PlanKept p.queue.now p.job.value r };
+}
+
+/// What is known of what a worker's thread gives back.
+#[derive(Drop)]
+pub struct WorkerPromise<'a, L: LoaderName> {
+    pub queue: &'a JobQueue,
+    pub job: Snapshot<WorkerJob<L>>,
+}
+
+impl<'a, L: LoaderName> Promise<WorkerRun<L>> for WorkerPromise<'a, L> {
+    ghost kept_by = { λ p r. WorkerKept p.queue.now L.service p.job.value r };
+}

@@ -1,0 +1,17 @@
+//! Laws of what reports have, for every report. Each function does nothing: its contract is the law.
+
+ghost use Rattle.dl_scope.specs.OwnAnswers.{AnswersAreOwn, OwnAnswersAreOne};
+
+/// Where no batch failed and no plan primes a key, each answer over tables is what its term gives by the tables alone.
+pub fn answers_are_own()
+    ensures { AnswersAreOwn }
+{}
+
+/// By the tables alone a term has one answer. So where no batch failed and no plan primes a key, it is the same for every
+/// number of workers, every limit and whatever plans stand beside it.
+pub fn own_answers_are_one()
+    ensures { OwnAnswersAreOne }
+{
+    dl_haxl::laws::gives_once();
+    dl_haxl::laws::gives_for_ever();
+}
