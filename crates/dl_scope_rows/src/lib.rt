@@ -14,3 +14,5 @@ mod refusals;
 mod reports;
 #[cfg(test)]
 mod rows;
+#[cfg(test)]
+mod using;
