@@ -9,7 +9,7 @@ mod texts;
 mod users;
 
 pub use counted_tables::CountedTables;
-pub use shapes::{BEST, FRIENDS, Shape, U1, U2, term};
+pub use shapes::{BEST, FRIENDS, Shape, U1, U2, json, term};
 pub use starved::Starved;
 pub use texts::{answer_text, list_text};
 pub use users::{ADA, BOB, USERS, fault_text, outcome_text, tables};

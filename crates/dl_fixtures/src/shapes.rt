@@ -52,12 +52,16 @@ pub fn term(alloc: Global, shape: &Shape) -> Option<Term> {
 }
 
 fn value(alloc: Global, text: &str) -> Option<Term> {
+    Some(Term::Value(json(alloc, text)?))
+}
+
+/// The value that a JSON text spells, if it spells one without a float and there is memory for it.
+pub fn json(alloc: Global, text: &str) -> Option<Json> {
     let value = Value::from_str(alloc, text).ok()?;
     if has_float(&value) {
         return None;
     }
-    let value = Json::new(alloc, value).ok()?;
-    Some(Term::Value(value))
+    Json::new(alloc, value).ok()
 }
 
 fn crowd(alloc: Global, times: usize) -> Option<Term> {

@@ -1,9 +1,8 @@
 //! Plans as data.
 
-use dl_desk::{FetchKey, Json, Outcome};
-use dl_fixtures::{Shape, term};
+use dl_desk::{FetchKey, Outcome};
+use dl_fixtures::{Shape, json, term};
 use dl_scope::{Plan, Step};
-use serde_json::Value;
 use std::alloc::Global;
 
 /// A step, as rows write it. Its keys are users.
@@ -52,8 +51,7 @@ fn step(alloc: Global, shape: &StepShape) -> Option<Step> {
 
 fn prime(alloc: Global, id: &str, text: &str) -> Option<Step> {
     let key = user(alloc, id)?;
-    let value = Value::from_str(alloc, text).ok()?;
-    let value = Json::new(alloc, value).ok()?;
+    let value = json(alloc, text)?;
     Some(Step::Prime(key, Outcome::Value(value)))
 }
 

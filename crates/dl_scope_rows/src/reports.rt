@@ -40,15 +40,15 @@ fn assert_answers(rt: &impl Abort, alloc: Global, given: &[StepAnswer], want: An
 /// The history has these batches and no others, the job of each of which was taken.
 pub(crate) fn assert_batches(rt: &impl Abort, report: &Report, want: &[Batch]) {
     let batches = report.history().batches();
-    let mut number = 0;
-    for (keys, is_settled) in want {
+    for (number, (keys, is_settled)) in want.iter().enumerate() {
+        let number = u32::try_from(number).expect(rt, "no number of a batch");
         let batch = batches.get(number).expect(rt, "a batch too few");
         assert_keys(rt, batch.keys(), keys);
         assert_eq!(rt; batch.is_settled(), *is_settled);
-        number += 1;
     }
-    assert!(rt; batches.get(number).is_none(), "a batch too many");
-    assert_eq!(rt; report.tally().taken, u64::from(number));
+    let count = u32::try_from(want.len()).expect(rt, "too many batches");
+    assert!(rt; batches.get(count).is_none(), "a batch too many");
+    assert_eq!(rt; report.tally().taken, u64::from(count));
 }
 
 /// The keys have these tables and ids.
