@@ -18,8 +18,19 @@ pub enum Workload {
     Tables(Ids),
     /// Calls of a shared loader.
     Shared(Callers),
-    /// Evaluates a term over a shared loader.
-    Term,
+    /// Evaluates terms over a shared loader.
+    Terms(Evaluated),
+}
+
+/// How terms are evaluated.
+#[derive(Clone, Copy)]
+pub enum Evaluated {
+    /// One term of many parts, by one caller.
+    One,
+    /// So many terms, one after another, by one caller.
+    InTurn { count: u32 },
+    /// A plan for each of so many terms, all at once, by fetch workers.
+    Served { count: u32, workers: u32 },
 }
 
 /// The ids of keys.
@@ -53,11 +64,14 @@ pub enum Callers {
     Threads,
 }
 
-/// The word that asks for each workload, and the most keys of its batches, where the words don't say it.
+/// The most keys of a batch, where neither the words nor the workload need another.
+const BATCH: u32 = 64;
+
+/// The word that asks for each workload of N or of two numbers, and the most keys of its batches, where the words don't say it.
 const WORKLOADS: [(&str, Option<u32>, Workload); 16] = [
     ("loads", None, Workload::OneByOne(Ids::Short)),
-    ("hostile", Some(64), Workload::OneByOne(Ids::Hostile)),
-    ("harmless", Some(64), Workload::OneByOne(Ids::Harmless)),
+    ("hostile", Some(BATCH), Workload::OneByOne(Ids::Hostile)),
+    ("harmless", Some(BATCH), Workload::OneByOne(Ids::Harmless)),
     ("many", None, Workload::Listed(Calls::Many)),
     ("hits", Some(LARGEST_LIMIT), Workload::Listed(Calls::Hits)),
     ("rounds", None, Workload::Listed(Calls::Rounds)),
@@ -74,17 +88,26 @@ const WORKLOADS: [(&str, Option<u32>, Workload); 16] = [
         Workload::Script(Ids::Harmless),
     ),
     ("tables", None, Workload::Tables(Ids::Short)),
-    ("hostile-tables", Some(64), Workload::Tables(Ids::Hostile)),
-    ("harmless-tables", Some(64), Workload::Tables(Ids::Harmless)),
+    (
+        "hostile-tables",
+        Some(BATCH),
+        Workload::Tables(Ids::Hostile),
+    ),
+    (
+        "harmless-tables",
+        Some(BATCH),
+        Workload::Tables(Ids::Harmless),
+    ),
     ("loader", None, Workload::Shared(Callers::One)),
     ("threads", None, Workload::Shared(Callers::Threads)),
-    ("terms", Some(64), Workload::Term),
+    ("terms", Some(BATCH), Workload::Terms(Evaluated::One)),
 ];
 
 /// A workload and its size.
 #[derive(Clone, Copy)]
 pub struct Command {
     pub workload: Workload,
+    /// How many keys; of `terms`, how many parts; of `inline` and `serve`, how many rounds.
     pub keys: u32,
     /// The most keys of a batch; of `threads`, how many callers.
     pub most: u32,
@@ -93,9 +116,9 @@ pub struct Command {
 /// Why words are no command.
 #[derive(Debug, Drop, Error)]
 pub enum CommandFault {
-    #[error("usage: dl_bench loads|many|rounds|tables|loader N B, hostile|harmless[-script|-tables] N, hits|clears|script|terms N, or threads N C")]
+    #[error("usage: dl_bench loads|many|rounds|tables|loader N B, hostile|harmless[-script|-tables] N, hits|clears|script|terms N, threads N C, inline P N, or serve P W N")]
     Usage,
-    #[error("N, B and C are numbers from 1 to 65536, the largest limit of a loader")]
+    #[error("N, B, C, P and W are numbers from 1 to 65536, the largest limit of a loader")]
     Size,
 }
 
@@ -104,11 +127,28 @@ impl Command {
     pub fn from_words(words: &[String]) -> Result<Command, CommandFault> {
         match words {
             [_, name, keys] => Command::named(name.as_str(), size(keys.as_str())?, None),
-            [_, name, keys, most] => {
-                let most = size(most.as_str())?;
-                Command::named(name.as_str(), size(keys.as_str())?, Some(most))
+            [_, name, first, second] => {
+                let (first, second) = (size(first.as_str())?, size(second.as_str())?);
+                match name.as_str() {
+                    "inline" => Ok(Command::of_terms(Evaluated::InTurn { count: first }, second)),
+                    name => Command::named(name, first, Some(second)),
+                }
+            }
+            [_, name, count, workers, rounds] if name.as_str() == "serve" => {
+                let (count, workers) = (size(count.as_str())?, size(workers.as_str())?);
+                let evaluated = Evaluated::Served { count, workers };
+                Ok(Command::of_terms(evaluated, size(rounds.as_str())?))
             }
             _ => Err(CommandFault::Usage),
+        }
+    }
+
+    /// The command of terms that take so many rounds.
+    fn of_terms(evaluated: Evaluated, rounds: u32) -> Command {
+        Command {
+            workload: Workload::Terms(evaluated),
+            keys: rounds,
+            most: BATCH,
         }
     }
 

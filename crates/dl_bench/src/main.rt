@@ -10,11 +10,13 @@ mod desk;
 mod documents;
 mod ids;
 mod keys;
+mod plans;
 mod shared;
 mod terms;
 
-use crate::command::{Command, Workload};
+use crate::command::{Command, Evaluated, Workload};
 use crate::counts::Counts;
+use crate::terms::Terms;
 use anyhow::Result;
 use std::alloc::Global;
 use std::env;
@@ -46,7 +48,54 @@ fn run<R: RandomSource + Threads + Wait + Sync>(
         Workload::Shared(callers) => {
             shared::on_loader(rt, alloc, hashing, counts, callers, keys, most)
         }
-        Workload::Term => terms::evaluated(rt, alloc, hashing, counts, keys, most),
+        Workload::Terms(evaluated) => {
+            evaluate(rt, alloc, hashing, counts, evaluated, keys, most)
+        }
+    }
+}
+
+/// How many parts a term has of which there are several.
+const PARTS: u32 = 16;
+
+/// How many rounds of loads a term takes that is the only one.
+const ROUNDS: u32 = 16;
+
+/// Evaluates terms, of which one has so many parts, or each of several takes so many rounds.
+fn evaluate<R: Threads + Wait + Sync>(
+    rt: &R,
+    alloc: Global,
+    hashing: RandomState,
+    counts: &mut Counts,
+    evaluated: Evaluated,
+    keys: u32,
+    batch: u32,
+) -> Result<()> {
+    let (parts, rounds) = (PARTS, keys);
+    match evaluated {
+        Evaluated::One => {
+            let terms = Terms {
+                count: 1,
+                parts: keys,
+                rounds: ROUNDS,
+            };
+            terms::evaluated(rt, alloc, hashing, counts, terms, batch)
+        }
+        Evaluated::InTurn { count } => {
+            let terms = Terms {
+                count,
+                parts,
+                rounds,
+            };
+            terms::evaluated(rt, alloc, hashing, counts, terms, batch)
+        }
+        Evaluated::Served { count, workers } => {
+            let terms = Terms {
+                count,
+                parts,
+                rounds,
+            };
+            plans::served(rt, alloc, hashing, counts, terms, workers, batch)
+        }
     }
 }
 

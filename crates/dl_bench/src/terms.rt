@@ -1,4 +1,4 @@
-//! The workload of a term that is evaluated over a shared loader.
+//! The workload of terms that are evaluated over a shared loader, one after another.
 
 ghost use Rattle.std.specs.Prelude.{◌≡◌};
 ghost use Rattle.dl_history.specs.Service.{Answers};
@@ -20,27 +20,34 @@ use std::hash::RandomState;
 use std::marker::Brand;
 use std::sync::Wait;
 
-/// How many rounds of loads the term takes, which is how deep it is.
-const ROUNDS: u32 = 16;
+/// How many terms there are, and how large each is.
+#[derive(Clone, Copy)]
+pub struct Terms {
+    pub count: u32,
+    /// Of how many parts each is.
+    pub parts: u32,
+    /// How many rounds of loads each takes, which is how deep it is.
+    pub rounds: u32,
+}
 
-/// Evaluates one term of so many parts over a loader, whose source answers each key with one row. Each part loads a
-/// key, and in each further round the key that the row names in another table, so no key is loaded twice. At the end
-/// the loader is closed.
+/// Evaluates terms over a loader, whose source answers each key with one row. Each part of a term loads a key, and in
+/// each further round the key that the row names in another table, so no key is loaded twice. At the end the loader is
+/// closed.
 pub fn evaluated<R: Wait>(
     rt: &R,
     alloc: Global,
     hashing: RandomState,
     counts: &mut Counts,
-    parts: u32,
+    terms: Terms,
     batch: u32,
 ) -> Result<()> {
     let limits = limits(batch)?;
     let source = Alike::row(alloc)?;
     let opening = Opening::new(alloc, hashing, &source, limits, 1)?;
-    on_loader::<Brand, _, _>(rt, alloc, hashing, &source, opening, counts, parts)
+    on_loader::<Brand, _, _>(rt, alloc, hashing, &source, opening, counts, terms)
 }
 
-/// The evaluation on the loader of an opening, which `L` stands for, and what it counts.
+/// The evaluations on the loader of an opening, which `L` stands for, and what they count.
 fn on_loader<L: LoaderName, S: Source, R: Wait>(
     rt: &R,
     alloc: Global,
@@ -48,17 +55,17 @@ fn on_loader<L: LoaderName, S: Source, R: Wait>(
     source: &S,
     opening: Opening<'_, S>,
     counts: &mut Counts,
-    parts: u32,
+    terms: Terms,
 ) -> Result<()>
     requires source { opening.source ≡ source.now }
     requires names { Names S.answer opening L.service L.parts L.log L.outcomes L.name }
 {
     let (loader, mut passes) = Loader::<L>::start(alloc, opening)?;
-    evaluate(rt, alloc, hashing, source, &loader, &mut passes, parts)?;
+    evaluate(rt, alloc, hashing, source, &loader, &mut passes, terms)?;
     close(alloc, loader, passes, counts)
 }
 
-/// The first caller evaluates the term.
+/// The first caller evaluates the terms.
 fn evaluate<L: LoaderName, S: Source, R: Wait>(
     rt: &R,
     alloc: Global,
@@ -66,14 +73,33 @@ fn evaluate<L: LoaderName, S: Source, R: Wait>(
     source: &S,
     loader: &Loader<L>,
     passes: &mut [Pass<L>],
-    parts: u32,
+    terms: Terms,
 ) -> Result<()>
     requires { Answers (S.answer source.now) L.service }
 {
     let Some(pass) = passes.first_mut() else {
         bail!("a loader without a caller");
     };
-    let term = term_of(alloc, parts)?;
+    for number in 0..terms.count {
+        evaluate_one(rt, alloc, hashing, source, loader, pass, terms, number)?;
+    }
+    Ok(())
+}
+
+/// The caller of a pass evaluates the term of a number.
+fn evaluate_one<L: LoaderName, S: Source, R: Wait>(
+    rt: &R,
+    alloc: Global,
+    hashing: RandomState,
+    source: &S,
+    loader: &Loader<L>,
+    pass: &mut Pass<L>,
+    terms: Terms,
+    number: u32,
+) -> Result<()>
+    requires { Answers (S.answer source.now) L.service }
+{
+    let term = term_of(alloc, terms, number)?;
     let (answer, _rounds) = run_inline(rt, alloc, hashing, loader, source, pass, term)?;
     match answer {
         Answer::Value(_) => Ok(()),
@@ -81,21 +107,22 @@ fn evaluate<L: LoaderName, S: Source, R: Wait>(
     }
 }
 
-/// The term of so many parts.
-fn term_of(alloc: Global, count: u32) -> Result<Term> {
-    let mut parts = Vec::with_capacity(alloc, count as usize)?;
-    for number in 0..count {
-        parts.push(part_of(alloc, number)?)?;
+/// The term of a number.
+pub fn term_of(alloc: Global, terms: Terms, number: u32) -> Result<Term> {
+    let mut parts = Vec::with_capacity(alloc, terms.parts as usize)?;
+    let first = number.saturating_mul(terms.parts);
+    for part in 0..terms.parts {
+        parts.push(part_of(alloc, first.saturating_add(part), terms.rounds)?)?;
     }
     Ok(Term::All(parts))
 }
 
-/// The part of a number.
-fn part_of(alloc: Global, number: u32) -> Result<Term> {
-    let first = number.saturating_mul(ROUNDS);
+/// The part of a number, over all terms, which takes so many rounds of loads.
+fn part_of(alloc: Global, number: u32, rounds: u32) -> Result<Term> {
+    let first = number.saturating_mul(rounds);
     let table = table_of(alloc, first)?;
     let mut part = Term::Load(FetchKey::new(alloc, table.as_str(), "1")?);
-    for round in 1..ROUNDS {
+    for round in 1..rounds {
         part = followed(alloc, part, first.saturating_add(round))?;
     }
     Ok(part)

@@ -1,1 +1,2 @@
 pub mod CountedTables
+pub mod Starved

@@ -1,9 +1,15 @@
-//! What the tests of several crates share: the tables of users that worked rows read from, and tables that count how
-//! often they are asked.
+//! What the tests of several crates share: the tables of users that worked rows read from, tables that count how often they
+//! are asked, a source without memory, and terms and answers as rows write them.
 #![tactic(auto)]
 
 mod counted_tables;
+mod shapes;
+mod starved;
+mod texts;
 mod users;
 
 pub use counted_tables::CountedTables;
-pub use users::{USERS, fault_text, outcome_text, tables};
+pub use shapes::{BEST, FRIENDS, Shape, U1, U2, json, term};
+pub use starved::Starved;
+pub use texts::{answer_text, list_text};
+pub use users::{ADA, BOB, USERS, fault_text, outcome_text, tables};

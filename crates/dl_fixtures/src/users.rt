@@ -10,6 +10,12 @@ use std::hash::RandomState;
 pub const USERS: &str =
     r#"[{"name":"user","rows":[["u1",{"best":"u2","friends":["u2","u3"],"name":"Ada"}],["u2",{"best":"u1","friends":[],"name":"Bob"}],["u3",{"name":"Cy"}]],"errors":[["u9","gone"]],"breaks":[["u13","db down"]]}]"#;
 
+/// The row of the user `u1`.
+pub const ADA: &str = r#"{"best":"u2","friends":["u2","u3"],"name":"Ada"}"#;
+
+/// The row of the user `u2`.
+pub const BOB: &str = r#"{"best":"u1","friends":[],"name":"Bob"}"#;
+
 /// The tables that a text spells, if it spells some and there is memory for them.
 pub fn tables(alloc: Global, hashing: RandomState, text: &str) -> Option<Tables> {
     let value = Value::from_str(alloc, text).ok()?;

@@ -3,8 +3,8 @@
 ghost use Rattle.dl_history.specs.Service.{Answers};
 
 use crate::rows::{Player, Row, try_row};
-use crate::shapes::{BEST, FRIENDS, Shape, U1, U2, term};
-use crate::texts::{evaluation_text, list_text};
+use crate::texts::evaluation_text;
+use dl_fixtures::{ADA, BEST, FRIENDS, Shape, U1, U2, list_text, term};
 use dl_haxl::run_inline;
 use dl_loader::{Loader, LoaderName, Pass};
 use dl_source::Source;
@@ -12,9 +12,6 @@ use std::alloc::Global;
 use std::hash::RandomState;
 use std::process::Abort;
 use std::sync::Wait;
-
-/// The row of the user `u1`.
-pub(crate) const ADA: &str = r#"{"best":"u2","friends":["u2","u3"],"name":"Ada"}"#;
 
 /// The rows of the users `u2` and `u3`.
 pub(crate) const TWO_FRIENDS: &str = r#"[{"best":"u1","friends":[],"name":"Bob"},{"name":"Cy"}]"#;

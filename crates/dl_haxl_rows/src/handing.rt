@@ -6,9 +6,9 @@ ghost use Rattle.dl_history.specs.Service.{Answers};
 ghost use Rattle.dl_loader.specs.Opening.{Names};
 ghost use Rattle.dl_workers.specs.Seats.{IsSenderOf, IsTakerOf};
 
-use crate::shapes::{Shape, term};
 use crate::texts::evaluation_text;
 use dl_desk::Limits;
+use dl_fixtures::{Shape, term};
 use dl_haxl::run_term;
 use dl_loader::{CloseFault, History, Loader, LoaderName, Opening, Pass};
 use dl_source::{Source, Tables};

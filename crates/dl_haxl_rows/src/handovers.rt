@@ -1,12 +1,11 @@
 //! Terms whose jobs are handed over by a queue, to a worker on a thread of its own or, where the queue was shut, to nobody:
 //! worked rows of answers, rounds, jobs, and what the caller's pass has.
 
-use crate::evaluations::{ADA, ROWS, TWO_FRIENDS};
+use crate::evaluations::{ROWS, TWO_FRIENDS};
 use crate::handing::{Place, Turn, play_over};
 use crate::rows::{Row, assert_history, assert_ids};
-use crate::shapes::{BEST, FRIENDS, Shape, U1, U2};
 use dl_desk::Limits;
-use dl_fixtures::{USERS, tables};
+use dl_fixtures::{ADA, BEST, FRIENDS, Shape, U1, U2, USERS, tables};
 use dl_loader::EntryKind::{Call, Saw as Read};
 use dl_loader::{CloseFault, EntryKind, History};
 use dl_source::Tables;

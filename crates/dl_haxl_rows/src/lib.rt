@@ -3,6 +3,8 @@
 #![tactic(auto)]
 
 #[cfg(test)]
+mod depths;
+#[cfg(test)]
 mod evaluations;
 #[cfg(test)]
 mod handing;
@@ -12,7 +14,5 @@ mod handovers;
 mod polls;
 #[cfg(test)]
 mod rows;
-#[cfg(test)]
-mod shapes;
 #[cfg(test)]
 mod texts;

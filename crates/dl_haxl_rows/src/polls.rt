@@ -2,12 +2,10 @@
 
 ghost use Rattle.dl_history.specs.Service.{Answers};
 
-use crate::evaluations::ADA;
 use crate::rows::{Player, Row, assert_ids, try_row};
-use crate::shapes::{Shape, U1, U2, term};
-use crate::texts::{answer_text, debug_text};
+use crate::texts::debug_text;
 use dl_desk::FetchKey;
-use dl_fixtures::outcome_text;
+use dl_fixtures::{ADA, Shape, U1, U2, answer_text, outcome_text, term};
 use dl_haxl::{LoadFuture, TermRun};
 use dl_loader::{Loader, LoaderName, Pass, Ticket};
 use dl_source::Source;

@@ -4,10 +4,9 @@ ghost use Rattle.std.specs.Prelude.{◌≡◌};
 ghost use Rattle.dl_history.specs.Service.{Answers};
 ghost use Rattle.dl_loader.specs.Opening.{Names};
 
-use crate::shapes::Shape;
 use crate::{evaluations, polls};
 use dl_desk::{FetchKey, Limits};
-use dl_fixtures::{CountedTables, USERS, tables};
+use dl_fixtures::{CountedTables, Shape, USERS, tables};
 use dl_loader::{CloseFault, History, Loader, LoaderName, Opening, Pass};
 use dl_source::Source;
 use std::alloc::{AllocGlobal, Global};

@@ -1,8 +1,8 @@
-//! How answers are written in rows.
+//! What evaluations give, as rows write it.
 
-use dl_desk::BatchFault;
+use dl_fixtures::answer_text;
 use dl_haxl::RunFault;
-use dl_terms::{Answer, EvalFault};
+use dl_terms::Answer;
 use std::alloc::{AllocError, Global};
 use std::fmt::Debug;
 
@@ -18,45 +18,7 @@ pub(crate) fn evaluation_text(
     Some((text.ok()?, rounds))
 }
 
-/// The text of an answer: of a value its JSON, else why there is none.
-pub(crate) fn answer_text(alloc: Global, answer: &Answer) -> Result<String, AllocError> {
-    match answer {
-        Answer::Value(value) => value.to_text(alloc),
-        Answer::Fault(fault) => fault_text(alloc, fault),
-    }
-}
-
-fn fault_text(alloc: Global, fault: &EvalFault) -> Result<String, AllocError> {
-    match fault {
-        EvalFault::Key { key, text } => format!(in alloc; "key {}: {}", key.id(), text.as_str()),
-        EvalFault::Batch { key, fault } => format!(in alloc;
-            "batch of {}: {}",
-            key.id(),
-            cause(fault)
-        ),
-        EvalFault::NoField => String::from_str(alloc, "no field"),
-        EvalFault::NotAKey => String::from_str(alloc, "not a key"),
-        EvalFault::NotAList => String::from_str(alloc, "not a list"),
-        EvalFault::TooMany => String::from_str(alloc, "too many"),
-    }
-}
-
-/// Why a batch failed.
-fn cause(fault: &BatchFault) -> &str {
-    match fault {
-        BatchFault::Source(text) => text.as_str(),
-        BatchFault::Memory => "no memory",
-        BatchFault::Unsent => "unsent",
-    }
-}
-
 /// The text of a fault as `Debug` has it.
 pub(crate) fn debug_text<F: Debug + Drop>(alloc: Global, fault: F) -> Result<String, AllocError> {
     format!(in alloc; "{fault:?}")
-}
-
-/// The JSON list that has an item so many times.
-pub(crate) fn list_text(alloc: Global, item: &str, times: usize) -> Result<String, AllocError> {
-    let items = [item].repeat(alloc, times)?.join(alloc, ",")?;
-    format!(in alloc; "[{}]", items.as_str())
 }

@@ -12,10 +12,10 @@ mod threads;
 mod using;
 mod waiting;
 
-use crate::loader::step::{ADA, Row};
+use crate::loader::step::Row;
 use crate::loader::waiting::{CALLERS, Crowd, Release};
 use dl_desk::Limits;
-use dl_fixtures::{USERS, tables};
+use dl_fixtures::{ADA, USERS, tables};
 use dl_loader::{Opening, StartFault};
 use dl_source::Tables;
 use std::alloc::Global;

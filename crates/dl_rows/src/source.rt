@@ -1,7 +1,7 @@
 //! Tables read from JSON, and what they answer.
 
 use dl_desk::{BatchFault, FetchKey, Job, Json, Keys, Message, Outcome, has_float};
-use dl_fixtures::{USERS, outcome_text, tables};
+use dl_fixtures::{Starved, USERS, outcome_text, tables};
 use dl_source::{BatchAnswer, Source, TableFault, Tables, fetch_job};
 use serde_json::Value;
 use std::alloc::{AllocError, Global};
@@ -295,22 +295,6 @@ fn copies_of_failures_are_the_same(rt: HostRuntime) -> Result<(), Fail> {
     let down = BatchFault::Source(Message::new(rt.alloc(), "down")?);
     assert_copied(&rt, rt.alloc(), &Outcome::BatchFailed(down), "batch down")?;
     Ok(())
-}
-
-/// A source that has no memory left.
-#[derive(Drop)]
-struct Starved;
-
-impl Source for Starved {
-    ghost use Rattle.dl_rows.specs.Starved.{answer_of, answer_fits};
-
-    ghost answer = { answer_of };
-
-    ghost fits = { answer_fits };
-
-    fn fetch(&self, _alloc: Global, _keys: &[FetchKey]) -> Result<BatchAnswer, AllocError> {
-        Err(AllocError)
-    }
 }
 
 #[test]

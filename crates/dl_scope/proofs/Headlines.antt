@@ -16,6 +16,7 @@ use Rattle.dl_scope.specs.Report.{Report, report}
 use Rattle.dl_scope.specs.declared.fault.ScopeFault.{ScopeFault}
 use Rattle.dl_scope.specs.declared.plan.Plan.{Plan}
 use Rattle.dl_scope.specs.declared.plan.StepAnswer.{StepAnswer}
+use Rattle.dl_scope.proofs.EndedOnce.{end_once}
 use Rattle.dl_scope.proofs.Placed.{parts_of, part_account, entries_at, plan_at, served_long, served_numbered, worker_after}
 
 accounts_by_parts : (passes : List Pass) → accounts_of passes ≡ map part_account (parts_of passes)
@@ -62,6 +63,7 @@ module _ (service : Service) (plans : List Plan) (answers : List (List StepAnswe
         follow = plan_follows;
         work = worker_ends closed.count;
         ended = closed.ended;
+        once = end_once service h.events closed.legal;
         fetched = fetched;
         counted = counted;
       }

@@ -3,12 +3,11 @@ use Rattle.std.proofs.Common.{◌≡◌, ◌∙◌, sym, ap, subst, ℕ, ◌+◌
 use Rattle.std.proofs.Common.{refl, arith, append-nil, zero, suc, add-one}
 use Rattle.std.specs.Prelude.{flat_map, slice_get}
 use Rattle.std.proofs.lemmas.Bool.{cases_lt}
-use Rattle.std.proofs.lemmas.List.{take_all}
 use Rattle.std.proofs.lemmas.List.Concat.{flat_map-append}
 use Rattle.dl_history.specs.Lists.{Among}
 use Rattle.dl_history.specs.declared.event.Event.{Event}
 use Rattle.dl_history.proofs.ListLemmas.{among_longer, every_append, every_weaker}
-use Rattle.dl_history.proofs.Logs.{get-append_at}
+use Rattle.dl_history.proofs.Logs.{get-append_at, take-get}
 use Rattle.dl_loader.specs.Closing.{IsLeastOf}
 use Rattle.dl_scope.specs.Headline.{given_up, given_up_by}
 
@@ -24,12 +23,6 @@ least_lesser ns n c found = (
     by (inl less) = let same : min n c ≡ c = omega arith in rw same (length ns, get-append_at ns c [])
     by (inr more) = let same : min n c ≡ n = omega arith in rw same (among_longer n ns (c ∷ []) found.0)
 
--- the events up to one more
-taken_more : {X : Type 0} (xs : List X) (i : ℕ) (x : X) → slice_get xs i ≡ Some x → take (suc i) xs ≡ take i xs ++ x ∷ []
-taken_more {X} [] i x is = absurd (let bad : ◌≡◌ {A = Option X} None (Some x) = is in cc)
-taken_more (y ∷ xs) zero x is = cc
-taken_more (y ∷ xs) (suc i) x is = ap (λ zs. y ∷ zs) (taken_more xs i x is)
-
 -- one event more
 pub least_event : (events : List Event) (i : ℕ) (e : Event) (found now : Option ℕ) → slice_get events i ≡ Some e
     → IsLeastOf found (given_up (take i events)) → ((ns : List ℕ) → IsLeastOf found ns → IsLeastOf now (ns ++ given_up_by e.call))
@@ -37,7 +30,7 @@ pub least_event : (events : List Event) (i : ℕ) (e : Event) (found now : Optio
 least_event events i e found now is least more =
     let by : Event → List ℕ = λ x. given_up_by x.call in
     let whole : given_up (take (i + 1) events) ≡ given_up (take i events) ++ (given_up_by e.call ++ []) =
-    ap (λ n. given_up (take n events)) (add-one i) ∙ (ap (flat_map by) (taken_more events i e is) ∙ flat_map-append by (take i events) (e ∷ [])) in
+    ap (λ n. given_up (take n events)) (add-one i) ∙ (ap (flat_map by) (take-get events i e is) ∙ flat_map-append by (take i events) (e ∷ [])) in
     let one : given_up (take i events) ++ (given_up_by e.call ++ []) ≡ given_up (take i events) ++ given_up_by e.call =
     ap (λ ns. given_up (take i events) ++ ns) (append-nil (given_up_by e.call)) in
     subst (IsLeastOf now) (sym (whole ∙ one)) (more (given_up (take i events)) least)

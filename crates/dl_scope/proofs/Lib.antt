@@ -1,4 +1,5 @@
 mod Crossing
+mod EndedOnce
 mod Gave
 mod Headlines
 mod Least

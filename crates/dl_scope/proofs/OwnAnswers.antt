@@ -30,9 +30,9 @@ use Rattle.dl_terms.specs.View.{term_view}
 use Rattle.dl_terms.specs.declared.answer.Answer.{Answer}
 use Rattle.dl_haxl.specs.Stretch.{HandedOver, Round, Rounds}
 use Rattle.dl_scope.specs.Follows.{Stretch, stretch, IsStep, AreSteps, Follows}
-use Rattle.dl_scope.specs.Headline.{Headline, service_of, IsEnd, TellsEnd}
-use Rattle.dl_scope.specs.Own.{AnswersOwn, IsNoPrime, NonePrimed, NoneFailed}
-use Rattle.dl_scope.specs.OwnAnswers.{AreOwn, IsOwn, listed, PrimesNone, AnswersByTables, AnswersAreOwn, OwnAnswersAreOne}
+use Rattle.dl_scope.specs.Headline.{Headline, service_of, Ends, TellsEnd}
+use Rattle.dl_scope.specs.OwnAnswers.{AnswersOwn, IsNoPrime, NonePrimed, NoneFailed, AreOwn, IsOwn, listed, PrimesNoKey}
+use Rattle.dl_scope.specs.OwnAnswers.{AnswersByTables, AnswersAreOwn, OwnAnswersAreOne}
 use Rattle.dl_scope.specs.Report.{Report}
 use Rattle.dl_scope.specs.declared.plan.Plan.{Plan}
 use Rattle.dl_scope.specs.declared.plan.Setup.{Setup}
@@ -69,32 +69,32 @@ rounds_unprimed caller t (suc n) lines known sent (before, last, past, earlier, 
     let here : Every Unprimed last = subst (Every Unprimed) (sym one.tells) (tt, (tt, rest)) in
     subst (Every Unprimed) (sym split) (every_append Unprimed before last (rounds_unprimed caller t n before past earlier rounds) here)
 
-step_unprimed : (caller number : ℕ) (step : Step) (s : Stretch) → PrimesNone step → IsStep caller number step s → Every Unprimed s.lines
+step_unprimed : (caller number : ℕ) (step : Step) (s : Stretch) → PrimesNoKey step → IsStep caller number step s → Every Unprimed s.lines
 step_unprimed caller number (Prime key outcome) s none one = absurd none
 step_unprimed caller number (Clear key) s none (at, reply, is) = subst (λ (x : Stretch). Every Unprimed x.lines) (sym is) (tt, tt)
 step_unprimed caller number ClearAll s none (at, reply, is) = subst (λ (x : Stretch). Every Unprimed x.lines) (sym is) (tt, tt)
 step_unprimed caller number (Eval term) s none (a, sent, answers, (known, rounds, ended, gives)) =
     rounds_unprimed caller (term_view term) s.rounds s.lines known sent rounds
 
-steps_unprimed : (caller number : ℕ) (steps : List Step) (s : Stretch) → Every PrimesNone steps → AreSteps caller number steps s → Every Unprimed s.lines
+steps_unprimed : (caller number : ℕ) (steps : List Step) (s : Stretch) → Every PrimesNoKey steps → AreSteps caller number steps s → Every Unprimed s.lines
 steps_unprimed caller number [] s none is = subst (λ (x : Stretch). Every Unprimed x.lines) (sym is) tt
 steps_unprimed caller number (step ∷ steps) s (none, others) (own, rest, is, one, more) =
     subst (λ (x : Stretch). Every Unprimed x.lines) (sym is)
     (every_append Unprimed own.lines rest.lines (step_unprimed caller number step own none one) (steps_unprimed caller (suc number) steps rest others more))
 
-end_unprimed : (c : Call) → IsEnd c → IsNoPrime c
-end_unprimed (Load k) end = absurd end
-end_unprimed (LoadMany ks) end = absurd end
-end_unprimed (call.Prime k o) end = absurd end
-end_unprimed (call.Clear k) end = absurd end
-end_unprimed call.ClearAll end = absurd end
-end_unprimed Dispatch end = absurd end
-end_unprimed (Settle b os) end = tt
-end_unprimed (Fail b fault) end = tt
+end_unprimed : (b : ℕ) (c : Call) → Ends b c → IsNoPrime c
+end_unprimed b (Load k) end = absurd end
+end_unprimed b (LoadMany ks) end = absurd end
+end_unprimed b (call.Prime k o) end = absurd end
+end_unprimed b (call.Clear k) end = absurd end
+end_unprimed b call.ClearAll end = absurd end
+end_unprimed b Dispatch end = absurd end
+end_unprimed b (Settle n os) end = tt
+end_unprimed b (Fail n fault) end = tt
 
 ends_unprimed : (ls : List Line) → Every TellsEnd ls → Every Unprimed ls
 ends_unprimed [] ends = tt
-ends_unprimed (Called t ∷ ls) (one, others) = (end_unprimed t.event.call one, ends_unprimed ls others)
+ends_unprimed (Called t ∷ ls) (one, others) = (end_unprimed one.0 t.event.call one.1, ends_unprimed ls others)
 ends_unprimed (Saw r ∷ ls) (one, others) = absurd one
 
 -- ---- an event stands among the entries of its caller
@@ -135,7 +135,7 @@ call_among (Called t ∷ ls) i (zero, found) = (t, (zero, refl), cc)
 call_among (Called t ∷ ls) i (suc j, found) = let rest = call_among ls i (j, found) in (rest.0, (suc rest.1.0, rest.1.1), rest.2)
 call_among (Saw r ∷ ls) i found = let rest = call_among ls i found in (rest.0, (suc rest.1.0, rest.1.1), rest.2)
 
-module _ (s : Service) (plans : List Plan) (r : Report) (h : Headline s plans r) (none : Every (λ (plan : Plan). Every PrimesNone plan.steps.items) plans) where
+module _ (s : Service) (plans : List Plan) (r : Report) (h : Headline s plans r) (none : Every (λ (plan : Plan). Every PrimesNoKey plan.steps.items) plans) where
   caller_unprimed : (n : ℕ) → n < s.callers → Every Unprimed (entries_of n r.history.accounts)
   caller_unprimed n low = elim (cases_lt n (length plans)) [
     | inl plan ↦ (
@@ -144,7 +144,7 @@ module _ (s : Service) (plans : List Plan) (r : Report) (h : Headline s plans r)
         let rounds = some_at r.rounds n (omega (arith, h.rounds_each, plan)) in
         let follows = h.follow n p.0 answers.0 rounds.0 p.1 answers.1 rounds.1 in
         steps_unprimed n 0 p.0.steps.items (stretch (entries_of n r.history.accounts) answers.0 rounds.0)
-        (every_among (λ (plan : Plan). Every PrimesNone plan.steps.items) plans p.0 (n, p.1) none) follows)
+        (every_among (λ (plan : Plan). Every PrimesNoKey plan.steps.items) plans p.0 (n, p.1) none) follows)
     | inr worker ↦ ends_unprimed (entries_of n r.history.accounts) (h.work n worker low)
   ]
 

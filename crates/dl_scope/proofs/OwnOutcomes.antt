@@ -24,7 +24,7 @@ use Rattle.dl_history.proofs.CellBatches.{member_cell, members-apart}
 use Rattle.dl_history.proofs.LogEnds.{batched_unprimed}
 use Rattle.dl_history.proofs.Logs.{legal_log, legal_atoms}
 use Rattle.dl_history.proofs.Outcomes.{shown_parts}
-use Rattle.dl_scope.specs.Own.{AnswersOwn, NonePrimed, NoneFailed}
+use Rattle.dl_scope.specs.OwnAnswers.{AnswersOwn, NonePrimed, NoneFailed}
 use Rattle.dl_scope.proofs.LoadedCells.{LoadBegan}
 use Rattle.dl_scope.proofs.OwnSettles.{own_given, give_own}
 use Rattle.dl_scope.proofs.Unprimed.{loads_began}

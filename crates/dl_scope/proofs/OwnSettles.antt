@@ -19,7 +19,7 @@ use Rattle.dl_history.specs.declared.event.Call.{Call}
 use Rattle.dl_history.specs.declared.event.Call.TheVariants.{Load, LoadMany, Prime, Clear, ClearAll, Dispatch, Settle, Fail}
 use Rattle.dl_history.proofs.CellBatches.{members_stay, ends_may_end}
 use Rattle.dl_history.proofs.Logs.{log-snoc, by_events, next_replied, legal_log}
-use Rattle.dl_scope.specs.Own.{AnswersOwn, IsNoFail, NoneFailed}
+use Rattle.dl_scope.specs.OwnAnswers.{AnswersOwn, IsNoFail, NoneFailed}
 use Rattle.dl_scope.proofs.Unprimed.{every_parts}
 
 -- the own outcomes of the keys of a batch's members

@@ -17,7 +17,7 @@ use Rattle.dl_history.specs.declared.event.Call.TheVariants.{Load, LoadMany, Pri
 use Rattle.dl_history.specs.declared.event.Reply.{Reply}
 use Rattle.dl_history.specs.declared.event.Reply.TheVariants.{Loaded, Many, Primed, Kept, Done, Sent}
 use Rattle.dl_history.proofs.Logs.{get-snoc, log-snoc, by_events, atoms_next}
-use Rattle.dl_scope.specs.Own.{IsNoPrime, NonePrimed}
+use Rattle.dl_scope.specs.OwnAnswers.{IsNoPrime, NonePrimed}
 use Rattle.dl_scope.proofs.LoadedCells.{LoadBegan, began_made, PrimesNone, replies_began}
 
 -- ---- the atoms

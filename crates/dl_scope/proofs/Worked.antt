@@ -1,5 +1,5 @@
 -- What a worker adds to its pass: ends of batches, and nothing else.
-use Rattle.std.proofs.Common.{◌≡◌, ◌∙◌, ap, sym, ℕ, List, [], ◌∷◌, ◌++◌, append_assoc, append-nil, inl, inr}
+use Rattle.std.proofs.Common.{◌≡◌, ◌∙◌, ap, sym, refl, ℕ, List, [], ◌∷◌, ◌++◌, append_assoc, append-nil, inl, inr}
 use Rattle.dl_desk.specs.declared.outcome.BatchAnswer.{BatchAnswer}
 use Rattle.dl_desk.specs.declared.outcome.BatchAnswer.TheVariants.{Each, Break}
 use Rattle.dl_desk.specs.declared.reply.Job.{Job}
@@ -8,6 +8,7 @@ use Rattle.dl_history.specs.Lists.{Every}
 use Rattle.dl_history.specs.Service.{Service}
 use Rattle.dl_history.specs.declared.event.Call.{Call}
 use Rattle.dl_history.specs.declared.event.Reply.TheVariants.{Done}
+use Rattle.dl_history.proofs.ListLemmas.{every_append}
 use Rattle.dl_loader.specs.Added.{Adds, line}
 use Rattle.dl_loader.specs.Asks.{end_by}
 use Rattle.dl_loader.specs.Made.{WasMade}
@@ -17,12 +18,12 @@ use Rattle.dl_workers.specs.Ending.{WasEnded, WereEnded, end_answered, end_unans
 use Rattle.dl_workers.specs.Worked.{Worked}
 use Rattle.dl_workers.specs.declared.worker.WorkerEnd.{WorkerEnd}
 use Rattle.dl_workers.specs.declared.worker.WorkerEnd.TheVariants as end
-use Rattle.dl_scope.specs.Headline.{IsEnd, TellsEnd}
+use Rattle.dl_scope.specs.Headline.{Ends, TellsEnd}
 
--- however the source answered, the call ends a batch
-ends_by : (b : ℕ) (answer : BatchAnswer) → IsEnd (end_by b answer)
-ends_by b (Each os) = tt
-ends_by b (Break text) = tt
+-- however the source answered, the call ends the batch
+ends_by : (b : ℕ) (answer : BatchAnswer) → Ends b (end_by b answer)
+ends_by b (Each os) = refl
+ends_by b (Break text) = refl
 
 abbrev pub AddsEnds : Part → Part → Type 0
 AddsEnds old new = Adds old new (λ lines. Every TellsEnd lines)
@@ -30,22 +31,18 @@ AddsEnds old new = Adds old new (λ lines. Every TellsEnd lines)
 adds_none : (old new : Part) → new ≡ old → AddsEnds old new
 adds_none old new same = (ap (λ (p : Part). p.caller) same, [], ap (λ (p : Part). p.entries) same ∙ sym (append-nil old.entries), tt)
 
-adds_one : (s : Service) (old new : Part) (call : Call) → IsEnd call → WasMade s old call Done new → AddsEnds old new
-adds_one s old new call ends made =
+adds_one : (s : Service) (old new : Part) (call : Call) (b : ℕ) → Ends b call → WasMade s old call Done new → AddsEnds old new
+adds_one s old new call b ends made =
     let one = made_adds s old new call Done made in
-    (one.1, line old.caller one.0 call Done ∷ [], one.2, (ends, tt))
-
-every_append : (xs ys : List Line) → Every TellsEnd xs → Every TellsEnd ys → Every TellsEnd (xs ++ ys)
-every_append [] ys none ends = ends
-every_append (x ∷ xs) ys (one, others) ends = (one, every_append xs ys others ends)
+    (one.1, line old.caller one.0 call Done ∷ [], one.2, ((b, ends), tt))
 
 adds_then : (old now new : Part) → AddsEnds old now → AddsEnds now new → AddsEnds old new
 adds_then old now new (caller, lines, entries, ends) (caller2, more, entries2, ends2) =
-    (caller2 ∙ caller, lines ++ more, entries2 ∙ (ap (λ ls. ls ++ more) entries ∙ append_assoc old.entries lines more), every_append lines more ends ends2)
+    (caller2 ∙ caller, lines ++ more, entries2 ∙ (ap (λ ls. ls ++ more) entries ∙ append_assoc old.entries lines more), every_append TellsEnd lines more ends ends2)
 
 ended_adds : (s : Service) (old new : Part) (job : Job) → WasEnded s old job new → AddsEnds old new
-ended_adds s old new job (inl answered) = adds_one s old new (end_answered s job) (ends_by job.batch (s.answer job.keys)) answered
-ended_adds s old new job (inr unanswered) = adds_one s old new (end_unanswered job) tt unanswered
+ended_adds s old new job (inl answered) = adds_one s old new (end_answered s job) job.batch (ends_by job.batch (s.answer job.keys)) answered
+ended_adds s old new job (inr unanswered) = adds_one s old new (end_unanswered job) job.batch refl unanswered
 
 all_ended_add : (s : Service) (old new : Part) (jobs : List Job) → WereEnded s old jobs new → AddsEnds old new
 all_ended_add s old new [] same = adds_none old new same

@@ -22,21 +22,25 @@ use Rattle.dl_scope.specs.declared.plan.StepAnswer.{StepAnswer}
 abbrev pub service_of : Setup → ℕ → (List Key → BatchAnswer) → Service
 service_of setup plans answer = service (mixed setup.limits) (plans + setup.workers) answer
 
--- the call ends a batch
-abbrev pub IsEnd : Call → Type 0
-IsEnd (Settle b os) = Unit {0}
-IsEnd (Fail b fault) = Unit {0}
-IsEnd (Load k) = ⊥
-IsEnd (LoadMany ks) = ⊥
-IsEnd (Prime k o) = ⊥
-IsEnd (Clear k) = ⊥
-IsEnd ClearAll = ⊥
-IsEnd Dispatch = ⊥
+-- the call ends this batch
+abbrev pub Ends : ℕ → Call → Type 0
+Ends b (Settle n os) = n ≡ b
+Ends b (Fail n fault) = n ≡ b
+Ends b (Load k) = ⊥
+Ends b (LoadMany ks) = ⊥
+Ends b (Prime k o) = ⊥
+Ends b (Clear k) = ⊥
+Ends b ClearAll = ⊥
+Ends b Dispatch = ⊥
 
 -- the entry is one of a call that ends a batch
 abbrev pub TellsEnd : Line → Type 0
-TellsEnd (Called t) = IsEnd t.event.call
+TellsEnd (Called t) = (b : ℕ) × Ends b t.event.call
 TellsEnd (Saw r) = ⊥
+
+-- events that end the same batch are the same event
+abbrev pub EndOnce : List Event → Type 0
+EndOnce events = (b j k : ℕ) (e f : Event) → slice_get events j ≡ Some e → slice_get events k ≡ Some f → Ends b e.call → Ends b f.call → j ≡ k
 
 -- the batch that the call fails without an answer of the source, if it does
 abbrev pub given_up_by : Call → List ℕ
@@ -74,8 +78,9 @@ pub record Headline (service : Service) (plans : List Plan) (r : Report) : Type 
       → Follows n plan.steps.items (entries_of n r.history.accounts) answers rounds
   -- each worker ended batches, and did nothing else
   pub work : (n : ℕ) → length plans ≤ n → n < service.callers → Every TellsEnd (entries_of n r.history.accounts)
-  -- every batch has an end, by what the source answers to its keys
+  -- every batch has exactly one end, by what the source answers to its keys
   pub ended : AllEnded r.history.events
+  pub once : EndOnce r.history.events
   pub fetched : given_up r.history.events ≡ []
   -- of the jobs that were sent, each was taken or left
   pub counted : r.tally.sent ≡ r.tally.taken + r.tally.left

@@ -2,6 +2,5 @@ pub mod Faults
 pub mod Follows
 pub mod Headline
 pub mod Inside
-pub mod Own
 pub mod OwnAnswers
 pub mod Report

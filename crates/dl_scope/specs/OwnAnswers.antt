@@ -1,8 +1,13 @@
 -- What terms answer by the tables alone, which is the same for every number of workers, every limit, and whatever plans stand beside.
-use Rattle.std.specs.Prelude.{◌≡◌, ℕ, List, length, Some, slice_get}
+use Rattle.std.specs.Prelude.{◌≡◌, ℕ, List, length, map, Some, slice_get}
 use Rattle.dl_desk.specs.Key.{Key}
+use Rattle.dl_desk.specs.declared.outcome.BatchAnswer.TheVariants as answered
 use Rattle.dl_desk.specs.declared.outcome.Outcome.{Outcome}
-use Rattle.dl_history.specs.Lists.{Every, Among}
+use Rattle.dl_history.specs.Lists.{Every}
+use Rattle.dl_history.specs.Service.{Service}
+use Rattle.dl_history.specs.declared.event.Call.{Call}
+use Rattle.dl_history.specs.declared.event.Call.TheVariants as call
+use Rattle.dl_history.specs.declared.event.Event.{Event}
 use Rattle.dl_source.specs.Answer.{answer_of, found, outcome_of}
 use Rattle.dl_source.specs.Listing.{NamedTables}
 use Rattle.dl_terms.specs.Gives.{Pairs, gives}
@@ -11,13 +16,46 @@ use Rattle.dl_terms.specs.View.{term_view}
 use Rattle.dl_terms.specs.declared.answer.Answer.{Answer}
 use Rattle.dl_terms.specs.declared.term.Term.{Term}
 use Rattle.dl_scope.specs.Headline.{Headline, service_of}
-use Rattle.dl_scope.specs.Own.{NoneFailed}
 use Rattle.dl_scope.specs.Report.{Report}
 use Rattle.dl_scope.specs.declared.plan.Plan.{Plan}
 use Rattle.dl_scope.specs.declared.plan.Setup.{Setup}
 use Rattle.dl_scope.specs.declared.plan.Step.{Step}
 use Rattle.dl_scope.specs.declared.plan.Step.TheVariants.{Prime, Clear, ClearAll, Eval}
 use Rattle.dl_scope.specs.declared.plan.StepAnswer.{StepAnswer}
+
+-- what each answer of the source has for a key, whatever keys were asked with it
+abbrev pub AnswersOwn : Service → (Key → Outcome) → Type 0
+AnswersOwn service own = (keys : List Key) (outcomes : List Outcome) → service.answer keys ≡ answered.Each outcomes → outcomes ≡ map own keys
+
+-- the call primes no key
+abbrev pub IsNoPrime : Call → Type 0
+IsNoPrime (call.Load k) = Unit {0}
+IsNoPrime (call.LoadMany ks) = Unit {0}
+IsNoPrime (call.Prime k o) = ⊥
+IsNoPrime (call.Clear k) = Unit {0}
+IsNoPrime call.ClearAll = Unit {0}
+IsNoPrime call.Dispatch = Unit {0}
+IsNoPrime (call.Settle b os) = Unit {0}
+IsNoPrime (call.Fail b fault) = Unit {0}
+
+-- the call fails no batch
+abbrev pub IsNoFail : Call → Type 0
+IsNoFail (call.Load k) = Unit {0}
+IsNoFail (call.LoadMany ks) = Unit {0}
+IsNoFail (call.Prime k o) = Unit {0}
+IsNoFail (call.Clear k) = Unit {0}
+IsNoFail call.ClearAll = Unit {0}
+IsNoFail call.Dispatch = Unit {0}
+IsNoFail (call.Settle b os) = Unit {0}
+IsNoFail (call.Fail b fault) = ⊥
+
+-- no event primes a key
+abbrev pub NonePrimed : List Event → Type 0
+NonePrimed events = Every (λ (e : Event). IsNoPrime e.call) events
+
+-- no event fails a batch
+abbrev pub NoneFailed : List Event → Type 0
+NoneFailed events = Every (λ (e : Event). IsNoFail e.call) events
 
 -- each key is paired with its own outcome
 abbrev pub AreOwn : (Key → Outcome) → Pairs → Type 0
@@ -32,11 +70,11 @@ abbrev pub listed : NamedTables → Key → Outcome
 listed tables k = outcome_of (found tables k)
 
 -- the step primes no key
-abbrev pub PrimesNone : Step → Type 0
-PrimesNone (Prime key outcome) = ⊥
-PrimesNone (Clear key) = Unit {0}
-PrimesNone ClearAll = Unit {0}
-PrimesNone (Eval term) = Unit {0}
+abbrev pub PrimesNoKey : Step → Type 0
+PrimesNoKey (Prime key outcome) = ⊥
+PrimesNoKey (Clear key) = Unit {0}
+PrimesNoKey ClearAll = Unit {0}
+PrimesNoKey (Eval term) = Unit {0}
 
 -- the answer is that of a term of the plan, by the tables alone
 abbrev pub AnswersByTables : NamedTables → Plan → StepAnswer → Type 0
@@ -47,7 +85,7 @@ AnswersByTables tables plan given = (term : Term) × (slice_get plan.steps.items
 abbrev pub AnswersAreOwn : Type 0
 AnswersAreOwn = (tables : NamedTables) (setup : Setup) (plans : List Plan) (r : Report)
     → Headline (service_of setup (length plans) (answer_of tables)) plans r → NoneFailed r.history.events
-    → Every (λ plan. Every PrimesNone plan.steps.items) plans
+    → Every (λ plan. Every PrimesNoKey plan.steps.items) plans
     → (n : ℕ) (plan : Plan) (answers : List StepAnswer) → slice_get plans n ≡ Some plan → slice_get r.answers n ≡ Some answers
     → Every (AnswersByTables tables plan) answers
 

@@ -2,7 +2,7 @@
 
 use crate::play::{Loads, Place, play_over};
 use crate::steps::{MOST_NOTED, Steps};
-use dl_fixtures::{USERS, tables};
+use dl_fixtures::{ADA, BOB, USERS, tables};
 use dl_loader::{CloseFault, Stopped};
 use dl_source::Tables;
 use dl_workers::{Tally, WorkerEnd};
@@ -11,12 +11,6 @@ use std::hash::RandomState;
 use std::process::Abort;
 use std::sync::Wait;
 use std::thread::Threads;
-
-/// The row of the user `u1`.
-const ADA: &str = r#"{"best":"u2","friends":["u2","u3"],"name":"Ada"}"#;
-
-/// The row of the user `u2`.
-const BOB: &str = r#"{"best":"u1","friends":[],"name":"Bob"}"#;
 
 /// A caller loads, dispatches and sends its jobs, and shuts the queue. Then a worker works, and the caller waits for the
 /// outcome of its last load.

@@ -107,9 +107,3 @@ pub(super) struct Closed {
     /// The outcomes of the cells, in order.
     pub(super) outcomes: &'static [&'static str],
 }
-
-/// The row of the user `u1`.
-pub(super) const ADA: &str = r#"{"best":"u2","friends":["u2","u3"],"name":"Ada"}"#;
-
-/// The row of the user `u2`.
-pub(super) const BOB: &str = r#"{"best":"u1","friends":[],"name":"Bob"}"#;

@@ -7,8 +7,8 @@ ghost use Rattle.dl_loader.specs.Pass.{GaveTicket};
 
 use super::closed::assert_ends;
 use super::keys::{assert_jobs, assert_shows, user};
-use super::step::ADA;
 use dl_desk::{FetchKey, LoadReply};
+use dl_fixtures::ADA;
 use dl_loader::laws::looks_agree;
 use dl_loader::{CallFault, EntryKind, History, Loader, LoaderName, Opening, Pass, Reply, Ticket};
 use dl_source::Source;

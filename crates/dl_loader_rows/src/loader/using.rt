@@ -5,8 +5,8 @@ ghost use Rattle.dl_history.specs.Service.{Answers};
 ghost use Rattle.dl_loader.specs.Opening.{Names};
 
 use super::closed::{assert_batches, assert_outcomes};
-use super::step::ADA;
 use dl_desk::FetchKey;
+use dl_fixtures::ADA;
 use dl_loader::{CallFault, EntryKind, History, Loader, LoaderName, MOST_CALLERS, Opening, Pass};
 use dl_source::Source;
 use dl_workers::end_jobs;

@@ -2,8 +2,9 @@
 
 use crate::loader::play;
 use crate::loader::step::Step::{Clear, Dispatch, Fail as GivesUp, Load, LoadMany, Settle};
-use crate::loader::step::{ADA, Closed, Part, Row};
+use crate::loader::step::{Closed, Part, Row};
 use dl_desk::LoadReply::Fresh;
+use dl_fixtures::ADA;
 use dl_loader::CloseFault::{PassesMissing, Unsettled};
 use dl_loader::EntryKind::Call;
 use dl_loader::GiveUp::Memory;

@@ -5,8 +5,9 @@ use crate::loader::step::Primed::{KeyError, NoMemory, Value};
 use crate::loader::step::Step::{
     ByLaw, Clear, ClearAll, Dispatch, Entries, Load, LoadMany, Look, Prime, Saw, Settle, Wait,
 };
-use crate::loader::step::{ADA, Asked, BOB, Closed, Part, Row, Told};
+use crate::loader::step::{Asked, Closed, Part, Row, Told};
 use dl_desk::LoadReply::{Fresh, Hit};
+use dl_fixtures::{ADA, BOB};
 use dl_loader::CallFault::{NoBatch, NotSent, SettledBefore, WrongKeys};
 use dl_loader::EntryKind::{Call, Saw as Read};
 use dl_loader::GiveUp::Memory;

@@ -6,8 +6,9 @@ use crate::loader::step::Step::{
     ByLaw, Clear, ClearAll, Dispatch, Entries, Fail as GivesUp, Load, LoadMany, Prime, Settle,
     Stop, Wait,
 };
-use crate::loader::step::{ADA, Asked, Closed, Part, Row};
+use crate::loader::step::{Asked, Closed, Part, Row};
 use dl_desk::LoadReply::{Fresh, Hit};
+use dl_fixtures::ADA;
 use dl_loader::CallFault::{
     CellsFull, LogFull, NoBatch, NotSent, SettledBefore, Stopped, WrongKeys,
 };

@@ -2,8 +2,9 @@
 
 use crate::loader::play;
 use crate::loader::step::Step::{Clear, Dispatch, Fail as GivesUp, Load, Look, Saw, Settle};
-use crate::loader::step::{ADA, Closed, Part, Row};
+use crate::loader::step::{Closed, Part, Row};
 use dl_desk::LoadReply::{Fresh, Hit};
+use dl_fixtures::ADA;
 use dl_loader::CloseFault::Unsettled;
 use dl_loader::EntryKind::{Call, Saw as Read};
 use dl_loader::GiveUp::{Memory, Unsent};

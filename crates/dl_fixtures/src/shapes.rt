@@ -1,4 +1,4 @@
-//! Terms as data, and how deep and how high they are.
+//! Terms as data.
 
 use crate::texts::list_text;
 use dl_desk::{FetchKey, Json, Text, has_float};
@@ -8,7 +8,7 @@ use std::alloc::Global;
 
 /// A term, as rows write it. What is followed is a key of the users' table.
 #[derive(Clone, Copy)]
-pub(crate) enum Shape {
+pub enum Shape {
     /// The value of a JSON text.
     Value(&'static str),
     /// An object whose field `f` lists the user `u1` so many times.
@@ -25,19 +25,21 @@ pub(crate) enum Shape {
     All(&'static [Shape]),
 }
 
-pub(crate) const U1: Shape = Shape::Load("user", "u1");
+/// The load of the user `u1`.
+pub const U1: Shape = Shape::Load("user", "u1");
 
-pub(crate) const U2: Shape = Shape::Load("user", "u2");
+/// The load of the user `u2`.
+pub const U2: Shape = Shape::Load("user", "u2");
 
 /// The best friend of u1.
-pub(crate) const BEST: Shape = Shape::Follow(&U1, "best");
+pub const BEST: Shape = Shape::Follow(&U1, "best");
 
 /// The friends of u1.
-pub(crate) const FRIENDS: Shape = Shape::Each(&U1, "friends");
+pub const FRIENDS: Shape = Shape::Each(&U1, "friends");
 
 /// The term of a shape, if there is memory for it.
 #[cycle(making)]
-pub(crate) fn term(alloc: Global, shape: &Shape) -> Option<Term> {
+pub fn term(alloc: Global, shape: &Shape) -> Option<Term> {
     match shape {
         Shape::Value(text) => value(alloc, text),
         Shape::Crowd(times) => crowd(alloc, *times),
@@ -50,12 +52,16 @@ pub(crate) fn term(alloc: Global, shape: &Shape) -> Option<Term> {
 }
 
 fn value(alloc: Global, text: &str) -> Option<Term> {
+    Some(Term::Value(json(alloc, text)?))
+}
+
+/// The value that a JSON text spells, if it spells one without a float and there is memory for it.
+pub fn json(alloc: Global, text: &str) -> Option<Json> {
     let value = Value::from_str(alloc, text).ok()?;
     if has_float(&value) {
         return None;
     }
-    let value = Json::new(alloc, value).ok()?;
-    Some(Term::Value(value))
+    Json::new(alloc, value).ok()
 }
 
 fn crowd(alloc: Global, times: usize) -> Option<Term> {
@@ -102,29 +108,4 @@ fn all(alloc: Global, shapes: &[Shape]) -> Option<Term> {
         parts.push(part).ok()?;
     }
     Some(Term::All(parts))
-}
-
-/// Terms, each with how deep and how high it is.
-static ROWS: [(Shape, u32, u32); 12] = [
-    (Shape::Value("7"), 0, 1),
-    (U1, 1, 1),
-    (Shape::Pick(&U1, "name"), 1, 2),
-    (BEST, 2, 2),
-    (FRIENDS, 2, 2),
-    (Shape::Pick(&BEST, "name"), 2, 3),
-    (Shape::Each(&BEST, "friends"), 3, 3),
-    (Shape::Each(&Shape::Value("{}"), "f"), 1, 2),
-    (Shape::All(&[]), 0, 1),
-    (Shape::All(&[Shape::All(&[])]), 0, 2),
-    (Shape::All(&[U1, BEST, Shape::Value("7")]), 2, 3),
-    (Shape::Follow(&Shape::All(&[U1]), "f"), 2, 3),
-];
-
-#[test]
-fn depth_and_height(rt: HostRuntime) {
-    for (shape, depth, height) in &ROWS {
-        let term = term(rt.alloc(), shape).expect(&rt, "no memory");
-        assert_eq!(rt; term.depth(), *depth);
-        assert_eq!(rt; term.height(), *height);
-    }
 }

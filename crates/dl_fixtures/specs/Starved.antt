@@ -5,8 +5,8 @@ use Rattle.dl_source.specs.Source.{IsFor}
 use Rattle.dl_desk.specs.declared.outcome.BatchAnswer.{BatchAnswer}
 use Rattle.dl_desk.specs.declared.outcome.BatchAnswer.TheVariants.{Break}
 
-abbrev pub answer_of : {S : Type 0} → S → List Key → BatchAnswer
-answer_of s keys = Break (codes "starved")
+abbrev pub answer_starved : {S : Type 0} → S → List Key → BatchAnswer
+answer_starved s keys = Break (codes "starved")
 
-pub answer_fits : {S : Type 0} (s : S) (keys : List Key) → IsFor keys (answer_of s keys)
-answer_fits s keys = tt
+pub starved_fits : {S : Type 0} (s : S) (keys : List Key) → IsFor keys (answer_starved s keys)
+starved_fits s keys = tt

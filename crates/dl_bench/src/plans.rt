@@ -1,0 +1,54 @@
+//! The workload of plans that are served at once.
+
+use crate::alike::Alike;
+use crate::counts::Counts;
+use crate::keys::limits;
+use crate::terms::{Terms, term_of};
+use anyhow::Result;
+use dl_scope::{Plan, Setup, Step, serve};
+use dl_workers::NoGate;
+use std::alloc::Global;
+use std::hash::RandomState;
+use std::sync::Wait;
+use std::thread::Threads;
+
+/// For how many jobs the queue between plans and workers has room.
+const QUEUE: u32 = 16;
+
+/// Serves a plan for each term by so many workers, over a source that answers each key with one row.
+pub fn served<R: Threads + Wait + Sync>(
+    rt: &R,
+    alloc: Global,
+    hashing: RandomState,
+    counts: &mut Counts,
+    terms: Terms,
+    workers: u32,
+    batch: u32,
+) -> Result<()> {
+    let setup = Setup {
+        limits: limits(batch)?,
+        workers,
+        queue: QUEUE,
+    };
+    let source = Alike::row(alloc)?;
+    let plans = plans_of(alloc, terms)?;
+    let report = serve(rt, alloc, hashing, &source, setup, plans, &NoGate)?;
+    counts.history(report.history());
+    Ok(())
+}
+
+/// A plan for each term.
+fn plans_of(alloc: Global, terms: Terms) -> Result<Vec<Plan>> {
+    let mut plans = Vec::with_capacity(alloc, terms.count as usize)?;
+    for number in 0..terms.count {
+        plans.push(plan_of(alloc, terms, number)?)?;
+    }
+    Ok(plans)
+}
+
+/// The plan whose one step is the term of a number.
+fn plan_of(alloc: Global, terms: Terms, number: u32) -> Result<Plan> {
+    let mut steps = Vec::with_capacity(alloc, 1)?;
+    steps.push(Step::Eval(term_of(alloc, terms, number)?))?;
+    Ok(Plan { steps })
+}

@@ -1,0 +1,43 @@
+//! How answers are written in rows.
+
+use dl_desk::BatchFault;
+use dl_terms::{Answer, EvalFault};
+use std::alloc::{AllocError, Global};
+
+/// The text of an answer: of a value its JSON, else why there is none.
+pub fn answer_text(alloc: Global, answer: &Answer) -> Result<String, AllocError> {
+    match answer {
+        Answer::Value(value) => value.to_text(alloc),
+        Answer::Fault(fault) => eval_fault_text(alloc, fault),
+    }
+}
+
+fn eval_fault_text(alloc: Global, fault: &EvalFault) -> Result<String, AllocError> {
+    match fault {
+        EvalFault::Key { key, text } => format!(in alloc; "key {}: {}", key.id(), text.as_str()),
+        EvalFault::Batch { key, fault } => format!(in alloc;
+            "batch of {}: {}",
+            key.id(),
+            cause(fault)
+        ),
+        EvalFault::NoField => String::from_str(alloc, "no field"),
+        EvalFault::NotAKey => String::from_str(alloc, "not a key"),
+        EvalFault::NotAList => String::from_str(alloc, "not a list"),
+        EvalFault::TooMany => String::from_str(alloc, "too many"),
+    }
+}
+
+/// Why a batch failed.
+fn cause(fault: &BatchFault) -> &str {
+    match fault {
+        BatchFault::Source(text) => text.as_str(),
+        BatchFault::Memory => "no memory",
+        BatchFault::Unsent => "unsent",
+    }
+}
+
+/// The JSON list that has an item so many times.
+pub fn list_text(alloc: Global, item: &str, times: usize) -> Result<String, AllocError> {
+    let items = [item].repeat(alloc, times)?.join(alloc, ",")?;
+    format!(in alloc; "[{}]", items.as_str())
+}
