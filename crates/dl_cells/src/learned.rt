@@ -54,14 +54,14 @@ impl<T> Learned<T> {
         ensures { IfSome other.now.known (Agrees self.now.known) }
     {}
 
-    // Makes a note of the same cell know what is known here.
+    /// Makes a note of the same cell know what is known here.
     fn teach(&self, note: &mut Note<T>)
         requires { note.old.cell ≡ self.now.cell }
         ensures cell { note.new.cell ≡ note.old.cell }
         ensures known { note.new.known ≡ self.now.known }
     {}
 
-    // A note of the cell that knows what is known here.
+    /// A note of the cell that knows what is known here.
     fn note(&self, cell: &OnceBox<T>) -> Note<T>
         requires { self.now.cell ≡ cell_name cell.now }
         ensures cell { result.cell ≡ self.now.cell }

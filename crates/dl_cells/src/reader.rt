@@ -32,7 +32,7 @@ impl<T> Model for Reader<T> {
 }
 
 impl<T> Reader<T> {
-    /// A second reader of the same cell that knows the same, as for another thread. It takes no memory.
+    /// A second reader of the same cell that knows the same, as for another thread. It does not allocate.
     pub fn again(&self) -> Reader<T>
         ensures { result ≡ self.now }
     {

@@ -39,7 +39,7 @@ impl<T> Model for CellRow<T> {
 }
 
 impl<T: Drop> CellRow<T> {
-    /// A row of `len` empty cells. Fails only for want of memory.
+    /// A row of `len` empty cells. Fails only where an allocation fails.
     pub fn new(alloc: Global, len: u32) -> Result<CellRow<T>, AllocError>
         ensures { IfOk result (λ row. row_len row ≡ len) }
     {
@@ -49,7 +49,7 @@ impl<T: Drop> CellRow<T> {
     }
 
     /// A reader of cell `i` that knows nothing yet. Makes the cell's segment where it isn't there, and
-    /// fails only where there is no memory for it.
+    /// fails only where that allocation fails.
     // Inlined, since each event makes a reader, and mostly of a cell whose segment is there.
     #[inline(always)]
     pub fn reader(&self, i: u32) -> Result<Reader<T>, AllocError>
@@ -61,7 +61,7 @@ impl<T: Drop> CellRow<T> {
         self.reader_with(i, move || Ok(Box::new(alloc, Segment::new(alloc))?))
     }
 
-    // As `reader`, where `make` makes a segment that isn't there.
+    /// As `reader`, where `make` makes a segment that isn't there.
     #[inline(always)]
     fn reader_with<F: FnOnce() -> Result<Box<Segment<T>>, AllocError>>(
         &self,
@@ -92,7 +92,7 @@ impl<T: Drop> CellRow<T> {
 
     /// Sets cell `i` to `value`: the reader then knows that value, and knew nothing before. Where the
     /// cell was set before, hands `value` back: the reader then knows the value that is there.
-    /// It takes no memory.
+    /// It does not allocate.
     pub fn show(&self, i: u32, reader: &mut Reader<T>, value: Box<T>) -> Result<(), Box<T>>
         requires in_row { i < row_len self.now }
         requires of_cell { reader.old.cell ≡ cell_of self.now i }
@@ -120,7 +120,7 @@ impl<T> CellRow<T> {
         reader.value.look(segment.cell(i % SEGMENT))
     }
 
-    // The cell that the segment of cell `i` is kept in.
+    /// The cell that the segment of cell `i` is kept in.
     fn home(&self, i: u32) -> &OnceBox<Segment<T>>
         requires { i < row_len self.now }
         ensures { cell_name result.now ≡ (cell_of self.now i).segment }

@@ -16,7 +16,7 @@ use std::marker::Model;
 /// A batch: the keys of its members, each once and in order, with the cell of each, and how it
 /// ended. The first `seen` members are shown, the others are prepared.
 #[derive(Drop)]
-pub struct StoredBatch {
+pub(crate) struct StoredBatch {
     keys: IndexSet<FetchKey, RandomState>,
     cells: Vec<u32>,
     seen: usize,
@@ -36,8 +36,8 @@ impl Model for StoredBatch {
 }
 
 impl StoredBatch {
-    /// A batch with no members. It takes no memory.
-    pub fn new(alloc: Global, hashing: RandomState) -> StoredBatch
+    /// A batch with no members. It does not allocate.
+    pub(crate) fn new(alloc: Global, hashing: RandomState) -> StoredBatch
         ensures { result ≡ blank }
     {
         StoredBatch {
@@ -49,21 +49,21 @@ impl StoredBatch {
     }
 
     /// How many members it has, shown and prepared.
-    pub fn len(&self) -> usize
+    pub(crate) fn len(&self) -> usize
         ensures { result ≡ length self.now.members }
     {
         self.cells.len()
     }
 
     /// The keys of the members, shown and prepared, in order.
-    pub fn keys(&self) -> &[FetchKey]
+    pub(crate) fn keys(&self) -> &[FetchKey]
         ensures { result.now ≡ map (λ m. m.0) self.now.members }
     {
         self.keys.as_slice()
     }
 
     /// The key and the cell of a member, shown or prepared.
-    pub fn member(&self, place: usize) -> (&FetchKey, u32)
+    pub(crate) fn member(&self, place: usize) -> (&FetchKey, u32)
         requires { place < length self.now.members }
         ensures { slice_get self.now.members place ≡ Some (result.0.now, result.1) }
     {
@@ -72,15 +72,15 @@ impl StoredBatch {
     }
 
     /// How the batch ended, if it did.
-    pub fn ended(&self) -> Option<End>
+    pub(crate) fn ended(&self) -> Option<End>
         ensures { result ≡ self.now.end }
     {
         self.end
     }
 
-    /// Prepares one more member, where none has the key, and answers whether none has it. The error is want
-    /// of memory, and leaves the batch as it was.
-    pub fn push(&mut self, key: FetchKey, cell: u32) -> Result<bool, AllocError>
+    /// Prepares one more member, where none has the key, and answers whether none has it. The error is a failed
+    /// allocation, and leaves the batch as it was.
+    pub(crate) fn push(&mut self, key: FetchKey, cell: u32) -> Result<bool, AllocError>
         ensures is_new { IfOk result (λ is_new. is_new ≡ not (has_member self.old.members key)) }
         ensures shown { front self.new ≡ front self.old }
         ensures added { result ≡ Ok true → whole self.new ≡ record { members = self.old.members ++ (key, cell) ∷ []; end = self.old.end } }
@@ -96,7 +96,7 @@ impl StoredBatch {
     }
 
     /// Takes back what is prepared.
-    pub fn cut(&mut self)
+    pub(crate) fn cut(&mut self)
         ensures whole { whole self.new ≡ front self.old }
         ensures front { front self.new ≡ front self.old }
     {
@@ -105,7 +105,7 @@ impl StoredBatch {
     }
 
     /// Shows what is prepared.
-    pub fn show(&mut self)
+    pub(crate) fn show(&mut self)
         ensures whole { whole self.new ≡ whole self.old }
         ensures front { front self.new ≡ whole self.old }
     {
@@ -113,7 +113,7 @@ impl StoredBatch {
     }
 
     /// Ends the batch.
-    pub fn finish(&mut self, end: End)
+    pub(crate) fn finish(&mut self, end: End)
         ensures whole { whole self.new ≡ record { members = self.old.members; end = Some end } }
         ensures front { front self.new ≡ record { members = take self.old.seen self.old.members; end = Some end } }
     {
@@ -121,7 +121,7 @@ impl StoredBatch {
     }
 
     /// The members that are shown: their keys and their cells, in order.
-    pub fn shown(&self) -> (&[FetchKey], &[u32])
+    pub(crate) fn shown(&self) -> (&[FetchKey], &[u32])
         ensures members { zip result.0.now result.1.now ≡ (front self.now).members }
         ensures as_many { length result.0.now ≡ length result.1.now }
     {

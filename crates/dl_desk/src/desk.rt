@@ -29,7 +29,7 @@ use std::marker::Model;
 
 /// How far a desk has come: batches begun, batches sent, cells begun.
 #[derive(Clone, Copy)]
-pub struct Extent {
+pub(crate) struct Extent {
     begun: u32,
     sent: u32,
     cells: u32,
@@ -39,7 +39,7 @@ pub struct Extent {
 /// the keys of fresh loads in batches (DataLoader: `load`, `loadMany`, `prime`, `clear`, `clearAll`,
 /// `maxBatchSize`).
 ///
-/// A call is prepared first, by growths and steps that nobody sees, and then shown by moving
+/// A call is prepared first, by allocations and steps that nobody sees, and then shown by moving
 /// marks, so that a refused call leaves the desk as it was. What was prepared and not shown is
 /// taken back by the next call that changes the desk.
 pub struct Desk {
@@ -103,7 +103,7 @@ impl Model for Desk {
 }
 
 impl Desk {
-    /// A desk with an empty history, whose batches may mix tables. It takes no memory yet. It hashes keys by
+    /// A desk with an empty history, whose batches may mix tables. It does not allocate yet. It hashes keys by
     /// `hashing`, of which nothing is seen: what a desk answers is the same whatever it is.
     pub fn new(alloc: Global, hashing: RandomState, limits: Limits) -> Desk
         ensures rules { result.book.rules ≡ mixed limits }
@@ -163,7 +163,7 @@ impl Desk {
         !self.is_prepared
     }
 
-    /// Makes the call that was prepared last, if one was: shows what is prepared. It takes no memory.
+    /// Makes the call that was prepared last, if one was: shows what is prepared. It does not allocate.
     pub fn make_prepared(&mut self)
         ensures rules { self.new.book.rules ≡ self.old.book.rules }
         ensures book { self.new.book ≡ self.old.prepared }
@@ -230,7 +230,7 @@ impl Desk {
         }
     }
 
-    /// Prepares the load of one more key, where more cells may be begun. The error is want of memory, and part of
+    /// Prepares the load of one more key, where more cells may be begun. The error is a failed allocation, and part of
     /// the step may be prepared then.
     // Inlined for the sake of loads that find their key.
     #[inline(always)]
@@ -261,7 +261,7 @@ impl Desk {
         Ok(LoadReply::Fresh { cell, batch })
     }
 
-    /// Prepares a prime of the key, where more cells may be begun. The error is want of memory.
+    /// Prepares a prime of the key, where more cells may be begun. The error is a failed allocation.
     fn put_alone(&mut self, key: &FetchKey) -> Result<DeskPrime, AllocError>
         requires not_full { self.old.prepared.cells < self.old.prepared.rules.limits.max_cells }
         ensures book { self.new.book ≡ self.old.book }
@@ -321,7 +321,7 @@ impl Desk {
     }
 
     /// The jobs of the batches that are begun and not sent, with what is prepared. The error is
-    /// want of memory.
+    /// a failed allocation.
     fn jobs(&self, alloc: Global) -> Result<Vec<Job>, AllocError>
         ensures { IfOk result (λ jobs. jobs.items
             ≡ book_jobs self.now.prepared self.now.prepared.sent (length self.now.prepared.batches - self.now.prepared.sent)) }

@@ -21,7 +21,7 @@ pub enum KeyFault {
     /// The id has more than [`ID_BYTES`](crate::ID_BYTES) bytes.
     #[error("the id of a key is too long")]
     IdTooLong,
-    /// A growth was refused.
+    /// An allocation failed.
     #[error("out of memory")]
     OutOfMemory,
 }
@@ -55,7 +55,7 @@ pub enum DeskFault {
     /// The call would begin more cells than the limit.
     #[error("a loader of {limit} cells is full")]
     CellsFull { limit: u32 },
-    /// A growth was refused.
+    /// An allocation failed.
     #[error("out of memory")]
     OutOfMemory,
 }

@@ -43,8 +43,8 @@ impl Model for Json {
 }
 
 impl Json {
-    /// The value, whose numbers are whole: [`has_float`] tells whether they are. The error is want
-    /// of memory.
+    /// The value, whose numbers are whole: [`has_float`] tells whether they are. The error is a failed
+    /// allocation.
     pub fn new(alloc: Global, value: Value) -> Result<Json, AllocError>
         requires { has_float (view value) ≡ false }
         ensures { IfOk result (λ j. j ≡ view value) }
@@ -61,7 +61,7 @@ impl Json {
         &self.value
     }
 
-    /// The value, which is copied where others share it. The error is want of memory.
+    /// The value, which is copied where others share it. The error is a failed allocation.
     pub fn into_value(self) -> Result<Value, AllocError>
         ensures { IfOk result (λ v. view v ≡ self) }
     {
@@ -69,7 +69,7 @@ impl Json {
         Arc::unwrap_or_clone(value)
     }
 
-    /// The same value, shared. It takes no memory; the error is a count of copies at its end.
+    /// The same value, shared. It does not allocate; the error is that the reference count would overflow.
     pub fn try_copy(&self) -> Result<Json, AllocError>
         ensures { IfOk result (λ j. j ≡ self.now) }
     {
@@ -77,8 +77,8 @@ impl Json {
         Ok(Json { value })
     }
 
-    /// The value's text without spaces, its members in the order of their names. The error is want
-    /// of memory.
+    /// The value's text without spaces, its members in the order of their names. The error is a failed
+    /// allocation.
     pub fn to_text(&self, alloc: Global) -> Result<String, AllocError>
         ensures { IfOk result (λ s. string_bytes s ≡ compact_text self.now) }
     {

@@ -47,7 +47,7 @@ impl Model for KeyText {
 }
 
 impl KeyText {
-    /// The table and the id as one text. The error is want of memory.
+    /// The table and the id as one text. The error is a failed allocation.
     fn new(alloc: Global, table: &str, id: &str) -> Result<KeyText, AllocError>
         requires { IsKey (record { table = table.now; id = id.now }) }
         ensures { IfOk result (λ k. k ≡ record { table = table.now; id = id.now }) }
@@ -156,7 +156,7 @@ impl FetchKey {
         self.both.parts().1
     }
 
-    /// The same key. It shares the texts and takes no memory; the error is a count of copies at its end.
+    /// The same key. It shares the texts and does not allocate; the error is that the reference count would overflow.
     pub fn try_copy(&self) -> Result<FetchKey, AllocError>
         ensures { IfOk result (λ k. k ≡ self.now) }
     {
@@ -251,7 +251,7 @@ impl Model for Keys {
 }
 
 impl Keys {
-    /// A list of these keys. The error is want of memory.
+    /// A list of these keys. The error is a failed allocation.
     pub fn new(alloc: Global, keys: Vec<FetchKey>) -> Result<Keys, AllocError>
         ensures { IfOk result (λ k. k ≡ keys.items) }
     {
@@ -259,7 +259,7 @@ impl Keys {
         Ok(Keys { keys })
     }
 
-    /// A list of copies of the keys. The error is want of memory.
+    /// A list of copies of the keys. The error is a failed allocation.
     pub fn copy_of(alloc: Global, keys: &[FetchKey]) -> Result<Keys, AllocError>
         ensures { IfOk result (λ k. k ≡ keys.now) }
     {
@@ -273,7 +273,7 @@ impl Keys {
         self.keys.as_slice()
     }
 
-    /// The same list, shared. It takes no memory; the error is a count of copies at its end.
+    /// The same list, shared. It does not allocate; the error is that the reference count would overflow.
     pub fn try_copy(&self) -> Result<Keys, AllocError>
         ensures { IfOk result (λ k. k ≡ self.now) }
     {

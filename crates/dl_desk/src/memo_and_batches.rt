@@ -15,7 +15,7 @@ use std::alloc::{AllocError, Global};
 use std::hash::RandomState;
 
 /// Takes back what is prepared in a range of batches.
-pub fn cut(batches: &mut Vec<StoredBatch>, from: usize, to: usize)
+pub(crate) fn cut(batches: &mut Vec<StoredBatch>, from: usize, to: usize)
     requires within { to ≤ vec_len batches.old }
     requires same { Same from to batches.old.items }
     ensures whole { map whole batches.new.items ≡ map front batches.old.items }
@@ -27,7 +27,7 @@ pub fn cut(batches: &mut Vec<StoredBatch>, from: usize, to: usize)
 }
 
 /// Shows what is prepared in a range of batches.
-pub fn show(batches: &mut Vec<StoredBatch>, from: usize, to: usize)
+pub(crate) fn show(batches: &mut Vec<StoredBatch>, from: usize, to: usize)
     requires within { to ≤ vec_len batches.old }
     requires same { Same from to batches.old.items }
     ensures whole { map whole batches.new.items ≡ map whole batches.old.items }
@@ -41,7 +41,7 @@ pub fn show(batches: &mut Vec<StoredBatch>, from: usize, to: usize)
 /// The cell that is held for the key; where none is, the new cell is held from now on. The error is want of
 /// memory, and leaves the memo.
 #[inline(always)]
-pub fn hold(
+pub(crate) fn hold(
     memo: &mut IndexMap<FetchKey, u32, RandomState>,
     key: FetchKey,
     cell: u32,
@@ -61,7 +61,7 @@ pub fn hold(
 }
 
 /// Prepares one more member in a batch, which may be the next one, where no member of it has the key, and
-/// answers whether none has it. The error is want of memory, and then an empty batch may have been added.
+/// answers whether none has it. The error is a failed allocation, and then an empty batch may have been added.
 fn add(
     batches: &mut Vec<StoredBatch>,
     alloc: Global,
@@ -83,8 +83,8 @@ fn add(
 }
 
 /// Prepares a member of the key in the newest batch, or in the next one where a member of the newest has the
-/// key, and answers which. The error is want of memory, and then an empty batch may have been added.
-pub fn join(
+/// key, and answers which. The error is a failed allocation, and then an empty batch may have been added.
+pub(crate) fn join(
     batches: &mut Vec<StoredBatch>,
     alloc: Global,
     hashing: RandomState,
@@ -123,7 +123,7 @@ pub fn join(
 }
 
 /// Forgets each member's key that is held with the member's own cell.
-pub fn forget(memo: &mut IndexMap<FetchKey, u32, RandomState>, batch: &StoredBatch)
+pub(crate) fn forget(memo: &mut IndexMap<FetchKey, u32, RandomState>, batch: &StoredBatch)
     ensures { (k : Key) → lookup (key_eq k) memo.new.entries ≡ without batch.now.members k (lookup (key_eq k) memo.old.entries) }
 {
     for place in 0..batch.len() {

@@ -32,7 +32,7 @@ impl Model for Message {
 }
 
 impl Message {
-    /// A message of this text. The error is want of memory.
+    /// A message of this text. The error is a failed allocation.
     pub fn new(alloc: Global, text: &str) -> Result<Message, AllocError>
         ensures { IfOk result (λ m. m ≡ text.now) }
     {
@@ -47,7 +47,7 @@ impl Message {
         self.text.as_str()
     }
 
-    /// The same message, shared. It takes no memory; the error is a count of copies at its end.
+    /// The same message, shared. It does not allocate; the error is that the reference count would overflow.
     pub fn try_copy(&self) -> Result<Message, AllocError>
         ensures { IfOk result (λ m. m ≡ self.now) }
     {

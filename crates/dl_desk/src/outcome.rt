@@ -41,7 +41,7 @@ pub enum BatchFault {
 }
 
 impl Outcome {
-    /// The same outcome, shared. It takes no memory; the error is a count of copies at its end.
+    /// The same outcome, shared. It does not allocate; the error is that the reference count would overflow.
     pub fn try_copy(&self) -> Result<Outcome, AllocError>
         ensures { IfOk result (λ o. o ≡ self.now) }
     {
@@ -54,7 +54,7 @@ impl Outcome {
 }
 
 impl BatchFault {
-    /// The same fault, shared. It takes no memory; the error is a count of copies at its end.
+    /// The same fault, shared. It does not allocate; the error is that the reference count would overflow.
     pub fn try_copy(&self) -> Result<BatchFault, AllocError>
         ensures { IfOk result (λ f. f ≡ self.now) }
     {

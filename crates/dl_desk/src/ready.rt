@@ -4,7 +4,7 @@ ghost use Rattle.std.specs.Prelude.{◌≡◌};
 
 use crate::reply::DeskReply;
 
-/// A call whose growths are made and whose steps are prepared in the desk that gave it. Only
+/// A call whose allocations are made and whose steps are prepared in the desk that gave it. Only
 /// [`Desk::commit`](crate::Desk::commit) of that desk takes it; any other call that changes the
 /// desk takes back what was prepared.
 #[derive(Debug, Drop)]

@@ -42,7 +42,7 @@ pub struct Job {
 }
 
 impl Job {
-    /// An equal job, which shares the keys. It takes no memory; the error is a count of copies at its end.
+    /// An equal job, which shares the keys. It does not allocate; the error is that the reference count would overflow.
     pub fn try_copy(&self) -> Result<Job, AllocError>
         ensures { IfOk result (λ j. j ≡ self.now) }
     {

@@ -28,7 +28,7 @@ impl Model for Text {
 }
 
 impl Text {
-    /// A copy of a text. The error is want of memory.
+    /// A copy of a text. The error is a failed allocation.
     pub fn new(alloc: Global, text: &str) -> Result<Text, AllocError>
         ensures { IfOk result (λ t. t ≡ text.now) }
     {
@@ -36,7 +36,7 @@ impl Text {
         Ok(Text { text })
     }
 
-    /// The character of an ASCII code, right after it a text, and after that another. The error is want of memory.
+    /// The character of an ASCII code, right after it a text, and after that another. The error is a failed allocation.
     pub fn marked(alloc: Global, mark: u8, first: &str, second: &str) -> Result<Text, AllocError>
         requires { mark < 128 }
         ensures { IfOk result (λ t. t ≡ mark ∷ (first.now ++ second.now)) }
@@ -55,7 +55,7 @@ impl Text {
         self.text.as_str()
     }
 
-    /// An equal text. The error is want of memory.
+    /// An equal text. The error is a failed allocation.
     pub fn try_copy(&self) -> Result<Text, AllocError>
         ensures { IfOk result (λ t. t ≡ self.now) }
     {

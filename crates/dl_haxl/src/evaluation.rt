@@ -25,7 +25,7 @@ use std::sync::Wait;
 /// # Errors
 /// `Call` where the loader refuses a call, `Stopped` where it is stopped or a cell refuses its outcome, and
 /// `OutOfMemory`.
-pub fn evaluate<L: LoaderName, O: Outlet<L>, R: Wait>(
+pub(crate) fn evaluate<L: LoaderName, O: Outlet<L>, R: Wait>(
     rt: &R,
     alloc: Global,
     hashing: RandomState,
@@ -47,7 +47,7 @@ pub fn evaluate<L: LoaderName, O: Outlet<L>, R: Wait>(
     go_on(rt, alloc, loader, outlet, seat, pass, &mut run)
 }
 
-// Takes a new run to its answer, and answers how many rounds of loads that took.
+/// Takes a new run to its answer, and answers how many rounds of loads that took.
 fn go_on<'l, L: LoaderName, O: Outlet<L>, R: Wait>(
     rt: &R,
     alloc: Global,

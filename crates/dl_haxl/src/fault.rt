@@ -14,7 +14,7 @@ pub enum PollFault {
     /// The answer was given before.
     #[error("the answer was given before")]
     Finished,
-    /// A growth was refused, in this poll or in one before.
+    /// An allocation failed, in this poll or in one before.
     #[error("out of memory")]
     OutOfMemory,
 }
@@ -36,7 +36,7 @@ pub enum RunFault {
     /// The loader is stopped, by another or since an outcome was refused.
     #[error("the loader is stopped")]
     Stopped,
-    /// A growth was refused.
+    /// An allocation failed.
     #[error("out of memory")]
     OutOfMemory,
 }

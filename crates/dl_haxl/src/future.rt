@@ -18,12 +18,12 @@ use std::alloc::AllocError;
 #[derive(Drop)]
 pub struct LoadFuture<'a, L: LoaderName> {
     ticket: Ticket<'a, L>,
-    // What each poll answers from now on, once the outcome was given or a growth was refused.
+    // What each poll answers from now on, once the outcome was given or an allocation failed.
     ended: Option<PollFault>,
 }
 
 impl<'a, L: LoaderName> LoadFuture<'a, L> {
-    /// The future of the outcome that the ticket will show. It takes no memory.
+    /// The future of the outcome that the ticket will show. It does not allocate.
     pub fn new(ticket: Ticket<'a, L>) -> LoadFuture<'a, L>
         ensures ticket { result.ticket ≡ ticket.entry }
         ensures ended { result.ended ≡ None }

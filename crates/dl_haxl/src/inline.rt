@@ -23,7 +23,7 @@ use std::sync::Wait;
 
 /// Evaluates a term on the caller's own thread, and answers how many rounds of loads that took. Each round
 /// loads the keys that the term waits for, dispatches, and ends each job by what the loader's source answers to
-/// its keys, or, where there is no memory for that, as one that failed for want of memory. Keys are hashed by
+/// its keys, or, where an allocation fails, as one that failed for want of memory. Keys are hashed by
 /// `hashing`, of which nothing is seen.
 ///
 /// # Errors
@@ -49,7 +49,7 @@ pub fn run_inline<L: LoaderName, S: Source>(
     evaluate(rt, alloc, hashing, loader, &outlet, &mut (), pass, term)
 }
 
-// The evaluating thread, which fetches from its source.
+/// The evaluating thread, which fetches from its source.
 #[derive(Drop)]
 struct OwnThread<'s, S> {
     source: &'s S,
@@ -64,7 +64,7 @@ impl<L: LoaderName, S: Source> Outlet<L> for OwnThread<'_, S> {
 
     ghost jobs_end = { EndedInline L.service };
 
-    // Ends the batch of each job by what the loader's source answers.
+    /// Ends the batch of each job by what the loader's source answers.
     fn give_out<R: Wait>(
         &self,
         rt: &R,
@@ -84,7 +84,7 @@ impl<L: LoaderName, S: Source> Outlet<L> for OwnThread<'_, S> {
     }
 }
 
-// Ends the batch of a job, whose cells all show their outcomes then.
+/// Ends the batch of a job, whose cells all show their outcomes then.
 fn end_shown<L: LoaderName, S: Source>(
     rt: &impl Wait,
     alloc: Global,

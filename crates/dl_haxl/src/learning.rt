@@ -12,8 +12,8 @@ use dl_loader::{LoaderName, Ticket};
 use dl_terms::Known;
 use std::alloc::AllocError;
 
-/// Whether each of the tickets shows its outcome. It takes no memory.
-pub fn all_shown<L: LoaderName>(tickets: &mut [Ticket<'_, L>]) -> bool
+/// Whether each of the tickets shows its outcome. It does not allocate.
+pub(crate) fn all_shown<L: LoaderName>(tickets: &mut [Ticket<'_, L>]) -> bool
     ensures later { AllLater tickets.old tickets.new }
     ensures all { result ≡ all_show tickets.new }
 {
@@ -26,7 +26,7 @@ pub fn all_shown<L: LoaderName>(tickets: &mut [Ticket<'_, L>]) -> bool
 }
 
 /// Puts each key with the outcome that its ticket shows among those that are known.
-pub fn learn<'l, L: LoaderName>(
+pub(crate) fn learn<'l, L: LoaderName>(
     known: &mut Known<'l>,
     keys: &[FetchKey],
     tickets: &mut [Ticket<'l, L>],

@@ -13,7 +13,7 @@ use std::alloc::Global;
 use std::sync::Wait;
 
 /// Where the jobs of a round go: to the source of the evaluating thread, or to fetch workers.
-pub trait Outlet<L: LoaderName> {
+pub(crate) trait Outlet<L: LoaderName> {
     /// What the evaluating thread gives them out by.
     type Seat;
 

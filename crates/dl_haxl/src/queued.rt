@@ -62,7 +62,7 @@ impl<L: LoaderName> Outlet<L> for JobQueue {
 
     ghost jobs_end = { HandedOver };
 
-    // Sends each job. One that comes back is failed as unsent.
+    /// Sends each job. One that comes back is failed as unsent.
     fn give_out<R: Wait>(
         &self,
         rt: &R,
@@ -84,7 +84,7 @@ impl<L: LoaderName> Outlet<L> for JobQueue {
     }
 }
 
-// Fails the batch of a job that was not sent, whose cells all show that then.
+/// Fails the batch of a job that was not sent, whose cells all show that then.
 fn fail_unsent<L: LoaderName>(
     rt: &impl Wait,
     alloc: Global,

@@ -20,7 +20,7 @@ use std::sync::Wait;
 /// # Errors
 /// `Call` where a call is refused, and `Stopped` where the loader is stopped or a cell refuses its outcome. Where
 /// a job isn't ended that must be, the loader is stopped.
-pub fn round<'l, L: LoaderName, O: Outlet<L>, R: Wait>(
+pub(crate) fn round<'l, L: LoaderName, O: Outlet<L>, R: Wait>(
     rt: &R,
     alloc: Global,
     loader: &'l Loader<L>,
@@ -48,10 +48,10 @@ pub fn round<'l, L: LoaderName, O: Outlet<L>, R: Wait>(
     Ok(tickets)
 }
 
-// Waits for each of the tickets, which the pass gave and of which it has read none, and reads its outcome.
-//
-// # Errors
-// `Stopped` where the loader is stopped and a cell has not ended.
+/// Waits for each of the tickets, which the pass gave and of which it has read none, and reads its outcome.
+///
+/// # Errors
+/// `Stopped` where the loader is stopped and a cell has not ended.
 fn read_each<L: LoaderName>(
     rt: &impl Wait,
     loader: &Loader<L>,

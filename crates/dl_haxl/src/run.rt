@@ -11,7 +11,7 @@ use crate::learning::{all_shown, learn};
 use crate::stage::Stage;
 use dl_desk::FetchKey;
 use dl_loader::{LoaderName, Ticket};
-use dl_terms::{Answer, Known, Node, Term, Wanted, explore, plan};
+use dl_terms::{Answer, Known, Node, Term, Wanted, explore, unexplored};
 use futures::future::Future;
 use futures::task::{Context, Poll};
 use indexmap::{IndexMap, IndexSet};
@@ -52,7 +52,7 @@ impl<'l, L: LoaderName> TermRun<'l, L> {
     ghost use Rattle.dl_haxl.specs.declared.stage.Stage.TheVariants.{Ended};
 
     /// A run of the term, of which nothing was explored yet. It hashes keys by `hashing`, of which nothing
-    /// is seen. The error is want of memory.
+    /// is seen. The error is a failed allocation.
     pub fn new(
         alloc: Global,
         hashing: RandomState,
@@ -67,7 +67,7 @@ impl<'l, L: LoaderName> TermRun<'l, L> {
     {
         Ok(TermRun {
             alloc,
-            root: plan(alloc, term)?,
+            root: unexplored(alloc, term)?,
             known: IndexMap::with_hasher(alloc, hashing),
             keys: IndexSet::with_hasher(alloc, hashing),
             tickets: Vec::new(alloc),
@@ -77,7 +77,7 @@ impl<'l, L: LoaderName> TermRun<'l, L> {
 
     /// The keys that the term waits for, after a pending poll that found all tickets to show their outcomes:
     /// left to right, each once. There are none before the first poll, from a supply of tickets to the poll
-    /// that finds them all shown, and after an answer or a refusal. It takes no memory.
+    /// that finds them all shown, and after an answer or a refusal. It does not allocate.
     pub fn wanted(&self) -> &[FetchKey]
         ensures { result.now ≡ wanted_by (seen self.now) }
     {
@@ -88,7 +88,7 @@ impl<'l, L: LoaderName> TermRun<'l, L> {
     }
 
     /// Takes a ticket for each wanted key, in order, all of one call of
-    /// [`load_many`](dl_loader::Loader::load_many). With nothing wanted nothing changes. It takes no memory.
+    /// [`load_many`](dl_loader::Loader::load_many). With nothing wanted nothing changes. It does not allocate.
     pub fn supply(&mut self, tickets: Vec<Ticket<'l, L>>)
         requires each { length tickets.items ≡ length (wanted_by (seen self.old)) }
         ensures run { (t : Tree) → IsRunOf t (seen self.old) → IsRunOf t (seen self.new) }
@@ -124,8 +124,8 @@ impl<'l, L: LoaderName> TermRun<'l, L> {
         }
     }
 
-    // Explores what is left of the term with what the tickets show, once all of them show their outcomes. What fails on
-    // the way has failed for good.
+    /// Explores what is left of the term with what the tickets show, once all of them show their outcomes. What fails on
+    /// the way has failed for good.
     fn explore(&mut self) -> Result<Option<Answer>, AllocError>
         requires learning { self.old.stage ≡ Learning }
         ensures tickets { AllLater (seen self.old).tickets (seen self.new).tickets }
@@ -191,7 +191,7 @@ impl<L: LoaderName> Future for TermRun<'_, L> {
     /// the poll is pending and nothing is wanted; else it learns what the tickets show and goes on.
     ///
     /// # Errors
-    /// `Finished` after the answer was given; `OutOfMemory` where a growth was refused, and from then on.
+    /// `Finished` after the answer was given; `OutOfMemory` where an allocation failed, and from then on.
     fn poll(&mut self, cx: &mut Context<'_>) -> Poll<Result<Answer, PollFault>>
         ensures value { IfReady result (MayAnswer (seen self.old)) }
         ensures again { OnPending result ⊤ }

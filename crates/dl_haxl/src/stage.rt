@@ -4,7 +4,7 @@ use crate::fault::PollFault;
 
 /// What the next poll of a run does.
 #[derive(Clone, Copy, Debug)]
-pub enum Stage {
+pub(crate) enum Stage {
     /// It looks at the tickets of the keys, and goes on once all of them show their outcomes.
     Learning,
     /// Nothing: the keys are wanted, and have no tickets yet.

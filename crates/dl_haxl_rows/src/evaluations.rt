@@ -260,7 +260,7 @@ const STARVED: [&str; 5] = [
     "OutOfMemory",
 ];
 
-// Under `rt try --test --fail-alloc N` each growth is refused in turn. Where that isn't one of `run_inline` the test ends.
+/// Under `rt try --test --fail-alloc N` each growth is refused in turn. Where that isn't one of `run_inline` the test ends.
 #[test]
 fn a_refused_growth(rt: HostRuntime) {
     let row = Row {

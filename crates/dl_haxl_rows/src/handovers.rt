@@ -287,8 +287,8 @@ fn assert_closed(rt: &impl Abort, history: &History, want: &Closed) {
 /// How often each row is played.
 const ROW_TIMES: u32 = 20;
 
-// What is evaluated on the caller's own thread takes the same rounds and batches where a worker ends them, and has the
-// same answer.
+/// What is evaluated on the caller's own thread takes the same rounds and batches where a worker ends them, and has the
+/// same answer.
 #[test]
 fn rows_by_a_worker(rt: HostRuntime) {
     let alloc = rt.alloc();
@@ -350,8 +350,8 @@ const STARVED_UNSENT: Turn<'static> = Turn {
     ..UNSENT
 };
 
-// Under `rt try --test --fail-alloc N` each growth is refused in turn. Where that isn't one of `run_term` or `work` the test
-// ends.
+/// Under `rt try --test --fail-alloc N` each growth is refused in turn. Where that isn't one of `run_term` or `work` the test
+/// ends.
 #[test]
 fn a_refused_growth(rt: HostRuntime) {
     let alloc = rt.alloc();

@@ -232,7 +232,7 @@ fn load_text<L: LoaderName>(
     }
 }
 
-// Under `rt try --test --fail-alloc N` each growth is refused in turn. Where that isn't one of a `TermRun` the test ends.
+/// Under `rt try --test --fail-alloc N` each growth is refused in turn. Where that isn't one of a `TermRun` the test ends.
 #[test]
 fn a_refused_growth(rt: HostRuntime) {
     let _ = try_row(&rt, rt.alloc(), Player::StarvedRun, &TERM);

@@ -30,7 +30,7 @@ impl Model for Account {
 }
 
 impl Account {
-    /// The account of a caller whose pass has these entries. The error is want of memory.
+    /// The account of a caller whose pass has these entries. The error is a failed allocation.
     pub fn of<L: LoaderName>(
         alloc: Global,
         caller: u32,
@@ -57,7 +57,7 @@ impl Account {
     }
 }
 
-// What the entries are, in order. The error is want of memory.
+/// What the entries are, in order. The error is a failed allocation.
 fn kinds_in<L: LoaderName>(
     alloc: Global,
     entries: &[Entry<L>],

@@ -44,7 +44,7 @@ impl CellState {
     }
 
     /// Gives the cell its outcome, and tells whether the cell took it. Either way the reader knows from
-    /// then on what the cell has. It takes no memory.
+    /// then on what the cell has. It does not allocate.
     pub(crate) fn end(&mut self, row: &CellRow<Ending>, cell: u32, ending: Box<Ending>) -> bool
         requires in_row { cell < row_len row.now }
         requires of_cell { self.old.reader.cell ≡ cell_of row.now cell }
@@ -67,7 +67,7 @@ impl CellState {
     }
 
     /// The outcome that the cell was given, if it was given one: the one that it shows, or that it refused.
-    /// It takes no memory.
+    /// It does not allocate.
     pub(crate) fn outcome<'a>(&'a self, row: &'a CellRow<Ending>, cell: u32) -> Option<&'a Outcome>
         requires in_row { cell < row_len row.now }
         requires of_cell { self.now.reader.cell ≡ cell_of row.now cell }

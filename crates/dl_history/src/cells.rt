@@ -45,7 +45,7 @@ impl Cells {
         Cells { outcomes, states }
     }
 
-    /// The outcome that a cell was given, if it was begun and given one. It takes no memory.
+    /// The outcome that a cell was given, if it was begun and given one. It does not allocate.
     pub(crate) fn outcome(&self, cell: u32) -> Option<&Outcome>
         ensures { (end : Option Ending) → ShownAs (slice_get self.now cell) end → option_copied result ≡ option_map (λ e. e.outcome) end }
     {

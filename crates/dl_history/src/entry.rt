@@ -46,7 +46,7 @@ impl<L: LoaderName> Model for Told<L> {
 
 impl<L: LoaderName> Told<L> {
     /// Puts an event into its cell of the log. Where the log has another event there, hands the event
-    /// back. Either way the reader knows from then on what the cell has. It takes no memory.
+    /// back. Either way the reader knows from then on what the cell has. It does not allocate.
     pub fn store(
         row: &CellRow<Event>,
         at: u16,
@@ -76,7 +76,7 @@ impl<L: LoaderName> Told<L> {
         self.at
     }
 
-    /// A reader of the event's cell, which knows the event. It takes no memory.
+    /// A reader of the event's cell, which knows the event. It does not allocate.
     pub fn reader(&self) -> Reader<Event>
         ensures known { IsKnown L.log self.now.at result }
         ensures event { event_known result.known ≡ self.now.event }
@@ -165,7 +165,7 @@ pub struct Entry<L: LoaderName> {
     kind: Kind<L>,
 }
 
-// What an entry is.
+/// What an entry is.
 #[derive(Drop)]
 enum Kind<L: LoaderName> {
     // A call that was made.

@@ -72,7 +72,7 @@ impl Model for History {
 
 impl History {
     /// The history that a loader leaves: its rows, its desk and its journal, and the accounts of its callers. It
-    /// takes no memory. Whoever calls it closes the loader.
+    /// does not allocate. Whoever calls it closes the loader.
     pub fn of<L: LoaderName>(
         rows: Rows<L>,
         desk: Desk,
@@ -101,21 +101,21 @@ impl History {
         let _ = &self.desk;
     }
 
-    /// The events, in order. It takes no memory.
+    /// The events, in order. It does not allocate.
     pub fn events(&self) -> &Events
         ensures { result.now ≡ self.now.events }
     {
         &self.events
     }
 
-    /// The batches, each with its keys and whether it was settled. It takes no memory.
+    /// The batches, each with its keys and whether it was settled. It does not allocate.
     pub fn batches(&self) -> Batches<'_>
         ensures { result ≡ self.now.events }
     {
         Batches::new(self)
     }
 
-    /// The outcome of a cell, and none exactly where there is no such cell. It takes no memory.
+    /// The outcome of a cell, and none exactly where there is no such cell. It does not allocate.
     pub fn outcome(&self, cell: u32) -> Option<&Outcome>
         ensures given { option_copied result ≡ outcome (log self.now.events) cell }
         ensures begun { MatchOption result (cells (atoms (log self.now.events)) ≤ cell) (λ _. cell < cells (atoms (log self.now.events))) }
@@ -124,7 +124,7 @@ impl History {
     }
 
     /// What the entries of a caller are, in order, and none where there is no such caller. What they tell stands in the
-    /// history. It takes no memory.
+    /// history. It does not allocate.
     pub fn entries(&self, caller: u32) -> &[EntryKind]
         ensures entries { result.now ≡ map kind_of (entries_of caller self.now.accounts) }
         ensures agree { caller < length self.now.accounts → Agrees self.now.events (account caller (entries_of caller self.now.accounts)) }
@@ -142,7 +142,7 @@ impl History {
         places_of(alloc, self.entries(caller))
     }
 
-    // The batch of a number, if it was begun.
+    /// The batch of a number, if it was begun.
     fn batch(&self, batch: u32) -> Option<EndedBatch<'_>>
         ensures begun { IfSome result (λ b. batch < begun (atoms (log self.now.events))) }
         ensures keys { IfSome result (λ b. b.keys ≡ keys_of (atoms (log self.now.events)) batch) }
@@ -159,7 +159,7 @@ impl History {
     }
 }
 
-// What the entries of a caller's account are, and none where it has none.
+/// What the entries of a caller's account are, and none where it has none.
 fn kinds_of(accounts: &[Account], caller: u32) -> &[EntryKind]
     ensures { result.now ≡ kinds_of caller accounts.now }
 {
@@ -171,7 +171,7 @@ fn kinds_of(accounts: &[Account], caller: u32) -> &[EntryKind]
     &[]
 }
 
-// The places of the calls among the entries, in order. The error is want of memory.
+/// The places of the calls among the entries, in order. The error is a failed allocation.
 fn places_of(alloc: Global, entries: &[EntryKind]) -> Result<Vec<u32>, AllocError>
     ensures { IfOk result (λ places. places.items ≡ flat_map place_of entries.now) }
 {

@@ -52,7 +52,7 @@ impl<L: LoaderName> Model for Journal<L> {
 }
 
 impl<L: LoaderName> Journal<L> {
-    /// The journal of a loader that had no call. It takes no memory.
+    /// The journal of a loader that had no call. It does not allocate.
     pub fn new(alloc: Global, calls: ledger::Book<L>) -> Journal<L>
         requires { calls.total ≡ 0 }
         ensures history { result.history ≡ [] }
@@ -72,14 +72,14 @@ impl<L: LoaderName> Journal<L> {
         self.log.len()
     }
 
-    // How many cells were begun.
+    /// How many cells were begun.
     fn cells(&self) -> usize
         ensures { result ≡ length self.now.cells }
     {
         self.states.len()
     }
 
-    // Makes room for one event more and so many cells. The error is want of memory, and changes nothing.
+    /// Makes room for one event more and so many cells. The error is a failed allocation, and changes nothing.
     fn reserve(&mut self, cells: usize) -> Result<(), AllocError>
         ensures history { self.new.history ≡ self.old.history }
         ensures cells { self.new.cells ≡ self.old.cells }
@@ -90,7 +90,7 @@ impl<L: LoaderName> Journal<L> {
         self.states.reserve(more)
     }
 
-    // Adds the next event, which the share of its caller counts. It takes no memory.
+    /// Adds the next event, which the share of its caller counts. It does not allocate.
     fn add(&mut self, stored: &Told<L>, share: &mut Share<L>)
         requires place { stored.now.at ≡ length self.old.history }
         requires room { 0 < self.old.spare }
@@ -105,7 +105,7 @@ impl<L: LoaderName> Journal<L> {
         self.calls.add(share, 1);
     }
 
-    // Adds the next cell, which has no end yet. It takes no memory.
+    /// Adds the next cell, which has no end yet. It does not allocate.
     fn add_cell(&mut self, reader: Reader<Ending>)
         requires cell { reader.cell ≡ cell_of L.outcomes (length self.old.cells) }
         requires unknown { reader.known ≡ None }
@@ -117,7 +117,7 @@ impl<L: LoaderName> Journal<L> {
         self.states.push_reserved(CellState::new(reader));
     }
 
-    // Adds the next cells, which have no end yet. It takes no memory.
+    /// Adds the next cells, which have no end yet. It does not allocate.
     fn add_cells(&mut self, readers: Vec<Reader<Ending>>)
         requires blank { AreBlank L.outcomes (length self.old.cells) readers.items }
         requires room { length readers.items ≤ self.old.spare }
@@ -129,7 +129,7 @@ impl<L: LoaderName> Journal<L> {
         }
     }
 
-    /// Gives a cell its outcome, and tells whether the cell took it. It takes no memory.
+    /// Gives a cell its outcome, and tells whether the cell took it. It does not allocate.
     pub fn end(&mut self, rows: &Rows<L>, cell: u32, ending: Box<Ending>) -> bool
         requires in_row { cell < L.service.rules.limits.max_cells }
         requires waits { slice_get self.old.cells cell ≡ Some waiting }
@@ -149,7 +149,7 @@ impl<L: LoaderName> Journal<L> {
         self.states[cell as usize].reader.again()
     }
 
-    /// Takes the journal apart, over the rows that its events and outcomes lie in. It takes no memory.
+    /// Takes the journal apart, over the rows that its events and outcomes lie in. It does not allocate.
     pub(crate) fn into_parts(self, rows: Rows<L>) -> (Events, Cells)
         requires { length self.cells ≤ L.service.rules.limits.max_cells }
         ensures events { result.0 ≡ self.history }

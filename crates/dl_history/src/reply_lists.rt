@@ -33,7 +33,7 @@ impl Replies {
         Replies { replies }
     }
 
-    /// A copy of these replies. The error is want of memory.
+    /// A copy of these replies. The error is a failed allocation.
     pub fn copy_of(alloc: Global, replies: &[LoadReply]) -> Result<Replies, AllocError>
         ensures { IfOk result (λ copy. copy ≡ replies.now) }
     {
@@ -75,7 +75,7 @@ impl Jobs {
         Jobs { jobs }
     }
 
-    /// Copies of the jobs, which share the keys. The error is want of memory.
+    /// Copies of the jobs, which share the keys. The error is a failed allocation.
     pub fn copy_of(alloc: Global, jobs: &[Job]) -> Result<Jobs, AllocError>
         ensures { IfOk result (λ copies. copies ≡ jobs.now) }
     {

@@ -32,8 +32,8 @@ impl<L: LoaderName> Model for Rows<L> {
 }
 
 impl<L: LoaderName> Rows<L> {
-    /// The rows of the loader that `L` stands for, which have room for all that these limits let it have. It takes
-    /// no memory.
+    /// The rows of the loader that `L` stands for, which have room for all that these limits let it have. It does
+    /// not allocate.
     pub fn new(limits: Limits, log: CellRow<Event>, outcomes: CellRow<Ending>) -> Rows<L>
         requires limits { limits ≡ L.service.rules.limits }
         requires log { log ≡ L.log }

@@ -48,7 +48,7 @@ impl<L: LoaderName> Model for Book<L> {
 }
 
 impl<L: LoaderName> Book<L> {
-    /// The book of a loader that had no call. It takes no memory.
+    /// The book of a loader that had no call. It does not allocate.
     pub(crate) fn new(
         alloc: Global,
         hashing: RandomState,
@@ -67,8 +67,8 @@ impl<L: LoaderName> Book<L> {
         }
     }
 
-    // Whether a pass may make an event now. The error is the first of these causes that applies: `Stopped`, `Behind`,
-    // `LogFull`.
+    /// Whether a pass may make an event now. The error is the first of these causes that applies: `Stopped`, `Behind`,
+    /// `LogFull`.
     fn admit(&self, rows: &Rows<L>, pass: &Pass<L>) -> Result<(), CallFault>
         ensures ok { OnOk result (unready L.service self.now pass.now.part ≡ None) }
         ensures fault { IfErr result (λ fault. unready L.service self.now pass.now.part ≡ Some fault) }
@@ -93,7 +93,7 @@ impl<L: LoaderName> Book<L> {
         Ok(())
     }
 
-    /// A ticket of this number for a load that was replied so. It takes no memory.
+    /// A ticket of this number for a load that was replied so. It does not allocate.
     pub(crate) fn ticket<'a>(
         &self,
         rows: &'a Rows<L>,

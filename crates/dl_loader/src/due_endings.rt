@@ -16,7 +16,7 @@ pub(crate) struct Due {
 }
 
 impl Due {
-    // The due of a cell: the outcome that a call at a place of the history brings its member. The error is want of memory.
+    /// The due of a cell: the outcome that a call at a place of the history brings its member. The error is a failed allocation.
     fn new(alloc: Global, at: u16, cell: u32, call: &Call, place: usize) -> Result<Due, AllocError>
         requires { IsSome (outcome_by call.now place) }
         ensures cell { IfOk result (λ due. due.cell ≡ cell) }
@@ -30,7 +30,7 @@ impl Due {
 }
 
 /// The dues of the cells of a batch's members, in order, by a call at a place of the history that ends the
-/// batch. The error is want of memory.
+/// batch. The error is a failed allocation.
 pub(crate) fn dues(
     alloc: Global,
     at: u16,
@@ -47,7 +47,7 @@ pub(crate) fn dues(
     Ok(dues)
 }
 
-/// Gives the cells their dues, and tells how many of them refused. It takes no memory.
+/// Gives the cells their dues, and tells how many of them refused. It does not allocate.
 pub(crate) fn give<L: LoaderName>(journal: &mut Journal<L>, rows: &Rows<L>, dues: Vec<Due>) -> usize
     requires fits { length journal.old.cells ≤ L.service.rules.limits.max_cells }
     requires can { CanEnd (map (λ d. d.cell) dues.items) journal.old.cells }
@@ -66,7 +66,7 @@ pub(crate) fn give<L: LoaderName>(journal: &mut Journal<L>, rows: &Rows<L>, dues
     refused
 }
 
-/// The same outcomes, each shared. The error is want of memory.
+/// The same outcomes, each shared. The error is a failed allocation.
 pub(crate) fn copy_outcomes(alloc: Global, outcomes: &Outcomes) -> Result<Outcomes, AllocError>
     ensures { IfOk result (λ copies. copies ≡ outcomes.now) }
 {
@@ -78,7 +78,7 @@ pub(crate) fn copy_outcomes(alloc: Global, outcomes: &Outcomes) -> Result<Outcom
     Ok(Outcomes::new(copies))
 }
 
-// The outcome that the end of a batch brings its member at a place.
+/// The outcome that the end of a batch brings its member at a place.
 fn outcome_at(call: &Call, place: usize) -> Result<Outcome, AllocError>
     requires { IsSome (outcome_by call.now place) }
     ensures { IfOk result (λ outcome. outcome_by call.now place ≡ Some outcome) }

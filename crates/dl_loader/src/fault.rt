@@ -20,7 +20,7 @@ pub enum StartFault {
     /// A loader has at most [`MOST_CALLERS`](crate::MOST_CALLERS) callers.
     #[error("a loader has too many callers")]
     TooManyCallers,
-    /// A growth was refused.
+    /// An allocation failed.
     #[error("out of memory")]
     OutOfMemory,
 }
@@ -62,7 +62,7 @@ pub enum CallFault {
     /// The call would begin more cells than the limit.
     #[error("a loader of {limit} cells is full")]
     CellsFull { limit: u32 },
-    /// A growth was refused.
+    /// An allocation failed.
     #[error("out of memory")]
     OutOfMemory,
     /// The history's own cell refused the event. It never comes in a run; no proof excludes it, since none says that a
@@ -93,7 +93,7 @@ pub enum CloseFault {
     /// A batch has not ended, sent or not.
     #[error("batch {batch} has not ended")]
     Unsettled { batch: u32 },
-    /// A growth was refused.
+    /// An allocation failed.
     #[error("out of memory")]
     OutOfMemory,
 }

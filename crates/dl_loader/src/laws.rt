@@ -58,7 +58,7 @@ pub fn looks_agree<L: LoaderName>(one: &Ticket<'_, L>, other: &Ticket<'_, L>)
     one.agree(other);
 }
 
-// Makes the event that is asked for.
+/// Makes the event that is asked for.
 fn make<L: LoaderName, S: Source>(
     alloc: Global,
     rows: &Rows<L>,

@@ -49,7 +49,7 @@ pub(crate) fn new_cells<L: LoaderName>(rows: &Rows<L>, replies: &[LoadReply]) ->
 
 impl<L: LoaderName> Book<L> {
     /// A ticket for each of these replies to the last loads of the pass, put into a list that has room for
-    /// them. It takes no memory.
+    /// them. It does not allocate.
     pub(crate) fn make_tickets<'a>(
         &self,
         rows: &'a Rows<L>,
@@ -71,7 +71,7 @@ impl<L: LoaderName> Book<L> {
     }
 }
 
-/// Adds a ticket for each load. It takes no memory.
+/// Adds a ticket for each load. It does not allocate.
 pub(crate) fn add_tickets<L: LoaderName>(pass: &mut Pass<L>, replies: &[LoadReply])
     requires room { length replies.now ≤ pass.old.spare }
     requires answered { Every (λ r. Among (cell_of_load r) (cells_of pass.old.part.entries)) replies.now }

@@ -59,7 +59,7 @@ impl<L: LoaderName> Model for Loader<L> {
 
 impl<L: LoaderName> Loader<L> {
     /// The loader of an opening, with an empty history, and a pass for each caller, of which none has an
-    /// entry. `L` is to stand for this opening. The error is want of memory.
+    /// entry. `L` is to stand for this opening. The error is a failed allocation.
     pub fn start<S: Source>(
         alloc: Global,
         opening: Opening<'_, S>,
@@ -109,7 +109,7 @@ impl<L: LoaderName> Loader<L> {
 
     /// Waits until the ticket shows its outcome, and adds that to the pass, once: where it is among the
     /// entries already, the pass stays as it is. Where the ticket shows its outcome at once, no lock is taken.
-    /// It takes no memory.
+    /// It does not allocate.
     ///
     /// # Errors
     /// `Stopped` where the loader is stopped and the cell has not ended. The pass then tells what it told
@@ -139,7 +139,7 @@ impl<L: LoaderName> Loader<L> {
         Ok(())
     }
 
-    // Waits under the lock until the ticket shows its outcome.
+    /// Waits under the lock until the ticket shows its outcome.
     fn wait_for(&self, rt: &impl Wait, ticket: &mut Ticket<'_, L>) -> Result<(), Stopped>
         requires { ticket.old.known ≡ None }
         ensures number { ticket.new.number ≡ ticket.old.number }

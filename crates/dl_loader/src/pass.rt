@@ -18,7 +18,7 @@ use std::sync::ledger::Share;
 
 /// A ticket that a pass gave.
 #[derive(Clone, Copy, Debug)]
-pub struct GivenTicket {
+pub(crate) struct GivenTicket {
     // The cell of its load.
     cell: u32,
     // Whether the cell's outcome is among the entries.
@@ -74,7 +74,7 @@ impl<L: LoaderName> Model for Pass<L> {
 }
 
 impl<L: LoaderName> Pass<L> {
-    /// The pass of a caller that has made no call. It takes no memory.
+    /// The pass of a caller that has made no call. It does not allocate.
     pub(crate) fn fresh(alloc: Global, caller: u32, share: Share<L>) -> Pass<L>
         requires caller { caller < L.service.callers }
         requires part { share.parts ≡ 1 }
@@ -100,7 +100,7 @@ impl<L: LoaderName> Pass<L> {
         self.caller
     }
 
-    /// The account of the pass: its caller, and what its entries are. The error is want of memory.
+    /// The account of the pass: its caller, and what its entries are. The error is a failed allocation.
     pub(crate) fn account(&self, alloc: Global) -> Result<Account, AllocError>
         ensures { IfOk result (λ account. account ≡ outline_of (account_of self.now.part)) }
     {
@@ -161,7 +161,7 @@ impl<L: LoaderName> Pass<L> {
         self.tickets.len()
     }
 
-    /// Makes room for one call more and so many tickets. The error is want of memory, and changes
+    /// Makes room for one call more and so many tickets. The error is a failed allocation, and changes
     /// nothing; it comes only where the room was missing.
     pub(crate) fn reserve(&mut self, tickets: usize) -> Result<(), AllocError>
         ensures part { self.new.part ≡ self.old.part }
@@ -175,7 +175,7 @@ impl<L: LoaderName> Pass<L> {
         self.tickets.reserve(more)
     }
 
-    /// Adds a ticket of a cell, and answers its number. It takes no memory.
+    /// Adds a ticket of a cell, and answers its number. It does not allocate.
     pub(crate) fn add_ticket(&mut self, cell: u32) -> usize
         requires room { 0 < self.old.spare }
         requires answered { Among cell (cells_of self.old.part.entries) }
@@ -191,7 +191,7 @@ impl<L: LoaderName> Pass<L> {
     }
 
     /// Adds the outcome that a ticket of this pass shows, once: where it is among the entries already,
-    /// nothing changes. It never waits, and takes no memory.
+    /// nothing changes. It never waits, and does not allocate.
     pub fn saw(&mut self, ticket: &mut Ticket<'_, L>)
         requires gave { (seen : Bool) × GaveTicket self.old.part ticket.old seen }
         requires shown { IsSome ticket.old.known }
@@ -204,7 +204,7 @@ impl<L: LoaderName> Pass<L> {
         }
     }
 
-    // Whether the outcome of the ticket of this number is among the entries.
+    /// Whether the outcome of the ticket of this number is among the entries.
     fn has_seen(&self, number: usize) -> bool
         requires { number < length self.now.part.tickets }
         ensures { IfSome (slice_get self.now.part.tickets number) (λ ticket. result ≡ ticket.seen) }
@@ -212,7 +212,7 @@ impl<L: LoaderName> Pass<L> {
         self.tickets[number].seen
     }
 
-    // Adds the outcome of the ticket of this number.
+    /// Adds the outcome of the ticket of this number.
     fn add_saw(&mut self, number: usize, seen: Read<L>)
         requires { slice_get self.old.part.tickets number ≡ Some (given seen.cell false) }
         ensures { self.new.part ≡ with_saw self.old.part number seen.cell seen.ending false }

@@ -98,7 +98,7 @@ impl<'a, L: LoaderName> Ticket<'a, L> {
     }
 
     /// The outcome, if the cell has ended. From then on it is answered each time. It never waits, and
-    /// takes no memory.
+    /// does not allocate.
     pub fn look(&mut self) -> Option<&'a Outcome>
         ensures number { self.new.number ≡ self.old.number }
         ensures reply { self.new.reply ≡ self.old.reply }
@@ -125,7 +125,7 @@ impl<'a, L: LoaderName> Ticket<'a, L> {
         self.number
     }
 
-    /// What the ticket knows of its cell, as an entry tells it. It takes no memory.
+    /// What the ticket knows of its cell, as an entry tells it. It does not allocate.
     pub(crate) fn seen(&mut self) -> Read<L>
         requires { IsSome self.old.known }
         ensures same { self.new ≡ self.old }
@@ -138,7 +138,7 @@ impl<'a, L: LoaderName> Ticket<'a, L> {
         Read::of(self.cell(), at, self.reader.again())
     }
 
-    // The place and the outcome, if the cell has ended.
+    /// The place and the outcome, if the cell has ended.
     fn look_ending(&mut self) -> Option<&'a Ending>
         ensures number { self.new.number ≡ self.old.number }
         ensures reply { self.new.reply ≡ self.old.reply }

@@ -189,7 +189,7 @@ fn accept(
 }
 
 /// The reply to a call, which is added to the history unless it is refused. A legal history stays
-/// legal. After want of memory the history is of no use.
+/// legal. After a failed allocation the history is of no use.
 pub fn reply_to(
     alloc: Global,
     rules: &Rules,

@@ -11,7 +11,7 @@ use dl_desk::FetchKey;
 
 /// The last atom that began a cell for a key.
 #[derive(Clone, Copy, Debug)]
-pub struct Latest {
+pub(crate) struct Latest {
     /// The cell.
     cell: u32,
     /// The batch that fetches it.

@@ -23,9 +23,9 @@ use Rattle.dl_terms.specs.contracts.term.Term as Term
 use Rattle.dl_haxl.proofs.fault.RunFault.TheSendSync as fault
 use Rattle.dl_scope.specs.contracts.jobs.PlanJob as PlanJob
 use Rattle.dl_scope.specs.contracts.jobs.PlanRun as PlanRun
-use Rattle.dl_scope.specs.contracts.plan.Plan as Plan
-use Rattle.dl_scope.specs.contracts.plan.Step as Step
-use Rattle.dl_scope.specs.contracts.plan.StepAnswer as StepAnswer
+use Rattle.dl_terms.specs.contracts.plan.Plan as Plan
+use Rattle.dl_terms.specs.contracts.plan.Step as Step
+use Rattle.dl_scope.specs.contracts.step_answer.StepAnswer as StepAnswer
 use Rattle.dl_scope.specs.contracts.stage.Stage as Stage
 use Rattle.dl_scope.specs.contracts.steps.Given as Given
 

@@ -5,7 +5,7 @@ use Rattle.std.proofs.lemmas.List.{map-append}
 use Rattle.std.specs.declared.alloc.Global.{Global}
 use Rattle.dl_scope.specs.Inside.Gathered.{AllGave, Gave}
 use Rattle.dl_scope.specs.declared.jobs.PlanRun.{PlanRun}
-use Rattle.dl_scope.specs.declared.plan.StepAnswer.{StepAnswer}
+use Rattle.dl_scope.specs.declared.step_answer.StepAnswer.{StepAnswer}
 use Rattle.dl_scope.specs.declared.steps.Given.{Given}
 
 -- one more of a list's elements is put behind what there is

@@ -14,8 +14,8 @@ use Rattle.dl_scope.specs.Headline.{Headline, TellsEnd, given_up}
 use Rattle.dl_scope.specs.Inside.Served.{AreServed}
 use Rattle.dl_scope.specs.Report.{Report, report}
 use Rattle.dl_scope.specs.declared.fault.ScopeFault.{ScopeFault}
-use Rattle.dl_scope.specs.declared.plan.Plan.{Plan}
-use Rattle.dl_scope.specs.declared.plan.StepAnswer.{StepAnswer}
+use Rattle.dl_terms.specs.declared.plan.Plan.{Plan}
+use Rattle.dl_scope.specs.declared.step_answer.StepAnswer.{StepAnswer}
 use Rattle.dl_scope.proofs.EndedOnce.{end_once}
 use Rattle.dl_scope.proofs.Placed.{parts_of, part_account, entries_at, plan_at, served_long, served_numbered, worker_after}
 

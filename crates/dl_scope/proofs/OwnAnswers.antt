@@ -34,11 +34,11 @@ use Rattle.dl_scope.specs.Headline.{Headline, service_of, Ends, TellsEnd}
 use Rattle.dl_scope.specs.OwnAnswers.{AnswersOwn, IsNoPrime, NonePrimed, NoneFailed, AreOwn, IsOwn, listed, PrimesNoKey}
 use Rattle.dl_scope.specs.OwnAnswers.{AnswersByTables, AnswersAreOwn, OwnAnswersAreOne}
 use Rattle.dl_scope.specs.Report.{Report}
-use Rattle.dl_scope.specs.declared.plan.Plan.{Plan}
-use Rattle.dl_scope.specs.declared.plan.Setup.{Setup}
-use Rattle.dl_scope.specs.declared.plan.Step.{Step}
-use Rattle.dl_scope.specs.declared.plan.Step.TheVariants.{Prime, Clear, ClearAll, Eval}
-use Rattle.dl_scope.specs.declared.plan.StepAnswer.{StepAnswer}
+use Rattle.dl_terms.specs.declared.plan.Plan.{Plan}
+use Rattle.dl_scope.specs.declared.setup.Setup.{Setup}
+use Rattle.dl_terms.specs.declared.plan.Step.{Step}
+use Rattle.dl_terms.specs.declared.plan.Step.TheVariants.{Prime, Clear, ClearAll, Eval}
+use Rattle.dl_scope.specs.declared.step_answer.StepAnswer.{StepAnswer}
 use Rattle.dl_scope.proofs.OwnOutcomes.{own_outcome, tables_own}
 use Rattle.dl_scope.proofs.OwnReads.{OwnReads, steps_own}
 

@@ -22,8 +22,8 @@ use Rattle.dl_scope.specs.declared.jobs.PlanJob.{PlanJob}
 use Rattle.dl_scope.specs.declared.jobs.PlanRun.{PlanRun}
 use Rattle.dl_scope.specs.declared.jobs.WorkerJob.{WorkerJob}
 use Rattle.dl_scope.specs.declared.jobs.WorkerRun.{WorkerRun}
-use Rattle.dl_scope.specs.declared.plan.Plan.{Plan}
-use Rattle.dl_scope.specs.declared.plan.StepAnswer.{StepAnswer}
+use Rattle.dl_terms.specs.declared.plan.Plan.{Plan}
+use Rattle.dl_scope.specs.declared.step_answer.StepAnswer.{StepAnswer}
 use Rattle.dl_scope.specs.declared.steps.Given.{Given}
 use Rattle.dl_scope.proofs.Worked.{worked_adds}
 

@@ -5,7 +5,7 @@ use Rattle.dl_scope.specs.Faults.{MayServe, RefusedAs}
 use Rattle.dl_scope.specs.Inside.Gathered.{IsRunFault}
 use Rattle.dl_scope.specs.declared.fault.ScopeFault.{ScopeFault}
 use Rattle.dl_scope.specs.declared.fault.ScopeFault.TheVariants.{NoPlans, TooManyPlans, BadWorkers, Start, Queue, Run, Stopped, Close, Unfetched, OutOfMemory}
-use Rattle.dl_scope.specs.declared.plan.Setup.{Setup}
+use Rattle.dl_scope.specs.declared.setup.Setup.{Setup}
 
 -- a fault of the plans' runs
 pub run_refused : (setup : Setup) (n m : ℕ) (fault : ScopeFault) → MayServe setup n → m ≡ n → IsRunFault m fault → RefusedAs setup n fault

@@ -18,7 +18,7 @@ use Rattle.dl_scope.specs.declared.jobs.WorkerRun.{WorkerRun}
 use Rattle.dl_loader.specs.Pass.{Pass, fresh}
 use Rattle.std.specs.declared.alloc.AllocError.{AllocError}
 use Rattle.dl_scope.specs.Inside.Served.{Ran}
-use Rattle.dl_scope.specs.declared.plan.Plan.{Plan}
+use Rattle.dl_terms.specs.declared.plan.Plan.{Plan}
 use Rattle.dl_scope.specs.declared.threads.Runs.{Runs}
 
 unmapped : {X Y : Type 0} (P : Y → Type 0) (f : X → Y) (xs : List X) → AllByRecursion P (map f xs) → AllByRecursion (λ x. P (f x)) xs

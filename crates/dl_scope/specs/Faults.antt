@@ -4,23 +4,15 @@ use Rattle.dl_haxl.specs.declared.fault.RunFault.{RunFault}
 use Rattle.dl_haxl.specs.declared.fault.RunFault.TheVariants as run
 use Rattle.dl_loader.specs.declared.fault.CallFault.TheVariants as call
 use Rattle.dl_loader.specs.declared.fault.StartFault.TheVariants as start
+use Rattle.dl_terms.specs.Plans.{ArePlans, most_plans}
 use Rattle.dl_workers.specs.QueueFaults as queue
 use Rattle.dl_scope.specs.declared.fault.ScopeFault.{ScopeFault}
 use Rattle.dl_scope.specs.declared.fault.ScopeFault.TheVariants.{NoPlans, TooManyPlans, BadWorkers, Start, Queue, Run, Stopped, Close, Unfetched, OutOfMemory}
-use Rattle.dl_scope.specs.declared.plan.Setup.{Setup}
-
--- the most plans that are served at once
-abbrev pub most_plans : ℕ
-most_plans = 16
+use Rattle.dl_scope.specs.declared.setup.Setup.{Setup}
 
 -- the most fetch workers
 abbrev pub most_workers : ℕ
 most_workers = 16
-
--- a number of plans that can be served
-pub record ArePlans (n : ℕ) : Type 0 where
-  pub least : 1 ≤ n
-  pub most : n ≤ most_plans
 
 -- a number of fetch workers
 pub record AreWorkers (n : ℕ) : Type 0 where

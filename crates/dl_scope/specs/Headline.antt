@@ -14,9 +14,9 @@ use Rattle.dl_history.specs.declared.event.Call.TheVariants.{Load, LoadMany, Pri
 use Rattle.dl_history.specs.declared.event.Event.{Event}
 use Rattle.dl_scope.specs.Follows.{Follows}
 use Rattle.dl_scope.specs.Report.{Report}
-use Rattle.dl_scope.specs.declared.plan.Plan.{Plan}
-use Rattle.dl_scope.specs.declared.plan.Setup.{Setup}
-use Rattle.dl_scope.specs.declared.plan.StepAnswer.{StepAnswer}
+use Rattle.dl_terms.specs.declared.plan.Plan.{Plan}
+use Rattle.dl_scope.specs.declared.setup.Setup.{Setup}
+use Rattle.dl_scope.specs.declared.step_answer.StepAnswer.{StepAnswer}
 
 -- what a server serves by: its callers are the plans and then the workers, and its source answers by one function
 abbrev pub service_of : Setup → ℕ → (List Key → BatchAnswer) → Service

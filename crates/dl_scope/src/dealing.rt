@@ -3,13 +3,13 @@
 ghost use Rattle.std.specs.Prelude.{◌≡◌, IfOk, length, map};
 
 use crate::jobs::{PlanJob, WorkerJob};
-use crate::plan::Plan;
 use dl_loader::{LoaderName, Pass};
+use dl_terms::Plan;
 use dl_workers::{Sender, Taker};
 use std::alloc::{AllocError, Global};
 
-/// For each plan, in order, its pass and its sender. The error is want of memory.
-pub fn plan_jobs<L: LoaderName>(
+/// For each plan, in order, its pass and its sender. The error is a failed allocation.
+pub(crate) fn plan_jobs<L: LoaderName>(
     alloc: Global,
     mut passes: Vec<Pass<L>>,
     mut senders: Vec<Sender>,
@@ -29,8 +29,8 @@ pub fn plan_jobs<L: LoaderName>(
     Ok(jobs)
 }
 
-/// For each worker, in order, its pass and its taker. The error is want of memory.
-pub fn worker_jobs<L: LoaderName>(
+/// For each worker, in order, its pass and its taker. The error is a failed allocation.
+pub(crate) fn worker_jobs<L: LoaderName>(
     alloc: Global,
     mut passes: Vec<Pass<L>>,
     mut takers: Vec<Taker>,

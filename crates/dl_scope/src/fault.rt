@@ -10,7 +10,7 @@ use std::alloc::AllocError;
 use thiserror::Error;
 
 /// Why [`serve`](crate::serve) gives no report, the first cause that applies. `OutOfMemory` has no place in that order: it
-/// comes wherever a growth or a thread was refused.
+/// comes wherever an allocation failed or a thread was refused.
 #[derive(Clone, Copy, Debug, PartialEq, Eq, Error)]
 pub enum ScopeFault {
     /// There is no plan.
@@ -40,7 +40,7 @@ pub enum ScopeFault {
     /// A batch failed without an answer of the source. It is the least such batch.
     #[error("batch {batch} was not fetched")]
     Unfetched { batch: u32 },
-    /// A growth or a thread was refused.
+    /// An allocation failed, or a thread was refused.
     #[error("out of memory")]
     OutOfMemory,
 }

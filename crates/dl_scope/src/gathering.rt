@@ -1,12 +1,12 @@
 //! How what the threads give back is put together.
 
 ghost use Rattle.std.specs.Prelude.{[], ◌≡◌, ◌≤◌, ◌++◌, All, IfErr, IfOk, OnOk, length, map};
-ghost use Rattle.dl_scope.specs.Faults.{most_plans};
+ghost use Rattle.dl_terms.specs.Plans.{most_plans};
 ghost use Rattle.dl_scope.specs.Inside.Gathered.{AllGave, AreGathered, IsRunFault, WasTaken};
 
 use crate::fault::ScopeFault;
 use crate::jobs::{PlanRun, WorkerRun};
-use crate::plan::StepAnswer;
+use crate::step_answer::StepAnswer;
 use crate::steps::Given;
 use crate::threads::Runs;
 use dl_haxl::RunFault;
@@ -16,12 +16,12 @@ use std::alloc::{AllocError, Global};
 
 /// What the threads gave back: passes in the order of their callers, seats, and for each plan what its steps gave.
 #[derive(Drop)]
-pub struct Gathered<L: LoaderName> {
-    pub passes: Vec<Pass<L>>,
-    pub senders: Vec<Sender>,
-    pub takers: Vec<Taker>,
-    pub answers: Vec<Vec<StepAnswer>>,
-    pub rounds: Vec<u64>,
+pub(crate) struct Gathered<L: LoaderName> {
+    pub(crate) passes: Vec<Pass<L>>,
+    pub(crate) senders: Vec<Sender>,
+    pub(crate) takers: Vec<Taker>,
+    pub(crate) answers: Vec<Vec<StepAnswer>>,
+    pub(crate) rounds: Vec<u64>,
 }
 
 /// Looks whether each plan took its steps and each worker worked to the end.
@@ -29,7 +29,7 @@ pub struct Gathered<L: LoaderName> {
 /// # Errors
 /// `Run` for the first plan that met a fault, other than that the loader was stopped; `Stopped` where no plan met such a
 /// fault, and a plan or a worker found or made the loader stopped.
-pub fn check<L: LoaderName>(
+pub(crate) fn check<L: LoaderName>(
     plans: &[PlanRun<L>],
     workers: &[WorkerRun<L>],
 ) -> Result<(), ScopeFault>
@@ -54,7 +54,7 @@ pub fn check<L: LoaderName>(
     Ok(())
 }
 
-// Whether a worker gave up.
+/// Whether a worker gave up.
 fn any_gave_up<L: LoaderName>(workers: &[WorkerRun<L>]) -> bool {
     for run in workers {
         if let WorkerEnd::GaveUp { .. } = run.end {
@@ -64,8 +64,8 @@ fn any_gave_up<L: LoaderName>(workers: &[WorkerRun<L>]) -> bool {
     false
 }
 
-/// Puts together what the threads gave back, where each plan took its steps. The error is want of memory.
-pub fn gather<L: LoaderName>(alloc: Global, runs: Runs<L>) -> Result<Gathered<L>, AllocError>
+/// Puts together what the threads gave back, where each plan took its steps. The error is a failed allocation.
+pub(crate) fn gather<L: LoaderName>(alloc: Global, runs: Runs<L>) -> Result<Gathered<L>, AllocError>
     requires taken { All WasTaken runs.plans.items }
     ensures { IfOk result (AreGathered runs) }
 {
@@ -88,7 +88,7 @@ pub fn gather<L: LoaderName>(alloc: Global, runs: Runs<L>) -> Result<Gathered<L>
 }
 
 impl<L: LoaderName> Gathered<L> {
-    // Adds what the threads of plans gave back.
+    /// Adds what the threads of plans gave back.
     fn add_plans(&mut self, plans: Vec<PlanRun<L>>) -> Result<(), AllocError>
         requires taken { All WasTaken plans.items }
         requires no_answers { self.old.answers.items ≡ [] }
@@ -115,7 +115,7 @@ impl<L: LoaderName> Gathered<L> {
         Ok(())
     }
 
-    // Adds what the threads of workers gave back.
+    /// Adds what the threads of workers gave back.
     fn add_workers(&mut self, workers: Vec<WorkerRun<L>>) -> Result<(), AllocError>
         ensures passes { OnOk result (self.new.passes.items ≡ self.old.passes.items ++ map (λ run. run.pass) workers.items) }
         ensures senders { OnOk result (self.new.senders.items ≡ self.old.senders.items) }

@@ -8,7 +8,7 @@ use dl_desk::BatchFault;
 use dl_loader::{Call, History};
 
 /// The least batch that failed for want of memory or since its job was not sent.
-pub fn least_given_up(history: &History) -> Option<u32>
+pub(crate) fn least_given_up(history: &History) -> Option<u32>
     ensures { IsLeastOf result (given_up history.now.events) }
 {
     let events = history.events();
@@ -21,7 +21,7 @@ pub fn least_given_up(history: &History) -> Option<u32>
     least
 }
 
-// The least of the batches that were found and the one that this call gives up, if it does.
+/// The least of the batches that were found and the one that this call gives up, if it does.
 fn least_with(found: Option<u32>, call: &Call) -> Option<u32>
     ensures { (ns : List ℕ) → IsLeastOf found ns → IsLeastOf result (ns ++ given_up_by call.now) }
 {
@@ -34,7 +34,7 @@ fn least_with(found: Option<u32>, call: &Call) -> Option<u32>
     }
 }
 
-// The least of the batches that were found and one more.
+/// The least of the batches that were found and one more.
 fn least_of(found: Option<u32>, batch: u32) -> u32
     ensures { (ns : List ℕ) → IsLeastOf found ns → IsLeastOf (Some result) (ns ++ batch ∷ []) }
 {

@@ -4,12 +4,12 @@ ghost use Rattle.dl_history.specs.Service.{Answers};
 ghost use Rattle.dl_workers.specs.Seats.{IsSenderOf, IsTakerOf};
 ghost use Rattle.dl_scope.specs.Inside.Kept.{PlanKept, WorkerKept};
 
-use crate::plan::Plan;
 use crate::stage::Stage;
 use crate::steps::{Given, take_steps};
 use dl_haxl::RunFault;
 use dl_loader::{LoaderName, Pass};
 use dl_source::Source;
+use dl_terms::Plan;
 use dl_workers::{Gate, JobQueue, Sender, Taker, WorkerEnd, work};
 use std::snapshot::Snapshot;
 use std::sync::Wait;
@@ -17,23 +17,23 @@ use std::thread::Promise;
 
 /// What a plan's thread is given.
 #[derive(Drop)]
-pub struct PlanJob<L: LoaderName> {
-    pub pass: Pass<L>,
-    pub sender: Sender,
-    pub plan: Plan,
+pub(crate) struct PlanJob<L: LoaderName> {
+    pub(crate) pass: Pass<L>,
+    pub(crate) sender: Sender,
+    pub(crate) plan: Plan,
 }
 
 /// What it gives back.
 #[derive(Drop)]
-pub struct PlanRun<L: LoaderName> {
-    pub pass: Pass<L>,
-    pub sender: Sender,
-    pub given: Result<Given, RunFault>,
+pub(crate) struct PlanRun<L: LoaderName> {
+    pub(crate) pass: Pass<L>,
+    pub(crate) sender: Sender,
+    pub(crate) given: Result<Given, RunFault>,
 }
 
 impl<L: LoaderName> PlanJob<L> {
     /// Takes the steps of the plan. Where one meets a fault, the loader is stopped.
-    pub fn run<R: Wait>(self, rt: &R, stage: &Stage<'_, L>) -> PlanRun<L>
+    pub(crate) fn run<R: Wait>(self, rt: &R, stage: &Stage<'_, L>) -> PlanRun<L>
         requires seat { IsSenderOf stage.now.queue.now self.sender }
         ensures kept { PlanKept stage.now.queue.now self result }
     {
@@ -57,22 +57,22 @@ impl<L: LoaderName> PlanJob<L> {
 
 /// What a worker's thread is given.
 #[derive(Drop)]
-pub struct WorkerJob<L: LoaderName> {
-    pub pass: Pass<L>,
-    pub taker: Taker,
+pub(crate) struct WorkerJob<L: LoaderName> {
+    pub(crate) pass: Pass<L>,
+    pub(crate) taker: Taker,
 }
 
 /// What it gives back.
 #[derive(Drop)]
-pub struct WorkerRun<L: LoaderName> {
-    pub pass: Pass<L>,
-    pub taker: Taker,
-    pub end: WorkerEnd,
+pub(crate) struct WorkerRun<L: LoaderName> {
+    pub(crate) pass: Pass<L>,
+    pub(crate) taker: Taker,
+    pub(crate) end: WorkerEnd,
 }
 
 impl<L: LoaderName> WorkerJob<L> {
     /// Takes jobs until the queue is shut, and ends the batch of each by what the source answers.
-    pub fn run<S: Source, G: Gate, R: Wait>(
+    pub(crate) fn run<S: Source, G: Gate, R: Wait>(
         self,
         rt: &R,
         stage: &Stage<'_, L>,
@@ -97,9 +97,9 @@ impl<L: LoaderName> WorkerJob<L> {
 
 /// What is known of what a plan's thread gives back.
 #[derive(Drop)]
-pub struct PlanPromise<'a, L: LoaderName> {
-    pub queue: &'a JobQueue,
-    pub job: Snapshot<PlanJob<L>>,
+pub(crate) struct PlanPromise<'a, L: LoaderName> {
+    pub(crate) queue: &'a JobQueue,
+    pub(crate) job: Snapshot<PlanJob<L>>,
 }
 
 impl<'a, L: LoaderName> Promise<PlanRun<L>> for PlanPromise<'a, L> {
@@ -108,9 +108,9 @@ impl<'a, L: LoaderName> Promise<PlanRun<L>> for PlanPromise<'a, L> {
 
 /// What is known of what a worker's thread gives back.
 #[derive(Drop)]
-pub struct WorkerPromise<'a, L: LoaderName> {
-    pub queue: &'a JobQueue,
-    pub job: Snapshot<WorkerJob<L>>,
+pub(crate) struct WorkerPromise<'a, L: LoaderName> {
+    pub(crate) queue: &'a JobQueue,
+    pub(crate) job: Snapshot<WorkerJob<L>>,
 }
 
 impl<'a, L: LoaderName> Promise<WorkerRun<L>> for WorkerPromise<'a, L> {

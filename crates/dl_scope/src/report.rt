@@ -3,7 +3,7 @@
 ghost use Rattle.std.specs.Prelude.{◌≡◌, map};
 ghost use Rattle.dl_scope.specs.Report.{report};
 
-use crate::plan::StepAnswer;
+use crate::step_answer::StepAnswer;
 use dl_loader::History;
 use dl_workers::Tally;
 use std::marker::Model;
@@ -23,7 +23,7 @@ impl Model for Report {
     ghost use Rattle.dl_scope.specs.Report.{Report, report};
     ghost use Rattle.std.specs.Coded.{codes};
     ghost use Rattle.dl_history.specs.contracts.history.History as closed;
-    ghost use Rattle.dl_scope.specs.contracts.plan.StepAnswer as answer;
+    ghost use Rattle.dl_scope.specs.contracts.step_answer.StepAnswer as answer;
 
     ghost Value = { Report };
 
@@ -50,14 +50,14 @@ impl Report {
         }
     }
 
-    /// For each plan, in order, the answers of its terms, each with its step. It takes no memory.
+    /// For each plan, in order, the answers of its terms, each with its step. It does not allocate.
     pub fn answers(&self) -> &[Vec<StepAnswer>]
         ensures { map (λ a. a.items) result.now ≡ self.now.answers }
     {
         self.answers.as_slice()
     }
 
-    /// For each plan, in order, how many rounds of loads its terms took. It takes no memory.
+    /// For each plan, in order, how many rounds of loads its terms took. It does not allocate.
     pub fn rounds(&self) -> &[u64]
         ensures { result.now ≡ self.now.rounds }
     {
@@ -72,7 +72,7 @@ impl Report {
         &self.history
     }
 
-    /// How many jobs were sent, taken and left. It takes no memory.
+    /// How many jobs were sent, taken and left. It does not allocate.
     pub fn tally(&self) -> Tally
         ensures { result ≡ self.now.tally }
     {

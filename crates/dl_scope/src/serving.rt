@@ -5,7 +5,8 @@ ghost use Rattle.dl_history.specs.Service.{Answers};
 ghost use Rattle.dl_loader.specs.Opening.{Names};
 ghost use Rattle.dl_loader.specs.Pass.{fresh};
 ghost use Rattle.dl_workers.specs.Seats.{AreSeatsOf};
-ghost use Rattle.dl_scope.specs.Faults.{ArePlans, AreWorkers, MayServe, RefusedAs};
+ghost use Rattle.dl_terms.specs.Plans.{ArePlans};
+ghost use Rattle.dl_scope.specs.Faults.{AreWorkers, MayServe, RefusedAs};
 ghost use Rattle.dl_scope.specs.Headline.{Headline, given_up, service_of};
 ghost use Rattle.dl_scope.specs.Report.{report};
 ghost use Rattle.dl_scope.specs.declared.fault.ScopeFault.TheVariants.{Unfetched};
@@ -15,21 +16,20 @@ use crate::dealing::{plan_jobs, worker_jobs};
 use crate::fault::ScopeFault;
 use crate::gathering::{Gathered, check, gather};
 use crate::given_up::least_given_up;
-use crate::plan::{Plan, Setup, StepAnswer};
 use crate::report::Report;
+use crate::setup::Setup;
 use crate::stage::Stage;
+use crate::step_answer::StepAnswer;
 use crate::threads::{Runs, run_all};
 use dl_loader::{History, Loader, LoaderName, Opening, Pass};
 use dl_source::Source;
+use dl_terms::{MOST_PLANS, Plan};
 use dl_workers::{Gate, JobQueue, Sender, Taker, Tally};
 use std::alloc::{AllocError, Global};
 use std::hash::RandomState;
 use std::marker::Brand;
 use std::sync::Wait;
 use std::thread::Threads;
-
-/// The most plans that are served at once.
-pub const MOST_PLANS: usize = 16;
 
 /// The most fetch workers.
 pub const MOST_WORKERS: u32 = 16;
@@ -73,7 +73,7 @@ pub fn serve<S: Source + Sync, G: Gate + Sync, R: Threads + Wait + Sync>(
     }
 }
 
-// Serves plans by the loader of an opening, which `L` stands for.
+/// Serves plans by the loader of an opening, which `L` stands for.
 fn serve_at<
     L: LoaderName + Send + Sync,
     S: Source + Sync,
@@ -114,7 +114,7 @@ fn serve_at<
     }
 }
 
-// The report, where each batch was answered by the source.
+/// The report, where each batch was answered by the source.
 fn report(
     answers: Vec<Vec<StepAnswer>>,
     rounds: Vec<u64>,
@@ -140,7 +140,7 @@ struct Served<L: LoaderName> {
     tally: Tally,
 }
 
-// Serves plans by a loader with these passes, which are new.
+/// Serves plans by a loader with these passes, which are new.
 fn serve_by<
     L: LoaderName + Send + Sync,
     S: Source + Sync,
@@ -198,8 +198,8 @@ fn serve_by<
     })
 }
 
-// Runs the threads of the plans and of the workers, with these passes and seats and one sender more. The error is that a
-// growth or a thread was refused.
+/// Runs the threads of the plans and of the workers, with these passes and seats and one sender more. The error is that an
+/// allocation failed, or a thread was refused.
 fn run_jobs<
     L: LoaderName + Send + Sync,
     S: Source + Sync,

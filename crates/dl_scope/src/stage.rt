@@ -7,10 +7,10 @@ use std::hash::RandomState;
 
 /// What the threads of a server share, but for what its workers fetch from.
 #[derive(Drop)]
-pub struct Stage<'a, L: LoaderName> {
-    pub alloc: Global,
+pub(crate) struct Stage<'a, L: LoaderName> {
+    pub(crate) alloc: Global,
     /// By what the terms of plans hash keys.
-    pub hashing: RandomState,
-    pub loader: &'a Loader<L>,
-    pub queue: &'a JobQueue,
+    pub(crate) hashing: RandomState,
+    pub(crate) loader: &'a Loader<L>,
+    pub(crate) queue: &'a JobQueue,
 }

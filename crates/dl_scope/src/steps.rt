@@ -8,24 +8,25 @@ ghost use Rattle.dl_workers.specs.Seats.{IsSenderOf};
 ghost use Rattle.dl_scope.specs.Follows.{Follows, IsStep, stretch};
 ghost use Rattle.dl_scope.specs.Inside.Taken.{answers_of, rounds_of};
 
-use crate::plan::{Step, StepAnswer};
 use crate::stage::Stage;
+use crate::step_answer::StepAnswer;
 use dl_desk::{FetchKey, Outcome};
 use dl_haxl::{Answer, RunFault, run_term};
 use dl_loader::{LoaderName, Pass, PrimeReply};
+use dl_terms::Step;
 use dl_workers::Sender;
 use std::alloc::AllocError;
 use std::sync::Wait;
 
 /// What the steps of a plan gave: the answers of its terms, in order, and how many rounds of loads they took.
 #[derive(Drop)]
-pub struct Given {
-    pub answers: Vec<StepAnswer>,
-    pub rounds: u64,
+pub(crate) struct Given {
+    pub(crate) answers: Vec<StepAnswer>,
+    pub(crate) rounds: u64,
 }
 
 impl Given {
-    // Adds what the step of a number gave, if it has a term: its answer and its rounds. The error is want of memory.
+    /// Adds what the step of a number gave, if it has a term: its answer and its rounds. The error is a failed allocation.
     fn add(&mut self, number: usize, step: Option<(Answer, u32)>) -> Result<(), AllocError>
         requires { self.old.rounds + rounds_of step < 2 ^ 64 }
         ensures answers { OnOk result (self.new.answers.items ≡ self.old.answers.items ++ answers_of number step) }
@@ -46,7 +47,7 @@ impl Given {
 ///
 /// # Errors
 /// That of the first step which meets one. What the pass gained before stays.
-pub fn take_steps<L: LoaderName, R: Wait>(
+pub(crate) fn take_steps<L: LoaderName, R: Wait>(
     rt: &R,
     stage: &Stage<'_, L>,
     pass: &mut Pass<L>,
@@ -73,7 +74,7 @@ pub fn take_steps<L: LoaderName, R: Wait>(
     Ok(given)
 }
 
-// Takes a step: the answer of its term, and how many rounds of loads that took, if it has a term.
+/// Takes a step: the answer of its term, and how many rounds of loads that took, if it has a term.
 fn take_step<L: LoaderName, R: Wait>(
     rt: &R,
     stage: &Stage<'_, L>,
@@ -101,7 +102,7 @@ fn take_step<L: LoaderName, R: Wait>(
     Ok(None)
 }
 
-// Primes a key. The error is also for a cell that refuses its outcome.
+/// Primes a key. The error is also for a cell that refuses its outcome.
 fn prime<L: LoaderName>(
     rt: &impl Wait,
     stage: &Stage<'_, L>,

@@ -20,18 +20,18 @@ use std::thread::Threads;
 
 /// What all threads gave back, in the order of their callers, and the server's own sender.
 #[derive(Drop)]
-pub struct Runs<L: LoaderName> {
-    pub plans: Vec<PlanRun<L>>,
-    pub workers: Vec<WorkerRun<L>>,
-    pub own: Sender,
+pub(crate) struct Runs<L: LoaderName> {
+    pub(crate) plans: Vec<PlanRun<L>>,
+    pub(crate) workers: Vec<WorkerRun<L>>,
+    pub(crate) own: Sender,
 }
 
 /// Runs each worker and each plan on a thread of its own, all at once, and joins them. The queue is shut by the server's
 /// own sender once the plans have ended or a thread was refused, so no worker is left waiting.
 ///
 /// # Errors
-/// A growth or a thread was refused. Each thread that was started has ended.
-pub fn run_all<
+/// An allocation failed, or a thread was refused. Each thread that was started has ended.
+pub(crate) fn run_all<
     L: LoaderName + Send + Sync,
     S: Source + Sync,
     G: Gate + Sync,
@@ -97,7 +97,7 @@ pub fn run_all<
     )
 }
 
-// Runs each plan on a thread of its own, all at once, and joins them.
+/// Runs each plan on a thread of its own, all at once, and joins them.
 fn run_plans<L: LoaderName + Send + Sync, R: Threads + Wait + Sync>(
     rt: &R,
     stage: &Stage<'_, L>,

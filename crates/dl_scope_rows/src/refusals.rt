@@ -201,7 +201,7 @@ fn as_many_plans_and_workers_as_there_may_be(rt: HostRuntime) {
     assert_report(&rt, alloc, &report, &MOST_ANSWERS, &[1; 16]);
 }
 
-// Under `rt try --test --fail-alloc N` each growth is refused in turn. Where that isn't one of `serve` the test ends.
+/// Under `rt try --test --fail-alloc N` each growth is refused in turn. Where that isn't one of `serve` the test ends.
 #[test]
 fn a_refused_growth(rt: HostRuntime) {
     let alloc = rt.alloc();

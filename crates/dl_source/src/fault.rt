@@ -23,7 +23,7 @@ pub enum TableFault {
     /// A table lists an id twice, in its rows, errors and breaks together.
     #[error("a table lists an id twice")]
     DuplicateKey,
-    /// A growth was refused.
+    /// An allocation failed.
     #[error("out of memory")]
     OutOfMemory,
 }

@@ -11,7 +11,7 @@ use std::alloc::{AllocError, Global};
 /// Asks the source for the job's keys.
 ///
 /// # Errors
-/// Want of memory, with the job.
+/// A failed allocation, with the job.
 pub fn fetch_job<'s, S: Source>(
     alloc: Global,
     source: &'s S,

@@ -169,7 +169,7 @@ fn has_other_number(tables: &[ListedTable<'_>]) -> bool
     tables.iter().any(|table| table.has_other_number())
 }
 
-/// Whether two tables have one name. The error is want of memory.
+/// Whether two tables have one name. The error is a failed allocation.
 pub(crate) fn repeats_name(
     alloc: Global,
     hashing: RandomState,

@@ -14,7 +14,7 @@ pub trait Source {
     // The one function: what the source answers to a list of keys.
     ghost answer: { Self → List Key → BatchAnswer };
 
-    /// The answer to these keys, in their order. The error is want of memory.
+    /// The answer to these keys, in their order. The error is a failed allocation.
     fn fetch(&self, alloc: Global, keys: &[FetchKey]) -> Result<BatchAnswer, AllocError>
         ensures { IfOk result (λ a. a ≡ answer self.now keys.now) };
 

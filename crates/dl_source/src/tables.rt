@@ -88,7 +88,7 @@ impl Table {
         }
     }
 
-    /// A table of these entries, or None where an id is listed twice. The error is want of memory.
+    /// A table of these entries, or None where an id is listed twice. The error is a failed allocation.
     fn copy_of(
         alloc: Global,
         hashing: RandomState,
@@ -108,7 +108,7 @@ impl Table {
     }
 
     /// Adds an entry under a new id. Where the id is listed, the entry takes the place of its own,
-    /// and the answer is false. The error is want of memory.
+    /// and the answer is false. The error is a failed allocation.
     fn add(&mut self, alloc: Global, id: &str, entry: Entry) -> Result<bool, AllocError>
         ensures found { IfOk result (λ new. new ≡ not (lists id.now self.old)) }
         ensures added { result ≡ Ok true → self.new ≡ self.old ++ (id.now, entry) ∷ [] }
@@ -136,8 +136,8 @@ impl Tables {
     /// nothing is seen.
     ///
     /// # Errors
-    /// The first cause of [`TableFault`] that applies anywhere in the value, in its order, or want
-    /// of memory.
+    /// The first cause of [`TableFault`] that applies anywhere in the value, in its order, or a
+    /// failed allocation.
     pub fn from_value(
         alloc: Global,
         hashing: RandomState,
@@ -203,7 +203,7 @@ impl Tables {
         })
     }
 
-    /// Adds a table under a new name. The error is want of memory.
+    /// Adds a table under a new name. The error is a failed allocation.
     fn add(&mut self, alloc: Global, name: &str, table: Table) -> Result<(), AllocError>
         requires { lists name.now self.old ≡ false }
         ensures { OnOk result (self.new ≡ self.old ++ (name.now, table) ∷ []) }
@@ -214,7 +214,7 @@ impl Tables {
     }
 
     /// Adds the outcome of each key, up to the first that is listed under its table's breaks, whose
-    /// text is the answer. The error is want of memory.
+    /// text is the answer. The error is a failed allocation.
     fn add_outcomes(
         &self,
         outcomes: &mut Vec<Outcome>,
@@ -234,7 +234,7 @@ impl Tables {
         Ok(None)
     }
 
-    // What is listed under the key, or why nothing is.
+    /// What is listed under the key, or why nothing is.
     fn entry(&self, key: &FetchKey) -> Result<&Entry, &Message>
         ensures { result_copied result ≡ found self.now key.now }
     {

@@ -4,6 +4,7 @@ pub mod Gives
 pub mod Relation
 pub mod Rounds
 pub mod Node
+pub mod Plans
 pub mod Reduces
 pub mod Laws
 pub mod Inside

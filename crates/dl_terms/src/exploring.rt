@@ -28,7 +28,7 @@ const MOST_ITEMS: usize = 1_024;
 /// if it waits for none. A run of a term calls it once all the keys that it wanted before are known.
 ///
 /// # Errors
-/// Want of memory, which leaves a node that is of no more use.
+/// A failed allocation, which leaves a node that is of no more use.
 #[cycle(exploring)]
 pub fn explore(
     alloc: Global,

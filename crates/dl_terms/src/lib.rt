@@ -1,7 +1,7 @@
 //! Fetch terms and their evaluator (Haxl): what a term answers from the outcomes known so far, and
 //! which keys it waits for.
 //!
-//! A [`Term`] says what to load and how to go on from it. [`plan`] makes it into a [`Node`], and
+//! A [`Term`] says what to load and how to go on from it. [`unexplored`] makes it into a [`Node`], and
 //! [`explore`] rewrites that in place, once for each round of loads, until it is the term's
 //! [`Answer`]. The crate loads nothing itself: the runs above it hand in what they have loaded.
 #![tactic(auto)]
@@ -10,11 +10,13 @@ mod answer;
 mod exploring;
 pub mod laws;
 mod node;
+mod plan;
 mod target;
 mod term;
 
 pub use answer::{Answer, EvalFault};
 pub use exploring::explore;
-pub use node::{Node, plan};
+pub use node::{Node, unexplored};
+pub use plan::{MOST_PLANS, Plan, Step};
 pub use target::{Known, Wanted};
 pub use term::Term;

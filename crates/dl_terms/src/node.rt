@@ -11,7 +11,7 @@ use std::alloc::{AllocError, Global};
 use std::mem;
 
 /// What is left of a term, with the answers of the parts that have ended. A run of a term holds one,
-/// made by [`plan`] and rewritten in place by [`explore`](crate::explore), once a round.
+/// made by [`unexplored`] and rewritten in place by [`explore`](crate::explore), once a round.
 #[derive(Drop)]
 pub enum Node {
     /// It has ended.
@@ -78,47 +78,47 @@ impl Node {
 }
 
 /// The node of a term of which nothing was explored yet. A run calls it when it is made. The error
-/// is want of memory.
-#[cycle(planning)]
-pub fn plan(alloc: Global, term: Term) -> Result<Node, AllocError>
+/// is a failed allocation.
+#[cycle(making)]
+pub fn unexplored(alloc: Global, term: Term) -> Result<Node, AllocError>
     ensures { IfOk result (λ n. node_view n ≡ term_view term) }
 {
     match term {
         Term::Value(value) => Ok(Node::Done(Answer::Value(value))),
         Term::Load(key) => Ok(Node::Load(key)),
         Term::Pick { part, field } => Ok(Node::Pick {
-            part: plan_part(alloc, part)?,
+            part: unexplored_part(alloc, part)?,
             field,
         }),
         Term::Follow { part, field, table } => Ok(Node::Follow {
-            part: plan_part(alloc, part)?,
+            part: unexplored_part(alloc, part)?,
             field,
             table,
         }),
         Term::Each { part, field, table } => Ok(Node::Each {
-            part: plan_part(alloc, part)?,
+            part: unexplored_part(alloc, part)?,
             field,
             table,
         }),
-        Term::All(parts) => Ok(Node::All(plan_all(alloc, parts)?)),
+        Term::All(parts) => Ok(Node::All(unexplored_all(alloc, parts)?)),
     }
 }
 
-#[cycle(planning)]
-fn plan_part(alloc: Global, part: Box<Term>) -> Result<Box<Node>, AllocError>
+#[cycle(making)]
+fn unexplored_part(alloc: Global, part: Box<Term>) -> Result<Box<Node>, AllocError>
     ensures { IfOk result (λ n. node_view n.value ≡ term_view part.value) }
 {
-    let node = plan(alloc, Box::into_inner(part))?;
+    let node = unexplored(alloc, Box::into_inner(part))?;
     Ok(Box::new(alloc, node)?)
 }
 
-#[cycle(planning)]
-fn plan_all(alloc: Global, parts: Vec<Term>) -> Result<Vec<Node>, AllocError>
+#[cycle(making)]
+fn unexplored_all(alloc: Global, parts: Vec<Term>) -> Result<Vec<Node>, AllocError>
     ensures { IfOk result (λ ns. nodes_view ns.items ≡ terms_view parts.items) }
 {
     let mut nodes = Vec::with_capacity(alloc, parts.len())?;
     for part in parts {
-        nodes.push(plan(alloc, part)?)?;
+        nodes.push(unexplored(alloc, part)?)?;
     }
     Ok(nodes)
 }

@@ -10,12 +10,12 @@ use dl_source::{Source, fetch_job};
 use std::alloc::Global;
 use std::sync::Wait;
 
-/// Ends the batch of a job by what the loader's source answers to its keys, or, where there is no memory for
-/// that, as one that failed for want of memory.
+/// Ends the batch of a job by what the loader's source answers to its keys, or, where an allocation fails,
+/// as one that failed for want of memory.
 ///
 /// # Errors
-/// Those of [`Loader::settle`] and of [`Loader::fail`]; `OutOfMemory` only where there is no memory for the
-/// failure either. The pass then tells what it told before.
+/// Those of [`Loader::settle`] and of [`Loader::fail`]; `OutOfMemory` only where an allocation fails for the
+/// failure too. The pass then tells what it told before.
 pub fn end_job<L: LoaderName, S: Source>(
     rt: &impl Wait,
     alloc: Global,
@@ -66,7 +66,7 @@ pub fn end_jobs<L: LoaderName, S: Source>(
     Ok(())
 }
 
-// Ends the batch of a job as one that failed for want of memory.
+/// Ends the batch of a job as one that failed for want of memory.
 fn give_up<L: LoaderName>(
     rt: &impl Wait,
     alloc: Global,

@@ -11,7 +11,7 @@ pub enum QueueFault {
     /// A number of senders or of takers isn't 1 to [`MOST_SEATS`](crate::MOST_SEATS).
     #[error("the number of senders or of takers of a queue is out of range")]
     BadCounts,
-    /// A growth was refused.
+    /// An allocation failed.
     #[error("out of memory")]
     OutOfMemory,
 }

@@ -68,7 +68,7 @@ impl JobQueue {
     ghost use Rattle.dl_workers.specs.Balance.{Balances};
     ghost use Rattle.dl_workers.specs.Lossless.{traffic};
 
-    /// A queue with room for `capacity` jobs, and its seats. The growths are made here: no other
+    /// A queue with room for `capacity` jobs, and its seats. The allocations are made here: no other
     /// call of the queue takes memory.
     ///
     /// # Errors
@@ -102,7 +102,7 @@ impl JobQueue {
         }
     }
 
-    // A queue of numbers that are in range.
+    /// A queue of numbers that are in range.
     fn open(
         alloc: Global,
         capacity: u32,
@@ -204,7 +204,7 @@ impl JobQueue {
         }
     }
 
-    // Sends an end mark.
+    /// Sends an end mark.
     fn mark<R: Wait>(&self, rt: &R, sender: &mut Sender)
         requires { IsSenderOf self.now sender.old }
         ensures seat { IsSenderOf self.now sender.new }
@@ -213,7 +213,7 @@ impl JobQueue {
         let _ = self.put(rt, &mut sender.pass, Item::End);
     }
 
-    // Puts an item into the channel, and waits where that is full. The item comes back where it can't be put.
+    /// Puts an item into the channel, and waits where that is full. The item comes back where it can't be put.
     fn put<R: Wait>(&self, rt: &R, pass: &mut Pass<Item, Traffic>, item: Item) -> Result<(), Item>
         requires seat { IsSeatAt (sends_on self.now.sends) pass.old }
         requires some_seat { 0 < (view pass.old).seats }
@@ -249,7 +249,7 @@ impl JobQueue {
         Tally { sent, taken, left }
     }
 
-    // Joins the senders into one pass, and adds up their jobs.
+    /// Joins the senders into one pass, and adds up their jobs.
     fn gather_senders(&self, whole: &mut Pass<Item, Traffic>, senders: Vec<Sender>) -> u64
         requires seat { IsSeatAt (sends_on self.now.sends) whole.old }
         requires some_seat { 0 < (view whole.old).seats }
@@ -269,7 +269,7 @@ impl JobQueue {
         sent
     }
 
-    // Joins the takers into one pass, and adds up their jobs.
+    /// Joins the takers into one pass, and adds up their jobs.
     fn gather_takers(&self, whole: &mut Pass<Item, Traffic>, takers: Vec<Taker>) -> u64
         requires seat { IsSeatAt (sends_on self.now.sends) whole.old }
         requires some_seat { 0 < (view whole.old).seats }

@@ -7,7 +7,7 @@ use std::collections::LinkedList;
 
 /// What the channel carries.
 #[derive(Drop)]
-pub enum Item {
+pub(crate) enum Item {
     /// A job to be done.
     Work(Job),
     /// An end mark: the taker that gets it gets no job after it.
@@ -15,19 +15,19 @@ pub enum Item {
 }
 
 /// What a pass of the channel knows, its view. It exists in proofs alone: no value is made of it.
-pub struct Traffic {
+pub(crate) struct Traffic {
     /// For how many seats the pass stands.
-    pub seats: u64,
+    pub(crate) seats: u64,
     /// How many seats there are in all, where the pass stands for one.
-    pub all: u64,
+    pub(crate) all: u64,
     /// What these seats sent, in order.
-    pub sent: LinkedList<Item>,
+    pub(crate) sent: LinkedList<Item>,
     /// What these seats took, in order.
-    pub taken: LinkedList<Item>,
+    pub(crate) taken: LinkedList<Item>,
 }
 
 /// The rule, over what the channel holds and what all passes know.
-pub struct Lossless;
+pub(crate) struct Lossless;
 
 impl Protocol<Item, Traffic> for Lossless {
     ghost use Rattle.std.specs.Prelude.{[]};
@@ -40,7 +40,7 @@ impl Protocol<Item, Traffic> for Lossless {
 
 /// A split that makes room for one more seat: the pass that stands for all seats stands for one
 /// more. The new pass stands for none and is let go.
-pub struct Widen;
+pub(crate) struct Widen;
 
 impl Split<Traffic> for Widen {
     ghost use Rattle.std.specs.Prelude.{◌+◌, []};
@@ -52,7 +52,7 @@ impl Split<Traffic> for Widen {
 }
 
 /// A split that deals one seat to a new pass, which has sent and taken nothing.
-pub struct Deal;
+pub(crate) struct Deal;
 
 impl Split<Traffic> for Deal {
     ghost use Rattle.std.specs.Prelude.{◌-◌, []};
@@ -64,7 +64,7 @@ impl Split<Traffic> for Deal {
 }
 
 /// A join: the seats of one pass, and what they sent and took, go over to another.
-pub struct Gather;
+pub(crate) struct Gather;
 
 impl Join<Traffic> for Gather {
     ghost use Rattle.std.specs.Prelude.{◌+◌, ◌++◌, []};
@@ -76,7 +76,7 @@ impl Join<Traffic> for Gather {
 }
 
 /// What a send does: the item joins those that its seat sent.
-pub struct Sends;
+pub(crate) struct Sends;
 
 impl Outcome<Item, Traffic> for Sends {
     ghost use Rattle.std.specs.Prelude.{◌≡◌, ◌++◌, ◌∷◌, []};
@@ -92,7 +92,7 @@ impl Lesson<Item, Traffic> for Sends {
 }
 
 /// What a receive does: the item joins those that its seat took.
-pub struct Takes;
+pub(crate) struct Takes;
 
 impl Outcome<Item, Traffic> for Takes {
     ghost use Rattle.std.specs.Prelude.{◌≡◌, ◌++◌, ◌∷◌, []};
@@ -109,7 +109,7 @@ impl Lesson<Item, Traffic> for Takes {
 
 /// What a pass that stands for all seats learns: what they sent is what they took and what the
 /// channel holds.
-pub struct Whole;
+pub(crate) struct Whole;
 
 impl Lesson<Item, Traffic> for Whole {
     ghost use Rattle.dl_workers.specs.Lossless.{WholeIsLossless};

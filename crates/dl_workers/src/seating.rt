@@ -12,7 +12,7 @@ use crossbeam_channel::{Pass, RuledSender};
 use std::alloc::{AllocError, Global};
 
 /// Lets the first pass, which stands for one seat of one, stand for `more` seats more.
-pub fn widen(
+pub(crate) fn widen(
     sends: &RuledSender<Item, Traffic, Lossless>,
     whole: &mut Pass<Item, Traffic>,
     more: u32,
@@ -28,7 +28,7 @@ pub fn widen(
 }
 
 /// Deals seats of senders from a pass that stands for more seats than that.
-pub fn deal_senders(
+pub(crate) fn deal_senders(
     sends: &RuledSender<Item, Traffic, Lossless>,
     alloc: Global,
     whole: &mut Pass<Item, Traffic>,
@@ -52,7 +52,7 @@ pub fn deal_senders(
 }
 
 /// Deals the seats of takers from a pass that stands for just as many. It becomes the last of them.
-pub fn deal_takers(
+pub(crate) fn deal_takers(
     sends: &RuledSender<Item, Traffic, Lossless>,
     alloc: Global,
     mut whole: Pass<Item, Traffic>,

@@ -26,8 +26,8 @@ pub enum WorkerEnd {
 }
 
 /// Takes jobs from a queue until it is shut, and ends the batch of each as [`end_job`] does: by what the loader's
-/// source answers, or, where there is no memory for that, as one that failed for want of memory. The gate is told of
-/// each step.
+/// source answers, or, where an allocation fails, as one that failed for want of memory. The gate is told of each
+/// step.
 ///
 /// Where a batch can't be ended, or a cell of it refuses its outcome, the worker stops the loader, takes the jobs
 /// that are left until the queue is shut, and drops them.
@@ -63,8 +63,8 @@ pub fn work<L: LoaderName, S: Source, G: Gate, R: Wait>(
     unreachable!()
 }
 
-// Ends the batch of a job, between the two steps that the gate is told of, and answers whether each of its cells took
-// its outcome.
+/// Ends the batch of a job, between the two steps that the gate is told of, and answers whether each of its cells took
+/// its outcome.
 fn end_shown<L: LoaderName, S: Source, G: Gate>(
     rt: &impl Wait,
     alloc: Global,
@@ -88,7 +88,7 @@ fn end_shown<L: LoaderName, S: Source, G: Gate>(
     settled.refused == 0
 }
 
-// Takes jobs until the queue is shut, and drops them.
+/// Takes jobs until the queue is shut, and drops them.
 fn drop_rest<R: Wait>(rt: &R, queue: &JobQueue, taker: &mut Taker)
     requires { IsTakerOf queue.now taker.old }
     ensures seat { IsTakerOf queue.now taker.new }

@@ -230,7 +230,7 @@ fn run<R: Abort + Threads + Wait + Sync>(
     queue.finish(rt, senders, takers)
 }
 
-// The queue is shut once all jobs are sent.
+/// The queue is shut once all jobs are sent.
 static ALL_SENT: [Exchange; 4] = [
     Exchange {
         capacity: 4,
@@ -281,9 +281,9 @@ fn each_job_is_taken_once(rt: HostRuntime) {
     }
 }
 
-// Two senders shut the queue while the others send. A send that had begun by then may put its job behind the end
-// marks, where it is left, and so each queue has a place for the job of every other sender: one that found none
-// would wait for ever.
+/// Two senders shut the queue while the others send. A send that had begun by then may put its job behind the end
+/// marks, where it is left, and so each queue has a place for the job of every other sender: one that found none
+/// would wait for ever.
 static SHUT_MEANWHILE: [Exchange; 4] = [
     Exchange {
         capacity: 1,

@@ -15,7 +15,7 @@ fn job(rt: &impl Abort, alloc: Global, batch: u32) -> Job {
     Job { batch, keys }
 }
 
-// Capacities and numbers of senders and takers: the bounds, and what lies past them.
+/// Capacities and numbers of senders and takers: the bounds, and what lies past them.
 const NUMBERS: [(u32, u32, u32, Option<QueueFault>); 11] = [
     (0, 1, 1, Some(QueueFault::BadCapacity)),
     (1_025, 1, 1, Some(QueueFault::BadCapacity)),
@@ -140,8 +140,8 @@ fn one_job_left(rt: HostRuntime) {
     play(&rt, rt.alloc(), (2, 1, 1), &[Turn::Send(0, 0, None)], tally);
 }
 
-// Three jobs and two end marks fill the queue: a second `shut` that sent marks would wait for ever. Each sender's
-// jobs come back then, and the takers first get what is left, and then the end, which comes again.
+/// Three jobs and two end marks fill the queue: a second `shut` that sent marks would wait for ever. Each sender's
+/// jobs come back then, and the takers first get what is left, and then the end, which comes again.
 const FULL: [Turn; 13] = [
     Turn::Send(0, 0, None),
     Turn::Send(1, 1, None),
@@ -168,7 +168,7 @@ fn what_is_left_comes_before_the_end(rt: HostRuntime) {
     play(&rt, rt.alloc(), (3, 2, 2), &FULL, tally);
 }
 
-// Under `rt try --test --fail-alloc N` each growth of `new` is refused in turn.
+/// Under `rt try --test --fail-alloc N` each growth of `new` is refused in turn.
 #[test]
 fn a_refused_growth(rt: HostRuntime) {
     let alloc = rt.alloc();

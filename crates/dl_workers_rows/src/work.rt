@@ -192,14 +192,14 @@ fn a_worker_beside_its_caller(rt: HostRuntime) {
     }
 }
 
-// How a worker may end where a growth is refused, and what the caller then waits for.
+/// How a worker may end where a growth is refused, and what the caller then waits for.
 static STARVED: [(WorkerEnd, Result<&str, Stopped>); 3] = [
     (WorkerEnd::Done { batches: 1 }, Ok(ADA)),
     (WorkerEnd::Done { batches: 1 }, Ok("memory")),
     (WorkerEnd::GaveUp { batch: 0 }, Err(Stopped)),
 ];
 
-// Under `rt try --test --fail-alloc N` each growth is refused in turn. Where that isn't one of `work` the test ends.
+/// Under `rt try --test --fail-alloc N` each growth is refused in turn. Where that isn't one of `work` the test ends.
 #[test]
 fn a_refused_growth(rt: HostRuntime) {
     let alloc = rt.alloc();

@@ -35,28 +35,28 @@ impl<'a> Model for BatchView<'a> {
 }
 
 impl<'a> BatchView<'a> {
-    /// The key and the cell of each member, in order. It takes no memory.
+    /// The key and the cell of each member, in order. It does not allocate.
     pub fn members(&self) -> Zip<Iter<'a, FetchKey>, Iter<'a, u32>>
         ensures { zip (iter_rest (zip_first result)) (iter_rest (zip_second result)) ≡ self.now.members }
     {
         self.keys.iter().zip(self.cells)
     }
 
-    /// The keys of the members, in order. It takes no memory.
+    /// The keys of the members, in order. It does not allocate.
     pub fn keys(&self) -> &'a [FetchKey]
         ensures { result.now ≡ map (λ m. m.0) self.now.members }
     {
         self.keys
     }
 
-    /// The cells of the members, in order. It takes no memory.
+    /// The cells of the members, in order. It does not allocate.
     pub fn cells(&self) -> &'a [u32]
         ensures { result.now ≡ map (λ m. m.1) self.now.members }
     {
         self.cells
     }
 
-    /// How far the batch has come. It takes no memory.
+    /// How far the batch has come. It does not allocate.
     pub fn state(&self) -> BatchState
         ensures { result ≡ self.now.state }
     {
@@ -65,7 +65,7 @@ impl<'a> BatchView<'a> {
 }
 
 impl Desk {
-    /// The cell that is held for the key, if one is. It takes no memory.
+    /// The cell that is held for the key, if one is. It does not allocate.
     pub fn held(&self, key: &FetchKey) -> Option<u32>
         ensures { (history : List Atom) → StandsFor self.now.book history → result ≡ held history key.now }
     {
@@ -77,7 +77,7 @@ impl Desk {
         }
     }
 
-    /// The batch of a number, if it was begun. It takes no memory.
+    /// The batch of a number, if it was begun. It does not allocate.
     pub fn batch(&self, number: u32) -> Option<BatchView<'_>>
         ensures none { IfNone result ((history : List Atom) → StandsFor self.now.book history → begun history ≤ number) }
         ensures some { IfSome result (λ view. (history : List Atom) → StandsFor self.now.book history

@@ -39,7 +39,7 @@ impl Desk {
         Ok(replies)
     }
 
-    /// Prepares the load of a key: makes its growths, and changes nothing that can be seen.
+    /// Prepares the load of a key: makes its allocations, and changes nothing that can be seen.
     /// [`make_prepared`](Desk::make_prepared) then makes the call.
     ///
     /// # Errors
@@ -146,7 +146,7 @@ impl Desk {
         Ok(reply)
     }
 
-    /// Prepares a dispatch, as [`prepare_load`](Desk::prepare_load) does a load. The error is want of memory.
+    /// Prepares a dispatch, as [`prepare_load`](Desk::prepare_load) does a load. The error is a failed allocation.
     pub fn prepare_dispatch(&mut self, alloc: Global) -> Result<Vec<Job>, AllocError>
         ensures book { self.new.book ≡ self.old.book }
         ensures rules { self.new.prepared.rules ≡ self.old.book.rules }
@@ -161,8 +161,8 @@ impl Desk {
         Ok(jobs)
     }
 
-    /// Sends every batch that was begun and not sent, in order, each as a job. The error is want
-    /// of memory.
+    /// Sends every batch that was begun and not sent, in order, each as a job. The error is a
+    /// failed allocation.
     pub fn dispatch(&mut self, alloc: Global) -> Result<Vec<Job>, AllocError>
         ensures rules { self.new.book.rules ≡ self.old.book.rules }
         ensures reply { IfOk result (λ sent. (history : List Atom) → StandsFor self.old.book history → sent.items ≡ jobs history) }
@@ -175,7 +175,7 @@ impl Desk {
         Ok(jobs)
     }
 
-    /// Forgets the key, if it is held (DataLoader: `clear`). It takes no memory.
+    /// Forgets the key, if it is held (DataLoader: `clear`). It does not allocate.
     pub fn clear(&mut self, key: &FetchKey)
         ensures rules { self.new.book.rules ≡ self.old.book.rules }
         ensures stands { (history : List Atom) → StandsFor self.old.book history
@@ -186,7 +186,7 @@ impl Desk {
         self.shown_memo = self.memo.len();
     }
 
-    /// Forgets all keys (DataLoader: `clearAll`). It takes no memory.
+    /// Forgets all keys (DataLoader: `clearAll`). It does not allocate.
     pub fn clear_all(&mut self)
         ensures rules { self.new.book.rules ≡ self.old.book.rules }
         ensures stands { (history : List Atom) → StandsFor self.old.book history → StandsFor self.new.book (after self.old.book.rules history ClearsAll) }

@@ -14,7 +14,7 @@ use crate::memo_and_batches;
 use crate::reply::End;
 
 impl Desk {
-    /// The batch of a number, where it may end. It takes no memory.
+    /// The batch of a number, where it may end. It does not allocate.
     ///
     /// # Errors
     /// `NoBatch`, `NotSent`, `SettledBefore`, in this order.
@@ -46,7 +46,7 @@ impl Desk {
     }
 
     /// Ends a batch that may end. A failed batch's keys are forgotten where the memo still holds the
-    /// batch's own cell. It takes no memory.
+    /// batch's own cell. It does not allocate.
     pub fn end(&mut self, number: u32, end: End)
         requires { MayEndIn self.old.book number }
         ensures rules { self.new.book.rules ≡ self.old.book.rules }
@@ -102,7 +102,7 @@ impl Desk {
     }
 
     /// Fails a batch as a whole: its keys are forgotten where the memo still holds the batch's own
-    /// cell. It takes no memory.
+    /// cell. It does not allocate.
     ///
     /// # Errors
     /// `NoBatch`, `NotSent`, `SettledBefore`, in this order.

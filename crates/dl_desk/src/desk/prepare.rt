@@ -1,4 +1,4 @@
-//! Calls in two steps: the first makes the growths, the second can't fail.
+//! Calls in two steps: the first makes the allocations, the second can't fail.
 
 ghost use Rattle.std.specs.Prelude.{◌≡◌, List, None, IfOk, OnOk, IfErr};
 ghost use Rattle.dl_desk.specs.History.{Atom};
@@ -14,7 +14,7 @@ use crate::reply::DeskReply;
 use std::alloc::{AllocError, Global};
 
 impl Desk {
-    /// Makes the growths of [`load_many`](Desk::load_many), and changes nothing that can be seen.
+    /// Makes the allocations of [`load_many`](Desk::load_many), and changes nothing that can be seen.
     ///
     /// # Errors
     /// As `load_many`.
@@ -31,7 +31,7 @@ impl Desk {
         })
     }
 
-    /// Makes the growths of [`prime`](Desk::prime), and changes nothing that can be seen.
+    /// Makes the allocations of [`prime`](Desk::prime), and changes nothing that can be seen.
     ///
     /// # Errors
     /// As `prime`.
@@ -48,8 +48,8 @@ impl Desk {
         })
     }
 
-    /// Makes the growths of [`dispatch`](Desk::dispatch), and changes nothing that can be seen.
-    /// The error is want of memory.
+    /// Makes the allocations of [`dispatch`](Desk::dispatch), and changes nothing that can be seen.
+    /// The error is a failed allocation.
     pub fn ready_dispatch(&mut self, alloc: Global) -> Result<Ready, AllocError>
         ensures book { self.new.book ≡ self.old.book }
         ensures ready { IfOk result (IsReadyFor self.new Sends) }
@@ -60,7 +60,7 @@ impl Desk {
         })
     }
 
-    /// Makes the call that is ready, and answers its reply. It takes no memory.
+    /// Makes the call that is ready, and answers its reply. It does not allocate.
     pub fn commit(&mut self, ready: Ready) -> DeskReply
         requires { (call : DeskCall) × IsReadyFor self.old call ready }
         ensures told { result ≡ ready.reply }

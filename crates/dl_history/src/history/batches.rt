@@ -34,14 +34,14 @@ impl<'a> EndedBatch<'a> {
         EndedBatch { keys, end }
     }
 
-    /// The keys of its members, in order. It takes no memory.
+    /// The keys of its members, in order. It does not allocate.
     pub fn keys(&self) -> &'a [FetchKey]
         ensures { result.now ≡ self.now.keys }
     {
         self.keys
     }
 
-    /// Whether it was settled; else it failed. It takes no memory.
+    /// Whether it was settled; else it failed. It does not allocate.
     pub fn is_settled(&self) -> bool
         ensures { MatchBool result (self.now.end ≡ Settled) (self.now.end ≡ Failed) }
     {
@@ -79,7 +79,7 @@ impl<'a> Batches<'a> {
         Batches { history }
     }
 
-    /// The batch of a number, and none past the last one. It takes no memory.
+    /// The batch of a number, and none past the last one. It does not allocate.
     pub fn get(&self, batch: u32) -> Option<EndedBatch<'a>>
         ensures begun { IfSome result (λ b. batch < begun (atoms (log self.now))) }
         ensures keys { IfSome result (λ b. b.keys ≡ keys_of (atoms (log self.now)) batch) }

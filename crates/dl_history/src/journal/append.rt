@@ -20,7 +20,7 @@ use std::sync::ledger::Share;
 /// Why a journal takes no event.
 #[derive(Clone, Copy, Debug, PartialEq, Eq)]
 pub enum AppendFault {
-    /// A growth was refused.
+    /// An allocation failed.
     OutOfMemory,
     /// The log has another event at the next place. It never comes: who appends holds the lock. No proof excludes it,
     /// since none knows that a cell of the log is empty.
@@ -37,7 +37,7 @@ impl From<AllocError> for AppendFault {
 
 impl<L: LoaderName> Journal<L> {
     /// Adds an event, which the share of its caller counts, with as many cells as it begins, and answers what the
-    /// caller knows of it. All growths are made first, then the event is stored in the log, and after that nothing can
+    /// caller knows of it. All allocations are made first, then the event is stored in the log, and after that nothing can
     /// be refused.
     ///
     /// # Errors
@@ -78,8 +78,8 @@ impl<L: LoaderName> Journal<L> {
         Ok(stored)
     }
 
-    // Makes the growths of an event at a place that begins so many cells from one on, and answers readers of the event's
-    // cell and of those cells, which know nothing of them. The error is want of memory.
+    /// Makes the allocations of an event at a place that begins so many cells from one on, and answers readers of the event's
+    /// cell and of those cells, which know nothing of them. The error is a failed allocation.
     #[inline(always)]
     fn grow(
         &mut self,
@@ -116,7 +116,7 @@ impl<L: LoaderName> Journal<L> {
         place as u16
     }
 
-    // The next cell, from which on there are numbers for so many cells.
+    /// The next cell, from which on there are numbers for so many cells.
     fn next_cell(&self, rows: &Rows<L>, cells: u32) -> u32
         requires { length self.now.cells + cells ≤ L.service.rules.limits.max_cells }
         ensures first { result ≡ length self.now.cells }
@@ -129,7 +129,7 @@ impl<L: LoaderName> Journal<L> {
     }
 }
 
-// Readers, in order, of so many cells from one on, which know nothing of them. Most calls begin no cell.
+/// Readers, in order, of so many cells from one on, which know nothing of them. Most calls begin no cell.
 #[inline(always)]
 fn blank_readers(
     alloc: Global,

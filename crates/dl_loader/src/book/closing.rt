@@ -39,7 +39,7 @@ impl<L: LoaderName> Book<L> {
         None
     }
 
-    // Whether a batch has ended, if it was begun.
+    /// Whether a batch has ended, if it was begun.
     fn has_ended(&self, batch: u32) -> Option<bool>
         ensures begun { IfSome result (λ ended. batch < begun (atoms (log self.now.history))) }
         ensures ended { IfSome result (λ ended. MatchBool ended (HasEnd self.now.history batch) (end_of (atoms (log self.now.history)) batch ≡ None)) }
@@ -58,7 +58,7 @@ impl<L: LoaderName> Book<L> {
         self.journal.audit(all);
     }
 
-    /// Takes the book apart: the desk and the journal, which are those of the history. It takes no memory.
+    /// Takes the book apart: the desk and the journal, which are those of the history. It does not allocate.
     pub(crate) fn into_parts(self) -> (Desk, Journal<L>)
         ensures kept { kept result.1.history result.0.book result.1.cells ≡ kept_of self }
     {

@@ -90,7 +90,7 @@ impl<L: LoaderName> Book<L> {
     }
 }
 
-// The cells of a batch's members, in order, where the batch may end and these are its keys.
+/// The cells of a batch's members, in order, where the batch may end and these are its keys.
 fn cells_of<'a>(desk: &'a Desk, batch: u32, keys: &[FetchKey]) -> Result<&'a [u32], CallFault>
     ensures cells { IfOk result (λ cells. (history : List Atom) → StandsFor desk.now.book history → cells.now ≡ map (λ m. m.1) (members history batch)) }
     ensures may { OnOk result (MayEndIn desk.now.book batch) }
@@ -104,7 +104,7 @@ fn cells_of<'a>(desk: &'a Desk, batch: u32, keys: &[FetchKey]) -> Result<&'a [u3
     Ok(view.cells())
 }
 
-// The call that ends a batch by what its source answered. The error is want of memory.
+/// The call that ends a batch by what its source answered. The error is a failed allocation.
 fn end_call(alloc: Global, batch: u32, answer: &BatchAnswer) -> Result<Call, AllocError>
     ensures { IfOk result (λ call. call ≡ end_by batch answer.now) }
 {
@@ -120,7 +120,7 @@ fn end_call(alloc: Global, batch: u32, answer: &BatchAnswer) -> Result<Call, All
     }
 }
 
-// How the desk ends a batch by what its source answered.
+/// How the desk ends a batch by what its source answered.
 fn end_as(answer: &BatchAnswer) -> End
     ensures { result ≡ end_as answer.now }
 {
@@ -130,7 +130,7 @@ fn end_as(answer: &BatchAnswer) -> End
     }
 }
 
-// The fault of a batch that is given up.
+/// The fault of a batch that is given up.
 fn batch_fault(give_up: GiveUp) -> BatchFault
     ensures { result ≡ fault_of give_up }
 {

@@ -134,7 +134,7 @@ impl<L: LoaderName> Book<L> {
     }
 }
 
-// The end that the event at a place gives to a cell. The error is want of memory.
+/// The end that the event at a place gives to a cell. The error is a failed allocation.
 fn new_ending(alloc: Global, at: u16, outcome: &Outcome) -> Result<Box<Ending>, AllocError>
     ensures { IfOk result (λ ending. ending.value ≡ record { at = at; outcome = outcome.now }) }
 {

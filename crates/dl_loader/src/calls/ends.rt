@@ -74,7 +74,7 @@ impl<L: LoaderName> Loader<L> {
         }
     }
 
-    // Ends a batch under the lock by what was fetched, and wakes those that wait for its cells.
+    /// Ends a batch under the lock by what was fetched, and wakes those that wait for its cells.
     fn settle_now<S: Source>(
         &self,
         rt: &impl Wait,
@@ -99,7 +99,7 @@ impl<L: LoaderName> Loader<L> {
         Ok(settled)
     }
 
-    // Fails a batch under the lock, and wakes those that wait for its cells.
+    /// Fails a batch under the lock, and wakes those that wait for its cells.
     fn fail_now(
         &self,
         rt: &impl Wait,

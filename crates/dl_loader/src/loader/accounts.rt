@@ -13,7 +13,7 @@ use dl_history::{Account, History, LoaderName, Rows};
 use std::alloc::{AllocError, Global};
 use std::sync::ledger::Share;
 
-/// The accounts of the passes, in order. The error is want of memory.
+/// The accounts of the passes, in order. The error is a failed allocation.
 pub(crate) fn accounts_of<L: LoaderName>(
     alloc: Global,
     passes: &[Pass<L>],
@@ -27,7 +27,7 @@ pub(crate) fn accounts_of<L: LoaderName>(
     Ok(accounts)
 }
 
-/// The history of a loader that may be closed with these passes, of which these are the accounts. It takes no memory.
+/// The history of a loader that may be closed with these passes, of which these are the accounts. It does not allocate.
 pub(crate) fn history_of<L: LoaderName>(
     rows: Rows<L>,
     mut book: Book<L>,
@@ -49,7 +49,7 @@ pub(crate) fn history_of<L: LoaderName>(
     History::of(rows, desk, journal, accounts)
 }
 
-// The parts of the ledger of all passes, of which each entry tells what the book has.
+/// The parts of the ledger of all passes, of which each entry tells what the book has.
 fn gather<L: LoaderName>(book: &Book<L>, passes: Vec<Pass<L>>) -> Option<Share<L>>
     ensures fits { Every (Fits L.service.callers book.now.history book.now.cells) (accounts_of passes.items) }
     ensures parts { MatchOption result (length passes.items ≡ 0) (λ all. all.parts ≡ length passes.items) }
@@ -63,7 +63,7 @@ fn gather<L: LoaderName>(book: &Book<L>, passes: Vec<Pass<L>>) -> Option<Share<L
     all
 }
 
-// Parts of the ledger with some more.
+/// Parts of the ledger with some more.
 fn joined<L: LoaderName>(all: Option<Share<L>>, share: Share<L>) -> Share<L>
     ensures parts { MatchOption all (result.parts ≡ share.parts) (λ all. result.parts ≡ all.parts + share.parts) }
     ensures amount { MatchOption all (result.amount ≡ share.amount) (λ all. result.amount ≡ all.amount + share.amount) }
@@ -77,7 +77,7 @@ fn joined<L: LoaderName>(all: Option<Share<L>>, share: Share<L>) -> Share<L>
     }
 }
 
-// The parts of the ledger, if there are any, have counted as many calls as there are events.
+/// The parts of the ledger, if there are any, have counted as many calls as there are events.
 fn count<L: LoaderName>(book: &mut Book<L>, all: Option<Share<L>>)
     requires parts { L.parts ≡ L.service.callers }
     requires all { MatchOption all (L.service.callers ≡ 0) (λ all. all.parts ≡ L.service.callers) }

@@ -56,7 +56,7 @@ impl<L: LoaderName> Loader<L> {
     }
 }
 
-// The accounts of the passes, where the loader may be closed with them.
+/// The accounts of the passes, where the loader may be closed with them.
 fn accounts<L: LoaderName>(
     alloc: Global,
     rows: &Rows<L>,
@@ -73,7 +73,7 @@ fn accounts<L: LoaderName>(
     Ok(accounts_of(alloc, passes)?)
 }
 
-// Whether the loader may be closed with these passes, but for want of memory.
+/// Whether the loader may be closed with these passes, but for a failed allocation.
 fn check<L: LoaderName>(
     rows: &Rows<L>,
     callers: u32,
@@ -103,7 +103,7 @@ fn check<L: LoaderName>(
     }
 }
 
-// How many of the first callers have exactly one of the passes.
+/// How many of the first callers have exactly one of the passes.
 fn present<L: LoaderName>(callers: u32, passes: &[Pass<L>]) -> u32
     ensures { result ≡ present callers (accounts_of passes.now) }
 {
@@ -116,7 +116,7 @@ fn present<L: LoaderName>(callers: u32, passes: &[Pass<L>]) -> u32
     got
 }
 
-// How many of the passes are the caller's.
+/// How many of the passes are the caller's.
 fn passes_of<L: LoaderName>(caller: u32, passes: &[Pass<L>]) -> usize
     ensures { result ≡ accounts_by caller (accounts_of passes.now) }
 {
@@ -129,7 +129,7 @@ fn passes_of<L: LoaderName>(caller: u32, passes: &[Pass<L>]) -> usize
     own
 }
 
-// The least caller whose pass has seen more than so many events, and the front of that pass.
+/// The least caller whose pass has seen more than so many events, and the front of that pass.
 fn behind<L: LoaderName>(len: usize, passes: &[Pass<L>]) -> Option<(u32, u32)>
     ensures some { IfSome result (λ found. IsBehind len (accounts_of passes.now) found.0 found.1) }
     ensures none { IfNone result (NoneBehind len (accounts_of passes.now)) }
@@ -141,7 +141,7 @@ fn behind<L: LoaderName>(len: usize, passes: &[Pass<L>]) -> Option<(u32, u32)>
     found
 }
 
-// What was found, or the caller of one pass more with its front, where that is the lesser one.
+/// What was found, or the caller of one pass more with its front, where that is the lesser one.
 fn earlier(len: usize, found: Option<(u32, u32)>, caller: u32, front: u32) -> Option<(u32, u32)>
     ensures { result ≡ earlier len found caller front }
 {

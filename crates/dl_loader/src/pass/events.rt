@@ -24,7 +24,7 @@ use std::alloc::Global;
 
 impl<L: LoaderName> Pass<L> {
     /// Adds an event of this caller to the journal, with as many cells as it begins, and to the entries, and makes
-    /// room for its tickets. All growths are made first, and once the log has the event nothing can be refused.
+    /// room for its tickets. All allocations are made first, and once the log has the event nothing can be refused.
     ///
     /// # Errors
     /// `OutOfMemory`; `LogRefused` where the log's cell has another event. The journal and the pass then tell
@@ -53,7 +53,7 @@ impl<L: LoaderName> Pass<L> {
         self.add_event(alloc, rows, journal, event, cells)
     }
 
-    // The same, where the pass has room.
+    /// The same, where the pass has room.
     #[inline(always)]
     fn add_event(
         &mut self,
@@ -211,7 +211,7 @@ impl<L: LoaderName> Pass<L> {
     }
 }
 
-// The desk's reply to a prime, as the history has it.
+/// The desk's reply to a prime, as the history has it.
 fn prime_reply(reply: DeskPrime) -> Reply
     ensures { result ≡ primed reply }
 {
@@ -221,7 +221,7 @@ fn prime_reply(reply: DeskPrime) -> Reply
     }
 }
 
-// How many cells a prime begins.
+/// How many cells a prime begins.
 fn cells_primed(reply: DeskPrime) -> u32
     ensures { result ≡ cells_primed reply }
 {
@@ -231,7 +231,7 @@ fn cells_primed(reply: DeskPrime) -> u32
     }
 }
 
-// So many cells took their outcome, where so many of them refused it.
+/// So many cells took their outcome, where so many of them refused it.
 fn settled<L: LoaderName>(rows: &Rows<L>, cells: usize, refused: usize) -> Settled
     requires few { cells ≤ L.service.rules.limits.max_cells }
     requires among { refused ≤ cells }

@@ -5,7 +5,7 @@ use Rattle.dl_scope.specs.declared.fault.ScopeFault.{ScopeFault}
 use Rattle.dl_scope.specs.declared.fault.ScopeFault.TheVariants.{NoPlans, TooManyPlans, BadWorkers, Start, Queue, Run, Stopped, Close, Unfetched, OutOfMemory}
 use Rattle.dl_scope.specs.declared.gathering.Gathered.{Gathered}
 use Rattle.dl_scope.specs.declared.jobs.PlanRun.{PlanRun}
-use Rattle.dl_scope.specs.declared.plan.StepAnswer.{StepAnswer}
+use Rattle.dl_scope.specs.declared.step_answer.StepAnswer.{StepAnswer}
 use Rattle.dl_scope.specs.declared.steps.Given.{Given}
 use Rattle.dl_scope.specs.declared.threads.Runs.{Runs}
 

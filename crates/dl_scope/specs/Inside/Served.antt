@@ -11,8 +11,8 @@ use Rattle.dl_scope.specs.Headline.{TellsEnd}
 use Rattle.dl_scope.specs.Inside.Kept.{PlanKept, WorkerKept}
 use Rattle.dl_scope.specs.declared.jobs.PlanJob.{PlanJob}
 use Rattle.dl_scope.specs.declared.jobs.WorkerJob.{WorkerJob}
-use Rattle.dl_scope.specs.declared.plan.Plan.{Plan}
-use Rattle.dl_scope.specs.declared.plan.StepAnswer.{StepAnswer}
+use Rattle.dl_terms.specs.declared.plan.Plan.{Plan}
+use Rattle.dl_scope.specs.declared.step_answer.StepAnswer.{StepAnswer}
 use Rattle.dl_scope.specs.declared.threads.Runs.{Runs}
 
 -- ---- by their passes
