@@ -1,5 +1,5 @@
 -- The calls on batches as C makes them.
-use Rattle.std.specs.Prelude.{◌≡◌, ℕ, ◌<◌, ◌≤◌, ◌×◌, ◌⊎◌, List, [], ◌∷◌, length, Option, slice_get, IfSome, nat_le, if◌then◌else◌}
+use Rattle.std.specs.Prelude.{◌≡◌, ℕ, ◌<◌, ◌≤◌, ◌⊎◌, List, [], ◌∷◌, length, Option, slice_get, IfSome, nat_le, if◌then◌else◌}
 use Rattle.dl_desk.specs.Key.{Key}
 use Rattle.dl_desk.specs.History.{Atom, begun, members, jobs, jobs_from}
 use Rattle.dl_desk.specs.Calls.{DeskCall, Sends, Settles, Fails, refusal, after}
@@ -22,7 +22,7 @@ pub record AnswersDispatch (answer : Dispatched) (old new : BatchBook) : Type 0 
 
 -- The answer to an end of a batch is the code of what the history refuses, whole.
 pub record AnswersEnd (call : DeskCall) (code : ℕ) (old new : BatchBook) : Type 0 where
-  pub code : (history : List Atom) → StandsFor old history → code ≡ code_by (refusal old.rules history call)
+  pub told : (history : List Atom) → StandsFor old history → code ≡ code_by (refusal old.rules history call)
   pub made : code ≡ DONE → Makes old call new
   pub refused : DONE < code → new ≡ old
 
@@ -38,6 +38,6 @@ pub record AnswersMember (b i : ℕ) (answer : Loaded) (old new : BatchBook) : T
 -- The answer to a look-up of the texts of a member's key, which changes nothing else.
 pub record AnswersKey (b i code : ℕ) (before texts : KeyTexts) (old new : BatchBook) : Type 0 where
   pub kept : new ≡ old
-  pub code : (history : List Atom) → StandsFor old history → code ≡ (member_answer history b i).code
+  pub told : (history : List Atom) → StandsFor old history → code ≡ (member_answer history b i).code
   pub spelled : code ≡ DONE → (history : List Atom) → StandsFor old history → IfSome (slice_get (members history b) i) (λ m. Spells texts m.0)
   pub none : DONE < code → texts ≡ before

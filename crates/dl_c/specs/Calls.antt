@@ -1,15 +1,14 @@
 -- The calls of a desk as C makes them: what each answers, and the book that it leaves.
-use Rattle.std.specs.Prelude.{◌≡◌, ℕ, ◌<◌, ◌≤◌, ◌×◌, ◌⊎◌, List, [], ◌∷◌, map, length, Option, Some, None}
-use Rattle.std.specs.All.{All}
+use Rattle.std.specs.Prelude.{◌≡◌, ℕ, ◌<◌, ◌≤◌, ◌⊎◌, List, [], ◌∷◌, map, length, Option, Some, None}
 use Rattle.dl_desk.specs.Key.{Key}
 use Rattle.dl_desk.specs.History.{Atom, load_reply, load_replies, prime_reply, held}
 use Rattle.dl_desk.specs.Calls.{DeskCall, Loads, Primes, Clears, refusal, after}
 use Rattle.dl_desk.specs.BatchBook.{BatchBook, StandsFor}
-use Rattle.dl_c.specs.declared.codes.TheConstants.{DONE, FRESH, OUT_OF_MEMORY, BAD_LENGTHS}
+use Rattle.dl_c.specs.declared.codes.TheConstants.{DONE, FRESH, OUT_OF_MEMORY}
 use Rattle.dl_c.specs.declared.answers.Loaded.{Loaded}
 use Rattle.dl_c.specs.Codes.{code_by}
 use Rattle.dl_c.specs.Answers.{loaded_as, primed_as, held_as, refused_as}
-use Rattle.dl_c.specs.Keys.{IsKeyText, IsKeyFault, cut, total}
+use Rattle.dl_c.specs.Keys.{IsKeyText, IsKeyFault}
 
 -- A call is made. Whatever history the book stood for, it refuses nothing, and the new book stands for the one after the call.
 pub record Makes (old : BatchBook) (call : DeskCall) (new : BatchBook) : Type 0 where

@@ -1,5 +1,5 @@
 -- What a call does to the handle that C keeps.
-use Rattle.std.specs.Prelude.{◌≡◌, ◌×◌, true, false}
+use Rattle.std.specs.Prelude.{◌≡◌, true, false}
 use Rattle.dl_desk.specs.BatchBook.{BatchBook}
 use Rattle.dl_c.specs.declared.handle.Handle.{Handle}
 

@@ -1,5 +1,5 @@
 -- Opening a desk.
-use Rattle.std.specs.Prelude.{◌≡◌, ℕ, ◌<◌, ◌×◌, ◌⊎◌, ¬◌, [], true, false}
+use Rattle.std.specs.Prelude.{◌≡◌, ℕ, ◌<◌, ◌⊎◌, [], true, false}
 use Rattle.dl_desk.specs.Limits.{Limits, AreLimits, mixed, largest_limit}
 use Rattle.dl_desk.specs.BatchBook.{StandsFor}
 use Rattle.dl_c.specs.declared.codes.TheConstants.{DONE, OUT_OF_MEMORY, BAD_LIMIT, OPEN}
@@ -13,7 +13,7 @@ limits_of max_batch max_cells = record { max_batch = max_batch; max_cells = max_
 -- A new desk: its handle is open, and its history is empty.
 pub record IsNew (limits : Limits) (h : Handle) : Type 0 where
   pub is_open : h.is_open ≡ true
-  pub limits : AreLimits limits
+  pub are_limits : AreLimits limits
   pub rules : (book_of h).rules ≡ mixed limits
   pub stands : StandsFor (book_of h) []
 

@@ -1,5 +1,5 @@
 -- The load of several keys as C makes it.
-use Rattle.std.specs.Prelude.{◌≡◌, ℕ, ◌+◌, ◌<◌, ◌≤◌, ◌×◌, ◌⊎◌, ¬◌, List, [], ◌∷◌, length, map, take, drop}
+use Rattle.std.specs.Prelude.{◌≡◌, ℕ, ◌+◌, ◌<◌, ◌≤◌, ◌⊎◌, List, [], ◌∷◌, length, map, take, drop}
 use Rattle.std.specs.List.{All}
 use Rattle.dl_desk.specs.Key.{Key}
 use Rattle.dl_desk.specs.History.{Atom, load_replies}

@@ -1,10 +1,10 @@
 //! Answers as C sees them.
 
 ghost use Rattle.std.specs.Prelude.{◌≡◌};
-ghost use Rattle.dl_c.specs.Answers.{loaded_as, primed_as, held_as, refused_as};
+ghost use Rattle.dl_c.specs.Answers.{loaded_as, primed_as, held_as, refused_as, sent_as};
 
-use crate::codes::{FRESH, HIT};
-use dl_desk::{DeskPrime, LoadReply};
+use crate::codes::{DONE, FRESH, HIT};
+use dl_desk::{DeskPrime, Job, LoadReply};
 
 /// The answer to a call on a cell: a code, and where the code says so a cell and a batch, else zeros.
 #[repr(C)]
@@ -87,6 +87,22 @@ impl Loaded {
 }
 
 impl Dispatched {
+    /// The batches of these jobs are sent.
+    #[tactic(auto, using(crate::proofs::Rows::first_of_some, crate::proofs::Rows::first_of_none))]
+    pub fn sent(jobs: &[Job]) -> Dispatched
+        ensures { result ≡ sent_as jobs.now }
+    {
+        let first = match jobs.first() {
+            Some(job) => job.batch,
+            None => 0,
+        };
+        Dispatched {
+            code: DONE,
+            first,
+            count: jobs.len(),
+        }
+    }
+
     /// No batch is sent, for the reason that the code names.
     pub fn refused(code: u32) -> Dispatched
         ensures { result ≡ record { code = code; first = 0; count = 0 } }

@@ -33,15 +33,12 @@ pub extern "C" fn dl_desk_dispatch(alloc: Global, handle: &mut Handle) -> Dispat
     answer
 }
 
+#[tactic(auto, using(crate::proofs::Rows::sent_in_a_row))]
 fn dispatch(alloc: Global, desk: &mut Desk) -> Dispatched
     ensures { AnswersDispatch result desk.old.book desk.new.book }
 {
     match desk.dispatch(alloc) {
-        Ok(jobs) => Dispatched {
-            code: DONE,
-            first: jobs.first().map_or(0, |job| job.batch),
-            count: jobs.len(),
-        },
+        Ok(jobs) => Dispatched::sent(&jobs),
         Err(_) => Dispatched::refused(OUT_OF_MEMORY),
     }
 }

@@ -4,6 +4,7 @@ ghost use Rattle.std.specs.Prelude.{◌≡◌, ◌<◌, ◌≤◌, ◌∷◌, []
 ghost use Rattle.dl_desk.specs.History.{Atom, load_reply, prime_reply};
 ghost use Rattle.dl_desk.specs.Calls.{Loads, Primes, Clears, ClearsAll};
 ghost use Rattle.dl_desk.specs.BatchBook.{StandsFor};
+ghost use Rattle.dl_c.specs.declared.codes.TheConstants.{FRESH};
 ghost use Rattle.dl_c.specs.Answers.{loaded_as, primed_as, refused_as};
 ghost use Rattle.dl_c.specs.Calls.{AnswersLoad, AnswersPrime, AnswersHeld, AnswersClear, Makes, Refuses};
 ghost use Rattle.dl_c.specs.Handles.{OnDesk, OnClosed};

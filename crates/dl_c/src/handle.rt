@@ -25,6 +25,10 @@ impl Model for Held {
     ghost also_owns = { λ h. owned_if h.filled (desk_at h.alloc h.at h.desk) };
 }
 
+// A desk may cross threads, and a pointer alone says nothing of it. So a host may make the calls of a handle from one thread
+// after another.
+unsafe impl Send for Held {}
+
 impl Held {
     /// A place with no desk.
     fn none(alloc: Global) -> Held
@@ -38,8 +42,7 @@ impl Held {
 
     /// A place with the desk of a box.
     fn hold(parts: BoxParts<Desk, Global>) -> Held
-        ensures filled { result.filled ≡ true }
-        ensures desk { result.desk ≡ parts.value }
+        ensures { (result.filled ≡ true) × (result.desk ≡ parts.value) }
     {
         let BoxParts { ptr, alloc } = parts;
         Held {

@@ -1,6 +1,6 @@
 //! Opening a desk, and closing it.
 
-ghost use Rattle.std.specs.Prelude.{◌≡◌, ◌×◌, true, false};
+ghost use Rattle.std.specs.Prelude.{◌≡◌, true, false};
 ghost use Rattle.dl_c.specs.Handles.{OnClosed};
 ghost use Rattle.dl_c.specs.Lives.{AnswersOpen, limits_of};
 

@@ -42,6 +42,7 @@ pub extern "C" fn dl_desk_load_many(
     code
 }
 
+#[tactic(auto, using(crate::proofs::Cuts::length_cut))]
 fn load_many(
     alloc: Global,
     desk: &mut Desk,
@@ -67,11 +68,15 @@ fn keys_of(alloc: Global, texts: &[u8], lengths: &[KeyLengths]) -> Result<Vec<Fe
     ensures whole { OnOk result (total lengths.now ≡ length texts.now) }
     ensures fault { IfErr result (λ code. IsCutFault texts.now lengths.now code) }
 {
-    let mut keys = Vec::with_capacity(alloc, lengths.len()).map_err(|_| OUT_OF_MEMORY)?;
+    let Ok(mut keys) = Vec::with_capacity(alloc, lengths.len()) else {
+        return Err(OUT_OF_MEMORY);
+    };
     let mut rest = texts;
     for key_lengths in lengths {
         let (key, after) = next_key(alloc, rest, *key_lengths)?;
-        keys.push(key).map_err(|_| OUT_OF_MEMORY)?;
+        let Ok(()) = keys.push(key) else {
+            return Err(OUT_OF_MEMORY);
+        };
         rest = after;
     }
     if rest.is_empty() {
@@ -119,7 +124,7 @@ fn load_keys(alloc: Global, desk: &mut Desk, keys: &[FetchKey], answers: &mut [L
 fn write(replies: &[LoadReply], answers: &mut [Loaded])
     ensures { length replies.now ≡ length answers.old → answers.new ≡ map loaded_as replies.now }
 {
-    for (answer, reply) in answers.iter_mut().zip(replies) {
-        *answer = Loaded::of_load(*reply);
+    for place in 0..replies.len().min(answers.len()) {
+        answers[place] = Loaded::of_load(replies[place]);
     }
 }

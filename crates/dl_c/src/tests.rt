@@ -1,12 +1,8 @@
 //! The exports as a C program calls them: the worked rows of DataLoader's documentation, and an answer for each misuse.
 
 use crate::answers::{Dispatched, Loaded};
-use crate::batches::{
-    dl_desk_dispatch, dl_desk_fail, dl_desk_key, dl_desk_member, dl_desk_settle,
-};
-use crate::calls::{
-    dl_desk_clear, dl_desk_clear_all, dl_desk_held, dl_desk_load, dl_desk_prime,
-};
+use crate::batches::{dl_desk_dispatch, dl_desk_fail, dl_desk_key, dl_desk_member, dl_desk_settle};
+use crate::calls::{dl_desk_clear, dl_desk_clear_all, dl_desk_held, dl_desk_load, dl_desk_prime};
 use crate::codes::{
     BAD_KEY, BAD_LENGTHS, BAD_LIMIT, CELLS_FULL, CLOSED, DONE, ENDED_BEFORE, FRESH, HIT, NO_BATCH,
     NO_MEMBER, NOT_SENT, OPEN,
@@ -56,5 +52,17 @@ fn loads_are_batched_and_held(rt: HostRuntime) {
     assert_eq!(rt; dl_desk_settle(alloc, &mut handle, 0), DONE);
     assert_eq!(rt; load(alloc, &mut handle, "c"), answer(FRESH, 3, 2));
     assert_eq!(rt; load(alloc, &mut handle, "d"), answer(CELLS_FULL, 0, 0));
+    assert_eq!(rt; dl_desk_close(alloc, &mut handle), DONE);
+}
+
+/// A value of a type that may cross threads.
+fn sent<T: Send>(value: T) -> T {
+    value
+}
+
+#[test]
+fn a_handle_may_cross_threads(rt: HostRuntime) {
+    let alloc = rt.alloc();
+    let mut handle = sent(opened(&rt, alloc));
     assert_eq!(rt; dl_desk_close(alloc, &mut handle), DONE);
 }
