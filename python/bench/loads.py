@@ -52,7 +52,7 @@ def main():
     ours, theirs = [], []
     for _ in range(RUNS):
         ours.append(asyncio.run(by_futures()))
-        theirs.append(by_promises())
+        theirs.append(by_promises().get())
     for name, runs in (("thrushscreen", ours), ("promise", theirs)):
         fresh, hit = (statistics.median(run[place] for run in runs) / len(KEYS) * 1e9 for place in (0, 1))
         print(f"{name}: a fresh load {fresh:,.0f} ns, a hit {hit:,.0f} ns")

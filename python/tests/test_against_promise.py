@@ -57,6 +57,7 @@ class Notes:
 
     def __init__(self):
         self.seen = []
+        self.lists = []
         self.batches = []
         self.ends = []
 
@@ -72,7 +73,7 @@ def call(loader, notes, name, keys):
     if name == "load":
         return notes.load(loader.load(keys[0]))
     if name == "load_many":
-        loader.load_many(keys)
+        notes.lists.append(loader.load_many(keys))
         return [notes.load(loader.load(key)) for key in keys]
     if name == "prime":
         loader.prime(keys[0], "primed")
@@ -101,7 +102,7 @@ async def by_futures(limit, turns):
     replies = []
     for broken, calls in turns:
         replies.append([call(loader, notes, name, keys) for name, keys in calls])
-        await asyncio.gather(*notes.seen, return_exceptions=True)
+        await asyncio.gather(*notes.seen, *notes.lists, return_exceptions=True)
     for future in notes.seen:
         what = future.exception() or future.result()
         notes.ends.append(spelled(type(what), what))

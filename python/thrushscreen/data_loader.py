@@ -86,7 +86,12 @@ class DataLoader(Desk):
         loop = asyncio.get_running_loop()
         first, count = self.send()
         for batch in range(first, first + count):
-            keys, futures = self._collecting.pop(batch)
+            members = self._collecting.pop(batch, None)
+            if members is None:
+                # Each of its keys was loaded where no loop was running, and is forgotten.
+                self.settle(batch)
+                continue
+            keys, futures = members
             task = loop.create_task(self._fetch(batch, keys, futures))
             self._fetches.add(task)
             task.add_done_callback(self._fetches.discard)
