@@ -69,7 +69,7 @@ typedef struct dl_key_lengths {
     uint32_t table, id;
 } dl_key_lengths;
 
-/* The two texts of a key, of UTF-8 and with no zero at their ends. The bytes behind the lengths are what they were. */
+/* The two texts of a key, of UTF-8 and with no zero at their ends. The bytes behind the lengths mean nothing. */
 typedef struct dl_key_texts {
     size_t table_len, id_len;
     uint8_t table[DL_TABLE_BYTES], id[DL_ID_BYTES];
