@@ -8,7 +8,7 @@ use dl_desk::{FetchKey, ID_BYTES, KeyFault, TABLE_BYTES};
 use std::alloc::Global;
 use std::str;
 
-/// A key's two texts with their lengths in bytes. What stands behind them is left as it was.
+/// A key's two texts with their lengths in bytes. What stands behind them means nothing.
 #[repr(C)]
 pub struct KeyTexts {
     pub table_len: usize,
