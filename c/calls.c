@@ -1,0 +1,266 @@
+/* A C program that makes each call of dl_desk.h and checks its answers, which are those of the data loader's documentation. It
+ * prints each check that fails, and how many passed. */
+#include "dl_desk.h"
+
+#include <stdio.h>
+#include <string.h>
+
+_Static_assert(sizeof(dl_desk) == 16, "a handle");
+_Static_assert(offsetof(dl_desk, held) == 8, "the pointer of a handle");
+_Static_assert(sizeof(dl_loaded) == 12, "an answer with a cell");
+_Static_assert(sizeof(dl_dispatched) == 16, "an answer to a dispatch");
+_Static_assert(sizeof(dl_key_lengths) == 8, "the lengths of a key");
+_Static_assert(sizeof(dl_key_texts) == 208, "the texts of a key");
+
+static unsigned passed, failed;
+
+static void check(bool holds, const char *what, int line)
+{
+    if (holds) {
+        passed++;
+    } else {
+        failed++;
+        printf("calls.c:%d: %s\n", line, what);
+    }
+}
+
+#define CHECK(holds) check((holds), #holds, __LINE__)
+
+/* A key of two literals. */
+#define KEY(table, id) (const uint8_t *)table, sizeof(table) - 1, (const uint8_t *)id, sizeof(id) - 1
+#define USER(id) KEY("user", id)
+
+static bool is(dl_loaded answer, uint32_t code, uint32_t cell, uint32_t batch)
+{
+    return answer.code == code && answer.cell == cell && answer.batch == batch;
+}
+
+static bool sent(dl_dispatched answer, uint32_t first, size_t count)
+{
+    return answer.code == DL_DONE && answer.first == first && answer.count == count;
+}
+
+/* A new desk. A program with keys of strangers takes its seed from getrandom. */
+static void open_desk(dl_desk *desk, uint32_t max_batch, uint32_t max_cells)
+{
+    CHECK(dl_desk_open(desk, max_batch, max_cells, 0x0123456789abcdef, 0xfedcba9876543210) == DL_DONE);
+}
+
+static void a_closed_handle_answers(void)
+{
+    dl_desk desk = {0};
+    dl_key_texts texts;
+    dl_key_lengths lengths[1] = {{4, 1}};
+    dl_loaded answers[1] = {{42, 42, 42}};
+
+    memset(&texts, 42, sizeof texts);
+    CHECK(is(dl_desk_load(&desk, USER("a")), DL_CLOSED, 0, 0));
+    CHECK(dl_desk_load_many(&desk, (const uint8_t *)"usera", 5, lengths, 1, answers, 1) == DL_CLOSED);
+    CHECK(is(answers[0], 42, 42, 42));
+    CHECK(is(dl_desk_prime(&desk, USER("a")), DL_CLOSED, 0, 0));
+    CHECK(is(dl_desk_held(&desk, USER("a")), DL_CLOSED, 0, 0));
+    CHECK(dl_desk_clear(&desk, USER("a")) == DL_CLOSED);
+    CHECK(dl_desk_clear_all(&desk) == DL_CLOSED);
+    CHECK(dl_desk_dispatch(&desk).code == DL_CLOSED);
+    CHECK(is(dl_desk_member(&desk, 0, 0), DL_CLOSED, 0, 0));
+    CHECK(dl_desk_key(&desk, 0, 0, &texts) == DL_CLOSED);
+    CHECK(texts.table[0] == 42 && texts.id[127] == 42);
+    CHECK(dl_desk_settle(&desk, 0) == DL_CLOSED);
+    CHECK(dl_desk_fail(&desk, 0) == DL_CLOSED);
+    CHECK(dl_desk_close(&desk) == DL_CLOSED);
+    CHECK(!desk.is_open);
+}
+
+static void a_desk_opens_and_closes_once(void)
+{
+    dl_desk desk = {0};
+
+    CHECK(dl_desk_open(&desk, 0, 1, 0, 0) == DL_BAD_LIMIT);
+    CHECK(dl_desk_open(&desk, 1, 0, 0, 0) == DL_BAD_LIMIT);
+    CHECK(dl_desk_open(&desk, DL_LARGEST_LIMIT + 1, 1, 0, 0) == DL_BAD_LIMIT);
+    CHECK(dl_desk_open(&desk, 1, DL_LARGEST_LIMIT + 1, 0, 0) == DL_BAD_LIMIT);
+    CHECK(!desk.is_open);
+    open_desk(&desk, DL_LARGEST_LIMIT, DL_LARGEST_LIMIT);
+    CHECK(desk.is_open);
+    CHECK(is(dl_desk_load(&desk, USER("a")), DL_FRESH, 0, 0));
+    CHECK(dl_desk_open(&desk, 1, 1, 0, 0) == DL_OPEN);
+    CHECK(is(dl_desk_load(&desk, USER("a")), DL_HIT, 0, 0));
+    CHECK(dl_desk_close(&desk) == DL_DONE);
+    CHECK(!desk.is_open);
+    CHECK(dl_desk_close(&desk) == DL_CLOSED);
+    open_desk(&desk, 1, 1);
+    CHECK(is(dl_desk_load(&desk, USER("b")), DL_FRESH, 0, 0));
+    CHECK(dl_desk_close(&desk) == DL_DONE);
+}
+
+static void texts_that_are_no_key_are_refused(void)
+{
+    static const uint8_t long_text[129] = {0};
+    dl_desk desk = {0};
+
+    open_desk(&desk, 1, 1);
+    CHECK(is(dl_desk_load(&desk, KEY("", "a")), DL_BAD_KEY, 0, 0));
+    CHECK(is(dl_desk_load(&desk, KEY("user", "")), DL_BAD_KEY, 0, 0));
+    CHECK(is(dl_desk_load(&desk, KEY("user", "\xff")), DL_BAD_KEY, 0, 0));
+    CHECK(is(dl_desk_load(&desk, KEY("\xc3", "a")), DL_BAD_KEY, 0, 0));
+    CHECK(is(dl_desk_load(&desk, long_text, 65, long_text, 1), DL_BAD_KEY, 0, 0));
+    CHECK(is(dl_desk_load(&desk, long_text, 1, long_text, 129), DL_BAD_KEY, 0, 0));
+    CHECK(is(dl_desk_prime(&desk, KEY("", "a")), DL_BAD_KEY, 0, 0));
+    CHECK(is(dl_desk_held(&desk, KEY("", "a")), DL_BAD_KEY, 0, 0));
+    CHECK(dl_desk_clear(&desk, KEY("", "a")) == DL_BAD_KEY);
+    CHECK(is(dl_desk_load(&desk, long_text, 64, long_text, 128), DL_FRESH, 0, 0));
+    CHECK(dl_desk_close(&desk) == DL_DONE);
+}
+
+static void loads_are_batched_once_a_turn(void)
+{
+    dl_desk desk = {0};
+    dl_key_texts texts;
+
+    open_desk(&desk, 2, 8);
+    CHECK(sent(dl_desk_dispatch(&desk), 0, 0));
+    CHECK(is(dl_desk_load(&desk, USER("a")), DL_FRESH, 0, 0));
+    CHECK(is(dl_desk_load(&desk, USER("b")), DL_FRESH, 1, 0));
+    CHECK(is(dl_desk_load(&desk, USER("a")), DL_HIT, 0, 0));
+    CHECK(is(dl_desk_load(&desk, KEY("usera", "b")), DL_FRESH, 2, 1));
+    CHECK(dl_desk_settle(&desk, 0) == DL_NOT_SENT);
+    CHECK(dl_desk_fail(&desk, 1) == DL_NOT_SENT);
+    CHECK(sent(dl_desk_dispatch(&desk), 0, 2));
+    CHECK(sent(dl_desk_dispatch(&desk), 0, 0));
+    CHECK(is(dl_desk_member(&desk, 0, 0), DL_HIT, 0, 0));
+    CHECK(is(dl_desk_member(&desk, 0, 1), DL_HIT, 1, 0));
+    CHECK(is(dl_desk_member(&desk, 0, 2), DL_NO_MEMBER, 0, 0));
+    CHECK(is(dl_desk_member(&desk, 1, 0), DL_HIT, 2, 0));
+    CHECK(is(dl_desk_member(&desk, 2, 0), DL_NO_BATCH, 0, 0));
+    memset(&texts, 42, sizeof texts);
+    CHECK(dl_desk_key(&desk, 1, 0, &texts) == DL_DONE);
+    CHECK(texts.table_len == 5 && memcmp(texts.table, "usera", 5) == 0);
+    CHECK(texts.id_len == 1 && texts.id[0] == 'b');
+    CHECK(dl_desk_key(&desk, 1, 1, &texts) == DL_NO_MEMBER);
+    CHECK(dl_desk_key(&desk, 2, 0, &texts) == DL_NO_BATCH);
+    CHECK(texts.table_len == 5 && texts.id_len == 1);
+    /* A batch that was sent takes no more keys. */
+    CHECK(is(dl_desk_load(&desk, USER("c")), DL_FRESH, 3, 2));
+    CHECK(sent(dl_desk_dispatch(&desk), 2, 1));
+    CHECK(dl_desk_settle(&desk, 0) == DL_DONE);
+    CHECK(dl_desk_settle(&desk, 0) == DL_ENDED_BEFORE);
+    CHECK(dl_desk_fail(&desk, 0) == DL_ENDED_BEFORE);
+    CHECK(dl_desk_settle(&desk, 3) == DL_NO_BATCH);
+    CHECK(dl_desk_fail(&desk, 3) == DL_NO_BATCH);
+    CHECK(dl_desk_close(&desk) == DL_DONE);
+}
+
+static void a_settled_key_is_held_and_a_failed_one_is_not(void)
+{
+    dl_desk desk = {0};
+
+    open_desk(&desk, 2, 8);
+    dl_desk_load(&desk, USER("a"));
+    dl_desk_load(&desk, USER("b"));
+    dl_desk_load(&desk, USER("c"));
+    dl_desk_load(&desk, USER("d"));
+    CHECK(sent(dl_desk_dispatch(&desk), 0, 2));
+    /* d is loaded anew before its batch fails: its new cell stays held. */
+    CHECK(dl_desk_clear(&desk, USER("d")) == DL_DONE);
+    CHECK(is(dl_desk_load(&desk, USER("d")), DL_FRESH, 4, 2));
+    CHECK(dl_desk_settle(&desk, 0) == DL_DONE);
+    CHECK(dl_desk_fail(&desk, 1) == DL_DONE);
+    CHECK(is(dl_desk_held(&desk, USER("a")), DL_HIT, 0, 0));
+    CHECK(is(dl_desk_held(&desk, USER("b")), DL_HIT, 1, 0));
+    CHECK(is(dl_desk_held(&desk, USER("c")), DL_FRESH, 0, 0));
+    CHECK(is(dl_desk_held(&desk, USER("d")), DL_HIT, 4, 0));
+    CHECK(is(dl_desk_load(&desk, USER("c")), DL_FRESH, 5, 2));
+    CHECK(dl_desk_close(&desk) == DL_DONE);
+}
+
+static void keys_are_primed_and_cleared(void)
+{
+    dl_desk desk = {0};
+
+    open_desk(&desk, 2, 4);
+    CHECK(is(dl_desk_prime(&desk, USER("a")), DL_FRESH, 0, 0));
+    CHECK(is(dl_desk_prime(&desk, USER("a")), DL_HIT, 0, 0));
+    CHECK(is(dl_desk_load(&desk, USER("a")), DL_HIT, 0, 0));
+    CHECK(dl_desk_clear(&desk, USER("b")) == DL_DONE);
+    CHECK(dl_desk_clear(&desk, USER("a")) == DL_DONE);
+    CHECK(is(dl_desk_held(&desk, USER("a")), DL_FRESH, 0, 0));
+    CHECK(is(dl_desk_load(&desk, USER("a")), DL_FRESH, 1, 0));
+    CHECK(is(dl_desk_load(&desk, USER("b")), DL_FRESH, 2, 0));
+    CHECK(dl_desk_clear_all(&desk) == DL_DONE);
+    CHECK(is(dl_desk_held(&desk, USER("b")), DL_FRESH, 0, 0));
+    /* A fresh load goes into the batch that is begun, but for one that has the key. */
+    CHECK(is(dl_desk_prime(&desk, USER("c")), DL_FRESH, 3, 0));
+    CHECK(is(dl_desk_prime(&desk, USER("d")), DL_CELLS_FULL, 0, 0));
+    CHECK(is(dl_desk_load(&desk, USER("d")), DL_CELLS_FULL, 0, 0));
+    CHECK(is(dl_desk_load(&desk, USER("c")), DL_HIT, 3, 0));
+    CHECK(dl_desk_close(&desk) == DL_DONE);
+}
+
+static void several_keys_are_loaded_as_one(void)
+{
+    const uint8_t *texts = (const uint8_t *)"userauserbuseraorderx1";
+    dl_key_lengths lengths[4] = {{4, 1}, {4, 1}, {4, 1}, {5, 2}};
+    dl_loaded answers[4];
+    dl_desk desk = {0};
+
+    memset(answers, 42, sizeof answers);
+    open_desk(&desk, 2, 3);
+    CHECK(dl_desk_load_many(&desk, texts, 22, lengths, 4, answers, 3) == DL_BAD_LENGTHS);
+    CHECK(dl_desk_load_many(&desk, texts, 21, lengths, 4, answers, 4) == DL_BAD_LENGTHS);
+    CHECK(dl_desk_load_many(&desk, texts, 22, lengths, 3, answers, 3) == DL_BAD_LENGTHS);
+    CHECK(answers[0].code == 0x2a2a2a2a);
+    CHECK(dl_desk_load_many(&desk, texts, 22, lengths, 4, answers, 4) == DL_DONE);
+    CHECK(is(answers[0], DL_FRESH, 0, 0));
+    CHECK(is(answers[1], DL_FRESH, 1, 0));
+    CHECK(is(answers[2], DL_HIT, 0, 0));
+    CHECK(is(answers[3], DL_FRESH, 2, 1));
+    memset(answers, 42, sizeof answers);
+    /* All or none: there is no cell left for the last one. */
+    CHECK(dl_desk_load_many(&desk, (const uint8_t *)"userauserc", 10, lengths, 2, answers, 2) == DL_CELLS_FULL);
+    lengths[1].id = 0;
+    CHECK(dl_desk_load_many(&desk, (const uint8_t *)"userauser", 9, lengths, 2, answers, 2) == DL_BAD_KEY);
+    lengths[1].id = UINT32_MAX;
+    CHECK(dl_desk_load_many(&desk, texts, 22, lengths, 2, answers, 2) == DL_BAD_LENGTHS);
+    CHECK(answers[0].code == 0x2a2a2a2a);
+    CHECK(dl_desk_load_many(&desk, texts, 0, lengths, 0, answers, 0) == DL_DONE);
+    CHECK(dl_desk_close(&desk) == DL_DONE);
+}
+
+static void a_large_desk_keeps_its_keys(void)
+{
+    enum { KEYS = 20000, BATCH = 100 };
+    dl_desk desk = {0};
+    char id[16];
+    bool all = true;
+
+    open_desk(&desk, BATCH, KEYS);
+    for (uint32_t turn = 0; turn < 2; turn++) {
+        for (uint32_t key = 0; key < KEYS; key++) {
+            size_t len = (size_t)snprintf(id, sizeof id, "%u", (unsigned)key);
+            dl_loaded want = {turn == 0 ? DL_FRESH : DL_HIT, key, turn == 0 ? key / BATCH : 0};
+            dl_loaded answer = dl_desk_load(&desk, (const uint8_t *)"user", 4, (const uint8_t *)id, len);
+            all = all && is(answer, want.code, want.cell, want.batch);
+        }
+    }
+    CHECK(all);
+    CHECK(sent(dl_desk_dispatch(&desk), 0, KEYS / BATCH));
+    for (uint32_t batch = 0; batch < KEYS / BATCH; batch++) {
+        all = all && dl_desk_settle(&desk, batch) == DL_DONE;
+    }
+    CHECK(all);
+    CHECK(dl_desk_close(&desk) == DL_DONE);
+}
+
+int main(void)
+{
+    a_closed_handle_answers();
+    a_desk_opens_and_closes_once();
+    texts_that_are_no_key_are_refused();
+    loads_are_batched_once_a_turn();
+    a_settled_key_is_held_and_a_failed_one_is_not();
+    keys_are_primed_and_cleared();
+    several_keys_are_loaded_as_one();
+    a_large_desk_keeps_its_keys();
+    printf("%u passed, %u failed\n", passed, failed);
+    return failed == 0 ? 0 : 1;
+}

@@ -1,0 +1,4 @@
+pub mod DeskBox
+pub mod Cuts
+pub mod Rows
+pub mod Replies

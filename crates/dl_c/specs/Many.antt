@@ -1,0 +1,44 @@
+-- The load of several keys as C makes it.
+use Rattle.std.specs.Prelude.{◌≡◌, ℕ, ◌+◌, ◌<◌, ◌≤◌, ◌⊎◌, List, [], ◌∷◌, length, map, take, drop}
+use Rattle.std.specs.List.{All}
+use Rattle.dl_desk.specs.Key.{Key}
+use Rattle.dl_desk.specs.History.{Atom, load_replies}
+use Rattle.dl_desk.specs.Calls.{Loads}
+use Rattle.dl_desk.specs.BatchBook.{BatchBook, StandsFor}
+use Rattle.dl_c.specs.declared.codes.TheConstants.{DONE, OUT_OF_MEMORY, BAD_KEY, BAD_LENGTHS}
+use Rattle.dl_c.specs.declared.answers.Loaded.{Loaded}
+use Rattle.dl_c.specs.declared.key_texts.KeyLengths.{KeyLengths}
+use Rattle.dl_c.specs.Answers.{loaded_as}
+use Rattle.dl_c.specs.Keys.{IsKeyText}
+use Rattle.dl_c.specs.Calls.{Makes, Refuses}
+
+-- the key at the front of the bytes
+abbrev pub front_key : List ℕ → KeyLengths → Key
+front_key bytes l = record { table = take l.table bytes; id = take l.id (drop l.table bytes) }
+
+-- the keys that lengths cut the bytes into, from the front on
+abbrev pub cut : List ℕ → List KeyLengths → List Key
+cut bytes [] = []
+cut bytes (l ∷ ls) = front_key bytes l ∷ cut (drop (l.table + l.id) bytes) ls
+
+-- how many bytes the lengths take
+abbrev pub total : List KeyLengths → ℕ
+total [] = 0
+total (l ∷ ls) = (l.table + l.id) + total ls
+
+-- Why there is no key at the front of the bytes: they are too few for the lengths, it is none, or memory is short.
+abbrev pub IsFrontFault : List ℕ → KeyLengths → ℕ → Type 0
+IsFrontFault bytes l code = ((code ≡ BAD_LENGTHS) × (length bytes < l.table + l.id)) ⊎ (((code ≡ BAD_KEY) × ¬ (IsKeyText (front_key bytes l))) ⊎ (code ≡ OUT_OF_MEMORY))
+
+-- Why bytes aren't cut into keys: the lengths don't take them all and no more, one of the keys is none, or memory is short.
+abbrev pub IsCutFault : List ℕ → List KeyLengths → ℕ → Type 0
+IsCutFault bytes ls code = ((code ≡ BAD_LENGTHS) × ¬ (total ls ≡ length bytes)) ⊎ (((code ≡ BAD_KEY) × ¬ (All IsKeyText (cut bytes ls))) ⊎ (code ≡ OUT_OF_MEMORY))
+
+-- The answer to a load of the keys that the bytes are cut into.
+pub record AnswersMany (bytes : List ℕ) (ls : List KeyLengths) (code : ℕ) (before answers : List Loaded) (old new : BatchBook) : Type 0 where
+  pub are_keys : code ≡ DONE → All IsKeyText (cut bytes ls)
+  pub whole : code ≡ DONE → (total ls ≡ length bytes) × (length ls ≡ length before)
+  pub made : code ≡ DONE → Makes old (Loads (cut bytes ls)) new
+  pub cells : code ≡ DONE → (history : List Atom) → StandsFor old history → answers ≡ map loaded_as (load_replies old.rules history (cut bytes ls))
+  pub refused : DONE < code → (answers ≡ before) × (new ≡ old)
+  pub cause : DONE < code → ((code ≡ BAD_LENGTHS) × ¬ (length ls ≡ length before)) ⊎ (IsCutFault bytes ls code ⊎ Refuses old (Loads (cut bytes ls)) code new)

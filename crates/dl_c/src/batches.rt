@@ -1,0 +1,168 @@
+//! The calls on batches: the dispatch, what a batch has, and its end.
+
+ghost use Rattle.std.specs.Prelude.{◌≡◌, ◌<◌, List, IfSome, slice_get};
+ghost use Rattle.dl_desk.specs.History.{Atom, members};
+ghost use Rattle.dl_desk.specs.Calls.{Settles, Fails};
+ghost use Rattle.dl_desk.specs.BatchBook.{StandsFor};
+ghost use Rattle.dl_c.specs.Answers.{refused_as};
+ghost use Rattle.dl_c.specs.Keys.{Spells};
+ghost use Rattle.dl_c.specs.Batches.{AnswersDispatch, AnswersEnd, AnswersMember, AnswersKey, member_answer};
+ghost use Rattle.dl_c.specs.Handles.{OnDesk, OnClosed};
+
+use crate::answers::{Dispatched, Loaded};
+use crate::codes::{CLOSED, DONE, NO_BATCH, NO_MEMBER, OUT_OF_MEMORY, code_of};
+use crate::handle::{Handle, take};
+use crate::key_texts::KeyTexts;
+use dl_desk::Desk;
+use std::alloc::Global;
+
+/// Sends every batch that was begun and not sent, in order: how many these are, and the number of the first one. The others
+/// follow it.
+///
+/// Codes: `DONE`; `CLOSED`, `OUT_OF_MEMORY`.
+#[unsafe(no_mangle)]
+pub extern "C" fn dl_desk_dispatch(alloc: Global, handle: &mut Handle) -> Dispatched
+    ensures closed { OnClosed handle.old handle.new (result ≡ record { code = CLOSED; first = 0; count = 0 }) }
+    ensures desk { OnDesk handle.old handle.new (AnswersDispatch result) }
+{
+    let Some(mut desk) = take(alloc, handle) else {
+        return Dispatched::refused(CLOSED);
+    };
+    let answer = dispatch(alloc, &mut desk);
+    *handle = Handle::opened(desk);
+    answer
+}
+
+#[tactic(auto, using(crate::proofs::Rows::sent_in_a_row))]
+fn dispatch(alloc: Global, desk: &mut Desk) -> Dispatched
+    ensures { AnswersDispatch result desk.old.book desk.new.book }
+{
+    match desk.dispatch(alloc) {
+        Ok(jobs) => Dispatched::sent(&jobs),
+        Err(_) => Dispatched::refused(OUT_OF_MEMORY),
+    }
+}
+
+/// The cell of a batch's member, by the member's index. It changes nothing.
+///
+/// Codes: `HIT` with the cell; `CLOSED`, `NO_BATCH`, `NO_MEMBER`.
+#[unsafe(no_mangle)]
+pub extern "C" fn dl_desk_member(
+    alloc: Global,
+    handle: &mut Handle,
+    batch: u32,
+    index: u32,
+) -> Loaded
+    ensures closed { OnClosed handle.old handle.new (result ≡ refused_as CLOSED) }
+    ensures desk { OnDesk handle.old handle.new (AnswersMember batch index result) }
+{
+    let Some(desk) = take(alloc, handle) else {
+        return Loaded::refused(CLOSED);
+    };
+    let answer = member(&desk, batch, index);
+    *handle = Handle::opened(desk);
+    answer
+}
+
+fn member(desk: &Desk, batch: u32, index: u32) -> Loaded
+    ensures { (history : List Atom) → StandsFor desk.now.book history → result ≡ member_answer history batch index }
+{
+    let Some(view) = desk.batch(batch) else {
+        return Loaded::refused(NO_BATCH);
+    };
+    match view.cells().get(index as usize) {
+        Some(cell) => Loaded::found(*cell),
+        None => Loaded::refused(NO_MEMBER),
+    }
+}
+
+/// The texts of the key of a batch's member, by the member's index. It changes nothing else, and where it is refused not the
+/// texts either.
+///
+/// Codes: `DONE`; `CLOSED`, `NO_BATCH`, `NO_MEMBER`.
+#[unsafe(no_mangle)]
+pub extern "C" fn dl_desk_key(
+    alloc: Global,
+    handle: &mut Handle,
+    batch: u32,
+    index: u32,
+    texts: &mut KeyTexts,
+) -> u32
+    ensures closed { OnClosed handle.old handle.new ((result ≡ CLOSED) × (texts.new ≡ texts.old)) }
+    ensures desk { OnDesk handle.old handle.new (AnswersKey batch index result texts.old texts.new) }
+{
+    let Some(desk) = take(alloc, handle) else {
+        return CLOSED;
+    };
+    let code = spell(&desk, batch, index, texts);
+    *handle = Handle::opened(desk);
+    code
+}
+
+fn spell(desk: &Desk, batch: u32, index: u32, texts: &mut KeyTexts) -> u32
+    ensures code { (history : List Atom) → StandsFor desk.now.book history → result ≡ (member_answer history batch index).code }
+    ensures spelled { result ≡ DONE → (history : List Atom) → StandsFor desk.now.book history
+        → IfSome (slice_get (members history batch) index) (λ m. Spells texts.new m.0) }
+    ensures none { DONE < result → texts.new ≡ texts.old }
+{
+    let Some(view) = desk.batch(batch) else {
+        return NO_BATCH;
+    };
+    match view.keys().get(index as usize) {
+        Some(key) => {
+            texts.copy_from(key);
+            DONE
+        }
+        None => NO_MEMBER,
+    }
+}
+
+/// Ends a batch with an outcome for each member, which the host keeps.
+///
+/// Codes: `DONE`; `CLOSED`, `NO_BATCH`, `NOT_SENT`, `ENDED_BEFORE`.
+#[unsafe(no_mangle)]
+pub extern "C" fn dl_desk_settle(alloc: Global, handle: &mut Handle, batch: u32) -> u32
+    ensures closed { OnClosed handle.old handle.new (result ≡ CLOSED) }
+    ensures desk { OnDesk handle.old handle.new (AnswersEnd (Settles batch) result) }
+{
+    let Some(mut desk) = take(alloc, handle) else {
+        return CLOSED;
+    };
+    let code = settle(&mut desk, batch);
+    *handle = Handle::opened(desk);
+    code
+}
+
+fn settle(desk: &mut Desk, batch: u32) -> u32
+    ensures { AnswersEnd (Settles batch) result desk.old.book desk.new.book }
+{
+    match desk.settle(batch) {
+        Ok(()) => DONE,
+        Err(fault) => code_of(fault),
+    }
+}
+
+/// Fails a batch as a whole: its keys are forgotten where they are held still with the batch's own cells.
+///
+/// Codes: `DONE`; `CLOSED`, `NO_BATCH`, `NOT_SENT`, `ENDED_BEFORE`.
+#[unsafe(no_mangle)]
+pub extern "C" fn dl_desk_fail(alloc: Global, handle: &mut Handle, batch: u32) -> u32
+    ensures closed { OnClosed handle.old handle.new (result ≡ CLOSED) }
+    ensures desk { OnDesk handle.old handle.new (AnswersEnd (Fails batch) result) }
+{
+    let Some(mut desk) = take(alloc, handle) else {
+        return CLOSED;
+    };
+    let code = fail(&mut desk, batch);
+    *handle = Handle::opened(desk);
+    code
+}
+
+fn fail(desk: &mut Desk, batch: u32) -> u32
+    ensures { AnswersEnd (Fails batch) result desk.old.book desk.new.book }
+{
+    match desk.fail(batch) {
+        Ok(()) => DONE,
+        Err(fault) => code_of(fault),
+    }
+}

@@ -1,0 +1,172 @@
+//! The calls on a key, and on all keys.
+
+ghost use Rattle.std.specs.Prelude.{◌≡◌, ◌<◌, ◌≤◌, ◌∷◌, [], List};
+ghost use Rattle.dl_desk.specs.History.{Atom, load_reply, prime_reply};
+ghost use Rattle.dl_desk.specs.Calls.{Loads, Primes, Clears, ClearsAll};
+ghost use Rattle.dl_desk.specs.BatchBook.{StandsFor};
+ghost use Rattle.dl_c.specs.declared.codes.TheConstants.{FRESH};
+ghost use Rattle.dl_c.specs.Answers.{loaded_as, primed_as, refused_as};
+ghost use Rattle.dl_c.specs.Calls.{AnswersLoad, AnswersPrime, AnswersHeld, AnswersClear, Makes, Refuses};
+ghost use Rattle.dl_c.specs.Handles.{OnDesk, OnClosed};
+
+use crate::answers::Loaded;
+use crate::codes::{CLOSED, DONE, code_of};
+use crate::handle::{Handle, take};
+use crate::key_texts::key_of;
+use dl_desk::{Desk, FetchKey};
+use std::alloc::Global;
+
+/// Loads the key of a table and an id: the cell that is held for it, or a new one in a batch (DataLoader: `load`).
+///
+/// Codes: `HIT` with the cell, `FRESH` with the cell and its batch; `CLOSED`, `BAD_KEY`, `CELLS_FULL`, `OUT_OF_MEMORY`.
+#[unsafe(no_mangle)]
+pub extern "C" fn dl_desk_load(
+    alloc: Global,
+    handle: &mut Handle,
+    table: &[u8],
+    id: &[u8],
+) -> Loaded
+    ensures closed { OnClosed handle.old handle.new (result ≡ refused_as CLOSED) }
+    ensures desk { OnDesk handle.old handle.new (AnswersLoad (record { table = table.now; id = id.now }) result) }
+{
+    let Some(mut desk) = take(alloc, handle) else {
+        return Loaded::refused(CLOSED);
+    };
+    let answer = load(alloc, &mut desk, table, id);
+    *handle = Handle::opened(desk);
+    answer
+}
+
+fn load(alloc: Global, desk: &mut Desk, table: &[u8], id: &[u8]) -> Loaded
+    ensures { AnswersLoad (record { table = table.now; id = id.now }) result desk.old.book desk.new.book }
+{
+    match key_of(alloc, table, id) {
+        Ok(key) => load_key(alloc, desk, &key),
+        Err(code) => Loaded::refused(code),
+    }
+}
+
+fn load_key(alloc: Global, desk: &mut Desk, key: &FetchKey) -> Loaded
+    ensures made { result.code ≤ FRESH → Makes desk.old.book (Loads (key.now ∷ [])) desk.new.book }
+    ensures cell { result.code ≤ FRESH → (history : List Atom) → StandsFor desk.old.book history
+        → result ≡ loaded_as (load_reply desk.old.book.rules history key.now) }
+    ensures refused { FRESH < result.code → Refuses desk.old.book (Loads (key.now ∷ [])) result.code desk.new.book }
+    ensures none { FRESH < result.code → result ≡ refused_as result.code }
+{
+    match desk.load(alloc, key) {
+        Ok(reply) => Loaded::of_load(reply),
+        Err(fault) => Loaded::refused(code_of(fault)),
+    }
+}
+
+/// Begins a cell of the key in no batch, for an outcome that the host has, unless the key is held (DataLoader: `prime`).
+///
+/// Codes: `FRESH` with the cell, `HIT` where the key is held and nothing changed; `CLOSED`, `BAD_KEY`, `CELLS_FULL`,
+/// `OUT_OF_MEMORY`.
+#[unsafe(no_mangle)]
+pub extern "C" fn dl_desk_prime(
+    alloc: Global,
+    handle: &mut Handle,
+    table: &[u8],
+    id: &[u8],
+) -> Loaded
+    ensures closed { OnClosed handle.old handle.new (result ≡ refused_as CLOSED) }
+    ensures desk { OnDesk handle.old handle.new (AnswersPrime (record { table = table.now; id = id.now }) result) }
+{
+    let Some(mut desk) = take(alloc, handle) else {
+        return Loaded::refused(CLOSED);
+    };
+    let answer = prime(alloc, &mut desk, table, id);
+    *handle = Handle::opened(desk);
+    answer
+}
+
+fn prime(alloc: Global, desk: &mut Desk, table: &[u8], id: &[u8]) -> Loaded
+    ensures { AnswersPrime (record { table = table.now; id = id.now }) result desk.old.book desk.new.book }
+{
+    match key_of(alloc, table, id) {
+        Ok(key) => prime_key(desk, &key),
+        Err(code) => Loaded::refused(code),
+    }
+}
+
+fn prime_key(desk: &mut Desk, key: &FetchKey) -> Loaded
+    ensures made { result.code ≤ FRESH → Makes desk.old.book (Primes key.now) desk.new.book }
+    ensures cell { result.code ≤ FRESH → (history : List Atom) → StandsFor desk.old.book history → result ≡ primed_as (prime_reply history key.now) }
+    ensures refused { FRESH < result.code → Refuses desk.old.book (Primes key.now) result.code desk.new.book }
+    ensures none { FRESH < result.code → result ≡ refused_as result.code }
+{
+    match desk.prime(key) {
+        Ok(reply) => Loaded::of_prime(reply),
+        Err(fault) => Loaded::refused(code_of(fault)),
+    }
+}
+
+/// The cell that is held for the key. It changes nothing.
+///
+/// Codes: `HIT` with the cell, `FRESH` where none is held; `CLOSED`, `BAD_KEY`, `OUT_OF_MEMORY`.
+#[unsafe(no_mangle)]
+pub extern "C" fn dl_desk_held(
+    alloc: Global,
+    handle: &mut Handle,
+    table: &[u8],
+    id: &[u8],
+) -> Loaded
+    ensures closed { OnClosed handle.old handle.new (result ≡ refused_as CLOSED) }
+    ensures desk { OnDesk handle.old handle.new (AnswersHeld (record { table = table.now; id = id.now }) result) }
+{
+    let Some(desk) = take(alloc, handle) else {
+        return Loaded::refused(CLOSED);
+    };
+    let answer = match key_of(alloc, table, id) {
+        Ok(key) => Loaded::of_held(desk.held(&key)),
+        Err(code) => Loaded::refused(code),
+    };
+    *handle = Handle::opened(desk);
+    answer
+}
+
+/// Forgets the key, if it is held (DataLoader: `clear`).
+///
+/// Codes: `DONE`; `CLOSED`, `BAD_KEY`, `OUT_OF_MEMORY`.
+#[unsafe(no_mangle)]
+pub extern "C" fn dl_desk_clear(alloc: Global, handle: &mut Handle, table: &[u8], id: &[u8]) -> u32
+    ensures closed { OnClosed handle.old handle.new (result ≡ CLOSED) }
+    ensures desk { OnDesk handle.old handle.new (AnswersClear (record { table = table.now; id = id.now }) result) }
+{
+    let Some(mut desk) = take(alloc, handle) else {
+        return CLOSED;
+    };
+    let code = clear(alloc, &mut desk, table, id);
+    *handle = Handle::opened(desk);
+    code
+}
+
+fn clear(alloc: Global, desk: &mut Desk, table: &[u8], id: &[u8]) -> u32
+    ensures { AnswersClear (record { table = table.now; id = id.now }) result desk.old.book desk.new.book }
+{
+    match key_of(alloc, table, id) {
+        Ok(key) => {
+            desk.clear(&key);
+            DONE
+        }
+        Err(code) => code,
+    }
+}
+
+/// Forgets all keys (DataLoader: `clearAll`).
+///
+/// Codes: `DONE`; `CLOSED`.
+#[unsafe(no_mangle)]
+pub extern "C" fn dl_desk_clear_all(alloc: Global, handle: &mut Handle) -> u32
+    ensures closed { OnClosed handle.old handle.new (result ≡ CLOSED) }
+    ensures done { OnDesk handle.old handle.new (λ _ _. result ≡ DONE) }
+    ensures desk { OnDesk handle.old handle.new (λ old new. Makes old ClearsAll new) }
+{
+    let Some(mut desk) = take(alloc, handle) else {
+        return CLOSED;
+    };
+    desk.clear_all();
+    *handle = Handle::opened(desk);
+    DONE
+}

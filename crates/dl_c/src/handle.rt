@@ -1,0 +1,110 @@
+//! The handle that a host keeps of its desk.
+
+ghost use Rattle.std.specs.Prelude.{◌≡◌, Bool, true, false, IfSome, IfNone};
+ghost use Rattle.dl_desk.specs.BatchBook as Book;
+ghost use Rattle.dl_c.specs.Ownership.{owned_if, desk_at};
+
+use crate::box_parts::BoxParts;
+use dl_desk::Desk;
+use std::alloc::Global;
+use std::marker::Model;
+use std::{mem, ptr};
+
+/// A place for a desk: a pointer to it, or nothing. A pointer to a desk can't cross to C, since a desk has parts that
+/// can't, so this one says nothing of what it points to.
+#[repr(C)]
+#[derive(Drop)]
+pub struct Held {
+    at: *mut (),
+    alloc: Global,
+    pub ghost filled: { Bool },
+    pub ghost desk: { Book.Desk },
+}
+
+impl Model for Held {
+    ghost also_owns = { λ h. owned_if h.filled (desk_at h.alloc h.at h.desk) };
+}
+
+// A desk may cross threads, and a pointer alone says nothing of it. So a host may make the calls of a handle from one thread
+// after another.
+unsafe impl Send for Held {}
+
+impl Held {
+    /// A place with no desk.
+    fn none(alloc: Global) -> Held
+        ensures { result.filled ≡ false }
+    {
+        Held {
+            at: ptr::null_mut(),
+            alloc,
+        }
+    }
+
+    /// A place with the desk of a box.
+    fn hold(parts: BoxParts<Desk, Global>) -> Held
+        ensures { (result.filled ≡ true) × (result.desk ≡ parts.value) }
+    {
+        let BoxParts { ptr, alloc } = parts;
+        Held {
+            at: ptr as *mut (),
+            alloc,
+        }
+    }
+
+    /// The parts of the box of the desk.
+    fn release(self) -> BoxParts<Desk, Global>
+        requires { self.filled ≡ true }
+        ensures { result.value ≡ self.desk }
+    {
+        let Held { at, alloc } = self;
+        BoxParts {
+            ptr: at as *mut Desk,
+            alloc,
+        }
+    }
+}
+
+/// What a host keeps of its desk (`dl_desk` in C). All zeros is a closed one. A host neither copies nor writes it.
+#[repr(C)]
+#[derive(Drop)]
+pub struct Handle {
+    pub is_open: bool,
+    pub held: Held,
+    ghost tie: { is_open ≡ held.filled },
+}
+
+impl Handle {
+    /// A handle with no desk.
+    pub fn closed(alloc: Global) -> Handle
+        ensures { result.is_open ≡ false }
+    {
+        Handle {
+            is_open: false,
+            held: Held::none(alloc),
+        }
+    }
+
+    /// A handle of the desk.
+    pub fn opened(desk: Box<Desk>) -> Handle
+        ensures is_open { result.is_open ≡ true }
+        ensures desk { result.held.desk ≡ desk.value }
+    {
+        Handle {
+            is_open: true,
+            held: Held::hold(BoxParts::of(desk)),
+        }
+    }
+}
+
+/// The desk of a handle, which is closed then. A closed one has none, and stays as it is.
+pub fn take(alloc: Global, handle: &mut Handle) -> Option<Box<Desk>>
+    ensures taken { IfSome result (λ desk. (handle.old.is_open ≡ true) × (desk.value ≡ handle.old.held.desk)) }
+    ensures left { IfSome result (λ _. handle.new.is_open ≡ false) }
+    ensures none { IfNone result ((handle.old.is_open ≡ false) × (handle.new ≡ handle.old)) }
+{
+    if !handle.is_open {
+        return None;
+    }
+    let Handle { is_open: _, held } = mem::replace(handle, Handle::closed(alloc));
+    Some(held.release().into_box())
+}

@@ -1,0 +1,55 @@
+//! Keys as C hands them in and reads them back.
+
+ghost use Rattle.std.specs.Prelude.{◌≡◌, IfOk, OnOk, IfErr};
+ghost use Rattle.dl_c.specs.Keys.{IsKeyText, IsKeyFault, Spells};
+
+use crate::codes::{BAD_KEY, OUT_OF_MEMORY};
+use dl_desk::{FetchKey, ID_BYTES, KeyFault, TABLE_BYTES};
+use std::alloc::Global;
+use std::str;
+
+/// A key's two texts with their lengths in bytes. What stands behind them means nothing.
+#[repr(C)]
+pub struct KeyTexts {
+    pub table_len: usize,
+    pub id_len: usize,
+    pub table: [u8; TABLE_BYTES],
+    pub id: [u8; ID_BYTES],
+}
+
+/// How many bytes the table and the id of a key have.
+#[repr(C)]
+#[derive(Clone, Copy, Debug, PartialEq, Eq)]
+pub struct KeyLengths {
+    pub table: u32,
+    pub id: u32,
+}
+
+/// The key of a table and an id. The error is a code: `BAD_KEY` where a text is no UTF-8, is empty or is too long, else
+/// `OUT_OF_MEMORY`.
+pub fn key_of(alloc: Global, table: &[u8], id: &[u8]) -> Result<FetchKey, u32>
+    ensures key { IfOk result (λ key. key ≡ record { table = table.now; id = id.now }) }
+    ensures is_key { OnOk result (IsKeyText (record { table = table.now; id = id.now })) }
+    ensures fault { IfErr result (λ code. IsKeyFault (record { table = table.now; id = id.now }) code) }
+{
+    let table = str::from_utf8(table).map_err(|_| BAD_KEY)?;
+    let id = str::from_utf8(id).map_err(|_| BAD_KEY)?;
+    FetchKey::new(alloc, table, id).map_err(|fault| match fault {
+        KeyFault::OutOfMemory => OUT_OF_MEMORY,
+        _ => BAD_KEY,
+    })
+}
+
+impl KeyTexts {
+    /// Takes the texts of a key.
+    pub fn copy_from(&mut self, key: &FetchKey)
+        ensures { Spells self.new key.now }
+    {
+        let table = key.table().as_bytes();
+        let id = key.id().as_bytes();
+        self.table_len = table.len();
+        self.id_len = id.len();
+        self.table[..table.len()].copy_from_slice(table);
+        self.id[..id.len()].copy_from_slice(id);
+    }
+}
