@@ -2,7 +2,7 @@
 
 use crate::source::json;
 use dl_desk::{FetchKey, Outcome, Text};
-use dl_terms::{Answer, EvalFault, Known, Node, Term, Wanted, explore, plan};
+use dl_terms::{Answer, EvalFault, Known, Node, Term, Wanted, explore, unexplored};
 use indexmap::{IndexMap, IndexSet};
 use std::alloc::{AllocError, Global};
 use std::hash::RandomState;
@@ -142,7 +142,7 @@ fn answer_text(alloc: Global, node: Node) -> Result<String, AllocError> {
 fn a_term_wants_all_its_keys_at_once(rt: HostRuntime) -> Result<(), Fail> {
     let hashing = RandomState::new(&rt)?;
     let outcomes = outcomes(&rt, rt.alloc());
-    let mut node = plan(rt.alloc(), friends(&rt, rt.alloc())).expect(&rt, "no memory");
+    let mut node = unexplored(rt.alloc(), friends(&rt, rt.alloc())).expect(&rt, "no memory");
     assert_rounds(&rt, rt.alloc(), hashing, &mut node, &outcomes)?;
     let text = answer_text(rt.alloc(), node)?;
     assert_eq!(rt;
@@ -192,7 +192,7 @@ fn assert_waits(
     term: Term,
     id: Option<&str>,
 ) {
-    let mut node = plan(alloc, term).expect(rt, "no memory");
+    let mut node = unexplored(alloc, term).expect(rt, "no memory");
     let known: Known<'_> = IndexMap::with_hasher(alloc, hashing);
     let wanted = explored(alloc, hashing, &mut node, &known).expect(rt, "no memory");
     let want = match id {
