@@ -1,0 +1,73 @@
+-- The verdicts on limits, of either kind of document.
+use Rattle.std.proofs.Common.{◌≡◌, inl, inr, ℕ, ◌<◌, ℤ, pos, List, codes, Some, refl, sym, ◌∙◌, arith}
+use Rattle.std.proofs.lemmas.Option.{same_Some}
+use Rattle.serde_json.specs.Data.{Data}
+use Rattle.dl_desk.specs.Limits.{Limits}
+use Rattle.dl_desk.specs.declared.fault.LimitFault.{LimitFault}
+use Rattle.dl_desk.specs.declared.fault.LimitFault.TheVariants.{BatchLimit, CellLimit, CallLimit}
+use Rattle.dl_documents.specs.Document.{GivesLimits, number_at}
+use Rattle.dl_documents.specs.Faults.{limit_name, limit_number, IsBadLimit, Causes, number, place, IsEarlier, IsLeast}
+use Rattle.dl_documents.specs.Numbers.{AreGiven, AreLimitsOf, IsInside, IsFirstOutside}
+use Rattle.dl_documents.specs.declared.fault.PlanFault.{PlanFault}
+use Rattle.dl_documents.specs.declared.fault.PlanFault.TheVariants.{Limit}
+use Rattle.dl_documents.specs.declared.limits.Numbers.{Numbers}
+use Rattle.dl_documents.proofs.Order.{Clear, clear_limits, least_of}
+
+inside : (name : List ℕ) (d : Data) (z : ℤ) → number_at name d ≡ Some z → IsInside z → IsBadLimit name d → ⊥
+inside name d z e is bad =
+    let same : bad.given ≡ z = same_Some bad.given z (sym bad.number ∙ e) in
+    bad.outside is.0 is.2 (same ∙ is.1)
+
+-- ---- limits
+
+outside_applies : (d : Data) (n : Numbers) (l : LimitFault) → AreGiven d n → IsFirstOutside n l → IsBadLimit (limit_name l) d
+outside_applies d n BatchLimit given out = record { given = n.max_batch; number = given.batch; outside = out }
+outside_applies d n CellLimit given out = record { given = n.max_cells; number = given.cells; outside = out.1 }
+outside_applies d n CallLimit given out = record { given = n.max_calls; number = given.calls; outside = out.2 }
+
+-- a number that is tested before the first that is no limit is one
+before_outside : (d : Data) (n : Numbers) (l m : LimitFault) → AreGiven d n → IsFirstOutside n l → limit_number m < limit_number l
+    → IsBadLimit (limit_name m) d → ⊥
+before_outside d n CellLimit BatchLimit given out less bad = inside (codes "maxBatchSize") d n.max_batch given.batch out.0 bad
+before_outside d n CallLimit BatchLimit given out less bad = inside (codes "maxBatchSize") d n.max_batch given.batch out.0 bad
+before_outside d n CallLimit CellLimit given out less bad = inside (codes "maxCells") d n.max_cells given.cells out.1 bad
+before_outside d n BatchLimit BatchLimit given out less bad = omega arith
+before_outside d n BatchLimit CellLimit given out less bad = omega arith
+before_outside d n BatchLimit CallLimit given out less bad = omega arith
+before_outside d n CellLimit CellLimit given out less bad = omega arith
+before_outside d n CellLimit CallLimit given out less bad = omega arith
+before_outside d n CallLimit CallLimit given out less bad = omega arith
+
+earlier_limit : (d : Data) (n : Numbers) (l : LimitFault) → AreGiven d n → IsFirstOutside n l
+    → (g : PlanFault) → number g ≡ 10 → IsEarlier (place g) (limit_number l, 0) → Causes d g → ⊥
+earlier_limit d n l given out (Limit m) same (inl less) h = before_outside d n l m given out less h
+earlier_limit d n l given out (Limit m) same (inr more) h = let k : 0 < 0 = more.1 in omega arith
+earlier_limit d n l given out g same early h = omega arith
+
+-- the first number that is no limit is the refusal, where nothing before is one
+pub least_limit : (d : Data) (n : Numbers) (l : LimitFault) → Clear d 10 → AreGiven d n → IsFirstOutside n l → IsLeast (Causes d) (Limit l)
+least_limit d n l low given out = least_of d (Limit l) (outside_applies d n l given out) low (earlier_limit d n l given out)
+
+-- ---- the limits that are given
+
+pub gives_limits : (d : Data) (n : Numbers) (l : Limits) → AreGiven d n → AreLimitsOf n l → GivesLimits d l
+gives_limits d n l given are = record {
+  batch = record { number = rw (← are.batch) given.batch; limit = are.limits.batch };
+  cells = record { number = rw (← are.cells) given.cells; limit = are.limits.cells };
+  calls = record { number = rw (← are.calls) given.calls; limit = are.limits.calls };
+}
+
+-- the numbers of limits
+abbrev pub numbers_of : Limits → Numbers
+numbers_of l = record { max_batch = pos l.max_batch; max_cells = pos l.max_cells; max_calls = pos l.max_calls }
+
+pub are_given : (d : Data) (l : Limits) → GivesLimits d l → AreGiven d (numbers_of l)
+are_given d l gives = record { batch = gives.batch.number; cells = gives.cells.number; calls = gives.calls.number }
+
+given_inside : (d : Data) (l : Limits) → GivesLimits d l → (m : LimitFault) → IsBadLimit (limit_name m) d → ⊥
+given_inside d l gives BatchLimit bad = inside (codes "maxBatchSize") d (pos l.max_batch) gives.batch.number (l.max_batch, refl, gives.batch.limit) bad
+given_inside d l gives CellLimit bad = inside (codes "maxCells") d (pos l.max_cells) gives.cells.number (l.max_cells, refl, gives.cells.limit) bad
+given_inside d l gives CallLimit bad = inside (codes "maxCalls") d (pos l.max_calls) gives.calls.number (l.max_calls, refl, gives.calls.limit) bad
+
+pub clear_given : (d : Data) (l : Limits) → GivesLimits d l → Clear d 10 → Clear d 11
+clear_given d l gives low = clear_limits d low (given_inside d l gives)

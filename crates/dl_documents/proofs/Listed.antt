@@ -1,0 +1,91 @@
+-- What a list of values spells, read one by one.
+use Rattle.std.proofs.Common.{◌≡◌, ℕ, zero, suc, ◌+◌, ◌<◌, List, [], ◌∷◌, ◌++◌, length, get_or, take, map, Some, refl, sym, ap, ◌∙◌, arith}
+use Rattle.std.proofs.lemmas.List.{take_more, map-append}
+use Rattle.std.proofs.lemmas.Option.{none-some, same_Some, slice_get-map, slice_get-get_or}
+use Rattle.std.specs.List.{AllByRecursion, slice_get}
+use Rattle.serde_json.specs.Data.{Data}
+use Rattle.serde_json.specs.Events.{items_len}
+use Rattle.serde_json.specs.Find.{get_item}
+use Rattle.serde_json.specs.View.{items_of}
+use Rattle.dl_terms.proofs.Options.{from_map}
+use Rattle.dl_documents.specs.Inside.Places.{IsFirst}
+
+-- ---- items of a tree
+
+pub get_item-items_of : (ds : List Data) (n : ℕ) → get_item n (items_of ds) ≡ slice_get ds n
+get_item-items_of [] n = refl
+get_item-items_of (d ∷ ds) zero = refl
+get_item-items_of (d ∷ ds) (suc n) = get_item-items_of ds n
+
+pub items_len-items_of : (ds : List Data) → items_len (items_of ds) ≡ length ds
+items_len-items_of [] = refl
+items_len-items_of (d ∷ ds) = ap suc (items_len-items_of ds)
+
+-- ---- what holds of each item
+
+pub all_at : {A : Type 0} (P : A → Type 0) (xs : List A) (n : ℕ) (x : A) → AllByRecursion P xs → slice_get xs n ≡ Some x → P x
+all_at P [] n x all e = absurd (none-some x e)
+all_at P (y ∷ ys) zero x all e = let same : y ≡ x = same_Some y x e in rw (← same) all.0
+all_at P (y ∷ ys) (suc n) x all e = all_at P ys n x all.1 e
+
+pub all_more : {A : Type 0} (P : A → Type 0) (xs : List A) (x : A) → AllByRecursion P xs → P x → AllByRecursion P (xs ++ x ∷ [])
+all_more P [] x all h = (h, tt)
+all_more P (y ∷ ys) x all h = (all.0, all_more P ys x all.1 h)
+
+-- an item of a list that was made from another comes from one of it
+pub from_item : {A B : Type 0} (f : A → B) (xs : List A) (n : ℕ) (y : B) → slice_get (map f xs) n ≡ Some y → (x : A) × (slice_get xs n ≡ Some x) × (y ≡ f x)
+from_item f xs n y e = from_map f (slice_get xs n) y (sym (slice_get-map f xs n) ∙ e)
+
+pub item_made : {A B : Type 0} (f : A → B) (xs : List A) (n : ℕ) (x : A) → slice_get xs n ≡ Some x → slice_get (map f xs) n ≡ Some (f x)
+item_made f xs n x e = slice_get-map f xs n ∙ rw e refl
+
+-- ---- what was read so far
+
+abbrev pub IsAny : {A : Type 0} → A → Type 0
+IsAny x = Unit {0}
+
+module _ {V D : Type 0} (see : V → D) where
+  -- an item before place i stands in front of it
+  pub in_front : (vs : List V) (i m : ℕ) → m < i → slice_get (map see (take i vs)) m ≡ slice_get (map see vs) m
+  in_front [] zero m low = refl
+  in_front [] (suc i) m low = refl
+  in_front (v ∷ vs) zero m low = absurd (omega arith)
+  in_front (v ∷ vs) (suc i) zero low = refl
+  in_front (v ∷ vs) (suc i) (suc m) low = in_front vs i m (omega arith)
+
+  -- the item that is read now
+  pub item_now : (vs : List V) (i : ℕ) (v : V) → i < length vs → v ≡ get_or vs i v → slice_get (map see vs) i ≡ Some (see v)
+  item_now vs i v low at = item_made see vs i v (slice_get-get_or vs i v low ∙ ap Some (sym at))
+
+-- the values are the trees of what they spell
+pub record Spell {V D A : Type 0} (see : V → D) (spell : A → D) (Is : A → Type 0) (vs : List V) (xs : List A) : Type 0 where
+  pub trees : map see vs ≡ map spell xs
+  pub all : AllByRecursion Is xs
+
+module _ {V D A : Type 0} (see : V → D) (spell : A → D) (Is : A → Type 0) where
+  -- one more
+  pub spell_more : (vs : List V) (i : ℕ) (v : V) (xs : List A) (x : A) → i < length vs → v ≡ get_or vs i v
+      → Spell see spell Is (take i vs) xs → see v ≡ spell x → Is x → Spell see spell Is (take (i + 1) vs) (xs ++ x ∷ [])
+  spell_more vs i v xs x low at so_far tree is =
+      let front : take (i + 1) vs ≡ take i vs ++ v ∷ [] = take_more vs i v low ∙ ap (λ y. take i vs ++ y ∷ []) (sym at) in
+      let trees : map see (take i vs ++ v ∷ []) ≡ map spell (xs ++ x ∷ []) =
+      map-append see (take i vs) (v ∷ []) ∙ rw (so_far.trees, tree) (sym (map-append spell xs (x ∷ []))) in
+      record { trees = ap (map see) front ∙ trees; all = all_more Is xs x so_far.all is }
+
+  -- an item among those that were read
+  pub spelled_before : (vs : List V) (i m : ℕ) (xs : List A) (d : D) → Spell see spell Is (take i vs) xs → m < i → slice_get (map see vs) m ≡ Some d
+      → (x : A) × (d ≡ spell x) × Is x
+  spelled_before vs i m xs d so_far low there =
+      let here : slice_get (map spell xs) m ≡ Some d = ap (λ ds. slice_get ds m) (sym so_far.trees) ∙ (in_front see vs i m low ∙ there) in
+      let p = from_item spell xs m d here in
+      (p.0, p.2, all_at Is xs m p.0 so_far.all p.1)
+
+  -- the first item that spells nothing
+  pub spell_stops : (Bad : D → Type 0) → ((x : A) → Is x → Bad (spell x) → ⊥) → (vs : List V) (i : ℕ) (v : V) (xs : List A)
+      → i < length vs → v ≡ get_or vs i v → Spell see spell Is (take i vs) xs → Bad (see v) → IsFirst Bad (map see vs) i
+  spell_stops Bad good vs i v xs low at so_far bad = record {
+    item = see v;
+    there = item_now see vs i v low at;
+    bad = bad;
+    first = λ m d below there wrong. let p = spelled_before vs i m xs d so_far below there in good p.0 p.2 (rw p.1 at wrong);
+  }

@@ -1,0 +1,77 @@
+-- What is read of a plan file is what its tree spells, and nothing is refused of it.
+use Rattle.std.proofs.Common.{◌≡◌, List, [], ◌∷◌, length, map, false, Some, refl, sym, ap, ◌∙◌}
+use Rattle.std.proofs.lemmas.List.{length-map}
+use Rattle.std.specs.List.{AllByRecursion}
+use Rattle.serde_json.specs.Data.{Data, Items, item}
+use Rattle.dl_documents.specs.Document.{SpellsPlans, is_script}
+use Rattle.dl_documents.specs.Faults.{Causes}
+use Rattle.dl_documents.specs.Inside.Read.{HasHead}
+use Rattle.dl_documents.specs.Inside.PlanFiles.{rows_tree, HasPlans, AreRead, AreLow, AreFew, AreRest}
+use Rattle.dl_documents.specs.Steps.{StepTree, step_tree, plans_tree, plan_tree, plan_view, IsStep, IsPlan}
+use Rattle.dl_documents.specs.declared.fault.PlanFault.{PlanFault}
+use Rattle.dl_documents.specs.declared.input.PlanFile.{PlanFile}
+use Rattle.dl_documents.specs.declared.limits.Numbers.{Numbers}
+use Rattle.dl_documents.proofs.LimitVerdicts.{gives_limits, numbers_of, are_given, clear_given}
+use Rattle.dl_documents.proofs.Order.{Clear, no_cause}
+use Rattle.dl_documents.proofs.PlanVerdicts.{clear_10}
+
+-- the lists of the steps' trees make the tree of the plans
+plans_rows : (plans : List (List StepTree)) → rows_tree (map (map step_tree) plans) ≡ plans_tree plans
+plans_rows [] = refl
+plans_rows (plan ∷ plans) = ap (item (plan_tree plan)) (plans_rows plans)
+
+all_plans : (plans : List (List StepTree)) → AllByRecursion (AllByRecursion IsStep) plans → AllByRecursion AreLow plans → AllByRecursion AreFew plans
+    → AllByRecursion IsPlan plans
+all_plans [] steps low few = tt
+all_plans (plan ∷ plans) steps low few = (record { steps = steps.0; low = low.0; few = few.0 }, all_plans plans steps.1 low.1 few.1)
+
+plans_steps : (plans : List (List StepTree)) → AllByRecursion IsPlan plans → AllByRecursion (AllByRecursion IsStep) plans
+plans_steps [] all = tt
+plans_steps (plan ∷ plans) all = (all.0.steps, plans_steps plans all.1)
+
+plans_low : (plans : List (List StepTree)) → AllByRecursion IsPlan plans → AllByRecursion AreLow plans
+plans_low [] all = tt
+plans_low (plan ∷ plans) all = (all.0.low, plans_low plans all.1)
+
+plans_few : (plans : List (List StepTree)) → AllByRecursion IsPlan plans → AllByRecursion AreFew plans
+plans_few [] all = tt
+plans_few (plan ∷ plans) all = (all.0.few, plans_few plans all.1)
+
+-- ---- what is spelled
+
+-- what was read is what the tree spells
+pub spells : (d : Data) (n : Numbers) (rows : List (List Data)) (tree : Data) (file : PlanFile) → is_script d ≡ false → HasHead d n → HasPlans d rows tree
+    → AreRead rows (map plan_view file.plans.items) → AreRest (map plan_view file.plans.items) tree n file.tables file.limits → SpellsPlans d file
+spells d n rows tree file kind head top read rest =
+    let plans : List (List StepTree) = map plan_view file.plans.items in
+    let size : length rows ≡ length file.plans.items =
+    ap (λ (xs : List (List Data)). length xs) read.trees ∙ (length-map plans (map step_tree) ∙ length-map file.plans.items plan_view) in
+    record {
+      kind = kind;
+      version = head.version;
+      members = head.members;
+      list = top.list ∙ ap (λ (ds : Items). Some ds) (ap rows_tree read.trees ∙ plans_rows plans);
+      count = rw size at top.count;
+      plans = all_plans plans read.steps rest.fit.low rest.fit.few;
+      tables = record { tree = tree; member = top.tables; spelled = rest.tables.spelled; lawful = rest.tables.lawful };
+      limits = gives_limits d n file.limits head.numbers rest.limits;
+    }
+
+-- nothing is refused of what spells a plan file
+pub plans_pass : (d : Data) (file : PlanFile) → SpellsPlans d file → (f : PlanFault) → Causes d f → ⊥
+plans_pass d file spelled =
+    let plans : List (List StepTree) = map plan_view file.plans.items in
+    let head : HasHead d (numbers_of file.limits) =
+    record { version = spelled.version; members = spelled.members; numbers = are_given d file.limits spelled.limits } in
+    let size : length (map (map step_tree) plans) ≡ length file.plans.items = length-map plans (map step_tree) ∙ length-map file.plans.items plan_view in
+    let top : HasPlans d (map (map step_tree) plans) spelled.tables.tree =
+    record {
+      list = spelled.list ∙ ap (λ (ds : Items). Some ds) (sym (plans_rows plans));
+      count = rw size spelled.count;
+      tables = spelled.tables.member;
+    } in
+    let low : Clear d 10 = clear_10 d (numbers_of file.limits) (map (map step_tree) plans) spelled.tables.tree spelled.kind head top plans
+    (record { trees = refl; steps = plans_steps plans spelled.plans })
+    (record { low = plans_low plans spelled.plans; few = plans_few plans spelled.plans })
+    spelled.tables.lawful in
+    no_cause d (clear_given d file.limits spelled.limits low)

@@ -1,0 +1,55 @@
+-- From the verdict on a document's tree to that on its bytes.
+use Rattle.std.proofs.Common.{◌≡◌, ◌⊎◌, inl, inr, ℕ, ◌≤◌, List, length, sym, ◌∙◌, arith}
+use Rattle.std.proofs.lemmas.Option.{same_Some}
+use Rattle.serde_json.specs.Data.{Data}
+use Rattle.dl_documents.specs.Document.{IsTextOf, Spells}
+use Rattle.dl_documents.specs.Faults.{Causes, CausesIn, Applies, IsLeast, most_bytes}
+use Rattle.dl_documents.specs.Inside.Read.{RefusedFor}
+use Rattle.dl_documents.specs.declared.fault.PlanFault.{PlanFault}
+use Rattle.dl_documents.specs.declared.fault.PlanFault.TheVariants.{TooLarge, NotJson, OutOfMemory}
+use Rattle.dl_documents.specs.declared.input.Input.{Input}
+use Rattle.dl_documents.specs.declared.input.Input.TheVariants as input
+use Rattle.dl_documents.proofs.ScriptVerdicts.{script_passes}
+use Rattle.dl_documents.proofs.PlanSpelling.{plans_pass}
+
+one_tree : (bytes : List ℕ) (d e : Data) → IsTextOf bytes d → IsTextOf bytes e → d ≡ e
+one_tree bytes d e a b = same_Some d e (sym a.read ∙ b.read)
+
+-- a cause in the tree applies to its bytes
+applies : (bytes : List ℕ) (d : Data) (f : PlanFault) → IsTextOf bytes d → Causes d f → Applies bytes f
+applies bytes d TooLarge text h = absurd h
+applies bytes d NotJson text h = absurd h
+applies bytes d OutOfMemory text h = absurd h
+applies bytes d f text h = record { tree = d; text = text; cause = h }
+
+cause : (bytes : List ℕ) (d : Data) (f : PlanFault) → IsTextOf bytes d → CausesIn bytes f → Causes d f
+cause bytes d f text h = rw (one_tree bytes d h.tree text h.text) h.cause
+
+-- what applies to the bytes of a tree that aren't too many is a cause in the tree
+cause_of : (bytes : List ℕ) (d : Data) (f : PlanFault) → length bytes ≤ most_bytes → IsTextOf bytes d → Applies bytes f → Causes d f
+cause_of bytes d TooLarge few text h = omega arith
+cause_of bytes d NotJson few text h = h d text
+cause_of bytes d OutOfMemory few text h = h
+cause_of bytes d f few text h = cause bytes d f text h
+
+-- the first refusal of the tree is that of the bytes
+least_in : (bytes : List ℕ) (d : Data) (f : PlanFault) → length bytes ≤ most_bytes → IsTextOf bytes d → IsLeast (Causes d) f → IsLeast (Applies bytes) f
+least_in bytes d f few text least = record {
+  applies = applies bytes d f text least.applies;
+  first = λ g h before. least.first g (cause_of bytes d g few text h) before;
+}
+
+pub refused_in : (bytes : List ℕ) (d : Data) (f : PlanFault) → length bytes ≤ most_bytes → IsTextOf bytes d → RefusedFor d f
+    → (f ≡ OutOfMemory) ⊎ IsLeast (Applies bytes) f
+refused_in bytes d f few text (inl memory) = inl memory
+refused_in bytes d f few text (inr least) = inr (least_in bytes d f few text least)
+
+-- ---- nothing is refused that was read
+
+tree_passes : (d : Data) (i : Input) → Spells d i → (f : PlanFault) → Causes d f → ⊥
+tree_passes d (input.Script s) spells f h = script_passes d s spells f h
+tree_passes d (input.Plans file) spells f h = plans_pass d file spells f h
+
+-- nothing applies to the bytes, not too many, of what was read
+pub passes : (bytes : List ℕ) (d : Data) (i : Input) → length bytes ≤ most_bytes → IsTextOf bytes d → Spells d i → (f : PlanFault) → Applies bytes f → ⊥
+passes bytes d i few text spells f h = tree_passes d i spells f (cause_of bytes d f few text h)

@@ -1,0 +1,90 @@
+-- Values beside the trees that they stand for.
+use Rattle.std.proofs.Common.{◌≡◌, ◌∙◌, sym, ap, ℕ, zero, suc, ◌<◌, ◌≤◌, List, [], ◌∷◌, ◌++◌, length, map, drop, get_or, Some, None, option_map}
+use Rattle.std.proofs.Common.{String, Vec, Global, string_bytes, refl, arith, rules}
+use Rattle.std.proofs.Math.Nat.{le-max_left, le-max_right}
+use Rattle.std.proofs.lemmas.List.{drop_all, append-nil}
+use Rattle.std.specs.Prelude.{slice_get}
+use Rattle.serde_json.specs.Data.{Data, depth, items_depth}
+use Rattle.serde_json.specs.Find.{as_array, as_object}
+use Rattle.serde_json.specs.View.{view, items_view, members_view}
+use Rattle.serde_json.specs.declared.value.Value.{Value}
+use Rattle.dl_source.proofs.Spelled.{array_of}
+use Rattle.dl_terms.specs.Tree.{all}
+use Rattle.dl_terms.specs.View.{term_view, terms_view}
+use Rattle.dl_terms.specs.declared.term.Term.{Term, the_lemmas}
+use Rattle.dl_terms.specs.declared.term.Term.TheVariants.{All}
+use Rattle.dl_documents.proofs.Found.{one_found}
+use Rattle.dl_documents.specs.TermReading.{together, gathers, term_named, term_in, parts_in, parts_of}
+use Rattle.dl_documents.specs.Reading.{one_of, one_in, two_of, two_in, three_of, three_in}
+
+two_of-other : (vs : List Value) → (length vs ≡ 2 → ⊥) → two_of (items_view vs) ≡ None
+two_of-other [] h = refl
+two_of-other (a ∷ []) h = refl
+two_of-other (a ∷ b ∷ []) h = absurd (h refl)
+two_of-other (a ∷ b ∷ c ∷ vs) h = refl
+
+-- a list of another length isn't one of two
+pub no_two : (d : Data) (vs : List Value) → Some (items_view vs) ≡ as_array d → (length vs ≡ 2 → ⊥) → None ≡ two_in d
+no_two d vs e h = rw (← e, two_of-other vs h) refl
+
+three_of-other : (vs : List Value) → (length vs ≡ 3 → ⊥) → three_of (items_view vs) ≡ None
+three_of-other [] h = refl
+three_of-other (a ∷ []) h = refl
+three_of-other (a ∷ b ∷ []) h = refl
+three_of-other (a ∷ b ∷ c ∷ []) h = absurd (h refl)
+three_of-other (a ∷ b ∷ c ∷ d ∷ vs) h = refl
+
+-- a list of another length isn't one of three
+pub no_three : (d : Data) (vs : List Value) → Some (items_view vs) ≡ as_array d → (length vs ≡ 3 → ⊥) → None ≡ three_in d
+no_three d vs e h = rw (← e, three_of-other vs h) refl
+
+one_of-first : (es : List (String Global × Value)) (k : String Global) (v : Value) → slice_get es 0 ≡ Some (k, v) → length es ≡ 1
+    → Some (string_bytes k, view v) ≡ one_of (members_view es)
+one_of-first [] k v e h = absurd (omega arith)
+one_of-first (x ∷ []) k v e h = cc
+one_of-first (x ∷ y ∷ es) k v e h = absurd (omega arith)
+
+-- the first of one member is that one
+pub one_first : (d : Data) (es : List (String Global × Value)) (k : String Global) (v : Value) → Some (members_view es) ≡ as_object d
+    → slice_get es 0 ≡ Some (k, v) → length es ≡ 1 → Some (string_bytes k, view v) ≡ one_in d
+one_first d es k v o e h = rw (← o) (one_of-first es k v e h)
+
+one_of-other : (es : List (String Global × Value)) → (length es ≡ 1 → ⊥) → None ≡ one_of (members_view es)
+one_of-other [] h = refl
+one_of-other (x ∷ []) h = absurd (h refl)
+one_of-other (x ∷ y ∷ es) h = refl
+
+-- an object that hasn't one member has no one member
+pub one_other : (d : Data) (es : List (String Global × Value)) → Some (members_view es) ≡ as_object d → (length es ≡ 1 → ⊥) → None ≡ one_in d
+one_other d es o h = rw (← o) (one_of-other es h)
+
+-- ---- terms
+
+-- the term of an object is that of its one member
+pub one_term : (d : Data) (name : List ℕ) (a : Data) → Some (name, a) ≡ one_in d → term_named name a (parts_in a) ≡ term_in d
+one_term d name a h = rw (one_found d (name, a) (sym h)) refl
+
+item_within : (vs : List Value) (i : ℕ) (v : Value) → i < length vs → v ≡ get_or vs i v → depth (view v) ≤ items_depth (items_view vs)
+item_within [] i v h is = absurd (omega arith)
+item_within (w ∷ vs) zero v h is = rw is (le-max_left (depth (view w)) (items_depth (items_view vs)))
+item_within (w ∷ vs) (suc i) v h is =
+    let low : depth (view v) ≤ items_depth (items_view vs) = item_within vs i v (omega arith) is in
+    omega (arith, low, le-max_right (depth (view w)) (items_depth (items_view vs)))
+
+-- an item nests less deep than its list
+pub item_lower : (d : Data) (vs : List Value) (i : ℕ) (v : Value) → Some (items_view vs) ≡ as_array d → i < length vs → v ≡ get_or vs i v
+    → depth (view v) < depth d
+item_lower d vs i v e h is = rw (array_of d (items_view vs) (sym e)) (omega (arith, item_within vs i v h is))
+
+term_view-All : (v : Vec Term Global) → term_view (All v) ≡ all (terms_view v.items)
+term_view-All v = search (rules, the_lemmas)
+
+-- the terms that were read of all items
+pub all_read : (d : Data) (vs : List Value) (parts : Vec Term Global) (i : ℕ) → Some (items_view vs) ≡ as_array d → length vs ≤ i
+    → option_map (λ ts. map term_view parts.items ++ ts) (together (parts_of (items_view (drop i vs)))) ≡ together (parts_of (items_view vs))
+    → Some (term_view (All parts)) ≡ gathers (parts_in d) d
+all_read d vs parts i e long read =
+    let none : drop i vs ≡ [] = drop_all i vs long in
+    let found : Some (map term_view parts.items) ≡ together (parts_of (items_view vs)) =
+    ap Some (sym (append-nil (map term_view parts.items))) ∙ rw none at read in
+    rw (array_of d (items_view vs) (sym e), ← found) (ap Some (term_view-All parts))

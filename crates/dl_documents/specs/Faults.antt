@@ -1,0 +1,197 @@
+-- When a document is refused, and which of several causes counts.
+use Rattle.std.specs.Prelude.{◌≡◌, ◌⊎◌, ℕ, ◌<◌, ℤ, pos, List, length, false, codes, Some, None}
+use Rattle.serde_json.specs.Data.{Data, array, Items}
+use Rattle.serde_json.specs.Events.{items_len}
+use Rattle.serde_json.specs.Find.{as_array, get, get_item}
+use Rattle.dl_desk.specs.Limits.{IsLimit}
+use Rattle.dl_desk.specs.declared.fault.LimitFault.{LimitFault}
+use Rattle.dl_desk.specs.declared.fault.LimitFault.TheVariants.{BatchLimit, CellLimit, CallLimit}
+use Rattle.dl_source.specs.Faults as table
+use Rattle.dl_source.specs.declared.fault.TableFault.{TableFault}
+use Rattle.dl_terms.specs.Plans.{ArePlans}
+use Rattle.dl_terms.specs.Tree.{Tree, height_of}
+use Rattle.dl_documents.specs.Script.{call_tree, IsCall}
+use Rattle.dl_documents.specs.Steps.{StepTree, eval, step_tree, IsStep, most_height, most_steps}
+use Rattle.dl_documents.specs.Document.{IsTextOf, IsFirstVersion, has_only_known, is_script, items_at, list_name, number_at}
+use Rattle.dl_documents.specs.declared.fault.PlanFault.{PlanFault}
+use Rattle.dl_documents.specs.declared.fault.PlanFault.TheVariants.{TooLarge, NotJson, Version, Top, BadCall}
+use Rattle.dl_documents.specs.declared.fault.PlanFault.TheVariants.{Shape, TooDeep, TooManySteps, Table, Limit, OutOfMemory}
+use Rattle.dl_documents.specs.declared.input.ScriptCall.{ScriptCall}
+
+-- ---- causes at the top
+
+-- the member of each limit
+abbrev pub limit_name : LimitFault → List ℕ
+limit_name BatchLimit = codes "maxBatchSize"
+limit_name CellLimit = codes "maxCells"
+limit_name CallLimit = codes "maxCalls"
+
+-- The members aren't those of a document of its kind: a strange one, no list of calls or plans, no tables or no list of 1 to 16
+-- lists in a plan file, or a limit that is no whole number.
+pub data IsBadTop (d : Data) : Type 0 where
+  HasStrange : has_only_known d ≡ false → IsBadTop d
+  LacksList : items_at (list_name d) d ≡ None → IsBadTop d
+  LacksTables : is_script d ≡ false → get (codes "tables") d ≡ None → IsBadTop d
+  HasOtherCount : (ds : Items) → is_script d ≡ false → items_at (codes "plans") d ≡ Some ds → (ArePlans (items_len ds) → ⊥) → IsBadTop d
+  HasNoPlan : (ds : Items) (n : ℕ) (plan : Data) → is_script d ≡ false → items_at (codes "plans") d ≡ Some ds → get_item n ds ≡ Some plan
+      → as_array plan ≡ None → IsBadTop d
+  HasNoNumber : (l : LimitFault) → number_at (limit_name l) d ≡ None → IsBadTop d
+
+-- ---- causes in calls
+
+-- the tree spells no call
+abbrev pub IsNoCall : Data → Type 0
+IsNoCall d = (c : ScriptCall) → IsCall c → d ≡ call_tree c → ⊥
+
+-- item n of the list is no call
+pub record IsBadAt (ds : Items) (n : ℕ) : Type 0 where
+  pub tree : Data
+  pub there : get_item n ds ≡ Some tree
+  pub no_call : IsNoCall tree
+
+-- item n of the document's calls is no call
+pub record IsBadCall (d : Data) (n : ℕ) : Type 0 where
+  pub items : Items
+  pub list : items_at (codes "calls") d ≡ Some items
+  pub bad : IsBadAt items n
+
+-- ---- causes in plans
+
+-- plan n of the document is this list
+pub record IsPlanAt (d : Data) (n : ℕ) (steps : Items) : Type 0 where
+  pub plans : Items
+  pub list : items_at (codes "plans") d ≡ Some plans
+  pub there : get_item n plans ≡ Some (array steps)
+
+-- step s of plan n of the document is this tree
+pub record IsStepAt (d : Data) (n s : ℕ) (step : Data) : Type 0 where
+  pub steps : Items
+  pub plan : IsPlanAt d n steps
+  pub there : get_item s steps ≡ Some step
+
+-- the tree spells no step
+abbrev pub IsNoStep : Data → Type 0
+IsNoStep d = (s : StepTree) → IsStep s → d ≡ step_tree s → ⊥
+
+-- the tree spells a step whose term is too high
+pub record IsTooDeep (d : Data) : Type 0 where
+  pub term : Tree
+  pub is : IsStep (eval term)
+  pub spelled : d ≡ step_tree (eval term)
+  pub high : most_height < height_of term
+
+-- step s of plan n is no step
+abbrev pub IsBadStep : Data → ℕ → ℕ → Type 0
+IsBadStep d n s = (step : Data) × IsStepAt d n s step × IsNoStep step
+
+-- the term of step s of plan n is too high
+abbrev pub IsDeepStep : Data → ℕ → ℕ → Type 0
+IsDeepStep d n s = (step : Data) × IsStepAt d n s step × IsTooDeep step
+
+-- plan n has too many steps
+abbrev pub IsLongPlan : Data → ℕ → Type 0
+IsLongPlan d n = (steps : Items) × IsPlanAt d n steps × (most_steps < items_len steps)
+
+-- the member `tables` is refused for the fault
+abbrev pub IsBadTable : Data → TableFault → Type 0
+IsBadTable d f = (tables : Data) × (get (codes "tables") d ≡ Some tables) × table.Causes tables f
+
+-- ---- causes in limits
+
+-- a number that no limit is
+abbrev pub IsOutside : ℤ → Type 0
+IsOutside z = (n : ℕ) → IsLimit n → z ≡ pos n → ⊥
+
+-- the member is a whole number that is no limit
+pub record IsBadLimit (name : List ℕ) (d : Data) : Type 0 where
+  pub given : ℤ
+  pub number : number_at name d ≡ Some given
+  pub outside : IsOutside given
+
+-- ---- causes
+
+-- what in a document's tree is a cause of a refusal
+abbrev pub Causes : Data → PlanFault → Type 0
+Causes d TooLarge = ⊥
+Causes d NotJson = ⊥
+Causes d Version = IsFirstVersion d → ⊥
+Causes d Top = IsBadTop d
+Causes d (BadCall n) = IsBadCall d n
+Causes d (Shape n s) = IsBadStep d n s
+Causes d (TooDeep n s) = IsDeepStep d n s
+Causes d (TooManySteps n) = IsLongPlan d n
+Causes d (Table f) = IsBadTable d f
+Causes d (Limit l) = IsBadLimit (limit_name l) d
+Causes d OutOfMemory = ⊥
+
+-- a cause in the tree that the bytes are the text of
+pub record CausesIn (bytes : List ℕ) (f : PlanFault) : Type 0 where
+  pub tree : Data
+  pub text : IsTextOf bytes tree
+  pub cause : Causes tree f
+
+-- the most bytes of a document
+abbrev pub most_bytes : ℕ
+most_bytes = 1048576
+
+-- the refusal has a cause in the bytes
+abbrev pub Applies : List ℕ → PlanFault → Type 0
+Applies bytes TooLarge = most_bytes < length bytes
+Applies bytes NotJson = (d : Data) → IsTextOf bytes d → ⊥
+Applies bytes Version = CausesIn bytes Version
+Applies bytes Top = CausesIn bytes Top
+Applies bytes (BadCall n) = CausesIn bytes (BadCall n)
+Applies bytes (Shape n s) = CausesIn bytes (Shape n s)
+Applies bytes (TooDeep n s) = CausesIn bytes (TooDeep n s)
+Applies bytes (TooManySteps n) = CausesIn bytes (TooManySteps n)
+Applies bytes (Table f) = CausesIn bytes (Table f)
+Applies bytes (Limit l) = CausesIn bytes (Limit l)
+Applies bytes OutOfMemory = ⊥
+
+-- ---- the order of refusals
+
+abbrev pub limit_number : LimitFault → ℕ
+limit_number BatchLimit = 1
+limit_number CellLimit = 2
+limit_number CallLimit = 3
+
+-- the numbers of refusals
+abbrev pub number : PlanFault → ℕ
+number TooLarge = 1
+number NotJson = 2
+number Version = 3
+number Top = 4
+number (BadCall n) = 5
+number (Shape n s) = 6
+number (TooDeep n s) = 7
+number (TooManySteps n) = 8
+number (Table f) = 9
+number (Limit l) = 10
+number OutOfMemory = 11
+
+-- where a refusal among those of its number stands: its call or plan, and then its step
+abbrev pub place : PlanFault → ℕ × ℕ
+place TooLarge = (0, 0)
+place NotJson = (0, 0)
+place Version = (0, 0)
+place Top = (0, 0)
+place (BadCall n) = (n, 0)
+place (Shape n s) = (n, s)
+place (TooDeep n s) = (n, s)
+place (TooManySteps n) = (n, 0)
+place (Table f) = (table.number f, 0)
+place (Limit l) = (limit_number l, 0)
+place OutOfMemory = (0, 0)
+
+-- a place comes before another: by its first number, and then by its second
+abbrev pub IsEarlier : ℕ × ℕ → ℕ × ℕ → Type 0
+IsEarlier p q = (p.0 < q.0) ⊎ ((p.0 ≡ q.0) × (p.1 < q.1))
+
+-- the refusal f comes before g: by its number, and then by its place
+abbrev pub IsBefore : PlanFault → PlanFault → Type 0
+IsBefore f g = (number f < number g) ⊎ ((number f ≡ number g) × IsEarlier (place f) (place g))
+
+-- of the refusals that apply, f is one, and none comes before it
+pub record IsLeast (P : PlanFault → Type 0) (f : PlanFault) : Type 0 where
+  pub applies : P f
+  pub first : (g : PlanFault) → P g → IsBefore g f → ⊥

@@ -1,0 +1,4 @@
+pub mod Read
+pub mod Places
+pub mod Scripts
+pub mod PlanFiles

@@ -1,0 +1,164 @@
+-- What is read of a plan file.
+use Rattle.std.specs.Prelude.{◌≡◌, ◌⊎◌, ℕ, ◌<◌, ◌≤◌, List, length, map, Bool, false, nat_lt, codes, Some, None}
+use Rattle.std.specs.Borrow.{Bor}
+use Rattle.std.specs.List.{AllByRecursion, slice_get}
+use Rattle.serde_json.specs.Data.{Data, array, Items}
+use Rattle.serde_json.specs.Find.{as_array, get}
+use Rattle.serde_json.specs.View.{view, items_of}
+use Rattle.serde_json.specs.declared.value.Value.{Value}
+use Rattle.dl_desk.specs.Limits.{Limits}
+use Rattle.dl_desk.specs.declared.fault.LimitFault.{LimitFault}
+use Rattle.dl_source.specs.Faults as table
+use Rattle.dl_source.specs.Listing.{NamedTables}
+use Rattle.dl_source.specs.Spelling.{Spells as SpellsTables}
+use Rattle.dl_source.specs.declared.fault.TableFault.{TableFault}
+use Rattle.dl_terms.specs.Plans.{ArePlans}
+use Rattle.dl_terms.specs.Tree.{height_of}
+use Rattle.dl_documents.specs.Document.{items_at}
+use Rattle.dl_documents.specs.Faults.{IsNoStep}
+use Rattle.dl_documents.specs.Inside.Places.{IsFirst, IsFirstIn}
+use Rattle.dl_documents.specs.Numbers.{AreLimitsOf, IsFirstOutside}
+use Rattle.dl_documents.specs.Steps.{StepTree, prime, clear, clear_all, eval, step_tree, IsStep, IsLow, most_height, most_steps}
+use Rattle.dl_documents.specs.declared.fault.PlanFault.{PlanFault}
+use Rattle.dl_documents.specs.declared.fault.PlanFault.TheVariants.{Shape, TooDeep, TooManySteps, Table, Limit}
+use Rattle.dl_documents.specs.declared.limits.Numbers.{Numbers}
+
+-- ---- the top
+
+abbrev pub row_tree : List Data → Data
+row_tree ds = array (items_of ds)
+
+-- the list of lists
+abbrev pub rows_tree : List (List Data) → Items
+rows_tree rows = items_of (map row_tree rows)
+
+-- lists of values, as lists of trees
+abbrev pub rows_view : List (Bor (List Value)) → List (List Data)
+rows_view lists = map (λ l. map view l.now) lists
+
+-- the document has 1 to 16 plans, which are these lists, and this member `tables`
+pub record HasPlans (d : Data) (rows : List (List Data)) (tree : Data) : Type 0 where
+  pub list : items_at (codes "plans") d ≡ Some (rows_tree rows)
+  pub count : ArePlans (length rows)
+  pub tables : get (codes "tables") d ≡ Some tree
+
+-- the trees are these lists
+abbrev pub AreRows : List Data → List (List Data) → Type 0
+AreRows ds rows = ds ≡ map row_tree rows
+
+-- one of the trees is no list
+abbrev pub HasOther : List Data → Type 0
+HasOther ds = (n : ℕ) × (d : Data) × (slice_get ds n ≡ Some d) × (as_array d ≡ None)
+
+-- ---- steps
+
+-- the trees spell the steps
+pub record IsPlanOf (ds : List Data) (plan : List StepTree) : Type 0 where
+  pub trees : ds ≡ map step_tree plan
+  pub steps : AllByRecursion IsStep plan
+
+-- the lists of trees spell the steps of each plan
+pub record AreRead (rows : List (List Data)) (plans : List (List StepTree)) : Type 0 where
+  pub trees : rows ≡ map (map step_tree) plans
+  pub steps : AllByRecursion (AllByRecursion IsStep) plans
+
+-- the fault names the first tree of a plan that spells no step
+pub record IsFirstBadIn (plan : ℕ) (ds : List Data) (f : PlanFault) : Type 0 where
+  pub step : ℕ
+  pub names : f ≡ Shape plan step
+  pub first : IsFirst IsNoStep ds step
+
+-- the fault names the first tree of all plans that spells no step
+pub record IsFirstBadStep (rows : List (List Data)) (f : PlanFault) : Type 0 where
+  pub plan : ℕ
+  pub step : ℕ
+  pub names : f ≡ Shape plan step
+  pub first : IsFirstIn IsNoStep rows plan step
+
+-- ---- heights and numbers of steps
+
+abbrev pub is_high : StepTree → Bool
+is_high (prime k o) = false
+is_high (clear k) = false
+is_high clear_all = false
+is_high (eval t) = nat_lt most_height (height_of t)
+
+abbrev pub is_long : List StepTree → Bool
+is_long steps = nat_lt most_steps (length steps)
+
+-- a step whose term is too high
+abbrev pub IsHigh : StepTree → Type 0
+IsHigh (prime k o) = ⊥
+IsHigh (clear k) = ⊥
+IsHigh clear_all = ⊥
+IsHigh (eval t) = most_height < height_of t
+
+-- no term of the plan is too high
+abbrev pub AreLow : List StepTree → Type 0
+AreLow steps = AllByRecursion IsLow steps
+
+-- the plan hasn't too many steps
+abbrev pub AreFew : List StepTree → Type 0
+AreFew steps = length steps ≤ most_steps
+
+abbrev pub AreMany : List StepTree → Type 0
+AreMany steps = most_steps < length steps
+
+-- no plan is refused
+pub record Fit (plans : List (List StepTree)) : Type 0 where
+  pub low : AllByRecursion AreLow plans
+  pub few : AllByRecursion AreFew plans
+
+-- the fault names the first term that is too high
+pub record IsFirstHigh (plans : List (List StepTree)) (f : PlanFault) : Type 0 where
+  pub plan : ℕ
+  pub step : ℕ
+  pub names : f ≡ TooDeep plan step
+  pub first : IsFirstIn IsHigh plans plan step
+
+-- no term is too high, and the fault names the first plan that has too many steps
+pub record IsFirstLong (plans : List (List StepTree)) (f : PlanFault) : Type 0 where
+  pub plan : ℕ
+  pub names : f ≡ TooManySteps plan
+  pub low : AllByRecursion AreLow plans
+  pub first : IsFirst AreMany plans plan
+
+abbrev pub IsMisfit : List (List StepTree) → PlanFault → Type 0
+IsMisfit plans f = IsFirstHigh plans f ⊎ IsFirstLong plans f
+
+-- ---- tables and limits
+
+-- the tree spells the tables, of which nothing is refused
+pub record AreTables (tree : Data) (tables : NamedTables) : Type 0 where
+  pub spelled : SpellsTables tree tables
+  pub lawful : (f : TableFault) → table.Causes tree f → ⊥
+
+-- the tree is refused as tables
+pub record IsTableRefusal (tree : Data) (f : PlanFault) : Type 0 where
+  pub fault : TableFault
+  pub names : f ≡ Table fault
+  pub least : table.IsLeast tree fault
+
+-- the plans fit, the tree spells the tables, and the numbers are the limits
+pub record AreRest (plans : List (List StepTree)) (tree : Data) (n : Numbers) (named : NamedTables) (l : Limits) : Type 0 where
+  pub fit : Fit plans
+  pub tables : AreTables tree named
+  pub limits : AreLimitsOf n l
+
+-- the plans fit, and the tree is refused as tables
+pub record IsBadTables (plans : List (List StepTree)) (tree : Data) (f : PlanFault) : Type 0 where
+  pub fit : Fit plans
+  pub refused : IsTableRefusal tree f
+
+-- the plans fit, the tree spells tables, and the fault names the first number that is no limit
+pub record IsBadNumber (plans : List (List StepTree)) (tree : Data) (n : Numbers) (f : PlanFault) : Type 0 where
+  pub fit : Fit plans
+  pub tables : NamedTables
+  pub spelled : AreTables tree tables
+  pub which : LimitFault
+  pub names : f ≡ Limit which
+  pub outside : IsFirstOutside n which
+
+-- the plans, the tree or a number is refused, the first of them
+abbrev pub IsRefusal : List (List StepTree) → Data → Numbers → PlanFault → Type 0
+IsRefusal plans tree n f = IsMisfit plans f ⊎ (IsBadTables plans tree f ⊎ IsBadNumber plans tree n f)

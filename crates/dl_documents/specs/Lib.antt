@@ -1,0 +1,11 @@
+pub mod Script
+pub mod Terms
+pub mod Steps
+pub mod Document
+pub mod Faults
+pub mod Numbers
+pub mod Reading
+pub mod TermReading
+pub mod StepReading
+-- words of private functions, and of what values are made of
+pub mod Inside

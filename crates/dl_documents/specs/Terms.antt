@@ -1,0 +1,65 @@
+-- How terms are spelled in JSON: each has one tree.
+use Rattle.std.specs.Prelude.{◌≡◌, ◌≤◌, length, false, codes}
+use Rattle.serde_json.specs.Data.{Data, null, string, array, Items, no_items, item}
+use Rattle.serde_json.specs.Written.{has_float}
+use Rattle.dl_desk.specs.Key.{IsKey, table_bytes}
+use Rattle.dl_terms.specs.Tree.{Name, Tree, ended, load, pick, follow, each, all, Trees, no_trees, tree}
+use Rattle.dl_terms.specs.declared.answer.Answer.{Answer}
+use Rattle.dl_terms.specs.declared.answer.Answer.TheVariants.{Value, Fault}
+use Rattle.dl_documents.specs.Script.{key_tree, one}
+
+-- ---- trees
+
+abbrev pub two : Data → Data → Data
+two a b = array (item a (item b no_items))
+
+abbrev pub three : Data → Data → Data → Data
+three a b c = array (item a (item b (item c no_items)))
+
+-- a term that has ended is a value; no document spells a fault
+abbrev pub answer_tree : Answer → Data
+answer_tree (Value d) = one (codes "value") d
+answer_tree (Fault f) = null
+
+-- a term is an object with one member, its form, whose value has its parts
+abbrev mutual
+  pub term_tree : Tree → Data
+  term_tree (ended a) = answer_tree a
+  term_tree (load k) = one (codes "load") (key_tree k)
+  term_tree (pick t field) = one (codes "pick") (two (term_tree t) (string field))
+  term_tree (follow t field table) = one (codes "follow") (three (term_tree t) (string field) (string table))
+  term_tree (each t field table) = one (codes "each") (three (term_tree t) (string field) (string table))
+  term_tree (all ts) = one (codes "all") (array (terms_tree ts))
+
+  pub terms_tree : Trees → Items
+  terms_tree no_trees = no_items
+  terms_tree (tree t ts) = item (term_tree t) (terms_tree ts)
+
+-- ---- terms
+
+-- all numbers of a value are whole
+abbrev pub IsWhole : Data → Type 0
+IsWhole d = has_float d ≡ false
+
+-- the name of a table has 1 to 64 bytes
+pub record IsTableName (text : Name) : Type 0 where
+  pub some : 1 ≤ length text
+  pub short : length text ≤ table_bytes
+
+abbrev pub IsValue : Answer → Type 0
+IsValue (Value d) = IsWhole d
+IsValue (Fault f) = ⊥
+
+-- the values, keys and names of a term are such
+abbrev mutual
+  pub IsTerm : Tree → Type 0
+  IsTerm (ended a) = IsValue a
+  IsTerm (load k) = IsKey k
+  IsTerm (pick t field) = IsTerm t
+  IsTerm (follow t field table) = IsTerm t × IsTableName table
+  IsTerm (each t field table) = IsTerm t × IsTableName table
+  IsTerm (all ts) = AreTerms ts
+
+  pub AreTerms : Trees → Type 0
+  AreTerms no_trees = Unit {0}
+  AreTerms (tree t ts) = IsTerm t × AreTerms ts

@@ -1,0 +1,73 @@
+//! Reading the limits of a document.
+
+ghost use Rattle.std.specs.Prelude.{◌≡◌, pos, IfOk, IfErr, MatchOption};
+ghost use Rattle.serde_json.specs.View.{view};
+ghost use Rattle.dl_desk.specs.Limits.{IsLimit, IsNoLimit};
+ghost use Rattle.dl_documents.specs.Document.{whole, number_at};
+ghost use Rattle.dl_documents.specs.Faults.{IsOutside};
+ghost use Rattle.dl_documents.specs.Numbers.{AreGiven, LacksNumber, AreLimitsOf, IsFirstOutside};
+
+use dl_desk::{LARGEST_LIMIT, LimitFault, Limits};
+use serde_json::Value;
+
+/// The whole numbers that a document gives for its limits.
+#[derive(Clone, Copy, Debug)]
+pub struct Numbers {
+    pub max_batch: i128,
+    pub max_cells: i128,
+    pub max_calls: i128,
+}
+
+/// The numbers of a document, if each is a whole number.
+pub fn given(document: &Value) -> Option<Numbers>
+    ensures { MatchOption result (LacksNumber (view document.now)) (AreGiven (view document.now)) }
+{
+    let max_batch = number(document, "maxBatchSize")?;
+    let max_cells = number(document, "maxCells")?;
+    let max_calls = number(document, "maxCalls")?;
+    Some(Numbers {
+        max_batch,
+        max_cells,
+        max_calls,
+    })
+}
+
+/// The limits that the numbers are.
+///
+/// # Errors
+/// The first of the three that is no limit.
+pub fn limits(numbers: Numbers) -> Result<Limits, LimitFault>
+    ensures ok { IfOk result (AreLimitsOf numbers) }
+    ensures err { IfErr result (IsFirstOutside numbers) }
+{
+    Limits::new(
+        limit(numbers.max_batch),
+        limit(numbers.max_cells),
+        limit(numbers.max_calls),
+    )
+}
+
+/// The whole number of a member, and the largest limit where there is no such member.
+fn number(document: &Value, name: &str) -> Option<i128>
+    ensures { result ≡ number_at name.now (view document.now) }
+{
+    match document.get(name) {
+        Some(value) => whole(value),
+        None => Some(i128::from(LARGEST_LIMIT)),
+    }
+}
+
+/// The value as a whole number, if it is one.
+pub fn whole(value: &Value) -> Option<i128>
+    ensures { result ≡ whole (view value.now) }
+{
+    value.as_number()?.as_i128()
+}
+
+/// The number as one that a limit may be, and 0, which no limit is, where there is none.
+fn limit(number: i128) -> u32
+    ensures inside { IsLimit result → number ≡ pos result }
+    ensures outside { IsNoLimit result → IsOutside number }
+{
+    u32::try_from(number).unwrap_or(0)
+}

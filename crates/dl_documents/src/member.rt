@@ -1,0 +1,29 @@
+//! Members of JSON objects.
+
+ghost use Rattle.std.specs.Prelude.{◌≡◌, map, option_map};
+ghost use Rattle.serde_json.specs.View.{view, items_view};
+ghost use Rattle.dl_documents.specs.Document.{items_at};
+ghost use Rattle.dl_documents.specs.Reading.{one_in};
+
+use serde_json::Value;
+
+/// The name and the value of an object's one member.
+pub fn only(value: &Value) -> Option<(&str, &Value)>
+    ensures { option_map (λ p. (p.0.now, view p.1.now)) result ≡ one_in (view value.now) }
+{
+    let members = value.as_object()?;
+    let (name, argument) = members.first_key_value()?;
+    if members.len() == 1 {
+        Some((name.as_str(), argument))
+    } else {
+        None
+    }
+}
+
+/// The list that a member of a document is.
+pub fn list<'a>(document: &'a Value, name: &str) -> Option<&'a [Value]>
+    ensures { option_map (λ l. items_view l.now) result ≡ items_at name.now (view document.entry.now) }
+{
+    let list = document.get(name)?.as_array()?;
+    Some(list.as_slice())
+}

@@ -1,0 +1,217 @@
+//! Reading plan files.
+
+ghost use Rattle.std.specs.Prelude.{◌≡◌, ◌⊎◌, false, map, IfOk, IfErr, MatchOption};
+ghost use Rattle.std.specs.List.{position, AllByRecursion};
+ghost use Rattle.serde_json.specs.View.{view};
+ghost use Rattle.dl_documents.specs.Document.{SpellsPlans, is_script};
+ghost use Rattle.dl_documents.specs.Faults.{IsBadTop};
+ghost use Rattle.dl_documents.specs.Steps.{plan_view, step_view};
+ghost use Rattle.dl_documents.specs.Inside.Read.{HasHead, RefusedFor};
+ghost use Rattle.dl_documents.specs.Inside.PlanFiles.{rows_view, HasPlans, AreRows, HasOther, IsPlanOf, IsFirstBadIn, AreRead, IsFirstBadStep};
+ghost use Rattle.dl_documents.specs.Inside.PlanFiles.{is_high, is_long, AreLow, IsFirstHigh, Fit, IsMisfit, AreTables, IsTableRefusal, AreRest, IsRefusal};
+
+use crate::fault::PlanFault;
+use crate::input::PlanFile;
+use crate::limits::{self, Numbers};
+use crate::member;
+use crate::steps::read_step;
+use dl_desk::Limits;
+use dl_source::{TableFault, Tables};
+use dl_terms::{MOST_PLANS, Plan, Step};
+use serde_json::Value;
+use std::alloc::Global;
+use std::hash::RandomState;
+
+/// The greatest height of a step's term.
+pub const MOST_HEIGHT: u32 = 32;
+
+/// The most steps of a plan.
+pub const MOST_STEPS: usize = 256;
+
+/// The plan file that a document is. Its head has been read, with the numbers of its limits.
+///
+/// # Errors
+/// The first cause that applies, or want of memory.
+pub fn plan_file(
+    alloc: Global,
+    hashing: RandomState,
+    document: &Value,
+    numbers: Numbers,
+) -> Result<PlanFile, PlanFault>
+    requires kind { is_script (view document.now) ≡ false }
+    requires head { HasHead (view document.now) numbers }
+    ensures ok { IfOk result (SpellsPlans (view document.now)) }
+    ensures err { IfErr result (RefusedFor (view document.now)) }
+{
+    let (lists, tables) = top(alloc, document)?;
+    let plans = plans(alloc, lists.as_slice())?;
+    let (tables, limits) = rest(alloc, hashing, plans.as_slice(), tables, numbers)?;
+    Ok(PlanFile {
+        limits,
+        tables,
+        plans,
+    })
+}
+
+// ---- the top
+
+/// The lists of steps of a document's plans, and the value of its tables.
+fn top<'a>(alloc: Global, document: &'a Value) -> Result<(Vec<&'a [Value]>, &'a Value), PlanFault>
+    requires { is_script (view document.now) ≡ false }
+    ensures ok { IfOk result (λ p. HasPlans (view document.entry.now) (rows_view p.0.items) (view p.1.now)) }
+    ensures err { IfErr result (λ f. (f ≡ PlanFault.OutOfMemory) ⊎ ((f ≡ PlanFault.Top) × IsBadTop (view document.entry.now))) }
+{
+    let Some(tables) = document.get("tables") else {
+        return Err(PlanFault::Top);
+    };
+    let Some(plans) = member::list(document, "plans") else {
+        return Err(PlanFault::Top);
+    };
+    if plans.is_empty() || plans.len() > MOST_PLANS {
+        return Err(PlanFault::Top);
+    }
+    let lists = lists(alloc, plans)?;
+    Ok((lists, tables))
+}
+
+/// The lists that the items are.
+///
+/// # Errors
+/// `Top` where one is no list, and want of memory.
+fn lists<'a>(alloc: Global, items: &'a [Value]) -> Result<Vec<&'a [Value]>, PlanFault>
+    ensures ok { IfOk result (λ ls. AreRows (map view items.entry.now) (rows_view ls.items)) }
+    ensures err { IfErr result (λ f. (f ≡ PlanFault.OutOfMemory) ⊎ ((f ≡ PlanFault.Top) × HasOther (map view items.entry.now))) }
+{
+    let mut lists = Vec::new(alloc);
+    'items: for item in items {
+        let list = item.as_array().ok_or(PlanFault::Top)?;
+        lists.push(list.as_slice())?;
+    }
+    Ok(lists)
+}
+
+// ---- steps
+
+/// The plans whose steps the lists have.
+///
+/// # Errors
+/// `Shape` at the first item that is no step, and want of memory.
+fn plans(alloc: Global, lists: &[&[Value]]) -> Result<Vec<Plan>, PlanFault>
+    ensures ok { IfOk result (λ ps. AreRead (rows_view lists.now) (map plan_view ps.items)) }
+    ensures err { IfErr result (λ f. (f ≡ PlanFault.OutOfMemory) ⊎ IsFirstBadStep (rows_view lists.now) f) }
+{
+    let mut plans = Vec::new(alloc);
+    'lists: for (index, list) in lists.iter().enumerate() {
+        let plan = plan(alloc, index, list)?;
+        plans.push(plan)?;
+    }
+    Ok(plans)
+}
+
+/// The plan of this number, whose steps the items are.
+fn plan(alloc: Global, number: usize, items: &[Value]) -> Result<Plan, PlanFault>
+    ensures ok { IfOk result (λ p. IsPlanOf (map view items.now) (plan_view p)) }
+    ensures err { IfErr result (λ f. (f ≡ PlanFault.OutOfMemory) ⊎ IsFirstBadIn number (map view items.now) f) }
+{
+    let mut steps = Vec::new(alloc);
+    'items: for (index, item) in items.iter().enumerate() {
+        let step = read_step(alloc, item)?;
+        let step = step.ok_or(PlanFault::Shape {
+            plan: number,
+            step: index,
+        })?;
+        steps.push(step)?;
+    }
+    Ok(Plan { steps })
+}
+
+// ---- what is tested once all steps are read
+
+/// The tables and the limits, unless the plans, the tables or a number are refused, in this order.
+fn rest(
+    alloc: Global,
+    hashing: RandomState,
+    plans: &[Plan],
+    tables: &Value,
+    numbers: Numbers,
+) -> Result<(Tables, Limits), PlanFault>
+    ensures ok { IfOk result (λ p. AreRest (map plan_view plans.now) (view tables.now) numbers p.0 p.1) }
+    ensures err { IfErr result (λ f. (f ≡ PlanFault.OutOfMemory) ⊎ IsRefusal (map plan_view plans.now) (view tables.now) numbers f) }
+{
+    if let Some(fault) = misfit(plans) {
+        return Err(fault);
+    }
+    let tables = read_tables(alloc, hashing, tables)?;
+    match limits::limits(numbers) {
+        Ok(limits) => Ok((tables, limits)),
+        Err(fault) => Err(PlanFault::Limit(fault)),
+    }
+}
+
+/// Why the plans are refused: their first term that is too high, or else the first plan that has too many steps.
+fn misfit(plans: &[Plan]) -> Option<PlanFault>
+    ensures { MatchOption result (Fit (map plan_view plans.now)) (IsMisfit (map plan_view plans.now)) }
+{
+    if let Some(fault) = too_deep(plans) {
+        return Some(fault);
+    }
+    match first_long(plans) {
+        Some(plan) => Some(PlanFault::TooManySteps { plan }),
+        None => None,
+    }
+}
+
+/// The refusal of the first term that is too high.
+fn too_deep(plans: &[Plan]) -> Option<PlanFault>
+    ensures { MatchOption result (AllByRecursion AreLow (map plan_view plans.now)) (IsFirstHigh (map plan_view plans.now)) }
+{
+    'plans: for (index, plan) in plans.iter().enumerate() {
+        if let Some(step) = first_high(plan) {
+            return Some(PlanFault::TooDeep { plan: index, step });
+        }
+    }
+    None
+}
+
+/// The first step of a plan whose term is too high.
+fn first_high(plan: &Plan) -> Option<usize>
+    ensures { result ≡ position (λ s. is_high (step_view s)) plan.now.steps.items }
+{
+    plan.steps.iter().position(|step| is_high(step))
+}
+
+/// Whether it is the step of a term that is too high.
+fn is_high(step: &Step) -> bool
+    ensures { result ≡ is_high (step_view step.now) }
+{
+    match step {
+        Step::Eval(term) => term.height() > MOST_HEIGHT,
+        Step::Prime(..) | Step::Clear(_) | Step::ClearAll => false,
+    }
+}
+
+/// The first plan that has too many steps.
+fn first_long(plans: &[Plan]) -> Option<usize>
+    ensures { result ≡ position (λ p. is_long (plan_view p)) plans.now }
+{
+    plans.iter().position(|plan| is_long(plan))
+}
+
+/// Whether the plan has too many steps.
+fn is_long(plan: &Plan) -> bool
+    ensures { result ≡ is_long (plan_view plan.now) }
+{
+    plan.steps.len() > MOST_STEPS
+}
+
+/// The tables that a value spells.
+fn read_tables(alloc: Global, hashing: RandomState, tables: &Value) -> Result<Tables, PlanFault>
+    ensures ok { IfOk result (AreTables (view tables.now)) }
+    ensures err { IfErr result (λ f. (f ≡ PlanFault.OutOfMemory) ⊎ IsTableRefusal (view tables.now) f) }
+{
+    match Tables::from_value(alloc, hashing, tables) {
+        Ok(tables) => Ok(tables),
+        Err(TableFault::OutOfMemory) => Err(PlanFault::OutOfMemory),
+        Err(fault) => Err(PlanFault::Table(fault)),
+    }
+}

@@ -1,0 +1,54 @@
+//! Reading call scripts.
+
+ghost use Rattle.std.specs.Prelude.{◌≡◌, ◌⊎◌, true, map, codes, IfOk, IfErr};
+ghost use Rattle.serde_json.specs.View.{view};
+ghost use Rattle.dl_documents.specs.Document.{SpellsScript, is_script};
+ghost use Rattle.dl_documents.specs.Inside.Read.{HasHead, RefusedFor};
+ghost use Rattle.dl_documents.specs.Inside.Scripts.{AreCalls, IsFirstBadCall};
+
+use crate::fault::PlanFault;
+use crate::input::{Calls, Script, ScriptCall};
+use crate::limits::{self, Numbers};
+use crate::{call, member};
+use serde_json::Value;
+use std::alloc::Global;
+
+/// The call script that a document is. Its head has been read, with the numbers of its limits.
+///
+/// # Errors
+/// The first cause that applies, or want of memory.
+pub fn script(alloc: Global, document: &Value, numbers: Numbers) -> Result<Script, PlanFault>
+    requires kind { is_script (view document.now) ≡ true }
+    requires head { HasHead (view document.now) numbers }
+    ensures ok { IfOk result (SpellsScript (view document.now)) }
+    ensures err { IfErr result (RefusedFor (view document.now)) }
+{
+    let Some(items) = member::list(document, "calls") else {
+        return Err(PlanFault::Top);
+    };
+    let calls = calls(alloc, items)?;
+    match limits::limits(numbers) {
+        Ok(limits) => Ok(Script {
+            limits,
+            calls: Calls::new(calls),
+        }),
+        Err(fault) => Err(PlanFault::Limit(fault)),
+    }
+}
+
+/// The calls that the items are.
+///
+/// # Errors
+/// `BadCall` at the first item that is none, and want of memory.
+fn calls(alloc: Global, items: &[Value]) -> Result<Vec<ScriptCall>, PlanFault>
+    ensures ok { IfOk result (λ cs. AreCalls (map view items.now) cs.items) }
+    ensures err { IfErr result (λ f. (f ≡ PlanFault.OutOfMemory) ⊎ IsFirstBadCall (map view items.now) f) }
+{
+    let mut calls = Vec::new(alloc);
+    'items: for (index, item) in items.iter().enumerate() {
+        let call = call::call(alloc, item)?;
+        let call = call.ok_or(PlanFault::BadCall { call: index })?;
+        calls.push(call)?;
+    }
+    Ok(calls)
+}

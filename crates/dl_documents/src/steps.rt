@@ -1,0 +1,85 @@
+//! Reading steps.
+
+ghost use Rattle.std.specs.Prelude.{◌≡◌, IfOk, option_map, option_and_then};
+ghost use Rattle.serde_json.specs.View.{view};
+ghost use Rattle.dl_documents.specs.Reading.{two_in};
+ghost use Rattle.dl_documents.specs.Steps.{step_view};
+ghost use Rattle.dl_documents.specs.StepReading.{error_in, primed_named, primed_in, primes, step_named, step_in};
+
+use crate::argument::{self, is_true, json, key, pair};
+use crate::member;
+use crate::terms::read_term;
+use dl_desk::{Message, Outcome};
+use dl_source::TEXT_BYTES;
+use dl_terms::Step;
+use serde_json::Value;
+use std::alloc::{AllocError, Global};
+
+/// The step that an object with one member is, if it is one. Its term may be of any height.
+pub fn read_step(alloc: Global, value: &Value) -> Result<Option<Step>, AllocError>
+    ensures { IfOk result (λ s. option_map step_view s ≡ step_in (view value.now)) }
+{
+    match member::only(value) {
+        Some((name, argument)) => named(alloc, name, argument),
+        None => Ok(None),
+    }
+}
+
+/// The step of a name, if the argument is one of it.
+fn named(alloc: Global, name: &str, argument: &Value) -> Result<Option<Step>, AllocError>
+    ensures { IfOk result (λ s. option_map step_view s ≡ step_named name.now (view argument.now)) }
+{
+    Ok(match name {
+        "prime" => prime(alloc, argument)?,
+        "clear" => key(alloc, argument)?.map(Step::Clear),
+        "clearAll" if is_true(argument) => Some(Step::ClearAll),
+        "eval" => read_term(alloc, argument)?.map(Step::Eval),
+        _ => None,
+    })
+}
+
+/// The prime of a list of a key and an outcome.
+fn prime(alloc: Global, argument: &Value) -> Result<Option<Step>, AllocError>
+    ensures { IfOk result (λ s. option_map step_view s ≡ option_and_then primes (two_in (view argument.now))) }
+{
+    let Some((key, outcome)) = pair(argument) else {
+        return Ok(None);
+    };
+    let Some(key) = argument::key(alloc, key)? else {
+        return Ok(None);
+    };
+    let Some(outcome) = primed(alloc, outcome)? else {
+        return Ok(None);
+    };
+    Ok(Some(Step::Prime(key, outcome)))
+}
+
+/// The outcome that an object with one member primes, if it is one.
+fn primed(alloc: Global, value: &Value) -> Result<Option<Outcome>, AllocError>
+    ensures { IfOk result (λ o. o ≡ primed_in (view value.now)) }
+{
+    match member::only(value) {
+        Some((name, argument)) => primed_named(alloc, name, argument),
+        None => Ok(None),
+    }
+}
+
+fn primed_named(alloc: Global, name: &str, argument: &Value) -> Result<Option<Outcome>, AllocError>
+    ensures { IfOk result (λ o. o ≡ primed_named name.now (view argument.now)) }
+{
+    Ok(match name {
+        "value" => json(alloc, argument)?.map(Outcome::Value),
+        "error" => error(alloc, argument)?.map(Outcome::KeyError),
+        _ => None,
+    })
+}
+
+/// The text of an error, if it isn't too long.
+fn error(alloc: Global, value: &Value) -> Result<Option<Message>, AllocError>
+    ensures { IfOk result (λ t. t ≡ error_in (view value.now)) }
+{
+    match value.as_str() {
+        Some(text) if text.len() <= TEXT_BYTES => Ok(Some(Message::new(alloc, text)?)),
+        _ => Ok(None),
+    }
+}

@@ -1,0 +1,135 @@
+//! Reading terms.
+
+ghost use Rattle.std.specs.Prelude.{◌≡◌, IfOk, option_map};
+ghost use Rattle.serde_json.specs.View.{view};
+ghost use Rattle.dl_terms.specs.Tree.{follow, each};
+ghost use Rattle.dl_terms.specs.View.{term_view};
+ghost use Rattle.dl_documents.specs.TermReading.{field_in, link_in, picks, links, gathers, term_named, term_in, parts_in};
+
+use crate::argument::{json, key, pair, triple};
+use crate::member;
+use dl_desk::{TABLE_BYTES, Text};
+use dl_terms::Term;
+use serde_json::Value;
+use std::alloc::{AllocError, Global};
+
+/// The term that an object with one member is, if it is one. It is read to its bottom, however high it is.
+#[cycle(reading)]
+pub fn read_term(alloc: Global, value: &Value) -> Result<Option<Term>, AllocError>
+    ensures { IfOk result (λ t. option_map term_view t ≡ term_in (view value.now)) }
+{
+    match member::only(value) {
+        Some((name, argument)) => named(alloc, name, argument),
+        None => Ok(None),
+    }
+}
+
+/// The term of a name, if the argument is one of it.
+#[cycle(reading)]
+fn named(alloc: Global, name: &str, argument: &Value) -> Result<Option<Term>, AllocError>
+    ensures { IfOk result (λ t. option_map term_view t ≡ term_named name.now (view argument.now) (parts_in (view argument.now))) }
+{
+    match name {
+        "value" => Ok(json(alloc, argument)?.map(Term::Value)),
+        "load" => Ok(key(alloc, argument)?.map(Term::Load)),
+        "pick" => pick(alloc, argument),
+        "follow" => follow(alloc, argument),
+        "each" => each(alloc, argument),
+        "all" => all(alloc, argument),
+        _ => Ok(None),
+    }
+}
+
+#[cycle(reading)]
+fn pick(alloc: Global, argument: &Value) -> Result<Option<Term>, AllocError>
+    ensures { IfOk result (λ t. option_map term_view t ≡ picks (parts_in (view argument.now)) (view argument.now)) }
+{
+    let Some((part, field)) = field(argument) else {
+        return Ok(None);
+    };
+    let Some(part) = read_part(alloc, part)? else {
+        return Ok(None);
+    };
+    let field = Text::new(alloc, field)?;
+    Ok(Some(Term::Pick { part, field }))
+}
+
+#[cycle(reading)]
+fn follow(alloc: Global, argument: &Value) -> Result<Option<Term>, AllocError>
+    ensures { IfOk result (λ t. option_map term_view t ≡ links follow (parts_in (view argument.now)) (view argument.now)) }
+{
+    let Some((part, field, table)) = link(argument) else {
+        return Ok(None);
+    };
+    let Some(part) = read_part(alloc, part)? else {
+        return Ok(None);
+    };
+    let field = Text::new(alloc, field)?;
+    let table = Text::new(alloc, table)?;
+    Ok(Some(Term::Follow { part, field, table }))
+}
+
+#[cycle(reading)]
+fn each(alloc: Global, argument: &Value) -> Result<Option<Term>, AllocError>
+    ensures { IfOk result (λ t. option_map term_view t ≡ links each (parts_in (view argument.now)) (view argument.now)) }
+{
+    let Some((part, field, table)) = link(argument) else {
+        return Ok(None);
+    };
+    let Some(part) = read_part(alloc, part)? else {
+        return Ok(None);
+    };
+    let field = Text::new(alloc, field)?;
+    let table = Text::new(alloc, table)?;
+    Ok(Some(Term::Each { part, field, table }))
+}
+
+#[cycle(reading)]
+fn all(alloc: Global, argument: &Value) -> Result<Option<Term>, AllocError>
+    ensures { IfOk result (λ t. option_map term_view t ≡ gathers (parts_in (view argument.now)) (view argument.now)) }
+{
+    let Some(items) = argument.as_array() else {
+        return Ok(None);
+    };
+    let mut parts = Vec::with_capacity(alloc, items.len())?;
+    'items: for item in items {
+        let Some(part) = read_term(alloc, item)? else {
+            return Ok(None);
+        };
+        parts.push(part)?;
+    }
+    Ok(Some(Term::All(parts)))
+}
+
+#[cycle(reading)]
+fn read_part(alloc: Global, value: &Value) -> Result<Option<Box<Term>>, AllocError>
+    ensures { IfOk result (λ t. option_map (λ t. term_view t.value) t ≡ term_in (view value.now)) }
+{
+    match read_term(alloc, value)? {
+        Some(term) => Ok(Some(Box::new(alloc, term)?)),
+        None => Ok(None),
+    }
+}
+
+/// The part and the field of a list of the two.
+fn field(value: &Value) -> Option<(&Value, &str)>
+    ensures { option_map (λ p. (view p.0.now, p.1.now)) result ≡ field_in (view value.now) }
+{
+    let (part, field) = pair(value)?;
+    let field = field.as_str()?;
+    Some((part, field))
+}
+
+/// The part, the field and the table of a list of the three, if the table has a table's length.
+fn link(value: &Value) -> Option<(&Value, &str, &str)>
+    ensures { option_map (λ p. (view p.0.now, p.1.now, p.2.now)) result ≡ link_in (view value.now) }
+{
+    let (part, field, table) = triple(value)?;
+    let field = field.as_str()?;
+    let table = table.as_str()?;
+    if (1..=TABLE_BYTES).contains(&table.len()) {
+        Some((part, field, table))
+    } else {
+        None
+    }
+}
