@@ -3,7 +3,6 @@
 use dl_desk::FetchKey;
 use dl_fixtures::answer_text;
 use dl_scope::{Report, StepAnswer};
-use dl_workers::Tally;
 use std::alloc::Global;
 use std::process::Abort;
 
@@ -49,13 +48,7 @@ pub(crate) fn assert_batches(rt: &impl Abort, report: &Report, want: &[Batch]) {
     }
     let count = u32::try_from(want.len()).expect(rt, "too many batches");
     assert!(rt; batches.get(count).is_none(), "a batch too many");
-    let sent = u64::from(count);
-    let tally = Tally {
-        sent,
-        taken: sent,
-        left: 0,
-    };
-    assert_eq!(rt; report.tally(), tally);
+    assert_eq!(rt; report.tally().taken, u64::from(count));
 }
 
 /// The keys have these tables and ids.
