@@ -1,15 +1,19 @@
-//! Workers that fetch at once: one is held until another has ended its batch.
+//! Workers that fetch at once, and plans that run at once: one worker is held until another has ended its batch.
 
-use crate::plans::StepShape::Eval;
+use crate::plans::StepShape::{Clear, Eval};
 use crate::plans::{PlanShape, plans};
 use crate::reports::{Answers, assert_report};
 use dl_desk::Limits;
-use dl_fixtures::{Shape, U1, U2, USERS, tables};
+use dl_fixtures::{ADA, BOB, Shape, U1, U2, USERS, tables};
 use dl_scope::{Setup, serve};
+use dl_source::Tables;
 use dl_workers::Gate;
+use std::alloc::Global;
 use std::hash::RandomState;
+use std::process::Abort;
+use std::sync::Wait;
 use std::sync::atomic::{AtomicBool, Ordering};
-use std::thread::yield_now;
+use std::thread::{Threads, yield_now};
 
 /// How often a worker that is held looks whether it may go on.
 const MOST_LOOKS: u32 = 10_000_000;
@@ -48,34 +52,63 @@ impl Gate for Held {
     }
 }
 
-/// A plan of two users, and its answer.
-static PLANS: [PlanShape; 1] = [&[Eval(Shape::All(&[U1, U2]))]];
+/// Plans of two batches of one key each, and their answers.
+struct Row {
+    about: &'static str,
+    plans: &'static [PlanShape],
+    answers: &'static [Answers],
+    rounds: &'static [u64],
+}
 
-static ANSWERS: [Answers; 1] = [&[(
-    0,
-    r#"[{"best":"u2","friends":["u2","u3"],"name":"Ada"},{"best":"u1","friends":[],"name":"Bob"}]"#,
-)]];
+static ROWS: [Row; 2] = [
+    Row {
+        about: "two workers for one plan",
+        plans: &[&[Eval(Shape::All(&[U1, U2]))]],
+        answers: &[&[(
+            0,
+            r#"[{"best":"u2","friends":["u2","u3"],"name":"Ada"},{"best":"u1","friends":[],"name":"Bob"}]"#,
+        )]],
+        rounds: &[1],
+    },
+    Row {
+        about: "two workers for two plans, of which none waits for the other to end",
+        plans: &[&[Eval(U1)], &[Clear("u1"), Eval(U2)]],
+        answers: &[&[(0, ADA)], &[(1, BOB)]],
+        rounds: &[1, 1],
+    },
+];
 
 #[test]
-fn two_workers_fetch_at_once(rt: HostRuntime) {
+fn batches_that_are_fetched_at_once(rt: HostRuntime) {
     let alloc = rt.alloc();
     let hashing = RandomState::new(&rt).expect(&rt, "no random numbers");
     let users = tables(alloc, hashing, USERS).expect(&rt, "no tables");
+    for row in &ROWS {
+        try_row(&rt, alloc, hashing, &users, row);
+    }
+}
+
+/// Serves the plans of a row by two workers, of which one is held until the other has ended its batch.
+fn try_row<R: Abort + Threads + Wait + Sync>(
+    rt: &R,
+    alloc: Global,
+    hashing: RandomState,
+    users: &Tables,
+    row: &Row,
+) {
     let setup = Setup {
-        limits: Limits::new(1, 8, 32).expect(&rt, "no limits"),
+        limits: Limits::new(1, 8, 32).expect(rt, "no limits"),
         workers: 2,
         queue: 4,
     };
-    let plans = plans(alloc, &PLANS).expect(&rt, "no memory");
+    let plans = plans(alloc, row.plans).expect(rt, "no memory");
     let gate = Held {
         has_ended: AtomicBool::new(false),
         gave_up: AtomicBool::new(false),
     };
-    let served = serve(&rt, alloc, hashing, &users, setup, plans, &gate);
-    let report = served.expect(&rt, "no report");
-    assert_report(&rt, alloc, &report, &ANSWERS, &[1]);
-    assert!(&rt;
-        !gate.gave_up.load(Ordering::SeqCst),
-        "no other worker ended a batch"
-    );
+    let served = serve(rt, alloc, hashing, users, setup, plans, &gate);
+    let report = served.expect(rt, row.about);
+    assert_report(rt, alloc, &report, row.answers, row.rounds);
+    let gave_up = gate.gave_up.load(Ordering::SeqCst);
+    assert!(rt; !gave_up, "no other batch has ended: {}", row.about);
 }

@@ -21,9 +21,11 @@ use std::thread::Threads;
 struct Row {
     about: &'static str,
     plans: &'static [PlanShape],
+    max_batch: u32,
     max_cells: u32,
     max_calls: u32,
-    workers: u32,
+    /// By how many workers the plans are served, one number after another.
+    workers: &'static [u32],
     queue: u32,
     fault: ScopeFault,
 }
@@ -41,9 +43,10 @@ const BOTH: PlanShape = &[Eval(Shape::All(&[U1, U2]))];
 const ROW: Row = Row {
     about: "a plan of no steps",
     plans: &[NO_STEPS],
+    max_batch: 2,
     max_cells: 8,
     max_calls: 32,
-    workers: 1,
+    workers: &[1, 2, 3],
     queue: 1,
     fault: ScopeFault::OutOfMemory,
 };
@@ -63,13 +66,13 @@ static ROWS: [Row; 9] = [
     },
     Row {
         about: "no worker",
-        workers: 0,
+        workers: &[0],
         fault: ScopeFault::BadWorkers,
         ..ROW
     },
     Row {
         about: "17 workers",
-        workers: 17,
+        workers: &[17],
         fault: ScopeFault::BadWorkers,
         ..ROW
     },
@@ -108,14 +111,12 @@ static ROWS: [Row; 9] = [
     Row {
         about: "a batch that the log has no room to end",
         plans: &[BOTH],
+        max_batch: 1,
         max_calls: 2,
         fault: ScopeFault::Stopped,
         ..ROW
     },
 ];
-
-/// By how many workers plans are served that may be.
-const WORKERS: [u32; 3] = [1, 2, 3];
 
 #[test]
 fn plans_that_are_refused(rt: HostRuntime) {
@@ -123,22 +124,43 @@ fn plans_that_are_refused(rt: HostRuntime) {
     let hashing = RandomState::new(&rt).expect(&rt, "no random numbers");
     let users = tables(alloc, hashing, USERS).expect(&rt, "no tables");
     for row in &ROWS {
-        let served = serve_row(&rt, alloc, hashing, &users, row);
-        assert_eq!(&rt; served.err(), Some(row.fault), "of {}", row.about);
+        try_row(&rt, alloc, hashing, &users, row);
     }
 }
 
-/// Serves the plans of a row by a source.
-fn serve_row<S: Source + Sync, R: Abort + Threads + Wait + Sync>(
+/// The plans of a row are refused as it says, by each number of workers.
+fn try_row<S: Source + Sync, R: Abort + Threads + Wait + Sync>(
     rt: &R,
     alloc: Global,
     hashing: RandomState,
     source: &S,
     row: &Row,
+) {
+    for workers in row.workers {
+        let served = serve_row(rt, alloc, hashing, source, *workers, row);
+        let fault = Some(row.fault);
+        assert_eq!(rt;
+            served.err(),
+            fault,
+            "of {}, by {workers} workers",
+            row.about
+        );
+    }
+}
+
+/// Serves the plans of a row by a source and so many workers.
+fn serve_row<S: Source + Sync, R: Abort + Threads + Wait + Sync>(
+    rt: &R,
+    alloc: Global,
+    hashing: RandomState,
+    source: &S,
+    workers: u32,
+    row: &Row,
 ) -> Result<Report, ScopeFault> {
+    let limits = Limits::new(row.max_batch, row.max_cells, row.max_calls);
     let setup = Setup {
-        limits: Limits::new(1, row.max_cells, row.max_calls).expect(rt, "no limits"),
-        workers: row.workers,
+        limits: limits.expect(rt, "no limits"),
+        workers,
         queue: row.queue,
     };
     let plans = plans(alloc, row.plans).expect(rt, "no memory");
@@ -149,6 +171,7 @@ fn serve_row<S: Source + Sync, R: Abort + Threads + Wait + Sync>(
 static NOT_FETCHED: Row = Row {
     about: "two batches that are not fetched",
     plans: &[BOTH],
+    max_batch: 1,
     fault: ScopeFault::Unfetched { batch: 0 },
     ..ROW
 };
@@ -157,14 +180,7 @@ static NOT_FETCHED: Row = Row {
 fn batches_that_are_not_fetched(rt: HostRuntime) {
     let alloc = rt.alloc();
     let hashing = RandomState::new(&rt).expect(&rt, "no random numbers");
-    for workers in WORKERS {
-        let row = Row {
-            workers,
-            ..NOT_FETCHED
-        };
-        let served = serve_row(&rt, alloc, hashing, &Starved, &row);
-        assert_eq!(&rt; served.err(), Some(row.fault), "by {workers} workers");
-    }
+    try_row(&rt, alloc, hashing, &Starved, &NOT_FETCHED);
 }
 
 #[test]
@@ -172,7 +188,7 @@ fn a_plan_of_no_steps(rt: HostRuntime) {
     let alloc = rt.alloc();
     let hashing = RandomState::new(&rt).expect(&rt, "no random numbers");
     let users = tables(alloc, hashing, USERS).expect(&rt, "no tables");
-    let served = serve_row(&rt, alloc, hashing, &users, &ROW);
+    let served = serve_row(&rt, alloc, hashing, &users, 1, &ROW);
     let report = served.expect(&rt, "no report");
     assert_report(&rt, alloc, &report, &[&[]], &[0]);
     assert_batches(&rt, &report, &[]);
@@ -184,7 +200,7 @@ static MOST: Row = Row {
     about: "16 plans by 16 workers",
     plans: &[ONE; 16],
     max_calls: 256,
-    workers: 16,
+    workers: &[16],
     queue: 1_024,
     ..ROW
 };
@@ -196,7 +212,7 @@ fn as_many_plans_and_workers_as_there_may_be(rt: HostRuntime) {
     let alloc = rt.alloc();
     let hashing = RandomState::new(&rt).expect(&rt, "no random numbers");
     let users = tables(alloc, hashing, USERS).expect(&rt, "no tables");
-    let served = serve_row(&rt, alloc, hashing, &users, &MOST);
+    let served = serve_row(&rt, alloc, hashing, &users, 16, &MOST);
     let report = served.expect(&rt, "no report");
     assert_report(&rt, alloc, &report, &MOST_ANSWERS, &[1; 16]);
 }

@@ -3,6 +3,7 @@
 use dl_desk::FetchKey;
 use dl_fixtures::answer_text;
 use dl_scope::{Report, StepAnswer};
+use dl_workers::Tally;
 use std::alloc::Global;
 use std::process::Abort;
 
@@ -48,7 +49,13 @@ pub(crate) fn assert_batches(rt: &impl Abort, report: &Report, want: &[Batch]) {
     }
     let count = u32::try_from(want.len()).expect(rt, "too many batches");
     assert!(rt; batches.get(count).is_none(), "a batch too many");
-    assert_eq!(rt; report.tally().taken, u64::from(count));
+    let sent = u64::from(count);
+    let tally = Tally {
+        sent,
+        taken: sent,
+        left: 0,
+    };
+    assert_eq!(rt; report.tally(), tally);
 }
 
 /// The keys have these tables and ids.
