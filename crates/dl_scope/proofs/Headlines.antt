@@ -1,19 +1,22 @@
 -- The headline, from what serving plans leaves and the history of the closed loader.
 use Rattle.std.proofs.Common.{◌≡◌, ◌∙◌, ap, sym, subst, refl, ℕ, ◌+◌, ◌<◌, ◌≤◌, List, [], ◌∷◌, length, map, Some, arith}
-use Rattle.std.specs.Prelude.{slice_get, Result, Ok, Err, IfOk, OnOk}
+use Rattle.std.specs.Prelude.{slice_get, Result, Ok, Err, IfErr, IfOk, OnOk}
 use Rattle.std.proofs.lemmas.List.{length-map}
 use Rattle.dl_history.specs.Agrees.{Account, entries_of}
 use Rattle.dl_history.specs.Closed.{Closed, IsClosed}
 use Rattle.dl_history.specs.Lists.{Every}
 use Rattle.dl_history.specs.Service.{Service}
-use Rattle.dl_loader.specs.Closing.{account_of, accounts_of}
+use Rattle.dl_loader.specs.Closing.{IsLeastOf, account_of, accounts_of}
 use Rattle.dl_loader.specs.Pass.{Part, Pass}
 use Rattle.dl_workers.specs.declared.queue.Tally.{Tally}
+use Rattle.dl_scope.specs.Faults.{MayServe, RefusedAs}
 use Rattle.dl_scope.specs.Follows.{Follows}
-use Rattle.dl_scope.specs.Headline.{Headline, TellsEnd, given_up}
+use Rattle.dl_scope.specs.Headline.{Headline, HeadlineBut, TellsEnd, given_up}
 use Rattle.dl_scope.specs.Inside.Served.{AreServed}
 use Rattle.dl_scope.specs.Report.{Report, report}
 use Rattle.dl_scope.specs.declared.fault.ScopeFault.{ScopeFault}
+use Rattle.dl_scope.specs.declared.fault.ScopeFault.TheVariants.{Unfetched}
+use Rattle.dl_scope.specs.declared.setup.Setup.{Setup}
 use Rattle.dl_terms.specs.declared.plan.Plan.{Plan}
 use Rattle.dl_scope.specs.declared.step_answer.StepAnswer.{StepAnswer}
 use Rattle.dl_scope.proofs.EndedOnce.{end_once}
@@ -49,9 +52,9 @@ module _ (service : Service) (plans : List Plan) (answers : List (List StepAnswe
       let found = worker_after 0 n plans answers rounds (parts_of passes) served beyond here in
       subst (λ ls. Every TellsEnd ls) (sym (entries_are n found.0 found.1)) found.2
 
-  pub headline : (tally : Tally) → IsClosed service h → tally.sent ≡ tally.taken + tally.left → given_up h.events ≡ []
-      → Headline service plans (report answers rounds h tally)
-  headline tally closed counted fetched =
+  headline_but : (tally : Tally) → IsClosed service h → tally.sent ≡ tally.taken + tally.left
+      → HeadlineBut (given_up h.events) service plans (report answers rounds h tally)
+  headline_but tally closed counted =
       let each = served_long 0 plans answers rounds (parts_of passes) served in
       record {
         legal = closed.legal;
@@ -64,12 +67,23 @@ module _ (service : Service) (plans : List Plan) (answers : List (List StepAnswe
         work = worker_ends closed.count;
         ended = closed.ended;
         once = end_once service h.events closed.legal;
-        fetched = fetched;
+        fetched = refl;
         counted = counted;
       }
 
-  -- the same of a report, if there is one
+  -- the report, if there is one, has the headline
   pub headline_of : (tally : Tally) (result : Result Report ScopeFault) → IsClosed service h → tally.sent ≡ tally.taken + tally.left
       → IfOk result (λ made. made ≡ report answers rounds h tally) → OnOk result (given_up h.events ≡ []) → IfOk result (Headline service plans)
   headline_of tally (Err fault) closed counted made fetched = tt
-  headline_of tally (Ok r) closed counted made fetched = subst (Headline service plans) (sym made) (headline tally closed counted fetched)
+  headline_of tally (Ok r) closed counted made fetched =
+      subst (Headline service plans) (sym made)
+      (subst (λ lost. HeadlineBut lost service plans (report answers rounds h tally)) fetched (headline_but tally closed counted))
+
+  -- the refusal, if there is one, names the least batch that was given up
+  pub unfetched_of : (setup : Setup) (tally : Tally) (result : Result Report ScopeFault) → IsClosed service h → tally.sent ≡ tally.taken + tally.left
+      → MayServe setup (length plans) → IfErr result (λ fault. (batch : ℕ) × (fault ≡ Unfetched batch) × IsLeastOf (Some batch) (given_up h.events))
+      → IfErr result (RefusedAs service setup plans)
+  unfetched_of setup tally (Ok r) closed counted may fault = tt
+  unfetched_of setup tally (Err f) closed counted may (batch, is, least) =
+      subst (RefusedAs service setup plans) (sym is)
+      (may, (given_up h.events, report answers rounds h tally, headline_but tally closed counted, least))

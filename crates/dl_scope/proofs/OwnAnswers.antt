@@ -1,13 +1,13 @@
 -- Answers by the tables alone, from the headline.
-use Rattle.std.proofs.Common.{◌≡◌, ◌∙◌, ap, sym, subst, refl, ℕ, zero, suc, ◌+◌, ◌<◌, ◌≤◌, Bool, true, false, cond, List, [], ◌∷◌, ◌++◌, length, map}
-use Rattle.std.proofs.Common.{Option, Some, None, slice_get, nat_eq, arith, inl, inr, ◌⊎◌, add-one}
+use Rattle.std.proofs.Common.{◌≡◌, ◌∙◌, ap, sym, subst, refl, ℕ, zero, suc, ◌+◌, ◌<◌, Bool, true, false, cond, List, [], ◌∷◌, ◌++◌, length}
+use Rattle.std.proofs.Common.{Option, Some, None, slice_get, nat_eq, arith, inl, inr}
 use Rattle.std.proofs.lemmas.Bool.{cases_lt}
 use Rattle.std.proofs.lemmas.Bool.Decides.{nat_tests}
 use Rattle.dl_desk.specs.Key.{Key, key_eq}
 use Rattle.dl_desk.specs.declared.outcome.Outcome.{Outcome}
 use Rattle.dl_desk.specs.declared.reply.Job.{Job}
 use Rattle.dl_desk.proofs.KeyLemmas.{key_eq-same}
-use Rattle.dl_history.specs.Agrees.{Account, account, Agrees, Tells, entries_of, places_of}
+use Rattle.dl_history.specs.Agrees.{account, Agrees, Tells, entries_of, places_of}
 use Rattle.dl_history.specs.Entries.{Line, Called, Saw, Told}
 use Rattle.dl_history.specs.Lists.{Every, Among, places}
 use Rattle.dl_history.specs.Service.{Service}
@@ -21,24 +21,20 @@ use Rattle.dl_loader.specs.Added.{saws}
 use Rattle.dl_desk.specs.declared.reply.LoadReply.{LoadReply}
 use Rattle.dl_history.specs.declared.event.Ending.{Ending}
 use Rattle.dl_source.specs.Answer.{answer_of}
-use Rattle.dl_source.specs.Listing.{NamedTables}
 use Rattle.dl_terms.specs.Gives.{Pairs, outcome_in, gives}
 use Rattle.dl_terms.specs.Laws.{GivesOnce, GivesForEver}
 use Rattle.dl_terms.specs.Rounds.{Gains}
 use Rattle.dl_terms.specs.Tree.{Tree}
 use Rattle.dl_terms.specs.View.{term_view}
-use Rattle.dl_terms.specs.declared.answer.Answer.{Answer}
-use Rattle.dl_haxl.specs.Stretch.{HandedOver, Round, Rounds}
-use Rattle.dl_scope.specs.Follows.{Stretch, stretch, IsStep, AreSteps, Follows}
+use Rattle.dl_haxl.specs.Stretch.{HandedOver, Rounds}
+use Rattle.dl_scope.specs.Follows.{Stretch, stretch, IsStep, AreSteps}
 use Rattle.dl_scope.specs.Headline.{Headline, service_of, Ends, TellsEnd}
-use Rattle.dl_scope.specs.OwnAnswers.{AnswersOwn, IsNoPrime, NonePrimed, NoneFailed, AreOwn, IsOwn, listed, PrimesNoKey}
+use Rattle.dl_scope.specs.OwnAnswers.{IsNoPrime, NonePrimed, AreOwn, listed, PrimesNoKey}
 use Rattle.dl_scope.specs.OwnAnswers.{AnswersByTables, AnswersAreOwn, OwnAnswersAreOne}
 use Rattle.dl_scope.specs.Report.{Report}
 use Rattle.dl_terms.specs.declared.plan.Plan.{Plan}
-use Rattle.dl_scope.specs.declared.setup.Setup.{Setup}
 use Rattle.dl_terms.specs.declared.plan.Step.{Step}
 use Rattle.dl_terms.specs.declared.plan.Step.TheVariants.{Prime, Clear, ClearAll, Eval}
-use Rattle.dl_scope.specs.declared.step_answer.StepAnswer.{StepAnswer}
 use Rattle.dl_scope.proofs.OwnOutcomes.{own_outcome, tables_own}
 use Rattle.dl_scope.proofs.OwnReads.{OwnReads, steps_own}
 
@@ -135,7 +131,8 @@ call_among (Called t ∷ ls) i (zero, found) = (t, (zero, refl), cc)
 call_among (Called t ∷ ls) i (suc j, found) = let rest = call_among ls i (j, found) in (rest.0, (suc rest.1.0, rest.1.1), rest.2)
 call_among (Saw r ∷ ls) i found = let rest = call_among ls i found in (rest.0, (suc rest.1.0, rest.1.1), rest.2)
 
-module _ (s : Service) (plans : List Plan) (r : Report) (h : Headline s plans r) (none : Every (λ (plan : Plan). Every PrimesNoKey plan.steps.items) plans) where
+module _ (s : Service) (plans : List Plan) (r : Report) (h : Headline s plans r)
+    (none : Every (λ (plan : Plan). Every PrimesNoKey plan.steps.items) plans) where
   caller_unprimed : (n : ℕ) → n < s.callers → Every Unprimed (entries_of n r.history.accounts)
   caller_unprimed n low = elim (cases_lt n (length plans)) [
     | inl plan ↦ (

@@ -18,10 +18,9 @@ use Rattle.dl_loader.specs.Added.{line, saws}
 use Rattle.dl_terms.specs.Gives.{Pairs, frontier, gives}
 use Rattle.dl_terms.specs.Tree.{Tree}
 use Rattle.dl_terms.specs.View.{term_view}
-use Rattle.dl_terms.specs.declared.answer.Answer.{Answer}
 use Rattle.dl_terms.specs.declared.term.Term.{Term}
 use Rattle.dl_haxl.specs.Pairs.{paired}
-use Rattle.dl_haxl.specs.Stretch.{Round, Rounds, Evaluates, HandedOver}
+use Rattle.dl_haxl.specs.Stretch.{Round, Rounds, HandedOver}
 use Rattle.dl_scope.specs.Follows.{Stretch, stretch, step_answer, IsStep, AreSteps}
 use Rattle.dl_scope.specs.OwnAnswers.{AreOwn, IsOwn}
 use Rattle.dl_terms.specs.declared.plan.Step.{Step}

@@ -3,7 +3,6 @@ use Rattle.std.proofs.Common.{◌≡◌, ◌∙◌, ap, sym, refl, ℕ, List, []
 use Rattle.dl_desk.specs.declared.outcome.BatchAnswer.{BatchAnswer}
 use Rattle.dl_desk.specs.declared.outcome.BatchAnswer.TheVariants.{Each, Break}
 use Rattle.dl_desk.specs.declared.reply.Job.{Job}
-use Rattle.dl_history.specs.Entries.{Line}
 use Rattle.dl_history.specs.Lists.{Every}
 use Rattle.dl_history.specs.Service.{Service}
 use Rattle.dl_history.specs.declared.event.Call.{Call}
@@ -37,8 +36,13 @@ adds_one s old new call b ends made =
     (one.1, line old.caller one.0 call Done ∷ [], one.2, ((b, ends), tt))
 
 adds_then : (old now new : Part) → AddsEnds old now → AddsEnds now new → AddsEnds old new
-adds_then old now new (caller, lines, entries, ends) (caller2, more, entries2, ends2) =
-    (caller2 ∙ caller, lines ++ more, entries2 ∙ (ap (λ ls. ls ++ more) entries ∙ append_assoc old.entries lines more), every_append TellsEnd lines more ends ends2)
+adds_then old now new (caller, lines, entries, ends) (caller2, more, entries2, ends2) = (
+  caller2 ∙ caller,
+  lines ++ more,
+  entries2 ∙ (ap (λ ls. ls ++ more) entries ∙ append_assoc old.entries lines more),
+  every_append TellsEnd lines
+      more ends ends2,
+)
 
 ended_adds : (s : Service) (old new : Part) (job : Job) → WasEnded s old job new → AddsEnds old new
 ended_adds s old new job (inl answered) = adds_one s old new (end_answered s job) job.batch (ends_by job.batch (s.answer job.keys)) answered

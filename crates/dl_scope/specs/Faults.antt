@@ -1,11 +1,19 @@
 -- When plans are refused.
-use Rattle.std.specs.Prelude.{◌≡◌, ℕ, ◌+◌, ◌<◌, ◌≤◌, ◌⊎◌}
+use Rattle.std.specs.Prelude.{◌≡◌, ℕ, ◌+◌, ◌<◌, ◌≤◌, ◌⊎◌, List, length, Some}
+use Rattle.dl_history.specs.Agrees.{Account}
+use Rattle.dl_history.specs.Service.{Service}
 use Rattle.dl_haxl.specs.declared.fault.RunFault.{RunFault}
 use Rattle.dl_haxl.specs.declared.fault.RunFault.TheVariants as run
+use Rattle.dl_loader.specs.Book.{Keeps, Locked}
+use Rattle.dl_loader.specs.Closing.{IsLeastOf, RefusesClose}
 use Rattle.dl_loader.specs.declared.fault.CallFault.TheVariants as call
+use Rattle.dl_loader.specs.declared.fault.CloseFault.{CloseFault}
 use Rattle.dl_loader.specs.declared.fault.StartFault.TheVariants as start
 use Rattle.dl_terms.specs.Plans.{ArePlans, most_plans}
+use Rattle.dl_terms.specs.declared.plan.Plan.{Plan}
 use Rattle.dl_workers.specs.QueueFaults as queue
+use Rattle.dl_scope.specs.Headline.{HeadlineBut}
+use Rattle.dl_scope.specs.Report.{Report}
 use Rattle.dl_scope.specs.declared.fault.ScopeFault.{ScopeFault}
 use Rattle.dl_scope.specs.declared.fault.ScopeFault.TheVariants.{NoPlans, TooManyPlans, BadWorkers, Start, Queue, Run, Stopped, Close, Unfetched, OutOfMemory}
 use Rattle.dl_scope.specs.declared.setup.Setup.{Setup}
@@ -29,16 +37,25 @@ pub record MayServe (setup : Setup) (plans : ℕ) : Type 0 where
 abbrev pub IsStop : RunFault → Type 0
 IsStop fault = (fault ≡ run.Stopped) ⊎ (fault ≡ run.Call call.Stopped)
 
--- The fault is the first that so many plans and the setup have. Later ones come only where these have none; a plan that is
+-- a loader of the service is refused its close for this
+abbrev pub RefusesItsClose : Service → CloseFault → Type 0
+RefusesItsClose service fault = (b : Locked) × (accounts : List Account) × Keeps service b × RefusesClose service.callers b accounts fault
+
+-- the batch is the least that was given up of a report with all else of the headline
+abbrev pub LeastLost : Service → List Plan → ℕ → Type 0
+LeastLost service plans batch = (lost : List ℕ) × (r : Report) × HeadlineBut lost service plans r × IsLeastOf (Some batch) lost
+
+-- The fault is the first that the plans and the setup have. Later ones come only where these have none; a plan that is
 -- named is one of the plans, and met another fault than that the loader was stopped.
-abbrev pub RefusedAs : Setup → ℕ → ScopeFault → Type 0
-RefusedAs setup plans NoPlans = plans ≡ 0
-RefusedAs setup plans TooManyPlans = most_plans < plans
-RefusedAs setup plans BadWorkers = ArePlans plans × ((setup.workers ≡ 0) ⊎ (most_workers < setup.workers))
-RefusedAs setup plans (Start fault) = ArePlans plans × AreWorkers setup.workers × (fault ≡ start.OutOfMemory)
-RefusedAs setup plans (Queue fault) = ArePlans plans × AreWorkers setup.workers × queue.RefusedAs setup.queue (plans + 1) setup.workers fault
-RefusedAs setup plans (Run plan fault) = MayServe setup plans × (plan < plans) × (IsStop fault → ⊥)
-RefusedAs setup plans Stopped = MayServe setup plans
-RefusedAs setup plans (Close fault) = MayServe setup plans
-RefusedAs setup plans (Unfetched batch) = MayServe setup plans
-RefusedAs setup plans OutOfMemory = MayServe setup plans
+abbrev pub RefusedAs : Service → Setup → List Plan → ScopeFault → Type 0
+RefusedAs service setup plans NoPlans = length plans ≡ 0
+RefusedAs service setup plans TooManyPlans = most_plans < length plans
+RefusedAs service setup plans BadWorkers = ArePlans (length plans) × ((setup.workers ≡ 0) ⊎ (most_workers < setup.workers))
+RefusedAs service setup plans (Start fault) = ArePlans (length plans) × AreWorkers setup.workers × (fault ≡ start.OutOfMemory)
+RefusedAs service setup plans (Queue fault) =
+    ArePlans (length plans) × AreWorkers setup.workers × queue.RefusedAs setup.queue (length plans + 1) setup.workers fault
+RefusedAs service setup plans (Run plan fault) = MayServe setup (length plans) × (plan < length plans) × (IsStop fault → ⊥)
+RefusedAs service setup plans Stopped = MayServe setup (length plans)
+RefusedAs service setup plans (Close fault) = MayServe setup (length plans) × RefusesItsClose service fault
+RefusedAs service setup plans (Unfetched batch) = MayServe setup (length plans) × LeastLost service plans batch
+RefusedAs service setup plans OutOfMemory = MayServe setup (length plans)

@@ -61,8 +61,9 @@ given_up events = flat_map (λ e. given_up_by e.call) events
 
 -- Whatever the schedule, workers and batch limit, a report holds one history in which every load, loadMany, prime and clear
 -- has the reply of a DataLoader of one thread at its point, each caller's calls stand once in its order, every outcome that was
--- read is the one that the history gives its load, and every batch is answered once by the source.
-pub record Headline (service : Service) (plans : List Plan) (r : Report) : Type 0 where
+-- read is the one that the history gives its load, and every batch is answered once by the source, but for these, which were
+-- given up. In the headline there are none of them.
+pub record HeadlineBut (lost : List ℕ) (service : Service) (plans : List Plan) (r : Report) : Type 0 where
   -- each event has the reply of a data loader of one thread after those before it, and each end of a batch is lawful
   pub legal : IsLegal service r.history.events
   -- each caller has exactly one account, and nobody else has one
@@ -78,9 +79,12 @@ pub record Headline (service : Service) (plans : List Plan) (r : Report) : Type 
       → Follows n plan.steps.items (entries_of n r.history.accounts) answers rounds
   -- each worker ended batches, and did nothing else
   pub work : (n : ℕ) → length plans ≤ n → n < service.callers → Every TellsEnd (entries_of n r.history.accounts)
-  -- every batch has exactly one end, by what the source answers to its keys
+  -- every batch has exactly one end, by what the source answers to its keys where it wasn't given up
   pub ended : AllEnded r.history.events
   pub once : EndOnce r.history.events
-  pub fetched : given_up r.history.events ≡ []
+  pub fetched : given_up r.history.events ≡ lost
   -- of the jobs that were sent, each was taken or left
   pub counted : r.tally.sent ≡ r.tally.taken + r.tally.left
+
+abbrev pub Headline : Service → List Plan → Report → Type 0
+Headline service plans r = HeadlineBut [] service plans r

@@ -1,7 +1,8 @@
 //! Serving plans.
 
-ghost use Rattle.std.specs.Prelude.{◌≡◌, ◌+◌, [], ℕ, IfErr, IfOk, OnOk, length, map};
+ghost use Rattle.std.specs.Prelude.{◌≡◌, ◌+◌, [], ℕ, IfErr, IfOk, OnOk, Some, length, map};
 ghost use Rattle.dl_history.specs.Service.{Answers};
+ghost use Rattle.dl_loader.specs.Closing.{IsLeastOf};
 ghost use Rattle.dl_loader.specs.Opening.{Names};
 ghost use Rattle.dl_loader.specs.Pass.{fresh};
 ghost use Rattle.dl_workers.specs.Seats.{AreSeatsOf};
@@ -53,7 +54,7 @@ pub fn serve<S: Source + Sync, G: Gate + Sync, R: Threads + Wait + Sync>(
 ) -> Result<Report, ScopeFault>
     ensures headline { IfOk result (Headline (service_of setup (length plans.items) (S.answer source.now)) plans.items) }
     ensures accepted { OnOk result (MayServe setup (length plans.items)) }
-    ensures refused { IfErr result (RefusedAs setup (length plans.items)) }
+    ensures refused { IfErr result (RefusedAs (service_of setup (length plans.items) (S.answer source.now)) setup plans.items) }
 {
     if plans.is_empty() {
         return Err(ScopeFault::NoPlans);
@@ -96,7 +97,7 @@ fn serve_at<
     requires callers { opening.callers ≡ length plans.items + setup.workers }
     ensures headline { IfOk result (Headline L.service plans.items) }
     ensures accepted { OnOk result (MayServe setup (length plans.items)) }
-    ensures refused { IfErr result (RefusedAs setup (length plans.items)) }
+    ensures refused { IfErr result (RefusedAs L.service setup plans.items) }
 {
     let (loader, passes) = Loader::<L>::start(alloc, opening)?;
     let served = serve_by(
@@ -123,7 +124,7 @@ fn report(
 ) -> Result<Report, ScopeFault>
     ensures report { IfOk result (λ made. made ≡ report (map (λ a. a.items) answers.items) rounds.items history tally) }
     ensures fetched { OnOk result (given_up history.events ≡ []) }
-    ensures fault { IfErr result (λ fault. (batch : ℕ) × (fault ≡ Unfetched batch)) }
+    ensures fault { IfErr result (λ fault. (batch : ℕ) × (fault ≡ Unfetched batch) × IsLeastOf (Some batch) (given_up history.events)) }
 {
     if let Some(batch) = least_given_up(&history) {
         return Err(ScopeFault::Unfetched { batch });
@@ -165,7 +166,7 @@ fn serve_by<
     ensures served { IfOk result (λ s. AreServed 0 plans.items (map (λ a. a.items) s.answers.items) s.rounds.items (map (λ p. p.part) s.passes.items)) }
     ensures counted { IfOk result (λ s. s.tally.sent ≡ s.tally.taken + s.tally.left) }
     ensures accepted { OnOk result (MayServe setup (length plans.items)) }
-    ensures refused { IfErr result (RefusedAs setup (length plans.items)) }
+    ensures refused { IfErr result (RefusedAs L.service setup plans.items) }
 {
     let senders = plans.len() as u32 + 1;
     let (queue, senders, takers) = match JobQueue::new(alloc, setup.queue, senders, setup.workers) {

@@ -31,7 +31,7 @@ returns-in-Err-check-clause-refused g c =
     let jobs = length-map ran.plan_jobs (λ job. job.plan) in
     let plans = ap length ran.plans_are in
     let same = ap length c.as_slice.ensures.value in
-    run_refused c.args.setup (length c.args.plans.items) (length c.as_slice.result.now) c.in-Err-check.fault
+    run_refused g.L.LoaderName.service c.args.setup c.args.plans.items (length c.as_slice.result.now) c.in-Err-check.fault
     (record { plans_are = c.requires.plans; workers_are = c.requires.workers; capacity = c.in-Ok.ensures.accepted.0 })
     (omega (arith, kept, jobs, plans, same)) c.in-Err-check.ensures.fault
 
