@@ -1,5 +1,6 @@
 -- Bytes that are cut into keys, as far as a loop over the lengths of the keys has come.
-use Rattle.std.proofs.Common.{◌≡◌, ℕ, suc, ◌+◌, ◌<◌, ◌≤◌, List, [], ◌∷◌, ◌++◌, length, get_or, drop, refl, ap, sym, ◌∙◌, subst, inl, inr, append_assoc, append-nil, length-append, arith}
+use Rattle.std.proofs.Common.{◌≡◌, ℕ, suc, ◌+◌, ◌<◌, ◌≤◌, List, [], ◌∷◌, ◌++◌, length, get_or}
+use Rattle.std.proofs.Common.{drop, refl, ap, sym, ◌∙◌, subst, inl, inr, append_assoc, append-nil, length-append, arith}
 use Rattle.std.proofs.lemmas.List.{drop_all, drop_more, length-drop}
 use Rattle.std.proofs.lemmas.List.Elements.{All-push, All-get_or}
 use Rattle.std.proofs.Math.Seq.{get_or-append_seam}
@@ -44,7 +45,8 @@ module _ (bytes : List ℕ) (ls : List KeyLengths) (i : ℕ) (keys : List Key) (
       let ks = cut (drop (l.table + l.id) rest) (drop (i + 1) ls) in
       let k = front_key rest l in
       let those : All IsKeyText (keys ++ k ∷ ks) = subst (All IsKeyText) (sym (seam so)) all in
-      subst IsKeyText (get_or-append_seam keys k ks k) (All-get_or IsKeyText (keys ++ k ∷ ks) (length keys) k (omega (arith, length-append keys (k ∷ ks))) those)
+      subst IsKeyText (get_or-append_seam keys k ks k)
+      (All-get_or IsKeyText (keys ++ k ∷ ks) (length keys) k (omega (arith, length-append keys (k ∷ ks))) those)
 
   pub cut_fault : (code : ℕ) → CutTo bytes ls i keys rest → IsFrontFault rest l code → IsCutFault bytes ls code
   cut_fault code so (inl (is_code, short)) = inl (is_code, λ whole. omega (arith, so.taken, next_total, short, whole))

@@ -15,7 +15,18 @@ use Rattle.dl_c.specs.contracts.box_parts.BoxParts as Parts
 use Rattle.dl_c.specs.contracts.handle.Held as Held
 
 abbrev pub E : Bx
-E = record { row = Desk.the_row; laws = desk.the_row_laws; al = record { row = Heap.the_row; laws = heap.the_row_laws; g = ghosts; d = dict; drops = impl [] tnil dnil } }
+E = record {
+  row = Desk.the_row;
+  laws = desk.the_row_laws;
+  al = record {
+    row = Heap.the_row;
+    laws = heap.the_row_laws;
+    g = ghosts;
+    d = dict;
+    drops =
+        impl [] tnil dnil;
+  };
+}
 
 abbrev pub FromParts : Slot 0
 FromParts = plain (λ _. Parts.the_row Desk.the_row Heap.the_row ghosts)

@@ -1,5 +1,6 @@
 -- The jobs of a dispatch stand in a row.
-use Rattle.std.proofs.Common.{◌≡◌, ℕ, zero, suc, ◌+◌, ◌-◌, ◌<◌, List, [], ◌∷◌, ◌++◌, length, Option, Some, None, slice_get, refl, ap, sym, ◌∙◌, subst, length-append, arith}
+use Rattle.std.proofs.Common.{◌≡◌, ℕ, zero, suc, ◌+◌, ◌-◌, ◌<◌, List, [], ◌∷◌, ◌++◌}
+use Rattle.std.proofs.Common.{length, Option, Some, None, slice_get, refl, ap, sym, ◌∙◌, subst, length-append, arith}
 use Rattle.dl_desk.specs.History.{Atom, job, jobs, jobs_from, begun, sent}
 use Rattle.dl_desk.specs.declared.reply.Job.{Job}
 use Rattle.dl_c.specs.declared.answers.Dispatched.{Dispatched}
@@ -12,13 +13,15 @@ first_of-append (x ∷ xs) ys some = refl
 length-jobs_from : (history : List Atom) (b n : ℕ) → length (jobs_from history b n) ≡ n
 length-jobs_from history b zero = refl
 length-jobs_from history b (suc n) =
-    let one : length (jobs_from history b n ++ job history (b + n) ∷ []) ≡ length (jobs_from history b n) + 1 = length-append (jobs_from history b n) (job history (b + n) ∷ []) in
+    let one : length (jobs_from history b n ++ job history (b + n) ∷ []) ≡ length (jobs_from history b n) + 1 = length-append (jobs_from history b n)
+    (job history (b + n) ∷ []) in
     omega (arith, one, length-jobs_from history b n)
 
 first_of-jobs_from : (history : List Atom) (b n : ℕ) → first_of (jobs_from history b (suc n)) ≡ b
 first_of-jobs_from history b zero = omega arith
 first_of-jobs_from history b (suc n) =
-    first_of-append (jobs_from history b (suc n)) (job history (b + suc n) ∷ []) (omega (arith, length-jobs_from history b (suc n))) ∙ first_of-jobs_from history b n
+    first_of-append (jobs_from history b (suc n)) (job history (b + suc n) ∷ []) (omega (arith, length-jobs_from history b (suc n)))
+    ∙ first_of-jobs_from history b n
 
 row : (history : List Atom) (b n : ℕ) → jobs_from history b n ≡ jobs_from history (first_of (jobs_from history b n)) (length (jobs_from history b n))
 row history b zero = refl

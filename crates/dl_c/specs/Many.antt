@@ -28,11 +28,13 @@ total (l ∷ ls) = (l.table + l.id) + total ls
 
 -- Why there is no key at the front of the bytes: they are too few for the lengths, it is none, or memory is short.
 abbrev pub IsFrontFault : List ℕ → KeyLengths → ℕ → Type 0
-IsFrontFault bytes l code = ((code ≡ BAD_LENGTHS) × (length bytes < l.table + l.id)) ⊎ (((code ≡ BAD_KEY) × ¬ (IsKeyText (front_key bytes l))) ⊎ (code ≡ OUT_OF_MEMORY))
+IsFrontFault bytes l code = ((code ≡ BAD_LENGTHS) × (length bytes < l.table + l.id))
+    ⊎ (((code ≡ BAD_KEY) × ¬ (IsKeyText (front_key bytes l))) ⊎ (code ≡ OUT_OF_MEMORY))
 
 -- Why bytes aren't cut into keys: the lengths don't take them all and no more, one of the keys is none, or memory is short.
 abbrev pub IsCutFault : List ℕ → List KeyLengths → ℕ → Type 0
-IsCutFault bytes ls code = ((code ≡ BAD_LENGTHS) × ¬ (total ls ≡ length bytes)) ⊎ (((code ≡ BAD_KEY) × ¬ (All IsKeyText (cut bytes ls))) ⊎ (code ≡ OUT_OF_MEMORY))
+IsCutFault bytes ls code = ((code ≡ BAD_LENGTHS) × ¬ (total ls ≡ length bytes))
+    ⊎ (((code ≡ BAD_KEY) × ¬ (All IsKeyText (cut bytes ls))) ⊎ (code ≡ OUT_OF_MEMORY))
 
 -- The answer to a load of the keys that the bytes are cut into.
 pub record AnswersMany (bytes : List ℕ) (ls : List KeyLengths) (code : ℕ) (before answers : List Loaded) (old new : BatchBook) : Type 0 where

@@ -14,7 +14,7 @@ pub const HIT: u32 = 0;
 /// A load or a prime began a cell; a look-up found none.
 pub const FRESH: u32 = 1;
 
-/// A growth was refused.
+/// An allocation failed.
 pub const OUT_OF_MEMORY: u32 = 2;
 
 /// The call would begin more cells than the limit.

@@ -33,5 +33,6 @@ where_filled false owned keyless = tt
 pub send : IsSend the_row
 send =
     let all : AllSend (fields the_type) = (search sendable, (handle.the_field_send, tt)) in
-    owning_send the_type all (λ d. where_filled d.filled (desk_at d.alloc d.at d.desk) (lies Desk.the_row desk d.at d.desk, heap.frees.frees d.alloc (raw (lone Desk.the_row.mir)) d.at))
+    owning_send the_type all (λ d. where_filled d.filled (desk_at d.alloc d.at d.desk)
+    (lies Desk.the_row desk d.at d.desk, heap.frees.frees d.alloc (raw (lone Desk.the_row.mir)) d.at))
     (λ k. quiet (to the_type) (exits_of k (fields the_type)) ((struct_send (shape the_type) all).leaving k))
