@@ -10,7 +10,7 @@ use serde_json::Value;
 use std::alloc::{AllocError, Global};
 
 /// The items of a list of two.
-pub fn pair(value: &Value) -> Option<(&Value, &Value)>
+pub(crate) fn pair(value: &Value) -> Option<(&Value, &Value)>
     ensures { option_map (λ p. (view p.0.now, view p.1.now)) result ≡ two_in (view value.now) }
 {
     let items = value.as_array()?;
@@ -21,7 +21,7 @@ pub fn pair(value: &Value) -> Option<(&Value, &Value)>
 }
 
 /// The items of a list of three.
-pub fn triple(value: &Value) -> Option<(&Value, &Value, &Value)>
+pub(crate) fn triple(value: &Value) -> Option<(&Value, &Value, &Value)>
     ensures { option_map (λ p. (view p.0.now, view p.1.now, view p.2.now)) result ≡ three_in (view value.now) }
 {
     let items = value.as_array()?;
@@ -42,7 +42,7 @@ fn texts(value: &Value) -> Option<(&str, &str)>
 }
 
 /// The key that a list of two texts is, if it is one.
-pub fn key(alloc: Global, value: &Value) -> Result<Option<FetchKey>, AllocError>
+pub(crate) fn key(alloc: Global, value: &Value) -> Result<Option<FetchKey>, AllocError>
     ensures { IfOk result (λ k. k ≡ key_in (view value.now)) }
 {
     let Some((table, id)) = texts(value) else {
@@ -56,7 +56,7 @@ pub fn key(alloc: Global, value: &Value) -> Result<Option<FetchKey>, AllocError>
 }
 
 /// The keys of a list, if each item is one.
-pub fn keys(alloc: Global, value: &Value) -> Result<Option<Keys>, AllocError>
+pub(crate) fn keys(alloc: Global, value: &Value) -> Result<Option<Keys>, AllocError>
     ensures { IfOk result (λ ks. ks ≡ keys_in (view value.now)) }
 {
     let Some(items) = value.as_array() else {
@@ -73,7 +73,7 @@ pub fn keys(alloc: Global, value: &Value) -> Result<Option<Keys>, AllocError>
 }
 
 /// A copy of the value, if all its numbers are whole.
-pub fn json(alloc: Global, value: &Value) -> Result<Option<Json>, AllocError>
+pub(crate) fn json(alloc: Global, value: &Value) -> Result<Option<Json>, AllocError>
     ensures { IfOk result (λ v. v ≡ value_in (view value.now)) }
 {
     if has_float(value) {
@@ -83,7 +83,7 @@ pub fn json(alloc: Global, value: &Value) -> Result<Option<Json>, AllocError>
 }
 
 /// Whether the value is `true`.
-pub fn is_true(value: &Value) -> bool
+pub(crate) fn is_true(value: &Value) -> bool
     ensures { result ≡ is_true (view value.now) }
 {
     value.as_bool().unwrap_or(false)

@@ -11,7 +11,7 @@ use serde_json::Value;
 use std::alloc::{AllocError, Global};
 
 /// The call that an object with one member is, if it is one.
-pub fn call(alloc: Global, value: &Value) -> Result<Option<ScriptCall>, AllocError>
+pub(crate) fn call(alloc: Global, value: &Value) -> Result<Option<ScriptCall>, AllocError>
     ensures { IfOk result (λ c. c ≡ call_in (view value.now)) }
 {
     match member::only(value) {

@@ -24,7 +24,7 @@ pub const MOST_BYTES: usize = 1_048_576;
 /// What a document says. Tables are hashed by `hashing`, of which nothing is seen.
 ///
 /// # Errors
-/// The first cause of [`PlanFault`] that applies anywhere in the document, in its order, or want of memory.
+/// The first cause of [`PlanFault`] that applies anywhere in the document, in its order; `OutOfMemory` where an allocation failed.
 pub fn read_input(alloc: Global, hashing: RandomState, bytes: &[u8]) -> Result<Input, PlanFault>
     ensures ok { IfOk result (λ i. (d : Data) × IsTextOf bytes.now d × Spells d i) }
     ensures passes { OnOk result ((f : PlanFault) → Applies bytes.now f → ⊥) }

@@ -43,7 +43,7 @@ pub enum PlanFault {
     /// One of the three limits is out of range.
     #[error("limit {0:?}")]
     Limit(LimitFault),
-    /// A growth was refused.
+    /// An allocation failed.
     #[error("memory")]
     OutOfMemory,
 }

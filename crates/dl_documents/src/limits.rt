@@ -12,14 +12,14 @@ use serde_json::Value;
 
 /// The whole numbers that a document gives for its limits.
 #[derive(Clone, Copy, Debug)]
-pub struct Numbers {
-    pub max_batch: i128,
-    pub max_cells: i128,
-    pub max_calls: i128,
+pub(crate) struct Numbers {
+    pub(crate) max_batch: i128,
+    pub(crate) max_cells: i128,
+    pub(crate) max_calls: i128,
 }
 
 /// The numbers of a document, if each is a whole number.
-pub fn given(document: &Value) -> Option<Numbers>
+pub(crate) fn given(document: &Value) -> Option<Numbers>
     ensures { MatchOption result (LacksNumber (view document.now)) (AreGiven (view document.now)) }
 {
     let max_batch = number(document, "maxBatchSize")?;
@@ -36,7 +36,7 @@ pub fn given(document: &Value) -> Option<Numbers>
 ///
 /// # Errors
 /// The first of the three that is no limit.
-pub fn limits(numbers: Numbers) -> Result<Limits, LimitFault>
+pub(crate) fn limits(numbers: Numbers) -> Result<Limits, LimitFault>
     ensures ok { IfOk result (AreLimitsOf numbers) }
     ensures err { IfErr result (IsFirstOutside numbers) }
 {
@@ -58,7 +58,7 @@ fn number(document: &Value, name: &str) -> Option<i128>
 }
 
 /// The value as a whole number, if it is one.
-pub fn whole(value: &Value) -> Option<i128>
+pub(crate) fn whole(value: &Value) -> Option<i128>
     ensures { result ≡ whole (view value.now) }
 {
     value.as_number()?.as_i128()

@@ -8,7 +8,7 @@ ghost use Rattle.dl_documents.specs.Reading.{one_in};
 use serde_json::Value;
 
 /// The name and the value of an object's one member.
-pub fn only(value: &Value) -> Option<(&str, &Value)>
+pub(crate) fn only(value: &Value) -> Option<(&str, &Value)>
     ensures { option_map (λ p. (p.0.now, view p.1.now)) result ≡ one_in (view value.now) }
 {
     let members = value.as_object()?;
@@ -21,7 +21,7 @@ pub fn only(value: &Value) -> Option<(&str, &Value)>
 }
 
 /// The list that a member of a document is.
-pub fn list<'a>(document: &'a Value, name: &str) -> Option<&'a [Value]>
+pub(crate) fn list<'a>(document: &'a Value, name: &str) -> Option<&'a [Value]>
     ensures { option_map (λ l. items_view l.now) result ≡ items_at name.now (view document.entry.now) }
 {
     let list = document.get(name)?.as_array()?;

@@ -31,8 +31,8 @@ pub const MOST_STEPS: usize = 256;
 /// The plan file that a document is. Its head has been read, with the numbers of its limits.
 ///
 /// # Errors
-/// The first cause that applies, or want of memory.
-pub fn plan_file(
+/// The first cause that applies; `OutOfMemory` where an allocation failed.
+pub(crate) fn plan_file(
     alloc: Global,
     hashing: RandomState,
     document: &Value,
@@ -77,7 +77,7 @@ fn top<'a>(alloc: Global, document: &'a Value) -> Result<(Vec<&'a [Value]>, &'a 
 /// The lists that the items are.
 ///
 /// # Errors
-/// `Top` where one is no list, and want of memory.
+/// `Top` where one is no list, and `OutOfMemory` where an allocation failed.
 fn lists<'a>(alloc: Global, items: &'a [Value]) -> Result<Vec<&'a [Value]>, PlanFault>
     ensures ok { IfOk result (λ ls. AreRows (map view items.entry.now) (rows_view ls.items)) }
     ensures err { IfErr result (λ f. (f ≡ PlanFault.OutOfMemory) ⊎ ((f ≡ PlanFault.Top) × HasOther (map view items.entry.now))) }
@@ -95,7 +95,7 @@ fn lists<'a>(alloc: Global, items: &'a [Value]) -> Result<Vec<&'a [Value]>, Plan
 /// The plans whose steps the lists have.
 ///
 /// # Errors
-/// `Shape` at the first item that is no step, and want of memory.
+/// `Shape` at the first item that is no step, and `OutOfMemory` where an allocation failed.
 fn plans(alloc: Global, lists: &[&[Value]]) -> Result<Vec<Plan>, PlanFault>
     ensures ok { IfOk result (λ ps. AreRead (rows_view lists.now) (map plan_view ps.items)) }
     ensures err { IfErr result (λ f. (f ≡ PlanFault.OutOfMemory) ⊎ IsFirstBadStep (rows_view lists.now) f) }

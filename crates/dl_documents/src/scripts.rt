@@ -16,8 +16,8 @@ use std::alloc::Global;
 /// The call script that a document is. Its head has been read, with the numbers of its limits.
 ///
 /// # Errors
-/// The first cause that applies, or want of memory.
-pub fn script(alloc: Global, document: &Value, numbers: Numbers) -> Result<Script, PlanFault>
+/// The first cause that applies; `OutOfMemory` where an allocation failed.
+pub(crate) fn script(alloc: Global, document: &Value, numbers: Numbers) -> Result<Script, PlanFault>
     requires kind { is_script (view document.now) ≡ true }
     requires head { HasHead (view document.now) numbers }
     ensures ok { IfOk result (SpellsScript (view document.now)) }
@@ -39,7 +39,7 @@ pub fn script(alloc: Global, document: &Value, numbers: Numbers) -> Result<Scrip
 /// The calls that the items are.
 ///
 /// # Errors
-/// `BadCall` at the first item that is none, and want of memory.
+/// `BadCall` at the first item that is none, and `OutOfMemory` where an allocation failed.
 fn calls(alloc: Global, items: &[Value]) -> Result<Vec<ScriptCall>, PlanFault>
     ensures ok { IfOk result (λ cs. AreCalls (map view items.now) cs.items) }
     ensures err { IfErr result (λ f. (f ≡ PlanFault.OutOfMemory) ⊎ IsFirstBadCall (map view items.now) f) }

@@ -16,7 +16,7 @@ use serde_json::Value;
 use std::alloc::{AllocError, Global};
 
 /// The step that an object with one member is, if it is one. Its term may be of any height.
-pub fn read_step(alloc: Global, value: &Value) -> Result<Option<Step>, AllocError>
+pub(crate) fn read_step(alloc: Global, value: &Value) -> Result<Option<Step>, AllocError>
     ensures { IfOk result (λ s. option_map step_view s ≡ step_in (view value.now)) }
 {
     match member::only(value) {

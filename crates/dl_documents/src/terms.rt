@@ -15,7 +15,7 @@ use std::alloc::{AllocError, Global};
 
 /// The term that an object with one member is, if it is one. It is read to its bottom, however high it is.
 #[cycle(reading)]
-pub fn read_term(alloc: Global, value: &Value) -> Result<Option<Term>, AllocError>
+pub(crate) fn read_term(alloc: Global, value: &Value) -> Result<Option<Term>, AllocError>
     ensures { IfOk result (λ t. option_map term_view t ≡ term_in (view value.now)) }
 {
     match member::only(value) {

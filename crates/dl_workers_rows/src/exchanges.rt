@@ -33,7 +33,7 @@ struct Jobs {
 }
 
 impl Jobs {
-    /// So many jobs. The error is want of memory.
+    /// So many jobs. The error is a failed allocation.
     fn new(alloc: Global, keys: Keys, count: u32) -> Result<Jobs, AllocError> {
         let mut seen = Vec::new(alloc);
         for _ in 0..count {

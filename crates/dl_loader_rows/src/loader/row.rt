@@ -57,7 +57,7 @@ fn make_calls<L: LoaderName, S: Source, R: Abort + Wait>(
     passes_of(alloc, hands).expect(rt, "no memory")
 }
 
-/// The hands of callers that hold no ticket. The error is want of memory.
+/// The hands of callers that hold no ticket. The error is a failed allocation.
 fn hands_of<'a, L: LoaderName>(
     alloc: Global,
     passes: Vec<Pass<L>>,
@@ -69,7 +69,7 @@ fn hands_of<'a, L: LoaderName>(
     Ok(hands)
 }
 
-/// The passes of callers, whose tickets are let go. The error is want of memory.
+/// The passes of callers, whose tickets are let go. The error is a failed allocation.
 fn passes_of<L: LoaderName>(
     alloc: Global,
     hands: Vec<Hand<'_, L>>,
