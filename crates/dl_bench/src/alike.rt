@@ -8,19 +8,19 @@ use std::alloc::{AllocError, Global};
 
 /// A source whose outcome for each key is one and the same value.
 #[derive(Drop)]
-pub struct Alike {
+pub(crate) struct Alike {
     value: Json,
 }
 
 impl Alike {
-    /// The source that answers `null`. The error is want of memory.
-    pub fn null(alloc: Global) -> Result<Alike, AllocError> {
+    /// The source that answers `null`. The error is a failed allocation.
+    pub(crate) fn null(alloc: Global) -> Result<Alike, AllocError> {
         let value = Json::new(alloc, Value::Null)?;
         Ok(Alike { value })
     }
 
     /// The source that answers a row whose field `next` is the id `1`.
-    pub fn row(alloc: Global) -> Result<Alike> {
+    pub(crate) fn row(alloc: Global) -> Result<Alike> {
         let value = Value::from_str(alloc, r#"{"next":"1"}"#)?;
         if has_float(&value) {
             bail!("a row with a fraction");

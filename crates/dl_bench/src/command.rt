@@ -5,7 +5,7 @@ use thiserror::Error;
 
 /// What is run.
 #[derive(Clone, Copy)]
-pub enum Workload {
+pub(crate) enum Workload {
     /// Loads the keys one by one on a desk, then dispatches.
     OneByOne(Ids),
     /// Makes the keys, and then calls of a desk.
@@ -20,11 +20,43 @@ pub enum Workload {
     Shared(Callers),
     /// Evaluates terms over a shared loader.
     Terms(Evaluated),
+    /// Makes a plan file, and perhaps reads or serves it.
+    PlanFile(Use, FileKind),
+}
+
+/// What is done with a plan file.
+#[derive(Clone, Copy, PartialEq, Eq)]
+pub(crate) enum Use {
+    /// Its text is made, and nothing else.
+    Made,
+    /// It is read too.
+    Read,
+    /// It is read and served, and what it gives is written.
+    Run,
+}
+
+/// What a plan file is full of.
+#[derive(Clone, Copy)]
+pub(crate) enum FileKind {
+    /// Rows, and terms that load them.
+    Ordinary,
+    /// The same in as many plans as there may be.
+    Plans,
+    /// Values and terms that are as deep as they may be.
+    Nested,
+    /// Steps that are short.
+    Steps,
+    /// Rows that are short.
+    Rows,
+    /// Terms that load as many users as one may.
+    Each,
+    /// Keys that are as long as they may be.
+    LongKeys,
 }
 
 /// How terms are evaluated.
 #[derive(Clone, Copy)]
-pub enum Evaluated {
+pub(crate) enum Evaluated {
     /// One term of many parts, by one caller.
     One,
     /// So many terms, one after another, by one caller.
@@ -35,7 +67,7 @@ pub enum Evaluated {
 
 /// The ids of keys.
 #[derive(Clone, Copy)]
-pub enum Ids {
+pub(crate) enum Ids {
     /// The keys' numbers.
     Short,
     /// They share one hash under a seed that is known.
@@ -46,7 +78,7 @@ pub enum Ids {
 
 /// The calls of a desk whose keys are made first.
 #[derive(Clone, Copy)]
-pub enum Calls {
+pub(crate) enum Calls {
     /// Loads the keys in one call.
     Many,
     /// Loads the keys one by one, twice.
@@ -57,7 +89,7 @@ pub enum Calls {
 
 /// Who calls a shared loader.
 #[derive(Clone, Copy)]
-pub enum Callers {
+pub(crate) enum Callers {
     /// One caller: for each batch of keys it loads them in one call, dispatches, settles, and reads each outcome.
     One,
     /// Callers each on a thread of its own: each loads the keys one by one. Then the first dispatches, and settles.
@@ -103,36 +135,44 @@ const WORKLOADS: [(&str, Option<u32>, Workload); 16] = [
     ("terms", Some(BATCH), Workload::Terms(Evaluated::One)),
 ];
 
+/// The word for each kind of plan file.
+const FILES: [(&str, FileKind); 7] = [
+    ("ordinary", FileKind::Ordinary),
+    ("plans", FileKind::Plans),
+    ("nested", FileKind::Nested),
+    ("steps", FileKind::Steps),
+    ("rows", FileKind::Rows),
+    ("each", FileKind::Each),
+    ("long-keys", FileKind::LongKeys),
+];
+
 /// A workload and its size.
 #[derive(Clone, Copy)]
-pub struct Command {
-    pub workload: Workload,
-    /// How many keys; of `terms`, how many parts; of `inline` and `serve`, how many rounds.
-    pub keys: u32,
+pub(crate) struct Command {
+    pub(crate) workload: Workload,
+    /// How many keys; of `terms`, how many parts; of `inline` and `serve`, how many rounds; of a plan file, how many thousand
+    /// bytes.
+    pub(crate) keys: u32,
     /// The most keys of a batch; of `threads`, how many callers.
-    pub most: u32,
+    pub(crate) most: u32,
 }
 
 /// Why words are no command.
 #[derive(Debug, Drop, Error)]
-pub enum CommandFault {
-    #[error("usage: dl_bench loads|many|rounds|tables|loader N B, hostile|harmless[-script|-tables] N, hits|clears|script|terms N, threads N C, inline P N, or serve P W N")]
+pub(crate) enum CommandFault {
+    #[error("usage: dl_bench loads|many|rounds|tables|loader N B, hostile|harmless[-script|-tables] N, hits|clears|script|terms N, threads N C, inline P N, serve P W N, or plan-file|plan-file-read|plan-file-run ordinary|plans|nested|steps|rows|each|long-keys K")]
     Usage,
-    #[error("N, B, C, P and W are numbers from 1 to 65536, the largest limit of a loader")]
+    #[error("N, B, C, P, W and K are numbers from 1 to 65536, the largest limit of a loader")]
     Size,
 }
 
 impl Command {
     /// The command of these words, of which the first is the program's name.
-    pub fn from_words(words: &[String]) -> Result<Command, CommandFault> {
+    pub(crate) fn from_words(words: &[String]) -> Result<Command, CommandFault> {
         match words {
             [_, name, keys] => Command::named(name.as_str(), size(keys.as_str())?, None),
             [_, name, first, second] => {
-                let (first, second) = (size(first.as_str())?, size(second.as_str())?);
-                match name.as_str() {
-                    "inline" => Ok(Command::of_terms(Evaluated::InTurn { count: first }, second)),
-                    name => Command::named(name, first, Some(second)),
-                }
+                Command::of_two(name.as_str(), first.as_str(), second.as_str())
             }
             [_, name, count, workers, rounds] if name.as_str() == "serve" => {
                 let (count, workers) = (size(count.as_str())?, size(workers.as_str())?);
@@ -141,6 +181,34 @@ impl Command {
             }
             _ => Err(CommandFault::Usage),
         }
+    }
+
+    /// The command of a name and two words.
+    fn of_two(name: &str, first: &str, second: &str) -> Result<Command, CommandFault> {
+        match name {
+            "plan-file" => Command::of_file(Use::Made, first, second),
+            "plan-file-read" => Command::of_file(Use::Read, first, second),
+            "plan-file-run" => Command::of_file(Use::Run, first, second),
+            "inline" => {
+                let count = size(first)?;
+                Ok(Command::of_terms(Evaluated::InTurn { count }, size(second)?))
+            }
+            name => Command::named(name, size(first)?, Some(size(second)?)),
+        }
+    }
+
+    /// The command of a plan file of a kind, with so many thousand bytes.
+    fn of_file(used: Use, kind: &str, kilobytes: &str) -> Result<Command, CommandFault> {
+        for (name, kind_of_name) in FILES {
+            if name == kind {
+                return Ok(Command {
+                    workload: Workload::PlanFile(used, kind_of_name),
+                    keys: size(kilobytes)?,
+                    most: BATCH,
+                });
+            }
+        }
+        Err(CommandFault::Usage)
     }
 
     /// The command of terms that take so many rounds.

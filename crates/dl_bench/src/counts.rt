@@ -5,22 +5,24 @@ use dl_loader::{EndedBatch, EntryKind, History};
 use dl_source::BatchAnswer;
 
 /// Loads that began a cell and loads that were hits, batches begun, jobs sent, batches settled, lines
-/// printed, outcomes fetched or read, and the batch of the newest cell.
+/// printed, outcomes fetched or read, bytes of a document and of what it gives, and the batch of the newest cell.
 #[derive(Default, Drop)]
-pub struct Counts {
-    pub cells: u64,
-    pub hits: u64,
-    pub batches: u64,
-    pub jobs: u64,
-    pub settled: u64,
-    pub lines: u64,
-    pub outcomes: u64,
-    pub last_batch: Option<u32>,
+pub(crate) struct Counts {
+    pub(crate) cells: u64,
+    pub(crate) hits: u64,
+    pub(crate) batches: u64,
+    pub(crate) jobs: u64,
+    pub(crate) settled: u64,
+    pub(crate) lines: u64,
+    pub(crate) outcomes: u64,
+    pub(crate) document: u64,
+    pub(crate) output: u64,
+    pub(crate) last_batch: Option<u32>,
 }
 
 impl Counts {
     /// Counts the batches of a history, with the cells of their keys, and the outcomes that its first caller read.
-    pub fn history(&mut self, history: &History) {
+    pub(crate) fn history(&mut self, history: &History) {
         let batches = history.batches();
         for number in 0..LARGEST_LIMIT {
             let Some(batch) = batches.get(number) else {
@@ -47,7 +49,7 @@ impl Counts {
 
     /// Counts a load, and a batch where it isn't that of the newest cell.
     #[inline]
-    pub fn load(&mut self, reply: LoadReply) {
+    pub(crate) fn load(&mut self, reply: LoadReply) {
         match reply {
             LoadReply::Hit(_) => self.hits = self.hits.saturating_add(1),
             LoadReply::Fresh { batch, .. } => {
@@ -61,24 +63,24 @@ impl Counts {
     }
 
     /// Counts loads.
-    pub fn loads(&mut self, replies: &[LoadReply]) {
+    pub(crate) fn loads(&mut self, replies: &[LoadReply]) {
         for reply in replies {
             self.load(*reply);
         }
     }
 
     /// Counts jobs that were sent.
-    pub fn jobs(&mut self, jobs: &[Job]) {
+    pub(crate) fn jobs(&mut self, jobs: &[Job]) {
         self.jobs = self.jobs.saturating_add(jobs.len() as u64);
     }
 
     /// Counts a batch that was settled.
-    pub fn settle(&mut self) {
+    pub(crate) fn settle(&mut self) {
         self.settled = self.settled.saturating_add(1);
     }
 
     /// Counts the outcomes of an answer.
-    pub fn answer(&mut self, answer: &BatchAnswer) {
+    pub(crate) fn answer(&mut self, answer: &BatchAnswer) {
         if let BatchAnswer::Each(outcomes) = answer {
             let count = outcomes.as_slice().len() as u64;
             self.outcomes = self.outcomes.saturating_add(count);

@@ -14,7 +14,7 @@ use std::ops::Range;
 const LOADED_TWICE: u32 = 32_768;
 
 /// Loads keys one by one on a new desk, then dispatches.
-pub fn one_by_one(
+pub(crate) fn one_by_one(
     alloc: Global,
     hashing: RandomState,
     counts: &mut Counts,
@@ -57,7 +57,7 @@ fn fronted(
 }
 
 /// Makes the keys, and then calls of a new desk.
-pub fn listed(
+pub(crate) fn listed(
     alloc: Global,
     hashing: RandomState,
     counts: &mut Counts,
@@ -139,7 +139,7 @@ fn settle(alloc: Global, desk: &mut Desk, counts: &mut Counts) -> Result<(), Des
 }
 
 /// Loads, clears and loads again each key in turn, on a new desk where the first can take no more.
-pub fn clears(
+pub(crate) fn clears(
     alloc: Global,
     hashing: RandomState,
     counts: &mut Counts,

@@ -4,7 +4,7 @@ use crate::command::Ids;
 use crate::counts::Counts;
 use crate::ids::{push_id, table_of};
 use crate::keys::{fronted_keys, keys_of, limits};
-use anyhow::Result;
+use anyhow::{Result, bail};
 use dl_desk::{FetchKey, Limits};
 use dl_plans::{Input, read_input, run_script};
 use dl_source::{Source, Tables};
@@ -13,7 +13,7 @@ use std::alloc::{AllocError, Global};
 use std::hash::RandomState;
 
 /// Reads a script that loads the keys one by one, answers it, and counts the lines of the answer.
-pub fn script(
+pub(crate) fn script(
     alloc: Global,
     hashing: RandomState,
     counts: &mut Counts,
@@ -28,8 +28,10 @@ pub fn script(
 
 /// The text that a script's document gives.
 fn output_of(alloc: Global, hashing: RandomState, document: &[u8]) -> Result<String> {
-    let Input::Script(script) = read_input(alloc, document)?;
-    Ok(run_script(alloc, hashing, &script)?)
+    match read_input(alloc, hashing, document)? {
+        Input::Script(script) => Ok(run_script(alloc, hashing, &script)?),
+        Input::Plans(_) => bail!("a script that is a plan file"),
+    }
 }
 
 /// The text of a script that loads the keys one by one, whose ids have a front or are numbers alone.
@@ -49,7 +51,7 @@ fn script_of(alloc: Global, front: Option<&str>, keys: u32) -> Result<String, Al
 }
 
 /// Reads tables with a row for each key, fetches the keys, a batch at a time, and counts their outcomes.
-pub fn tables(
+pub(crate) fn tables(
     alloc: Global,
     hashing: RandomState,
     counts: &mut Counts,

@@ -21,7 +21,7 @@ const HARMLESS_ROW: &str = "harmless to anyone at al";
 
 impl Ids {
     /// What the ids begin with, if they aren't numbers alone.
-    pub fn front(self) -> Option<&'static str> {
+    pub(crate) fn front(self) -> Option<&'static str> {
         match self {
             Ids::Short => None,
             Ids::Hostile => Some(HOSTILE),
@@ -30,7 +30,7 @@ impl Ids {
     }
 
     /// The same for the ids of a table's rows.
-    pub fn row_front(self) -> Option<&'static str> {
+    pub(crate) fn row_front(self) -> Option<&'static str> {
         match self {
             Ids::Short => None,
             Ids::Hostile => Some(HOSTILE_ROW),
@@ -40,7 +40,7 @@ impl Ids {
 }
 
 /// The table of the keys whose ids begin so.
-pub fn table_of(front: Option<&str>) -> &'static str {
+pub(crate) fn table_of(front: Option<&str>) -> &'static str {
     match front {
         Some(_) => "trips",
         None => "users",
@@ -48,7 +48,11 @@ pub fn table_of(front: Option<&str>) -> &'static str {
 }
 
 /// Writes the id of a number: the front and then eight digits, or the number alone.
-pub fn push_id(text: &mut String, front: Option<&str>, number: u32) -> Result<(), AllocError> {
+pub(crate) fn push_id(
+    text: &mut String,
+    front: Option<&str>,
+    number: u32,
+) -> Result<(), AllocError> {
     match front {
         Some(front) => write!(text, "{front}{number:08}"),
         None => write!(text, "{number}"),

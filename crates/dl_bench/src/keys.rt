@@ -7,18 +7,18 @@ use itoa::Buffer;
 use std::alloc::Global;
 
 /// The limit of a batch, beside the largest other limits.
-pub fn limits(batch: u32) -> Result<Limits, LimitFault> {
+pub(crate) fn limits(batch: u32) -> Result<Limits, LimitFault> {
     Limits::new(batch, LARGEST_LIMIT, LARGEST_LIMIT)
 }
 
 /// The key of a number: its id is the number in decimal.
-pub fn key_of(alloc: Global, number: u32) -> Result<FetchKey> {
+pub(crate) fn key_of(alloc: Global, number: u32) -> Result<FetchKey> {
     let mut buffer = Buffer::new();
     Ok(FetchKey::new(alloc, "users", buffer.format(number))?)
 }
 
 /// The keys of the first numbers.
-pub fn keys_of(alloc: Global, count: u32) -> Result<Vec<FetchKey>> {
+pub(crate) fn keys_of(alloc: Global, count: u32) -> Result<Vec<FetchKey>> {
     let mut keys = Vec::with_capacity(alloc, count as usize)?;
     for number in 0..count {
         keys.push(key_of(alloc, number)?)?;
@@ -27,14 +27,19 @@ pub fn keys_of(alloc: Global, count: u32) -> Result<Vec<FetchKey>> {
 }
 
 /// The key of a front and a number in eight digits, whose id is written in the room of the last one.
-pub fn fronted_key(alloc: Global, id: &mut String, front: &str, number: u32) -> Result<FetchKey> {
+pub(crate) fn fronted_key(
+    alloc: Global,
+    id: &mut String,
+    front: &str,
+    number: u32,
+) -> Result<FetchKey> {
     id.clear();
     push_id(id, Some(front), number)?;
     Ok(FetchKey::new(alloc, table_of(Some(front)), id.as_str())?)
 }
 
 /// The keys of a front and the first numbers.
-pub fn fronted_keys(alloc: Global, front: &str, count: u32) -> Result<Vec<FetchKey>> {
+pub(crate) fn fronted_keys(alloc: Global, front: &str, count: u32) -> Result<Vec<FetchKey>> {
     let mut keys = Vec::with_capacity(alloc, count as usize)?;
     let mut id = String::new(alloc);
     for number in 0..count {

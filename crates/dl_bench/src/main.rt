@@ -10,6 +10,7 @@ mod desk;
 mod documents;
 mod ids;
 mod keys;
+mod plan_files;
 mod plans;
 mod shared;
 mod terms;
@@ -50,6 +51,9 @@ fn run<R: RandomSource + Threads + Wait + Sync>(
         }
         Workload::Terms(evaluated) => {
             evaluate(rt, alloc, hashing, counts, evaluated, keys, most)
+        }
+        Workload::PlanFile(used, kind) => {
+            plan_files::used(rt, alloc, hashing, counts, used, kind, keys)
         }
     }
 }
@@ -109,6 +113,8 @@ fn print(rt: &impl Print, counts: &Counts) -> Result<()> {
         ("settled", counts.settled),
         ("lines", counts.lines),
         ("outcomes", counts.outcomes),
+        ("document", counts.document),
+        ("output", counts.output),
     ] {
         println!(rt; "{name} {count}")?;
     }

@@ -16,7 +16,7 @@ use std::thread::Threads;
 const QUEUE: u32 = 16;
 
 /// Serves a plan for each term by so many workers, over a source that answers each key with one row.
-pub fn served<R: Threads + Wait + Sync>(
+pub(crate) fn served<R: Threads + Wait + Sync>(
     rt: &R,
     alloc: Global,
     hashing: RandomState,

@@ -27,7 +27,7 @@ const BATCH: u32 = 64;
 ///
 /// One caller makes a round for each batch of keys, of at most so many. As many callers as that, each on a thread of
 /// its own, load the same keys, one by one, and when all have, the first of them ends what was begun.
-pub fn on_loader<R: Threads + Wait + Sync>(
+pub(crate) fn on_loader<R: Threads + Wait + Sync>(
     rt: &R,
     alloc: Global,
     hashing: RandomState,
@@ -76,7 +76,7 @@ fn each_call<L: LoaderName + Send + Sync, S: Source, R: Threads + Wait + Sync>(
 }
 
 /// Closes a loader, and counts what its callers did, and what the first of them read.
-pub fn close<L: LoaderName>(
+pub(crate) fn close<L: LoaderName>(
     alloc: Global,
     loader: Loader<L>,
     passes: Vec<Pass<L>>,

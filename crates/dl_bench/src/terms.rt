@@ -22,18 +22,18 @@ use std::sync::Wait;
 
 /// How many terms there are, and how large each is.
 #[derive(Clone, Copy)]
-pub struct Terms {
-    pub count: u32,
+pub(crate) struct Terms {
+    pub(crate) count: u32,
     /// Of how many parts each is.
-    pub parts: u32,
+    pub(crate) parts: u32,
     /// How many rounds of loads each takes, which is how deep it is.
-    pub rounds: u32,
+    pub(crate) rounds: u32,
 }
 
 /// Evaluates terms over a loader, whose source answers each key with one row. Each part of a term loads a key, and in
 /// each further round the key that the row names in another table, so no key is loaded twice. At the end the loader is
 /// closed.
-pub fn evaluated<R: Wait>(
+pub(crate) fn evaluated<R: Wait>(
     rt: &R,
     alloc: Global,
     hashing: RandomState,
@@ -108,30 +108,31 @@ fn evaluate_one<L: LoaderName, S: Source, R: Wait>(
 }
 
 /// The term of a number.
-pub fn term_of(alloc: Global, terms: Terms, number: u32) -> Result<Term> {
+pub(crate) fn term_of(alloc: Global, terms: Terms, number: u32) -> Result<Term> {
     let mut parts = Vec::with_capacity(alloc, terms.parts as usize)?;
+    let next = Text::new(alloc, "next")?;
     let first = number.saturating_mul(terms.parts);
     for part in 0..terms.parts {
-        parts.push(part_of(alloc, first.saturating_add(part), terms.rounds)?)?;
+        parts.push(part_of(alloc, &next, first.saturating_add(part), terms.rounds)?)?;
     }
     Ok(Term::All(parts))
 }
 
-/// The part of a number, over all terms, which takes so many rounds of loads.
-fn part_of(alloc: Global, number: u32, rounds: u32) -> Result<Term> {
+/// The part of a number, over all terms, which takes so many rounds of loads. The field `next` of a row names its next key.
+fn part_of(alloc: Global, next: &Text, number: u32, rounds: u32) -> Result<Term> {
     let first = number.saturating_mul(rounds);
     let table = table_of(alloc, first)?;
     let mut part = Term::Load(FetchKey::new(alloc, table.as_str(), "1")?);
     for round in 1..rounds {
-        part = followed(alloc, part, first.saturating_add(round))?;
+        part = followed(alloc, part, next, first.saturating_add(round))?;
     }
     Ok(part)
 }
 
-/// The load of the key that the part's row names in the table of a number.
-fn followed(alloc: Global, part: Term, number: u32) -> Result<Term> {
+/// The load of the key that the field of the part's row names, in the table of a number.
+fn followed(alloc: Global, part: Term, field: &Text, number: u32) -> Result<Term> {
     let part = Box::new(alloc, part)?;
-    let field = Text::new(alloc, "next")?;
+    let field = field.try_copy()?;
     let table = table_of(alloc, number)?;
     Ok(Term::Follow { part, field, table })
 }

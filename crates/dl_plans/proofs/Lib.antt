@@ -1,10 +1,5 @@
-pub mod Trees
-pub mod CallLaws
-pub mod CallLists
 pub mod Given
-pub mod KeyLists
 pub mod Bytes
-pub mod Known
 pub mod Runs
 pub mod Scripts
-pub mod Verdicts
+pub mod Texts

@@ -6,50 +6,55 @@ use Rattle.std.specs.Io.KnownBytes.{Appends}
 use Rattle.std.specs.Option.{IfSome}
 use Rattle.std.specs.Result.{OnOk}
 use Rattle.serde_json.specs.Data.{Data}
-use Rattle.dl_plans.specs.Document.{IsTextOf, Spells}
-use Rattle.dl_plans.specs.Output.{input_text}
-use Rattle.dl_plans.specs.Faults.{Applies, IsBefore, IsLeast, number, most_bytes}
-use Rattle.dl_plans.specs.Run.{Answers, AppendsFront, Writes, WritesFront, IsRefused}
-use Rattle.dl_plans.specs.declared.fault.PlanFault.{PlanFault}
-use Rattle.dl_plans.specs.declared.fault.PlanFault.TheVariants.{TooLarge, NotJson, Version, Top, BadCall, Limit, OutOfMemory}
+use Rattle.dl_documents.specs.Document.{IsTextOf, Spells}
+use Rattle.dl_documents.specs.Faults.{Applies, IsBefore, IsLeast, number, most_bytes}
+use Rattle.dl_documents.specs.declared.fault.PlanFault.{PlanFault}
+use Rattle.dl_documents.specs.declared.fault.PlanFault.TheVariants.{TooLarge, NotJson, Version, Top, BadCall, Shape, TooDeep, TooManySteps}
+use Rattle.dl_documents.specs.declared.fault.PlanFault.TheVariants.{Table, Limit, OutOfMemory}
+use Rattle.dl_documents.specs.declared.input.Input.{Input}
+use Rattle.dl_documents.specs.declared.input.Input.TheVariants as input
+use Rattle.dl_plans.specs.Run.{Answers, AppendsFront, IsDocument, IsRefused, Writes, WritesFront}
 use Rattle.dl_plans.specs.declared.fault.RunError.{RunError}
 use Rattle.dl_plans.specs.declared.fault.RunError.TheVariants as error
 use Rattle.dl_plans.specs.declared.program.TheConstants.{MOST_READ}
-use Rattle.dl_plans.specs.declared.script.Input.{Input}
+use Rattle.dl_plans.specs.declared.settings.Options.{Options}
 
 -- the first bytes, if there are no more than a document has, are all
 all_read : (bytes : List ℕ) → length (take MOST_READ bytes) ≤ most_bytes → take MOST_READ bytes ≡ bytes
 all_read bytes h = take_all MOST_READ bytes (omega (arith, length-take {A = ℕ} MOST_READ bytes))
 
-answers_all : (bytes text : List ℕ) → Answers (take MOST_READ bytes) text → Answers bytes text
-answers_all bytes text a = rw (all_read bytes a.small) at a
+document_all : (bytes : List ℕ) (i : Input) → IsDocument (take MOST_READ bytes) i → IsDocument bytes i
+document_all bytes i d = rw (all_read bytes d.small) at d
 
-pub run_writes : (held : Option (List ℕ)) (read text : List ℕ) (old new : Option (List ℕ)) → IfSome held (λ bytes. read ≡ take MOST_READ bytes)
-    → Answers read text → Appends old new text → IfSome held (Writes old new)
-run_writes None read text old new is a written = tt
-run_writes (Some bytes) read text old new is a written = record { text = text; answers = answers_all bytes text (rw is at a); written = written }
+answers_all : (options : Options) (bytes text : List ℕ) → Answers options (take MOST_READ bytes) text → Answers options bytes text
+answers_all options bytes text a = (a.0, document_all bytes a.0 a.1, a.2)
 
-pub run_writes_front : (held : Option (List ℕ)) (read text : List ℕ) (old new : Option (List ℕ)) → IfSome held (λ bytes. read ≡ take MOST_READ bytes)
-    → Answers read text → AppendsFront old new text → IfSome held (WritesFront old new)
-run_writes_front None read text old new is a written = tt
-run_writes_front (Some bytes) read text old new is a written = record { text = text; answers = answers_all bytes text (rw is at a); written = written }
+pub run_writes : (options : Options) (held : Option (List ℕ)) (read text : List ℕ) (old new : Option (List ℕ))
+    → IfSome held (λ bytes. read ≡ take MOST_READ bytes) → Answers options read text → Appends old new text → IfSome held (Writes options old new)
+run_writes options None read text old new is a written = tt
+run_writes options (Some bytes) read text old new is a written =
+    record { text = text; answers = answers_all options bytes text (rw is at a); written = written }
+
+pub run_writes_front : (options : Options) (held : Option (List ℕ)) (read text : List ℕ) (old new : Option (List ℕ))
+    → IfSome held (λ bytes. read ≡ take MOST_READ bytes) → Answers options read text → AppendsFront old new text → IfSome held (WritesFront options old new)
+run_writes_front options None read text old new is a written = tt
+run_writes_front options (Some bytes) read text old new is a written =
+    record { text = text; answers = answers_all options bytes text (rw is at a); written = written }
 
 -- the same of a write that may have failed
-pub run_ok : (written : Result (Unit {0}) RunError) (held : Option (List ℕ)) (read text : List ℕ) (old new : Option (List ℕ))
-    → IfSome held (λ bytes. read ≡ take MOST_READ bytes) → Answers read text → OnOk written (Appends old new text) → OnOk written (IfSome held (Writes old new))
-run_ok (Ok u) held read text old new is a h = run_writes held read text old new is a h
-run_ok (Err e) held read text old new is a h = tt
+pub run_ok : (options : Options) (written : Result (Unit {0}) RunError) (held : Option (List ℕ)) (read text : List ℕ) (old new : Option (List ℕ))
+    → IfSome held (λ bytes. read ≡ take MOST_READ bytes) → Answers options read text → OnOk written (Appends old new text)
+    → OnOk written (IfSome held (Writes options old new))
+run_ok options (Ok u) held read text old new is a h = run_writes options held read text old new is a h
+run_ok options (Err e) held read text old new is a h = tt
 
--- a text that answers what was read
-pub answers_made : (bytes text : List ℕ) (i : Input) → ((d : Data) × IsTextOf bytes d × Spells d i) → ((f : PlanFault) → Applies bytes f → ⊥)
-    → text ≡ input_text i → Answers bytes text
-answers_made bytes text i p passes e = record {
+-- what was read of bytes that no refusal applies to
+pub document_read : (bytes : List ℕ) (i : Input) → ((d : Data) × IsTextOf bytes d × Spells d i) → ((f : PlanFault) → Applies bytes f → ⊥) → IsDocument bytes i
+document_read bytes i p passes = record {
   small = elim (cases_lt most_bytes (length bytes)) [ inl many ↦ absurd (passes TooLarge many) | inr few ↦ few ];
   tree = p.0;
-  input = i;
   is_text = p.1;
   spells = p.2;
-  output = e;
 }
 
 -- nothing comes before the first refusal
@@ -59,12 +64,16 @@ numbered NotJson = omega arith
 numbered Version = omega arith
 numbered Top = omega arith
 numbered (BadCall n) = omega arith
+numbered (Shape n s) = omega arith
+numbered (TooDeep n s) = omega arith
+numbered (TooManySteps n) = omega arith
+numbered (Table f) = omega arith
 numbered (Limit l) = omega arith
 numbered OutOfMemory = omega arith
 
 not_before : (g : PlanFault) → IsBefore g TooLarge → ⊥
 not_before g (inl h) = let k = numbered g in omega arith
-not_before g (inr h) = omega (arith, h.1)
+not_before g (inr h) = elim h.1 [ inl e ↦ omega (arith, e) | inr e ↦ omega (arith, e.1) ]
 
 large_refused : (bytes : List ℕ) (f : PlanFault) → most_bytes < length bytes → (IsBefore TooLarge f → ⊥) → Applies (take MOST_READ bytes) f
     → IsLeast (Applies bytes) f
@@ -73,6 +82,10 @@ large_refused bytes NotJson h first a = absurd (first (inl (omega arith)))
 large_refused bytes Version h first a = absurd (first (inl (omega arith)))
 large_refused bytes Top h first a = absurd (first (inl (omega arith)))
 large_refused bytes (BadCall n) h first a = absurd (first (inl (omega arith)))
+large_refused bytes (Shape n s) h first a = absurd (first (inl (omega arith)))
+large_refused bytes (TooDeep n s) h first a = absurd (first (inl (omega arith)))
+large_refused bytes (TooManySteps n) h first a = absurd (first (inl (omega arith)))
+large_refused bytes (Table f) h first a = absurd (first (inl (omega arith)))
 large_refused bytes (Limit l) h first a = absurd (first (inl (omega arith)))
 large_refused bytes OutOfMemory h first a = absurd a
 
@@ -86,14 +99,15 @@ refused_by bytes f (inr many) least =
 either_size : (n : ℕ) → (n ≤ most_bytes) ⊎ (most_bytes < n)
 either_size n = elim (cases_lt most_bytes n) [ inl many ↦ inr many | inr few ↦ inl few ]
 
-refused_all : (bytes : List ℕ) (e : RunError) → IsRefused (take MOST_READ bytes) e → IsRefused bytes e
-refused_all bytes error.Read h = h
-refused_all bytes (error.Refused f) h = refused_by bytes f (either_size (length bytes)) h
-refused_all bytes error.Write h = h
-refused_all bytes error.OutOfMemory h = h
+refused_all : (options : Options) (bytes : List ℕ) (e : RunError) → IsRefused options (take MOST_READ bytes) e → IsRefused options bytes e
+refused_all options bytes error.Read h = h
+refused_all options bytes (error.Refused f) h = refused_by bytes f (either_size (length bytes)) h
+refused_all options bytes (error.Run f) h = (h.0, document_all bytes (input.Plans h.0) h.1, h.2)
+refused_all options bytes error.Write h = h
+refused_all options bytes error.OutOfMemory h = h
 
 -- what is refused of the first bytes is refused of all
-pub run_refused : (held : Option (List ℕ)) (read : List ℕ) (e : RunError) → IfSome held (λ bytes. read ≡ take MOST_READ bytes)
-    → IsRefused read e → IfSome held (λ bytes. IsRefused bytes e)
-run_refused None read e is h = tt
-run_refused (Some bytes) read e is h = refused_all bytes e (rw is at h)
+pub run_refused : (options : Options) (held : Option (List ℕ)) (read : List ℕ) (e : RunError) → IfSome held (λ bytes. read ≡ take MOST_READ bytes)
+    → IsRefused options read e → IfSome held (λ bytes. IsRefused options bytes e)
+run_refused options None read e is h = tt
+run_refused options (Some bytes) read e is h = refused_all options bytes e (rw is at h)

@@ -5,7 +5,7 @@ use Rattle.dl_desk.specs.BatchBook.{BatchBook, StandsFor}
 use Rattle.dl_desk.specs.History.{Atom}
 use Rattle.dl_desk.specs.Limits.{Rules}
 use Rattle.dl_plans.specs.Output.{calls_text, call_lines, next_history}
-use Rattle.dl_plans.specs.declared.script.ScriptCall.{ScriptCall}
+use Rattle.dl_documents.specs.declared.input.ScriptCall.{ScriptCall}
 
 -- what was written, with the lines of the rest from the desk's history on, is the text
 pub record Answered (rules : Rules) (book : BatchBook) (out : List ℕ) (rest : List ScriptCall) (text : List ℕ) : Type 0 where

@@ -1,12 +1,7 @@
-pub mod Script
-pub mod Document
-pub mod Faults
-pub mod Numbers
+pub mod JsonText
 pub mod Lines
 pub mod Output
+pub mod ReportText
 pub mod Options
 pub mod Run
 pub mod Status
-pub mod Reading
--- words of private functions, and of what values are made of
-pub mod Inside

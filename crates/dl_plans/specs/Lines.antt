@@ -1,6 +1,5 @@
 -- The lines that answer a call.
 use Rattle.std.specs.Prelude.{ℕ, List, [], ◌∷◌, ◌++◌, length, codes, decimal, flat_map}
-use Rattle.serde_json.specs.Written.{compact_text}
 use Rattle.dl_desk.specs.Key.{Key}
 use Rattle.dl_desk.specs.declared.fault.DeskFault.{DeskFault}
 use Rattle.dl_desk.specs.declared.fault.DeskFault.TheVariants.{NoBatch, NotSent, SettledBefore, CellsFull, OutOfMemory}
@@ -9,7 +8,7 @@ use Rattle.dl_desk.specs.declared.reply.DeskPrime.TheVariants.{Primed, Kept}
 use Rattle.dl_desk.specs.declared.reply.Job.{Job}
 use Rattle.dl_desk.specs.declared.reply.LoadReply.{LoadReply}
 use Rattle.dl_desk.specs.declared.reply.LoadReply.TheVariants.{Hit, Fresh}
-use Rattle.dl_plans.specs.Script.{key_tree}
+use Rattle.dl_plans.specs.JsonText.{key_text}
 
 -- a text and the line feed that ends it
 abbrev pub line : List ℕ → List ℕ
@@ -30,9 +29,9 @@ abbrev pub prime_line : DeskPrime → List ℕ
 prime_line (Primed cell) = line (codes "primed " ++ decimal cell)
 prime_line Kept = line (codes "kept")
 
--- a key behind a space, as compact JSON
+-- a key behind a space
 abbrev pub next_key : Key → List ℕ
-next_key k = codes " " ++ compact_text (key_tree k)
+next_key k = codes " " ++ key_text k
 
 abbrev pub job_line : Job → List ℕ
 job_line j = line (codes "job " ++ decimal j.batch ++ flat_map next_key j.keys)

@@ -5,11 +5,8 @@ use Rattle.clap.specs.Words.{App, Shape, Row, Rule, Text, new_app, new_rule, one
 use Rattle.clap.specs.Simple.{on_top}
 use Rattle.clap.specs.declared.builder.action.ArgAction.TheVariants.{SetTrue}
 use Rattle.clap.specs.declared.builder.value_parser.ValueParser.TheVariants as vp
+use Rattle.dl_scope.specs.Faults.{most_workers}
 use Rattle.dl_plans.specs.declared.settings.Options.{Options}
-
--- the most workers
-abbrev pub most_workers : ℕ
-most_workers = 16
 
 -- `--workers N`, a number from 1 to the most, and 3 where it isn't given
 abbrev pub workers_rule : Rule

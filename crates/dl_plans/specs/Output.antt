@@ -5,11 +5,9 @@ use Rattle.dl_desk.specs.History.{Atom, load_reply, load_replies, prime_reply, j
 use Rattle.dl_desk.specs.Limits.{Rules, mixed}
 use Rattle.dl_desk.specs.declared.fault.DeskFault.{DeskFault}
 use Rattle.dl_plans.specs.Lines.{done_line, load_line, many_lines, prime_line, sent_lines, refused_line}
-use Rattle.dl_plans.specs.declared.script.Input.{Input}
-use Rattle.dl_plans.specs.declared.script.Input.TheVariants as input
-use Rattle.dl_plans.specs.declared.script.Script.{Script}
-use Rattle.dl_plans.specs.declared.script.ScriptCall.{ScriptCall}
-use Rattle.dl_plans.specs.declared.script.ScriptCall.TheVariants.{Load, LoadMany, Prime, Clear, ClearAll, Dispatch, Settle, Fail}
+use Rattle.dl_documents.specs.declared.input.Script.{Script}
+use Rattle.dl_documents.specs.declared.input.ScriptCall.{ScriptCall}
+use Rattle.dl_documents.specs.declared.input.ScriptCall.TheVariants.{Load, LoadMany, Prime, Clear, ClearAll, Dispatch, Settle, Fail}
 
 -- the desk's call
 abbrev pub desk_call : ScriptCall → DeskCall
@@ -57,7 +55,3 @@ calls_text rules history (call ∷ calls) = call_lines rules history call ++ cal
 -- the text that a script gives
 abbrev pub script_text : Script → List ℕ
 script_text s = calls_text (mixed s.limits) [] s.calls
-
--- the text that a document gives
-abbrev pub input_text : Input → List ℕ
-input_text (input.Script s) = script_text s

@@ -2,12 +2,25 @@
 use Rattle.std.specs.Prelude.{◌≡◌, ℕ, ◌≤◌, List, length, take, Option}
 use Rattle.std.specs.Io.KnownBytes.{Appends, Consumes}
 use Rattle.serde_json.specs.Data.{Data}
-use Rattle.dl_plans.specs.Document.{IsTextOf, Spells}
-use Rattle.dl_plans.specs.Output.{input_text}
-use Rattle.dl_plans.specs.Faults.{Applies, IsLeast, most_bytes}
+use Rattle.dl_documents.specs.Document.{IsTextOf, Spells}
+use Rattle.dl_documents.specs.Faults.{Applies, IsLeast, most_bytes}
+use Rattle.dl_documents.specs.declared.input.Input.{Input}
+use Rattle.dl_documents.specs.declared.input.Input.TheVariants as input
+use Rattle.dl_documents.specs.declared.input.PlanFile.{PlanFile}
+use Rattle.dl_history.specs.Service.{Service}
+use Rattle.dl_source.specs.Answer.{answer_of}
+use Rattle.dl_scope.specs.Faults.{RefusedAs}
+use Rattle.dl_scope.specs.Headline.{Headline, service_of}
+use Rattle.dl_scope.specs.Report.{Report}
+use Rattle.dl_scope.specs.declared.fault.ScopeFault.{ScopeFault}
+use Rattle.dl_scope.specs.declared.setup.Setup.{Setup}
+use Rattle.dl_plans.specs.Output.{script_text}
+use Rattle.dl_plans.specs.ReportText.{report_text}
 use Rattle.dl_plans.specs.declared.fault.RunError.{RunError}
-use Rattle.dl_plans.specs.declared.fault.RunError.TheVariants.{Read, Refused, Write, OutOfMemory}
-use Rattle.dl_plans.specs.declared.script.Input.{Input}
+use Rattle.dl_plans.specs.declared.fault.RunError.TheVariants.{Read, Refused, Run, Write, OutOfMemory}
+use Rattle.dl_plans.specs.declared.settings.Options.{Options}
+
+-- ---- what is read
 
 -- the reader has lost bytes from the front of those that it had left, at most so many
 pub record ReadsAtMost (most : ℕ) (old new : Option (List ℕ)) : Type 0 where
@@ -15,14 +28,38 @@ pub record ReadsAtMost (most : ℕ) (old new : Option (List ℕ)) : Type 0 where
   pub few : length lost ≤ most
   pub consumed : Consumes old new lost
 
--- the text answers the bytes: they are a document's, and it is the text that the document gives
-pub record Answers (bytes text : List ℕ) : Type 0 where
+-- the bytes are those of a document, which says this
+pub record IsDocument (bytes : List ℕ) (i : Input) : Type 0 where
   pub small : length bytes ≤ most_bytes
   pub tree : Data
-  pub input : Input
   pub is_text : IsTextOf bytes tree
-  pub spells : Spells tree input
-  pub output : text ≡ input_text input
+  pub spells : Spells tree i
+
+-- ---- what it gives
+
+-- the room of the queue between plans and workers
+abbrev pub queue_places : ℕ
+queue_places = 16
+
+-- how the program serves a plan file
+abbrev pub setup_of : Options → PlanFile → Setup
+setup_of options file = record { limits = file.limits; workers = options.workers; queue = queue_places }
+
+-- what the plans of a file are served by: its tables
+abbrev pub file_service : Options → PlanFile → Service
+file_service options file = service_of (setup_of options file) (length file.plans.items) (answer_of file.tables)
+
+-- The text that a document gives: that of a script, or that of a report that meets the headline for the tables, limits and
+-- plans of the file.
+abbrev pub Outputs : Options → Input → List ℕ → Type 0
+Outputs options (input.Script s) text = text ≡ script_text s
+Outputs options (input.Plans file) text = (r : Report) × Headline (file_service options file) file.plans.items r × (text ≡ report_text r options.batches)
+
+-- the text answers the bytes: they are a document's, which gives it
+abbrev pub Answers : Options → List ℕ → List ℕ → Type 0
+Answers options bytes text = (i : Input) × IsDocument bytes i × Outputs options i text
+
+-- ---- what is written
 
 -- the writer has gained a front of the text
 pub record AppendsFront (old new : Option (List ℕ)) (text : List ℕ) : Type 0 where
@@ -31,20 +68,29 @@ pub record AppendsFront (old new : Option (List ℕ)) (text : List ℕ) : Type 0
   pub written : Appends old new (take count text)
 
 -- the writer has gained a text that answers the bytes
-pub record Writes (old new : Option (List ℕ)) (bytes : List ℕ) : Type 0 where
+pub record Writes (options : Options) (old new : Option (List ℕ)) (bytes : List ℕ) : Type 0 where
   pub text : List ℕ
-  pub answers : Answers bytes text
+  pub answers : Answers options bytes text
   pub written : Appends old new text
 
 -- the writer has gained a front of a text that answers the bytes
-pub record WritesFront (old new : Option (List ℕ)) (bytes : List ℕ) : Type 0 where
+pub record WritesFront (options : Options) (old new : Option (List ℕ)) (bytes : List ℕ) : Type 0 where
   pub text : List ℕ
-  pub answers : Answers bytes text
+  pub answers : Answers options bytes text
   pub written : AppendsFront old new text
 
--- where the error says that a document is refused, the refusal is the first that applies to it
-abbrev pub IsRefused : List ℕ → RunError → Type 0
-IsRefused bytes Read = Unit {0}
-IsRefused bytes (Refused fault) = IsLeast (Applies bytes) fault
-IsRefused bytes Write = Unit {0}
-IsRefused bytes OutOfMemory = Unit {0}
+-- ---- refusals
+
+-- the bytes are those of a plan file, whose plans are refused for the fault
+abbrev pub IsNotServed : Options → List ℕ → ScopeFault → Type 0
+IsNotServed options bytes fault = (file : PlanFile) × IsDocument bytes (input.Plans file)
+    × RefusedAs (file_service options file) (setup_of options file) file.plans.items fault
+
+-- where the error says that a document is refused, the refusal is the first that applies to it; where it says that plans aren't
+-- served, they are those of the document
+abbrev pub IsRefused : Options → List ℕ → RunError → Type 0
+IsRefused options bytes Read = Unit {0}
+IsRefused options bytes (Refused fault) = IsLeast (Applies bytes) fault
+IsRefused options bytes (Run fault) = IsNotServed options bytes fault
+IsRefused options bytes Write = Unit {0}
+IsRefused options bytes OutOfMemory = Unit {0}

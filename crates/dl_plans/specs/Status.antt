@@ -5,7 +5,7 @@ use Rattle.std.specs.declared.io.ErrorKind.TheVariants as io_kind
 use Rattle.clap.specs.declared.error.kind.ErrorKind.{ErrorKind}
 use Rattle.clap.specs.declared.error.kind.ErrorKind.TheVariants as kind
 use Rattle.dl_plans.specs.declared.fault.RunError.{RunError}
-use Rattle.dl_plans.specs.declared.fault.RunError.TheVariants.{Read, Refused, Write, OutOfMemory}
+use Rattle.dl_plans.specs.declared.fault.RunError.TheVariants.{Read, Refused, Run, Write, OutOfMemory}
 
 -- it answered the document, or printed the help that was asked for
 abbrev pub status_ran : ℕ
@@ -27,6 +27,7 @@ status_failed = 3
 abbrev pub run_status : RunError → ℕ
 run_status Read = status_failed
 run_status (Refused fault) = status_refused
+run_status (Run fault) = status_failed
 run_status Write = status_failed
 run_status OutOfMemory = status_failed
 

@@ -66,7 +66,7 @@ fn batches<'a>(alloc: Global) -> Arg<'a>
     Arg::new(alloc, "batches")
         .long("batches")
         .action(ArgAction::SetTrue)
-        .help("Prints the batches of a plan file with one plan")
+        .help("Prints the rounds and batches too, of a plan file with exactly one plan")
 }
 
 /// The options of the matches, if the number of workers is in range.

@@ -8,13 +8,18 @@ use std::hash::RandomState;
 use std::process::ExitCode;
 use std::random::RandomSource;
 use std::rt::Env;
+use std::sync::Wait;
+use std::thread::Threads;
 use std::{env, io};
 
-/// The program `plans`: it answers the document on standard input as the command line says, and answers the status
-/// with which it ends. Where it fails, a line on standard error says why.
-pub fn plans<R: Env + RandomSource + Input + Print + Eprint + AllocGlobal>(rt: &R) -> ExitCode {
+/// The program `plans`: it answers the document on standard input as the command line says, by threads of `threads`, and
+/// answers the status with which it ends. Where it fails, a line on standard error says why.
+pub fn plans<
+    R: Env + RandomSource + Input + Print + Eprint + AllocGlobal,
+    T: Threads + Wait + Sync,
+>(rt: &R, threads: &T) -> ExitCode {
     let status = match words(rt) {
-        Ok(words) => obey(rt, &words),
+        Ok(words) => obey(rt, threads, &words),
         Err(error) => {
             let _ = eprintln!(rt; "error: {error}");
             words_status(&error)
@@ -30,9 +35,13 @@ fn words<R: Env + AllocGlobal>(rt: &R) -> io::Result<Vec<String>> {
 }
 
 /// Obeys the command line. A request for help, and why it is refused, are printed by clap.
-fn obey<R: RandomSource + Input + Print + Eprint + AllocGlobal>(rt: &R, words: &[String]) -> u8 {
+fn obey<R: RandomSource + Input + Print + Eprint + AllocGlobal, T: Threads + Wait + Sync>(
+    rt: &R,
+    threads: &T,
+    words: &[String],
+) -> u8 {
     match options(rt.alloc(), words) {
-        Ok(options) => answer(rt, options),
+        Ok(options) => answer(rt, threads, options),
         Err(error) => {
             let _ = error.print(rt);
             command_status(&error)
@@ -42,12 +51,17 @@ fn obey<R: RandomSource + Input + Print + Eprint + AllocGlobal>(rt: &R, words: &
 
 /// Answers the document, or says on standard error why not. Its keys come from strangers, so they are hashed
 /// by random numbers of this run.
-fn answer<R: RandomSource + Input + Print + Eprint + AllocGlobal>(rt: &R, options: Options) -> u8 {
+fn answer<R: RandomSource + Input + Print + Eprint + AllocGlobal, T: Threads + Wait + Sync>(
+    rt: &R,
+    threads: &T,
+    options: Options,
+) -> u8 {
     let Ok(hashing) = RandomState::new(rt) else {
         let _ = eprintln!(rt; "failed: random numbers");
         return FAILED;
     };
     match run(
+        threads,
         rt.alloc(),
         hashing,
         &mut rt.reader(),

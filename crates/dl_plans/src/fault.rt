@@ -1,34 +1,8 @@
-//! Why a document is refused, and how a run fails.
+//! How a run of the program fails.
 
-use dl_desk::LimitFault;
+use dl_documents::PlanFault;
+use dl_scope::ScopeFault;
 use thiserror::Error;
-
-/// Why bytes are no document: the first cause that applies, and of equal causes the first call.
-#[derive(Clone, Copy, Debug, PartialEq, Eq, Error)]
-pub enum PlanFault {
-    /// There are more than [`MOST_BYTES`](crate::MOST_BYTES) bytes.
-    #[error("too large")]
-    TooLarge,
-    /// The bytes are not the text of a JSON value.
-    #[error("not json")]
-    NotJson,
-    /// The document is no script of version 1.
-    #[error("version")]
-    Version,
-    /// The document has a member that a script does not have, lacks one that it needs, or one of
-    /// its three limits is not a whole number.
-    #[error("top")]
-    Top,
-    /// A call is none of a script's, counted from 0.
-    #[error("call {call}")]
-    BadCall { call: usize },
-    /// One of the three limits is out of range.
-    #[error("limit {0:?}")]
-    Limit(LimitFault),
-    /// A growth was refused.
-    #[error("memory")]
-    OutOfMemory,
-}
 
 /// How a run of the program fails.
 #[derive(Clone, Copy, Debug, PartialEq, Eq, Error)]
@@ -39,10 +13,29 @@ pub enum RunError {
     /// What was read is no document. Nothing is written.
     #[error("refused: {0}")]
     Refused(PlanFault),
+    /// The plans that were read aren't served. Nothing is written.
+    #[error("failed: {}", name_of(.0))]
+    Run(ScopeFault),
     /// The writer failed, or took nothing. A front of the text is written.
     #[error("failed: write")]
     Write,
-    /// A growth was refused. Nothing is written.
+    /// An allocation failed. Nothing is written.
     #[error("failed: memory")]
     OutOfMemory,
+}
+
+/// The name of a fault.
+fn name_of(fault: &ScopeFault) -> &'static str {
+    match fault {
+        ScopeFault::NoPlans => "NoPlans",
+        ScopeFault::TooManyPlans => "TooManyPlans",
+        ScopeFault::BadWorkers => "BadWorkers",
+        ScopeFault::Start(_) => "Start",
+        ScopeFault::Queue(_) => "Queue",
+        ScopeFault::Run { .. } => "Run",
+        ScopeFault::Stopped => "Stopped",
+        ScopeFault::Close(_) => "Close",
+        ScopeFault::Unfetched { .. } => "Unfetched",
+        ScopeFault::OutOfMemory => "OutOfMemory",
+    }
 }

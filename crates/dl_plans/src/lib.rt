@@ -1,25 +1,26 @@
-//! Documents of the program `plans`: reading them, and printing what they give.
+//! The program `plans`: it reads a document, and prints what it gives.
 #![tactic(auto)]
 
-mod call;
+mod answer_lines;
+mod batch_lines;
 mod command;
-mod document;
 mod entry;
 mod fault;
-mod limits;
+mod json_text;
 mod lines;
-mod member;
 mod program;
-mod script;
+mod report;
 mod script_text;
 mod settings;
 mod status;
 
 pub use command::options;
-pub use document::{MOST_BYTES, read_input};
+pub use dl_documents::{
+    Calls, Input, MOST_BYTES, PlanFault, PlanFile, Script, ScriptCall, read_input,
+};
 pub use entry::plans;
-pub use fault::{PlanFault, RunError};
+pub use fault::RunError;
 pub use program::run;
-pub use script::{Calls, Input, Script, ScriptCall};
+pub use report::report_text;
 pub use script_text::run_script;
 pub use settings::Options;

@@ -2,17 +2,23 @@
 
 ghost use Rattle.std.specs.Prelude.{◌≡◌, ◌≢◌, ◌⊎◌, ◌+◌, IfOk, IfErr, IfSome, OnOk, take, string_bytes};
 ghost use Rattle.std.specs.Io.KnownBytes.{Appends, Keeps};
-ghost use Rattle.dl_plans.specs.Faults.{most_bytes};
-ghost use Rattle.dl_plans.specs.Run.{Answers, Writes, WritesFront, AppendsFront, IsRefused, ReadsAtMost};
+ghost use Rattle.dl_documents.specs.Faults.{most_bytes};
+ghost use Rattle.dl_scope.specs.Faults.{RefusedAs};
+ghost use Rattle.dl_scope.specs.Headline.{Headline};
+ghost use Rattle.dl_plans.specs.Run.{Answers, Writes, WritesFront, AppendsFront, IsRefused, ReadsAtMost, file_service, setup_of};
 
-use crate::document::{MOST_BYTES, read_input};
-use crate::fault::{PlanFault, RunError};
-use crate::script::Input;
+use crate::fault::RunError;
+use crate::report::report_text;
 use crate::script_text::run_script;
 use crate::settings::Options;
+use dl_documents::{Input, MOST_BYTES, PlanFault, PlanFile, read_input};
+use dl_scope::{Report, ScopeFault, Setup, serve};
+use dl_workers::NoGate;
 use std::alloc::Global;
 use std::hash::RandomState;
 use std::io::{Read, Write};
+use std::sync::Wait;
+use std::thread::Threads;
 
 /// The most bytes that are read: one more than a document has.
 const MOST_READ: usize = MOST_BYTES + 1;
@@ -20,51 +26,94 @@ const MOST_READ: usize = MOST_BYTES + 1;
 /// How many bytes are asked for at a time.
 const BUFFER_BYTES: usize = 4096;
 
+/// For how many jobs the queue between plans and workers has room.
+const QUEUE_PLACES: u32 = 16;
+
 /// Reads a document, and writes the text that it gives once all of it is made. At most one byte more is read than
-/// a document has. A script has no use for the options. Keys are hashed by `hashing`, of which nothing is seen.
+/// a document has. The plans of a plan file are served at once, each on a thread of its own, and as many workers as the
+/// options say fetch for them; a script has no use for the options. Keys are hashed by `hashing`, of which nothing is seen.
 ///
 /// # Errors
-/// `Read` where the reader fails, `Refused` where what it holds is no document, want of memory, and
-/// `Write` where the writer fails. Only after `Write` something may be written: a front of the text.
-pub fn run<R: Read, W: Write>(
+/// `Read` where the reader fails, `Refused` where what it holds is no document, `Run` where the plans of a plan file
+/// aren't served, `OutOfMemory` where an allocation failed, and `Write` where the writer fails. Only after `Write` something
+/// may be written: a front of the text.
+pub fn run<R: Read, W: Write, T: Threads + Wait + Sync>(
+    rt: &T,
     alloc: Global,
     hashing: RandomState,
     reader: &mut R,
     writer: &mut W,
-    _options: Options,
+    options: Options,
 ) -> Result<(), RunError>
-    ensures ok { OnOk result (IfSome (R.remaining reader.old) (Writes (W.contents writer.old) (W.contents writer.new))) }
-    ensures refused { IfErr result (λ e. IfSome (R.remaining reader.old) (λ bytes. IsRefused bytes e)) }
-    ensures write { result ≡ Err RunError.Write → IfSome (R.remaining reader.old) (WritesFront (W.contents writer.old) (W.contents writer.new)) }
+    ensures ok { OnOk result (IfSome (R.remaining reader.old) (Writes options (W.contents writer.old) (W.contents writer.new))) }
+    ensures refused { IfErr result (λ e. IfSome (R.remaining reader.old) (λ bytes. IsRefused options bytes e)) }
+    ensures write { result ≡ Err RunError.Write → IfSome (R.remaining reader.old) (WritesFront options (W.contents writer.old) (W.contents writer.new)) }
     ensures reads { ReadsAtMost (most_bytes + 1) (R.remaining reader.old) (R.remaining reader.new) }
     ensures untouched { IfErr result (λ e. e ≢ RunError.Write → Keeps (W.contents writer.old) (W.contents writer.new)) }
 {
     let bytes = read_all(alloc, reader)?;
-    let text = output(alloc, hashing, &bytes)?;
+    let text = output(rt, alloc, hashing, &bytes, options)?;
     write_all(writer, text.as_bytes())
 }
 
 /// The text that a document gives.
-fn output(alloc: Global, hashing: RandomState, bytes: &[u8]) -> Result<String, RunError>
-    ensures ok { IfOk result (λ text. Answers bytes.now (string_bytes text)) }
-    ensures err { IfErr result (IsRefused bytes.now) }
+fn output<T: Threads + Wait + Sync>(
+    rt: &T,
+    alloc: Global,
+    hashing: RandomState,
+    bytes: &[u8],
+    options: Options,
+) -> Result<String, RunError>
+    ensures ok { IfOk result (λ text. Answers options bytes.now (string_bytes text)) }
+    ensures err { IfErr result (IsRefused options bytes.now) }
     ensures kept { IfErr result (λ e. e ≢ RunError.Write) }
 {
-    match read_input(alloc, bytes) {
+    match read_input(alloc, hashing, bytes) {
         Ok(Input::Script(script)) => match run_script(alloc, hashing, &script) {
             Ok(text) => Ok(text),
             Err(_) => Err(RunError::OutOfMemory),
+        },
+        Ok(Input::Plans(file)) => match served(rt, alloc, hashing, file, options) {
+            Ok(report) => match report_text(alloc, &report, options.batches) {
+                Ok(text) => Ok(text),
+                Err(_) => Err(RunError::OutOfMemory),
+            },
+            Err(fault) => Err(RunError::Run(fault)),
         },
         Err(PlanFault::OutOfMemory) => Err(RunError::OutOfMemory),
         Err(fault) => Err(RunError::Refused(fault)),
     }
 }
 
+/// What serving the plans of a file over its tables leaves.
+fn served<T: Threads + Wait + Sync>(
+    rt: &T,
+    alloc: Global,
+    hashing: RandomState,
+    file: PlanFile,
+    options: Options,
+) -> Result<Report, ScopeFault>
+    ensures headline { IfOk result (Headline (file_service options file) file.plans.items) }
+    ensures refused { IfErr result (RefusedAs (file_service options file) (setup_of options file) file.plans.items) }
+{
+    let PlanFile {
+        limits,
+        tables,
+        plans,
+    } = file;
+    let setup = Setup {
+        limits,
+        workers: options.workers,
+        queue: QUEUE_PLACES,
+    };
+    serve(rt, alloc, hashing, &tables, setup, plans, &NoGate)
+}
+
 /// The bytes that the reader has, up to one more than a document's. A read is repeated until it
 /// gives nothing.
 ///
 /// # Errors
-/// `Read` at a read that fails, also an interrupted one, and want of memory.
+/// `Read` at a read that fails, also an interrupted one, and `OutOfMemory` where an allocation failed.
 fn read_all<R: Read>(alloc: Global, reader: &mut R) -> Result<Vec<u8>, RunError>
     ensures bytes { IfOk result (λ v. IfSome (R.remaining reader.old) (λ bytes. v.items ≡ take MOST_READ bytes)) }
     ensures reads { ReadsAtMost (most_bytes + 1) (R.remaining reader.old) (R.remaining reader.new) }

@@ -6,14 +6,14 @@ ghost use Rattle.dl_desk.specs.History.{Atom};
 ghost use Rattle.dl_plans.specs.Output.{script_text, call_lines, next_history};
 
 use crate::lines;
-use crate::script::{Script, ScriptCall};
 use dl_desk::Desk;
+use dl_documents::{Script, ScriptCall};
 use std::alloc::{AllocError, Global};
 use std::hash::RandomState;
 
 /// The text that a script gives: one desk answers its calls in order, each by the lines of its
 /// reply or of its refusal. The desk hashes keys by `hashing`, of which nothing is seen. The error is
-/// want of memory.
+/// a failed allocation.
 pub fn run_script(
     alloc: Global,
     hashing: RandomState,

@@ -5,6 +5,6 @@
 pub struct Options {
     /// How many workers fetch for a plan file, 1 to 16.
     pub workers: u32,
-    /// Whether the batches of a plan file with one plan are printed.
+    /// Whether the rounds and batches of a plan file with exactly one plan are printed.
     pub batches: bool,
 }

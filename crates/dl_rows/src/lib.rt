@@ -7,18 +7,6 @@ mod cells;
 #[cfg(test)]
 mod desk;
 #[cfg(test)]
-mod generated;
-#[cfg(test)]
-mod lines;
-#[cfg(test)]
-mod program;
-#[cfg(test)]
-mod reference;
-#[cfg(test)]
-mod scripts;
-#[cfg(test)]
 mod source;
-#[cfg(test)]
-mod statuses;
 #[cfg(test)]
 mod terms;

@@ -4,5 +4,5 @@
 use std::process::ExitCode;
 
 fn main(rt: HostRuntime) -> ExitCode {
-    dl_plans::plans(&rt)
+    dl_plans::plans(&rt, &rt)
 }

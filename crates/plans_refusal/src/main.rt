@@ -1,8 +1,8 @@
-//! The program `plans`, whose stored run here is one that is refused: status 1, and nothing on standard output.
+//! The program `plans`: it answers the document that stands on standard input.
 #![tactic(auto)]
 
 use std::process::ExitCode;
 
 fn main(rt: HostRuntime) -> ExitCode {
-    dl_plans::plans(&rt)
+    dl_plans::plans(&rt, &rt)
 }

@@ -1,7 +1,26 @@
-use Rattle.std.proofs.Common.{rules, string_bytes}
-use Rattle.dl_plans.proofs.Runs.{answers_made}
+use Rattle.std.proofs.Common.{subst}
+use Rattle.dl_documents.specs.declared.input.Input.TheVariants as input
+use Rattle.dl_plans.specs.Run.{IsDocument}
+use Rattle.dl_plans.proofs.Runs.{document_read}
 use Rattle.dl_plans.proofs.program.output.Goals as goal
 
 pub returns-in-Ok-clause-ok : goal.returns-in-Ok-clause-ok
-returns-in-Ok-clause-ok c =
-    answers_made c.args.bytes.now (string_bytes c.in-Ok.text) c.in-Ok-Script.field-0 c.in-Ok-Script.ensures.ok c.in-Ok-Script.ensures.passes (search rules)
+returns-in-Ok-clause-ok g c =
+    let says = c.in-Ok-Script in
+    let document : IsDocument c.args.bytes.now (input.Script says.script) =
+    subst (IsDocument c.args.bytes.now) says.field-0-is (document_read c.args.bytes.now says.field-0 says.ensures.ok says.ensures.passes) in
+    (input.Script says.script, document, c.in-Ok.ensures)
+
+pub returns-in-Ok-report_text-clause-ok : goal.returns-in-Ok-report_text-clause-ok
+returns-in-Ok-report_text-clause-ok g c =
+    let says = c.in-Ok-Plans in
+    let document : IsDocument c.args.bytes.now (input.Plans says.file) =
+    subst (IsDocument c.args.bytes.now) says.field-0-is (document_read c.args.bytes.now says.field-0 says.ensures.ok says.ensures.passes) in
+    (input.Plans says.file, document, (c.in-Ok-served.report, c.in-Ok-served.ensures.headline, c.in-Ok-report_text.ensures))
+
+pub returns-in-Ok-Plans-clause-err : goal.returns-in-Ok-Plans-clause-err
+returns-in-Ok-Plans-clause-err g c =
+    let says = c.in-Ok-Plans in
+    let document : IsDocument c.args.bytes.now (input.Plans says.file) =
+    subst (IsDocument c.args.bytes.now) says.field-0-is (document_read c.args.bytes.now says.field-0 says.ensures.ok says.ensures.passes) in
+    (says.file, document, c.in-Err-served.ensures.refused)

@@ -1,0 +1,447 @@
+//! `run` over readers and writers, the lines of its failures, and the command line.
+
+use crate::texts::refusal;
+use dl_desk::LimitFault;
+use dl_documents::PlanFault;
+use dl_haxl::RunFault;
+use dl_loader::{CallFault, CloseFault, StartFault};
+use dl_plans::{Options, RunError, options, run};
+use dl_scope::ScopeFault;
+use dl_source::TableFault;
+use dl_workers::QueueFault;
+use std::alloc::Global;
+use std::hash::RandomState;
+use std::io::{self, ErrorKind, Read, Write};
+use std::process::Abort;
+use std::sync::Wait;
+use std::test::Fail;
+use std::thread::Threads;
+
+/// A plan file whose one plan takes two rounds, and the text that it gives with its batches.
+const DOCUMENT: &str =
+    r#"{"version":1,"maxBatchSize":2,"tables":[{"name":"user","rows":[["u1",{"best":"u2","friends":["u2","u3"],"name":"Ada"}],["u2",{"best":"u1","friends":[],"name":"Bob"}],["u3",{"name":"Cy"}]],"errors":[["u9","gone"]],"breaks":[["u13","db down"]]}],"plans":[[{"eval":{"pick":[{"follow":[{"load":["user","u1"]},"best","user"]},"name"]}}]]}"#;
+
+const TEXT: &str =
+    "0 0 ok \"Bob\"\nrounds 2\nbatch 0 [[\"user\",\"u1\"]] settled\nbatch 1 [[\"user\",\"u2\"]] settled\n";
+
+/// The options of no words, and those with batches.
+const OPTIONS: Options = Options {
+    workers: 3,
+    batches: false,
+};
+
+const BATCHES: Options = Options {
+    batches: true,
+    ..OPTIONS
+};
+
+/// A reader that gives at most 100 bytes a read, and fails once so many reads were good.
+#[derive(Drop)]
+struct Drip {
+    rest: &'static [u8],
+    good_reads: usize,
+    kind: ErrorKind,
+}
+
+impl Read for Drip {
+    fn read(&mut self, buffer: &mut [u8]) -> io::Result<usize> {
+        if self.good_reads == 0 {
+            return Err(io::Error::from(self.kind));
+        }
+        self.good_reads -= 1;
+        let count = self.rest.len().min(buffer.len()).min(100);
+        buffer[..count].copy_from_slice(&self.rest[..count]);
+        self.rest = &self.rest[count..];
+        Ok(count)
+    }
+}
+
+/// How a writer ends that has taken the bytes that it takes.
+#[derive(Clone, Copy, PartialEq, Eq)]
+enum Ends {
+    Failing,
+    TakingNothing,
+    FailingToFlush,
+}
+
+/// A writer that takes so many bytes of a text that is wanted, at most 10 a write, and then no more.
+#[derive(Drop)]
+struct Cut {
+    rest: &'static [u8],
+    room: usize,
+    ends: Ends,
+    differs: bool,
+}
+
+impl Write for Cut {
+    fn write(&mut self, bytes: &[u8]) -> io::Result<usize> {
+        if self.room == 0 && self.ends == Ends::Failing {
+            return Err(io::Error::from(ErrorKind::Interrupted));
+        }
+        let count = self.room.min(10).min(bytes.len());
+        match self.rest.strip_prefix(&bytes[..count]) {
+            Some(rest) => self.rest = rest,
+            None => self.differs = true,
+        }
+        self.room -= count;
+        Ok(count)
+    }
+
+    fn flush(&mut self) -> io::Result<()> {
+        match self.ends {
+            Ends::FailingToFlush => Err(io::Error::from(ErrorKind::Other)),
+            Ends::Failing | Ends::TakingNothing => Ok(()),
+        }
+    }
+}
+
+/// A reader of the document.
+fn whole() -> Drip {
+    Drip {
+        rest: DOCUMENT.as_bytes(),
+        good_reads: usize::MAX,
+        kind: ErrorKind::Other,
+    }
+}
+
+/// A writer that takes so many bytes of the text, and then ends so.
+fn writer(room: usize, ends: Ends) -> Cut {
+    Cut {
+        rest: TEXT.as_bytes(),
+        room,
+        ends,
+        differs: false,
+    }
+}
+
+/// A run of the program on a reader and a writer ends so, and so many bytes of the text are written and nothing else.
+fn assert_run<R: Abort + Threads + Wait + Sync>(
+    rt: &R,
+    alloc: Global,
+    hashing: RandomState,
+    mut reader: Drip,
+    mut writer: Cut,
+    want: Result<(), RunError>,
+    written: usize,
+) {
+    let ran = run(rt, alloc, hashing, &mut reader, &mut writer, BATCHES);
+    assert_eq!(rt; ran, want);
+    assert!(rt; !writer.differs, "another text");
+    assert_eq!(rt; writer.rest.len().saturating_add(written), TEXT.len());
+}
+
+#[test]
+fn a_reader_that_fails_leaves_nothing_written(rt: HostRuntime) -> Result<(), Fail> {
+    let hashing = RandomState::new(&rt)?;
+    for (good_reads, kind) in [
+        (0, ErrorKind::Other),
+        (1, ErrorKind::Interrupted),
+        (2, ErrorKind::Other),
+    ] {
+        let reader = Drip {
+            good_reads,
+            kind,
+            ..whole()
+        };
+        let writer = writer(usize::MAX, Ends::TakingNothing);
+        assert_run(
+            &rt,
+            rt.alloc(),
+            hashing,
+            reader,
+            writer,
+            Err(RunError::Read),
+            0,
+        );
+    }
+    Ok(())
+}
+
+#[test]
+fn a_front_of_a_document_is_refused(rt: HostRuntime) -> Result<(), Fail> {
+    let hashing = RandomState::new(&rt)?;
+    let bytes = DOCUMENT.as_bytes();
+    for count in 0..bytes.len() {
+        let fault = refusal(rt.alloc(), hashing, &bytes[..count]);
+        assert_eq!(rt; fault, Some(PlanFault::NotJson), "{count} bytes");
+    }
+    let reader = Drip {
+        rest: &bytes[1..],
+        ..whole()
+    };
+    let writer = writer(usize::MAX, Ends::TakingNothing);
+    let want = Err(RunError::Refused(PlanFault::NotJson));
+    assert_run(&rt, rt.alloc(), hashing, reader, writer, want, 0);
+    Ok(())
+}
+
+/// Spaces that a reader has, how many of them a run leaves, and why it refuses the others.
+static SPACES: [(u64, u64, PlanFault); 3] = [
+    (1_048_576, 0, PlanFault::NotJson),
+    (1_048_577, 0, PlanFault::TooLarge),
+    (2_000_000, 951_423, PlanFault::TooLarge),
+];
+
+#[test]
+fn one_byte_more_than_a_document_is_read(rt: HostRuntime) -> Result<(), Fail> {
+    let hashing = RandomState::new(&rt)?;
+    for (spaces, left, want) in &SPACES {
+        let mut reader = io::repeat(b' ').take(*spaces);
+        let mut writer = writer(usize::MAX, Ends::TakingNothing);
+        let ran = run(&rt, rt.alloc(), hashing, &mut reader, &mut writer, OPTIONS);
+        assert_eq!(rt; ran, Err(RunError::Refused(*want)));
+        assert_eq!(rt; reader.limit(), *left);
+        assert_eq!(rt; writer.rest.len(), TEXT.len());
+    }
+    Ok(())
+}
+
+#[test]
+fn a_writer_that_fails_has_a_front(rt: HostRuntime) -> Result<(), Fail> {
+    let hashing = RandomState::new(&rt)?;
+    for room in 0..TEXT.len() {
+        for ends in [Ends::Failing, Ends::TakingNothing] {
+            let writer = writer(room, ends);
+            let want = Err(RunError::Write);
+            assert_run(&rt, rt.alloc(), hashing, whole(), writer, want, room);
+        }
+    }
+    for (ends, want) in [
+        (Ends::FailingToFlush, Err(RunError::Write)),
+        (Ends::TakingNothing, Ok(())),
+    ] {
+        let writer = writer(usize::MAX, ends);
+        assert_run(&rt, rt.alloc(), hashing, whole(), writer, want, TEXT.len());
+    }
+    Ok(())
+}
+
+// Under `rt try --test --fail-alloc N` each growth is refused in turn. Where that isn't one of `run` the test ends.
+#[test]
+fn a_refused_growth(rt: HostRuntime) {
+    let Ok(hashing) = RandomState::new(&rt) else {
+        return;
+    };
+    let (mut reader, mut writer) = (whole(), writer(usize::MAX, Ends::TakingNothing));
+    let ran = run(&rt, rt.alloc(), hashing, &mut reader, &mut writer, BATCHES);
+    let left = if ran.is_ok() { 0 } else { TEXT.len() };
+    assert_eq!(rt; writer.rest.len(), left);
+    assert!(rt; !writer.differs, "another text");
+    if let Err(error) = ran {
+        assert!(rt; is_for_want_of_memory(error), "a run met {error:?}");
+    }
+}
+
+/// Whether a run may fail so where a growth is refused.
+fn is_for_want_of_memory(error: RunError) -> bool {
+    match error {
+        RunError::OutOfMemory => true,
+        RunError::Run(fault) => matches!(
+            fault,
+            ScopeFault::OutOfMemory
+                | ScopeFault::Start(StartFault::OutOfMemory)
+                | ScopeFault::Queue(QueueFault::OutOfMemory)
+                | ScopeFault::Close(CloseFault::OutOfMemory)
+                | ScopeFault::Run {
+                    fault: RunFault::OutOfMemory | RunFault::Call(CallFault::OutOfMemory),
+                    ..
+                }
+                | ScopeFault::Stopped
+                | ScopeFault::Unfetched { .. }
+        ),
+        RunError::Read | RunError::Refused(_) | RunError::Write => false,
+    }
+}
+
+/// How a run fails, its line, and the status of the program.
+static LINES: [(RunError, &str, u8); 33] = [
+    (RunError::Read, "failed: read", 3),
+    (RunError::Write, "failed: write", 3),
+    (RunError::OutOfMemory, "failed: memory", 3),
+    (
+        RunError::Refused(PlanFault::TooLarge),
+        "refused: too large",
+        1,
+    ),
+    (
+        RunError::Refused(PlanFault::NotJson),
+        "refused: not json",
+        1,
+    ),
+    (RunError::Refused(PlanFault::Version), "refused: version", 1),
+    (RunError::Refused(PlanFault::Top), "refused: top", 1),
+    (
+        RunError::Refused(PlanFault::BadCall { call: 10 }),
+        "refused: call 10",
+        1,
+    ),
+    (
+        RunError::Refused(PlanFault::Shape { plan: 1, step: 255 }),
+        "refused: plan 1 step 255",
+        1,
+    ),
+    (
+        RunError::Refused(PlanFault::TooDeep { plan: 15, step: 2 }),
+        "refused: too deep plan 15 step 2",
+        1,
+    ),
+    (
+        RunError::Refused(PlanFault::TooManySteps { plan: 3 }),
+        "refused: too many steps plan 3",
+        1,
+    ),
+    (
+        RunError::Refused(PlanFault::Table(TableFault::Shape)),
+        "refused: table Shape",
+        1,
+    ),
+    (
+        RunError::Refused(PlanFault::Table(TableFault::BadKey)),
+        "refused: table BadKey",
+        1,
+    ),
+    (
+        RunError::Refused(PlanFault::Table(TableFault::TextTooLong)),
+        "refused: table TextTooLong",
+        1,
+    ),
+    (
+        RunError::Refused(PlanFault::Table(TableFault::NotWhole)),
+        "refused: table NotWhole",
+        1,
+    ),
+    (
+        RunError::Refused(PlanFault::Table(TableFault::DuplicateTable)),
+        "refused: table DuplicateTable",
+        1,
+    ),
+    (
+        RunError::Refused(PlanFault::Table(TableFault::DuplicateKey)),
+        "refused: table DuplicateKey",
+        1,
+    ),
+    (
+        RunError::Refused(PlanFault::Limit(LimitFault::BatchLimit)),
+        "refused: limit BatchLimit",
+        1,
+    ),
+    (
+        RunError::Refused(PlanFault::Limit(LimitFault::CellLimit)),
+        "refused: limit CellLimit",
+        1,
+    ),
+    (
+        RunError::Refused(PlanFault::Limit(LimitFault::CallLimit)),
+        "refused: limit CallLimit",
+        1,
+    ),
+    (RunError::Run(ScopeFault::NoPlans), "failed: NoPlans", 3),
+    (
+        RunError::Run(ScopeFault::TooManyPlans),
+        "failed: TooManyPlans",
+        3,
+    ),
+    (
+        RunError::Run(ScopeFault::BadWorkers),
+        "failed: BadWorkers",
+        3,
+    ),
+    (
+        RunError::Run(ScopeFault::Start(StartFault::OutOfMemory)),
+        "failed: Start",
+        3,
+    ),
+    (
+        RunError::Run(ScopeFault::Queue(QueueFault::OutOfMemory)),
+        "failed: Queue",
+        3,
+    ),
+    (
+        RunError::Run(ScopeFault::Run {
+            plan: 2,
+            fault: RunFault::Stopped,
+        }),
+        "failed: Run",
+        3,
+    ),
+    (RunError::Run(ScopeFault::Stopped), "failed: Stopped", 3),
+    (
+        RunError::Run(ScopeFault::Close(CloseFault::OutOfMemory)),
+        "failed: Close",
+        3,
+    ),
+    (
+        RunError::Run(ScopeFault::Close(CloseFault::Unsettled { batch: 4 })),
+        "failed: Close",
+        3,
+    ),
+    (
+        RunError::Run(ScopeFault::Unfetched { batch: 1 }),
+        "failed: Unfetched",
+        3,
+    ),
+    (
+        RunError::Run(ScopeFault::OutOfMemory),
+        "failed: OutOfMemory",
+        3,
+    ),
+    (
+        RunError::Run(ScopeFault::Run {
+            plan: 0,
+            fault: RunFault::Call(CallFault::CellsFull { limit: 1 }),
+        }),
+        "failed: Run",
+        3,
+    ),
+    (
+        RunError::Refused(PlanFault::BadCall { call: 0 }),
+        "refused: call 0",
+        1,
+    ),
+];
+
+#[test]
+fn failures_have_lines_and_statuses(rt: HostRuntime) -> Result<(), Fail> {
+    for (error, line, status) in &LINES {
+        let shown = format!(in rt.alloc(); "{error}")?;
+        assert_eq!(rt; (shown.as_str(), error.status()), (*line, *status));
+    }
+    Ok(())
+}
+
+/// Words of a command line, and the options that they are, or the status with which they end the program.
+static WORDS: [(&[&str], Result<Options, i32>); 6] = [
+    (&[], Ok(OPTIONS)),
+    (
+        &["--batches", "--workers", "16"],
+        Ok(Options {
+            workers: 16,
+            batches: true,
+        }),
+    ),
+    (
+        &["--workers", "1"],
+        Ok(Options {
+            workers: 1,
+            batches: false,
+        }),
+    ),
+    (&["--workers", "0"], Err(2)),
+    (&["--workers", "17"], Err(2)),
+    (&["--help"], Err(0)),
+];
+
+/// The options of words, or the status with which clap ends a program of them.
+fn asked(alloc: Global, words: &[&str]) -> Result<Options, i32> {
+    match options(alloc, words) {
+        Ok(options) => Ok(options),
+        Err(error) => Err(error.exit_code()),
+    }
+}
+
+#[test]
+fn the_command_line_is_read(rt: HostRuntime) {
+    for (words, want) in &WORDS {
+        assert_eq!(rt; asked(rt.alloc(), words), *want);
+    }
+}

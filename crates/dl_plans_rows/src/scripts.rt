@@ -1,0 +1,281 @@
+//! Call scripts: the text that a document gives, and the refusals of others.
+
+use crate::texts::refusal;
+use dl_desk::LimitFault;
+use dl_documents::{Input, PlanFault, Script, read_input};
+use dl_plans::run_script;
+use std::alloc::{AllocError, Global};
+use std::hash::RandomState;
+use std::test::Fail;
+
+/// A script whose batches of one key end in any order, and whose keys are then loaded again.
+const ENDS: &str =
+    r#"{"script":1,"maxBatchSize":1,"calls":[{"load":["t","a"]},{"load":["t","b"]},{"dispatch":true},{"settle":1},{"fail":0},{"load":["t","a"]},{"load":["t","b"]},{"dispatch":true}]}"#;
+
+/// Worked rows: what each shows, a script's document, and the text that the script gives.
+pub(crate) static ROWS: [(&str, &str, &str); 17] = [
+    (
+        "a second load hits",
+        r#"{"script":1,"maxBatchSize":2,"calls":[{"load":["t","a"]},{"load":["t","a"]}]}"#,
+        "fresh 0 0\nhit 0\n",
+    ),
+    (
+        "a full batch is followed by a new one",
+        r#"{"script":1,"maxBatchSize":2,"calls":[{"load":["t","a"]},{"load":["t","b"]},{"load":["t","c"]},{"dispatch":true}]}"#,
+        "fresh 0 0\nfresh 1 0\nfresh 2 1\nsent 2\njob 0 [\"t\",\"a\"] [\"t\",\"b\"]\njob 1 [\"t\",\"c\"]\n",
+    ),
+    (
+        "calls on nothing reply",
+        r#"{"script":1,"maxBatchSize":2,"calls":[{"dispatch":true},{"loadMany":[]}]}"#,
+        "sent 0\nmany 0\n",
+    ),
+    (
+        "a batch holds a key once",
+        r#"{"script":1,"maxBatchSize":2,"calls":[{"load":["t","a"]},{"clear":["t","a"]},{"load":["t","a"]},{"load":["t","b"]}]}"#,
+        "fresh 0 0\nok\nfresh 1 1\nfresh 2 1\n",
+    ),
+    (
+        "a primed key is held",
+        r#"{"script":1,"maxBatchSize":2,"calls":[{"prime":["t","a"]},{"load":["t","a"]},{"prime":["t","a"]}]}"#,
+        "primed 0\nhit 0\nkept\n",
+    ),
+    (
+        "a pending key is kept until all are cleared",
+        r#"{"script":1,"maxBatchSize":2,"calls":[{"load":["t","a"]},{"prime":["t","a"]},{"clearAll":true},{"prime":["t","a"]}]}"#,
+        "fresh 0 0\nkept\nok\nprimed 1\n",
+    ),
+    (
+        "a late failure keeps a newer cell",
+        r#"{"script":1,"maxBatchSize":2,"calls":[{"load":["t","a"]},{"dispatch":true},{"clear":["t","a"]},{"load":["t","a"]},{"fail":0},{"load":["t","a"]}]}"#,
+        "fresh 0 0\nsent 1\njob 0 [\"t\",\"a\"]\nok\nfresh 1 1\nok\nhit 1\n",
+    ),
+    (
+        "a failed batch is forgotten",
+        r#"{"script":1,"maxBatchSize":2,"calls":[{"load":["t","a"]},{"dispatch":true},{"fail":0},{"load":["t","a"]}]}"#,
+        "fresh 0 0\nsent 1\njob 0 [\"t\",\"a\"]\nok\nfresh 1 1\n",
+    ),
+    (
+        "a batch ends once after it was sent",
+        r#"{"script":1,"maxBatchSize":2,"calls":[{"load":["t","a"]},{"settle":0},{"dispatch":true},{"settle":0},{"load":["t","a"]},{"settle":0},{"fail":0},{"settle":5}]}"#,
+        "fresh 0 0\nrefused NotSent\nsent 1\njob 0 [\"t\",\"a\"]\nok\nhit 0\nrefused SettledBefore\nrefused SettledBefore\nrefused NoBatch\n",
+    ),
+    (
+        "a batch fails once after it was sent",
+        r#"{"script":1,"calls":[{"load":["t","a"]},{"fail":0},{"fail":5},{"dispatch":true},{"fail":0},{"fail":0},{"settle":0},{"settle":1}]}"#,
+        "fresh 0 0\nrefused NotSent\nrefused NoBatch\nsent 1\njob 0 [\"t\",\"a\"]\nok\nrefused SettledBefore\nrefused SettledBefore\nrefused NoBatch\n",
+    ),
+    (
+        "the least limits",
+        r#"{"script":1,"maxBatchSize":1,"maxCells":1,"maxCalls":1,"calls":[{"load":["t","a"]}]}"#,
+        "fresh 0 0\n",
+    ),
+    (
+        "the largest limits",
+        r#"{"script":1,"maxBatchSize":65536,"maxCells":65536,"maxCalls":65536,"calls":[{"load":["t","a"]}]}"#,
+        "fresh 0 0\n",
+    ),
+    (
+        "a call that needs too many cells adds nothing",
+        r#"{"script":1,"maxBatchSize":2,"maxCells":2,"calls":[{"load":["t","a"]},{"loadMany":[["t","b"],["t","c"],["t","b"]]},{"loadMany":[["t","b"],["t","b"],["t","a"]]},{"prime":["t","c"]}]}"#,
+        "fresh 0 0\nrefused CellsFull 2\nmany 3\nfresh 1 0\nhit 1\nhit 0\nrefused CellsFull 2\n",
+    ),
+    (
+        "a load is refused where the cells are full",
+        r#"{"script":1,"maxCells":1,"calls":[{"load":["t","a"]},{"load":["t","b"]},{"load":["t","a"]}]}"#,
+        "fresh 0 0\nrefused CellsFull 1\nhit 0\n",
+    ),
+    (
+        "ends come in any order",
+        ENDS,
+        "fresh 0 0\nfresh 1 1\nsent 2\njob 0 [\"t\",\"a\"]\njob 1 [\"t\",\"b\"]\nok\nok\nfresh 2 2\nhit 1\nsent 1\njob 2 [\"t\",\"a\"]\n",
+    ),
+    (
+        "no batch has the greatest number",
+        r#"{"script":1,"calls":[{"settle":4294967295},{"fail":4294967295}]}"#,
+        "refused NoBatch\nrefused NoBatch\n",
+    ),
+    ("no calls give nothing", r#"{"script":1,"calls":[]}"#, ""),
+];
+
+/// Documents that are refused, with the fault.
+static REFUSALS: [(&str, PlanFault); 24] = [
+    ("", PlanFault::NotJson),
+    ("{", PlanFault::NotJson),
+    (r#"{"script":1,"calls":[]} 1"#, PlanFault::NotJson),
+    (r#"{"script":2,"calls":[]}"#, PlanFault::Version),
+    (r#"{"script":1.0,"calls":[]}"#, PlanFault::Version),
+    (r#"{"script":"1","calls":[]}"#, PlanFault::Version),
+    (
+        r#"{"version":1,"script":2,"tables":[],"plans":[[]]}"#,
+        PlanFault::Version,
+    ),
+    (r#"{"script":1,"version":1,"calls":[]}"#, PlanFault::Top),
+    (
+        r#"{"script":1,"calls":[{"load":["t","a"]},{"load":["t",""]}]}"#,
+        PlanFault::BadCall { call: 1 },
+    ),
+    (r#"{"script":1,"x":1,"calls":[5]}"#, PlanFault::Top),
+    (r#"{"script":1}"#, PlanFault::Top),
+    (r#"{"script":1,"calls":{}}"#, PlanFault::Top),
+    (
+        r#"{"script":1,"maxBatchSize":"2","calls":[]}"#,
+        PlanFault::Top,
+    ),
+    (r#"{"script":1,"maxCells":null,"calls":[]}"#, PlanFault::Top),
+    (r#"{"script":1,"maxCalls":1.0,"calls":[]}"#, PlanFault::Top),
+    (
+        r#"{"script":1,"maxBatchSize":0,"calls":[]}"#,
+        PlanFault::Limit(LimitFault::BatchLimit),
+    ),
+    (
+        r#"{"script":1,"maxBatchSize":65537,"maxCells":0,"calls":[]}"#,
+        PlanFault::Limit(LimitFault::BatchLimit),
+    ),
+    (
+        r#"{"script":1,"maxBatchSize":-1,"calls":[]}"#,
+        PlanFault::Limit(LimitFault::BatchLimit),
+    ),
+    (
+        r#"{"script":1,"maxCells":0,"maxCalls":0,"calls":[]}"#,
+        PlanFault::Limit(LimitFault::CellLimit),
+    ),
+    (
+        r#"{"script":1,"maxCells":65537,"maxCalls":-1,"calls":[]}"#,
+        PlanFault::Limit(LimitFault::CellLimit),
+    ),
+    (
+        r#"{"script":1,"maxCalls":0,"calls":[]}"#,
+        PlanFault::Limit(LimitFault::CallLimit),
+    ),
+    (
+        r#"{"script":1,"maxCalls":18446744073709551615,"calls":[]}"#,
+        PlanFault::Limit(LimitFault::CallLimit),
+    ),
+    (
+        r#"{"script":1,"maxCalls":65537,"calls":[]}"#,
+        PlanFault::Limit(LimitFault::CallLimit),
+    ),
+    (
+        r#"{"script":1,"maxBatchSize":0,"calls":[{"clearAll":false}]}"#,
+        PlanFault::BadCall { call: 0 },
+    ),
+];
+
+/// The script that a document is, if it is one.
+pub(crate) fn script(alloc: Global, hashing: RandomState, document: &str) -> Option<Script> {
+    match read_input(alloc, hashing, document.as_bytes()) {
+        Ok(Input::Script(script)) => Some(script),
+        Ok(Input::Plans(_)) | Err(_) => None,
+    }
+}
+
+#[test]
+fn a_script_gives_its_text(rt: HostRuntime) -> Result<(), Fail> {
+    let hashing = RandomState::new(&rt)?;
+    for (about, document, want) in &ROWS {
+        let script = script(rt.alloc(), hashing, document).expect(&rt, "no script");
+        let text = run_script(rt.alloc(), hashing, &script)?;
+        assert_eq!(rt; text.as_str(), *want, "{about}");
+    }
+    Ok(())
+}
+
+#[test]
+fn other_documents_are_no_scripts(rt: HostRuntime) -> Result<(), Fail> {
+    let hashing = RandomState::new(&rt)?;
+    for (document, want) in &REFUSALS {
+        let fault = refusal(rt.alloc(), hashing, document.as_bytes());
+        assert_eq!(rt; fault, Some(*want), "{document}");
+    }
+    Ok(())
+}
+
+/// Items of a script's list that are no calls: of no name or of two, of none that a script has, and each name with other
+/// arguments than its own.
+static NO_CALLS: [&str; 21] = [
+    "5",
+    "{}",
+    r#"{"load":["t","a"],"clear":["t","a"]}"#,
+    r#"{"read":["t","a"]}"#,
+    r#"{"load":"a"}"#,
+    r#"{"load":["t"]}"#,
+    r#"{"load":["t","a","b"]}"#,
+    r#"{"load":["t",1]}"#,
+    r#"{"load":["","a"]}"#,
+    r#"{"loadMany":["t","a"]}"#,
+    r#"{"loadMany":[["t","a"],["t",""]]}"#,
+    r#"{"prime":["t",""]}"#,
+    r#"{"clear":[1,"a"]}"#,
+    r#"{"clearAll":1}"#,
+    r#"{"clearAll":false}"#,
+    r#"{"dispatch":false}"#,
+    r#"{"settle":-1}"#,
+    r#"{"settle":4294967296}"#,
+    r#"{"fail":4294967296}"#,
+    r#"{"fail":1.0}"#,
+    r#"{"fail":"0"}"#,
+];
+
+#[test]
+fn other_calls_are_refused(rt: HostRuntime) -> Result<(), Fail> {
+    let hashing = RandomState::new(&rt)?;
+    for item in &NO_CALLS {
+        let document = format!(in rt.alloc();
+            "{{\"script\":1,\"calls\":[{{\"clearAll\":true}},{item}]}}"
+        )?;
+        let fault = refusal(rt.alloc(), hashing, document.as_bytes());
+        assert_eq!(rt; fault, Some(PlanFault::BadCall { call: 1 }), "{item}");
+    }
+    Ok(())
+}
+
+/// Why a script of one call is refused, where that is no call.
+const NO_CALL: Option<PlanFault> = Some(PlanFault::BadCall { call: 0 });
+
+/// Bytes of the table and of the id of a call's key, and why it is no call, where it is none.
+static LENGTHS: [(usize, usize, Option<PlanFault>); 6] = [
+    (1, 1, None),
+    (64, 128, None),
+    (0, 1, NO_CALL),
+    (65, 1, NO_CALL),
+    (1, 0, NO_CALL),
+    (1, 129, NO_CALL),
+];
+
+/// A script that loads a key, whose texts have so many bytes.
+fn load_of(alloc: Global, table: usize, id: usize) -> Result<String, AllocError> {
+    let (table, id) = ("x".repeat(alloc, table)?, "x".repeat(alloc, id)?);
+    format!(in alloc; r#"{{"script":1,"calls":[{{"load":["{table}","{id}"]}}]}}"#)
+}
+
+#[test]
+fn a_call_takes_keys_up_to_their_limits(rt: HostRuntime) -> Result<(), Fail> {
+    let hashing = RandomState::new(&rt)?;
+    for (table, id, want) in &LENGTHS {
+        let document = load_of(rt.alloc(), *table, *id)?;
+        let fault = refusal(rt.alloc(), hashing, document.as_bytes());
+        assert_eq!(rt; fault, *want, "a table of {table} bytes, an id of {id}");
+    }
+    Ok(())
+}
+
+/// Bytes at the front of a document that is filled up by spaces, and why it is refused where it has as many bytes as it may.
+static FRONTS: [(&[u8], Option<PlanFault>); 3] = [
+    (br#"{"script":1,"calls":[]}"#, None),
+    (b" ", Some(PlanFault::NotJson)),
+    (b"\xff", Some(PlanFault::NotJson)),
+];
+
+#[test]
+fn a_document_has_a_most_of_bytes(rt: HostRuntime) -> Result<(), Fail> {
+    let hashing = RandomState::new(&rt)?;
+    for (front, want) in &FRONTS {
+        let mut bytes = front.to_vec(rt.alloc())?;
+        bytes.resize(1_048_577, b' ')?;
+        let fault = refusal(rt.alloc(), hashing, &bytes);
+        assert_eq!(rt; fault, Some(PlanFault::TooLarge));
+        bytes.truncate(1_048_576);
+        assert_eq!(rt; refusal(rt.alloc(), hashing, &bytes), *want);
+    }
+    Ok(())
+}
