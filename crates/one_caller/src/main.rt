@@ -1,0 +1,74 @@
+//! One caller of a loader of its own: from the opening to the outcome of a load.
+#![tactic(auto)]
+
+ghost use Rattle.std.specs.Prelude.{◌≡◌};
+ghost use Rattle.dl_history.specs.Service.{Answers};
+ghost use Rattle.dl_loader.specs.Opening.{Names};
+
+use anyhow::{Result, bail};
+use dl_desk::{FetchKey, Limits, Outcome};
+use dl_loader::{Loader, LoaderName, Opening, Pass};
+use dl_source::{Source, Tables};
+use dl_workers::end_jobs;
+use serde_json::json;
+use std::alloc::Global;
+use std::hash::RandomState;
+use std::marker::Brand;
+use std::sync::Wait;
+
+fn main(rt: HostRuntime) -> Result<()> {
+    let hashing = RandomState::new(&rt)?;
+    let users = users(rt.alloc(), hashing)?;
+    let limits = Limits::new(64, 1_024, 4_096)?;
+    let opening = Opening::new(rt.alloc(), hashing, &users, limits, 1)?;
+    with_loader::<Brand, _, _>(&rt, rt.alloc(), &users, opening)
+}
+
+/// The source: a table of users.
+fn users(alloc: Global, hashing: RandomState) -> Result<Tables> {
+    let rows = json!(in alloc; [{"name": "user", "rows": [["u1", "Ada"], ["u2", "Bob"]]}])?;
+    Ok(Tables::from_value(alloc, hashing, &rows)?)
+}
+
+/// Starts the loader that `L` stands for, makes calls, and closes it.
+fn with_loader<L: LoaderName, S: Source, R: Wait + Print>(
+    rt: &R,
+    alloc: Global,
+    source: &S,
+    opening: Opening<'_, S>,
+) -> Result<()>
+    requires source { opening.source ≡ source.now }
+    requires names { Names S.answer opening L.service L.parts L.log L.outcomes L.name }
+{
+    let (loader, mut passes) = Loader::<L>::start(alloc, opening)?;
+    for pass in &mut passes {
+        load_and_print(rt, alloc, source, &loader, pass)?;
+    }
+    match loader.close(alloc, passes) {
+        Ok(history) => println!(rt; "{} events", history.events().len())?,
+        Err((fault, _, _)) => return Err(fault.into()),
+    }
+    Ok(())
+}
+
+/// Loads a user, sends the batch, ends its job, and prints the outcome.
+fn load_and_print<L: LoaderName, S: Source, R: Wait + Print>(
+    rt: &R,
+    alloc: Global,
+    source: &S,
+    loader: &Loader<L>,
+    pass: &mut Pass<L>,
+) -> Result<()>
+    requires { Answers (S.answer source.now) L.service }
+{
+    let key = FetchKey::new(alloc, "user", "u1")?;
+    let mut ticket = loader.load(rt, alloc, pass, &key)?;
+    let jobs = loader.dispatch(rt, alloc, pass)?;
+    end_jobs(rt, alloc, loader, source, pass, jobs)?;
+    loader.wait(rt, pass, &mut ticket)?;
+    match ticket.look() {
+        Some(Outcome::Value(name)) => println!(rt; "{}", name.to_text(alloc)?)?,
+        _ => bail!("no user"),
+    }
+    Ok(())
+}
