@@ -23,24 +23,24 @@ pub(crate) enum Fails {
 /// What a run used: whether it asked for standard input, and whether it printed on each of the two others.
 #[derive(Clone, Copy, Debug, PartialEq, Eq)]
 pub(crate) struct Used {
-    pub input: bool,
-    pub output: bool,
-    pub error: bool,
+    pub(crate) input: bool,
+    pub(crate) output: bool,
+    pub(crate) error: bool,
 }
 
 /// The words of a command line and what stands on standard input, with the status of the run and what it writes.
 #[derive(Clone, Copy)]
 pub(crate) struct Run<'a> {
-    pub about: &'a str,
-    pub words: &'a [&'a str],
-    pub input: &'a str,
-    pub fails: Fails,
-    pub status: u8,
-    pub used: Used,
+    pub(crate) about: &'a str,
+    pub(crate) words: &'a [&'a str],
+    pub(crate) input: &'a str,
+    pub(crate) fails: Fails,
+    pub(crate) status: u8,
+    pub(crate) used: Used,
     /// All of standard output, where that is the program's own and not of clap.
-    pub output: Option<&'a str>,
+    pub(crate) output: Option<&'a str>,
     /// The line on standard error, where that is the program's own and not of clap.
-    pub line: Option<&'a str>,
+    pub(crate) line: Option<&'a str>,
 }
 
 /// The system as a run finds it, and what the run has used of it.
