@@ -77,7 +77,7 @@ module _ (service : Service) (plans : List Plan) (answers : List (List StepAnswe
   headline_of tally (Err fault) closed counted made fetched = tt
   headline_of tally (Ok r) closed counted made fetched =
       subst (Headline service plans) (sym made)
-      (subst (λ lost. HeadlineBut lost service plans (report answers rounds h tally)) fetched (headline_but tally closed counted))
+      (subst (λ batches. HeadlineBut batches service plans (report answers rounds h tally)) fetched (headline_but tally closed counted))
 
   -- the refusal, if there is one, names the least batch that was given up
   pub unfetched_of : (setup : Setup) (tally : Tally) (result : Result Report ScopeFault) → IsClosed service h → tally.sent ≡ tally.taken + tally.left

@@ -42,8 +42,8 @@ abbrev pub RefusesItsClose : Service → CloseFault → Type 0
 RefusesItsClose service fault = (b : Locked) × (accounts : List Account) × Keeps service b × RefusesClose service.callers b accounts fault
 
 -- the batch is the least that was given up of a report with all else of the headline
-abbrev pub LeastLost : Service → List Plan → ℕ → Type 0
-LeastLost service plans batch = (lost : List ℕ) × (r : Report) × HeadlineBut lost service plans r × IsLeastOf (Some batch) lost
+abbrev pub LeastGivenUp : Service → List Plan → ℕ → Type 0
+LeastGivenUp service plans batch = (batches : List ℕ) × (r : Report) × HeadlineBut batches service plans r × IsLeastOf (Some batch) batches
 
 -- The fault is the first that the plans and the setup have. Later ones come only where these have none; a plan that is
 -- named is one of the plans, and met another fault than that the loader was stopped.
@@ -57,5 +57,5 @@ RefusedAs service setup plans (Queue fault) =
 RefusedAs service setup plans (Run plan fault) = MayServe setup (length plans) × (plan < length plans) × (IsStop fault → ⊥)
 RefusedAs service setup plans Stopped = MayServe setup (length plans)
 RefusedAs service setup plans (Close fault) = MayServe setup (length plans) × RefusesItsClose service fault
-RefusedAs service setup plans (Unfetched batch) = MayServe setup (length plans) × LeastLost service plans batch
+RefusedAs service setup plans (Unfetched batch) = MayServe setup (length plans) × LeastGivenUp service plans batch
 RefusedAs service setup plans OutOfMemory = MayServe setup (length plans)

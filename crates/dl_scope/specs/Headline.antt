@@ -63,7 +63,7 @@ given_up events = flat_map (λ e. given_up_by e.call) events
 -- has the reply of a DataLoader of one thread at its point, each caller's calls stand once in its order, every outcome that was
 -- read is the one that the history gives its load, and every batch is answered once by the source, but for these, which were
 -- given up. In the headline there are none of them.
-pub record HeadlineBut (lost : List ℕ) (service : Service) (plans : List Plan) (r : Report) : Type 0 where
+pub record HeadlineBut (batches : List ℕ) (service : Service) (plans : List Plan) (r : Report) : Type 0 where
   -- each event has the reply of a data loader of one thread after those before it, and each end of a batch is lawful
   pub legal : IsLegal service r.history.events
   -- each caller has exactly one account, and nobody else has one
@@ -82,7 +82,7 @@ pub record HeadlineBut (lost : List ℕ) (service : Service) (plans : List Plan)
   -- every batch has exactly one end, by what the source answers to its keys where it wasn't given up
   pub ended : AllEnded r.history.events
   pub once : EndOnce r.history.events
-  pub fetched : given_up r.history.events ≡ lost
+  pub fetched : given_up r.history.events ≡ batches
   -- of the jobs that were sent, each was taken or left
   pub counted : r.tally.sent ≡ r.tally.taken + r.tally.left
 

@@ -1,6 +1,6 @@
 -- The trees of nodes, form by form.
 use Rattle.std.proofs.Common.{◌≡◌, rules}
-use Rattle.std.specs.Prelude.{Vec, Box}
+use Rattle.std.specs.Prelude.{ℕ, Vec, Box}
 use Rattle.std.specs.declared.alloc.Global.{Global}
 use Rattle.dl_desk.specs.Key.{Key}
 use Rattle.dl_terms.specs.declared.answer.Answer.{Answer}
@@ -12,8 +12,8 @@ use Rattle.dl_terms.specs.Node.{node_view, nodes_view}
 pub node_view-Done : (a : Answer) → node_view (form.Done a) ≡ ended a
 node_view-Done a = search (rules, the_lemmas)
 
-pub node_view-Load : (k : Key) → node_view (form.Load k) ≡ load k
-node_view-Load k = search (rules, the_lemmas)
+pub node_view-Load : (k : Key) (place : ℕ) → node_view (form.Load k place) ≡ load k
+node_view-Load k place = search (rules, the_lemmas)
 
 pub node_view-All : (v : Vec Node Global) → node_view (form.All v) ≡ all (nodes_view v.items)
 node_view-All v = search (rules, the_lemmas)

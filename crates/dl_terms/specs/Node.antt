@@ -11,7 +11,7 @@ use Rattle.dl_terms.specs.Gives.{both}
 -- one level, with each part already seen as its tree
 abbrev pub node_step : Node-F Tree → Tree
 node_step (Node-F.Done a) = ended a
-node_step (Node-F.Load k) = load k
+node_step (Node-F.Load k place) = load k
 node_step (Node-F.Pick p field) = pick p.value field
 node_step (Node-F.Follow p field table) = follow p.value field table
 node_step (Node-F.Each p field table) = each p.value field table

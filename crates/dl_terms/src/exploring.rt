@@ -61,7 +61,7 @@ fn explore_parts(
         ≡ insert_all key_eq wanted.old.keys (parts_wait (known_of known.now) (node_view node.old))) }
 {
     match node {
-        Node::Done(_) | Node::Load(_) => Ok(()),
+        Node::Done(_) | Node::Load { .. } => Ok(()),
         Node::Pick { part, .. } => explore(alloc, part, known, wanted),
         Node::Follow { part, .. } => explore(alloc, part, known, wanted),
         Node::Each { part, .. } => explore(alloc, part, known, wanted),
@@ -93,7 +93,7 @@ fn stays(node: &Node) -> bool
 {
     match node {
         Node::Done(_) => true,
-        Node::Load(_) => false,
+        Node::Load { .. } => false,
         Node::Pick { part, .. } | Node::Follow { part, .. } | Node::Each { part, .. } => {
             !part.has_ended()
         }
@@ -133,7 +133,7 @@ fn advance(
 {
     match node {
         Node::Done(answer) => Ok(Node::Done(answer)),
-        Node::Load(key) => load(key, known, wanted),
+        Node::Load { key, place } => load(key, place, known, wanted),
         Node::Pick { part, field } => pick(alloc, part, field),
         Node::Follow { part, field, table } => follow(alloc, part, field, table, known, wanted),
         Node::Each { part, field, table } => each(alloc, part, field, table, known, wanted),

@@ -16,8 +16,11 @@ use std::mem;
 pub enum Node {
     /// It has ended.
     Done(Answer),
-    /// The load of a key.
-    Load(FetchKey),
+    /// The load of a key, and the place at which to look first for its outcome among those that are known.
+    Load {
+        key: FetchKey,
+        place: usize,
+    },
     /// The field of what the part answers.
     Pick {
         part: Box<Node>,
@@ -61,7 +64,7 @@ impl Node {
     {
         match self {
             Node::Done(answer) => Some(answer),
-            Node::Load(_)
+            Node::Load { .. }
             | Node::Pick { .. }
             | Node::Follow { .. }
             | Node::Each { .. }
@@ -85,7 +88,7 @@ pub fn unexplored(alloc: Global, term: Term) -> Result<Node, AllocError>
 {
     match term {
         Term::Value(value) => Ok(Node::Done(Answer::Value(value))),
-        Term::Load(key) => Ok(Node::Load(key)),
+        Term::Load(key) => Ok(Node::Load { key, place: 0 }),
         Term::Pick { part, field } => Ok(Node::Pick {
             part: unexplored_part(alloc, part)?,
             field,

@@ -1,6 +1,6 @@
 //! The loads that a term makes of values and keys.
 
-ghost use Rattle.std.specs.Prelude.{◌≡◌, IfOk, OnOk, map};
+ghost use Rattle.std.specs.Prelude.{◌≡◌, IfOk, OnOk, map, option_map};
 ghost use Rattle.serde_json.specs.View.{view, items_view};
 ghost use Rattle.dl_desk.specs.Key.{key_eq};
 ghost use Rattle.indexmap.specs.IndexSet.{insert_all};
@@ -40,9 +40,21 @@ fn loaded(key: FetchKey, outcome: &Outcome) -> Result<Answer, AllocError>
     }
 }
 
-/// The load of a key: its answer, if the key has an outcome, and else the key is wanted.
+/// The outcome of a key, if it is known. It is looked for at the place first, where a look takes no hash.
+fn outcome_of<'l>(known: &Known<'l>, key: &FetchKey, place: usize) -> Option<&'l Outcome>
+    ensures { option_map (λ o. o.now) result ≡ known_of known.now key.now }
+{
+    match known.get_index(place) {
+        Some((held, outcome)) if held == key => Some(outcome),
+        _ => known.get(key).copied(),
+    }
+}
+
+/// The load of a key: its answer, if the key has an outcome, which is looked for at the place first. Else the key is
+/// wanted, and its outcome will stand behind those that are known now, in the order of the wanted keys.
 pub(crate) fn load(
     key: FetchKey,
+    place: usize,
     known: &Known<'_>,
     wanted: &mut Wanted,
 ) -> Result<Node, AllocError>
@@ -50,11 +62,12 @@ pub(crate) fn load(
     ensures wanted { OnOk result (wanted.new.keys
         ≡ insert_all key_eq wanted.old.keys (load_waits (known_of known.now) key)) }
 {
-    match known.get(&key) {
+    match outcome_of(known, &key, place) {
         Some(outcome) => Ok(Node::Done(loaded(key, outcome)?)),
         None => {
-            wanted.insert(key.try_copy()?)?;
-            Ok(Node::Load(key))
+            let (place, _) = wanted.insert_full(key.try_copy()?)?;
+            let place = known.len().saturating_add(place);
+            Ok(Node::Load { key, place })
         }
     }
 }
@@ -92,7 +105,8 @@ pub(crate) fn load_id(
         (target_waits (known_of known.now) (value_target table.now (view id.now)))) }
 {
     match key_in(alloc, table, id)? {
-        Some(key) => load(key, known, wanted),
+        // Nothing stands behind the last, so a key without a place is looked for by its hash.
+        Some(key) => load(key, known.len(), known, wanted),
         None => Ok(Node::Done(Answer::Fault(EvalFault::NotAKey))),
     }
 }
