@@ -30,7 +30,7 @@ impl Drop for Outcome {
 }
 
 /// Why a whole batch failed.
-#[derive(Debug, Drop)]
+#[derive(Debug)]
 pub enum BatchFault {
     /// The source broke, with this text.
     Source(Message),
@@ -38,6 +38,16 @@ pub enum BatchFault {
     Memory,
     /// The batch was never handed to a worker.
     Unsent,
+}
+
+// Written out, as that of an outcome.
+impl Drop for BatchFault {
+    fn drop(self) {
+        match self {
+            BatchFault::Source(text) => drop(text),
+            BatchFault::Memory | BatchFault::Unsent => {}
+        }
+    }
 }
 
 impl Outcome {
@@ -67,9 +77,17 @@ impl BatchFault {
 }
 
 /// Outcomes in the order of their keys. Contracts see the list.
-#[derive(Debug, Drop)]
+#[derive(Debug)]
 pub struct Outcomes {
     outcomes: Vec<Outcome>,
+}
+
+// Written out, as that of an outcome.
+impl Drop for Outcomes {
+    fn drop(self) {
+        let Outcomes { outcomes } = self;
+        drop(outcomes);
+    }
 }
 
 impl Model for Outcomes {

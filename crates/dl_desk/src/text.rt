@@ -14,9 +14,17 @@ use std::hash::{Hash, Hasher};
 use std::marker::Model;
 
 /// A text with an owner. Contracts see its bytes.
-#[derive(Debug, Drop)]
+#[derive(Debug)]
 pub struct Text {
     text: String,
+}
+
+// Written out: a derived drop is proved anew in each function that lets a text go.
+impl Drop for Text {
+    fn drop(self) {
+        let Text { text } = self;
+        drop(text);
+    }
 }
 
 impl Model for Text {
