@@ -8,7 +8,7 @@ use Rattle.dl_history.specs.declared.event.Event.{Event}
 use Rattle.dl_history.specs.declared.event.Ending.{Ending}
 use Rattle.dl_history.specs.declared.cell_state.Mark.{Mark}
 use Rattle.dl_history.specs.declared.cell_state.Mark.TheVariants.{Waiting, Ended, Refused}
-use Rattle.dl_history.specs.Agrees.{Account, accounts_by, HasEach, places_of, Tells, Agrees, IsAccount, Meets, Fits}
+use Rattle.dl_history.specs.Agrees.{Account, accounts_by, HasEach, HasCalls, places_of, Tells, Agrees, Meets, Fits}
 use Rattle.dl_history.specs.Kept.{Kept, IsKept, ShowsEnd}
 use Rattle.dl_history.specs.Agrees.{NoneBehind, read_in, reads_of, unshown}
 use Rattle.dl_history.specs.Journal.{cell_refused}
@@ -119,56 +119,40 @@ places_rise k (Saw r ∷ ls) ordered = rises_from k (max k (r.ending.at + 1)) (p
 stands_there : (es : List Event) (n : ℕ) (t : Told) → slice_get es t.at ≡ Some t.event → t.event.caller ≡ n → StandsAt (λ (e : Event). e.caller) n es (t.at - 0)
 stands_there es n t tells own = let same : t.at - 0 ≡ t.at = omega arith in record { element = t.event; there = rw same tells; own = own }
 
-places_stand : (es : List Event) (n : ℕ) (entries : List Line) → Every (Tells es) entries → Every (IsOwn n) (calls_of entries)
-    → Stand (λ (e : Event). e.caller) n 0 es (places_of entries)
-places_stand es n [] tells own = tt
-places_stand es n (Called t ∷ ls) tells own = (stands_there es n t tells.0 own.0, places_stand es n ls tells.1 own.1)
-places_stand es n (Saw r ∷ ls) tells own = places_stand es n ls tells.1 own
+places_stand : (es : List Event) (n : ℕ) (entries : List Line) → Every (λ t. slice_get es t.at ≡ Some t.event) (calls_of entries)
+    → Every (IsOwn n) (calls_of entries) → Stand (λ (e : Event). e.caller) n 0 es (places_of entries)
+places_stand es n [] tell own = tt
+places_stand es n (Called t ∷ ls) tell own = (stands_there es n t tell.0 own.0, places_stand es n ls tell.1 own.1)
+places_stand es n (Saw r ∷ ls) tell own = places_stand es n ls tell own
 
--- ---- all accounts
+-- ---- the calls of an account
 
--- an account whose entries tell what the history has
-record Told_by (callers : ℕ) (es : List Event) (a : Account) : Type 0 where
-  is_account : IsAccount callers a
-  tells : Every (Tells es) a.entries
+calls_tell : (es : List Event) (states : List Cell) (entries : List Line) → front_of entries ≤ length es → Every (Meets es states) entries
+    → Every (λ t. slice_get es t.at ≡ Some t.event) (calls_of entries)
+calls_tell es states [] front meets = tt
+calls_tell es states (Called t ∷ ls) front meets = (call_tells es t (omega arith) meets.0, calls_tell es states ls (omega arith) meets.1)
+calls_tell es states (Saw r ∷ ls) front meets = calls_tell es states ls (omega arith) meets.1
 
-all_tell : (s : Service) (b : Kept) (accounts : List Account) → IsKept s b → AnswersEach s.answer → AllEnded b.history
-    → Every (λ a. front_of a.entries ≤ length b.history) accounts → NoneRefused b.cells (reads_of accounts)
-    → Every (Fits s.callers b.history b.cells) accounts → Every (Told_by s.callers b.history) accounts
-all_tell s b [] kept each all front shown fits = tt
-all_tell s b (a ∷ accounts) kept each all front shown fits =
-    let parts = none_refused_parts b.cells (flat_map read_in a.entries) (reads_of accounts) shown in
+-- ---- the calls of all accounts
+
+all_own : (callers : ℕ) (es : List Event) (states : List Cell) (accounts : List Account) → Every (λ a. front_of a.entries ≤ length es) accounts
+    → Every (Fits callers es states) accounts → Every (λ a. AreOwn (λ (e : Event). e.caller) es a.caller (places_of a.entries)) accounts
+all_own callers es states [] fronts fits = tt
+all_own callers es states (a ∷ accounts) fronts fits =
     let is_account = fits.0.is_account in
-    let tells = entries_tell s b [] a.entries kept each all tt front.0 parts.0 is_account.answered_are fits.0.meets in
-    (record { is_account = is_account; tells = tells }, all_tell s b accounts kept each all front.1 parts.1 fits.1)
-
-all_own : (callers : ℕ) (es : List Event) (accounts : List Account) → Every (Told_by callers es) accounts
-    → Every (λ a. AreOwn (λ (e : Event). e.caller) es a.caller (places_of a.entries)) accounts
-all_own callers es [] told = tt
-all_own callers es (a ∷ accounts) told =
-    let is_account = told.0.is_account in (
-      record {
-        rises = places_rise 0 a.entries is_account.ordered;
-        stand =
-            places_stand es a.caller a.entries told.0.tells is_account.own;
-      },
-      all_own callers es accounts told.1,
+    let tell = calls_tell es states a.entries fronts.0 fits.0.meets in (
+      record { rises = places_rise 0 a.entries is_account.ordered; stand = places_stand es a.caller a.entries tell is_account.own },
+      all_own callers es states accounts fronts.1 fits.1,
     )
 
-all_agree : (callers : ℕ) (es : List Event) (accounts : List Account) → Every (Told_by callers es) accounts
-    → Every (λ a. places_of a.entries ≡ places (λ (e : Event). e.caller) a.caller 0 es) accounts → Every (Agrees es) accounts
-all_agree callers es [] told places = tt
-all_agree callers es (a ∷ accounts) told places =
-    let is_account = told.0.is_account in (
-      record {
-        places_are = places.0;
-        tells = told.0.tells;
-        answered_are = is_account.answered_are;
-        ordered =
-            is_account.ordered;
-      },
-      all_agree callers es accounts told.1 places.1,
-    )
+all_have : (callers : ℕ) (es : List Event) (states : List Cell) (accounts : List Account) → Every (λ a. front_of a.entries ≤ length es) accounts
+    → Every (Fits callers es states) accounts → Every (λ a. places_of a.entries ≡ places (λ (e : Event). e.caller) a.caller 0 es) accounts
+    → Every (HasCalls es) accounts
+all_have callers es states [] fronts fits places = tt
+all_have callers es states (a ∷ accounts) fronts fits places = (
+  record { places_are = places.0; tell = calls_tell es states a.entries fronts.0 fits.0.meets },
+  all_have callers es states accounts fronts.1 fits.1 places.1,
+)
 
 -- each event's caller has one account
 all_once : (s : Service) (es : List Event) (accounts : List Account) → IsLegal s es → HasEach s.callers accounts
@@ -176,15 +160,42 @@ all_once : (s : Service) (es : List Event) (accounts : List Account) → IsLegal
 all_once s es accounts legal each =
     every_from (λ (e : Event). accounts_by e.caller accounts ≡ 1) es (λ k e got. let next = legal.at k e got in each e.caller next.caller)
 
--- Where the accounts fit the book, none has seen more than there is, none has an outcome of a cell that refused it,
--- each batch has ended, and the calls are as many as the events, each account agrees with the history.
-pub accounts_agree : (s : Service) (b : Kept) (accounts : List Account) → IsKept s b → AnswersEach s.answer → HasEach s.callers accounts
-    → NoneBehind (length b.history) accounts → unshown b.cells accounts ≡ [] → AllEnded b.history
-    → Every (Fits s.callers b.history b.cells) accounts → sum_by (λ a. length (places_of a.entries)) accounts ≡ length b.history
+fronts_of : (len : ℕ) (accounts : List Account) → NoneBehind len accounts → Every (λ a. front_of a.entries ≤ len) accounts
+fronts_of len accounts seen = every_from (λ (a : Account). front_of a.entries ≤ len) accounts (λ k a got. seen a (k, got))
+
+-- Where the accounts of all callers fit, none has seen more than there is, and the calls are as many as the events, each
+-- account has its caller's calls.
+pub accounts_have : (s : Service) (es : List Event) (states : List Cell) (accounts : List Account) → IsLegal s es → HasEach s.callers accounts
+    → NoneBehind (length es) accounts → Every (Fits s.callers es states) accounts → sum_by (λ a. length (places_of a.entries)) accounts ≡ length es
+    → Every (HasCalls es) accounts
+accounts_have s es states accounts legal each seen fits count =
+    let fronts = fronts_of (length es) accounts seen in
+    let places = each_is_its_part (λ (e : Event). e.caller) es (λ (a : Account). a.caller) (λ (a : Account). places_of a.entries) accounts
+    (all_own s.callers es states accounts fronts fits) (all_once s es accounts legal each) count in
+    all_have s.callers es states accounts fronts fits places
+
+-- ---- all accounts
+
+all_agree : (s : Service) (b : Kept) (accounts : List Account) → IsKept s b → AnswersEach s.answer → AllEnded b.history
+    → Every (λ a. front_of a.entries ≤ length b.history) accounts → NoneRefused b.cells (reads_of accounts)
+    → Every (Fits s.callers b.history b.cells) accounts → Every (HasCalls b.history) accounts → Every (Agrees b.history) accounts
+all_agree s b [] kept each all front shown fits calls = tt
+all_agree s b (a ∷ accounts) kept each all front shown fits calls =
+    let parts = none_refused_parts b.cells (flat_map read_in a.entries) (reads_of accounts) shown in
+    let is_account = fits.0.is_account in (
+      record {
+        places_are = calls.0.places_are;
+        tells = entries_tell s b [] a.entries kept each all tt front.0 parts.0 is_account.answered_are fits.0.meets;
+        answered_are = is_account.answered_are;
+        ordered = is_account.ordered;
+      },
+      all_agree s b accounts kept each all front.1 parts.1 fits.1 calls.1,
+    )
+
+-- Where accounts fit and have their calls, none has an outcome of a cell that refused it, and each batch has ended, each
+-- account agrees with the history.
+pub accounts_agree : (s : Service) (b : Kept) (accounts : List Account) → IsKept s b → AnswersEach s.answer → NoneBehind (length b.history) accounts
+    → unshown b.cells accounts ≡ [] → AllEnded b.history → Every (Fits s.callers b.history b.cells) accounts → Every (HasCalls b.history) accounts
     → Every (Agrees b.history) accounts
-accounts_agree s b accounts kept answers each seen shown all fits count =
-    let fronts = every_from (λ (a : Account). front_of a.entries ≤ length b.history) accounts (λ k a got. seen a (k, got)) in
-    let told = all_tell s b accounts kept answers all fronts shown fits in
-    let places = each_is_its_part (λ (e : Event). e.caller) b.history (λ (a : Account). a.caller) (λ (a : Account). places_of a.entries) accounts
-    (all_own s.callers b.history accounts told) (all_once s b.history accounts kept.legal each) count in
-    all_agree s.callers b.history accounts told places
+accounts_agree s b accounts kept answers seen shown all fits calls =
+    all_agree s b accounts kept answers all (fronts_of (length b.history) accounts seen) shown fits calls

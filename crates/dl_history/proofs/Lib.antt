@@ -15,5 +15,6 @@ mod CellOutcomes
 pub mod Counting
 pub mod AccountCounts
 pub mod Agreement
+pub mod OneHistory
 pub mod HistoryLemmas
 pub mod Crossing

@@ -50,6 +50,12 @@ pub record Agrees (history : List Event) (a : Account) : Type 0 where
   pub answered_are : Answered [] a.entries
   pub ordered : Ordered 0 a.entries
 
+-- An account has its caller's calls of the history: their places are those of the caller's events, in order, and each tells
+-- the event at its place.
+pub record HasCalls (history : List Event) (a : Account) : Type 0 where
+  pub places_are : places_of a.entries ≡ places (λ e. e.caller) a.caller 0 history
+  pub tell : Every (λ t. slice_get history t.at ≡ Some t.event) (calls_of a.entries)
+
 -- ---- what holds before the history is looked at
 
 -- what a pass keeps of its caller and its entries

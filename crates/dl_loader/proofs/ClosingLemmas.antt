@@ -1,6 +1,6 @@
 -- The tests of a close, one pass, one entry or one batch after another.
 use Rattle.std.proofs.Common.{◌≡◌, ◌∙◌, sym, ap, subst, ℕ, zero, suc, ◌+◌, ◌<◌, ◌≤◌, min, ◌⊎◌, inl, inr, Bool, true, false, cond, ◌||◌, List, [], ◌∷◌, ◌++◌}
-use Rattle.std.proofs.Common.{length, take, filter, flat_map, Option, Some, None, MatchOption, slice_get, get_or, nat_eq, nat_le, refl, arith, append_assoc}
+use Rattle.std.proofs.Common.{length, take, filter, flat_map, Option, Some, None, slice_get, get_or, nat_eq, nat_le, refl, arith, append_assoc}
 use Rattle.std.proofs.lemmas.Bool.{cases_lt, eqb-true, leb-true, leb-false}
 use Rattle.std.proofs.lemmas.List.{append-nil, map-append, take_more, take_all}
 use Rattle.std.proofs.lemmas.List.Elements.{filter-append}
@@ -8,11 +8,11 @@ use Rattle.std.proofs.lemmas.List.Concat.{flat_map-append}
 use Rattle.dl_desk.specs.History.{Atom, Begun, begins, cells, count_cell, batch_of, is_named, count_batch, begun}
 use Rattle.dl_desk.specs.Events.{atoms}
 use Rattle.dl_loader.specs.Book.{Locked, Keeps}
-use Rattle.dl_history.specs.History.{log, IsLegal, HasEnd, AllEnded}
-use Rattle.dl_history.specs.declared.event.Event.{Event}
+use Rattle.dl_history.specs.History.{log, HasEnd, AllEnded}
 use Rattle.dl_history.specs.Service.{Service}
 use Rattle.dl_history.specs.Agrees.{Account, account, accounts_by, HasEach, NoneBehind, refused_in, read_in, unshown}
-use Rattle.dl_loader.specs.Closing.{account_of, accounts_of, present, IsBehind, earlier, IsLeastOf}
+use Rattle.dl_loader.specs.Closing.{account_of, accounts_of, present, IsBehind, IsLeastOf}
+use Rattle.dl_loader.specs.Inside.Closes.{earlier}
 use Rattle.dl_history.specs.Journal.{cell_refused, Cell}
 use Rattle.dl_history.specs.Entries.{Line, front_of}
 use Rattle.dl_history.specs.Lists.{Among, one_if}
@@ -238,14 +238,3 @@ all_ended s b n kept most each k low =
     let begun_are = kept.desk.cells in
     let fit = kept.cells_fit in
     each k (omega arith)
-
--- a loader without callers has no events
-no_events : (s : Service) (es : List Event) → IsLegal s es → s.callers ≡ 0 → length es ≡ 0
-no_events s [] legal none = refl
-no_events s (e ∷ es) legal none = let next = legal.at 0 e refl in let low = next.caller in absurd (omega arith)
-
--- so nothing was counted where there are no parts of the ledger
-pub none_counted : {X : Type 0} (P Q : X → Type 0) (all : Option X) (s : Service) (es : List Event) → all ≡ None → MatchOption all (s.callers ≡ 0) P
-    → IsLegal s es → MatchOption all (length es ≡ 0) Q
-none_counted P Q None s es is parts legal = no_events s es legal parts
-none_counted {X} P Q (Some x) s es is parts legal = absurd (let bad : ◌≡◌ {A = Option X} (Some x) None = is in cc)

@@ -1,11 +1,11 @@
 -- When a loader may be closed, and why it is refused.
-use Rattle.std.specs.Prelude.{◌≡◌, ℕ, zero, suc, ◌+◌, ◌<◌, ◌≤◌, List, [], length, Option, None, Some, nat_eq, nat_le, ◌||◌, if◌then◌else◌, map}
+use Rattle.std.specs.Prelude.{◌≡◌, ℕ, zero, suc, ◌+◌, ◌<◌, ◌≤◌, List, [], length, Option, None, Some, nat_eq, map}
 use Rattle.dl_desk.specs.Events.{atoms}
 use Rattle.dl_desk.specs.History.{begun, end_of}
-use Rattle.dl_history.specs.Agrees.{Account, account, accounts_by, HasEach, NoneBehind, unshown}
+use Rattle.dl_history.specs.Agrees.{Account, account, accounts_by, HasCalls, HasEach, NoneBehind, unshown}
 use Rattle.dl_loader.specs.Book.{Locked}
 use Rattle.dl_history.specs.Entries.{Line, front_of}
-use Rattle.dl_history.specs.History.{log, HasEnd, AllEnded}
+use Rattle.dl_history.specs.History.{log, HasEnd}
 use Rattle.dl_history.specs.Lists.{Every, Among, one_if}
 use Rattle.dl_loader.specs.declared.fault.CloseFault.{CloseFault}
 use Rattle.dl_loader.specs.declared.fault.CloseFault.TheVariants.{PassesMissing, Behind, Unshown, Unsettled, OutOfMemory}
@@ -34,11 +34,6 @@ pub record IsBehind (len : ℕ) (accounts : List Account) (caller front : ℕ) :
   pub beyond : len < front
   pub least : (a : Account) → Among a accounts → len < front_of a.entries → caller ≤ a.caller
 
--- what was found of accounts that have seen more than so many events, and one account more with its front
-abbrev pub earlier : ℕ → Option (ℕ × ℕ) → ℕ → ℕ → Option (ℕ × ℕ)
-earlier len None caller front = if nat_le front len then None else Some (caller, front)
-earlier len (Some found) caller front = if nat_le front len || nat_le found.0 caller then Some found else Some (caller, front)
-
 -- ---- cells that refused their outcome
 
 -- the least of the numbers, if there are any
@@ -56,19 +51,17 @@ pub record IsFirstOpen (history : List Event) (b : ℕ) : Type 0 where
 
 -- ---- refusals
 
--- a loader with this book may be closed with the accounts
-pub record MayClose (callers : ℕ) (b : Locked) (accounts : List Account) : Type 0 where
+-- The accounts tell the whole history: each caller has one, none has seen more than there is, and each has its caller's
+-- calls. So no other legal history would do (one_history in dl_history/proofs/OneHistory.antt).
+pub record TellWhole (callers : ℕ) (history : List Event) (accounts : List Account) : Type 0 where
   pub each : HasEach callers accounts
-  pub seen : NoneBehind (length b.history) accounts
-  pub shown : unshown b.cells accounts ≡ []
-  pub ended : AllEnded b.history
+  pub seen : NoneBehind (length history) accounts
+  pub calls : Every (HasCalls history) accounts
 
 -- why it is refused: the first cause that applies, but for want of memory
 abbrev pub RefusesClose : ℕ → Locked → List Account → CloseFault → Type 0
 RefusesClose callers b accounts (PassesMissing want got) = (want ≡ callers) × (got ≡ present callers accounts) × (got < want)
 RefusesClose callers b accounts (Behind front len) = HasEach callers accounts × (len ≡ length b.history) × (caller : ℕ) × IsBehind len accounts caller front
-RefusesClose callers b accounts (Unshown cell) =
-    HasEach callers accounts × NoneBehind (length b.history) accounts × IsLeastOf (Some cell) (unshown b.cells accounts)
-RefusesClose callers b accounts (Unsettled batch) =
-    HasEach callers accounts × NoneBehind (length b.history) accounts × (unshown b.cells accounts ≡ []) × IsFirstOpen b.history batch
+RefusesClose callers b accounts (Unshown cell) = TellWhole callers b.history accounts × IsLeastOf (Some cell) (unshown b.cells accounts)
+RefusesClose callers b accounts (Unsettled batch) = TellWhole callers b.history accounts × (unshown b.cells accounts ≡ []) × IsFirstOpen b.history batch
 RefusesClose callers b accounts OutOfMemory = Unit {0}

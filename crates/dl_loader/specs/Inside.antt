@@ -3,4 +3,5 @@ pub mod Begun
 pub mod Dues
 pub mod Recorded
 pub mod EndedUpTo
+pub mod Closes
 pub mod Codes

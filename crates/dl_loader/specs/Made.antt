@@ -9,7 +9,6 @@ use Rattle.dl_history.specs.declared.event.Reply.TheVariants.{Loaded, Many, Prim
 use Rattle.dl_loader.specs.Pass.{Part, with_call, with_tickets}
 use Rattle.dl_history.specs.Service.{Service}
 use Rattle.dl_history.specs.Entries.{front_of}
-use Rattle.dl_history.specs.Journal.{Journal}
 use Rattle.dl_loader.specs.Book.{Locked, Keeps}
 use Rattle.dl_loader.specs.Refusals.{IsRefusal}
 use Rattle.dl_loader.specs.declared.fault.CallFault.{CallFault}
@@ -30,10 +29,6 @@ loads_of (Sent js) = []
 -- the part after its event at a place, with its tickets
 abbrev pub with_event : Part → ℕ → Call → Reply → Part
 with_event p at call reply = with_tickets (with_call p at (event_of p call reply)) (loads_of reply)
-
--- no event was made: the journal and the part tell what they told
-abbrev pub NothingMade : Journal → Journal → Part → Part → Type 0
-NothingMade before now old new = (now.history ≡ before.history) × (now.cells ≡ before.cells) × (new ≡ old)
 
 -- The event is the last of the history, and the last call among the pass's entries, at its place.
 pub record Makes (before : Locked) (old : Part) (call : Call) (reply : Reply) (now : Locked) (new : Part) : Type 0 where

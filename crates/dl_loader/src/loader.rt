@@ -7,7 +7,6 @@ ghost use Rattle.dl_loader.specs.Book.{SomeStopped};
 ghost use Rattle.dl_loader.specs.Opening.{Names};
 ghost use Rattle.dl_loader.specs.Pass.{GaveTicket, fresh, with_saw};
 
-mod accounts;
 mod close;
 mod unshown;
 

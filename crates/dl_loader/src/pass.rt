@@ -8,9 +8,11 @@ ghost use Rattle.dl_history.specs.Entries.{calls_of, cell_of_load, cells_of, end
 ghost use Rattle.dl_history.specs.Lists.{Among};
 ghost use Rattle.dl_loader.specs.Pass.{GaveTicket, given, part, with_saw, with_ticket};
 
+mod audit;
 mod events;
 
 use crate::ticket::Ticket;
+pub(crate) use audit::audit;
 use dl_history::{Account, Entry, LoaderName, Read};
 use std::alloc::{AllocError, Global};
 use std::marker::Model;
@@ -110,26 +112,6 @@ impl<L: LoaderName> Pass<L> {
             ..
         } = self;
         Account::of(alloc, *caller, entries.as_slice())
-    }
-
-    /// The pass's part of the ledger, once its entries are no longer needed.
-    pub(crate) fn into_share(self) -> Share<L>
-        ensures is_account { IsAccount L.service.callers (account_of self.part) }
-        ensures one_part { result.parts ≡ 1 }
-        ensures counted { result.amount ≡ length (places_of self.part.entries) }
-    {
-        let Pass {
-            caller: _,
-            entries,
-            calls: _,
-            front: _,
-            tickets,
-            unseen: _,
-            share,
-        } = self;
-        drop(entries);
-        drop(tickets);
-        share
     }
 
     /// The calls that were made and the outcomes that were read, in order.

@@ -49,12 +49,14 @@ impl<L: LoaderName> Journal<L> {
         }
     }
 
-    /// All parts of the ledger have counted as many calls as there are events.
-    pub fn audit(&mut self, all: &mut Share<L>)
-        requires { all.old.parts ≡ L.parts }
+    /// Tells how a share of the ledger stands to the events: with all parts it has counted as many calls as there are
+    /// events. It changes nothing.
+    pub fn audit(&mut self, share: &mut Share<L>)
         ensures same { self.new ≡ self.old }
-        ensures counted { all.old.amount ≡ length self.old.history }
+        ensures parts { share.new.parts ≡ share.old.parts }
+        ensures amount { share.new.amount ≡ share.old.amount }
+        ensures whole { share.old.parts ≡ L.parts → share.old.amount ≡ length self.old.history }
     {
-        self.calls.audit(all);
+        self.calls.audit(share);
     }
 }

@@ -11,3 +11,7 @@ pub record Recorded (before now : Journal) (old new : Part) (event : Event) (beg
   pub history : now.history ≡ before.history ++ event ∷ []
   pub cells : now.cells ≡ before.cells ++ repeat begun (waiting ∷ [])
   pub part : new ≡ with_call old (length before.history) event
+
+-- no event was made: the journal and the part tell what they told
+abbrev pub NothingMade : Journal → Journal → Part → Part → Type 0
+NothingMade before now old new = (now.history ≡ before.history) × (now.cells ≡ before.cells) × (new ≡ old)

@@ -3,15 +3,17 @@
 ghost use Rattle.std.specs.Prelude.{◌≡◌, ◌<◌, ◌≤◌, IfNone, IfSome, MatchBool, None, length};
 ghost use Rattle.dl_desk.specs.Events.{atoms};
 ghost use Rattle.dl_desk.specs.History.{begun, end_of};
+ghost use Rattle.dl_history.specs.Agrees.{Fits, HasEach, NoneBehind};
 ghost use Rattle.dl_history.specs.History.{AllEnded, HasEnd, log};
 ghost use Rattle.dl_history.specs.Kept.{kept};
 ghost use Rattle.dl_loader.specs.Book.{kept_of};
-ghost use Rattle.dl_loader.specs.Closing.{IsFirstOpen};
+ghost use Rattle.dl_history.specs.Lists.{Every};
+ghost use Rattle.dl_loader.specs.Closing.{IsFirstOpen, TellWhole, accounts_of};
 
 use crate::book::Book;
+use crate::pass::{Pass, audit};
 use dl_desk::{BatchState, Desk};
 use dl_history::{Journal, LoaderName, Rows};
-use std::sync::ledger::Share;
 
 impl<L: LoaderName> Book<L> {
     /// The journal, which has the history and the cells.
@@ -49,13 +51,18 @@ impl<L: LoaderName> Book<L> {
         Some(matches!(view.state(), BatchState::Settled | BatchState::Failed))
     }
 
-    /// All parts of the ledger have counted as many calls as there are events.
-    pub(crate) fn audit(&mut self, all: &mut Share<L>)
-        requires { all.old.parts ≡ L.parts }
+    /// Holds the passes of all callers against the book: what it has at the places of their entries, or of their cells, is
+    /// what they tell, and they have each of its events. It changes nothing.
+    pub(crate) fn audit(&mut self, passes: &mut [Pass<L>])
+        requires parts { L.parts ≡ L.service.callers }
+        requires each { HasEach L.service.callers (accounts_of passes.old) }
+        requires seen { NoneBehind (length self.old.history) (accounts_of passes.old) }
         ensures same { self.new ≡ self.old }
-        ensures counted { all.old.amount ≡ length self.old.history }
+        ensures passes { passes.new ≡ passes.old }
+        ensures fits { Every (Fits L.service.callers self.old.history self.old.cells) (accounts_of passes.old) }
+        ensures whole { TellWhole L.service.callers self.old.history (accounts_of passes.old) }
     {
-        self.journal.audit(all);
+        audit(&mut self.journal, passes);
     }
 
     /// Takes the book apart: the desk and the journal, which are those of the history. It does not allocate.

@@ -3,17 +3,18 @@
 ghost use Rattle.std.specs.Prelude.{◌≡◌, IfErr, IfNone, IfOk, IfSome, OnOk, map};
 ghost use Rattle.dl_history.specs.Agrees.{accounts_by, NoneBehind};
 ghost use Rattle.dl_history.specs.Closed.{IsClosed, outline_of};
-ghost use Rattle.dl_loader.specs.Closing.{accounts_of, IsBehind, MayClose, RefusesClose, earlier, present};
+ghost use Rattle.dl_loader.specs.Closing.{accounts_of, IsBehind, RefusesClose, present};
+ghost use Rattle.dl_history.specs.Service.{AnswersEach};
 ghost use Rattle.dl_loader.specs.Book.{Keeps, Locked};
+ghost use Rattle.dl_loader.specs.Inside.Closes.{Closes, MayClose, earlier};
 
 use crate::book::Book;
 use crate::fault::CloseFault;
 use crate::loader::Loader;
-use crate::loader::accounts::{accounts_of, history_of};
 use crate::loader::unshown::least_unshown;
 use crate::pass::Pass;
 use dl_history::{Account, History, LoaderName, Rows};
-use std::alloc::Global;
+use std::alloc::{AllocError, Global};
 use std::sync::Mutex;
 
 impl<L: LoaderName> Loader<L> {
@@ -25,7 +26,7 @@ impl<L: LoaderName> Loader<L> {
     pub fn close(
         self,
         alloc: Global,
-        passes: Vec<Pass<L>>,
+        mut passes: Vec<Pass<L>>,
     ) -> Result<History, (CloseFault, Loader<L>, Vec<Pass<L>>)>
         ensures closed { IfOk result (IsClosed L.service) }
         ensures accounts { IfOk result (λ h. h.accounts ≡ accounts_of passes.items) }
@@ -39,11 +40,15 @@ impl<L: LoaderName> Loader<L> {
             book,
             changed,
         } = self;
-        let book = book.into_inner();
-        book.keeps();
-        match accounts(alloc, &rows, callers, &book, passes.as_slice()) {
-            Ok(accounts) => Ok(history_of(rows, book, passes, accounts)),
+        let mut book = book.into_inner();
+        match accounts(alloc, &rows, callers, &mut book, &mut passes) {
+            Ok(accounts) => {
+                book.keeps();
+                let (desk, journal) = book.into_parts();
+                Ok(History::of(rows, desk, journal, accounts))
+            }
             Err(fault) => {
+                book.keeps();
                 let loader = Loader {
                     callers,
                     rows,
@@ -56,45 +61,64 @@ impl<L: LoaderName> Loader<L> {
     }
 }
 
-/// The accounts of the passes, where the loader may be closed with them.
+/// The accounts of the passes, in order, where the loader may be closed with them.
 fn accounts<L: LoaderName>(
     alloc: Global,
     rows: &Rows<L>,
     callers: u32,
-    book: &Book<L>,
-    passes: &[Pass<L>],
+    book: &mut Book<L>,
+    passes: &mut [Pass<L>],
 ) -> Result<Vec<Account>, CloseFault>
     requires callers { callers ≡ L.service.callers }
-    ensures may { OnOk result (MayClose L.service.callers book.now (accounts_of passes.now)) }
-    ensures accounts { IfOk result (λ accounts. accounts.items ≡ map outline_of (accounts_of passes.now)) }
-    ensures fault { IfErr result (RefusesClose L.service.callers book.now (accounts_of passes.now)) }
+    requires parts { L.parts ≡ L.service.callers }
+    requires answers { AnswersEach L.service.answer }
+    ensures book { book.new ≡ book.old }
+    ensures passes { passes.new ≡ passes.old }
+    ensures closes { IfOk result (λ accounts. Closes L.service book.old.history (accounts_of passes.old) accounts.items) }
+    ensures fault { IfErr result (RefusesClose L.service.callers book.old (accounts_of passes.old)) }
 {
+    rows.keeps();
+    book.keeps();
     check(rows, callers, book, passes)?;
     Ok(accounts_of(alloc, passes)?)
+}
+
+/// The accounts of the passes, in order. The error is a failed allocation.
+fn accounts_of<L: LoaderName>(alloc: Global, passes: &[Pass<L>]) -> Result<Vec<Account>, AllocError>
+    ensures { IfOk result (λ accounts. accounts.items ≡ map outline_of (accounts_of passes.now)) }
+{
+    let mut accounts = Vec::with_capacity(alloc, passes.len())?;
+    for pass in passes {
+        accounts.push(pass.account(alloc)?)?;
+    }
+    Ok(accounts)
 }
 
 /// Whether the loader may be closed with these passes, but for a failed allocation.
 fn check<L: LoaderName>(
     rows: &Rows<L>,
     callers: u32,
-    book: &Book<L>,
-    passes: &[Pass<L>],
+    book: &mut Book<L>,
+    passes: &mut [Pass<L>],
 ) -> Result<(), CloseFault>
     requires callers { callers ≡ L.service.callers }
-    ensures may { OnOk result (MayClose L.service.callers book.now (accounts_of passes.now)) }
-    ensures fault { IfErr result (RefusesClose L.service.callers book.now (accounts_of passes.now)) }
+    requires parts { L.parts ≡ L.service.callers }
+    ensures book { book.new ≡ book.old }
+    ensures passes { passes.new ≡ passes.old }
+    ensures may { OnOk result (MayClose L.service.callers book.old (accounts_of passes.old)) }
+    ensures fault { IfErr result (RefusesClose L.service.callers book.old (accounts_of passes.old)) }
 {
     let got = present(callers, passes);
     if got < callers {
         return Err(CloseFault::PassesMissing { want: callers, got });
     }
-    let journal = book.journal();
-    let len = journal.len();
+    let len = book.journal().len();
     if let Some((_, front)) = behind(len, passes) {
         let len = len as u32;
         return Err(CloseFault::Behind { front, len });
     }
-    if let Some(cell) = least_unshown(journal, passes) {
+    book.audit(passes);
+    if let Some(cell) = least_unshown(book.journal(), passes) {
         return Err(CloseFault::Unshown { cell });
     }
     match book.open_batch(rows) {

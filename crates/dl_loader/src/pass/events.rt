@@ -10,8 +10,8 @@ ghost use Rattle.dl_loader.specs.Inside.Dues.{AreDue, AreGiven, CanEnd, outcome_
 ghost use Rattle.dl_history.specs.Entries.{front_of};
 ghost use Rattle.dl_history.specs.History.{primed};
 ghost use Rattle.dl_history.specs.Journal.{refusals};
-ghost use Rattle.dl_loader.specs.Inside.Recorded.{Recorded};
-ghost use Rattle.dl_loader.specs.Made.{NothingMade, event_of, with_event};
+ghost use Rattle.dl_loader.specs.Inside.Recorded.{NothingMade, Recorded};
+ghost use Rattle.dl_loader.specs.Made.{event_of, with_event};
 
 use crate::due_endings::{dues, give};
 use crate::fault::CallFault;
