@@ -8,7 +8,7 @@ use Rattle.dl_desk.specs.Key.{Key}
 use Rattle.dl_desk.specs.Stored.{Stored, blank}
 use Rattle.dl_desk.specs.BatchBook.{Batch}
 use Rattle.dl_desk.specs.Prepared.{whole, front, empty, IsStored, Same, members_of}
-use Rattle.dl_desk.specs.Marks.{IsDesk, Grows, IsAdded}
+use Rattle.dl_desk.specs.Marks.{IsDesk, MakesRoom, IsAdded}
 use Rattle.dl_desk.specs.declared.desk.Extent.{Extent}
 use Rattle.dl_desk.proofs.Tails.{get-set_other, map-set_unseen, same_all}
 
@@ -81,7 +81,7 @@ same_grown from to xs same b outside x at = elim (cases_lt b (length xs)) [
 ]
 
 pub desk_grown : (b : Bool) (most memo_len memo_left shown_memo touched : ℕ) (prepared shown : Extent) (xs ys : List Stored)
-    → IsDesk b most prepared shown memo_len shown_memo touched xs → Grows xs ys → shown_memo ≤ memo_left
+    → IsDesk b most prepared shown memo_len shown_memo touched xs → MakesRoom xs ys → shown_memo ≤ memo_left
     → IsDesk true most prepared shown memo_left shown_memo touched ys
 desk_grown b most memo_len memo_left shown_memo touched prepared shown xs ys is (inl same) left = record {
   prepared_book = rw same is.prepared_book;
@@ -135,13 +135,13 @@ desk_put b most memo_len memo_left shown_memo touched n m prepared shown xs ys i
     grown = desk_grown b most memo_len memo_left shown_memo touched prepared shown xs added.grown is added.grows left
 
 -- the grown batches are stored as well
-pub stored_grows : (begun sent cells most : ℕ) (xs grown : List Stored) → IsStored begun sent cells most (map whole xs) → Grows xs grown
+pub stored_grows : (begun sent cells most : ℕ) (xs grown : List Stored) → IsStored begun sent cells most (map whole xs) → MakesRoom xs grown
     → IsStored begun sent cells most (map whole grown)
 stored_grows begun sent cells most xs grown is (inl same) = rw same is
 stored_grows begun sent cells most xs grown is (inr one) = rw (one, map-append) (stored_grown begun sent cells most (map whole xs) is)
 
 -- the members of a batch, of which the next one has none before it is added
-pub grown_members : (xs grown : List Stored) (n : ℕ) (x : Stored) → Grows xs grown → slice_get grown n ≡ Some x → n ≤ length xs
+pub grown_members : (xs grown : List Stored) (n : ℕ) (x : Stored) → MakesRoom xs grown → slice_get grown n ≡ Some x → n ≤ length xs
     → x.members ≡ members_of (slice_get (map whole xs) n)
 grown_members xs grown n x (inl same) at low =
     let here : slice_get xs n ≡ Some x = rw same at at in

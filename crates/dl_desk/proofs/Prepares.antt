@@ -10,7 +10,7 @@ use Rattle.dl_desk.specs.Stored.{Stored, blank}
 use Rattle.dl_desk.specs.Limits.{Rules}
 use Rattle.dl_desk.specs.BatchBook.{Batch, BatchBook}
 use Rattle.dl_desk.specs.Prepared.{whole, front, empty, IsStored, members_of, put_member}
-use Rattle.dl_desk.specs.Marks.{Grows, more, IsAdded}
+use Rattle.dl_desk.specs.Marks.{MakesRoom, more, IsAdded}
 use Rattle.dl_desk.proofs.KeyLemmas.{key_eq-sym, key_eq-same}
 use Rattle.dl_desk.proofs.Puts.{first_member}
 use Rattle.dl_desk.proofs.Sends.{get-take}
@@ -52,7 +52,7 @@ lookup-noted es k q c none = by (key_eq k q) refl
 
 -- ---- the batches
 
-pub take-grown : (f : Stored → Batch) (k : ℕ) (xs grown : List Stored) → k ≤ length xs → Grows xs grown → take k (map f grown) ≡ take k (map f xs)
+pub take-grown : (f : Stored → Batch) (k : ℕ) (xs grown : List Stored) → k ≤ length xs → MakesRoom xs grown → take k (map f grown) ≡ take k (map f xs)
 take-grown f k xs grown low (inl same) = rw same refl
 take-grown f k xs grown low (inr one) = rw (one, map-append) (take-append-le k (map f xs) (f blank ∷ []) (rw length-map low))
 

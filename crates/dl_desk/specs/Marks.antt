@@ -22,8 +22,8 @@ pub record IsDesk (is_prepared : Bool) (max_cells : ℕ) (prepared shown : Exten
   pub unmarked : is_prepared ≡ false → IsShown prepared shown memo_len shown_memo touched
 
 -- the batches stay, or an empty one is added
-abbrev pub Grows : List Stored → List Stored → Type 0
-Grows old new = (new ≡ old) ⊎ (new ≡ old ++ blank ∷ [])
+abbrev pub MakesRoom : List Stored → List Stored → Type 0
+MakesRoom old new = (new ≡ old) ⊎ (new ≡ old ++ blank ∷ [])
 
 -- a batch with one more member
 abbrev pub more : Batch → Key × ℕ → Batch
@@ -32,7 +32,7 @@ more y m = record { members = y.members ++ m ∷ []; end = y.end }
 -- a member was prepared in a batch of the list, which may be one that was added
 pub record IsAdded (old : List Stored) (number : ℕ) (m : Key × ℕ) (new : List Stored) : Type 0 where
   pub grown : List Stored
-  pub grows : Grows old grown
+  pub grows : MakesRoom old grown
   pub before : Stored
   pub then : Stored
   pub low : number < length grown

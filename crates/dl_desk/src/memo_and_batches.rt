@@ -5,7 +5,7 @@ ghost use Rattle.std.specs.Map.{lookup};
 ghost use Rattle.dl_desk.specs.Key.{Key, key_eq};
 ghost use Rattle.dl_desk.specs.History.{has_member};
 ghost use Rattle.dl_desk.specs.Prepared.{whole, front, Same, members_of, without};
-ghost use Rattle.dl_desk.specs.Marks.{IsAdded, Grows};
+ghost use Rattle.dl_desk.specs.Marks.{IsAdded, MakesRoom};
 
 use crate::batch::StoredBatch;
 use crate::key::FetchKey;
@@ -74,7 +74,7 @@ fn add(
     ensures is_new { IfOk result (λ is_new. is_new ≡ not (has_member (members_of (slice_get (map whole batches.old.items) number)) key)) }
     ensures added { result ≡ Ok true → IsAdded batches.old.items number (key, cell) batches.new.items }
     ensures kept { result ≡ Ok false → batches.new.items ≡ batches.old.items }
-    ensures err { OnErr result (Grows batches.old.items batches.new.items) }
+    ensures err { OnErr result (MakesRoom batches.old.items batches.new.items) }
 {
     if number == batches.len() {
         batches.push(StoredBatch::new(alloc, hashing))?;
@@ -99,7 +99,7 @@ pub(crate) fn join(
     ensures number { IfOk result (λ number. number
         ≡ (if has_member (members_of (slice_get (map whole batches.old.items) newest)) key.now then next else newest)) }
     ensures added { IfOk result (λ number. IsAdded batches.old.items number (key.now, cell) batches.new.items) }
-    ensures err { OnErr result (Grows batches.old.items batches.new.items) }
+    ensures err { OnErr result (MakesRoom batches.old.items batches.new.items) }
 {
     if add(
         batches,

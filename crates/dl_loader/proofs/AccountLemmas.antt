@@ -35,13 +35,13 @@ no_events s [] legal none = refl
 no_events s (e ∷ es) legal none = let next = legal.at 0 e refl in let low = next.caller in absurd (omega arith)
 
 -- how many calls of an account there are
-abbrev calls_in : Account → ℕ
-calls_in a = length (places_of a.entries)
+abbrev call_count : Account → ℕ
+call_count a = length (places_of a.entries)
 
 -- the passes of all callers have as many calls as there are events, where they have as many with all parts of the ledger
 calls_count : (s : Service) (es : List Event) (states : List Cell) (passes : List Pass) (parts : ℕ) → parts ≡ s.callers → IsLegal s es
     → HasEach s.callers (accounts_of passes) → Every (Fits s.callers es states) (accounts_of passes)
-    → (0 < length passes → length passes ≡ parts → sum_by calls_in (accounts_of passes) ≡ length es) → sum_by calls_in (accounts_of passes) ≡ length es
+    → (0 < length passes → length passes ≡ parts → sum_by call_count (accounts_of passes) ≡ length es) → sum_by call_count (accounts_of passes) ≡ length es
 calls_count s es states [] parts same legal each fits whole =
     let count = passes_count s.callers es states [] each fits in
     let none = no_events s es legal (omega arith) in
@@ -54,7 +54,7 @@ calls_count s es states (p ∷ passes) parts same legal each fits whole =
 -- so together they tell the whole history
 pub passes_tell : (s : Service) (es : List Event) (states : List Cell) (passes : List Pass) (parts : ℕ) → parts ≡ s.callers → IsLegal s es
     → HasEach s.callers (accounts_of passes) → NoneBehind (length es) (accounts_of passes) → Every (Fits s.callers es states) (accounts_of passes)
-    → (0 < length passes → length passes ≡ parts → sum_by calls_in (accounts_of passes) ≡ length es) → TellWhole s.callers es (accounts_of passes)
+    → (0 < length passes → length passes ≡ parts → sum_by call_count (accounts_of passes) ≡ length es) → TellWhole s.callers es (accounts_of passes)
 passes_tell s es states passes parts same legal each seen fits whole =
     let count = calls_count s es states passes parts same legal each fits whole in
     record { each = each; seen = seen; calls = accounts_have s es states (accounts_of passes) legal each seen fits count }

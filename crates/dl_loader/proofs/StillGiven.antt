@@ -12,8 +12,8 @@ abbrev pub cells : List GivenTicket → List ℕ
 cells gs = map (λ (g : GivenTicket). g.cell) gs
 
 -- the outcome of the ticket is among the entries of the later part
-abbrev pub Read : Part → Hold → Ending → Part → Type 0
-Read p t e q = (seen : Bool) × GaveTicket p t seen × (q ≡ with_saw p t.number (cell_of_load t.reply) e seen)
+abbrev pub WasRead : Part → Hold → Ending → Part → Type 0
+WasRead p t e q = (seen : Bool) × GaveTicket p t seen × (q ≡ with_saw p t.number (cell_of_load t.reply) e seen)
 
 set_cells : (gs : List GivenTicket) (i c : ℕ) → slice_get gs i ≡ Some (given c false) → cells (set gs i (given c true)) ≡ cells gs
 set_cells [] i c is = refl
@@ -27,7 +27,7 @@ saw_cells : (p : Part) (t : Hold) (e : Ending) (seen : Bool) → GaveTicket p t 
 saw_cells p t e true is = refl
 saw_cells p t e false is = set_cells p.tickets t.number (cell_of_load t.reply) is
 
-pub read_cells : (p : Part) (t : Hold) (e : Ending) (q : Part) → Read p t e q → cells q.tickets ≡ cells p.tickets
+pub read_cells : (p : Part) (t : Hold) (e : Ending) (q : Part) → WasRead p t e q → cells q.tickets ≡ cells p.tickets
 read_cells p t e q (seen, gave, is) = ap (λ (r : Part). cells r.tickets) is ∙ saw_cells p t e seen gave
 
 found : (gs : List GivenTicket) (i c : ℕ) → option_map (λ (g : GivenTicket). g.cell) (slice_get gs i) ≡ Some c
@@ -49,7 +49,7 @@ still_gave p q t u seen gave number reply same =
     found q.tickets u.number (cell_of_load u.reply) (sym (slice_get-map cell q.tickets u.number) ∙ after)
 
 -- a ticket that was read is still one that the pass gave
-pub gave_again : (p : Part) (t : Hold) (e : Ending) (q : Part) (u : Hold) → Read p t e q → u.number ≡ t.number → u.reply ≡ t.reply
+pub gave_again : (p : Part) (t : Hold) (e : Ending) (q : Part) (u : Hold) → WasRead p t e q → u.number ≡ t.number → u.reply ≡ t.reply
     → (now : Bool) × GaveTicket q u now
 gave_again p t e q u (seen, gave, is) number reply =
     still_gave p q t u seen gave number reply (read_cells p t e q (seen, gave, is))

@@ -1,3 +1,3 @@
-pub mod Told
+pub mod Grown
 pub mod Latests
 pub mod LeftLegal

@@ -7,18 +7,18 @@ use Rattle.dl_reference.specs.declared.atom.Atom.{Atom}
 use Rattle.dl_reference.specs.declared.atom.Atom.TheVariants.{Load, Prime, Clear, ClearAll, Dispatch, Settle, Fail}
 
 -- the atom of the definitions
-abbrev pub told : Atom → desk.Atom
-told (Load k r) = desk.Load k r
-told (Prime k r) = desk.Prime k r
-told (Clear k) = desk.Clear k
-told ClearAll = desk.ClearAll
-told (Dispatch js) = desk.Dispatch js.items
-told (Settle b) = desk.Settle b
-told (Fail b) = desk.Fail b
+abbrev pub desk_atom : Atom → desk.Atom
+desk_atom (Load k r) = desk.Load k r
+desk_atom (Prime k r) = desk.Prime k r
+desk_atom (Clear k) = desk.Clear k
+desk_atom ClearAll = desk.ClearAll
+desk_atom (Dispatch js) = desk.Dispatch js.items
+desk_atom (Settle b) = desk.Settle b
+desk_atom (Fail b) = desk.Fail b
 
 abbrev pub history_onto : List desk.Atom → List Atom → List desk.Atom
 history_onto before [] = before
-history_onto before (a ∷ later) = history_onto (told a ∷ before) later
+history_onto before (a ∷ later) = history_onto (desk_atom a ∷ before) later
 
 -- the history of atoms that stand in their order: the definitions have the newest first
 abbrev pub history_of : List Atom → List desk.Atom

@@ -38,12 +38,12 @@ pub struct Begun<'a> {
 impl Atom {
     ghost use Rattle.std.specs.Prelude.{◌≡◌, option_map};
     ghost use Rattle.dl_desk.specs.History as desk;
-    ghost use Rattle.dl_reference.specs.History.{told, ended_by};
+    ghost use Rattle.dl_reference.specs.History.{desk_atom, ended_by};
     ghost use Rattle.dl_reference.specs.Begun.{begun_of};
 
     /// The cell that this atom begins: a fresh load's or a prime's.
     pub fn begins(&self) -> Option<Begun<'_>>
-        ensures { option_map begun_of result ≡ desk.begins (told self.now) }
+        ensures { option_map begun_of result ≡ desk.begins (desk_atom self.now) }
     {
         match self {
             Atom::Load(key, LoadReply::Fresh { cell, batch }) => Some(Begun {
@@ -62,7 +62,7 @@ impl Atom {
 
     /// The batch that this atom names, as a fresh load does.
     pub fn fresh_batch(&self) -> Option<u32>
-        ensures { result ≡ desk.batch_of (desk.begins (told self.now)) }
+        ensures { result ≡ desk.batch_of (desk.begins (desk_atom self.now)) }
     {
         match self {
             Atom::Load(_, LoadReply::Fresh { batch, .. }) => Some(*batch),
@@ -73,7 +73,7 @@ impl Atom {
     /// Whether this atom makes the memo forget a key whose cell is of the batch: a clear of the key, a
     /// clear of all, or the failure of that very batch.
     pub fn forgets(&self, key: &FetchKey, batch: Option<u32>) -> bool
-        ensures { result ≡ desk.forgets key.now batch (told self.now) }
+        ensures { result ≡ desk.forgets key.now batch (desk_atom self.now) }
     {
         match self {
             Atom::Clear(cleared) => cleared == key,
@@ -85,7 +85,7 @@ impl Atom {
 
     /// How this atom ends the batch of a number, if it does.
     pub fn ends(&self, number: usize) -> Option<End>
-        ensures { result ≡ ended_by (told self.now) number }
+        ensures { result ≡ ended_by (desk_atom self.now) number }
     {
         match self {
             Atom::Settle(batch) if number == *batch as usize => Some(End::Settled),

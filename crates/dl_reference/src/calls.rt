@@ -5,7 +5,7 @@ ghost use Rattle.std.specs.List.{list_any};
 ghost use Rattle.dl_desk.specs.Key.{key_eq};
 ghost use Rattle.dl_desk.specs.History.{IsLegal, loaded, load_replies};
 ghost use Rattle.dl_desk.specs.Calls as desk;
-ghost use Rattle.dl_reference.specs.History.{told, history_of};
+ghost use Rattle.dl_reference.specs.History.{desk_atom, history_of};
 ghost use Rattle.dl_reference.specs.Rules.{rules_of};
 ghost use Rattle.dl_reference.specs.Said.{asked, said, answer, reply_at, left};
 
@@ -113,7 +113,7 @@ pub fn refusal(rules: &Rules, history: &[Atom], call: &Call) -> Option<DeskFault
 
 /// Adds an atom to the history.
 fn add(history: &mut Vec<Atom>, atom: Atom) -> Result<(), AllocError>
-    ensures { OnOk result (history_of history.new.items ≡ told atom ∷ history_of history.old.items) }
+    ensures { OnOk result (history_of history.new.items ≡ desk_atom atom ∷ history_of history.old.items) }
 {
     history.push(atom)?;
     Ok(())

@@ -40,8 +40,8 @@ pub record AreSeatsOf (q : JobQueue) (senders : List Sender) (takers : List Take
   pub takers_of : All (IsTakerOf q) takers
 
 -- how many items the queue has room for, with the end marks
-abbrev pub places_of : JobQueue → ℕ
-places_of q = ruled_capacity (sends_on q.sends)
+abbrev pub queue_room : JobQueue → ℕ
+queue_room q = ruled_capacity (sends_on q.sends)
 
 -- a seat that has sent nothing, where the queue has so many seats
 abbrev pub IsNewSender : ℕ → Sender → Type 0

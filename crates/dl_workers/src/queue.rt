@@ -64,7 +64,7 @@ impl JobQueue {
     ghost use Rattle.std.specs.Prelude.{◌+◌, ◌*◌, ◌^◌, [], ◌∷◌, ◌++◌, length, All, MatchOption, MatchResult, OnOk, IfOk, IfErr, flat_map, vec_len};
     ghost use Rattle.crossbeam_channel.specs.Claims.{view, IsSeatAt};
     ghost use Rattle.dl_workers.specs.QueueFaults.{IsCapacity, IsCount, RefusedAs};
-    ghost use Rattle.dl_workers.specs.Seats.{IsSenderOf, IsTakerOf, AreSeatsOf, sent_items, sent_jobs, taken_items, taken_jobs, places_of};
+    ghost use Rattle.dl_workers.specs.Seats.{IsSenderOf, IsTakerOf, AreSeatsOf, sent_items, sent_jobs, taken_items, taken_jobs, queue_room};
     ghost use Rattle.dl_workers.specs.Balance.{Balances};
     ghost use Rattle.dl_workers.specs.Lossless.{traffic};
 
@@ -86,7 +86,7 @@ impl JobQueue {
         ensures none_taken { IfOk result (λ r. All (λ t. taken_jobs t ≡ []) r.2.items) }
 
         // The end marks have places of their own, one for each taker.
-        ensures places { IfOk result (λ r. places_of r.0 ≡ capacity + takers) }
+        ensures places { IfOk result (λ r. queue_room r.0 ≡ capacity + takers) }
         ensures accepted { OnOk result (IsCapacity capacity × IsCount senders × IsCount takers) }
         ensures refused { IfErr result (RefusedAs capacity senders takers) }
     {
@@ -117,7 +117,7 @@ impl JobQueue {
         ensures takers { IfOk result (λ r. vec_len r.2 ≡ takers) }
         ensures none_sent { IfOk result (λ r. All (λ s. sent_jobs s ≡ []) r.1.items) }
         ensures none_taken { IfOk result (λ r. All (λ t. taken_jobs t ≡ []) r.2.items) }
-        ensures places { IfOk result (λ r. places_of r.0 ≡ capacity + takers) }
+        ensures places { IfOk result (λ r. queue_room r.0 ≡ capacity + takers) }
     {
         let places = (capacity + takers) as usize;
         let (sends, receives, mut whole) = bounded_with::<Item, Traffic, Lossless, Global>(

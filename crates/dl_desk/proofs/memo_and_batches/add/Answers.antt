@@ -2,12 +2,12 @@ use Rattle.std.proofs.Common.{◌≡◌, ◌∙◌, ap, ◌<◌, ◌++◌, ◌�
 use Rattle.std.proofs.lemmas.Option.{slice_get_read}
 use Rattle.dl_desk.specs.Stored.{Stored}
 use Rattle.dl_desk.specs.Prepared.{whole, members_of}
-use Rattle.dl_desk.specs.Marks.{Grows}
+use Rattle.dl_desk.specs.Marks.{MakesRoom}
 use Rattle.dl_desk.proofs.Marked.{grown_members}
 use Rattle.dl_desk.proofs.memo_and_batches.add.Goals as goal
 use Rattle.dl_desk.proofs.memo_and_batches.add.Goals.{then-number-len+in_ok-push, else-number-len}
 
-grows : (c : goal.After-batches-1) → Grows c.args.batches.now.items c.if-number-len.batches.items
+grows : (c : goal.After-batches-1) → MakesRoom c.args.batches.now.items c.if-number-len.batches.items
 grows c = elim c.if-number-len.branch [
   | then-number-len+in_ok-push w ↦ inr (rw w.batches-is (w.in_ok-push.ensures.items ∙ ap (λ (x : Stored). c.args.batches.now.items ++ x ∷ []) w.new.ensures))
   | else-number-len w ↦ inl (rw w.batches-is refl)

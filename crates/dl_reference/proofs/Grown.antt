@@ -11,20 +11,20 @@ use Rattle.std.specs.Option.{option_or}
 use Rattle.dl_desk.specs.declared.reply.End.{End}
 use Rattle.dl_desk.specs.declared.reply.End.TheVariants.{Settled, Failed}
 use Rattle.dl_desk.specs.declared.reply.Job.{Job}
-use Rattle.dl_reference.specs.History.{told, ended_by, history_onto, history_of}
+use Rattle.dl_reference.specs.History.{desk_atom, ended_by, history_onto, history_of}
 
-pub history_onto-push : (before : List desk.Atom) (atoms : List Atom) (a : Atom) → history_onto before (atoms ++ a ∷ []) ≡ told a ∷ history_onto before atoms
+pub history_onto-push : (before : List desk.Atom) (atoms : List Atom) (a : Atom) → history_onto before (atoms ++ a ∷ []) ≡ desk_atom a ∷ history_onto before atoms
 history_onto-push before [] a = refl
-history_onto-push before (x ∷ atoms) a = history_onto-push (told x ∷ before) atoms a
+history_onto-push before (x ∷ atoms) a = history_onto-push (desk_atom x ∷ before) atoms a
 
-pub history_of-push : (atoms : List Atom) (a : Atom) → history_of (atoms ++ a ∷ []) ≡ told a ∷ history_of atoms
+pub history_of-push : (atoms : List Atom) (a : Atom) → history_of (atoms ++ a ∷ []) ≡ desk_atom a ∷ history_of atoms
 history_of-push atoms a = history_onto-push [] atoms a
 
 -- one more of the first atoms
 pub history_more : (atoms : List Atom) (i : ℕ) (a : Atom) → i < length atoms → a ≡ get_or atoms i a
-    → history_of (take (i + 1) atoms) ≡ told a ∷ history_of (take i atoms)
+    → history_of (take (i + 1) atoms) ≡ desk_atom a ∷ history_of (take i atoms)
 history_more atoms i a within is = ap history_of (take_more atoms i a within) ∙ history_of-push (take i atoms) (get_or atoms i a)
-    ∙ ap (λ x. told x ∷ history_of (take i atoms)) (sym is)
+    ∙ ap (λ x. desk_atom x ∷ history_of (take i atoms)) (sym is)
 
 -- an atom that begins nothing
 pub none_begins : (r : Option Begun) (a : desk.Atom) → option_map begun_of r ≡ desk.begins a → ((g : Begun) → r ≡ Some g → ⊥) → desk.begins a ≡ None
@@ -37,7 +37,7 @@ none_named None a e never = sym e
 none_named (Some b) a e never = absurd (never b refl)
 
 -- an atom that is no dispatch sends nothing
-pub sent_other : (a : Atom) (before : List desk.Atom) → ((js : Vec Job Global) → a ≡ Dispatch js → ⊥) → desk.sent (told a ∷ before) ≡ desk.sent before
+pub sent_other : (a : Atom) (before : List desk.Atom) → ((js : Vec Job Global) → a ≡ Dispatch js → ⊥) → desk.sent (desk_atom a ∷ before) ≡ desk.sent before
 sent_other (Load k r) before never = refl
 sent_other (Prime k r) before never = refl
 sent_other (Clear k) before never = refl
