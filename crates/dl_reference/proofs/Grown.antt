@@ -13,7 +13,8 @@ use Rattle.dl_desk.specs.declared.reply.End.TheVariants.{Settled, Failed}
 use Rattle.dl_desk.specs.declared.reply.Job.{Job}
 use Rattle.dl_reference.specs.History.{desk_atom, ended_by, history_onto, history_of}
 
-pub history_onto-push : (before : List desk.Atom) (atoms : List Atom) (a : Atom) → history_onto before (atoms ++ a ∷ []) ≡ desk_atom a ∷ history_onto before atoms
+pub history_onto-push : (before : List desk.Atom) (atoms : List Atom) (a : Atom)
+    → history_onto before (atoms ++ a ∷ []) ≡ desk_atom a ∷ history_onto before atoms
 history_onto-push before [] a = refl
 history_onto-push before (x ∷ atoms) a = history_onto-push (desk_atom x ∷ before) atoms a
 
