@@ -7,7 +7,7 @@ use Rattle.serde_json.specs.Data.{Data, unsigned, number, object, no_members, me
 use Rattle.dl_desk.specs.Key.{IsKey}
 use Rattle.dl_documents.proofs.Found.{Spelled, kept, Finds, none_found, found_if, argued, flagged}
 use Rattle.dl_documents.proofs.KeyLaws.{key_is, key_again, keys_tree, keys_is, keys_again}
-use Rattle.dl_documents.specs.Script.{key_tree, one, call_tree, IsCall}
+use Rattle.dl_documents.specs.Script.{key_tree, one, call_tree, IsScriptCall}
 use Rattle.dl_documents.specs.Reading.{key_in, keys_in, number_in, call_named, call_in}
 use Rattle.dl_documents.specs.declared.input.ScriptCall.{ScriptCall}
 use Rattle.dl_documents.specs.declared.input.ScriptCall.TheVariants.{Load, LoadMany, Prime, Clear, ClearAll, Dispatch, Settle, Fail}
@@ -32,31 +32,31 @@ batch_again n h = let e : nat_lt n (2 ^ 32) ≡ true = le-leb (suc n) (2 ^ 32) h
 
 -- ---- calls
 
-named_is : (name : List ℕ) (d : Data) → Finds call_tree IsCall (one name d) (call_named name d)
+named_is : (name : List ℕ) (d : Data) → Finds call_tree IsScriptCall (one name d) (call_named name d)
 named_is name d =
-    found_if call_tree IsCall (one name d) _ _ _
-    (argued key_tree IsKey call_tree IsCall Load (codes "load") name d (key_in d) (key_is d) (λ x. refl) (λ x h. h))
-    (found_if call_tree IsCall (one name d) _ _ _
-    (argued keys_tree (AllByRecursion IsKey) call_tree IsCall LoadMany (codes "loadMany") name d (keys_in d) (keys_is d) (λ x. refl) (λ x h. h))
-    (found_if call_tree IsCall (one name d) _ _ _
-    (argued key_tree IsKey call_tree IsCall Prime (codes "prime") name d (key_in d) (key_is d) (λ x. refl) (λ x h. h))
-    (found_if call_tree IsCall (one name d) _ _ _
-    (argued key_tree IsKey call_tree IsCall Clear (codes "clear") name d (key_in d) (key_is d) (λ x. refl) (λ x h. h))
-    (found_if call_tree IsCall (one name d) _ _ _ (flagged call_tree IsCall ClearAll (codes "clearAll") name d refl tt)
-    (found_if call_tree IsCall (one name d) _ _ _ (flagged call_tree IsCall Dispatch (codes "dispatch") name d refl tt)
-    (found_if call_tree IsCall (one name d) _ _ _
-    (argued batch_tree IsBatch call_tree IsCall Settle (codes "settle") name d (number_in d) (batch_is d) (λ x. refl) (λ x h. h))
-    (found_if call_tree IsCall (one name d) _ _ _
-    (argued batch_tree IsBatch call_tree IsCall Fail (codes "fail") name d (number_in d) (batch_is d) (λ x. refl) (λ x h. h))
-    (none_found call_tree IsCall (one name d)))))))))
+    found_if call_tree IsScriptCall (one name d) _ _ _
+    (argued key_tree IsKey call_tree IsScriptCall Load (codes "load") name d (key_in d) (key_is d) (λ x. refl) (λ x h. h))
+    (found_if call_tree IsScriptCall (one name d) _ _ _
+    (argued keys_tree (AllByRecursion IsKey) call_tree IsScriptCall LoadMany (codes "loadMany") name d (keys_in d) (keys_is d) (λ x. refl) (λ x h. h))
+    (found_if call_tree IsScriptCall (one name d) _ _ _
+    (argued key_tree IsKey call_tree IsScriptCall Prime (codes "prime") name d (key_in d) (key_is d) (λ x. refl) (λ x h. h))
+    (found_if call_tree IsScriptCall (one name d) _ _ _
+    (argued key_tree IsKey call_tree IsScriptCall Clear (codes "clear") name d (key_in d) (key_is d) (λ x. refl) (λ x h. h))
+    (found_if call_tree IsScriptCall (one name d) _ _ _ (flagged call_tree IsScriptCall ClearAll (codes "clearAll") name d refl tt)
+    (found_if call_tree IsScriptCall (one name d) _ _ _ (flagged call_tree IsScriptCall Dispatch (codes "dispatch") name d refl tt)
+    (found_if call_tree IsScriptCall (one name d) _ _ _
+    (argued batch_tree IsBatch call_tree IsScriptCall Settle (codes "settle") name d (number_in d) (batch_is d) (λ x. refl) (λ x h. h))
+    (found_if call_tree IsScriptCall (one name d) _ _ _
+    (argued batch_tree IsBatch call_tree IsScriptCall Fail (codes "fail") name d (number_in d) (batch_is d) (λ x. refl) (λ x h. h))
+    (none_found call_tree IsScriptCall (one name d)))))))))
 
 -- the call that is found in a tree is spelled by it
-pub call_is : (d : Data) (c : ScriptCall) → call_in d ≡ Some c → Spelled call_tree IsCall d c
+pub call_is : (d : Data) (c : ScriptCall) → call_in d ≡ Some c → Spelled call_tree IsScriptCall d c
 call_is (object (member name d no_members)) c h = named_is name d c h
 call_is d c h = absurd (none-some c h)
 
 -- and a call is found in its tree
-pub call_again : (c : ScriptCall) → IsCall c → call_in (call_tree c) ≡ Some c
+pub call_again : (c : ScriptCall) → IsScriptCall c → call_in (call_tree c) ≡ Some c
 call_again (Load k) h = ap (option_map Load) (key_again k h)
 call_again (LoadMany ks) h = ap (option_map LoadMany) (keys_again ks h)
 call_again (Prime k) h = ap (option_map Prime) (key_again k h)

@@ -11,7 +11,7 @@ use Rattle.dl_terms.proofs.Options.{from_and_then, from_both}
 use Rattle.dl_documents.proofs.Found.{Spelled, both_true, sized, sized_again, kept, from_zip, two_found}
 use Rattle.dl_documents.specs.Script.{key_tree}
 use Rattle.dl_documents.specs.Terms.{two}
-use Rattle.dl_documents.specs.Reading.{two_in, texts_of, texts_in, keyed, key_in, keys_of, keys_in}
+use Rattle.dl_documents.specs.Reading.{two_in, texts_of, texts_in, keyed, key_in, keys_listed, keys_in}
 
 texts_is : (d : Data) (p : List ℕ × List ℕ) → texts_in d ≡ Some p → d ≡ two (string p.0) (string p.1)
 texts_is d p h =
@@ -43,13 +43,13 @@ key_again k h = rw (sized_again table_bytes k.table h.some_table h.short_table, 
 no_key : (x : Key) (xs : List Key) → [] ≡ x ∷ xs → ⊥
 no_key x xs h = cc
 
-keys_of_is : (ds : Items) (xs : List Key) → keys_of ds ≡ Some xs → (ds ≡ items_of (map key_tree xs)) × AllByRecursion IsKey xs
-keys_of_is no_items [] h = (refl, tt)
-keys_of_is no_items (x ∷ xs) h = let e : [] ≡ x ∷ xs = cc in absurd (no_key x xs e)
-keys_of_is (item d ds) xs h =
-    let p = from_both (key_in d) (keys_of ds) xs h in
+keys_listed_is : (ds : Items) (xs : List Key) → keys_listed ds ≡ Some xs → (ds ≡ items_of (map key_tree xs)) × AllByRecursion IsKey xs
+keys_listed_is no_items [] h = (refl, tt)
+keys_listed_is no_items (x ∷ xs) h = let e : [] ≡ x ∷ xs = cc in absurd (no_key x xs e)
+keys_listed_is (item d ds) xs h =
+    let p = from_both (key_in d) (keys_listed ds) xs h in
     let a = key_is d p.0 p.2 in
-    let b = keys_of_is ds p.1 p.3 in
+    let b = keys_listed_is ds p.1 p.3 in
     rw p.4 (ap (λ x. item x ds) a.tree ∙ ap (item (key_tree p.0)) b.0, (a.is, b.1))
 
 -- a list of keys
@@ -59,8 +59,8 @@ keys_tree ks = array (items_of (map key_tree ks))
 -- the keys that are found in a tree are spelled by it
 pub keys_is : (d : Data) (xs : List Key) → keys_in d ≡ Some xs → Spelled keys_tree (AllByRecursion IsKey) d xs
 keys_is d xs h =
-    let q = from_and_then keys_of (as_array d) xs h in
-    let p = keys_of_is q.0 xs q.2 in
+    let q = from_and_then keys_listed (as_array d) xs h in
+    let p = keys_listed_is q.0 xs q.2 in
     record { tree = array_of d q.0 q.1 ∙ ap array p.0; is = p.1 }
 
 -- and keys are found in their tree

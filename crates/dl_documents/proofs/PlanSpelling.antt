@@ -7,7 +7,7 @@ use Rattle.dl_documents.specs.Document.{SpellsPlans, is_script}
 use Rattle.dl_documents.specs.Faults.{Causes}
 use Rattle.dl_documents.specs.Inside.Read.{HasHead}
 use Rattle.dl_documents.specs.Inside.PlanFiles.{rows_tree, HasPlans, AreRead, AreLow, AreFew, AreRest}
-use Rattle.dl_documents.specs.Steps.{StepTree, step_tree, plans_tree, plan_tree, plan_view, IsStep, IsPlan}
+use Rattle.dl_documents.specs.Steps.{StepTree, step_tree, plans_tree, plan_tree, plan_view, IsPlanStep, IsPlan}
 use Rattle.dl_documents.specs.declared.fault.PlanFault.{PlanFault}
 use Rattle.dl_documents.specs.declared.input.PlanFile.{PlanFile}
 use Rattle.dl_documents.specs.declared.limits.Numbers.{Numbers}
@@ -20,12 +20,12 @@ plans_rows : (plans : List (List StepTree)) → rows_tree (map (map step_tree) p
 plans_rows [] = refl
 plans_rows (plan ∷ plans) = ap (item (plan_tree plan)) (plans_rows plans)
 
-all_plans : (plans : List (List StepTree)) → AllByRecursion (AllByRecursion IsStep) plans → AllByRecursion AreLow plans → AllByRecursion AreFew plans
+all_plans : (plans : List (List StepTree)) → AllByRecursion (AllByRecursion IsPlanStep) plans → AllByRecursion AreLow plans → AllByRecursion AreFew plans
     → AllByRecursion IsPlan plans
 all_plans [] steps low few = tt
 all_plans (plan ∷ plans) steps low few = (record { steps = steps.0; low = low.0; few = few.0 }, all_plans plans steps.1 low.1 few.1)
 
-plans_steps : (plans : List (List StepTree)) → AllByRecursion IsPlan plans → AllByRecursion (AllByRecursion IsStep) plans
+plans_steps : (plans : List (List StepTree)) → AllByRecursion IsPlan plans → AllByRecursion (AllByRecursion IsPlanStep) plans
 plans_steps [] all = tt
 plans_steps (plan ∷ plans) all = (all.0.steps, plans_steps plans all.1)
 

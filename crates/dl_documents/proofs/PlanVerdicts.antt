@@ -19,7 +19,7 @@ use Rattle.dl_documents.specs.Inside.Places.{IsFirst, IsFirstIn}
 use Rattle.dl_documents.specs.Inside.Read.{HasHead}
 use Rattle.dl_documents.specs.Inside.PlanFiles.{row_tree, rows_tree, HasPlans, AreRead, IsHigh, AreLow, AreFew, AreMany, Fit, IsFirstBadStep}
 use Rattle.dl_documents.specs.Inside.PlanFiles.{IsRefusal}
-use Rattle.dl_documents.specs.Steps.{StepTree, eval, step_tree, IsStep, IsLow, most_steps}
+use Rattle.dl_documents.specs.Steps.{StepTree, eval, step_tree, IsPlanStep, IsLow, most_steps}
 use Rattle.dl_documents.specs.declared.fault.PlanFault.{PlanFault}
 use Rattle.dl_documents.specs.declared.fault.PlanFault.TheVariants.{Shape, TooDeep, TooManySteps, Table}
 use Rattle.dl_documents.specs.declared.limits.Numbers.{Numbers}
@@ -119,22 +119,22 @@ module _ (d : Data) (n : Numbers) (rows : List (List Data)) (tree : Data) (kind 
 
   module _ (plans : List (List StepTree)) (read : AreRead rows plans) where
     plan_of : (m : ℕ) (row : List Data) → slice_get rows m ≡ Some row
-        → (plan : List StepTree) × (slice_get plans m ≡ Some plan) × (row ≡ map step_tree plan) × AllByRecursion IsStep plan
+        → (plan : List StepTree) × (slice_get plans m ≡ Some plan) × (row ≡ map step_tree plan) × AllByRecursion IsPlanStep plan
     plan_of m row there =
         let p = from_item (map step_tree) plans m row (ap (λ (xs : List (List Data)). slice_get xs m) (sym read.trees) ∙ there) in
-        (p.0, p.1, p.2, all_at (AllByRecursion IsStep) plans m p.0 read.steps p.1)
+        (p.0, p.1, p.2, all_at (AllByRecursion IsPlanStep) plans m p.0 read.steps p.1)
 
     row_of_plan : (m : ℕ) (plan : List StepTree) → slice_get plans m ≡ Some plan → slice_get rows m ≡ Some (map step_tree plan)
     row_of_plan m plan there = ap (λ (xs : List (List Data)). slice_get xs m) read.trees ∙ item_made (map step_tree) plans m plan there
 
     -- a tree at a place is that of the step there
     read_step : (m s : ℕ) (step : Data) → IsStepAt d m s step
-        → (plan : List StepTree) × (y : StepTree) × (slice_get plans m ≡ Some plan) × (slice_get plan s ≡ Some y) × (step ≡ step_tree y) × IsStep y
+        → (plan : List StepTree) × (y : StepTree) × (slice_get plans m ≡ Some plan) × (slice_get plan s ≡ Some y) × (step ≡ step_tree y) × IsPlanStep y
     read_step m s step h =
         let p = step_of m s step h in
         let q = plan_of m p.0 p.1 in
         let r = from_item step_tree q.0 s step (ap (λ (xs : List Data). slice_get xs s) (sym q.2) ∙ p.2) in
-        (q.0, r.0, q.1, r.1, r.2, all_at IsStep q.0 s r.0 q.3 r.1)
+        (q.0, r.0, q.1, r.1, r.2, all_at IsPlanStep q.0 s r.0 q.3 r.1)
 
     steps_pass : (m s : ℕ) → IsBadStep d m s → ⊥
     steps_pass m s h = let p = read_step m s h.0 h.1 in h.2 p.1 p.5 p.4
@@ -145,7 +145,7 @@ module _ (d : Data) (n : Numbers) (rows : List (List Data)) (tree : Data) (kind 
     -- ---- heights
 
     -- a step has one tree
-    one_step : (x y : StepTree) → IsStep x → IsStep y → step_tree x ≡ step_tree y → x ≡ y
+    one_step : (x y : StepTree) → IsPlanStep x → IsPlanStep y → step_tree x ≡ step_tree y → x ≡ y
     one_step x y a b e = same_Some x y (sym (step_again x a) ∙ (ap step_in e ∙ step_again y b))
 
     high_step : (m s : ℕ) → IsDeepStep d m s
@@ -157,7 +157,7 @@ module _ (d : Data) (n : Numbers) (rows : List (List Data)) (tree : Data) (kind 
 
     deep : (m s : ℕ) (plan : List StepTree) (y : StepTree) → slice_get plans m ≡ Some plan → slice_get plan s ≡ Some y → IsHigh y → IsDeepStep d m s
     deep m s plan (eval t) there item high =
-        let is : IsStep (eval t) = all_at IsStep plan s (eval t) (all_at (AllByRecursion IsStep) plans m plan read.steps there) item in (
+        let is : IsPlanStep (eval t) = all_at IsPlanStep plan s (eval t) (all_at (AllByRecursion IsPlanStep) plans m plan read.steps there) item in (
           step_tree (eval t),
           step_at m s (map step_tree plan) (step_tree (eval t)) (row_of_plan m plan there) (item_made step_tree plan s (eval t) item),
           record { term = t; is = is; spelled = refl; high = high },

@@ -15,7 +15,7 @@ use Rattle.dl_documents.specs.Inside.Places.{IsFirst}
 use Rattle.dl_documents.specs.Inside.Read.{HasHead}
 use Rattle.dl_documents.specs.Inside.Scripts.{AreCalls, IsFirstBadCall}
 use Rattle.dl_documents.specs.Numbers.{AreLimitsOf, IsFirstOutside}
-use Rattle.dl_documents.specs.Script.{call_tree, IsCall}
+use Rattle.dl_documents.specs.Script.{call_tree, IsScriptCall}
 use Rattle.dl_documents.specs.declared.fault.PlanFault.{PlanFault}
 use Rattle.dl_documents.specs.declared.fault.PlanFault.TheVariants.{BadCall, Limit}
 use Rattle.dl_documents.specs.declared.limits.Numbers.{Numbers}
@@ -79,7 +79,7 @@ module _ (d : Data) (n : Numbers) (ds : List Data) (kind : is_script d ≡ true)
   calls_pass cs are m h =
       let p = bad_item m h in
       let q = from_item call_tree cs m p.0 (ap (λ ts. slice_get ts m) (sym are.trees) ∙ p.1) in
-      p.2 q.0 (all_at IsCall cs m q.0 are.calls q.1) q.2
+      p.2 q.0 (all_at IsScriptCall cs m q.0 are.calls q.1) q.2
 
   no_plan : (m : ℕ) (steps : Items) → IsPlanAt d m steps → ⊥
   no_plan m steps h = no_list d true (codes "plans") h.plans kind head.members refl h.list

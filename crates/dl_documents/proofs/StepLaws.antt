@@ -16,7 +16,7 @@ use Rattle.dl_documents.proofs.KeyLaws.{key_is, key_again}
 use Rattle.dl_documents.proofs.TermLaws.{value_is, term_is, term_again}
 use Rattle.dl_documents.specs.Script.{key_tree, one}
 use Rattle.dl_documents.specs.Terms.{two, term_tree, IsWhole, IsTerm}
-use Rattle.dl_documents.specs.Steps.{StepTree, prime, clear, clear_all, eval, outcome_tree, step_tree, IsPrimed, IsStep}
+use Rattle.dl_documents.specs.Steps.{StepTree, prime, clear, clear_all, eval, outcome_tree, step_tree, IsPrimed, IsPlanStep}
 use Rattle.dl_documents.specs.Reading.{two_in, key_in}
 use Rattle.dl_documents.specs.TermReading.{value_in, term_in}
 use Rattle.dl_documents.specs.StepReading.{short, error_in, primed_named, primed_in, primes, step_named, step_in}
@@ -52,7 +52,7 @@ primed_again (BatchFailed fault) h = absurd h
 
 -- ---- steps
 
-prime_is : (d : Data) → Finds step_tree IsStep (one (codes "prime") d) (option_and_then primes (two_in d))
+prime_is : (d : Data) → Finds step_tree IsPlanStep (one (codes "prime") d) (option_and_then primes (two_in d))
 prime_is d s h =
     let a = from_and_then primes (two_in d) s h in
     let items : Data × Data = a.0 in
@@ -64,23 +64,23 @@ prime_is d s h =
     two_found d items a.1 ∙ (ap (λ x. two x items.1) k.tree ∙ ap (two (key_tree b.0.0)) o.tree) in
     rw b.2 (record { tree = ap (one (codes "prime")) spelled; is = (k.is, o.is) })
 
-named_is : (name : List ℕ) (d : Data) → Finds step_tree IsStep (one name d) (step_named name d)
+named_is : (name : List ℕ) (d : Data) → Finds step_tree IsPlanStep (one name d) (step_named name d)
 named_is name d =
-    found_if step_tree IsStep (one name d) _ _ _ (under step_tree IsStep (codes "prime") name d (option_and_then primes (two_in d)) (prime_is d))
-    (found_if step_tree IsStep (one name d) _ _ _
-    (argued key_tree IsKey step_tree IsStep clear (codes "clear") name d (key_in d) (key_is d) (λ x. refl) (λ x h. h))
-    (found_if step_tree IsStep (one name d) _ _ _ (flagged step_tree IsStep clear_all (codes "clearAll") name d refl tt)
-    (found_if step_tree IsStep (one name d) _ _ _
-    (argued term_tree IsTerm step_tree IsStep eval (codes "eval") name d (term_in d) (term_is d) (λ x. refl) (λ x h. h))
-    (none_found step_tree IsStep (one name d)))))
+    found_if step_tree IsPlanStep (one name d) _ _ _ (under step_tree IsPlanStep (codes "prime") name d (option_and_then primes (two_in d)) (prime_is d))
+    (found_if step_tree IsPlanStep (one name d) _ _ _
+    (argued key_tree IsKey step_tree IsPlanStep clear (codes "clear") name d (key_in d) (key_is d) (λ x. refl) (λ x h. h))
+    (found_if step_tree IsPlanStep (one name d) _ _ _ (flagged step_tree IsPlanStep clear_all (codes "clearAll") name d refl tt)
+    (found_if step_tree IsPlanStep (one name d) _ _ _
+    (argued term_tree IsTerm step_tree IsPlanStep eval (codes "eval") name d (term_in d) (term_is d) (λ x. refl) (λ x h. h))
+    (none_found step_tree IsPlanStep (one name d)))))
 
 -- the step that is found in a tree is spelled by it
-pub step_is : (d : Data) (s : StepTree) → step_in d ≡ Some s → Spelled step_tree IsStep d s
+pub step_is : (d : Data) (s : StepTree) → step_in d ≡ Some s → Spelled step_tree IsPlanStep d s
 step_is (object (member name d no_members)) s h = named_is name d s h
 step_is d s h = absurd (none-some s h)
 
 -- and a step is found in its tree
-pub step_again : (s : StepTree) → IsStep s → step_in (step_tree s) ≡ Some s
+pub step_again : (s : StepTree) → IsPlanStep s → step_in (step_tree s) ≡ Some s
 step_again (prime k o) h = rw (key_again k h.0, primed_again o h.1) refl
 step_again (clear k) h = ap (option_map clear) (key_again k h)
 step_again clear_all h = refl

@@ -11,7 +11,7 @@ use Rattle.dl_source.specs.Listing.{NamedTables}
 use Rattle.dl_source.specs.Spelling.{Spells as SpellsTables, has_only}
 use Rattle.dl_source.specs.declared.fault.TableFault.{TableFault}
 use Rattle.dl_terms.specs.Plans.{ArePlans}
-use Rattle.dl_documents.specs.Script.{IsCall, calls_tree}
+use Rattle.dl_documents.specs.Script.{IsScriptCall, calls_tree}
 use Rattle.dl_documents.specs.Steps.{IsPlan, plan_view, plans_tree}
 use Rattle.dl_documents.specs.declared.input.Input.{Input}
 use Rattle.dl_documents.specs.declared.input.Input.TheVariants as input
@@ -104,7 +104,7 @@ pub record SpellsScript (d : Data) (s : Script) : Type 0 where
   pub version : IsFirstVersion d
   pub members : has_only_known d ≡ true
   pub list : items_at (codes "calls") d ≡ Some (calls_tree s.calls)
-  pub calls : AllByRecursion IsCall s.calls
+  pub calls : AllByRecursion IsScriptCall s.calls
   pub limits : GivesLimits d s.limits
 
 -- the tree spells the plan file

@@ -10,8 +10,8 @@ use Rattle.dl_source.specs.Faults as table
 use Rattle.dl_source.specs.declared.fault.TableFault.{TableFault}
 use Rattle.dl_terms.specs.Plans.{ArePlans}
 use Rattle.dl_terms.specs.Tree.{Tree, height_of}
-use Rattle.dl_documents.specs.Script.{call_tree, IsCall}
-use Rattle.dl_documents.specs.Steps.{StepTree, eval, step_tree, IsStep, most_height, most_steps}
+use Rattle.dl_documents.specs.Script.{call_tree, IsScriptCall}
+use Rattle.dl_documents.specs.Steps.{StepTree, eval, step_tree, IsPlanStep, most_height, most_steps}
 use Rattle.dl_documents.specs.Document.{IsTextOf, IsFirstVersion, has_only_known, is_script, items_at, list_name, number_at}
 use Rattle.dl_documents.specs.declared.fault.PlanFault.{PlanFault}
 use Rattle.dl_documents.specs.declared.fault.PlanFault.TheVariants.{TooLarge, NotJson, Version, Top, BadCall}
@@ -41,7 +41,7 @@ pub data IsBadTop (d : Data) : Type 0 where
 
 -- the tree spells no call
 abbrev pub IsNoCall : Data → Type 0
-IsNoCall d = (c : ScriptCall) → IsCall c → d ≡ call_tree c → ⊥
+IsNoCall d = (c : ScriptCall) → IsScriptCall c → d ≡ call_tree c → ⊥
 
 -- item n of the list is no call
 pub record IsBadAt (ds : Items) (n : ℕ) : Type 0 where
@@ -71,12 +71,12 @@ pub record IsStepAt (d : Data) (n s : ℕ) (step : Data) : Type 0 where
 
 -- the tree spells no step
 abbrev pub IsNoStep : Data → Type 0
-IsNoStep d = (s : StepTree) → IsStep s → d ≡ step_tree s → ⊥
+IsNoStep d = (s : StepTree) → IsPlanStep s → d ≡ step_tree s → ⊥
 
 -- the tree spells a step whose term is too high
 pub record IsTooDeep (d : Data) : Type 0 where
   pub term : Tree
-  pub is : IsStep (eval term)
+  pub is : IsPlanStep (eval term)
   pub spelled : d ≡ step_tree (eval term)
   pub high : most_height < height_of term
 

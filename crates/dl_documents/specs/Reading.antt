@@ -58,24 +58,24 @@ keyed p = if is_sized table_bytes p.0 && is_sized id_bytes p.1 then Some (record
 abbrev pub key_in : Data → Option Key
 key_in d = option_and_then keyed (texts_in d)
 
-abbrev pub keys_of : Items → Option (List Key)
-keys_of no_items = Some []
-keys_of (item d ds) = both (key_in d) (keys_of ds)
+abbrev pub keys_listed : Items → Option (List Key)
+keys_listed no_items = Some []
+keys_listed (item d ds) = both (key_in d) (keys_listed ds)
 
 -- the keys of a list of keys
 abbrev pub keys_in : Data → Option (List Key)
-keys_in d = option_and_then keys_of (as_array d)
+keys_in d = option_and_then keys_listed (as_array d)
 
 -- whether a tree is `true`
 abbrev pub is_true : Data → Bool
 is_true d = unwrap_or (as_bool d) false
 
-abbrev pub batch_of : ℕ → Option ℕ
-batch_of n = if nat_lt n (2 ^ 32) then Some n else None
+abbrev pub batch_number : ℕ → Option ℕ
+batch_number n = if nat_lt n (2 ^ 32) then Some n else None
 
 -- the number of a batch that a tree spells
 abbrev pub number_in : Data → Option ℕ
-number_in d = option_and_then batch_of (option_and_then as_u64 (as_number d))
+number_in d = option_and_then batch_number (option_and_then as_u64 (as_number d))
 
 -- ---- calls
 

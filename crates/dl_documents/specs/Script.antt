@@ -27,15 +27,15 @@ call_tree (Settle b) = one (codes "settle") (number (unsigned b))
 call_tree (Fail b) = one (codes "fail") (number (unsigned b))
 
 -- a call's keys are keys, and its number is one of a batch, below 2^32
-abbrev pub IsCall : ScriptCall → Type 0
-IsCall (Load k) = IsKey k
-IsCall (LoadMany ks) = AllByRecursion IsKey ks
-IsCall (Prime k) = IsKey k
-IsCall (Clear k) = IsKey k
-IsCall ClearAll = Unit {0}
-IsCall Dispatch = Unit {0}
-IsCall (Settle b) = b < 2 ^ 32
-IsCall (Fail b) = b < 2 ^ 32
+abbrev pub IsScriptCall : ScriptCall → Type 0
+IsScriptCall (Load k) = IsKey k
+IsScriptCall (LoadMany ks) = AllByRecursion IsKey ks
+IsScriptCall (Prime k) = IsKey k
+IsScriptCall (Clear k) = IsKey k
+IsScriptCall ClearAll = Unit {0}
+IsScriptCall Dispatch = Unit {0}
+IsScriptCall (Settle b) = b < 2 ^ 32
+IsScriptCall (Fail b) = b < 2 ^ 32
 
 -- the list of calls
 abbrev pub calls_tree : List ScriptCall → Items

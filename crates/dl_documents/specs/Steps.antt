@@ -70,11 +70,11 @@ IsPrimed (KeyError text) = length text ≤ text_bytes
 IsPrimed (BatchFailed fault) = ⊥
 
 -- a step's key is a key, its outcome may be primed, and its term is a term
-abbrev pub IsStep : StepTree → Type 0
-IsStep (prime k o) = IsKey k × IsPrimed o
-IsStep (clear k) = IsKey k
-IsStep clear_all = Unit {0}
-IsStep (eval t) = IsTerm t
+abbrev pub IsPlanStep : StepTree → Type 0
+IsPlanStep (prime k o) = IsKey k × IsPrimed o
+IsPlanStep (clear k) = IsKey k
+IsPlanStep clear_all = Unit {0}
+IsPlanStep (eval t) = IsTerm t
 
 -- ---- plans
 
@@ -95,6 +95,6 @@ IsLow (eval t) = height_of t ≤ most_height
 
 -- the steps of a plan are steps, whose terms aren't too high, and not too many
 pub record IsPlan (plan : List StepTree) : Type 0 where
-  pub steps : AllByRecursion IsStep plan
+  pub steps : AllByRecursion IsPlanStep plan
   pub low : AllByRecursion IsLow plan
   pub few : length plan ≤ most_steps

@@ -19,7 +19,7 @@ use Rattle.dl_terms.proofs.Awaited.{all_firsts, inserted_none, waits_unknown}
 use Rattle.dl_terms.proofs.Options.{none_absurd}
 use Rattle.dl_terms.proofs.Settled.{unblocked}
 use Rattle.dl_haxl.specs.Pairs.{paired, all_show, outcomes_shown}
-use Rattle.dl_haxl.specs.Run.{Run, run_at, MeansSame, Learns, NowWants, StillWaits, Pends, Answers, MayAnswer, Waiting, asked_by}
+use Rattle.dl_haxl.specs.Run.{Run, run_at, MeansSame, Learns, NowWants, StillWaits, Pends, Finishes, MayAnswer, Waiting, asked_by}
 use Rattle.dl_haxl.specs.declared.stage.Stage.TheVariants.{Learning, Wanting, Ended}
 use Rattle.dl_haxl.specs.declared.stage.Stage.{Stage}
 use Rattle.dl_haxl.specs.declared.fault.PollFault.TheVariants.{Finished}
@@ -103,16 +103,16 @@ module _ (p q : Pairs) (u v : Tree) (keys next : List Key) (before now : List Ho
   more : KnowsMore (outcome_in p) (outcome_in q)
   more = subst (λ ps. KnowsMore (outcome_in p) (outcome_in ps)) (sym learned) (more_known p (paired keys (outcomes_shown now)))
 
-  answers : (s : Stage) (w : Tree) (a : Answer) → Some a ≡ result_of v → Answers (run_at Learning u p keys before) (run_at s w q next now) a
+  answers : (s : Stage) (w : Tree) (a : Answer) → Some a ≡ result_of v → Finishes (run_at Learning u p keys before) (run_at s w q next now) a
   answers s w a is = record {
     learns = record { shown = shown; learned = learned };
     given = λ t run. given_then (outcome_in p) (outcome_in q) t u v a run more reduces (sym is);
   }
 
   pub then_answers : (first : Stage) → first ≡ Learning → (r : Option Answer) (s : Stage) (w : Tree) → r ≡ result_of v
-      → IfSome r (Answers (run_at first u p keys before) (run_at s w q next now))
+      → IfSome r (Finishes (run_at first u p keys before) (run_at s w q next now))
   then_answers first learning None s w is = tt
-  then_answers first learning (Some a) s w is = subst (λ x. Answers (run_at x u p keys before) (run_at s w q next now) a) (sym learning) (answers s w a is)
+  then_answers first learning (Some a) s w is = subst (λ x. Finishes (run_at x u p keys before) (run_at s w q next now) a) (sym learning) (answers s w a is)
 
   module _ (added : next ≡ insert_all key_eq [] (waits (outcome_in q) u)) where
     pends : result_of v ≡ None → Pends (run_at Learning u p keys before) (run_at Wanting v q next now)
@@ -172,7 +172,7 @@ may_before old new pends (Ok a) (q, known, is) =
 may_before old new pends (Err fault) may = tt
 
 -- what it answers it may answer
-pub may_answer : (old new : Run) (r : Result Answer PollFault) → IfOk r (Answers old new) → MayAnswer old r
+pub may_answer : (old new : Run) (r : Result Answer PollFault) → IfOk r (Finishes old new) → MayAnswer old r
 may_answer old new (Ok a) answers =
     (outcome_in new.learned, learns_more old new answers.learns, answers.given old.left (itself (outcome_in old.learned) old.left))
 may_answer old new (Err fault) answers = tt

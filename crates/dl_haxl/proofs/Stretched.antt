@@ -20,7 +20,7 @@ use Rattle.dl_terms.specs.Laws.{GivesByDepth}
 use Rattle.dl_terms.specs.Rounds.{Gains, Covers, GainsFrontier, PartOf}
 use Rattle.dl_terms.proofs.Settled.{answered}
 use Rattle.dl_haxl.specs.Pairs.{AllLater, all_show, outcomes_shown, paired, with_shown}
-use Rattle.dl_haxl.specs.Run.{Run, IsRunOf, Answers, Learns, NowWants, Pends, asked_by}
+use Rattle.dl_haxl.specs.Run.{Run, IsRunOf, Finishes, Learns, NowWants, Pends, asked_by}
 use Rattle.dl_haxl.specs.Stretch.{AddsAndSends, Round, LastRound, Rounds, Evaluates, SentMore}
 use Rattle.dl_haxl.proofs.Explored.{more_known}
 
@@ -159,7 +159,7 @@ module _ (JobsEnd : List Job → List Job → List Line → Type 0) (caller : �
   -- the answer of the run is that of the evaluation
   pub run_ends : (n : ℕ) (old now : Part) (first next : List Job) (before after : Run) (a : Answer)
       → AddsAndSends old now first next (λ lines sent. Rounds JobsEnd caller t n lines (with_supplied before) sent)
-      → all_show before.tickets ≡ true → AllLater before.tickets after.tickets → Answers before after a → IsRunOf t before
+      → all_show before.tickets ≡ true → AllLater before.tickets after.tickets → Finishes before after a → IsRunOf t before
       → AddsAndSends old now first next (λ lines sent. Evaluates JobsEnd caller t lines a n sent)
   run_ends n old now first next before after a (sent, jobs, added) shown later answers run =
       let learned : after.learned ≡ with_supplied before = learned_now before after shown later answers.learns in

@@ -76,7 +76,7 @@ pub record NowWants (old new : Run) : Type 0 where
   pub all : (t : Tree) → IsRunOf t old → wanted_by new ≡ frontier t new.learned
 
 -- the answer is the term's, with what was learned
-pub record Answers (old new : Run) (a : Answer) : Type 0 where
+pub record Finishes (old new : Run) (a : Answer) : Type 0 where
   pub learns : Learns old new
   pub given : (t : Tree) → IsRunOf t old → gives t new.learned a
 

@@ -46,7 +46,7 @@ impl<'l, L: LoaderName> TermRun<'l, L> {
     ghost use Rattle.dl_terms.specs.View.{term_view};
     ghost use Rattle.dl_haxl.specs.Future.{end_after};
     ghost use Rattle.dl_haxl.specs.Pairs.{AllLater};
-    ghost use Rattle.dl_haxl.specs.Run.{Answers, IsRunOf, Pends, asked_by, ended_by, wanted_by};
+    ghost use Rattle.dl_haxl.specs.Run.{Finishes, IsRunOf, Pends, asked_by, ended_by, wanted_by};
     ghost use Rattle.dl_haxl.specs.Seen.{seen};
     ghost use Rattle.dl_haxl.specs.declared.fault.PollFault.TheVariants.{Finished, OutOfMemory};
     ghost use Rattle.dl_haxl.specs.declared.stage.Stage.TheVariants.{Ended};
@@ -110,7 +110,7 @@ impl<'l, L: LoaderName> TermRun<'l, L> {
         ensures after { IfReady result (λ r. ended_by (seen self.new) ≡ Some (end_after r)) }
         ensures fault { ended_by (seen self.old) ≡ None → IfReady result (λ r. IfErr r (λ fault. fault ≡ OutOfMemory)) }
         ensures tickets { AllLater (seen self.old).tickets (seen self.new).tickets }
-        ensures answer { IfReady result (λ r. IfOk r (Answers (seen self.old) (seen self.new))) }
+        ensures answer { IfReady result (λ r. IfOk r (Finishes (seen self.old) (seen self.new))) }
         ensures waits { OnPending result (Pends (seen self.old) (seen self.new)) }
     {
         match self.stage {
@@ -129,7 +129,7 @@ impl<'l, L: LoaderName> TermRun<'l, L> {
     fn explore(&mut self) -> Result<Option<Answer>, AllocError>
         requires learning { self.old.stage ≡ Learning }
         ensures tickets { AllLater (seen self.old).tickets (seen self.new).tickets }
-        ensures answer { IfOk result (λ r. IfSome r (Answers (seen self.old) (seen self.new))) }
+        ensures answer { IfOk result (λ r. IfSome r (Finishes (seen self.old) (seen self.new))) }
         ensures finished { IfOk result (λ r. OnSome r (self.new.stage ≡ Ended Finished)) }
         ensures waits { IfOk result (λ r. IfNone r (Pends (seen self.old) (seen self.new))) }
         ensures failed { OnErr result (self.new.stage ≡ Ended OutOfMemory) }
@@ -179,7 +179,7 @@ impl<L: LoaderName> Future for TermRun<'_, L> {
     ghost use Rattle.futures.specs.declared.task.Poll.TheVariants as poll;
     ghost use Rattle.dl_haxl.specs.Future.{end_after};
     ghost use Rattle.dl_haxl.specs.Pairs.{AllLater};
-    ghost use Rattle.dl_haxl.specs.Run.{Answers, MayAnswer, Pends, ended_by};
+    ghost use Rattle.dl_haxl.specs.Run.{Finishes, MayAnswer, Pends, ended_by};
     ghost use Rattle.dl_haxl.specs.Seen.{seen};
     ghost use Rattle.dl_haxl.specs.declared.fault.PollFault.TheVariants.{OutOfMemory};
 
@@ -202,7 +202,7 @@ impl<L: LoaderName> Future for TermRun<'_, L> {
         ensures after { IfReady result (λ r. ended_by (seen self.new) ≡ Some (end_after r)) }
         ensures fault { ended_by (seen self.old) ≡ None → IfReady result (λ r. IfErr r (λ fault. fault ≡ OutOfMemory)) }
         ensures tickets { AllLater (seen self.old).tickets (seen self.new).tickets }
-        ensures answer { IfReady result (λ r. IfOk r (Answers (seen self.old) (seen self.new))) }
+        ensures answer { IfReady result (λ r. IfOk r (Finishes (seen self.old) (seen self.new))) }
         ensures waits { OnPending result (Pends (seen self.old) (seen self.new)) }
     {
         match self.advance() {

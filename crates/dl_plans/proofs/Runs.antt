@@ -13,7 +13,7 @@ use Rattle.dl_documents.specs.declared.fault.PlanFault.TheVariants.{TooLarge, No
 use Rattle.dl_documents.specs.declared.fault.PlanFault.TheVariants.{Table, Limit, OutOfMemory}
 use Rattle.dl_documents.specs.declared.input.Input.{Input}
 use Rattle.dl_documents.specs.declared.input.Input.TheVariants as input
-use Rattle.dl_plans.specs.Run.{Answers, AppendsFront, IsDocument, IsRefused, Writes, WritesFront}
+use Rattle.dl_plans.specs.Run.{IsOutput, AppendsFront, IsDocument, IsRefused, Writes, WritesFront}
 use Rattle.dl_plans.specs.declared.fault.RunError.{RunError}
 use Rattle.dl_plans.specs.declared.fault.RunError.TheVariants as error
 use Rattle.dl_plans.specs.declared.program.TheConstants.{MOST_READ}
@@ -26,24 +26,24 @@ all_read bytes h = take_all MOST_READ bytes (omega (arith, length-take {A = ℕ}
 document_all : (bytes : List ℕ) (i : Input) → IsDocument (take MOST_READ bytes) i → IsDocument bytes i
 document_all bytes i d = rw (all_read bytes d.small) at d
 
-answers_all : (options : Options) (bytes text : List ℕ) → Answers options (take MOST_READ bytes) text → Answers options bytes text
-answers_all options bytes text a = (a.0, document_all bytes a.0 a.1, a.2)
+output_all : (options : Options) (bytes text : List ℕ) → IsOutput options (take MOST_READ bytes) text → IsOutput options bytes text
+output_all options bytes text a = (a.0, document_all bytes a.0 a.1, a.2)
 
 pub run_writes : (options : Options) (held : Option (List ℕ)) (read text : List ℕ) (old new : Option (List ℕ))
-    → IfSome held (λ bytes. read ≡ take MOST_READ bytes) → Answers options read text → Appends old new text → IfSome held (Writes options old new)
+    → IfSome held (λ bytes. read ≡ take MOST_READ bytes) → IsOutput options read text → Appends old new text → IfSome held (Writes options old new)
 run_writes options None read text old new is a written = tt
 run_writes options (Some bytes) read text old new is a written =
-    record { text = text; answers = answers_all options bytes text (rw is at a); written = written }
+    record { text = text; output = output_all options bytes text (rw is at a); written = written }
 
 pub run_writes_front : (options : Options) (held : Option (List ℕ)) (read text : List ℕ) (old new : Option (List ℕ))
-    → IfSome held (λ bytes. read ≡ take MOST_READ bytes) → Answers options read text → AppendsFront old new text → IfSome held (WritesFront options old new)
+    → IfSome held (λ bytes. read ≡ take MOST_READ bytes) → IsOutput options read text → AppendsFront old new text → IfSome held (WritesFront options old new)
 run_writes_front options None read text old new is a written = tt
 run_writes_front options (Some bytes) read text old new is a written =
-    record { text = text; answers = answers_all options bytes text (rw is at a); written = written }
+    record { text = text; output = output_all options bytes text (rw is at a); written = written }
 
 -- the same of a write that may have failed
 pub run_ok : (options : Options) (written : Result (Unit {0}) RunError) (held : Option (List ℕ)) (read text : List ℕ) (old new : Option (List ℕ))
-    → IfSome held (λ bytes. read ≡ take MOST_READ bytes) → Answers options read text → OnOk written (Appends old new text)
+    → IfSome held (λ bytes. read ≡ take MOST_READ bytes) → IsOutput options read text → OnOk written (Appends old new text)
     → OnOk written (IfSome held (Writes options old new))
 run_ok options (Ok u) held read text old new is a h = run_writes options held read text old new is a h
 run_ok options (Err e) held read text old new is a h = tt

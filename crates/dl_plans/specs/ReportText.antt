@@ -10,7 +10,7 @@ use Rattle.dl_desk.specs.declared.reply.End.{End}
 use Rattle.dl_desk.specs.declared.reply.End.TheVariants.{Settled, Failed}
 use Rattle.dl_history.specs.History.{keys_of, log}
 use Rattle.dl_plans.specs.JsonText.{key_text, keys_text, quoted_text}
-use Rattle.dl_plans.specs.Lines.{line}
+use Rattle.dl_plans.specs.Lines.{text_line}
 use Rattle.dl_scope.specs.Report.{Report}
 use Rattle.dl_scope.specs.declared.step_answer.StepAnswer.{StepAnswer}
 use Rattle.dl_terms.specs.declared.answer.Answer.{Answer}
@@ -41,7 +41,7 @@ answer_text (Fault fault) = codes "fault " ++ fault_text fault
 
 -- the line of what a step of the plan answers
 abbrev pub answer_line : ℕ → StepAnswer → List ℕ
-answer_line plan given = line (decimal plan ++ codes " " ++ decimal given.step ++ codes " " ++ answer_text given.answer)
+answer_line plan given = text_line (decimal plan ++ codes " " ++ decimal given.step ++ codes " " ++ answer_text given.answer)
 
 -- the lines of the answers of plans, the first of which has this number
 abbrev pub answers_text : ℕ → List (List StepAnswer) → List ℕ
@@ -57,7 +57,7 @@ end_text None = []
 
 -- the line of a batch with these keys, which ended so
 abbrev pub batch_line : ℕ → List Key → Option End → List ℕ
-batch_line b keys end = line (codes "batch " ++ decimal b ++ codes " " ++ keys_text keys ++ codes " " ++ end_text end)
+batch_line b keys end = text_line (codes "batch " ++ decimal b ++ codes " " ++ keys_text keys ++ codes " " ++ end_text end)
 
 -- the lines of so many batches of a history, from the first on
 abbrev pub batch_lines : List Atom → ℕ → List ℕ
@@ -71,7 +71,7 @@ batches_text history = batch_lines history (begun history)
 -- the line of the rounds of the first plan, and those of all batches
 abbrev pub rounds_text : List ℕ → List Atom → List ℕ
 rounds_text [] history = []
-rounds_text (rounds ∷ rest) history = line (codes "rounds " ++ decimal rounds) ++ batches_text history
+rounds_text (rounds ∷ rest) history = text_line (codes "rounds " ++ decimal rounds) ++ batches_text history
 
 -- ---- reports
 

@@ -55,9 +55,9 @@ abbrev pub Outputs : Options → Input → List ℕ → Type 0
 Outputs options (input.Script s) text = text ≡ script_text s
 Outputs options (input.Plans file) text = (r : Report) × Headline (file_service options file) file.plans.items r × (text ≡ report_text r options.batches)
 
--- the text answers the bytes: they are a document's, which gives it
-abbrev pub Answers : Options → List ℕ → List ℕ → Type 0
-Answers options bytes text = (i : Input) × IsDocument bytes i × Outputs options i text
+-- the text is an output for the bytes: they are a document's, which gives it
+abbrev pub IsOutput : Options → List ℕ → List ℕ → Type 0
+IsOutput options bytes text = (i : Input) × IsDocument bytes i × Outputs options i text
 
 -- ---- what is written
 
@@ -67,16 +67,16 @@ pub record AppendsFront (old new : Option (List ℕ)) (text : List ℕ) : Type 0
   pub within : count ≤ length text
   pub written : Appends old new (take count text)
 
--- the writer has gained a text that answers the bytes
+-- the writer has gained an output for the bytes
 pub record Writes (options : Options) (old new : Option (List ℕ)) (bytes : List ℕ) : Type 0 where
   pub text : List ℕ
-  pub answers : Answers options bytes text
+  pub output : IsOutput options bytes text
   pub written : Appends old new text
 
--- the writer has gained a front of a text that answers the bytes
+-- the writer has gained a front of an output for the bytes
 pub record WritesFront (options : Options) (old new : Option (List ℕ)) (bytes : List ℕ) : Type 0 where
   pub text : List ℕ
-  pub answers : Answers options bytes text
+  pub output : IsOutput options bytes text
   pub written : AppendsFront old new text
 
 -- ---- refusals

@@ -1,7 +1,7 @@
 //! Writing the lines of answers.
 
 ghost use Rattle.std.specs.Prelude.{◌≡◌, ◌++◌, IfOk, OnOk, codes, decimal, flat_map, string_bytes};
-ghost use Rattle.dl_plans.specs.Lines.{line};
+ghost use Rattle.dl_plans.specs.Lines.{text_line};
 ghost use Rattle.dl_plans.specs.ReportText.{answer_line, batch_fault_text, fault_text};
 
 use crate::json_text::{key_text, quoted_text};
@@ -47,7 +47,7 @@ fn push_answer(
 
 /// Why a term has no value, to the end of its line.
 fn push_fault(alloc: Global, out: &mut String, fault: &EvalFault) -> Result<(), AllocError>
-    ensures { OnOk result (string_bytes out.new ≡ string_bytes out.old ++ line (codes "fault " ++ fault_text fault.now)) }
+    ensures { OnOk result (string_bytes out.new ≡ string_bytes out.old ++ text_line (codes "fault " ++ fault_text fault.now)) }
 {
     match fault {
         EvalFault::Key { key, text } => {

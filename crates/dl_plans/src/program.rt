@@ -5,7 +5,7 @@ ghost use Rattle.std.specs.Io.KnownBytes.{Appends, Keeps};
 ghost use Rattle.dl_documents.specs.Faults.{most_bytes};
 ghost use Rattle.dl_scope.specs.Faults.{RefusedAs};
 ghost use Rattle.dl_scope.specs.Headline.{Headline};
-ghost use Rattle.dl_plans.specs.Run.{Answers, Writes, WritesFront, AppendsFront, IsRefused, ReadsAtMost, file_service, setup_of};
+ghost use Rattle.dl_plans.specs.Run.{IsOutput, Writes, WritesFront, AppendsFront, IsRefused, ReadsAtMost, file_service, setup_of};
 
 use crate::fault::RunError;
 use crate::report::report_text;
@@ -64,7 +64,7 @@ fn output<T: Threads + Wait + Sync>(
     bytes: &[u8],
     options: Options,
 ) -> Result<String, RunError>
-    ensures ok { IfOk result (λ text. Answers options bytes.now (string_bytes text)) }
+    ensures ok { IfOk result (λ text. IsOutput options bytes.now (string_bytes text)) }
     ensures err { IfErr result (IsRefused options bytes.now) }
     ensures kept { IfErr result (λ e. e ≢ RunError.Write) }
 {

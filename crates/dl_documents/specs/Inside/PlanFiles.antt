@@ -18,7 +18,7 @@ use Rattle.dl_documents.specs.Document.{items_at}
 use Rattle.dl_documents.specs.Faults.{IsNoStep}
 use Rattle.dl_documents.specs.Inside.Places.{IsFirst, IsFirstIn}
 use Rattle.dl_documents.specs.Numbers.{AreLimitsOf, IsFirstOutside}
-use Rattle.dl_documents.specs.Steps.{StepTree, prime, clear, clear_all, eval, step_tree, IsStep, IsLow, most_height, most_steps}
+use Rattle.dl_documents.specs.Steps.{StepTree, prime, clear, clear_all, eval, step_tree, IsPlanStep, IsLow, most_height, most_steps}
 use Rattle.dl_documents.specs.declared.fault.PlanFault.{PlanFault}
 use Rattle.dl_documents.specs.declared.fault.PlanFault.TheVariants.{Shape, TooDeep, TooManySteps, Table, Limit}
 use Rattle.dl_documents.specs.declared.limits.Numbers.{Numbers}
@@ -55,12 +55,12 @@ HasOther ds = (n : ℕ) × (d : Data) × (slice_get ds n ≡ Some d) × (as_arra
 -- the trees spell the steps
 pub record IsPlanOf (ds : List Data) (plan : List StepTree) : Type 0 where
   pub trees : ds ≡ map step_tree plan
-  pub steps : AllByRecursion IsStep plan
+  pub steps : AllByRecursion IsPlanStep plan
 
 -- the lists of trees spell the steps of each plan
 pub record AreRead (rows : List (List Data)) (plans : List (List StepTree)) : Type 0 where
   pub trees : rows ≡ map (map step_tree) plans
-  pub steps : AllByRecursion (AllByRecursion IsStep) plans
+  pub steps : AllByRecursion (AllByRecursion IsPlanStep) plans
 
 -- the fault names the first tree of a plan that spells no step
 pub record IsFirstBadIn (plan : ℕ) (ds : List Data) (f : PlanFault) : Type 0 where

@@ -2,7 +2,7 @@
 use Rattle.std.specs.Prelude.{◌≡◌, ℕ, List, map}
 use Rattle.std.specs.List.{AllByRecursion}
 use Rattle.serde_json.specs.Data.{Data}
-use Rattle.dl_documents.specs.Script.{call_tree, IsCall}
+use Rattle.dl_documents.specs.Script.{call_tree, IsScriptCall}
 use Rattle.dl_documents.specs.Faults.{IsNoCall}
 use Rattle.dl_documents.specs.Inside.Places.{IsFirst}
 use Rattle.dl_documents.specs.declared.fault.PlanFault.{PlanFault}
@@ -12,7 +12,7 @@ use Rattle.dl_documents.specs.declared.input.ScriptCall.{ScriptCall}
 -- the trees spell the calls
 pub record AreCalls (ds : List Data) (cs : List ScriptCall) : Type 0 where
   pub trees : ds ≡ map call_tree cs
-  pub calls : AllByRecursion IsCall cs
+  pub calls : AllByRecursion IsScriptCall cs
 
 -- the fault names the first tree that spells none
 pub record IsFirstBadCall (ds : List Data) (f : PlanFault) : Type 0 where

@@ -3,7 +3,7 @@ use Rattle.dl_history.specs.Entries.{Line}
 use Rattle.dl_desk.specs.declared.reply.Job.{Job}
 use Rattle.dl_loader.proofs.AddedLemmas.{grows_after}
 use Rattle.dl_haxl.specs.Pairs.{all_show, outcomes_shown, paired}
-use Rattle.dl_haxl.specs.Run.{Answers, asked_by, wanted_by}
+use Rattle.dl_haxl.specs.Run.{Finishes, asked_by, wanted_by}
 use Rattle.dl_haxl.specs.Seen.{seen}
 use Rattle.dl_haxl.specs.Stretch.{AddsAndSends, Evaluates, Round, Rounds}
 use Rattle.dl_haxl.proofs.RoundMade.{on_err}
@@ -16,7 +16,7 @@ returns-in-Ready-Ok-clause-evaluates g c = λ t is.
     let first = g.O.Outlet.sent_by c.args.seat.now in
     let next = g.O.Outlet.sent_by c.loop.seat in
     let kept = c.loop.invariant in
-    let given : Answers (seen c.loop.run) (seen c.advance.new.self) c.in-Ready-Ok.answer = rw c.in-Ready-Ok.field-0-is at c.in-Ready-Ok.ensures.answer in
+    let given : Finishes (seen c.loop.run) (seen c.advance.new.self) c.in-Ready-Ok.answer = rw c.in-Ready-Ok.field-0-is at c.in-Ready-Ok.ensures.answer in
     let ends : List Job → List Job → List Line → Type 0 = g.O.Outlet.jobs_end old.caller in
     let evaluated = run_ends ends old.caller t c.loop.rounds old c.loop.pass.part first next (seen c.loop.run) (seen c.advance.new.self)
     c.in-Ready-Ok.answer (kept.stretch t is) kept.shown c.in-Ready-Ok.ensures.tickets given (kept.run t is) in
