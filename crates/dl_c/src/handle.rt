@@ -89,11 +89,18 @@ impl Handle {
         ensures is_open { result.is_open ≡ true }
         ensures desk { result.held.desk ≡ desk.value }
     {
-        Handle {
+        crossing(Handle {
             is_open: true,
             held: Held::hold(BoxParts::of(desk)),
-        }
+        })
     }
+}
+
+/// A value of a type that may cross threads, as a handle is.
+fn crossing<T: Send>(value: T) -> T
+    ensures { result ≡ value }
+{
+    value
 }
 
 /// The desk of a handle, which is closed then. A closed one has none, and stays as it is.

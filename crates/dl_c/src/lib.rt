@@ -15,5 +15,3 @@ mod key_texts;
 mod lives;
 mod many;
 mod seed;
-#[cfg(test)]
-mod tests;
