@@ -29,9 +29,16 @@ pub enum Entry {
 }
 
 /// What one table lists. Contracts see the entries in the order in which they were added.
-#[derive(Drop)]
 pub(crate) struct Table {
     entries: IndexMap<String, Entry, RandomState>,
+}
+
+// Written out: a derived drop is proved anew in each function that lets a table go.
+impl Drop for Table {
+    fn drop(self) {
+        let Table { entries } = self;
+        drop(entries);
+    }
 }
 
 impl Model for Table {
@@ -196,10 +203,12 @@ impl Tables {
     fn new(alloc: Global, hashing: RandomState) -> Result<Tables, AllocError>
         ensures { IfOk result (λ t. t ≡ []) }
     {
+        let no_table = Message::new(alloc, "no table")?;
+        let no_row = Message::new(alloc, "no row")?;
         Ok(Tables {
             tables: IndexMap::with_hasher(alloc, hashing),
-            no_table: Message::new(alloc, "no table")?,
-            no_row: Message::new(alloc, "no row")?,
+            no_table,
+            no_row,
         })
     }
 

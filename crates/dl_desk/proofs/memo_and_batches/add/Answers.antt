@@ -1,5 +1,6 @@
 use Rattle.std.proofs.Common.{◌≡◌, ◌∙◌, ap, ◌<◌, ◌++◌, ◌∷◌, [], inl, inr, length, length-append, map, slice_get, Some, refl, arith}
 use Rattle.std.proofs.lemmas.Option.{slice_get_read}
+use Rattle.std.proofs.lemmas.Result.{IfOk-from_err}
 use Rattle.dl_desk.specs.Stored.{Stored}
 use Rattle.dl_desk.specs.Prepared.{whole, members_of}
 use Rattle.dl_desk.specs.Marks.{MakesRoom}
@@ -40,3 +41,6 @@ returns-clause-added c = λ is. record {
   added = c.push-2.ensures.added is;
   is = refl;
 }
+
+pub returns-in_err-push-clause-is_new : goal.returns-in_err-push-clause-is_new
+returns-in_err-push-clause-is_new c = IfOk-from_err _ _ c.from_residual.ensures.0

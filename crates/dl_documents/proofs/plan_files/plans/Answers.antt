@@ -1,4 +1,5 @@
 use Rattle.std.proofs.Common.{rules, ◌≡◌, ◌∷◌, [], ◌++◌, Err, inl, inr}
+use Rattle.std.proofs.lemmas.Result.{IfOk-from_err}
 use Rattle.dl_documents.proofs.Readings.{plans_more, plans_stop}
 use Rattle.dl_documents.proofs.plan_files.plans.Goals as goal
 
@@ -14,3 +15,9 @@ pub lists-preserved : goal.lists-preserved
 lists-preserved c =
     let pushed : c.push.new.self.items ≡ c.lists.plans.items ++ c.in_ok-plan.plan ∷ [] = search rules in
     rw pushed (plans_more _ _ _ _ c.in_ok-plan.plan c.lists-test.true c.index-lists-index.is c.lists.invariant (search rules))
+
+pub returns-in_err-plan-clause-ok : goal.returns-in_err-plan-clause-ok
+returns-in_err-plan-clause-ok c = IfOk-from_err _ _ c.from_residual.ensures.0
+
+pub returns-in_err-push-clause-ok : goal.returns-in_err-push-clause-ok
+returns-in_err-push-clause-ok c = IfOk-from_err _ _ c.from_residual-in_err-push.ensures.0

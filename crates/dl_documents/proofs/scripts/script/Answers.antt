@@ -1,4 +1,5 @@
 use Rattle.std.proofs.Common.{rules, ◌≡◌, map, codes, Some, Err, inl, inr}
+use Rattle.std.proofs.lemmas.Result.{IfOk-from_err}
 use Rattle.serde_json.specs.View.{view, items_view}
 use Rattle.dl_documents.specs.Document.{items_at}
 use Rattle.dl_documents.specs.Numbers.{IsFirstOutside}
@@ -20,3 +21,6 @@ returns-in-Err-clause-err c =
     let out : IsFirstOutside c.args.numbers c.in-Err.fault = search rules in
     inr (least_script_limit _ c.args.numbers (map view c.in-Some.items.now) c.requires.kind c.requires.head list c.in_ok-calls.calls.items c.in-Err.fault
     (search rules) out)
+
+pub returns-in_err-calls-clause-ok : goal.returns-in_err-calls-clause-ok
+returns-in_err-calls-clause-ok c = IfOk-from_err _ _ c.from_residual.ensures.0

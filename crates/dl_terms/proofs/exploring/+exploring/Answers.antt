@@ -1,6 +1,7 @@
 use Rattle.std.proofs.Common.{◌≡◌, ◌∙◌, ◌<◌, ◌≤◌, ◌+◌, ◌≢◌, length, get_or, set, take, refl, true, ap, sym, subst, arith}
 use Rattle.std.specs.List.{AllZip}
 use Rattle.std.proofs.lemmas.List.{take_all, drop_all, take_more_set, length-set, get_or-set_other}
+use Rattle.std.proofs.lemmas.Result.{IfOk-from_err}
 use Rattle.indexmap.specs.IndexSet.{insert_all}
 use Rattle.dl_desk.specs.Key.{key_eq}
 use Rattle.dl_terms.specs.Gives.{waits, all_wait}
@@ -113,3 +114,21 @@ explore_all-returns-clause-wanted t c =
     let long : length before ≤ c.loop-place.place = omega (arith, c.len-place-end.ensures, c.args.parts.now.ok.0, c.loop-place-test.false) in
     ap (λ ns. insert_all key_eq c.loop-place.wanted.keys (all_wait p (nodes_view ns))) (sym (drop_all c.loop-place.place before long))
     ∙ c.loop-place.invariant.wanted
+
+pub explore-returns-in_err-explore_parts-clause-reduces : goal.explore-returns-in_err-explore_parts-clause-reduces
+explore-returns-in_err-explore_parts-clause-reduces t c = IfOk-from_err _ _ c.from_residual.ensures.0
+
+pub explore-returns-in_err-explore_parts-clause-wanted : goal.explore-returns-in_err-explore_parts-clause-wanted
+explore-returns-in_err-explore_parts-clause-wanted t c = IfOk-from_err _ _ c.from_residual.ensures.0
+
+pub explore-returns-in_err-rewrite-clause-reduces : goal.explore-returns-in_err-rewrite-clause-reduces
+explore-returns-in_err-rewrite-clause-reduces t c = IfOk-from_err _ _ c.from_residual-in_err-rewrite.ensures.0
+
+pub explore-returns-in_err-rewrite-clause-wanted : goal.explore-returns-in_err-rewrite-clause-wanted
+explore-returns-in_err-rewrite-clause-wanted t c = IfOk-from_err _ _ c.from_residual-in_err-rewrite.ensures.0
+
+pub explore_all-returns-in_err-explore-clause-reduce : goal.explore_all-returns-in_err-explore-clause-reduce
+explore_all-returns-in_err-explore-clause-reduce t c = IfOk-from_err _ _ c.from_residual.ensures.0
+
+pub explore_all-returns-in_err-explore-clause-wanted : goal.explore_all-returns-in_err-explore-clause-wanted
+explore_all-returns-in_err-explore-clause-wanted t c = IfOk-from_err _ _ c.from_residual.ensures.0

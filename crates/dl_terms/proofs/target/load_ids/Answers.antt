@@ -1,6 +1,7 @@
 use Rattle.std.proofs.Common.{refl, subst}
 use Rattle.std.specs.List.{AllZip}
 use Rattle.std.proofs.lemmas.List.{take_all}
+use Rattle.std.proofs.lemmas.Result.{IfOk-from_err}
 use Rattle.serde_json.specs.View.{view, items_view}
 use Rattle.dl_terms.specs.Gives.{value_target, item_targets, target_waits, each_target_waits}
 use Rattle.dl_terms.specs.Node.{node_view}
@@ -32,3 +33,21 @@ returns-clause-stand c =
     ids_load p table ids c.loop-id.nodes.items
     (subst (λ vs. AllZip (λ v n. LoadsTarget p (value_target table (view v)) (node_view n)) vs c.loop-id.nodes.items)
     (take_all c.loop-id.id-index ids c.loop-id-test.false) c.loop-id.invariant.stand)
+
+pub returns-in_err-nodes-clause-stand : goal.returns-in_err-nodes-clause-stand
+returns-in_err-nodes-clause-stand c = IfOk-from_err _ _ c.from_residual.ensures.0
+
+pub returns-in_err-nodes-clause-wanted : goal.returns-in_err-nodes-clause-wanted
+returns-in_err-nodes-clause-wanted c = IfOk-from_err _ _ c.from_residual.ensures.0
+
+pub returns-in_err-load_id-clause-stand : goal.returns-in_err-load_id-clause-stand
+returns-in_err-load_id-clause-stand c = IfOk-from_err _ _ c.from_residual-in_err-load_id.ensures.0
+
+pub returns-in_err-load_id-clause-wanted : goal.returns-in_err-load_id-clause-wanted
+returns-in_err-load_id-clause-wanted c = IfOk-from_err _ _ c.from_residual-in_err-load_id.ensures.0
+
+pub returns-in_err-push-clause-stand : goal.returns-in_err-push-clause-stand
+returns-in_err-push-clause-stand c = IfOk-from_err _ _ c.from_residual-in_err-push.ensures.0
+
+pub returns-in_err-push-clause-wanted : goal.returns-in_err-push-clause-wanted
+returns-in_err-push-clause-wanted c = IfOk-from_err _ _ c.from_residual-in_err-push.ensures.0

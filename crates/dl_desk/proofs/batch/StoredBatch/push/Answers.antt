@@ -1,6 +1,7 @@
 use Rattle.std.proofs.Common.{◌≡◌, ◌∙◌, sym, Bool, true, false, not, true≢false, refl}
 use Rattle.dl_desk.specs.History.{has_member}
 use Rattle.std.specs.List.{zip}
+use Rattle.std.proofs.lemmas.Result.{IfOk-from_err}
 use Rattle.dl_desk.proofs.Zips.{IsPushed, has_member-zip, pushed_same, pushed_within, pushed_whole, pushed_front}
 use Rattle.dl_desk.proofs.batch.StoredBatch.push.Goals as goal
 
@@ -41,3 +42,9 @@ returns-clause-shown c = rw (← c.self.view_is) (pushed_front (pushed c) _)
 
 pub returns-clause-added : goal.returns-clause-added
 returns-clause-added c = λ added. rw (← c.self.view_is) (pushed_whole (pushed c) _)
+
+pub returns-in_err-reserve-clause-is_new : goal.returns-in_err-reserve-clause-is_new
+returns-in_err-reserve-clause-is_new c = IfOk-from_err _ _ c.from_residual.ensures.0
+
+pub returns-in_err-insert-clause-is_new : goal.returns-in_err-insert-clause-is_new
+returns-in_err-insert-clause-is_new c = IfOk-from_err _ _ c.from_residual-in_err-insert.ensures.0

@@ -1,6 +1,7 @@
 use Rattle.std.proofs.Common.{◌≡◌, ◌∙◌, sym, ap, ◌≤◌, ℕ, length, map, Some, slice_get, refl, arith}
 use Rattle.std.proofs.lemmas.List.{length-map}
 use Rattle.std.proofs.lemmas.Option.{slice_get_read}
+use Rattle.std.proofs.lemmas.Result.{IfOk-from_err}
 use Rattle.dl_desk.specs.Key.{Key}
 use Rattle.dl_desk.specs.BatchBook.{Desk}
 use Rattle.dl_desk.specs.Prepared.{whole, members_at}
@@ -21,3 +22,12 @@ loop-number-preserved c =
     c.in_ok-push.ensures.items
     ∙ book_jobs-more c.args.self.now.prepared c.self.inside.prepared.sent c.loop-number.number _ _ (omega arith) c.loop-number.invariant
     (c.in_ok-keys.ensures ∙ (c.keys.ensures ∙ ap (map (λ (m : Key × ℕ). m.0)) (sym (members c))))
+
+pub returns-in_err-jobs : goal.returns-in_err-jobs
+returns-in_err-jobs c = IfOk-from_err _ _ c.from_residual.ensures.0
+
+pub returns-in_err-keys : goal.returns-in_err-keys
+returns-in_err-keys c = IfOk-from_err _ _ c.from_residual-in_err-keys.ensures.0
+
+pub returns-in_err-push : goal.returns-in_err-push
+returns-in_err-push c = IfOk-from_err _ _ c.from_residual-in_err-push.ensures.0

@@ -1,4 +1,4 @@
-use Rattle.std.proofs.lemmas.Result.{err_from_is_err_and}
+use Rattle.std.proofs.lemmas.Result.{IfOk-from_err, err_from_is_err_and}
 use Rattle.dl_desk.proofs.Loads.{Loaded, loading_at, loading_all, loading_accepted, loading_refused}
 use Rattle.dl_desk.proofs.desk.Desk.prepare_loads.Goals as goal
 
@@ -26,3 +26,30 @@ loop-key-preserved c = rw c.in_ok-push.ensures.items (loading_at c.args.self.now
 pub returns-clause-accepted : goal.returns-clause-accepted
 returns-clause-accepted c = loading_accepted c.args.self.now.book c.loop-key.self c.args.keys.now c.loop-key.replies.items
     (loading_all c.args.self.now.book c.loop-key.self c.args.keys.now c.loop-key.key-index c.loop-key.replies.items c.loop-key-test.false c.loop-key.invariant)
+
+pub returns-in_err-replies-clause-replies : goal.returns-in_err-replies-clause-replies
+returns-in_err-replies-clause-replies c = IfOk-from_err _ _ c.from_residual.ensures.0
+
+pub returns-in_err-replies-clause-stands : goal.returns-in_err-replies-clause-stands
+returns-in_err-replies-clause-stands c = IfOk-from_err _ _ c.from_residual.ensures.0
+
+pub returns-in_err-replies-clause-accepted : goal.returns-in_err-replies-clause-accepted
+returns-in_err-replies-clause-accepted c = IfOk-from_err _ _ c.from_residual.ensures.0
+
+pub returns-in_err-load_step-clause-replies : goal.returns-in_err-load_step-clause-replies
+returns-in_err-load_step-clause-replies c = IfOk-from_err _ _ c.from_residual-in_err-load_step.ensures.0
+
+pub returns-in_err-load_step-clause-stands : goal.returns-in_err-load_step-clause-stands
+returns-in_err-load_step-clause-stands c = IfOk-from_err _ _ c.from_residual-in_err-load_step.ensures.0
+
+pub returns-in_err-load_step-clause-accepted : goal.returns-in_err-load_step-clause-accepted
+returns-in_err-load_step-clause-accepted c = IfOk-from_err _ _ c.from_residual-in_err-load_step.ensures.0
+
+pub returns-in_err-push-clause-replies : goal.returns-in_err-push-clause-replies
+returns-in_err-push-clause-replies c = IfOk-from_err _ _ c.from_residual-in_err-push.ensures.0
+
+pub returns-in_err-push-clause-stands : goal.returns-in_err-push-clause-stands
+returns-in_err-push-clause-stands c = IfOk-from_err _ _ c.from_residual-in_err-push.ensures.0
+
+pub returns-in_err-push-clause-accepted : goal.returns-in_err-push-clause-accepted
+returns-in_err-push-clause-accepted c = IfOk-from_err _ _ c.from_residual-in_err-push.ensures.0

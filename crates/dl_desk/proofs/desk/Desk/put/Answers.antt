@@ -1,5 +1,6 @@
 use Rattle.std.proofs.Common.{◌≡◌, ◌∙◌, ap, sym, Ok, None, Bool, ℕ, List, take, cond, map, slice_get, ◌≤◌, ◌++◌, ◌∷◌, [], length, length-append, refl, arith}
 use Rattle.std.specs.Map.{lookup}
+use Rattle.std.proofs.lemmas.Result.{IfOk-from_err}
 use Rattle.dl_desk.specs.Key.{Key, key_eq}
 use Rattle.dl_desk.specs.History.{has_member}
 use Rattle.dl_desk.specs.BatchBook.{Batch}
@@ -68,3 +69,12 @@ returns-clause-put c = (
     batches = put_batches _ _ _ _ _ _ c.self.inside.batches.items _ c.self.invariant.prepared_book c.in_ok-batch.ensures.added (next c);
   }),
 )
+
+pub returns-in_err-try_copy-clause-put : goal.returns-in_err-try_copy-clause-put
+returns-in_err-try_copy-clause-put c = IfOk-from_err _ _ c.from_residual.ensures.0
+
+pub returns-in_err-held-clause-put : goal.returns-in_err-held-clause-put
+returns-in_err-held-clause-put c = IfOk-from_err _ _ c.from_residual-in_err-held.ensures.0
+
+pub returns-in_err-batch-clause-put : goal.returns-in_err-batch-clause-put
+returns-in_err-batch-clause-put c = IfOk-from_err _ _ c.from_residual-in_err-batch.ensures.0

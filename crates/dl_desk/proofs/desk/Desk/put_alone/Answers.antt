@@ -1,5 +1,6 @@
 use Rattle.std.proofs.Common.{◌≡◌, ◌∙◌, ap, sym, Ok, None, refl}
 use Rattle.std.specs.Map.{lookup}
+use Rattle.std.proofs.lemmas.Result.{IfOk-from_err}
 use Rattle.dl_desk.specs.Key.{key_eq}
 use Rattle.dl_desk.proofs.Prepares.{lookup-noted}
 use Rattle.dl_desk.proofs.desk.Desk.put_alone.Goals as goal
@@ -19,3 +20,9 @@ returns-clause-put c =
         batches = refl;
       }),
     )
+
+pub returns-in_err-try_copy-clause-put : goal.returns-in_err-try_copy-clause-put
+returns-in_err-try_copy-clause-put c = IfOk-from_err _ _ c.from_residual.ensures.0
+
+pub returns-in_err-hold-clause-put : goal.returns-in_err-hold-clause-put
+returns-in_err-hold-clause-put c = IfOk-from_err _ _ c.from_residual-in_err-hold.ensures.0

@@ -1,4 +1,5 @@
 use Rattle.std.proofs.Common.{◌≡◌, false, Ok, take, ◌++◌, ◌∷◌, [], ap, sym, ◌∙◌}
+use Rattle.std.proofs.lemmas.Result.{IfOk-from_err}
 use Rattle.dl_source.specs.Faults.{lists, is_not_whole}
 use Rattle.dl_source.proofs.Repeats.{clashes_first, take_next, any_at, goes_on, was_new, or_right_false}
 use Rattle.dl_source.proofs.tables.Table.copy_of.Goals as goal
@@ -25,3 +26,9 @@ loop-listed-preserved c =
       rest = goes_on es i e lt is _ c.loop-listed.invariant.rest new;
       whole = or_right_false _ _ (sym (any_at es i e lt is (λ x. is_not_whole x.1)) ∙ c.loop-listed.invariant.whole);
     }
+
+pub returns-in_err-entry : goal.returns-in_err-entry
+returns-in_err-entry c = IfOk-from_err _ _ c.from_residual.ensures.0
+
+pub returns-in_err-add : goal.returns-in_err-add
+returns-in_err-add c = IfOk-from_err _ _ c.from_residual-in_err-add.ensures.0

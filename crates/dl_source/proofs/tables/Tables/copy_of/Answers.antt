@@ -1,5 +1,6 @@
 use Rattle.std.proofs.Common.{refl, drop, ◌++◌, ◌∷◌, [], ◌||◌, ◌+◌, ap, sym, ◌∙◌}
 use Rattle.std.specs.List.{list_any}
+use Rattle.std.proofs.lemmas.Result.{IfOk-from_err}
 use Rattle.dl_source.specs.Faults.{lists, repeats, is_not_whole, has_repeated_key}
 use Rattle.dl_source.proofs.Repeats.{clashes_first, clashes_at, take_next, any_at, goes_on, or_left_false, or_right_false}
 use Rattle.dl_source.proofs.tables.Tables.copy_of.Goals as goal
@@ -40,3 +41,9 @@ add_copy-requires-clause-whole c =
     let t = c.table-item.result in
     or_left_false _ _ (sym (any_at ts i t c.loop-table-test.true c.table-item.is (λ x. list_any (λ e. is_not_whole e.1) x.1))
     ∙ c.loop-table.invariant.whole)
+
+pub returns-in_err-tables-clause-ok : goal.returns-in_err-tables-clause-ok
+returns-in_err-tables-clause-ok c = IfOk-from_err _ _ c.from_residual.ensures.0
+
+pub returns-in_err-add_copy-clause-ok : goal.returns-in_err-add_copy-clause-ok
+returns-in_err-add_copy-clause-ok c = IfOk-from_err _ _ c.from_residual-in_err-add_copy.ensures.0
