@@ -36,12 +36,6 @@ fn hashing<R: Abort + RandomSource>(rt: &R) -> RandomState {
     RandomState::new(rt).expect(rt, "no random numbers")
 }
 
-/// Makes the calls and the closes of a row on a loader over the users' tables.
-fn play<R: Abort + RandomSource + Wait>(rt: &R, alloc: Global, row: &Row) {
-    let (users, hashing) = (users(rt, alloc), hashing(rt));
-    play_over(rt, alloc, &users, hashing, row);
-}
-
 /// Makes the calls and the closes of a row on a loader over these tables.
 fn play_over<R: Abort + Wait>(
     rt: &R,
@@ -57,7 +51,7 @@ fn play_over<R: Abort + Wait>(
 }
 
 // The numbers of callers that a loader may have, and those next to them.
-const COUNTS: [(u32, Option<StartFault>); 4] = [
+static COUNTS: [(u32, Option<StartFault>); 4] = [
     (0, Some(StartFault::NoCallers)),
     (1, None),
     (32, None),
@@ -73,9 +67,9 @@ fn numbers_of_callers_out_of_range(rt: HostRuntime) {
 /// Openings of loaders over these tables are refused for their numbers of callers.
 fn open_by_counts(rt: &impl Abort, alloc: Global, users: &Tables, hashing: RandomState) {
     let limits = Limits::new(1, 1, 2).expect(rt, "no limits");
-    for (callers, fault) in COUNTS {
-        let refused = Opening::new(alloc, hashing, users, limits, callers).err();
-        assert_eq!(rt; refused, fault);
+    for (callers, fault) in &COUNTS {
+        let refused = Opening::new(alloc, hashing, users, limits, *callers).err();
+        keys::assert_same(rt, "fault", refused, *fault);
     }
 }
 

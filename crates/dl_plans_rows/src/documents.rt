@@ -1,11 +1,12 @@
 //! Plan files that are none: the fault of each, and of several the first.
 
-use crate::texts::{Parts, refusal, text};
+use crate::texts::{Parts, assert_refusal, text};
 use dl_desk::LimitFault;
 use dl_documents::PlanFault;
 use dl_source::TableFault;
+use std::alloc::Global;
 use std::hash::RandomState;
-use std::test::Fail;
+use std::process::Abort;
 
 /// Documents that are refused, with the fault.
 static REFUSALS: [(&str, PlanFault); 28] = [
@@ -159,22 +160,26 @@ static NO_STEPS: [&str; 51] = [
     r#"{"eval":{"all":[{"all":[{"value":1.5}]}]}}"#,
 ];
 
+/// A plan file whose second plan has this item as its third step is refused for it.
+fn assert_no_step(rt: &impl Abort, alloc: Global, hashing: RandomState, item: &str) {
+    let document = format!(in alloc;
+        "{{\"version\":1,\"tables\":[],\"plans\":[[],[{{\"clearAll\":true}},{{\"clear\":[\"t\",\"a\"]}},{item}]]}}"
+    );
+    let document = document.expect(rt, "no memory");
+    let want = Some(PlanFault::Shape { plan: 1, step: 2 });
+    assert_refusal(rt, alloc, hashing, document.as_bytes(), want, item);
+}
+
 #[test]
-fn other_documents_are_no_plan_files(rt: HostRuntime) -> Result<(), Fail> {
-    let hashing = RandomState::new(&rt)?;
+fn other_documents_are_no_plan_files(rt: HostRuntime) {
+    let hashing = RandomState::new(&rt).expect(&rt, "no random numbers");
     for (document, want) in &REFUSALS {
-        let fault = refusal(rt.alloc(), hashing, document.as_bytes());
-        assert_eq!(rt; fault, Some(*want), "{document}");
+        let bytes = document.as_bytes();
+        assert_refusal(&rt, rt.alloc(), hashing, bytes, Some(*want), document);
     }
-    let want = PlanFault::Shape { plan: 1, step: 2 };
     for item in &NO_STEPS {
-        let document = format!(in rt.alloc();
-            "{{\"version\":1,\"tables\":[],\"plans\":[[],[{{\"clearAll\":true}},{{\"clear\":[\"t\",\"a\"]}},{item}]]}}"
-        )?;
-        let fault = refusal(rt.alloc(), hashing, document.as_bytes());
-        assert_eq!(rt; fault, Some(want), "{item}");
+        assert_no_step(&rt, rt.alloc(), hashing, item);
     }
-    Ok(())
 }
 
 /// A plan file before its one plan, and before the term of its one step.
@@ -490,12 +495,10 @@ static LIMITS: [(&str, Parts, Option<PlanFault>); 33] = [
 ];
 
 #[test]
-fn a_plan_file_has_limits(rt: HostRuntime) -> Result<(), Fail> {
-    let hashing = RandomState::new(&rt)?;
+fn a_plan_file_has_limits(rt: HostRuntime) {
+    let hashing = RandomState::new(&rt).expect(&rt, "no random numbers");
     for (about, parts, want) in &LIMITS {
-        let document = text(rt.alloc(), parts)?;
-        let fault = refusal(rt.alloc(), hashing, document.as_bytes());
-        assert_eq!(rt; fault, *want, "{about}");
+        let document = text(&rt, rt.alloc(), parts);
+        assert_refusal(&rt, rt.alloc(), hashing, document.as_bytes(), *want, about);
     }
-    Ok(())
 }

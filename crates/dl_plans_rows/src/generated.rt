@@ -2,6 +2,7 @@
 
 ghost use Rattle.std.specs.Prelude.{◌<◌};
 
+use crate::comparing::assert_is;
 use crate::lines::lines_of;
 use crate::reference::mixed;
 use crate::scripts::script;
@@ -10,7 +11,6 @@ use dl_plans::run_script;
 use std::alloc::{AllocError, Global};
 use std::hash::RandomState;
 use std::process::Abort;
-use std::test::Fail;
 
 /// Keys of two tables, as a script has them.
 const KEYS: [&str; 5] = [
@@ -98,27 +98,25 @@ impl Numbers {
 }
 
 /// The desk prints of a script what the reference loader prints.
-fn assert_same(
-    rt: &impl Abort,
-    alloc: Global,
-    hashing: RandomState,
-    script: &Script,
-) -> Result<(), AllocError> {
-    let want = lines_of(alloc, &mixed(script.limits), script)?;
-    let text = run_script(alloc, hashing, script)?;
-    assert_eq!(rt; text.as_str(), want.as_str());
-    Ok(())
+fn assert_same(rt: &impl Abort, alloc: Global, hashing: RandomState, script: &Script) {
+    let want = lines_of(alloc, &mixed(script.limits), script).expect(rt, "no memory");
+    let text = run_script(alloc, hashing, script).expect(rt, "no memory");
+    assert_is(rt, &text.as_str(), &want.as_str(), "a script");
+}
+
+/// The script that is made up of the numbers from a seed on.
+fn made_up(rt: &impl Abort, alloc: Global, hashing: RandomState, seed: u64) -> Script {
+    let mut document = String::new(alloc);
+    let written = Numbers { state: seed }.write_script(&mut document);
+    written.expect(rt, "no memory");
+    script(alloc, hashing, document.as_str()).expect(rt, "no script")
 }
 
 #[test]
-fn the_desk_prints_what_the_reference_loader_prints(rt: HostRuntime) -> Result<(), Fail> {
-    let hashing = RandomState::new(&rt)?;
-    let mut document = String::new(rt.alloc());
+fn the_desk_prints_what_the_reference_loader_prints(rt: HostRuntime) {
+    let hashing = RandomState::new(&rt).expect(&rt, "no random numbers");
     for seed in 0..300u64 {
-        document.clear();
-        Numbers { state: seed }.write_script(&mut document)?;
-        let script = script(rt.alloc(), hashing, document.as_str()).expect(&rt, "no script");
-        assert_same(&rt, rt.alloc(), hashing, &script)?;
+        let script = made_up(&rt, rt.alloc(), hashing, seed);
+        assert_same(&rt, rt.alloc(), hashing, &script);
     }
-    Ok(())
 }

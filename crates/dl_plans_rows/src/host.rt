@@ -1,5 +1,6 @@
 //! The program `plans` over a system of the test's own.
 
+use crate::comparing::assert_is;
 use dl_plans::plans;
 use std::alloc::{Allocator, Global};
 use std::cell::Cell;
@@ -160,20 +161,20 @@ impl Host<'_> {
     /// The run has ended with its status, and has used and written what it says.
     fn assert_ended<R: Abort>(&self, rt: &R, status: ExitCode) {
         let about = self.run.about;
-        assert_eq!(rt; status, ExitCode::from(self.run.status), "{about}");
+        assert_is(rt, &status, &ExitCode::from(self.run.status), about);
         let used = Used {
             input: self.input.get(),
             output: self.output.get(),
             error: self.error.get(),
         };
-        assert_eq!(rt; used, self.run.used, "{about}");
+        assert_is(rt, &used, &self.run.used, about);
         if self.run.output.is_some() {
             let is_whole = !self.differs.get() && self.rest.get().is_empty();
             assert!(rt; is_whole, "another output of {about}");
         }
         if self.run.line.is_some() {
             let printed = (self.lines.get(), self.prints.get());
-            assert_eq!(rt; printed, (1, 1), "{about}");
+            assert_is(rt, &printed, &(1, 1), about);
         }
     }
 }

@@ -3,7 +3,10 @@
 use crate::host::{Fails, Run, Used, assert_ends};
 use crate::texts::{Parts, text};
 use dl_fixtures::USERS;
-use std::test::Fail;
+use std::alloc::Global;
+use std::process::Abort;
+use std::sync::Wait;
+use std::thread::Threads;
 
 /// A plan file over the tables of users, and what it gives.
 struct Row {
@@ -165,35 +168,49 @@ static ROWS: [Row; 19] = [
 ];
 
 /// Words of a command line that ask for no batches, and words that do.
-const PLAIN: [&[&str]; 3] = [&[], &["--workers", "1"], &["--workers", "16"]];
+static PLAIN: [&[&str]; 3] = [&[], &["--workers", "1"], &["--workers", "16"]];
 
-const BATCHES: [&[&str]; 3] = [
+static BATCHES: [&[&str]; 3] = [
     &["--batches"],
     &["--batches", "--workers", "1"],
     &["--workers", "16", "--batches"],
 ];
 
-#[test]
-fn a_plan_file_is_answered(rt: HostRuntime) -> Result<(), Fail> {
-    for row in &ROWS {
-        let document = format!(in rt.alloc();
-            "{{\"version\":1,{}\"tables\":{},\"plans\":{}}}",
-            row.limits, USERS, row.plans
-        )?;
-        let all_words = if row.batches { BATCHES } else { PLAIN };
-        for words in all_words {
-            let run = run_of(row.about, words, document.as_str());
-            let run = Run {
-                status: row.status,
-                used: used(row.output, row.line),
-                output: Some(row.output),
-                line: row.line,
-                ..run
-            };
-            assert_ends(&rt, rt.alloc(), run);
-        }
+/// The document of a row.
+fn document_of(rt: &impl Abort, alloc: Global, row: &Row) -> String {
+    let document = format!(in alloc;
+        "{{\"version\":1,{}\"tables\":{},\"plans\":{}}}",
+        row.limits, USERS, row.plans
+    );
+    document.expect(rt, "no memory")
+}
+
+/// By each of the command lines that ask for what the row says, its document gives what the row says.
+fn assert_answered<R: Abort + Threads + Wait + Sync>(
+    rt: &R,
+    alloc: Global,
+    row: &Row,
+    document: &str,
+) {
+    let all_words = if row.batches { &BATCHES } else { &PLAIN };
+    for words in all_words {
+        let run = Run {
+            status: row.status,
+            used: used(row.output, row.line),
+            output: Some(row.output),
+            line: row.line,
+            ..run_of(row.about, words, document)
+        };
+        assert_ends(rt, alloc, run);
     }
-    Ok(())
+}
+
+#[test]
+fn a_plan_file_is_answered(rt: HostRuntime) {
+    for row in &ROWS {
+        let document = document_of(&rt, rt.alloc(), row);
+        assert_answered(&rt, rt.alloc(), row, document.as_str());
+    }
 }
 
 /// A run that reads a document, and prints nothing.
@@ -276,18 +293,16 @@ static FILES: [(&str, Parts, &str); 5] = [
 ];
 
 #[test]
-fn a_file_in_parts_is_answered(rt: HostRuntime) -> Result<(), Fail> {
+fn a_file_in_parts_is_answered(rt: HostRuntime) {
     for (about, parts, output) in &FILES {
-        let document = text(rt.alloc(), parts)?;
-        let run = run_of(about, &[], document.as_str());
+        let document = text(&rt, rt.alloc(), parts);
         let run = Run {
             used: used(output, None),
             output: Some(output),
-            ..run
+            ..run_of(about, &[], document.as_str())
         };
         assert_ends(&rt, rt.alloc(), run);
     }
-    Ok(())
 }
 
 /// Files that are refused, and the line on standard error.
@@ -393,10 +408,9 @@ static REFUSED: [(Parts, &str); 19] = [
 ];
 
 #[test]
-fn a_file_is_refused(rt: HostRuntime) -> Result<(), Fail> {
+fn a_file_is_refused(rt: HostRuntime) {
     for (parts, line) in &REFUSED {
-        let document = text(rt.alloc(), parts)?;
+        let document = text(&rt, rt.alloc(), parts);
         assert_ends(&rt, rt.alloc(), refused(document.as_str(), line));
     }
-    Ok(())
 }

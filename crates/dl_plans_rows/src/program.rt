@@ -1,6 +1,7 @@
 //! `run` over readers and writers, the lines of its failures, and the command line.
 
-use crate::texts::refusal;
+use crate::comparing::assert_is;
+use crate::texts::assert_refusal;
 use dl_desk::LimitFault;
 use dl_documents::PlanFault;
 use dl_haxl::RunFault;
@@ -14,7 +15,6 @@ use std::hash::RandomState;
 use std::io::{self, ErrorKind, Read, Write};
 use std::process::Abort;
 use std::sync::Wait;
-use std::test::Fail;
 use std::thread::Threads;
 
 /// A plan file whose one plan takes two rounds, and the text that it gives with its batches.
@@ -125,45 +125,42 @@ fn assert_run<R: Abort + Threads + Wait + Sync>(
     written: usize,
 ) {
     let ran = run(rt, alloc, hashing, &mut reader, &mut writer, BATCHES);
-    assert_eq!(rt; ran, want);
+    assert_is(rt, &ran, &want, "how it ends");
     assert!(rt; !writer.differs, "another text");
-    assert_eq!(rt; writer.rest.len().saturating_add(written), TEXT.len());
+    let all = writer.rest.len().saturating_add(written);
+    assert_is(rt, &all, &TEXT.len(), "what is written, and what is left");
 }
 
+/// How many reads are good, and how the next one fails.
+static READS: [(usize, ErrorKind); 3] = [
+    (0, ErrorKind::Other),
+    (1, ErrorKind::Interrupted),
+    (2, ErrorKind::Other),
+];
+
 #[test]
-fn a_reader_that_fails_leaves_nothing_written(rt: HostRuntime) -> Result<(), Fail> {
-    let hashing = RandomState::new(&rt)?;
-    for (good_reads, kind) in [
-        (0, ErrorKind::Other),
-        (1, ErrorKind::Interrupted),
-        (2, ErrorKind::Other),
-    ] {
+fn a_reader_that_fails_leaves_nothing_written(rt: HostRuntime) {
+    let hashing = RandomState::new(&rt).expect(&rt, "no random numbers");
+    for (good_reads, kind) in &READS {
         let reader = Drip {
-            good_reads,
-            kind,
+            good_reads: *good_reads,
+            kind: *kind,
             ..whole()
         };
         let writer = writer(usize::MAX, Ends::TakingNothing);
-        assert_run(
-            &rt,
-            rt.alloc(),
-            hashing,
-            reader,
-            writer,
-            Err(RunError::Read),
-            0,
-        );
+        let want = Err(RunError::Read);
+        assert_run(&rt, rt.alloc(), hashing, reader, writer, want, 0);
     }
-    Ok(())
 }
 
 #[test]
-fn a_front_of_a_document_is_refused(rt: HostRuntime) -> Result<(), Fail> {
-    let hashing = RandomState::new(&rt)?;
+fn a_front_of_a_document_is_refused(rt: HostRuntime) {
+    let hashing = RandomState::new(&rt).expect(&rt, "no random numbers");
     let bytes = DOCUMENT.as_bytes();
     for count in 0..bytes.len() {
-        let fault = refusal(rt.alloc(), hashing, &bytes[..count]);
-        assert_eq!(rt; fault, Some(PlanFault::NotJson), "{count} bytes");
+        let (front, want) = (&bytes[..count], Some(PlanFault::NotJson));
+        let about = format_args!("{count} bytes");
+        assert_refusal(&rt, rt.alloc(), hashing, front, want, about);
     }
     let reader = Drip {
         rest: &bytes[1..],
@@ -172,7 +169,6 @@ fn a_front_of_a_document_is_refused(rt: HostRuntime) -> Result<(), Fail> {
     let writer = writer(usize::MAX, Ends::TakingNothing);
     let want = Err(RunError::Refused(PlanFault::NotJson));
     assert_run(&rt, rt.alloc(), hashing, reader, writer, want, 0);
-    Ok(())
 }
 
 /// Spaces that a reader has, how many of them a run leaves, and why it refuses the others.
@@ -183,37 +179,44 @@ static SPACES: [(u64, u64, PlanFault); 3] = [
 ];
 
 #[test]
-fn one_byte_more_than_a_document_is_read(rt: HostRuntime) -> Result<(), Fail> {
-    let hashing = RandomState::new(&rt)?;
+fn one_byte_more_than_a_document_is_read(rt: HostRuntime) {
+    let hashing = RandomState::new(&rt).expect(&rt, "no random numbers");
     for (spaces, left, want) in &SPACES {
         let mut reader = io::repeat(b' ').take(*spaces);
         let mut writer = writer(usize::MAX, Ends::TakingNothing);
         let ran = run(&rt, rt.alloc(), hashing, &mut reader, &mut writer, OPTIONS);
-        assert_eq!(rt; ran, Err(RunError::Refused(*want)));
-        assert_eq!(rt; reader.limit(), *left);
-        assert_eq!(rt; writer.rest.len(), TEXT.len());
+        assert_is(&rt, &ran, &Err(RunError::Refused(*want)), "how it ends");
+        assert_is(&rt, &reader.limit(), left, "the spaces that are left");
+        assert_is(&rt, &writer.rest.len(), &TEXT.len(), "what isn't written");
     }
-    Ok(())
+}
+
+/// A writer fails, or takes nothing more, once it took so many bytes, which are the front of the text.
+fn assert_front<R: Abort + Threads + Wait + Sync>(
+    rt: &R,
+    alloc: Global,
+    hashing: RandomState,
+    room: usize,
+) {
+    let want = Err(RunError::Write);
+    let failing = writer(room, Ends::Failing);
+    assert_run(rt, alloc, hashing, whole(), failing, want, room);
+    let full = writer(room, Ends::TakingNothing);
+    assert_run(rt, alloc, hashing, whole(), full, want, room);
 }
 
 #[test]
-fn a_writer_that_fails_has_a_front(rt: HostRuntime) -> Result<(), Fail> {
-    let hashing = RandomState::new(&rt)?;
-    for room in 0..TEXT.len() {
-        for ends in [Ends::Failing, Ends::TakingNothing] {
-            let writer = writer(room, ends);
-            let want = Err(RunError::Write);
-            assert_run(&rt, rt.alloc(), hashing, whole(), writer, want, room);
-        }
+fn a_writer_that_fails_has_a_front(rt: HostRuntime) {
+    let hashing = RandomState::new(&rt).expect(&rt, "no random numbers");
+    let all = TEXT.len();
+    for room in 0..all {
+        assert_front(&rt, rt.alloc(), hashing, room);
     }
-    for (ends, want) in [
-        (Ends::FailingToFlush, Err(RunError::Write)),
-        (Ends::TakingNothing, Ok(())),
-    ] {
-        let writer = writer(usize::MAX, ends);
-        assert_run(&rt, rt.alloc(), hashing, whole(), writer, want, TEXT.len());
-    }
-    Ok(())
+    let unflushed = writer(usize::MAX, Ends::FailingToFlush);
+    let want = Err(RunError::Write);
+    assert_run(&rt, rt.alloc(), hashing, whole(), unflushed, want, all);
+    let good = writer(usize::MAX, Ends::TakingNothing);
+    assert_run(&rt, rt.alloc(), hashing, whole(), good, Ok(()), all);
 }
 
 // Under `rt try --test --fail-alloc N` each growth is refused in turn. Where that isn't one of `run` the test ends.
@@ -225,7 +228,7 @@ fn a_refused_growth(rt: HostRuntime) {
     let (mut reader, mut writer) = (whole(), writer(usize::MAX, Ends::TakingNothing));
     let ran = run(&rt, rt.alloc(), hashing, &mut reader, &mut writer, BATCHES);
     let left = if ran.is_ok() { 0 } else { TEXT.len() };
-    assert_eq!(rt; writer.rest.len(), left);
+    assert_is(&rt, &writer.rest.len(), &left, "what isn't written");
     assert!(rt; !writer.differs, "another text");
     if let Err(error) = ran {
         assert!(rt; is_for_want_of_memory(error), "a run met {error:?}");
@@ -400,13 +403,18 @@ static LINES: [(RunError, &str, u8); 33] = [
     ),
 ];
 
+/// A failure has this line and this status.
+fn assert_line(rt: &impl Abort, alloc: Global, error: &RunError, line: &str, status: u8) {
+    let shown = format!(in alloc; "{error}").expect(rt, "no memory");
+    assert_is(rt, &shown.as_str(), &line, "the line");
+    assert_is(rt, &error.status(), &status, line);
+}
+
 #[test]
-fn failures_have_lines_and_statuses(rt: HostRuntime) -> Result<(), Fail> {
+fn failures_have_lines_and_statuses(rt: HostRuntime) {
     for (error, line, status) in &LINES {
-        let shown = format!(in rt.alloc(); "{error}")?;
-        assert_eq!(rt; (shown.as_str(), error.status()), (*line, *status));
+        assert_line(&rt, rt.alloc(), error, line, *status);
     }
-    Ok(())
 }
 
 /// Words of a command line, and the options that they are, or the status with which they end the program.
@@ -442,6 +450,7 @@ fn asked(alloc: Global, words: &[&str]) -> Result<Options, i32> {
 #[test]
 fn the_command_line_is_read(rt: HostRuntime) {
     for (words, want) in &WORDS {
-        assert_eq!(rt; asked(rt.alloc(), words), *want);
+        let got = asked(rt.alloc(), words);
+        assert_is(&rt, &got, want, format_args!("{words:?}"));
     }
 }

@@ -1,12 +1,13 @@
 //! Call scripts: the text that a document gives, and the refusals of others.
 
-use crate::texts::refusal;
+use crate::comparing::assert_is;
+use crate::texts::assert_refusal;
 use dl_desk::LimitFault;
 use dl_documents::{Input, PlanFault, Script, read_input};
 use dl_plans::run_script;
-use std::alloc::{AllocError, Global};
+use std::alloc::Global;
 use std::hash::RandomState;
-use std::test::Fail;
+use std::process::Abort;
 
 /// A script whose batches of one key end in any order, and whose keys are then loaded again.
 const ENDS: &str =
@@ -169,25 +170,28 @@ pub(crate) fn script(alloc: Global, hashing: RandomState, document: &str) -> Opt
     }
 }
 
-#[test]
-fn a_script_gives_its_text(rt: HostRuntime) -> Result<(), Fail> {
-    let hashing = RandomState::new(&rt)?;
-    for (about, document, want) in &ROWS {
-        let script = script(rt.alloc(), hashing, document).expect(&rt, "no script");
-        let text = run_script(rt.alloc(), hashing, &script)?;
-        assert_eq!(rt; text.as_str(), *want, "{about}");
-    }
-    Ok(())
+/// The text that the script of a document gives.
+fn text_of(rt: &impl Abort, alloc: Global, hashing: RandomState, document: &str) -> String {
+    let script = script(alloc, hashing, document).expect(rt, "no script");
+    run_script(alloc, hashing, &script).expect(rt, "no memory")
 }
 
 #[test]
-fn other_documents_are_no_scripts(rt: HostRuntime) -> Result<(), Fail> {
-    let hashing = RandomState::new(&rt)?;
-    for (document, want) in &REFUSALS {
-        let fault = refusal(rt.alloc(), hashing, document.as_bytes());
-        assert_eq!(rt; fault, Some(*want), "{document}");
+fn a_script_gives_its_text(rt: HostRuntime) {
+    let hashing = RandomState::new(&rt).expect(&rt, "no random numbers");
+    for (about, document, want) in &ROWS {
+        let text = text_of(&rt, rt.alloc(), hashing, document);
+        assert_is(&rt, &text.as_str(), want, about);
     }
-    Ok(())
+}
+
+#[test]
+fn other_documents_are_no_scripts(rt: HostRuntime) {
+    let hashing = RandomState::new(&rt).expect(&rt, "no random numbers");
+    for (document, want) in &REFUSALS {
+        let bytes = document.as_bytes();
+        assert_refusal(&rt, rt.alloc(), hashing, bytes, Some(*want), document);
+    }
 }
 
 /// Items of a script's list that are no calls: of no name or of two, of none that a script has, and each name with other
@@ -216,17 +220,20 @@ static NO_CALLS: [&str; 21] = [
     r#"{"fail":"0"}"#,
 ];
 
+/// A script that has this item as its second call is refused for it.
+fn assert_no_call(rt: &impl Abort, alloc: Global, hashing: RandomState, item: &str) {
+    let document = format!(in alloc; "{{\"script\":1,\"calls\":[{{\"clearAll\":true}},{item}]}}");
+    let document = document.expect(rt, "no memory");
+    let want = Some(PlanFault::BadCall { call: 1 });
+    assert_refusal(rt, alloc, hashing, document.as_bytes(), want, item);
+}
+
 #[test]
-fn other_calls_are_refused(rt: HostRuntime) -> Result<(), Fail> {
-    let hashing = RandomState::new(&rt)?;
+fn other_calls_are_refused(rt: HostRuntime) {
+    let hashing = RandomState::new(&rt).expect(&rt, "no random numbers");
     for item in &NO_CALLS {
-        let document = format!(in rt.alloc();
-            "{{\"script\":1,\"calls\":[{{\"clearAll\":true}},{item}]}}"
-        )?;
-        let fault = refusal(rt.alloc(), hashing, document.as_bytes());
-        assert_eq!(rt; fault, Some(PlanFault::BadCall { call: 1 }), "{item}");
+        assert_no_call(&rt, rt.alloc(), hashing, item);
     }
-    Ok(())
 }
 
 /// Why a script of one call is refused, where that is no call.
@@ -243,20 +250,21 @@ static LENGTHS: [(usize, usize, Option<PlanFault>); 6] = [
 ];
 
 /// A script that loads a key, whose texts have so many bytes.
-fn load_of(alloc: Global, table: usize, id: usize) -> Result<String, AllocError> {
-    let (table, id) = ("x".repeat(alloc, table)?, "x".repeat(alloc, id)?);
-    format!(in alloc; r#"{{"script":1,"calls":[{{"load":["{table}","{id}"]}}]}}"#)
+fn load_of(rt: &impl Abort, alloc: Global, table: usize, id: usize) -> String {
+    let table = "x".repeat(alloc, table).expect(rt, "no memory");
+    let id = "x".repeat(alloc, id).expect(rt, "no memory");
+    let script = format!(in alloc; r#"{{"script":1,"calls":[{{"load":["{table}","{id}"]}}]}}"#);
+    script.expect(rt, "no memory")
 }
 
 #[test]
-fn a_call_takes_keys_up_to_their_limits(rt: HostRuntime) -> Result<(), Fail> {
-    let hashing = RandomState::new(&rt)?;
+fn a_call_takes_keys_up_to_their_limits(rt: HostRuntime) {
+    let hashing = RandomState::new(&rt).expect(&rt, "no random numbers");
     for (table, id, want) in &LENGTHS {
-        let document = load_of(rt.alloc(), *table, *id)?;
-        let fault = refusal(rt.alloc(), hashing, document.as_bytes());
-        assert_eq!(rt; fault, *want, "a table of {table} bytes, an id of {id}");
+        let document = load_of(&rt, rt.alloc(), *table, *id);
+        let about = format_args!("a table of {table} bytes, an id of {id}");
+        assert_refusal(&rt, rt.alloc(), hashing, document.as_bytes(), *want, about);
     }
-    Ok(())
 }
 
 /// Bytes at the front of a document that is filled up by spaces, and why it is refused where it has as many bytes as it may.
@@ -266,16 +274,26 @@ static FRONTS: [(&[u8], Option<PlanFault>); 3] = [
     (b"\xff", Some(PlanFault::NotJson)),
 ];
 
+/// A document with this front is too large where it has a byte more than it may, and else is refused so.
+fn assert_largest(
+    rt: &impl Abort,
+    alloc: Global,
+    hashing: RandomState,
+    front: &[u8],
+    want: Option<PlanFault>,
+) {
+    let mut bytes = front.to_vec(alloc).expect(rt, "no memory");
+    bytes.resize(1_048_577, b' ').expect(rt, "no memory");
+    let too_large = Some(PlanFault::TooLarge);
+    assert_refusal(rt, alloc, hashing, &bytes, too_large, "a byte too many");
+    bytes.truncate(1_048_576);
+    assert_refusal(rt, alloc, hashing, &bytes, want, "as many bytes as may be");
+}
+
 #[test]
-fn a_document_has_a_most_of_bytes(rt: HostRuntime) -> Result<(), Fail> {
-    let hashing = RandomState::new(&rt)?;
+fn a_document_has_a_most_of_bytes(rt: HostRuntime) {
+    let hashing = RandomState::new(&rt).expect(&rt, "no random numbers");
     for (front, want) in &FRONTS {
-        let mut bytes = front.to_vec(rt.alloc())?;
-        bytes.resize(1_048_577, b' ')?;
-        let fault = refusal(rt.alloc(), hashing, &bytes);
-        assert_eq!(rt; fault, Some(PlanFault::TooLarge));
-        bytes.truncate(1_048_576);
-        assert_eq!(rt; refusal(rt.alloc(), hashing, &bytes), *want);
+        assert_largest(&rt, rt.alloc(), hashing, front, *want);
     }
-    Ok(())
 }

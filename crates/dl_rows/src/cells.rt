@@ -3,6 +3,7 @@ ghost use Rattle.std.specs.Prelude.{◌≡◌, ◌<◌, IfOk};
 ghost use Rattle.std.specs.declared.option.Option.TheVariants.{Some};
 ghost use Rattle.dl_cells.specs.Cells.{row_len, cell_of};
 
+use crate::comparing::assert_is;
 use dl_cells::{CellRow, Reader};
 use std::alloc::{AllocError, Global};
 use std::process::Abort;
@@ -128,74 +129,79 @@ fn assert_answers<'a>(
     shown: &mut Watched<'a>,
     other: &mut Watched<'a>,
     row: &Row,
-) -> Result<(), AllocError> {
+) {
     for (which, call, want) in row.calls {
         let cell = match which {
             Which::Shown => &mut *shown,
             Which::Other => &mut *other,
         };
-        let got = answer(alloc, cell, call)?;
-        assert_eq!(rt; got, *want, "{}", row.about);
+        let got = answer(alloc, cell, call).expect(rt, "no memory");
+        assert_is(rt, &got, want, row.about);
     }
-    Ok(())
 }
 
 /// The calls of a row answer so.
-fn assert_row(
-    rt: &impl Abort,
-    alloc: Global,
-    cells: &CellRow<u8>,
-    row: &Row,
-) -> Result<(), AllocError>
+fn assert_row(rt: &impl Abort, alloc: Global, cells: &CellRow<u8>, row: &Row)
     requires shown { row.now.shown < row_len cells.now }
     requires other { row.now.other < row_len cells.now }
 {
-    let mut shown = Watched::new(cells, row.shown)?;
-    let mut other = Watched::new(cells, row.other)?;
-    assert_answers(rt, alloc, &mut shown, &mut other, row)
+    let mut shown = Watched::new(cells, row.shown).expect(rt, "no memory");
+    let mut other = Watched::new(cells, row.other).expect(rt, "no memory");
+    assert_answers(rt, alloc, &mut shown, &mut other, row);
 }
 
 #[test]
-fn cells_answer(rt: HostRuntime) -> Result<(), Fail> {
+fn cells_answer(rt: HostRuntime) {
     for row in &ROWS {
         assert!(rt; row.shown < row.len && row.other < row.len);
-        let cells = CellRow::new(rt.alloc(), row.len)?;
-        assert_row(&rt, rt.alloc(), &cells, row)?;
+        let cells = CellRow::new(rt.alloc(), row.len).expect(&rt, "no memory");
+        assert_row(&rt, rt.alloc(), &cells, row);
     }
-    Ok(())
 }
 
 /// Shows a copy of the value in a cell. The answer is whether it was set.
 fn show_copy(
+    rt: &impl Abort,
     alloc: Global,
     row: &CellRow<Arc<u8>>,
     place: u32,
     value: &Arc<u8>,
-) -> Result<bool, AllocError>
+) -> bool
     requires { place < row_len row.now }
 {
-    let mut reader = row.reader(place)?;
-    let copy = Box::new(alloc, value.clone()?)?;
-    Ok(row.show(place, &mut reader, copy).is_ok())
+    let mut reader = row.reader(place).expect(rt, "no memory");
+    let copy = value.clone().expect(rt, "no memory");
+    let copy = Box::new(alloc, copy).expect(rt, "no memory");
+    row.show(place, &mut reader, copy).is_ok()
 }
 
-/// Shows copies of the value in a new row: in each cell one, and one that comes back.
-fn show_copies(rt: &impl Abort, alloc: Global, value: &Arc<u8>) -> Result<(), AllocError> {
-    let row = CellRow::new(alloc, 65)?;
-    for (place, is_set) in [(0, true), (0, false), (64, true), (64, false)] {
-        let was_set = show_copy(alloc, &row, place, value)?;
-        assert_eq!(rt; was_set, is_set);
-    }
-    assert_eq!(rt; Arc::strong_count(value), 3);
-    Ok(())
+/// Of two copies of the value that are shown in a cell, the first is set and the second comes back.
+fn assert_set_once(
+    rt: &impl Abort,
+    alloc: Global,
+    row: &CellRow<Arc<u8>>,
+    place: u32,
+    value: &Arc<u8>,
+)
+    requires { place < row_len row.now }
+{
+    assert!(rt; show_copy(rt, alloc, row, place, value));
+    assert!(rt; !show_copy(rt, alloc, row, place, value));
+}
+
+/// Shows copies of the value in a new row: in each of two cells one, and one that comes back.
+fn show_copies(rt: &impl Abort, alloc: Global, value: &Arc<u8>) {
+    let row = CellRow::new(alloc, 65).expect(rt, "no memory");
+    assert_set_once(rt, alloc, &row, 0, value);
+    assert_set_once(rt, alloc, &row, 64, value);
+    assert_is(rt, &Arc::strong_count(value), &3, "two that are shown");
 }
 
 #[test]
-fn each_value_is_dropped_once(rt: HostRuntime) -> Result<(), Fail> {
-    let counted = Arc::new(rt.alloc(), 0u8)?;
-    show_copies(&rt, rt.alloc(), &counted)?;
-    assert_eq!(rt; Arc::strong_count(&counted), 1);
-    Ok(())
+fn each_value_is_dropped_once(rt: HostRuntime) {
+    let counted = Arc::new(rt.alloc(), 0u8).expect(&rt, "no memory");
+    show_copies(&rt, rt.alloc(), &counted);
+    assert_is(&rt, &Arc::strong_count(&counted), &1, "none that is shown");
 }
 
 /// A call that is made again where it is refused.
@@ -222,29 +228,54 @@ fn row_again(alloc: Global) -> Result<CellRow<u8>, AllocError>
     again!(CellRow::new(alloc, 130))
 }
 
+/// A call that shows a value in a cell is made again where it is refused, and the value is seen then.
+fn show_again(rt: &impl Abort, alloc: Global, mut cell: Watched<'_>) -> Result<(), AllocError> {
+    let back = again!(cell.show(alloc, 7))?;
+    assert_is(rt, &back, &None, "what came back");
+    assert_is(rt, &cell.look(), &Some(7), "what is seen");
+    Ok(())
+}
+
+/// Whether there is a reader of a cell.
+fn has_reader(row: &CellRow<u8>, place: u32) -> bool
+    requires { place < row_len row.now }
+{
+    row.reader(place).is_ok()
+}
+
+/// Refused calls on the cells of a row are made again.
+fn use_again(rt: &impl Abort, alloc: Global, row: &CellRow<u8>) -> Result<(), AllocError>
+    requires { row_len row.now ≡ 130 }
+{
+    watched_again(row, 0)?;
+    // The segment of cell 63 was made for cell 0, and that of cell 64 wasn't.
+    assert!(rt; has_reader(row, 63));
+    let cell = watched_again(row, 64)?;
+    show_again(rt, alloc, cell)
+}
+
 /// With ample memory nothing is refused here. Under `rt try --test --fail-alloc N` the N-th growth is,
 /// for each N in turn: the call says so, and the same call made again succeeds.
 #[test]
 fn a_call_refused_memory_can_be_made_again(rt: HostRuntime) -> Result<(), Fail> {
     let row = row_again(rt.alloc())?;
-    let _first = watched_again(&row, 0)?;
-    // The segment of cell 63 was made for cell 0, and that of cell 64 wasn't.
-    assert!(rt; row.reader(63).is_ok());
-    let mut cell = watched_again(&row, 64)?;
-    assert_eq!(rt; again!(cell.show(rt.alloc(), 7))?, None);
-    assert_eq!(rt; cell.look(), Some(7));
+    use_again(&rt, rt.alloc(), &row)?;
     Ok(())
 }
 
 #[test]
-fn threads_look_by_one_shared_reader(rt: HostRuntime) -> Result<(), Fail> {
-    let row = CellRow::new(rt.alloc(), 1)?;
-    let mut cell = Watched::new(&row, 0)?;
-    assert_eq!(rt; cell.show(rt.alloc(), 3)?, None);
-    let cell = &cell;
-    let seen = thread::join(&rt, move || look_again(cell), move || look_again(cell));
-    assert_eq!(rt; seen, (Some(3), Some(3)));
-    Ok(())
+fn threads_look_by_one_shared_reader(rt: HostRuntime) {
+    let row = CellRow::new(rt.alloc(), 1).expect(&rt, "no memory");
+    let mut cell = Watched::new(&row, 0).expect(&rt, "no memory");
+    let back = cell.show(rt.alloc(), 3).expect(&rt, "no memory");
+    assert_is(&rt, &back, &None, "what came back");
+    assert_both_see(&rt, &cell);
+}
+
+/// Two threads that look by a cell's reader see 3.
+fn assert_both_see<R: Abort + Threads + Sync>(rt: &R, cell: &Watched<'_>) {
+    let seen = thread::join(rt, move || look_again(cell), move || look_again(cell));
+    assert_is(rt, &seen, &(Some(3), Some(3)), "what is seen");
 }
 
 /// What a copy of a cell's reader sees.
@@ -282,13 +313,9 @@ fn show_and_look(alloc: Global, row: &CellRow<u8>, value: u8) -> Result<Offer, A
 }
 
 /// Two threads race to set cell 0, one to 5 and one to 6. That both see the same value in the end is proved.
-fn race<R: Threads + Sync>(
-    rt: &R,
-    alloc: Global,
-    row: &CellRow<u8>,
-) -> Result<(Offer, Offer), AllocError>
+fn race<R: Abort + Threads + Sync>(rt: &R, alloc: Global, row: &CellRow<u8>) -> (Offer, Offer)
     requires { 0 < row_len row.now }
-    ensures { IfOk result (λ offers. offers.0.seen ≡ offers.1.seen) }
+    ensures { result.0.seen ≡ result.1.seen }
 {
     let (five, six) = thread::join(
         rt,
@@ -301,30 +328,29 @@ fn race<R: Threads + Sync>(
             ensures { IfOk result (λ offer. offer.reader.cell ≡ cell_of row.entry.now 0) }
         { show_and_look(alloc, row, 6) },
     );
-    let (five, six) = (five?, six?);
+    let five = five.expect(rt, "no memory");
+    let six = six.expect(rt, "no memory");
     five.reader.agree(&six.reader);
-    Ok((five, six))
+    (five, six)
 }
 
 /// One race, which one of the two threads wins.
-fn race_once<R: Abort + Threads + Sync>(rt: &R, alloc: Global) -> Result<(), AllocError> {
-    let row = CellRow::new(alloc, 1)?;
-    let (five, six) = race(rt, alloc, &row)?;
+fn race_once<R: Abort + Threads + Sync>(rt: &R, alloc: Global) {
+    let row = CellRow::new(alloc, 1).expect(rt, "no memory");
+    let (five, six) = race(rt, alloc, &row);
     assert_one_won(rt, &five, &six);
-    Ok(())
 }
 
 /// One of the values 5 and 6 was set, and both threads saw it.
 fn assert_one_won(rt: &impl Abort, five: &Offer, six: &Offer) {
-    assert_eq!(rt; five.seen, six.seen);
+    let won = if five.accepted { 5 } else { 6 };
+    assert_is(rt, &(five.seen, six.seen), &(won, won), "what is seen");
     assert!(rt; five.accepted != six.accepted);
-    assert_eq!(rt; five.seen, if five.accepted { 5 } else { 6 });
 }
 
 #[test]
-fn two_threads_race_to_set_one_cell(rt: HostRuntime) -> Result<(), Fail> {
+fn two_threads_race_to_set_one_cell(rt: HostRuntime) {
     for _round in 0..200u32 {
-        race_once(&rt, rt.alloc())?;
+        race_once(&rt, rt.alloc());
     }
-    Ok(())
 }

@@ -1,27 +1,24 @@
 //! The desk, its keys and its limits: what a user sees with ample memory.
 
+use crate::comparing::assert_is;
 use dl_desk::{
     BatchState, BatchView, Desk, DeskFault, DeskPrime, DeskReply, FetchKey, Job, KeyFault,
     LimitFault, Limits, LoadReply,
 };
-use std::alloc::{AllocError, Global};
+use std::alloc::Global;
 use std::hash::RandomState;
 use std::process::Abort;
 use std::random::RandomSource;
 use std::slice;
-use std::test::Fail;
 
-fn key(alloc: Global, id: &str) -> Result<FetchKey, KeyFault> {
-    FetchKey::new(alloc, "t", id)
+/// The key of an id of the table t.
+fn key(rt: &impl Abort, alloc: Global, id: &str) -> FetchKey {
+    FetchKey::new(alloc, "t", id).expect(rt, "no key")
 }
 
 /// A text of so many bytes.
-fn long(alloc: Global, bytes: usize) -> Result<String, AllocError> {
-    let mut text = String::new(alloc);
-    for _ in 0..bytes {
-        text.push('x')?;
-    }
-    Ok(text)
+fn long(rt: &impl Abort, alloc: Global, bytes: usize) -> String {
+    "x".repeat(alloc, bytes).expect(rt, "no memory")
 }
 
 /// Bytes of a table's name and of an id, and why there is no key of them, where there is none.
@@ -38,28 +35,27 @@ static KEYS: [(usize, usize, Option<KeyFault>); 9] = [
 ];
 
 /// Why there is no key of texts of so many bytes, where there is none.
-fn key_fault(alloc: Global, table: usize, id: usize) -> Result<Option<KeyFault>, AllocError> {
-    let table = long(alloc, table)?;
-    let id = long(alloc, id)?;
-    Ok(FetchKey::new(alloc, table.as_str(), id.as_str()).err())
+fn key_fault(rt: &impl Abort, alloc: Global, table: usize, id: usize) -> Option<KeyFault> {
+    let table = long(rt, alloc, table);
+    let id = long(rt, alloc, id);
+    FetchKey::new(alloc, table.as_str(), id.as_str()).err()
 }
 
 #[test]
-fn keys_are_refused_for_their_first_fault(rt: HostRuntime) -> Result<(), Fail> {
+fn keys_are_refused_for_their_first_fault(rt: HostRuntime) {
     for (table, id, want) in &KEYS {
-        let fault = key_fault(rt.alloc(), *table, *id)?;
-        assert_eq!(rt; fault, *want, "a table of {table} bytes, an id of {id}");
+        let fault = key_fault(&rt, rt.alloc(), *table, *id);
+        let about = format_args!("a table of {table} bytes, an id of {id}");
+        assert_is(&rt, &fault, want, about);
     }
-    Ok(())
 }
 
 #[test]
-fn a_copy_of_a_longest_key_is_equal(rt: HostRuntime) -> Result<(), Fail> {
-    let id = long(rt.alloc(), 128)?;
-    let key = key(rt.alloc(), id.as_str())?;
-    let copy = key.try_copy()?;
+fn a_copy_of_a_longest_key_is_equal(rt: HostRuntime) {
+    let id = long(&rt, rt.alloc(), 128);
+    let key = key(&rt, rt.alloc(), id.as_str());
+    let copy = key.try_copy().expect(&rt, "no memory");
     assert!(rt; copy == key);
-    Ok(())
 }
 
 /// The three numbers of limits, and why they are none, where they are none.
@@ -79,34 +75,45 @@ static LIMITS: [(u32, u32, u32, Option<LimitFault>); 9] = [
 fn limits_are_refused_for_their_first_fault(rt: HostRuntime) {
     for (max_batch, max_cells, max_calls, want) in &LIMITS {
         let fault = Limits::new(*max_batch, *max_cells, *max_calls).err();
-        assert_eq!(rt; fault, *want, "{max_batch} {max_cells} {max_calls}");
+        let about = format_args!("{max_batch} {max_cells} {max_calls}");
+        assert_is(&rt, &fault, want, about);
     }
 }
 
 /// A desk of batches of one key, and of so many cells at most.
-fn new_desk(rt: &impl RandomSource, alloc: Global, max_cells: u32) -> Result<Desk, Fail> {
-    let hashing = RandomState::new(rt)?;
-    let limits = Limits::new(1, max_cells, 65_536)?;
-    Ok(Desk::new(alloc, hashing, limits))
+fn new_desk<R: Abort + RandomSource>(rt: &R, alloc: Global, max_cells: u32) -> Desk {
+    let hashing = RandomState::new(rt).expect(rt, "no random numbers");
+    let limits = Limits::new(1, max_cells, 65_536).expect(rt, "no limits");
+    Desk::new(alloc, hashing, limits)
+}
+
+/// Loads the key of an id of the table t.
+fn load(rt: &impl Abort, alloc: Global, desk: &mut Desk, id: &str) {
+    let key = key(rt, alloc, id);
+    desk.load(alloc, &key).expect(rt, "no load");
 }
 
 /// The keys a and b of the table t are loaded, and sent.
-fn send_both(alloc: Global, desk: &mut Desk) -> Result<(), Fail> {
-    for id in ["a", "b"] {
-        let key = key(alloc, id)?;
-        desk.load(alloc, &key)?;
-    }
-    let _jobs = desk.dispatch(alloc)?;
-    Ok(())
+fn send_both(rt: &impl Abort, alloc: Global, desk: &mut Desk) {
+    load(rt, alloc, desk, "a");
+    load(rt, alloc, desk, "b");
+    desk.dispatch(alloc).expect(rt, "no dispatch");
 }
 
 /// Two batches are sent, the second is settled, the first fails, and their keys are loaded again and sent: a is of
 /// batch 2 then, and b is held still.
-fn use_desk(alloc: Global, desk: &mut Desk) -> Result<(), Fail> {
-    send_both(alloc, desk)?;
-    desk.settle(1)?;
-    desk.fail(0)?;
-    send_both(alloc, desk)
+fn use_desk(rt: &impl Abort, alloc: Global, desk: &mut Desk) {
+    send_both(rt, alloc, desk);
+    desk.settle(1).expect(rt, "not settled");
+    desk.fail(0).expect(rt, "not failed");
+    send_both(rt, alloc, desk);
+}
+
+/// A desk that was used so.
+fn used_desk<R: Abort + RandomSource>(rt: &R, alloc: Global) -> Desk {
+    let mut desk = new_desk(rt, alloc, 65_536);
+    use_desk(rt, alloc, &mut desk);
+    desk
 }
 
 /// The states of the batches of a used desk, with the id and the cell of each one's only member.
@@ -115,6 +122,12 @@ static BATCHES: [(u32, BatchState, &str, u32); 3] = [
     (1, BatchState::Settled, "b", 1),
     (2, BatchState::Sent, "a", 2),
 ];
+
+/// The state of the batch, if it is there and has one member alone, of this id and with this cell.
+fn state_of(desk: &Desk, number: u32, id: &str, cell: u32) -> Option<BatchState> {
+    let batch = desk.batch(number)?;
+    has_only(&batch, id, cell).then_some(batch.state())
+}
 
 /// Whether the batch has one member alone, of this id and with this cell.
 fn has_only(batch: &BatchView<'_>, id: &str, cell: u32) -> bool {
@@ -127,53 +140,38 @@ fn has_only(batch: &BatchView<'_>, id: &str, cell: u32) -> bool {
 /// The batches of a used desk are so.
 fn assert_batches(rt: &impl Abort, desk: &Desk) {
     for (number, state, id, cell) in &BATCHES {
-        let batch = desk.batch(*number).expect(rt, "no batch");
-        assert_eq!(rt; batch.state(), *state);
-        assert!(rt; has_only(&batch, id, *cell));
+        let got = state_of(desk, *number, id, *cell);
+        assert_is(rt, &got, &Some(*state), id);
     }
     assert!(rt; desk.batch(3).is_none());
 }
 
 #[test]
-fn batches_end_in_any_order(rt: HostRuntime) -> Result<(), Fail> {
-    let mut desk = new_desk(&rt, rt.alloc(), 65_536)?;
-    use_desk(rt.alloc(), &mut desk)?;
+fn batches_end_in_any_order(rt: HostRuntime) {
+    let desk = used_desk(&rt, rt.alloc());
     assert_batches(&rt, &desk);
-    assert_eq!(rt; held(rt.alloc(), &desk, "a")?, Some(2));
-    Ok(())
-}
-
-/// The cell that is held for an id of the table t.
-fn held(alloc: Global, desk: &Desk, id: &str) -> Result<Option<u32>, KeyFault> {
-    let key = key(alloc, id)?;
-    Ok(desk.held(&key))
+    let a = key(&rt, rt.alloc(), "a");
+    assert_is(&rt, &desk.held(&a), &Some(2), "the cell of a");
 }
 
 #[test]
-fn a_call_made_ready_is_seen_once_it_is_committed(rt: HostRuntime) -> Result<(), Fail> {
-    let mut desk = new_desk(&rt, rt.alloc(), 65_536)?;
-    use_desk(rt.alloc(), &mut desk)?;
-    let c = key(rt.alloc(), "c")?;
-    load_by_ready(&rt, rt.alloc(), &mut desk, &c)?;
-    let a = key(rt.alloc(), "a")?;
-    assert!(rt; ready_to_keep(&mut desk, &a)?);
-    assert!(rt; ready_to_send(rt.alloc(), &mut desk, &c)?);
-    Ok(())
+fn a_call_made_ready_is_seen_once_it_is_committed(rt: HostRuntime) {
+    let mut desk = used_desk(&rt, rt.alloc());
+    let c = key(&rt, rt.alloc(), "c");
+    load_by_ready(&rt, rt.alloc(), &mut desk, &c);
+    let a = key(&rt, rt.alloc(), "a");
+    assert!(rt; ready_to_keep(&rt, &mut desk, &a));
+    assert!(rt; ready_to_send(&rt, rt.alloc(), &mut desk, &c));
 }
 
 /// A load of the key c that is made ready isn't seen before it is committed.
-fn load_by_ready(
-    rt: &impl Abort,
-    alloc: Global,
-    desk: &mut Desk,
-    key: &FetchKey,
-) -> Result<(), Fail> {
-    let ready = desk.ready_loads(alloc, slice::from_ref(key))?;
-    assert_eq!(rt; desk.held(key), None);
+fn load_by_ready(rt: &impl Abort, alloc: Global, desk: &mut Desk, key: &FetchKey) {
+    let ready = desk.ready_loads(alloc, slice::from_ref(key));
+    let ready = ready.expect(rt, "not ready");
+    assert_is(rt, &desk.held(key), &None, "before it is committed");
     let reply = desk.commit(ready);
     assert!(rt; is_fresh(&reply));
-    assert_eq!(rt; desk.held(key), Some(3));
-    Ok(())
+    assert_is(rt, &desk.held(key), &Some(3), "once it is committed");
 }
 
 /// Whether the reply is that of one load, which begins the cell 3 in the batch 3.
@@ -187,17 +185,17 @@ fn is_fresh(reply: &DeskReply) -> bool {
 }
 
 /// Whether a prime of the key, made ready, is to keep what is held.
-fn ready_to_keep(desk: &mut Desk, key: &FetchKey) -> Result<bool, Fail> {
-    let ready = desk.ready_prime(key)?;
-    Ok(matches!(ready.reply(), DeskReply::Primed(DeskPrime::Kept)))
+fn ready_to_keep(rt: &impl Abort, desk: &mut Desk, key: &FetchKey) -> bool {
+    let ready = desk.ready_prime(key).expect(rt, "not ready");
+    matches!(ready.reply(), DeskReply::Primed(DeskPrime::Kept))
 }
 
 /// Whether a dispatch, made ready, is to send one job, which is of batch 3 and has this key alone.
-fn ready_to_send(alloc: Global, desk: &mut Desk, key: &FetchKey) -> Result<bool, Fail> {
-    let ready = desk.ready_dispatch(alloc)?;
+fn ready_to_send(rt: &impl Abort, alloc: Global, desk: &mut Desk, key: &FetchKey) -> bool {
+    let ready = desk.ready_dispatch(alloc).expect(rt, "not ready");
     match ready.reply() {
-        DeskReply::Sent(jobs) => Ok(is_sent(jobs, key)),
-        _ => Ok(false),
+        DeskReply::Sent(jobs) => is_sent(jobs, key),
+        _ => false,
     }
 }
 
@@ -217,24 +215,23 @@ static FULL: [(&str, Option<DeskFault>); 2] = [
 
 /// Why a load of the id isn't made ready, and why a prime isn't, where they aren't.
 fn ready_faults(
+    rt: &impl Abort,
     alloc: Global,
     desk: &mut Desk,
     id: &str,
-) -> Result<(Option<DeskFault>, Option<DeskFault>), KeyFault> {
-    let key = key(alloc, id)?;
+) -> (Option<DeskFault>, Option<DeskFault>) {
+    let key = key(rt, alloc, id);
     let loads = desk.ready_loads(alloc, slice::from_ref(&key)).err();
     let prime = desk.ready_prime(&key).err();
-    Ok((loads, prime))
+    (loads, prime)
 }
 
 #[test]
-fn a_call_that_needs_too_many_cells_is_not_made_ready(rt: HostRuntime) -> Result<(), Fail> {
-    let mut desk = new_desk(&rt, rt.alloc(), 1)?;
-    let a = key(rt.alloc(), "a")?;
-    desk.load(rt.alloc(), &a)?;
+fn a_call_that_needs_too_many_cells_is_not_made_ready(rt: HostRuntime) {
+    let mut desk = new_desk(&rt, rt.alloc(), 1);
+    load(&rt, rt.alloc(), &mut desk, "a");
     for (id, want) in &FULL {
-        let faults = ready_faults(rt.alloc(), &mut desk, id)?;
-        assert_eq!(rt; faults, (*want, *want), "{id}");
+        let faults = ready_faults(&rt, rt.alloc(), &mut desk, id);
+        assert_is(&rt, &faults, &(*want, *want), id);
     }
-    Ok(())
 }

@@ -1,13 +1,13 @@
 //! Tables read from JSON, and what they answer.
 
-use dl_desk::{BatchFault, FetchKey, Job, Json, Keys, Message, Outcome, has_float};
-use dl_fixtures::{Starved, USERS, outcome_text, tables};
+use crate::comparing::assert_is;
+use dl_desk::{BatchFault, FetchKey, Job, Json, Keys, Message, Outcome};
+use dl_fixtures::{Starved, USERS, json, outcome_text, tables};
 use dl_source::{BatchAnswer, Source, TableFault, Tables, fetch_job};
 use serde_json::Value;
 use std::alloc::{AllocError, Global};
 use std::hash::RandomState;
 use std::process::Abort;
-use std::test::Fail;
 
 const TWO_BREAKS: &str = r#"[{"name":"t","rows":[],"breaks":[["x","p"],["y","q"]]}]"#;
 
@@ -23,23 +23,29 @@ fn job(rt: &impl Abort, alloc: Global, batch: u32, keys: &[(&str, &str)]) -> Job
 }
 
 /// Each outcome on a line of its own, or the text of the break.
-fn answer_text(alloc: Global, answer: &BatchAnswer) -> Result<String, AllocError> {
-    let outcomes = match answer {
-        BatchAnswer::Break(cause) => return format!(in alloc; "break {}", cause.as_str()),
-        BatchAnswer::Each(outcomes) => outcomes,
-    };
-    let mut text = String::new(alloc);
-    for outcome in outcomes.as_slice() {
-        text.push_str(outcome_text(alloc, outcome)?.as_str())?;
-        text.push_str("\n")?;
+fn answer_text(rt: &impl Abort, alloc: Global, answer: &BatchAnswer) -> String {
+    match answer {
+        BatchAnswer::Break(cause) => {
+            format!(in alloc; "break {}", cause.as_str()).expect(rt, "no memory")
+        }
+        BatchAnswer::Each(outcomes) => outcome_lines(rt, alloc, outcomes.as_slice()),
     }
-    Ok(text)
+}
+
+/// Each outcome on a line of its own.
+fn outcome_lines(rt: &impl Abort, alloc: Global, outcomes: &[Outcome]) -> String {
+    let mut text = String::new(alloc);
+    for outcome in outcomes {
+        let line = outcome_text(alloc, outcome).expect(rt, "no memory");
+        writeln!(text, "{}", line.as_str()).expect(rt, "no memory");
+    }
+    text
 }
 
 fn asked(rt: &impl Abort, alloc: Global, tables: &Tables, keys: &[(&str, &str)]) -> String {
     let job = job(rt, alloc, 0, keys);
     let fetched = fetch_job(alloc, tables, job).expect(rt, "no memory");
-    answer_text(alloc, fetched.answer()).expect(rt, "no memory")
+    answer_text(rt, alloc, fetched.answer())
 }
 
 /// Keys, each of a table and an id, and what the tables answer for them.
@@ -90,14 +96,13 @@ static ROWS: [Row; 6] = [
 ];
 
 #[test]
-fn keys_are_answered(rt: HostRuntime) -> Result<(), Fail> {
-    let hashing = RandomState::new(&rt)?;
+fn keys_are_answered(rt: HostRuntime) {
+    let hashing = RandomState::new(&rt).expect(&rt, "no random numbers");
     for row in &ROWS {
         let tables = tables(rt.alloc(), hashing, row.tables).expect(&rt, "no tables");
         let answer = asked(&rt, rt.alloc(), &tables, row.keys);
-        assert_eq!(rt; answer.as_str(), row.want, "{}", row.about);
+        assert_is(&rt, &answer.as_str(), &row.want, row.about);
     }
-    Ok(())
 }
 
 /// Trees that spell no tables, and the first fault of each.
@@ -187,34 +192,46 @@ static REFUSED: [(&str, TableFault); 31] = [
 ];
 
 /// Why the tree of a text spells no tables, where it spells none.
-fn fault_of(alloc: Global, hashing: RandomState, text: &str) -> Result<Option<TableFault>, Fail> {
-    let value = Value::from_str(alloc, text)?;
-    Ok(Tables::from_value(alloc, hashing, &value).err())
+fn fault_of(
+    rt: &impl Abort,
+    alloc: Global,
+    hashing: RandomState,
+    text: &str,
+) -> Option<TableFault> {
+    let value = Value::from_str(alloc, text).expect(rt, "no JSON");
+    Tables::from_value(alloc, hashing, &value).err()
 }
 
 #[test]
-fn other_trees_are_refused(rt: HostRuntime) -> Result<(), Fail> {
-    let hashing = RandomState::new(&rt)?;
+fn other_trees_are_refused(rt: HostRuntime) {
+    let hashing = RandomState::new(&rt).expect(&rt, "no random numbers");
     for (text, want) in &REFUSED {
-        let fault = fault_of(rt.alloc(), hashing, text)?;
-        assert_eq!(rt; fault, Some(*want), "{text}");
+        let fault = fault_of(&rt, rt.alloc(), hashing, text);
+        assert_is(&rt, &fault, &Some(*want), text);
     }
-    Ok(())
 }
 
 /// A text of so many bytes.
-fn long(alloc: Global, bytes: usize) -> Result<String, AllocError> {
-    "x".repeat(alloc, bytes)
+fn long(rt: &impl Abort, alloc: Global, bytes: usize) -> String {
+    "x".repeat(alloc, bytes).expect(rt, "no memory")
 }
 
 /// One table whose member lists one pair, with a name, an id and a text of these lengths.
 fn table_of(
+    rt: &impl Abort,
     alloc: Global,
     member: &str,
     (name, id, text): (usize, usize, usize),
-) -> Result<String, AllocError> {
-    let (name, id, text) = (long(alloc, name)?, long(alloc, id)?, long(alloc, text)?);
-    format!(in alloc; r#"[{{"name":"{name}","rows":[],"{member}":[["{id}","{text}"]]}}]"#)
+) -> String {
+    let (name, id, text) = (
+        long(rt, alloc, name),
+        long(rt, alloc, id),
+        long(rt, alloc, text),
+    );
+    let table = format!(in alloc;
+        r#"[{{"name":"{name}","rows":[],"{member}":[["{id}","{text}"]]}}]"#
+    );
+    table.expect(rt, "no memory")
 }
 
 /// The bytes of a table's name, of an id and of the text of an error or a break, and the first fault of these.
@@ -229,72 +246,62 @@ static LENGTHS: [((usize, usize, usize), Option<TableFault>); 8] = [
     ((1, 1, 1_025), Some(TableFault::TextTooLong)),
 ];
 
+/// The members of a table that list texts.
+static MEMBERS: [&str; 2] = ["errors", "breaks"];
+
 #[test]
-fn takes_names_ids_and_texts_up_to_their_limits(rt: HostRuntime) -> Result<(), Fail> {
-    let hashing = RandomState::new(&rt)?;
+fn takes_names_ids_and_texts_up_to_their_limits(rt: HostRuntime) {
+    let hashing = RandomState::new(&rt).expect(&rt, "no random numbers");
     for (lengths, want) in &LENGTHS {
-        for member in ["errors", "breaks"] {
-            let text = table_of(rt.alloc(), member, *lengths)?;
-            let fault = fault_of(rt.alloc(), hashing, text.as_str())?;
-            assert_eq!(rt; fault, *want, "{member} of {lengths:?}");
+        for member in &MEMBERS {
+            let text = table_of(&rt, rt.alloc(), member, *lengths);
+            let fault = fault_of(&rt, rt.alloc(), hashing, text.as_str());
+            let about = format_args!("{member} of {lengths:?}");
+            assert_is(&rt, &fault, want, about);
         }
     }
-    Ok(())
-}
-
-/// The value of a text, whose numbers are whole.
-pub(crate) fn json(rt: &impl Abort, alloc: Global, text: &str) -> Json {
-    let value = Value::from_str(alloc, text).expect(rt, "no JSON");
-    assert!(rt; !has_float(&value));
-    Json::new(alloc, value).expect(rt, "no memory")
 }
 
 /// The text of a value that is copied out of a shared one.
-fn copied_out(alloc: Global, json: &Json) -> Result<String, AllocError> {
-    let value = json.try_copy()?.into_value()?;
-    value.to_string(alloc)
+fn copied_out(rt: &impl Abort, alloc: Global, json: &Json) -> String {
+    let copy = json.try_copy().expect(rt, "no memory");
+    let value = copy.into_value().expect(rt, "no memory");
+    value.to_string(alloc).expect(rt, "no memory")
 }
 
-fn assert_text(
-    rt: &impl Abort,
-    alloc: Global,
-    outcome: &Outcome,
-    want: &str,
-) -> Result<(), AllocError> {
-    let text = outcome_text(alloc, outcome)?;
-    assert_eq!(rt; text.as_str(), want);
-    Ok(())
+/// The outcome has this text.
+fn assert_text(rt: &impl Abort, alloc: Global, outcome: &Outcome, want: &str) {
+    let text = outcome_text(alloc, outcome).expect(rt, "no memory");
+    assert_is(rt, &text.as_str(), &want, "an outcome");
 }
 
 /// An outcome and its copy have this text.
-fn assert_copied(
-    rt: &impl Abort,
-    alloc: Global,
-    outcome: &Outcome,
-    want: &str,
-) -> Result<(), AllocError> {
-    let copy = outcome.try_copy()?;
-    assert_text(rt, alloc, &copy, want)?;
-    assert_text(rt, alloc, outcome, want)
+fn assert_copied(rt: &impl Abort, alloc: Global, outcome: Outcome, want: &str) {
+    let copy = outcome.try_copy().expect(rt, "no memory");
+    assert_text(rt, alloc, &copy, want);
+    assert_text(rt, alloc, &outcome, want);
 }
 
 #[test]
-fn copies_of_values_are_the_same(rt: HostRuntime) -> Result<(), Fail> {
+fn copies_of_values_are_the_same(rt: HostRuntime) {
     let want = r#"{"a":null,"b":[1,-2]}"#;
-    let json = json(&rt, rt.alloc(), r#"{"b":[1,-2],"a":null}"#);
-    let text = copied_out(rt.alloc(), &json)?;
-    assert_eq!(rt; text.as_str(), want);
-    assert_copied(&rt, rt.alloc(), &Outcome::Value(json), want)?;
-    Ok(())
+    let json = json(rt.alloc(), r#"{"b":[1,-2],"a":null}"#).expect(&rt, "no JSON");
+    let text = copied_out(&rt, rt.alloc(), &json);
+    assert_is(&rt, &text.as_str(), &want, "what is copied out");
+    assert_copied(&rt, rt.alloc(), Outcome::Value(json), want);
+}
+
+/// A text as a message.
+fn message(rt: &impl Abort, alloc: Global, text: &str) -> Message {
+    Message::new(alloc, text).expect(rt, "no memory")
 }
 
 #[test]
-fn copies_of_failures_are_the_same(rt: HostRuntime) -> Result<(), Fail> {
-    let gone = Outcome::KeyError(Message::new(rt.alloc(), "gone")?);
-    assert_copied(&rt, rt.alloc(), &gone, "error gone")?;
-    let down = BatchFault::Source(Message::new(rt.alloc(), "down")?);
-    assert_copied(&rt, rt.alloc(), &Outcome::BatchFailed(down), "batch down")?;
-    Ok(())
+fn copies_of_failures_are_the_same(rt: HostRuntime) {
+    let gone = Outcome::KeyError(message(&rt, rt.alloc(), "gone"));
+    assert_copied(&rt, rt.alloc(), gone, "error gone");
+    let down = BatchFault::Source(message(&rt, rt.alloc(), "down"));
+    assert_copied(&rt, rt.alloc(), Outcome::BatchFailed(down), "batch down");
 }
 
 #[test]
@@ -302,6 +309,6 @@ fn a_job_comes_back_for_want_of_memory(rt: HostRuntime) {
     let asked = job(&rt, rt.alloc(), 3, &[("t", "a")]);
     match fetch_job(rt.alloc(), &Starved, asked) {
         Ok(_) => panic!(rt; "there was memory"),
-        Err((back, AllocError)) => assert_eq!(rt; back.batch, 3),
+        Err((back, AllocError)) => assert_is(&rt, &back.batch, &3, "the job"),
     }
 }

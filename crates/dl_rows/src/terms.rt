@@ -1,107 +1,72 @@
 //! Terms over users, round by round.
 
-use crate::source::json;
+use crate::comparing::assert_is;
 use dl_desk::{FetchKey, Outcome, Text};
+use dl_fixtures::{BEST, FRIENDS, Shape, answer_text, json, term};
 use dl_terms::{Answer, EvalFault, Known, Node, Term, Wanted, explore, unexplored};
 use indexmap::{IndexMap, IndexSet};
 use std::alloc::{AllocError, Global};
 use std::hash::RandomState;
 use std::process::Abort;
-use std::random::RandomSource;
-use std::test::Fail;
 
 fn user(rt: &impl Abort, alloc: Global, id: &str) -> FetchKey {
     FetchKey::new(alloc, "user", id).expect(rt, "no key")
 }
 
-fn name(rt: &impl Abort, alloc: Global, text: &str) -> Text {
-    Text::new(alloc, text).expect(rt, "no memory")
-}
-
-fn part(rt: &impl Abort, alloc: Global, term: Term) -> Box<Term> {
-    Box::new(alloc, term).expect(rt, "no memory")
-}
-
-/// The load of u1, a field of it, and the table of users.
-fn field_of_u1(rt: &impl Abort, alloc: Global, field: &str) -> (Box<Term>, Text, Text) {
-    let load = Term::Load(user(rt, alloc, "u1"));
-    let (field, table) = (name(rt, alloc, field), name(rt, alloc, "user"));
-    (part(rt, alloc, load), field, table)
-}
-
-/// The name of u1's best friend.
-fn best_name(rt: &impl Abort, alloc: Global) -> Term {
-    let (part_of_u1, field, table) = field_of_u1(rt, alloc, "best");
-    let best = Term::Follow {
-        part: part_of_u1,
-        field,
-        table,
-    };
-    Term::Pick {
-        part: part(rt, alloc, best),
-        field: name(rt, alloc, "name"),
-    }
-}
-
 /// The friends of u1, the name of u1's best friend, and u3.
-fn friends(rt: &impl Abort, alloc: Global) -> Term {
-    let (part, field, table) = field_of_u1(rt, alloc, "friends");
-    let mut parts = Vec::new(alloc);
-    for part in [
-        Term::Each { part, field, table },
-        best_name(rt, alloc),
-        Term::Load(user(rt, alloc, "u3")),
-    ] {
-        parts.push(part).expect(rt, "no memory");
-    }
-    Term::All(parts)
-}
+const SHAPE: Shape = Shape::All(&[
+    FRIENDS,
+    Shape::Pick(&BEST, "name"),
+    Shape::Load("user", "u3"),
+]);
 
 /// The outcomes of all users.
 fn outcomes(rt: &impl Abort, alloc: Global) -> Vec<(FetchKey, Outcome)> {
     let mut outcomes = Vec::new(alloc);
     for (id, text) in &USERS {
-        let outcome = Outcome::Value(json(rt, alloc, text));
-        let pushed = outcomes.push((user(rt, alloc, id), outcome));
+        let value = json(alloc, text).expect(rt, "no JSON");
+        let pushed = outcomes.push((user(rt, alloc, id), Outcome::Value(value)));
         pushed.expect(rt, "no memory");
     }
     outcomes
 }
 
 /// The first so many of the outcomes, by their keys.
-fn known_of(
+fn known_of<'a>(
+    rt: &impl Abort,
     alloc: Global,
     hashing: RandomState,
-    outcomes: &[(FetchKey, Outcome)],
+    outcomes: &'a [(FetchKey, Outcome)],
     count: usize,
-) -> Result<Known<'_>, AllocError> {
+) -> Known<'a> {
     let mut known: Known<'_> = IndexMap::with_hasher(alloc, hashing);
     for (key, outcome) in outcomes.iter().take(count) {
-        known.insert(key.try_copy()?, outcome)?;
+        let key = key.try_copy().expect(rt, "no memory");
+        known.insert(key, outcome).expect(rt, "no memory");
     }
-    Ok(known)
+    known
 }
 
 /// The ids of keys, each followed by a space.
-fn ids_of(alloc: Global, wanted: &Wanted) -> Result<String, AllocError> {
+fn ids_of(rt: &impl Abort, alloc: Global, wanted: &Wanted) -> String {
     let mut ids = String::new(alloc);
     for key in wanted.iter() {
-        ids.push_str(key.id())?;
-        ids.push_str(" ")?;
+        write!(ids, "{} ", key.id()).expect(rt, "no memory");
     }
-    Ok(ids)
+    ids
 }
 
 /// The ids that the node waits for, once it was explored with what is known.
 fn explored(
+    rt: &impl Abort,
     alloc: Global,
     hashing: RandomState,
     node: &mut Node,
     known: &Known<'_>,
-) -> Result<String, AllocError> {
+) -> String {
     let mut wanted: Wanted = IndexSet::with_hasher(alloc, hashing);
-    explore(alloc, node, known, &mut wanted)?;
-    ids_of(alloc, &wanted)
+    explore(alloc, node, known, &mut wanted).expect(rt, "no memory");
+    ids_of(rt, alloc, &wanted)
 }
 
 /// The users, each by its id and what its load gives.
@@ -121,35 +86,30 @@ fn assert_rounds(
     hashing: RandomState,
     node: &mut Node,
     outcomes: &[(FetchKey, Outcome)],
-) -> Result<(), AllocError> {
+) {
     for (count, want) in &ROUNDS {
-        let known = known_of(alloc, hashing, outcomes, *count)?;
-        let ids = explored(alloc, hashing, node, &known)?;
-        assert_eq!(rt; ids.as_str(), *want);
+        let known = known_of(rt, alloc, hashing, outcomes, *count);
+        let ids = explored(rt, alloc, hashing, node, &known);
+        assert_is(rt, &ids.as_str(), want, "the ids that are wanted");
     }
-    Ok(())
 }
 
-/// The text of a node's value, where it has one.
-fn answer_text(alloc: Global, node: Node) -> Result<String, AllocError> {
-    match node.into_answer() {
-        Some(Answer::Value(value)) => value.to_text(alloc),
-        Some(Answer::Fault(_)) | None => Ok(String::new(alloc)),
-    }
+/// The text of a node's answer.
+fn text_of(rt: &impl Abort, alloc: Global, node: Node) -> String {
+    let answer = node.into_answer().expect(rt, "no answer");
+    answer_text(alloc, &answer).expect(rt, "no memory")
 }
 
 #[test]
-fn a_term_wants_all_its_keys_at_once(rt: HostRuntime) -> Result<(), Fail> {
-    let hashing = RandomState::new(&rt)?;
+fn a_term_wants_all_its_keys_at_once(rt: HostRuntime) {
+    let hashing = RandomState::new(&rt).expect(&rt, "no random numbers");
     let outcomes = outcomes(&rt, rt.alloc());
-    let mut node = unexplored(rt.alloc(), friends(&rt, rt.alloc())).expect(&rt, "no memory");
-    assert_rounds(&rt, rt.alloc(), hashing, &mut node, &outcomes)?;
-    let text = answer_text(rt.alloc(), node)?;
-    assert_eq!(rt;
-        text.as_str(),
-        r#"[[{"name":"Bob"},3,{"name":"Bob"}],"Bob",3]"#
-    );
-    Ok(())
+    let term = term(rt.alloc(), &SHAPE).expect(&rt, "no term");
+    let mut node = unexplored(rt.alloc(), term).expect(&rt, "no memory");
+    assert_rounds(&rt, rt.alloc(), hashing, &mut node, &outcomes);
+    let want = r#"[[{"name":"Bob"},3,{"name":"Bob"}],"Bob",3]"#;
+    let text = text_of(&rt, rt.alloc(), node);
+    assert_is(&rt, &text.as_str(), &want, "the answer");
 }
 
 /// Bytes of a table's name and of the text that a field has, and whether that is an id in the table.
@@ -161,27 +121,35 @@ static IDS: [(usize, usize, bool); 5] = [
     (4, 129, false),
 ];
 
+fn name(rt: &impl Abort, alloc: Global, text: &str) -> Text {
+    Text::new(alloc, text).expect(rt, "no memory")
+}
+
 /// An object whose field `f` has this JSON text.
 fn object(rt: &impl Abort, alloc: Global, field: &str) -> Box<Term> {
     let text = format!(in alloc; "{{\"f\":{field}}}").expect(rt, "no memory");
-    part(rt, alloc, Term::Value(json(rt, alloc, text.as_str())))
+    let value = json(alloc, text.as_str()).expect(rt, "no JSON");
+    Box::new(alloc, Term::Value(value)).expect(rt, "no memory")
 }
 
-/// A follow of the id in the table, and an each whose list has it alone.
-fn loads_of(rt: &impl Abort, alloc: Global, table: &str, id: &str) -> (Term, Term) {
+/// A follow of the id in the table.
+fn follow(rt: &impl Abort, alloc: Global, table: &str, id: &str) -> Term {
     let text = format!(in alloc; "\"{id}\"").expect(rt, "no memory");
-    let list = format!(in alloc; "[\"{id}\"]").expect(rt, "no memory");
-    let follow = Term::Follow {
+    Term::Follow {
         part: object(rt, alloc, text.as_str()),
         field: name(rt, alloc, "f"),
         table: name(rt, alloc, table),
-    };
-    let each = Term::Each {
+    }
+}
+
+/// An each whose list has the id in the table alone.
+fn each(rt: &impl Abort, alloc: Global, table: &str, id: &str) -> Term {
+    let list = format!(in alloc; "[\"{id}\"]").expect(rt, "no memory");
+    Term::Each {
         part: object(rt, alloc, list.as_str()),
         field: name(rt, alloc, "f"),
         table: name(rt, alloc, table),
-    };
-    (follow, each)
+    }
 }
 
 /// The term waits for this id alone, or, where that is none, has ended by the fault of an id that is none.
@@ -194,32 +162,39 @@ fn assert_waits(
 ) {
     let mut node = unexplored(alloc, term).expect(rt, "no memory");
     let known: Known<'_> = IndexMap::with_hasher(alloc, hashing);
-    let wanted = explored(alloc, hashing, &mut node, &known).expect(rt, "no memory");
-    let want = match id {
-        Some(id) => format!(in alloc; "{id} ").expect(rt, "no memory"),
-        None => String::new(alloc),
-    };
-    assert_eq!(rt; wanted.as_str(), want.as_str());
-    assert_eq!(rt; is_no_key(node), id.is_none());
+    let wanted = explored(rt, alloc, hashing, &mut node, &known);
+    let wanted = wanted.as_str().strip_suffix(" ");
+    assert_is(rt, &wanted, &id, "the id that is wanted");
+    assert_is(rt, &is_no_key(node), &id.is_none(), "the fault");
 }
 
 /// Whether a node has ended by the fault of an id that is none.
 fn is_no_key(node: Node) -> bool {
-    matches!(node.into_answer(), Some(Answer::Fault(EvalFault::NotAKey)))
+    let answer = node.into_answer();
+    matches!(&answer, Some(Answer::Fault(EvalFault::NotAKey)))
+}
+
+/// A follow and an each of the id in the table wait for it alone, or, where it is none, have ended by the fault of an id
+/// that is none.
+fn assert_loads(
+    rt: &impl Abort,
+    alloc: Global,
+    hashing: RandomState,
+    (table, id): (&str, &str),
+    is_id: bool,
+) {
+    let want = is_id.then_some(id);
+    assert_waits(rt, alloc, hashing, follow(rt, alloc, table, id), want);
+    assert_waits(rt, alloc, hashing, each(rt, alloc, table, id), want);
 }
 
 #[test]
-fn an_id_has_1_to_128_bytes(rt: HostRuntime) -> Result<(), Fail> {
-    let hashing = RandomState::new(&rt)?;
+fn an_id_has_1_to_128_bytes(rt: HostRuntime) {
+    let hashing = RandomState::new(&rt).expect(&rt, "no random numbers");
     for (table, id, is_id) in &IDS {
-        let (table, id) = (
-            "t".repeat(rt.alloc(), *table)?,
-            "x".repeat(rt.alloc(), *id)?,
-        );
-        let (follow, each) = loads_of(&rt, rt.alloc(), table.as_str(), id.as_str());
-        let want = is_id.then_some(id.as_str());
-        assert_waits(&rt, rt.alloc(), hashing, follow, want);
-        assert_waits(&rt, rt.alloc(), hashing, each, want);
+        let table = "t".repeat(rt.alloc(), *table).expect(&rt, "no memory");
+        let id = "x".repeat(rt.alloc(), *id).expect(&rt, "no memory");
+        let key = (table.as_str(), id.as_str());
+        assert_loads(&rt, rt.alloc(), hashing, key, *is_id);
     }
-    Ok(())
 }

@@ -5,7 +5,7 @@ ghost use Rattle.dl_history.specs.Service.{Answers};
 ghost use Rattle.dl_loader.specs.Asks.{source_asked};
 
 use super::hand::Hand;
-use super::keys::{assert_jobs, job, outcome, user, users};
+use super::keys::{assert_jobs, assert_same, job, outcome, user, users};
 use super::player::Stage;
 use super::step::{Asked, Primed, Told};
 use dl_loader::{Ask, CallFault, GiveUp, LoaderName, Reply};
@@ -23,14 +23,12 @@ impl<'a, L: LoaderName, S: Source, R: Abort + Wait> Stage<'a, L, S, R> {
     )
         requires { Answers (S.answer self.now.source.now) L.service }
     {
-        match (self.made(hand, asked), want) {
-            (Ok((reply, refused)), Ok(want)) => {
-                assert_eq!(self.rt; refused, 0);
+        match self.made(hand, asked) {
+            Ok((reply, refused)) => {
+                assert_same(self.rt, "cells that refuse", refused, 0);
                 assert_told(self.rt, &reply, want);
             }
-            (Err(fault), Err(want)) => assert_eq!(self.rt; fault, *want),
-            (Ok(_), Err(want)) => panic!(self.rt; "a call was made, and not {want:?}"),
-            (Err(fault), Ok(_)) => panic!(self.rt; "{fault:?}"),
+            Err(fault) => assert_same(self.rt, "fault", Some(&fault), want.as_ref().err()),
         }
     }
 
@@ -121,14 +119,22 @@ impl<'a, L: LoaderName, S: Source, R: Abort + Wait> Stage<'a, L, S, R> {
     }
 }
 
-/// The reply is this.
-fn assert_told(rt: &impl Abort, reply: &Reply, want: &Told) {
+/// The reply is this, and the call was not to be refused.
+fn assert_told(rt: &impl Abort, reply: &Reply, want: &Result<Told, CallFault>) {
     match (reply, want) {
-        (Reply::Loaded(reply), Told::Loaded(want)) => assert_eq!(rt; *reply, *want),
-        (Reply::Many(replies), Told::Many(want)) => assert_eq!(rt; replies.as_slice(), *want),
-        (Reply::Primed(cell), Told::Primed(want)) => assert_eq!(rt; *cell, *want),
-        (Reply::Kept, Told::Kept) | (Reply::Done, Told::Done) => {}
-        (Reply::Sent(jobs), Told::Sent(want)) => assert_jobs(rt, jobs.as_slice(), want),
-        _ => panic!(rt; "another reply: {reply:?}"),
+        (Reply::Sent(jobs), Ok(Told::Sent(want))) => assert_jobs(rt, jobs.as_slice(), want),
+        (_, Ok(want)) => assert!(rt; is_told(reply, want), "another reply: {reply:?}"),
+        (_, Err(want)) => panic!(rt; "a call was made, and not {want:?}"),
+    }
+}
+
+/// Whether a reply that sends no jobs is this.
+fn is_told(reply: &Reply, want: &Told) -> bool {
+    match (reply, want) {
+        (Reply::Loaded(reply), Told::Loaded(want)) => *reply == *want,
+        (Reply::Many(replies), Told::Many(want)) => replies.as_slice() == *want,
+        (Reply::Primed(cell), Told::Primed(want)) => *cell == *want,
+        (Reply::Kept, Told::Kept) | (Reply::Done, Told::Done) => true,
+        _ => false,
     }
 }

@@ -1,22 +1,35 @@
 //! What is asked of the history that a closed loader leaves.
 
-use super::keys::{assert_keys, assert_shows};
+use super::keys::{assert_keys, assert_same, assert_shows};
 use super::step::{Closed, Ids};
-use dl_loader::{Batches, Call, EntryKind, History};
+use dl_loader::{Batches, Call, CloseFault, EntryKind, History, Loader, LoaderName, Pass};
 use std::alloc::Global;
 use std::process::Abort;
 
 /// The history tells this, and nothing beyond.
 pub(super) fn assert_closed(rt: &impl Abort, alloc: Global, history: &History, want: &Closed) {
     history.keeps();
-    assert_eq!(rt; history.events().len(), want.events);
-    assert!(rt; history.events().get(want.events).is_none());
+    let events = history.events();
+    assert_same(rt, "number of events", events.len(), want.events);
+    assert!(rt; events.get(want.events).is_none());
     for (caller, entries, places) in want.callers {
         assert_caller(rt, alloc, history, *caller, entries, places);
     }
     assert_ends(rt, alloc, history, want.ends);
     assert_batches(rt, &history.batches(), want.batches);
     assert_outcomes(rt, alloc, history, want.outcomes);
+}
+
+/// Why the loader can't be closed with these passes. It is let go.
+pub(super) fn close_fault<L: LoaderName>(
+    alloc: Global,
+    loader: Loader<L>,
+    passes: Vec<Pass<L>>,
+) -> Option<CloseFault> {
+    match loader.close(alloc, passes) {
+        Ok(_) => None,
+        Err((fault, _, _)) => Some(fault),
+    }
 }
 
 /// The caller has these entries, and its events stand at these places.
@@ -28,9 +41,9 @@ fn assert_caller(
     entries: &[EntryKind],
     places: &[u32],
 ) {
-    assert_eq!(rt; history.entries(caller), entries);
+    assert_same(rt, "entries", history.entries(caller), entries);
     let found = history.of_caller(alloc, caller).expect(rt, "no memory");
-    assert_eq!(rt; found.as_slice(), places);
+    assert_same(rt, "places", found.as_slice(), places);
 }
 
 /// The events end these batches, in this order, where `true` says that a batch is settled.
@@ -43,7 +56,7 @@ pub(super) fn assert_ends(rt: &impl Abort, alloc: Global, history: &History, wan
             ends.push(end).expect(rt, "no memory");
         }
     }
-    assert_eq!(rt; ends.as_slice(), want);
+    assert_same(rt, "ends", ends.as_slice(), want);
 }
 
 /// The batch that a call ends, if it ends one, and whether it settles it.
@@ -61,7 +74,7 @@ pub(super) fn assert_batches(rt: &impl Abort, batches: &Batches<'_>, want: &[(Id
     for (ids, is_settled) in want {
         let batch = batches.get(number).expect(rt, "no batch");
         assert_keys(rt, batch.keys(), ids);
-        assert_eq!(rt; batch.is_settled(), *is_settled);
+        assert_same(rt, "end of a batch", batch.is_settled(), *is_settled);
         number = number.saturating_add(1);
     }
     assert!(rt; batches.get(number).is_none());

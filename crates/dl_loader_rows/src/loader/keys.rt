@@ -5,7 +5,18 @@ use dl_desk::{BatchFault, FetchKey, Job, Json, Keys, Message, Outcome, has_float
 use dl_fixtures::outcome_text;
 use serde_json::Value;
 use std::alloc::Global;
+use std::fmt::Debug;
 use std::process::Abort;
+
+/// What was found is what is wanted. A failure tells what both are about.
+pub(super) fn assert_same<T: Debug + Drop + PartialEq>(
+    rt: &impl Abort,
+    about: &str,
+    found: T,
+    want: T,
+) {
+    assert_eq!(rt; found, want, "{about}");
+}
 
 /// The key of a user.
 pub(super) fn user(rt: &impl Abort, alloc: Global, id: &str) -> FetchKey {
@@ -29,22 +40,22 @@ pub(super) fn job(rt: &impl Abort, alloc: Global, batch: u32, ids: &[&str]) -> J
 
 /// The keys are those of these users.
 pub(super) fn assert_keys(rt: &impl Abort, keys: &[FetchKey], ids: &[&str]) {
-    assert_eq!(rt; keys.len(), ids.len());
+    assert_same(rt, "number of keys", keys.len(), ids.len());
     for (key, id) in keys.iter().zip(ids.iter()) {
-        assert_eq!(rt; key.table(), "user");
-        assert_eq!(rt; key.id(), *id);
+        assert_same(rt, "table", key.table(), "user");
+        assert_same(rt, "id", key.id(), *id);
     }
 }
 
 /// The job is of this batch, with the keys of these users.
 pub(super) fn assert_job(rt: &impl Abort, job: &Job, batch: u32, ids: &[&str]) {
-    assert_eq!(rt; job.batch, batch);
+    assert_same(rt, "batch of a job", job.batch, batch);
     assert_keys(rt, job.keys.as_slice(), ids);
 }
 
 /// The jobs of a dispatch are of these batches, with the keys of these users.
 pub(super) fn assert_jobs(rt: &impl Abort, jobs: &[Job], want: &[(u32, Ids)]) {
-    assert_eq!(rt; jobs.len(), want.len());
+    assert_same(rt, "number of jobs", jobs.len(), want.len());
     for (job, (batch, ids)) in jobs.iter().zip(want.iter()) {
         assert_job(rt, job, *batch, ids);
     }
@@ -75,9 +86,9 @@ pub(super) fn assert_shows(
     outcome: Option<&Outcome>,
     want: Option<&str>,
 ) {
-    assert_eq!(rt; outcome.is_some(), want.is_some());
-    if let (Some(outcome), Some(want)) = (outcome, want) {
-        let text = outcome_text(alloc, outcome).expect(rt, "no memory");
-        assert_eq!(rt; text.as_str(), want);
-    }
+    let Some(outcome) = outcome else {
+        return assert_same(rt, "outcome", None, want);
+    };
+    let text = outcome_text(alloc, outcome).expect(rt, "no memory");
+    assert_same(rt, "outcome", Some(text.as_str()), want);
 }

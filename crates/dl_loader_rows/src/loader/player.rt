@@ -4,7 +4,7 @@ ghost use Rattle.dl_history.specs.Service.{Answers};
 ghost use Rattle.dl_source.specs.Fetched.{source_of};
 
 use super::hand::Hand;
-use super::keys::{assert_job, assert_jobs, assert_shows, job, outcome, user, users};
+use super::keys::{assert_job, assert_jobs, assert_same, assert_shows, job, outcome, user, users};
 use super::step::{Ids, Primed, Step};
 use dl_desk::{Job, LoadReply};
 use dl_loader::{
@@ -31,7 +31,7 @@ impl<'a, L: LoaderName, S: Source, R: Abort + Wait> Stage<'a, L, S, R> {
     {
         for (caller, step) in steps {
             let hand = hands.get_mut(*caller).expect(self.rt, "no such caller");
-            assert_eq!(self.rt; hand.pass.caller() as usize, *caller);
+            assert_same(self.rt, "caller", hand.pass.caller() as usize, *caller);
             self.make(hand, step);
         }
     }
@@ -62,16 +62,10 @@ impl<'a, L: LoaderName, S: Source, R: Abort + Wait> Stage<'a, L, S, R> {
         }
     }
 
-    /// The list that a call must answer, which was not refused.
-    fn accepted<'w, T>(&self, want: Result<&'w [T], CallFault>) -> &'w [T] {
-        assert_eq!(self.rt; want.err(), None);
-        want.unwrap_or(&[])
-    }
-
     fn load(&self, hand: &mut Hand<'a, L>, id: &str, want: Result<LoadReply, CallFault>) {
         let key = user(self.rt, self.alloc, id);
         let reply = hand.load(self.rt, self.alloc, self.loader, &key);
-        assert_eq!(self.rt; reply, want);
+        assert_same(self.rt, "load", reply, want);
     }
 
     fn load_many(
@@ -81,10 +75,10 @@ impl<'a, L: LoaderName, S: Source, R: Abort + Wait> Stage<'a, L, S, R> {
         want: Result<&[LoadReply], CallFault>,
     ) {
         let keys = users(self.rt, self.alloc, ids);
-        match hand.load_many(self.rt, self.alloc, self.loader, keys.as_slice()) {
-            Ok(tickets) => assert_replies(self.rt, tickets.as_slice(), self.accepted(want)),
-            Err(fault) => assert_eq!(self.rt; Some(fault), want.err()),
-        }
+        let tickets = hand.load_many(self.rt, self.alloc, self.loader, keys.as_slice());
+        let (tickets, fault) = parted(self.alloc, tickets);
+        assert_same(self.rt, "load_many", fault, want.err());
+        assert_replies(self.rt, tickets.as_slice(), want.unwrap_or(&[]));
     }
 
     fn prime(
@@ -99,25 +93,25 @@ impl<'a, L: LoaderName, S: Source, R: Abort + Wait> Stage<'a, L, S, R> {
         let reply = self
             .loader
             .prime(self.rt, self.alloc, &mut hand.pass, &key, outcome);
-        assert_eq!(self.rt; reply, want);
+        assert_same(self.rt, "prime", reply, want);
     }
 
     fn clear(&self, hand: &mut Hand<'a, L>, id: &str, want: Result<(), CallFault>) {
         let key = user(self.rt, self.alloc, id);
         let reply = self.loader.clear(self.rt, self.alloc, &mut hand.pass, &key);
-        assert_eq!(self.rt; reply, want);
+        assert_same(self.rt, "clear", reply, want);
     }
 
     fn clear_all(&self, hand: &mut Hand<'a, L>, want: Result<(), CallFault>) {
         let reply = self.loader.clear_all(self.rt, self.alloc, &mut hand.pass);
-        assert_eq!(self.rt; reply, want);
+        assert_same(self.rt, "clear_all", reply, want);
     }
 
     fn dispatch(&self, hand: &mut Hand<'a, L>, want: Result<&[(u32, Ids)], CallFault>) {
-        match self.loader.dispatch(self.rt, self.alloc, &mut hand.pass) {
-            Ok(jobs) => assert_jobs(self.rt, jobs.as_slice(), self.accepted(want)),
-            Err(fault) => assert_eq!(self.rt; Some(fault), want.err()),
-        }
+        let jobs = self.loader.dispatch(self.rt, self.alloc, &mut hand.pass);
+        let (jobs, fault) = parted(self.alloc, jobs);
+        assert_same(self.rt, "dispatch", fault, want.err());
+        assert_jobs(self.rt, jobs.as_slice(), want.unwrap_or(&[]));
     }
 
     fn settle(&self, hand: &mut Hand<'a, L>, batch: u32, ids: &[&str], want: Result<u32, CallFault>)
@@ -161,17 +155,17 @@ impl<'a, L: LoaderName, S: Source, R: Abort + Wait> Stage<'a, L, S, R> {
         let Some(ticket) = hand.ticket.as_mut() else {
             panic!(self.rt; "no ticket");
         };
-        assert_eq!(self.rt; ticket.cell(), cell);
+        assert_same(self.rt, "cell", ticket.cell(), cell);
         assert_shows(self.rt, self.alloc, ticket.look(), want);
     }
 
     fn wait(&self, hand: &mut Hand<'a, L>, want: Result<&str, Stopped>) {
         match hand.wait(self.rt, self.loader) {
             Ok(outcome) => {
-                assert_eq!(self.rt; want.err(), None);
+                assert_same(self.rt, "wait", None, want.err());
                 assert_shows(self.rt, self.alloc, outcome, want.ok());
             }
-            Err(stopped) => assert_eq!(self.rt; Err(stopped), want),
+            Err(stopped) => assert_same(self.rt, "wait", Err(stopped), want),
         }
     }
 
@@ -180,20 +174,33 @@ impl<'a, L: LoaderName, S: Source, R: Abort + Wait> Stage<'a, L, S, R> {
     }
 
     fn entries(&self, pass: &Pass<L>, kinds: &[EntryKind], (calls, front): (usize, u32)) {
-        assert_eq!(self.rt; pass.calls(), calls);
-        assert_eq!(self.rt; pass.front(), front);
-        assert_eq!(self.rt; pass.entries().len(), kinds.len());
+        assert_same(self.rt, "calls of a pass", pass.calls(), calls);
+        assert_same(self.rt, "front of a pass", pass.front(), front);
+        assert_same(
+            self.rt,
+            "number of entries",
+            pass.entries().len(),
+            kinds.len(),
+        );
         for (entry, kind) in pass.entries().iter().zip(kinds.iter()) {
-            assert_eq!(self.rt; entry.kind(), *kind);
+            assert_same(self.rt, "entry", entry.kind(), *kind);
         }
+    }
+}
+
+/// The list that a call answered, or none, and the fault by which it was refused.
+fn parted<T>(alloc: Global, answer: Result<Vec<T>, CallFault>) -> (Vec<T>, Option<CallFault>) {
+    match answer {
+        Ok(list) => (list, None),
+        Err(fault) => (Vec::new(alloc), Some(fault)),
     }
 }
 
 /// The tickets of a load have these replies.
 fn assert_replies<L: LoaderName>(rt: &impl Abort, tickets: &[Ticket<'_, L>], want: &[LoadReply]) {
-    assert_eq!(rt; tickets.len(), want.len());
+    assert_same(rt, "number of tickets", tickets.len(), want.len());
     for (ticket, want) in tickets.iter().zip(want.iter()) {
-        assert_eq!(rt; ticket.reply(), *want);
+        assert_same(rt, "reply", ticket.reply(), *want);
     }
 }
 
@@ -206,11 +213,11 @@ fn assert_end(
 ) {
     match end {
         Ok(Settled { shown, refused }) => {
-            assert_eq!(rt; Ok(shown), want);
-            assert_eq!(rt; refused, 0);
+            assert_same(rt, "end of a batch", Ok(shown), want);
+            assert_same(rt, "cells that refuse", refused, 0);
         }
         Err((fault, job)) => {
-            assert_eq!(rt; Err(fault), want);
+            assert_same(rt, "end of a batch", Err(fault), want);
             assert_job(rt, &job, batch, ids);
         }
     }

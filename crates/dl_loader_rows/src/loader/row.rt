@@ -6,11 +6,12 @@ ghost use Rattle.dl_loader.specs.Opening.{Names};
 
 use super::closed::assert_closed;
 use super::hand::Hand;
+use super::keys::assert_same;
 use super::player::Stage;
 use super::step::{Part, Step};
 use dl_loader::{CloseFault, History, Loader, LoaderName, Opening, Pass};
 use dl_source::Source;
-use std::alloc::{AllocError, Global};
+use std::alloc::Global;
 use std::process::Abort;
 use std::sync::Wait;
 
@@ -52,33 +53,36 @@ fn make_calls<L: LoaderName, S: Source, R: Abort + Wait>(
         source,
         loader,
     };
-    let mut hands = hands_of(alloc, passes).expect(rt, "no memory");
+    let mut hands = hands_of(rt, alloc, passes);
     stage.play(hands.as_mut_slice(), steps);
-    passes_of(alloc, hands).expect(rt, "no memory")
+    passes_of(rt, alloc, hands)
 }
 
-/// The hands of callers that hold no ticket. The error is a failed allocation.
+/// The hands of callers that hold no ticket.
 fn hands_of<'a, L: LoaderName>(
+    rt: &impl Abort,
     alloc: Global,
     passes: Vec<Pass<L>>,
-) -> Result<Vec<Hand<'a, L>>, AllocError> {
+) -> Vec<Hand<'a, L>> {
     let mut hands = Vec::new(alloc);
     for pass in passes {
-        hands.push(Hand { pass, ticket: None })?;
+        let hand = Hand { pass, ticket: None };
+        hands.push(hand).expect(rt, "no memory");
     }
-    Ok(hands)
+    hands
 }
 
-/// The passes of callers, whose tickets are let go. The error is a failed allocation.
+/// The passes of callers, whose tickets are let go.
 fn passes_of<L: LoaderName>(
+    rt: &impl Abort,
     alloc: Global,
     hands: Vec<Hand<'_, L>>,
-) -> Result<Vec<Pass<L>>, AllocError> {
+) -> Vec<Pass<L>> {
     let mut passes = Vec::new(alloc);
     for hand in hands {
-        passes.push(hand.pass)?;
+        passes.push(hand.pass).expect(rt, "no memory");
     }
-    Ok(passes)
+    passes
 }
 
 /// Closes the loader as the part says. Where that is refused the loader and the passes come back.
@@ -112,6 +116,6 @@ fn assert_history(rt: &impl Abort, alloc: Global, history: &History, part: &Part
 
 /// The part ends in a close that is refused so, and the passes that it was handed come back.
 fn assert_refusal(rt: &impl Abort, fault: CloseFault, passes: usize, part: &Part) {
-    assert_eq!(rt; Some(fault), part.close.err());
-    assert_eq!(rt; passes, part.passes);
+    assert_same(rt, "close", Some(fault), part.close.err());
+    assert_same(rt, "passes that come back", passes, part.passes);
 }

@@ -76,6 +76,8 @@ pub(super) enum Primed {
 
 /// The calls on one loader over the tables of users.
 pub(super) struct Row {
+    /// What the row is about, which names it.
+    pub(super) about: &'static str,
     /// The most keys of a batch, cells and calls.
     pub(super) limits: (u32, u32, u32),
     /// The number of callers.

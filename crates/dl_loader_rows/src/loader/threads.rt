@@ -1,16 +1,16 @@
 //! One key that two callers load, each on a thread of its own.
 
-ghost use Rattle.std.specs.Prelude.{◌≡◌, false, IfOk, OnOk};
+ghost use Rattle.std.specs.Prelude.{◌≡◌, false};
 ghost use Rattle.dl_history.specs.Service.{Answers};
 ghost use Rattle.dl_loader.specs.Opening.{Names};
 ghost use Rattle.dl_loader.specs.Pass.{GaveTicket};
 
 use super::closed::assert_ends;
-use super::keys::{assert_jobs, assert_shows, user};
+use super::keys::{assert_jobs, assert_same, assert_shows, user};
 use dl_desk::{FetchKey, LoadReply};
 use dl_fixtures::ADA;
 use dl_loader::laws::looks_agree;
-use dl_loader::{CallFault, EntryKind, History, Loader, LoaderName, Opening, Pass, Reply, Ticket};
+use dl_loader::{EntryKind, History, Loader, LoaderName, Opening, Pass, Reply, Ticket};
 use dl_source::Source;
 use dl_workers::end_jobs;
 use std::alloc::Global;
@@ -31,9 +31,10 @@ pub(super) fn load_by_two<L: LoaderName + Send + Sync, S: Source, R: Abort + Thr
 {
     let (loader, passes) = Loader::<L>::start(alloc, opening).expect(rt, "no loader");
     let passes = read_by_two(rt, alloc, source, &loader, passes);
-    let closed = loader.close(alloc, passes).map_err(|(fault, _, _)| fault);
-    let history = closed.expect(rt, "no history");
-    assert_history(rt, alloc, &history);
+    match loader.close(alloc, passes) {
+        Ok(history) => assert_history(rt, alloc, &history),
+        Err((fault, _, _)) => panic!(rt; "{fault:?}"),
+    }
 }
 
 /// The calls before the close.
@@ -66,8 +67,9 @@ fn load_by_both<L: LoaderName + Send + Sync, S: Source, R: Abort + Threads + Wai
     requires source { Answers (S.answer source.now) L.service }
 {
     let key = user(rt, alloc, "u1");
-    let loads = start_threads(rt, alloc, loader, &key, one, other);
-    let ((mut one, mut first), (mut other, mut second)) = loads.expect(rt, "no loads");
+    let ((mut one, mut first), (mut other, mut second)) = start_threads(
+        rt, alloc, loader, &key, one, other,
+    );
     read_both(
         rt,
         alloc,
@@ -96,7 +98,7 @@ fn read_both<L: LoaderName, S: Source, R: Abort + Wait>(
     requires first { GaveTicket one.old.part first.old false }
     requires second { GaveTicket other.old.part second.old false }
 {
-    end_batch(rt, alloc, source, loader, one).expect(rt, "no end");
+    end_batch(rt, alloc, source, loader, one);
     read(rt, alloc, loader, one, first);
     read(rt, alloc, loader, other, second);
     assert_agree(rt, first, second);
@@ -109,13 +111,13 @@ fn end_batch<L: LoaderName, S: Source, R: Abort + Wait>(
     source: &S,
     loader: &Loader<L>,
     pass: &mut Pass<L>,
-) -> Result<(), CallFault>
+)
     requires source { Answers (S.answer source.now) L.service }
-    ensures { OnOk result (pass.new.part.tickets ≡ pass.old.part.tickets) }
+    ensures { pass.new.part.tickets ≡ pass.old.part.tickets }
 {
-    let jobs = loader.dispatch(rt, alloc, pass)?;
+    let jobs = loader.dispatch(rt, alloc, pass).expect(rt, "no jobs");
     assert_jobs(rt, jobs.as_slice(), &[(0, &["u1"])]);
-    end_jobs(rt, alloc, loader, source, pass, jobs)
+    end_jobs(rt, alloc, loader, source, pass, jobs).expect(rt, "no end");
 }
 
 /// Tickets of one key are of one cell, and have shown one outcome.
@@ -125,41 +127,40 @@ fn assert_agree<L: LoaderName>(rt: &impl Abort, first: &Ticket<'_, L>, second: &
 }
 
 /// Two callers load the key, each on a thread of its own.
-fn start_threads<'a, L: LoaderName + Send + Sync, R: Threads + Wait + Sync>(
+fn start_threads<'a, L: LoaderName + Send + Sync, R: Abort + Threads + Wait + Sync>(
     rt: &R,
     alloc: Global,
     loader: &'a Loader<L>,
     key: &FetchKey,
     one: Pass<L>,
     other: Pass<L>,
-) -> Result<((Pass<L>, Ticket<'a, L>), (Pass<L>, Ticket<'a, L>)), CallFault>
-    ensures one { IfOk result (λ r. GaveTicket r.0.0.part r.0.1 false) }
-    ensures other { IfOk result (λ r. GaveTicket r.1.0.part r.1.1 false) }
+) -> ((Pass<L>, Ticket<'a, L>), (Pass<L>, Ticket<'a, L>))
+    ensures one { GaveTicket result.0.0.part result.0.1 false }
+    ensures other { GaveTicket result.1.0.part result.1.1 false }
 {
-    let (one, other) = join(
+    join(
         rt,
-        move || -> Result<(Pass<L>, Ticket<'_, L>), CallFault>
-            ensures { IfOk result (λ r. GaveTicket r.0.part r.1 false) }
+        move || -> (Pass<L>, Ticket<'_, L>)
+            ensures { GaveTicket result.0.part result.1 false }
         { load(rt, alloc, loader, one, key) },
-        move || -> Result<(Pass<L>, Ticket<'_, L>), CallFault>
-            ensures { IfOk result (λ r. GaveTicket r.0.part r.1 false) }
+        move || -> (Pass<L>, Ticket<'_, L>)
+            ensures { GaveTicket result.0.part result.1 false }
         { load(rt, alloc, loader, other, key) },
-    );
-    Ok((one?, other?))
+    )
 }
 
 /// Loads the key, and gives the pass back with the ticket.
-fn load<'a, L: LoaderName, R: Wait>(
+fn load<'a, L: LoaderName, R: Abort + Wait>(
     rt: &R,
     alloc: Global,
     loader: &'a Loader<L>,
     mut pass: Pass<L>,
     key: &FetchKey,
-) -> Result<(Pass<L>, Ticket<'a, L>), CallFault>
-    ensures { IfOk result (λ r. GaveTicket r.0.part r.1 false) }
+) -> (Pass<L>, Ticket<'a, L>)
+    ensures { GaveTicket result.0.part result.1 false }
 {
-    let ticket = loader.load(rt, alloc, &mut pass, key)?;
-    Ok((pass, ticket))
+    let ticket = loader.load(rt, alloc, &mut pass, key);
+    (pass, ticket.expect(rt, "no ticket"))
 }
 
 /// Waits for the ticket's outcome, which is the user's row.
@@ -179,14 +180,14 @@ fn read<L: LoaderName, R: Abort + Wait>(
 /// The four events, the first two of which are the loads, in whichever order.
 fn assert_history(rt: &impl Abort, alloc: Global, history: &History) {
     let events = history.events();
-    assert_eq!(rt; events.len(), 4);
+    assert_same(rt, "number of events", events.len(), 4);
     let replies = [LoadReply::Fresh { cell: 0, batch: 0 }, LoadReply::Hit(0)];
     for (at, want) in replies.iter().enumerate() {
         let event = events.get(at).expect(rt, "no event");
         assert!(rt; matches!(&event.reply, Reply::Loaded(reply) if *reply == *want));
     }
     assert_ends(rt, alloc, history, &[(0, true)]);
-    assert_eq!(rt; history.entries(0).len(), 4);
+    assert_same(rt, "number of entries", history.entries(0).len(), 4);
     let last = history.entries(1).last().expect(rt, "no entry");
-    assert_eq!(rt; *last, EntryKind::Saw { cell: 0, at: 3 });
+    assert_same(rt, "last entry", *last, EntryKind::Saw { cell: 0, at: 3 });
 }

@@ -1,14 +1,14 @@
 //! Callers that wait at once, each on a thread of its own: for one batch or for several, while batches are ended or the
 //! loader is stopped, and after that.
 
-ghost use Rattle.std.specs.Prelude.{◌≡◌};
+ghost use Rattle.std.specs.Prelude.{◌≡◌, false};
 ghost use Rattle.dl_history.specs.Service.{Answers};
 ghost use Rattle.dl_loader.specs.Opening.{Names};
+ghost use Rattle.dl_loader.specs.Pass.{GaveTicket};
 
-use super::keys::{assert_shows, user};
-use dl_loader::{
-    CloseFault, GiveUp, Loader, LoaderName, MOST_CALLERS, Opening, Pass, Stopped, Ticket,
-};
+use super::closed::close_fault;
+use super::keys::{assert_same, assert_shows, user};
+use dl_loader::{CloseFault, GiveUp, Loader, LoaderName, MOST_CALLERS, Opening, Pass, Ticket};
 use dl_source::Source;
 use dl_workers::end_jobs;
 use std::alloc::Global;
@@ -25,7 +25,6 @@ pub(super) const CALLERS: u32 = 6;
 const MOST_LOOKS: u32 = 10_000_000;
 
 /// How the first caller releases the others from their waiting.
-#[derive(Clone, Copy, PartialEq, Eq)]
 pub(super) enum Release {
     /// It ends each batch by what the source answers.
     Ends,
@@ -47,6 +46,24 @@ pub(super) struct Crowd {
     pub(super) is_late: bool,
 }
 
+impl Crowd {
+    /// The user that a caller loads, and the outcome.
+    fn load_of(&self, rt: &impl Abort, caller: usize) -> (&'static str, &'static str) {
+        let load = self.loads.iter().cycle().nth(caller);
+        load.copied().expect(rt, "no user")
+    }
+
+    /// What a caller is to read, where this is the outcome.
+    fn shown<'a>(&self, text: &'a str) -> Option<&'a str> {
+        if self.is_stopped() { None } else { Some(text) }
+    }
+
+    /// Whether the loader is stopped.
+    fn is_stopped(&self) -> bool {
+        matches!(self.release, Release::Stops)
+    }
+}
+
 /// What callers tell one another.
 #[derive(Drop)]
 struct Meeting {
@@ -61,6 +78,14 @@ impl Meeting {
         Meeting {
             loaded: AtomicU32::new(0),
             is_done: AtomicBool::new(false),
+        }
+    }
+
+    /// Tells that a caller beside the first has loaded. Returns at once, or once the first caller is done.
+    fn come(&self, rt: &impl Abort, crowd: &Crowd) {
+        self.loaded.fetch_add(1, Ordering::SeqCst);
+        if crowd.is_late {
+            self.await_first(rt);
         }
     }
 
@@ -97,20 +122,30 @@ pub(super) fn wait_at_once<
     requires names { Names S.answer opening L.service L.parts L.log L.outcomes L.name }
 {
     let (loader, mut passes) = Loader::<L>::start(alloc, opening).expect(rt, "no loader");
-    let meeting = Meeting::new();
-    start_threads(
-        rt,
-        alloc,
-        source,
-        &loader,
-        passes.as_mut_slice(),
-        crowd,
-        &meeting,
-    );
-    let refused = loader.close(alloc, passes).err().map(|(fault, _, _)| fault);
+    meet(rt, alloc, source, &loader, passes.as_mut_slice(), crowd);
+    let refused = close_fault(alloc, loader, passes);
     let unsettled = CloseFault::Unsettled { batch: 0 };
-    let is_stopped = crowd.release == Release::Stops;
-    assert_eq!(rt; refused, is_stopped.then_some(unsettled));
+    assert_same(
+        rt,
+        "close",
+        refused,
+        crowd.is_stopped().then_some(unsettled),
+    );
+}
+
+/// The callers meet.
+fn meet<L: LoaderName + Send + Sync, S: Source + Sync, R: Abort + Threads + Wait + Sync>(
+    rt: &R,
+    alloc: Global,
+    source: &S,
+    loader: &Loader<L>,
+    passes: &mut [Pass<L>],
+    crowd: &Crowd,
+)
+    requires { Answers (S.answer source.now) L.service }
+{
+    let meeting = Meeting::new();
+    start_threads(rt, alloc, source, loader, passes, crowd, &meeting);
 }
 
 /// Each caller takes part on a thread of its own.
@@ -148,27 +183,30 @@ fn take_part<L: LoaderName, S: Source, R: Abort + Wait>(
 )
     requires { Answers (S.answer source.now) L.service }
 {
-    let (id, text) = crowd
-        .loads
-        .iter()
-        .cycle()
-        .nth(caller)
-        .copied()
-        .expect(rt, "no user");
+    let (id, text) = crowd.load_of(rt, caller);
     let key = user(rt, alloc, id);
     let mut ticket = loader.load(rt, alloc, pass, &key).expect(rt, "no ticket");
     if caller == 0 {
         lead(rt, alloc, source, loader, pass, crowd, meeting);
     } else {
-        meeting.loaded.fetch_add(1, Ordering::SeqCst);
-        if crowd.is_late {
-            meeting.await_first(rt);
-        }
+        meeting.come(rt, crowd);
     }
-    let waited = loader.wait(rt, pass, &mut ticket);
-    let is_stopped = crowd.release == Release::Stops;
-    assert_eq!(rt; waited.err(), is_stopped.then_some(Stopped));
-    let text = if is_stopped { None } else { Some(text) };
+    read(rt, alloc, loader, pass, &mut ticket, crowd.shown(text));
+}
+
+/// Waits for the ticket's outcome, which is of this text, or there is none.
+fn read<L: LoaderName, R: Abort + Wait>(
+    rt: &R,
+    alloc: Global,
+    loader: &Loader<L>,
+    pass: &mut Pass<L>,
+    ticket: &mut Ticket<'_, L>,
+    text: Option<&str>,
+)
+    requires { GaveTicket pass.old.part ticket.old false }
+{
+    let is_stopped = loader.wait(rt, pass, ticket).is_err();
+    assert_same(rt, "wait", is_stopped, text.is_none());
     assert_shows(rt, alloc, ticket.look(), text);
 }
 
@@ -210,5 +248,5 @@ fn give_up<L: LoaderName, R: Abort + Wait>(
     let job = jobs.pop().expect(rt, "no job");
     assert!(rt; jobs.is_empty());
     let failed = loader.fail(rt, alloc, pass, job, GiveUp::Memory);
-    failed.map_err(|(fault, _)| fault).expect(rt, "no end");
+    assert!(rt; failed.is_ok());
 }

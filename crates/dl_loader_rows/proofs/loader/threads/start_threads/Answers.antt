@@ -5,24 +5,20 @@ use denote.Param.Send.{IsSend, param_send, arg_send, shr_send}
 use denote.Ref.{ShrRef}
 use denote.Struct.Tuple.{TupleAt, tuple_name}
 use Rattle.std.proofs.Crossing.{send}
-use Rattle.std.proofs.result.Result.TheSendSync as result
 use Rattle.std.specs.contracts.alloc.Global as Heap
-use Rattle.std.specs.contracts.result.Result as Result
 use Rattle.dl_desk.specs.contracts.key.FetchKey as FetchKey
 use Rattle.dl_desk.proofs.key.FetchKey.TheSendSync as key
-use Rattle.dl_loader.specs.contracts.fault.CallFault as CallFault
 use Rattle.dl_loader.specs.contracts.loader.Loader as Loader
 use Rattle.dl_loader.specs.contracts.pass.Pass as Pass
 use Rattle.dl_loader.specs.contracts.ticket.Ticket as Ticket
-use Rattle.dl_loader.proofs.fault.CallFault.TheSendSync as fault
 use Rattle.dl_loader.proofs.pass.Pass.TheSendSync as pass
 use Rattle.dl_loader.proofs.Captured.{captures_send}
 use Rattle.dl_loader.proofs.Crossing.{Loader-sync, Ticket-send}
 use Rattle.dl_loader_rows.proofs.loader.threads.start_threads.Goals as goal
 
 -- what the first caller's thread is given may be sent
-pub join-one-requires-send-F : goal.join-one-requires-send-F
-join-one-requires-send-F g c κs within =
+pub join-requires-send-F : goal.join-requires-send-F
+join-requires-send-F g c κs within =
     let L = param 0 g.row.L in
     let n = g.L.LoaderName in
     let l = g.L.Ledger in
@@ -36,13 +32,11 @@ join-one-requires-send-F g c κs within =
     _ Ts (shr_send _ _ _ c.type_bounds.sync-R, (send, (shr_send _ _ _ (Loader-sync L n l), (pass.the_send L n l, (shr_send _ _ _ key.the_sync, tt)))))))
 
 -- and so may what it gives back
-pub join-one-requires-send-A : goal.join-one-requires-send-A
-join-one-requires-send-A g c κs within =
+pub join-requires-send-A : goal.join-requires-send-A
+join-requires-send-A g c κs within =
     let L = param 0 g.row.L in
     let n = g.L.LoaderName in
     let l = g.L.Ledger in
     let Ts = Pass.the_row L n l ∷ Ticket.the_row _ L n l ∷ [] in
     let both : IsSend (TupleAt (tuple_name 2) Ts) = captures_send (tuple_name 2) Ts (pass.the_send L n l, (Ticket-send L n l _, tt)) in
-    let refused : IsSend CallFault.the_row = search (fault.the_send) depth 5 in
-    let made : IsSend (Result.the_row (TupleAt (tuple_name 2) Ts) CallFault.the_row) = search (result.the_send, both, refused) depth 10 in
-    param_send 3 _ (arg_send _ yes (Result.the_row (TupleAt (tuple_name 2) Ts) CallFault.the_row) made)
+    param_send 3 _ (arg_send _ yes (TupleAt (tuple_name 2) Ts) both)
