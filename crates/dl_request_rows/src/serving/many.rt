@@ -1,10 +1,11 @@
 //! Many plans at a small queue: whatever the schedule, their answers are those by one worker.
 
-use crate::plans::StepShape::{Clear, ClearAll, Eval};
-use crate::plans::{PlanShape, plans};
-use crate::reports::{Answers, assert_report};
+use crate::serving::plans::StepShape::{Clear, ClearAll, Eval};
+use crate::serving::plans::{PlanShape, plans};
+use crate::serving::reports::{Answers, assert_report};
+use crate::serving::users::{hashing, users};
 use dl_desk::Limits;
-use dl_fixtures::{ADA, BEST, BOB, FRIENDS, Shape, U1, U2, USERS, tables};
+use dl_fixtures::{ADA, BEST, BOB, FRIENDS, Shape, U1, U2};
 use dl_scope::{Setup, serve};
 use dl_source::Tables;
 use dl_workers::NoGate;
@@ -53,9 +54,8 @@ const TIMES: u32 = 1_000;
 
 #[test]
 fn many_plans_at_a_queue_of_one_place(rt: HostRuntime) {
-    let alloc = rt.alloc();
-    let hashing = RandomState::new(&rt).expect(&rt, "no random numbers");
-    let users = tables(alloc, hashing, USERS).expect(&rt, "no tables");
+    let (alloc, hashing) = (rt.alloc(), hashing(&rt));
+    let users = users(&rt, alloc);
     try_plans(&rt, alloc, hashing, &users, 1);
     for _ in 0..TIMES {
         try_plans(&rt, alloc, hashing, &users, 4);

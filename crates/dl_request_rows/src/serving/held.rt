@@ -1,10 +1,11 @@
 //! Workers that fetch at once, and plans that run at once: one worker is held until another has ended its batch.
 
-use crate::plans::StepShape::{Clear, Eval};
-use crate::plans::{PlanShape, plans};
-use crate::reports::{Answers, assert_report};
+use crate::serving::plans::StepShape::{Clear, Eval};
+use crate::serving::plans::{PlanShape, plans};
+use crate::serving::reports::{Answers, assert_report};
+use crate::serving::users::{hashing, users};
 use dl_desk::Limits;
-use dl_fixtures::{ADA, BOB, Shape, U1, U2, USERS, tables};
+use dl_fixtures::{ADA, BOB, Shape, U1, U2};
 use dl_scope::{Setup, serve};
 use dl_source::Tables;
 use dl_workers::Gate;
@@ -80,9 +81,8 @@ static ROWS: [Row; 2] = [
 
 #[test]
 fn batches_that_are_fetched_at_once(rt: HostRuntime) {
-    let alloc = rt.alloc();
-    let hashing = RandomState::new(&rt).expect(&rt, "no random numbers");
-    let users = tables(alloc, hashing, USERS).expect(&rt, "no tables");
+    let (alloc, hashing) = (rt.alloc(), hashing(&rt));
+    let users = users(&rt, alloc);
     for row in &ROWS {
         try_row(&rt, alloc, hashing, &users, row);
     }

@@ -11,9 +11,9 @@ use Rattle.dl_loader.proofs.Captured.{captures_send}
 use Rattle.dl_loader.proofs.Crossing.{Loader-sync}
 use Rattle.dl_workers.specs.contracts.queue.JobQueue as JobQueue
 use Rattle.dl_workers.proofs.queue.JobQueue.TheSendSync as queue
-use Rattle.dl_haxl_rows.specs.contracts.handing.Worker as Worker
-use Rattle.dl_haxl_rows.proofs.handing.Worker.TheSendSync as worker
-use Rattle.dl_haxl_rows.proofs.handing.Stage.beside.Goals as goal
+use Rattle.dl_request_rows.specs.contracts.handing.Worker as Worker
+use Rattle.dl_request_rows.proofs.handing.Worker.TheSendSync as worker
+use Rattle.dl_request_rows.proofs.handing.Stage.beside.Goals as goal
 
 -- what the worker's thread is given may be sent
 pub join-requires-send-F : goal.join-requires-send-F

@@ -1,6 +1,6 @@
 use Rattle.dl_loader.specs.Opening.{service_of}
 use Rattle.dl_fixtures.specs.CountedTables.{answer_counted}
-use Rattle.dl_haxl_rows.proofs.rows.over.Given as goal
+use Rattle.dl_request_rows.proofs.rows.over.Given as goal
 
 -- the type names the loader after its opening
 abbrev pub ghosts-run-L-LoaderName : goal.ghosts-run-L-LoaderName

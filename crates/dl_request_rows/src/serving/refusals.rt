@@ -1,8 +1,9 @@
 //! Plans that are refused, at both sides of each limit, batches that are not fetched, and a growth that is refused.
 
-use crate::plans::StepShape::{Clear, Eval};
-use crate::plans::{PlanShape, plans};
-use crate::reports::{Answers, assert_batches, assert_report};
+use crate::serving::plans::StepShape::{Clear, Eval};
+use crate::serving::plans::{PlanShape, plans};
+use crate::serving::reports::{Answers, assert_batches, assert_report, assert_same};
+use crate::serving::users::{hashing, users};
 use dl_desk::Limits;
 use dl_fixtures::{ADA, FRIENDS, Shape, Starved, U1, U2, USERS, tables};
 use dl_haxl::RunFault;
@@ -13,6 +14,7 @@ use dl_workers::{NoGate, QueueFault};
 use std::alloc::Global;
 use std::hash::RandomState;
 use std::process::Abort;
+use std::random::RandomSource;
 use std::sync::Wait;
 use std::thread::Threads;
 
@@ -120,9 +122,8 @@ static ROWS: [Row; 9] = [
 
 #[test]
 fn plans_that_are_refused(rt: HostRuntime) {
-    let alloc = rt.alloc();
-    let hashing = RandomState::new(&rt).expect(&rt, "no random numbers");
-    let users = tables(alloc, hashing, USERS).expect(&rt, "no tables");
+    let (alloc, hashing) = (rt.alloc(), hashing(&rt));
+    let users = users(&rt, alloc);
     for row in &ROWS {
         try_row(&rt, alloc, hashing, &users, row);
     }
@@ -178,21 +179,26 @@ static NOT_FETCHED: Row = Row {
 
 #[test]
 fn batches_that_are_not_fetched(rt: HostRuntime) {
-    let alloc = rt.alloc();
-    let hashing = RandomState::new(&rt).expect(&rt, "no random numbers");
-    try_row(&rt, alloc, hashing, &Starved, &NOT_FETCHED);
+    try_row(&rt, rt.alloc(), hashing(&rt), &Starved, &NOT_FETCHED);
+}
+
+/// The report of the plans of a row, which are served by so many workers.
+fn report_of<R: Abort + RandomSource + Threads + Wait + Sync>(
+    rt: &R,
+    alloc: Global,
+    workers: u32,
+    row: &Row,
+) -> Report {
+    let users = users(rt, alloc);
+    serve_row(rt, alloc, hashing(rt), &users, workers, row).expect(rt, row.about)
 }
 
 #[test]
 fn a_plan_of_no_steps(rt: HostRuntime) {
-    let alloc = rt.alloc();
-    let hashing = RandomState::new(&rt).expect(&rt, "no random numbers");
-    let users = tables(alloc, hashing, USERS).expect(&rt, "no tables");
-    let served = serve_row(&rt, alloc, hashing, &users, 1, &ROW);
-    let report = served.expect(&rt, "no report");
-    assert_report(&rt, alloc, &report, &[&[]], &[0]);
+    let report = report_of(&rt, rt.alloc(), 1, &ROW);
+    assert_report(&rt, rt.alloc(), &report, &[&[]], &[0]);
     assert_batches(&rt, &report, &[]);
-    assert_eq!(&rt; report.history().events().len(), 0);
+    assert_same(&rt, &report.history().events().len(), &0);
 }
 
 /// As many plans of one user as there may be, by as many workers.
@@ -209,12 +215,8 @@ static MOST_ANSWERS: [Answers; 16] = [&[(0, ADA)]; 16];
 
 #[test]
 fn as_many_plans_and_workers_as_there_may_be(rt: HostRuntime) {
-    let alloc = rt.alloc();
-    let hashing = RandomState::new(&rt).expect(&rt, "no random numbers");
-    let users = tables(alloc, hashing, USERS).expect(&rt, "no tables");
-    let served = serve_row(&rt, alloc, hashing, &users, 16, &MOST);
-    let report = served.expect(&rt, "no report");
-    assert_report(&rt, alloc, &report, &MOST_ANSWERS, &[1; 16]);
+    let report = report_of(&rt, rt.alloc(), 16, &MOST);
+    assert_report(&rt, rt.alloc(), &report, &MOST_ANSWERS, &[1; 16]);
 }
 
 /// Under `rt try --test --fail-alloc N` each growth is refused in turn. Where that isn't one of `serve` the test ends.

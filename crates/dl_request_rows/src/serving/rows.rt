@@ -1,10 +1,11 @@
 //! Plans that are served by one, two and three workers: their answers, their rounds, and the batches that these make.
 
-use crate::plans::StepShape::{Clear, ClearAll, Eval, Prime};
-use crate::plans::{PlanShape, plans};
-use crate::reports::{Answers, Batch, assert_batches, assert_report};
+use crate::serving::plans::StepShape::{Clear, ClearAll, Eval, Prime};
+use crate::serving::plans::{PlanShape, plans};
+use crate::serving::reports::{Answers, Batch, assert_batches, assert_report};
+use crate::serving::users::{hashing, users};
 use dl_desk::Limits;
-use dl_fixtures::{ADA, BEST, FRIENDS, Shape, U1, U2, USERS, tables};
+use dl_fixtures::{ADA, BEST, FRIENDS, Shape, U1, U2};
 use dl_scope::{Setup, serve};
 use dl_source::Tables;
 use dl_workers::NoGate;
@@ -161,9 +162,8 @@ const TIMES: u32 = 20;
 
 #[test]
 fn plans_by_one_two_and_three_workers(rt: HostRuntime) {
-    let alloc = rt.alloc();
-    let hashing = RandomState::new(&rt).expect(&rt, "no random numbers");
-    let users = tables(alloc, hashing, USERS).expect(&rt, "no tables");
+    let (alloc, hashing) = (rt.alloc(), hashing(&rt));
+    let users = users(&rt, alloc);
     for row in &ROWS {
         for workers in WORKERS {
             for _ in 0..TIMES {

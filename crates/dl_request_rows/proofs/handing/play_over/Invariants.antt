@@ -1,6 +1,6 @@
 use Rattle.dl_loader.specs.Opening.{service_of}
 use Rattle.dl_source.specs.Answer.{answer_of}
-use Rattle.dl_haxl_rows.proofs.handing.play_over.Given as goal
+use Rattle.dl_request_rows.proofs.handing.play_over.Given as goal
 
 -- the type names the loader after its opening
 abbrev pub ghosts-play-L-LoaderName : goal.ghosts-play-L-LoaderName
