@@ -1,4 +1,5 @@
 mod Crossing
+mod Dealt
 mod EndedOnce
 mod Gave
 mod Headlines
