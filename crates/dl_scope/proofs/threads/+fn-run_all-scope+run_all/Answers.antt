@@ -44,3 +44,11 @@ scope-returns g t c =
       plans = c.in_ok-all.ensures.plans;
       own = c.in_ok-all.ensures.own;
     }
+
+-- as the body of the scope ensures, with the job back at the end of the list that it was taken from
+pub returns : goal.returns
+returns g t c = record {
+  workers = rw c.in-Some.ensures.items c.scoped.ensures.1.0;
+  plans = c.scoped.ensures.1.1.0;
+  own = c.scoped.ensures.1.1.1;
+}

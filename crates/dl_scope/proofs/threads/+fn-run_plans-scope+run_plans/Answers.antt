@@ -38,3 +38,7 @@ scope-returns g t c =
     let P : List (declared.PlanRun g.row.L.Denot) → Type 0 = λ ys. AllZip R (c.captures.plans.items ++ c.captures.job ∷ []) ys in
     subst P (sym c.in_ok-push.ensures.items)
     (all_zipped_more R c.captures.plans.items c.in_ok-all.all.items c.captures.job c.join-run.result c.in_ok-all.ensures.plans (search rules))
+
+-- as the body of the scope ensures, with the job back at the end of the list that it was taken from
+pub returns : goal.returns
+returns g t c = record { plans = rw c.in-Some.ensures.items c.scoped.ensures.1 }
