@@ -12,46 +12,12 @@ pub(crate) enum Workload {
     Listed(Calls),
     /// Loads, clears and loads again each key in turn.
     Clears,
-    /// Reads a script that loads the keys one by one, and answers it.
-    Script(Ids),
     /// Reads tables with a row for each key, and fetches the keys, a batch at a time.
     Tables(Ids),
     /// Calls of a shared loader.
     Shared(Callers),
     /// Evaluates terms over a shared loader.
     Terms(Evaluated),
-    /// Makes a plan file, and perhaps reads or serves it.
-    PlanFile(Use, FileKind),
-}
-
-/// What is done with a plan file.
-#[derive(Clone, Copy, PartialEq, Eq)]
-pub(crate) enum Use {
-    /// Its text is made, and nothing else.
-    Made,
-    /// It is read too.
-    Read,
-    /// It is read and served, and what it gives is written.
-    Run,
-}
-
-/// What a plan file is full of.
-#[derive(Clone, Copy)]
-pub(crate) enum FileKind {
-    /// Rows, and terms that load them.
-    Ordinary,
-    /// The same in as many plans as there may be.
-    Plans,
-    /// Values and terms that are as deep as they may be.
-    Nested,
-    /// Steps that are short.
-    Steps,
-    /// Rows that are short.
-    Rows,
-    /// Terms that load as many users as one may.
-    Each,
-    /// Keys that are as long as they may be.
-    LongKeys,
 }
 
 /// How terms are evaluated.
@@ -100,7 +66,7 @@ pub(crate) enum Callers {
 const BATCH: u32 = 64;
 
 /// The word that asks for each workload of N or of two numbers, and the most keys of its batches, where the words don't say it.
-const WORKLOADS: [(&str, Option<u32>, Workload); 16] = [
+const WORKLOADS: [(&str, Option<u32>, Workload); 13] = [
     ("loads", None, Workload::OneByOne(Ids::Short)),
     ("hostile", Some(BATCH), Workload::OneByOne(Ids::Hostile)),
     ("harmless", Some(BATCH), Workload::OneByOne(Ids::Harmless)),
@@ -108,17 +74,6 @@ const WORKLOADS: [(&str, Option<u32>, Workload); 16] = [
     ("hits", Some(LARGEST_LIMIT), Workload::Listed(Calls::Hits)),
     ("rounds", None, Workload::Listed(Calls::Rounds)),
     ("clears", Some(LARGEST_LIMIT), Workload::Clears),
-    ("script", Some(LARGEST_LIMIT), Workload::Script(Ids::Short)),
-    (
-        "hostile-script",
-        Some(LARGEST_LIMIT),
-        Workload::Script(Ids::Hostile),
-    ),
-    (
-        "harmless-script",
-        Some(LARGEST_LIMIT),
-        Workload::Script(Ids::Harmless),
-    ),
     ("tables", None, Workload::Tables(Ids::Short)),
     (
         "hostile-tables",
@@ -135,23 +90,11 @@ const WORKLOADS: [(&str, Option<u32>, Workload); 16] = [
     ("terms", Some(BATCH), Workload::Terms(Evaluated::One)),
 ];
 
-/// The word for each kind of plan file.
-const FILES: [(&str, FileKind); 7] = [
-    ("ordinary", FileKind::Ordinary),
-    ("plans", FileKind::Plans),
-    ("nested", FileKind::Nested),
-    ("steps", FileKind::Steps),
-    ("rows", FileKind::Rows),
-    ("each", FileKind::Each),
-    ("long-keys", FileKind::LongKeys),
-];
-
 /// A workload and its size.
 #[derive(Clone, Copy)]
 pub(crate) struct Command {
     pub(crate) workload: Workload,
-    /// How many keys; of `terms`, how many parts; of `inline` and `serve`, how many rounds; of a plan file, how many thousand
-    /// bytes.
+    /// How many keys; of `terms`, how many parts; of `inline` and `serve`, how many rounds.
     pub(crate) keys: u32,
     /// The most keys of a batch; of `threads`, how many callers.
     pub(crate) most: u32,
@@ -160,9 +103,9 @@ pub(crate) struct Command {
 /// Why words are no command.
 #[derive(Debug, Drop, Error)]
 pub(crate) enum CommandFault {
-    #[error("usage: dl_bench loads|many|rounds|tables|loader N B, hostile|harmless[-script|-tables] N, hits|clears|script|terms N, threads N C, inline P N, serve P W N, or plan-file|plan-file-read|plan-file-run ordinary|plans|nested|steps|rows|each|long-keys K")]
+    #[error("usage: dl_bench loads|many|rounds|tables|loader N B, hostile|harmless[-tables] N, hits|clears|terms N, threads N C, inline P N, or serve P W N")]
     Usage,
-    #[error("N, B, C, P, W and K are numbers from 1 to 65536, the largest limit of a loader")]
+    #[error("N, B, C, P and W are numbers from 1 to 65536, the largest limit of a loader")]
     Size,
 }
 
@@ -186,29 +129,12 @@ impl Command {
     /// The command of a name and two words.
     fn of_two(name: &str, first: &str, second: &str) -> Result<Command, CommandFault> {
         match name {
-            "plan-file" => Command::of_file(Use::Made, first, second),
-            "plan-file-read" => Command::of_file(Use::Read, first, second),
-            "plan-file-run" => Command::of_file(Use::Run, first, second),
             "inline" => {
                 let count = size(first)?;
                 Ok(Command::of_terms(Evaluated::InTurn { count }, size(second)?))
             }
             name => Command::named(name, size(first)?, Some(size(second)?)),
         }
-    }
-
-    /// The command of a plan file of a kind, with so many thousand bytes.
-    fn of_file(used: Use, kind: &str, kilobytes: &str) -> Result<Command, CommandFault> {
-        for (name, kind_of_name) in FILES {
-            if name == kind {
-                return Ok(Command {
-                    workload: Workload::PlanFile(used, kind_of_name),
-                    keys: size(kilobytes)?,
-                    most: BATCH,
-                });
-            }
-        }
-        Err(CommandFault::Usage)
     }
 
     /// The command of terms that take so many rounds.

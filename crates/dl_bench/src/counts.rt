@@ -4,8 +4,8 @@ use dl_desk::{Job, LARGEST_LIMIT, LoadReply};
 use dl_loader::{EndedBatch, EntryKind, History};
 use dl_source::BatchAnswer;
 
-/// Loads that began a cell and loads that were hits, batches begun, jobs sent, batches settled, lines
-/// printed, outcomes fetched or read, bytes of a document and of what it gives, and the batch of the newest cell.
+/// Loads that began a cell and loads that were hits, batches begun, jobs sent, batches settled, outcomes fetched or read, and
+/// the batch of the newest cell.
 #[derive(Default, Drop)]
 pub(crate) struct Counts {
     pub(crate) cells: u64,
@@ -13,10 +13,7 @@ pub(crate) struct Counts {
     pub(crate) batches: u64,
     pub(crate) jobs: u64,
     pub(crate) settled: u64,
-    pub(crate) lines: u64,
     pub(crate) outcomes: u64,
-    pub(crate) document: u64,
-    pub(crate) output: u64,
     pub(crate) last_batch: Option<u32>,
 }
 

@@ -7,12 +7,11 @@ mod alike;
 mod command;
 mod counts;
 mod desk;
-mod documents;
 mod ids;
 mod keys;
-mod plan_files;
 mod plans;
 mod shared;
+mod tables;
 mod terms;
 
 use crate::command::{Command, Evaluated, Workload};
@@ -44,16 +43,12 @@ fn run<R: RandomSource + Threads + Wait + Sync>(
         Workload::OneByOne(ids) => desk::one_by_one(alloc, hashing, counts, ids, keys, most),
         Workload::Listed(calls) => desk::listed(alloc, hashing, counts, calls, keys, most),
         Workload::Clears => desk::clears(alloc, hashing, counts, keys, most),
-        Workload::Script(ids) => documents::script(alloc, hashing, counts, ids, keys),
-        Workload::Tables(ids) => documents::tables(alloc, hashing, counts, ids, keys, most),
+        Workload::Tables(ids) => tables::tables(alloc, hashing, counts, ids, keys, most),
         Workload::Shared(callers) => {
             shared::on_loader(rt, alloc, hashing, counts, callers, keys, most)
         }
         Workload::Terms(evaluated) => {
             evaluate(rt, alloc, hashing, counts, evaluated, keys, most)
-        }
-        Workload::PlanFile(used, kind) => {
-            plan_files::used(rt, alloc, hashing, counts, used, kind, keys)
         }
     }
 }
@@ -111,10 +106,7 @@ fn print(rt: &impl Print, counts: &Counts) -> Result<()> {
         ("batches", counts.batches),
         ("jobs", counts.jobs),
         ("settled", counts.settled),
-        ("lines", counts.lines),
         ("outcomes", counts.outcomes),
-        ("document", counts.document),
-        ("output", counts.output),
     ] {
         println!(rt; "{name} {count}")?;
     }

@@ -1,54 +1,15 @@
-//! The workloads on a script and on tables.
+//! The workload on tables.
 
 use crate::command::Ids;
 use crate::counts::Counts;
 use crate::ids::{push_id, table_of};
 use crate::keys::{fronted_keys, keys_of, limits};
-use anyhow::{Result, bail};
+use anyhow::Result;
 use dl_desk::{FetchKey, Limits};
-use dl_plans::{Input, read_input, run_script};
 use dl_source::{Source, Tables};
 use serde_json::Value;
 use std::alloc::{AllocError, Global};
 use std::hash::RandomState;
-
-/// Reads a script that loads the keys one by one, answers it, and counts the lines of the answer.
-pub(crate) fn script(
-    alloc: Global,
-    hashing: RandomState,
-    counts: &mut Counts,
-    ids: Ids,
-    keys: u32,
-) -> Result<()> {
-    let text = script_of(alloc, ids.front(), keys)?;
-    let output = output_of(alloc, hashing, text.as_bytes())?;
-    counts.lines = output.bytes().filter(|byte| *byte == b'\n').count() as u64;
-    Ok(())
-}
-
-/// The text that a script's document gives.
-fn output_of(alloc: Global, hashing: RandomState, document: &[u8]) -> Result<String> {
-    match read_input(alloc, hashing, document)? {
-        Input::Script(script) => Ok(run_script(alloc, hashing, &script)?),
-        Input::Plans(_) => bail!("a script that is a plan file"),
-    }
-}
-
-/// The text of a script that loads the keys one by one, whose ids have a front or are numbers alone.
-fn script_of(alloc: Global, front: Option<&str>, keys: u32) -> Result<String, AllocError> {
-    let table = table_of(front);
-    let mut text = String::from_str(alloc, "{\"script\":1,\"calls\":[")?;
-    for number in 0..keys {
-        if number > 0 {
-            text.push_str(",")?;
-        }
-        write!(text, "{{\"load\":[\"{table}\",\"")?;
-        push_id(&mut text, front, number)?;
-        text.push_str("\"]}")?;
-    }
-    text.push_str("]}")?;
-    Ok(text)
-}
 
 /// Reads tables with a row for each key, fetches the keys, a batch at a time, and counts their outcomes.
 pub(crate) fn tables(
