@@ -1,11 +1,9 @@
-//! Tests of documents and of the program `plans`: worked scripts and plan files, documents that are refused, limits, readers
-//! and writers that fail, and a growth that is refused.
+//! Tests of the program `plans`: worked scripts and plan files, documents that are refused, readers and writers that fail, and
+//! a growth that is refused.
 #![tactic(auto)]
 
 #[cfg(test)]
 mod comparing;
-#[cfg(test)]
-mod documents;
 #[cfg(test)]
 mod generated;
 #[cfg(test)]
@@ -22,5 +20,3 @@ mod reference;
 mod scripts;
 #[cfg(test)]
 mod statuses;
-#[cfg(test)]
-mod texts;

@@ -1,8 +1,7 @@
 //! Plan files over the tables of users: by the words of a command line, what the program prints.
 
 use crate::host::{Fails, Run, Used, assert_ends};
-use crate::texts::{Parts, text};
-use dl_fixtures::USERS;
+use dl_fixtures::{Parts, USERS, text};
 use std::alloc::Global;
 use std::process::Abort;
 use std::sync::Wait;
@@ -295,7 +294,7 @@ static FILES: [(&str, Parts, &str); 5] = [
 #[test]
 fn a_file_in_parts_is_answered(rt: HostRuntime) {
     for (about, parts, output) in &FILES {
-        let document = text(&rt, rt.alloc(), parts);
+        let document = text(rt.alloc(), parts).expect(&rt, "no memory");
         let run = Run {
             used: used(output, None),
             output: Some(output),
@@ -410,7 +409,7 @@ static REFUSED: [(Parts, &str); 19] = [
 #[test]
 fn a_file_is_refused(rt: HostRuntime) {
     for (parts, line) in &REFUSED {
-        let document = text(&rt, rt.alloc(), parts);
+        let document = text(rt.alloc(), parts).expect(&rt, "no memory");
         assert_ends(&rt, rt.alloc(), refused(document.as_str(), line));
     }
 }

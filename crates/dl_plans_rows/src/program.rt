@@ -1,7 +1,6 @@
 //! `run` over readers and writers, the lines of its failures, and the command line.
 
 use crate::comparing::assert_is;
-use crate::texts::assert_refusal;
 use dl_desk::LimitFault;
 use dl_documents::PlanFault;
 use dl_haxl::RunFault;
@@ -154,16 +153,10 @@ fn a_reader_that_fails_leaves_nothing_written(rt: HostRuntime) {
 }
 
 #[test]
-fn a_front_of_a_document_is_refused(rt: HostRuntime) {
+fn a_document_without_its_first_byte_is_refused(rt: HostRuntime) {
     let hashing = RandomState::new(&rt).expect(&rt, "no random numbers");
-    let bytes = DOCUMENT.as_bytes();
-    for count in 0..bytes.len() {
-        let (front, want) = (&bytes[..count], Some(PlanFault::NotJson));
-        let about = format_args!("{count} bytes");
-        assert_refusal(&rt, rt.alloc(), hashing, front, want, about);
-    }
     let reader = Drip {
-        rest: &bytes[1..],
+        rest: &DOCUMENT.as_bytes()[1..],
         ..whole()
     };
     let writer = writer(usize::MAX, Ends::TakingNothing);

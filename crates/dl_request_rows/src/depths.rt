@@ -1,5 +1,6 @@
 //! How deep and how high terms are.
 
+use crate::comparing::assert_is;
 use dl_fixtures::{BEST, FRIENDS, Shape, U1, term};
 
 /// Terms, each with how deep and how high it is.
@@ -22,7 +23,7 @@ static ROWS: [(Shape, u32, u32); 12] = [
 fn depth_and_height(rt: HostRuntime) {
     for (shape, depth, height) in &ROWS {
         let term = term(rt.alloc(), shape).expect(&rt, "no memory");
-        assert_eq!(rt; term.depth(), *depth);
-        assert_eq!(rt; term.height(), *height);
+        assert_is(&rt, &term.depth(), depth, "depth");
+        assert_is(&rt, &term.height(), height, "height");
     }
 }

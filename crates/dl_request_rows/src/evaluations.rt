@@ -2,6 +2,7 @@
 
 ghost use Rattle.dl_history.specs.Service.{Answers};
 
+use crate::comparing::assert_is;
 use crate::rows::{Player, Row, try_row};
 use crate::texts::evaluation_text;
 use dl_fixtures::{ADA, BEST, FRIENDS, Shape, U1, U2, list_text, term};
@@ -229,8 +230,8 @@ pub(crate) fn evaluate<L: LoaderName, S: Source, R: Abort + Wait>(
     requires { Answers (S.answer source.now) L.service }
 {
     let (text, rounds) = evaluated(rt, alloc, hashing, source, loader, pass, row)?;
-    assert_eq!(rt; text.as_str(), row.answer, "of {}", row.about);
-    assert_eq!(rt; rounds, row.rounds, "of {}", row.about);
+    assert_is(rt, &text.as_str(), &row.answer, row.about);
+    assert_is(rt, &rounds, &row.rounds, row.about);
     Some(())
 }
 
@@ -286,9 +287,7 @@ pub(crate) fn starve<L: LoaderName, S: Source, R: Abort + Wait>(
 {
     let (text, _rounds) = evaluated(rt, alloc, hashing, source, loader, pass, row)?;
     let text = text.as_str();
-    assert!(rt;
-        text == row.answer || STARVED.contains(&text),
-        "an evaluation gave {text}"
-    );
+    let is_given = text == row.answer || STARVED.contains(&text);
+    assert_is(rt, &is_given, &true, text);
     Some(())
 }

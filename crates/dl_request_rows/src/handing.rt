@@ -6,6 +6,7 @@ ghost use Rattle.dl_history.specs.Service.{Answers};
 ghost use Rattle.dl_loader.specs.Opening.{Names};
 ghost use Rattle.dl_workers.specs.Seats.{IsSenderOf, IsTakerOf};
 
+use crate::comparing::assert_is;
 use crate::texts::evaluation_text;
 use dl_desk::Limits;
 use dl_fixtures::{Shape, term};
@@ -299,8 +300,8 @@ fn play_turn<L: LoaderName + Send + Sync, S: Source + Sync, R: Threads + Wait + 
 /// What is seen of a turn is what must be.
 fn assert_turn(rt: &impl Abort, turn: &Turn<'_>, seen: &Seen) {
     let text = seen.text.as_str();
-    assert!(rt; turn.answers.contains(&text), "an evaluation gave {text}");
-    assert_eq!(rt; seen.tally.left, 0, "with {text}");
+    assert_is(rt, &turn.answers.contains(&text), &true, text);
+    assert_is(rt, &seen.tally.left, &0, text);
     if turn.answers.len() > 1 {
         return;
     }
@@ -309,9 +310,7 @@ fn assert_turn(rt: &impl Abort, turn: &Turn<'_>, seen: &Seen) {
         taken: turn.jobs,
         left: 0,
     };
-    assert_eq!(rt;
-        (seen.rounds, seen.end, seen.tally),
-        (turn.rounds, turn.end, tally),
-        "with {text}"
-    );
+    assert_is(rt, &seen.rounds, &turn.rounds, text);
+    assert_is(rt, &seen.end, &turn.end, text);
+    assert_is(rt, &seen.tally, &tally, text);
 }

@@ -1,6 +1,7 @@
 //! Terms whose jobs are handed over by a queue, to a worker on a thread of its own or, where the queue was shut, to nobody:
 //! worked rows of answers, rounds, jobs, and what the caller's pass has.
 
+use crate::comparing::assert_is;
 use crate::evaluations::{ROWS, TWO_FRIENDS};
 use crate::handing::{Place, Turn, play_over};
 use crate::rows::{Row, assert_history, assert_ids};
@@ -267,20 +268,20 @@ fn try_scene<R: Abort + Threads + Wait + Sync>(
     let closed = played.expect(rt, "a growth was refused");
     match (&closed, scene.closed) {
         (Ok(history), Ok(want)) => assert_closed(rt, history, want),
-        (Err(fault), Err(want)) => assert_eq!(rt; *fault, want, "of {}", scene.about),
-        _ => assert!(rt; false, "the close of {}", scene.about),
+        (Err(fault), Err(want)) => assert_is(rt, fault, &want, scene.about),
+        _ => assert_is(rt, &closed.is_ok(), &scene.closed.is_ok(), scene.about),
     }
 }
 
 /// The history tells this.
 fn assert_closed(rt: &impl Abort, history: &History, want: &Closed) {
-    assert_eq!(rt; history.entries(0), want.entries);
+    assert_is(rt, &history.entries(0), &want.entries, "entries");
     let batches = history.batches();
     for (number, (ids, is_settled)) in want.batches.iter().enumerate() {
         let number = u32::try_from(number).expect(rt, "no number of a batch");
         let batch = batches.get(number).expect(rt, "a batch too few");
         assert_ids(rt, batch.keys(), ids);
-        assert_eq!(rt; batch.is_settled(), *is_settled);
+        assert_is(rt, &batch.is_settled(), is_settled, "settled");
     }
 }
 

@@ -2,6 +2,7 @@
 
 ghost use Rattle.dl_history.specs.Service.{Answers};
 
+use crate::comparing::assert_is;
 use crate::rows::{Player, Row, assert_ids, try_row};
 use crate::texts::debug_text;
 use dl_desk::FetchKey;
@@ -85,7 +86,7 @@ fn assert_waits<L: LoaderName>(
     want: &[&str],
 ) {
     assert_run(rt, alloc, task, run, "pending");
-    assert!(rt; task.is_woken());
+    assert_is(rt, &task.is_woken(), &true, "woken");
     assert_ids(rt, run.wanted(), want);
 }
 
@@ -98,7 +99,7 @@ fn assert_run<L: LoaderName>(
     want: &str,
 ) {
     let text = run_text(alloc, task, run).expect(rt, "no memory");
-    assert_eq!(rt; text.as_str(), want);
+    assert_is(rt, &text.as_str(), &want, "a poll");
 }
 
 /// What a poll of a run gives: that it is pending, the text of the answer, or why there is none.
@@ -201,7 +202,7 @@ fn poll_until_shown<L: LoaderName, S: Source, R: Abort + Wait>(
     requires { Answers (S.answer source.now) L.service }
 {
     assert_load(rt, alloc, task, load, "pending");
-    assert!(rt; task.is_woken());
+    assert_is(rt, &task.is_woken(), &true, "woken");
     end_all(rt, alloc, source, loader, pass);
     assert_load(rt, alloc, task, load, answer);
     assert_load(rt, alloc, task, load, "Finished");
@@ -216,7 +217,7 @@ fn assert_load<L: LoaderName>(
     want: &str,
 ) {
     let text = load_text(alloc, task, load).expect(rt, "no memory");
-    assert_eq!(rt; text.as_str(), want);
+    assert_is(rt, &text.as_str(), &want, "a poll");
 }
 
 /// What a poll of a load's future gives: that it is pending, the text of the outcome, or why there is none.
@@ -278,7 +279,7 @@ fn assert_starves<L: LoaderName>(
         assert_ids(rt, run.wanted(), &["u1", "u2"]);
         return Some(());
     }
-    assert_eq!(rt; text.as_str(), "OutOfMemory");
+    assert_is(rt, &text.as_str(), &"OutOfMemory", "a poll");
     assert_run(rt, alloc, task, run, "OutOfMemory");
     Some(())
 }

@@ -4,6 +4,7 @@ ghost use Rattle.std.specs.Prelude.{◌≡◌};
 ghost use Rattle.dl_history.specs.Service.{Answers};
 ghost use Rattle.dl_loader.specs.Opening.{Names};
 
+use crate::comparing::assert_is;
 use crate::{evaluations, polls};
 use dl_desk::{FetchKey, Limits};
 use dl_fixtures::{CountedTables, Shape, USERS, tables};
@@ -77,12 +78,8 @@ fn over<R: Abort + AllocGlobal + RandomSource + Wait>(
     if matches!(player, Player::Starved | Player::StarvedRun) {
         return Some(());
     }
-    assert_eq!(rt;
-        source.fetches() as usize,
-        row.batches.len(),
-        "of {}",
-        row.about
-    );
+    let fetches = source.fetches() as usize;
+    assert_is(rt, &fetches, &row.batches.len(), row.about);
     assert_history(rt, &closed.expect(rt, "the loader can't be closed"), row);
     Some(())
 }
@@ -138,16 +135,16 @@ pub(crate) fn assert_history(rt: &impl Abort, history: &History, row: &Row<'_>) 
         let number = u32::try_from(number).expect(rt, "no number of a batch");
         let batch = batches.get(number).expect(rt, "a batch too few");
         assert_ids(rt, batch.keys(), ids);
-        assert_eq!(rt; batch.is_settled(), row.settled, "of {}", row.about);
+        assert_is(rt, &batch.is_settled(), &row.settled, row.about);
     }
     let events = 2 * row.rounds as usize + row.batches.len();
-    assert_eq!(rt; history.events().len() as usize, events, "of {}", row.about);
+    assert_is(rt, &(history.events().len() as usize), &events, row.about);
 }
 
 /// The keys have these ids.
 pub(crate) fn assert_ids(rt: &impl Abort, keys: &[FetchKey], want: &[&str]) {
-    assert_eq!(rt; keys.len(), want.len());
+    assert_is(rt, &keys.len(), &want.len(), "keys");
     for (key, want) in keys.iter().zip(want.iter()) {
-        assert_eq!(rt; key.id(), *want);
+        assert_is(rt, &key.id(), want, "id");
     }
 }

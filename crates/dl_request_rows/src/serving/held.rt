@@ -1,5 +1,6 @@
 //! Workers that fetch at once, and plans that run at once: one worker is held until another has ended its batch.
 
+use crate::comparing::assert_is;
 use crate::serving::plans::StepShape::{Clear, Eval};
 use crate::serving::plans::{PlanShape, plans};
 use crate::serving::reports::{Answers, assert_report};
@@ -110,5 +111,5 @@ fn try_row<R: Abort + Threads + Wait + Sync>(
     let report = served.expect(rt, row.about);
     assert_report(rt, alloc, &report, row.answers, row.rounds);
     let gave_up = gate.gave_up.load(Ordering::SeqCst);
-    assert!(rt; !gave_up, "no other batch has ended: {}", row.about);
+    assert_is(rt, &gave_up, &false, row.about);
 }

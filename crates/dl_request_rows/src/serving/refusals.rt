@@ -1,8 +1,9 @@
 //! Plans that are refused, at both sides of each limit, batches that are not fetched, and a growth that is refused.
 
+use crate::comparing::assert_is;
 use crate::serving::plans::StepShape::{Clear, Eval};
 use crate::serving::plans::{PlanShape, plans};
-use crate::serving::reports::{Answers, assert_batches, assert_report, assert_same};
+use crate::serving::reports::{Answers, assert_batches, assert_report};
 use crate::serving::users::{hashing, users};
 use dl_desk::Limits;
 use dl_fixtures::{ADA, FRIENDS, Shape, Starved, U1, U2, USERS, tables};
@@ -139,13 +140,7 @@ fn try_row<S: Source + Sync, R: Abort + Threads + Wait + Sync>(
 ) {
     for workers in row.workers {
         let served = serve_row(rt, alloc, hashing, source, *workers, row);
-        let fault = Some(row.fault);
-        assert_eq!(rt;
-            served.err(),
-            fault,
-            "of {}, by {workers} workers",
-            row.about
-        );
+        assert_is(rt, &served.err(), &Some(row.fault), row.about);
     }
 }
 
@@ -198,7 +193,7 @@ fn a_plan_of_no_steps(rt: HostRuntime) {
     let report = report_of(&rt, rt.alloc(), 1, &ROW);
     assert_report(&rt, rt.alloc(), &report, &[&[]], &[0]);
     assert_batches(&rt, &report, &[]);
-    assert_same(&rt, &report.history().events().len(), &0);
+    assert_is(&rt, &report.history().events().len(), &0, "events");
 }
 
 /// As many plans of one user as there may be, by as many workers.
@@ -251,8 +246,8 @@ fn starve<R: Abort + Threads + Wait + Sync>(
         queue: 1,
     };
     match serve(rt, alloc, hashing, users, setup, plans, &NoGate) {
-        Ok(report) => assert_eq!(rt; report.rounds(), [2, 1].as_slice()),
-        Err(fault) => assert!(rt; is_for_want_of_memory(fault), "plans met {fault:?}"),
+        Ok(report) => assert_is(rt, &report.rounds(), &[2, 1].as_slice(), "rounds"),
+        Err(fault) => assert_is(rt, &is_for_want_of_memory(fault), &true, fault),
     }
 }
 

@@ -1,5 +1,6 @@
 //! A program that serves requests, as docs/USING.md shows it.
 
+use crate::comparing::assert_is;
 use dl_desk::{FetchKey, Limits, Text};
 use dl_fixtures::{USERS, answer_text, tables};
 use dl_scope::{Plan, Report, Setup, Step, serve};
@@ -60,7 +61,7 @@ fn requests_that_are_served_at_once(rt: HostRuntime) -> Result<(), Fail> {
     for (answers, want) in report.answers().iter().zip([r#""Bob""#, r#""Ada""#].iter()) {
         let given = answers.first().expect(&rt, "no answer");
         let text = answer_text(alloc, &given.answer).expect(&rt, "no memory");
-        assert_eq!(&rt; text.as_str(), *want);
+        assert_is(&rt, &text.as_str(), want, "answer");
     }
     Ok(())
 }

@@ -1,8 +1,9 @@
 //! Plan files that are none: the fault of each, and of several the first.
 
-use crate::texts::{Parts, assert_refusal, text};
+use super::assert_refusal;
 use dl_desk::LimitFault;
 use dl_documents::PlanFault;
+use dl_fixtures::{Parts, text};
 use dl_source::TableFault;
 use std::alloc::Global;
 use std::hash::RandomState;
@@ -498,7 +499,7 @@ static LIMITS: [(&str, Parts, Option<PlanFault>); 33] = [
 fn a_plan_file_has_limits(rt: HostRuntime) {
     let hashing = RandomState::new(&rt).expect(&rt, "no random numbers");
     for (about, parts, want) in &LIMITS {
-        let document = text(&rt, rt.alloc(), parts);
+        let document = text(rt.alloc(), parts).expect(&rt, "no memory");
         assert_refusal(&rt, rt.alloc(), hashing, document.as_bytes(), *want, about);
     }
 }
