@@ -10,6 +10,7 @@ pub mod KeptEnds
 pub mod KeptCalls
 mod LoadEvents
 pub mod KeyEvents
+mod Cleared
 pub mod GivenDues
 pub mod BatchEnds
 mod Called
