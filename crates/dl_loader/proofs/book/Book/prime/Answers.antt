@@ -49,8 +49,10 @@ returns-in_ok-make_prime-in-Primed-clause-refused g c =
 
 pub returns-in_ok-make_prime-in-Kept-clause-accepted : goal.returns-in_ok-make_prime-in-Kept-clause-accepted
 returns-in_ok-make_prime-in-Kept-clause-accepted g c =
-    accepted c.args.pass.now.part (Prime c.args.key.now c.args.outcome.now) c.self.view_is c.self.invariant c.in_ok-admit.ensures.ok c.in_ok-prepare_prime.ensures.accepted
+    accepted c.args.pass.now.part (Prime c.args.key.now c.args.outcome.now) c.self.view_is c.self.invariant c.in_ok-admit.ensures.ok
+    c.in_ok-prepare_prime.ensures.accepted
 
 pub returns-in_ok-make_prime-in-Primed-clause-accepted : goal.returns-in_ok-make_prime-in-Primed-clause-accepted
 returns-in_ok-make_prime-in-Primed-clause-accepted g c =
-    accepted c.args.pass.now.part (Prime c.args.key.now c.args.outcome.now) c.self.view_is c.self.invariant c.in_ok-admit.ensures.ok c.in_ok-prepare_prime.ensures.accepted
+    accepted c.args.pass.now.part (Prime c.args.key.now c.args.outcome.now) c.self.view_is c.self.invariant c.in_ok-admit.ensures.ok
+    c.in_ok-prepare_prime.ensures.accepted
