@@ -16,6 +16,7 @@ pub mod BatchEnds
 mod Called
 pub mod AddedLemmas
 pub mod StillGiven
+mod Accepted
 mod AccountLemmas
 mod ClosingLemmas
 mod Sources

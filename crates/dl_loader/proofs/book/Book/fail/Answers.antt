@@ -1,8 +1,10 @@
 use Rattle.std.proofs.Common.{refl}
 use Rattle.dl_desk.specs.Events.{atoms}
+use Rattle.dl_history.specs.declared.event.Call.TheVariants.{Fail}
 use Rattle.dl_history.specs.History.{log}
+use Rattle.dl_loader.specs.Asks.{fault_of}
 use Rattle.dl_loader.proofs.Kept.{may_call}
-use Rattle.dl_loader.proofs.BatchEnds.{can_end_cells, fail_kept, few_end, given_up, may_end}
+use Rattle.dl_loader.proofs.BatchEnds.{can_end_cells, end_refused, fail_kept, few_end, given_up, may_end}
 use Rattle.dl_loader.proofs.book.Book.fail.Goals as goal
 
 pub make_end-requires-clause-few : goal.make_end-requires-clause-few
@@ -28,3 +30,9 @@ invariant_of-self-2 g c =
       given = rw c.batch_fault-fault.ensures at c.in_ok-settled.ensures.given;
     })
     (record { rules = c.end.ensures.rules; stands = c.end.ensures.stands })
+
+pub returns-clause-accepted : goal.returns-clause-accepted
+returns-clause-accepted g c =
+    let job = c.args.job.now in
+    end_refused c.args.pass.now.part (Fail job.batch (fault_of c.args.give_up)) job c.self.view_is c.self.invariant c.in_ok-admit.ensures.ok (λ h. refl)
+    (λ h stands. rw c.as_slice.ensures at c.in_ok-cells.ensures.accepted h stands)

@@ -3,6 +3,7 @@ use Rattle.dl_history.specs.declared.event.Event.{Event}
 use Rattle.dl_history.specs.declared.event.Call.TheVariants.{Load}
 use Rattle.dl_history.specs.declared.event.Reply.TheVariants.{Loaded}
 use Rattle.dl_history.specs.Journal.{refusals}
+use Rattle.dl_loader.proofs.Accepted.{accepted}
 use Rattle.dl_loader.proofs.Kept.{event, gained, may_call, prepared_step}
 use Rattle.dl_loader.proofs.LoadEvents.{refusals_waiting, one_answered, one_prepared, one_fits, one_kept}
 use Rattle.dl_loader.proofs.book.Book.load.Goals as goal
@@ -27,3 +28,7 @@ invariant_of-self-2 g c =
 pub returns-clause-refused : goal.returns-clause-refused
 returns-clause-refused g c =
     refusals_waiting c.self.inside.journal.cells c.begun_by.result c.in_ok-make_event.ensures.recorded.cells ∙ ap (λ b. refusals b.cells) c.self.view_is
+
+pub returns-clause-accepted : goal.returns-clause-accepted
+returns-clause-accepted g c =
+    accepted c.args.pass.now.part (Load c.args.key.now) c.self.view_is c.self.invariant c.in_ok-admit.ensures.ok c.in_ok-reply.ensures.accepted

@@ -1,6 +1,8 @@
 use Rattle.std.proofs.Common.{◌+◌, ◌∙◌, ap, cond, refl, sym}
+use Rattle.dl_history.specs.declared.event.Call.TheVariants.{Prime}
 use Rattle.dl_history.specs.Journal.{refusals}
 use Rattle.dl_loader.specs.Book.{Locked}
+use Rattle.dl_loader.proofs.Accepted.{accepted}
 use Rattle.dl_loader.proofs.Kept.{gained, may_call, prepared_step}
 use Rattle.dl_loader.proofs.KeyEvents.{is_prime, gets_copy, held_kept, primed_room, primed_waits, primed_kept, primed_refusals}
 use Rattle.dl_loader.proofs.book.Book.prime.Goals as goal
@@ -44,3 +46,13 @@ returns-in_ok-make_prime-in-Primed-clause-refused g c =
     (gets_copy c.end-shown.result c.in_ok-ending-in-Primed.ending.value c.in_ok-ending-in-Primed.ensures c.next_place.ensures refl
     c.end-shown.ensures.ended) in
     count ∙ ap (λ (x : Locked). refusals x.cells + cond c.end-shown.result 0 1) c.self.view_is
+
+pub returns-in_ok-make_prime-in-Kept-clause-accepted : goal.returns-in_ok-make_prime-in-Kept-clause-accepted
+returns-in_ok-make_prime-in-Kept-clause-accepted g c =
+    accepted c.args.pass.now.part (Prime c.args.key.now c.args.outcome.now) c.self.view_is c.self.invariant c.in_ok-admit.ensures.ok
+    c.in_ok-prepare_prime.ensures.accepted
+
+pub returns-in_ok-make_prime-in-Primed-clause-accepted : goal.returns-in_ok-make_prime-in-Primed-clause-accepted
+returns-in_ok-make_prime-in-Primed-clause-accepted g c =
+    accepted c.args.pass.now.part (Prime c.args.key.now c.args.outcome.now) c.self.view_is c.self.invariant c.in_ok-admit.ensures.ok
+    c.in_ok-prepare_prime.ensures.accepted
