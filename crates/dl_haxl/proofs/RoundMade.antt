@@ -1,6 +1,6 @@
 -- A round from its steps.
-use Rattle.std.proofs.Common.{◌≡◌, ◌∙◌, ap, sym, subst, refl, ℕ, ◌+◌, ◌<◌, ◌≤◌, false, List, [], ◌∷◌, ◌++◌, map, length, Some, arith, rules, append_assoc}
-use Rattle.std.proofs.Common.{Result, Ok, Err, IfOk, IsErr, OnErr}
+use Rattle.std.proofs.Common.{◌≡◌, ◌∙◌, ap, sym, subst, refl, ℕ, ◌+◌, ◌<◌, ◌≤◌, false, List, [], ◌∷◌, ◌++◌, map, length, Some, arith, append_assoc}
+use Rattle.std.proofs.Common.{rules, Result, Ok, Err, IfOk, IsErr, OnErr}
 use Rattle.std.proofs.lemmas.List.{length-map}
 use Rattle.dl_desk.specs.Key.{Key}
 use Rattle.dl_desk.specs.declared.reply.Job.{Job}

@@ -19,7 +19,7 @@ returns-in_err-tickets g c =
     let r = c.from_residual.result in
     record {
       fits = c.requires.fits;
-      round = not_ok _ r err;
+      round = search rules;
       shown = not_ok _ r err;
       each = not_ok _ r err;
       front = not_ok _ r err;
@@ -38,14 +38,14 @@ returns-in_err-jobs g c =
     let r = c.from_residual-in_err-jobs.result in
     record {
       fits = c.requires.fits;
-      round = not_ok _ r err;
+      round = search rules;
       shown = not_ok _ r err;
       each = not_ok _ r err;
       front = not_ok _ r err;
       bound = not_ok _ r err;
       sent = none_sent (g.O.Outlet.sent_by c.args.seat.now);
-      grows = (on_err c.from_residual-in_err-jobs.result (subst (Grows old) (sym c.in_err-jobs.ensures.unchanged)
-    (made_grows s old loaded (LoadMany c.args.wanted.now) (Many replies) c.in_ok-tickets.ensures.made)));
+      grows = on_err r (subst (Grows old) (sym c.in_err-jobs.ensures.unchanged)
+          (made_grows s old loaded (LoadMany c.args.wanted.now) (Many replies) c.in_ok-tickets.ensures.made));
     }
 
 pub returns-in_err-give_out : goal.returns-in_err-give_out
@@ -60,13 +60,13 @@ returns-in_err-give_out g c =
     let r = c.from_residual-in_err-give_out.result in
     record {
       fits = c.give_out.ensures.fits;
-      round = not_ok _ r err;
+      round = search rules;
       shown = not_ok _ r err;
       each = not_ok _ r err;
       front = not_ok _ r err;
       bound = not_ok _ r err;
       sent = c.give_out.ensures.sent;
-      grows = (on_err c.from_residual-in_err-give_out.result (grows_after old dispatched c.give_out.new.pass.part sent c.in_err-give_out.ensures.grows));
+      grows = on_err r (grows_after old dispatched c.give_out.new.pass.part sent c.in_err-give_out.ensures.grows);
     }
 
 pub give_out-requires : goal.give_out-requires
@@ -95,14 +95,14 @@ returns-in_err-read_each g c =
     let r = c.from_residual-in_err-read_each.result in
     record {
       fits = c.give_out.ensures.fits;
-      round = not_ok _ r err;
+      round = search rules;
       shown = not_ok _ r err;
       each = not_ok _ r err;
       front = not_ok _ r err;
       bound = not_ok _ r err;
       sent = c.give_out.ensures.sent;
-      grows = (on_err c.from_residual-in_err-read_each.result
-    (grows_after old ended c.read_each.new.pass.part (grows_after old dispatched ended sent (ends.0, ends.1, ends.2)) c.in_err-read_each.ensures.grows));
+      grows = on_err r (grows_after old ended c.read_each.new.pass.part
+          (grows_after old dispatched ended sent (ends.0, ends.1, ends.2)) c.in_err-read_each.ensures.grows);
     }
 
 pub returns : goal.returns
