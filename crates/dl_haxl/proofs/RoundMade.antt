@@ -1,6 +1,6 @@
 -- A round from its steps.
 use Rattle.std.proofs.Common.{◌≡◌, ◌∙◌, ap, sym, subst, refl, ℕ, ◌+◌, ◌<◌, ◌≤◌, false, List, [], ◌∷◌, ◌++◌, map, length, Some, arith, append_assoc}
-use Rattle.std.proofs.Common.{Result, Ok, Err, OnErr}
+use Rattle.std.proofs.Common.{rules, Result, Ok, Err, IfOk, IsErr, OnErr}
 use Rattle.std.proofs.lemmas.List.{length-map}
 use Rattle.dl_desk.specs.Key.{Key}
 use Rattle.dl_desk.specs.declared.reply.Job.{Job}
@@ -17,7 +17,7 @@ use Rattle.dl_loader.proofs.AddedLemmas.{made_adds, gave_still, grows_after}
 use Rattle.dl_loader.proofs.Tickets.{tickets_entries}
 use Rattle.dl_haxl.specs.Pairs.{outcomes_shown}
 use Rattle.dl_haxl.specs.Reads.{Reads}
-use Rattle.dl_haxl.specs.Stretch.{AddsAndSends, Round}
+use Rattle.dl_haxl.specs.Stretch.{AddsAndSends, Round, SentMore}
 use Rattle.dl_haxl.proofs.Reading.{reply_of, known_of, reads_shown}
 
 -- tickets that were given are given still, while the pass keeps its tickets
@@ -132,3 +132,10 @@ module _ (JobsEnd : ℕ → List Job → List Job → List Line → Type 0) (s :
 pub on_err : {A E P : Type 0} (r : Result A E) → P → OnErr r P
 on_err (Ok x) p = tt
 on_err (Err e) p = p
+
+pub not_ok : {A E : Type 0} (P : A → Type 0) (r : Result A E) → IsErr r → IfOk r P
+not_ok P (Ok x) err = cc
+not_ok P (Err e) err = tt
+
+pub none_sent : (jobs : List Job) → SentMore jobs jobs
+none_sent jobs = ([], search rules)

@@ -1,10 +1,12 @@
 use Rattle.std.specs.Prelude.{◌≤◌, ℕ, IfOk, Ok, Err, Result}
+use Rattle.std.proofs.Common.{rules}
 use Rattle.dl_terms.specs.Tree.{Tree, depth_of}
 use Rattle.dl_terms.specs.View.{term_view}
 use Rattle.dl_terms.specs.declared.answer.Answer.{Answer}
 use Rattle.dl_haxl.specs.Run.{IsRunOf, Run}
 use Rattle.dl_haxl.specs.Seen.{seen}
 use Rattle.dl_haxl.specs.declared.fault.RunFault.{RunFault}
+use Rattle.dl_haxl.proofs.RoundMade.{none_sent, not_ok}
 use Rattle.dl_haxl.proofs.evaluation.evaluate.Goals as goal
 
 -- what holds of each term that a run is of holds of its own
@@ -13,6 +15,25 @@ of_own : (r : Result (Answer × ℕ) RunFault) (t : Tree) (run : Run) → IsRunO
 of_own (Ok x) t run is few = few t is
 of_own (Err fault) t run is few = tt
 
-pub returns-clause-rounds : goal.returns-clause-rounds
-returns-clause-rounds g c =
-    of_own c.go_on.result (term_view c.args.term) (seen c.in_ok-run.run') c.in_ok-run.ensures.run c.go_on.ensures.rounds
+pub returns-in_err-run : goal.returns-in_err-run
+returns-in_err-run g c =
+    let err = c.from_residual.ensures.0 in
+    record {
+      fits = c.requires.fits;
+      evaluates = not_ok _ c.from_residual.result err;
+      rounds = not_ok _ c.from_residual.result err;
+      sent = none_sent (g.O.Outlet.sent_by c.args.seat.now);
+      grows = search rules;
+    }
+
+pub go_on-requires : goal.go_on-requires
+go_on-requires g c = search rules
+
+pub returns : goal.returns
+returns g c = record {
+  fits = c.go_on.ensures.fits;
+  evaluates = search rules;
+  rounds = of_own c.go_on.result (term_view c.args.term) (seen c.in_ok-run.run') c.in_ok-run.ensures.run c.go_on.ensures.rounds;
+  sent = c.go_on.ensures.sent;
+  grows = c.go_on.ensures.grows;
+}

@@ -1,4 +1,4 @@
-use Rattle.std.proofs.Common.{◌≡◌, ◌∙◌, ap, sym, subst, ◌+◌, ℕ, List, ◌++◌, arith}
+use Rattle.std.proofs.Common.{◌≡◌, ◌∙◌, ap, sym, subst, ◌+◌, ℕ, List, ◌++◌, arith, rules}
 use Rattle.dl_history.specs.Entries.{Line}
 use Rattle.dl_desk.specs.declared.reply.Job.{Job}
 use Rattle.dl_loader.proofs.AddedLemmas.{grows_after}
@@ -84,3 +84,27 @@ loop-preserved g c =
       grows = grows_after old now new kept.grows (round.2.0, round.2.1, round.2.2);
       front = omega (arith, low, high);
     }
+
+pub loop-init : goal.loop-init
+loop-init g c = search rules
+
+pub returns-in-Ready-Ok-clause-fits : goal.returns-in-Ready-Ok-clause-fits
+returns-in-Ready-Ok-clause-fits g c = search rules
+
+pub returns-in-Ready-Ok-clause-sent : goal.returns-in-Ready-Ok-clause-sent
+returns-in-Ready-Ok-clause-sent g c = search rules
+
+pub returns-in-Ready-Ok-clause-grows : goal.returns-in-Ready-Ok-clause-grows
+returns-in-Ready-Ok-clause-grows g c = search rules
+
+pub returns-in-Ready-Err : goal.returns-in-Ready-Err
+returns-in-Ready-Err g c = search rules
+
+pub returns-in_err-tickets-clause-fits : goal.returns-in_err-tickets-clause-fits
+returns-in_err-tickets-clause-fits g c = search rules
+
+pub returns-in_err-tickets-clause-evaluates : goal.returns-in_err-tickets-clause-evaluates
+returns-in_err-tickets-clause-evaluates g c = search rules
+
+pub returns-in_err-tickets-clause-rounds : goal.returns-in_err-tickets-clause-rounds
+returns-in_err-tickets-clause-rounds g c = search rules

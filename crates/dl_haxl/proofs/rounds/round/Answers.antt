@@ -10,27 +10,67 @@ use Rattle.dl_haxl.specs.Pairs.{all_show, outcomes_shown}
 use Rattle.dl_haxl.specs.Reads.{GaveFresh, Reads}
 use Rattle.dl_haxl.specs.Stretch.{AddsAndSends, Round}
 use Rattle.dl_haxl.proofs.Reading.{reply_of, reads_shown}
-use Rattle.dl_haxl.proofs.RoundMade.{Steps, made_grows, two_grow, round_made, round_front, still_gave, on_err}
+use Rattle.dl_haxl.proofs.RoundMade.{Steps, made_grows, two_grow, round_made, round_front, still_gave, none_sent, not_ok, on_err}
 use Rattle.dl_haxl.proofs.rounds.round.Goals as goal
 
-pub returns-in_err-jobs-clause-grows : goal.returns-in_err-jobs-clause-grows
-returns-in_err-jobs-clause-grows g c =
+pub returns-in_err-tickets : goal.returns-in_err-tickets
+returns-in_err-tickets g c =
+    let err = c.from_residual.ensures.0 in
+    let r = c.from_residual.result in
+    record {
+      fits = c.requires.fits;
+      round = search rules;
+      shown = not_ok _ r err;
+      each = not_ok _ r err;
+      front = not_ok _ r err;
+      bound = not_ok _ r err;
+      sent = none_sent (g.O.Outlet.sent_by c.args.seat.now);
+      grows = search rules;
+    }
+
+pub returns-in_err-jobs : goal.returns-in_err-jobs
+returns-in_err-jobs g c =
     let s : Service = g.L.LoaderName.service in
     let old = c.args.pass.now.part in
     let loaded = c.load_many.new.pass.part in
     let replies = map reply_of c.in_ok-tickets.tickets.items in
-    on_err c.from_residual-in_err-jobs.result (subst (Grows old) (sym c.in_err-jobs.ensures.unchanged)
-    (made_grows s old loaded (LoadMany c.args.wanted.now) (Many replies) c.in_ok-tickets.ensures.made))
+    let err = c.from_residual-in_err-jobs.ensures.0 in
+    let r = c.from_residual-in_err-jobs.result in
+    record {
+      fits = c.requires.fits;
+      round = search rules;
+      shown = not_ok _ r err;
+      each = not_ok _ r err;
+      front = not_ok _ r err;
+      bound = not_ok _ r err;
+      sent = none_sent (g.O.Outlet.sent_by c.args.seat.now);
+      grows = on_err r (subst (Grows old) (sym c.in_err-jobs.ensures.unchanged)
+          (made_grows s old loaded (LoadMany c.args.wanted.now) (Many replies) c.in_ok-tickets.ensures.made));
+    }
 
-pub returns-in_err-give_out-clause-grows : goal.returns-in_err-give_out-clause-grows
-returns-in_err-give_out-clause-grows g c =
+pub returns-in_err-give_out : goal.returns-in_err-give_out
+returns-in_err-give_out g c =
     let s : Service = g.L.LoaderName.service in
     let old = c.args.pass.now.part in
     let dispatched = c.dispatch.new.pass.part in
     let replies = map reply_of c.in_ok-tickets.tickets.items in
     let sent = two_grow s old c.load_many.new.pass.part dispatched (LoadMany c.args.wanted.now) Dispatch (Many replies) (Sent c.in_ok-jobs.jobs.items)
     c.in_ok-tickets.ensures.made c.in_ok-jobs.ensures.made in
-    on_err c.from_residual-in_err-give_out.result (grows_after old dispatched c.give_out.new.pass.part sent c.in_err-give_out.ensures.grows)
+    let err = c.from_residual-in_err-give_out.ensures.0 in
+    let r = c.from_residual-in_err-give_out.result in
+    record {
+      fits = c.give_out.ensures.fits;
+      round = search rules;
+      shown = not_ok _ r err;
+      each = not_ok _ r err;
+      front = not_ok _ r err;
+      bound = not_ok _ r err;
+      sent = c.give_out.ensures.sent;
+      grows = on_err r (grows_after old dispatched c.give_out.new.pass.part sent c.in_err-give_out.ensures.grows);
+    }
+
+pub give_out-requires : goal.give_out-requires
+give_out-requires g c = record { fits = c.requires.fits }
 
 pub read_each-requires : goal.read_each-requires
 read_each-requires g c =
@@ -41,8 +81,8 @@ read_each-requires g c =
     let still = still_gave loaded c.give_out.new.pass.part first ts same c.in_ok-tickets.ensures.gave in
     record { gave = subst (GaveFresh c.give_out.new.pass.part) (sym c.as_mut_slice.ensures.value) (first, still) }
 
-pub returns-in_err-read_each-clause-grows : goal.returns-in_err-read_each-clause-grows
-returns-in_err-read_each-clause-grows g c =
+pub returns-in_err-read_each : goal.returns-in_err-read_each
+returns-in_err-read_each g c =
     let s : Service = g.L.LoaderName.service in
     let old = c.args.pass.now.part in
     let dispatched = c.dispatch.new.pass.part in
@@ -51,8 +91,19 @@ returns-in_err-read_each-clause-grows g c =
     let sent = two_grow s old c.load_many.new.pass.part dispatched (LoadMany c.args.wanted.now) Dispatch (Many replies) (Sent c.in_ok-jobs.jobs.items)
     c.in_ok-tickets.ensures.made c.in_ok-jobs.ensures.made in
     let ends = c.in_ok-give_out.ensures.gives_out.2 in
-    on_err c.from_residual-in_err-read_each.result
-    (grows_after old ended c.read_each.new.pass.part (grows_after old dispatched ended sent (ends.0, ends.1, ends.2)) c.in_err-read_each.ensures.grows)
+    let err = c.from_residual-in_err-read_each.ensures.0 in
+    let r = c.from_residual-in_err-read_each.result in
+    record {
+      fits = c.give_out.ensures.fits;
+      round = search rules;
+      shown = not_ok _ r err;
+      each = not_ok _ r err;
+      front = not_ok _ r err;
+      bound = not_ok _ r err;
+      sent = c.give_out.ensures.sent;
+      grows = on_err r (grows_after old ended c.read_each.new.pass.part
+          (grows_after old dispatched ended sent (ends.0, ends.1, ends.2)) c.in_err-read_each.ensures.grows);
+    }
 
 pub returns : goal.returns
 returns g c =
@@ -79,13 +130,13 @@ returns g c =
     let items : (with_items v ws).items ≡ ws = with_items_is v ws long in
     let round = round_made g.O.Outlet.jobs_end s old new before after wanted v.items ws steps in
     record {
-      fits = search rules;
+      fits = c.give_out.ensures.fits;
       round = subst (λ ts. AddsAndSends old new before after
           (λ lines sent. Round (g.O.Outlet.jobs_end old.caller) old.caller wanted lines (outcomes_shown ts) sent)) (sym items) round;
       shown = ap all_show items ∙ (reads_shown ws steps.reads.endings steps.reads.known).0;
       each = search rules;
       front = round_front g.O.Outlet.jobs_end s old new before after wanted v.items ws steps;
       bound = search rules;
-      sent = search rules;
+      sent = c.give_out.ensures.sent;
       grows = tt;
     }
