@@ -1,5 +1,6 @@
 mod Accounts
 pub mod Endings
+mod Dealt
 mod Finish
 mod Jobs
 mod Steps

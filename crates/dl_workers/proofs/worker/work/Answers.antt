@@ -21,3 +21,10 @@ loop-preserved g c = record {
       c.loop.invariant.ended c.in-Some-take.ensures.taken c.if-not-end_shown.ensures.ended;
   tickets = c.end_shown.ensures.tickets ∙ c.loop.invariant.tickets;
 }
+
+pub returns-in_default : goal.returns-in_default
+returns-in_default g c = record {
+  seat = c.take.ensures.seat;
+  worked = rw c.in_default.ensures.taken c.loop.invariant.ended;
+  tickets = c.loop.invariant.tickets;
+}

@@ -12,6 +12,29 @@ use Rattle.dl_workers.proofs.queue.JobQueue.finish.Given.{Over}
 use Rattle.dl_workers.proofs.queue.JobQueue.finish.Goals.{After-learn_as}
 use Rattle.dl_workers.proofs.queue.JobQueue.finish.Goals as goal
 
+-- the last sender is a seat of the queue, and so are the others
+pub gather_senders-requires : goal.gather_senders-requires
+gather_senders-requires g c =
+    let each = All-pop (IsSenderOf c.args.self) c.args.senders.items c.pop.new.self.items (Some c.in-Some.last) c.in-Some.ensures.items
+    c.requires.seats.senders_of in
+    let senders = ap length c.in-Some.ensures.items in
+    record {
+      seat = each.1.0;
+      some_seat = omega (arith, c.in-Some.last.one_seat);
+      few = omega (arith, c.requires.seats.all_senders, c.args.self.few_senders, length-append c.pop.new.self.items (c.in-Some.last ∷ []));
+      senders = each.0;
+    }
+
+pub gather_takers-taken-requires : goal.gather_takers-taken-requires
+gather_takers-taken-requires g c =
+    let seats = ap (λ (a : Traffic). a.seats) c.gather_senders.ensures.gathered in
+    record {
+      seat = c.gather_senders.ensures.seat;
+      some_seat = omega (arith, c.in-Some.last.one_seat);
+      few = omega (arith, c.requires.seats.all_takers, c.args.self.few_takers);
+      takers = c.requires.seats.takers_of;
+    }
+
 pub learn_as-requires-clause-rule : goal.learn_as-requires-clause-rule
 learn_as-requires-clause-rule g c =
     let last = (All-pop (IsSenderOf c.args.self) c.args.senders.items c.pop.new.self.items (Some c.in-Some.last) c.in-Some.ensures.items
