@@ -1,6 +1,6 @@
 use Rattle.std.proofs.Common.{◌∙◌, refl}
 use Rattle.dl_workers.specs.Seats.{taken_jobs}
-use Rattle.dl_workers.proofs.Working.{ended_one_more, gave_up}
+use Rattle.dl_workers.proofs.Working.{ended_none, ended_one_more, gave_up}
 use Rattle.dl_workers.proofs.worker.work.Goals as goal
 
 pub returns-then-not-end_shown-clause-worked : goal.returns-then-not-end_shown-clause-worked
@@ -9,6 +9,21 @@ returns-then-not-end_shown-clause-worked g c =
     (taken_jobs c.args.taker.now) (taken_jobs c.loop.taker) (taken_jobs c.take.new.taker) (taken_jobs c.drop_rest.new.taker)
     c.args.pass.now.part c.loop.pass.part c.end_shown.new.pass.part c.in-Some-take.job
     c.loop.invariant.ended c.in-Some-take.ensures.taken c.if-not-end_shown.ensures.ended c.drop_rest.ensures.took refl
+
+pub returns-then-not-end_shown-clause-tickets : goal.returns-then-not-end_shown-clause-tickets
+returns-then-not-end_shown-clause-tickets g c = c.end_shown.ensures.tickets ∙ c.loop.invariant.tickets
+
+pub returns-then-not-end_shown-clause-seat : goal.returns-then-not-end_shown-clause-seat
+returns-then-not-end_shown-clause-seat g c = c.drop_rest.ensures.seat
+
+pub loop-init : goal.loop-init
+loop-init g c = record {
+  can_next = tt;
+  is_finite = tt;
+  seat = c.requires.seat;
+  ended = ended_none g.L.LoaderName.service (taken_jobs c.args.taker.now) c.args.pass.now.part;
+  tickets = refl;
+}
 
 pub loop-preserved : goal.loop-preserved
 loop-preserved g c = record {
