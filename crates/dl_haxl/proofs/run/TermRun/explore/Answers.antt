@@ -1,4 +1,4 @@
-use Rattle.std.proofs.Common.{◌≡◌, ◌∙◌, ap, sym, subst, true, length, [], ◌++◌, None, rules}
+use Rattle.std.proofs.Common.{◌≡◌, ◌∙◌, ap, sym, true, length, [], ◌++◌, None, rules}
 use Rattle.std.proofs.lemmas.List.{with_items_is}
 use Rattle.std.specs.Vec.{with_items}
 use Rattle.indexmap.specs.IndexSet.{insert_all}
@@ -6,7 +6,7 @@ use Rattle.dl_desk.specs.Key.{key_eq}
 use Rattle.dl_terms.specs.Gives.{outcome_in, waits}
 use Rattle.dl_terms.specs.Node.{node_view}
 use Rattle.dl_terms.specs.Reduces.{pairs_of, Reduces}
-use Rattle.dl_haxl.specs.Pairs.{AllLater, all_show, outcomes_shown, paired}
+use Rattle.dl_haxl.specs.Pairs.{all_show, outcomes_shown, paired}
 use Rattle.dl_haxl.proofs.Shown.{later_long}
 use Rattle.dl_haxl.proofs.Explored.{then_answers, then_pends, then_waiting, not_learning, stage_after}
 use Rattle.dl_haxl.proofs.run.TermRun.explore.Goals as goal
@@ -107,18 +107,3 @@ returns-clause-waits g c =
     let kept : c.take_answer-answer.result ≡ None → after ≡ left = λ none. ap node_view (c.take_answer-answer.ensures.kept none) in
     then_pends p q u left keys next c.args.self.now.tickets.items now shown learned reduces added c.args.self.now.stage c.requires.learning
     c.take_answer-answer.result c.match-answer.self after c.take_answer-answer.ensures.answer kept stage
-
-pub returns-then-not-all_shown-clause-tickets : goal.returns-then-not-all_shown-clause-tickets
-returns-then-not-all_shown-clause-tickets g c =
-    let v = c.args.self.now.tickets in
-    let later = c.all_shown.ensures.later in
-    let long : length c.all_shown.new.tickets ≡ v.len = later_long c.as_mut_slice.result.now c.all_shown.new.tickets later ∙ search rules in
-    subst (AllLater v.items) (sym (with_items_is v c.all_shown.new.tickets long))
-    (subst (λ ts. AllLater ts c.all_shown.new.tickets) c.as_mut_slice.ensures.value later)
-
-pub learn-requires-clause-shown : goal.learn-requires-clause-shown
-learn-requires-clause-shown g c =
-    let v = c.args.self.now.tickets in
-    let long : length c.all_shown.new.tickets ≡ v.len = later_long c.as_mut_slice.result.now c.all_shown.new.tickets c.all_shown.ensures.later
-    ∙ search rules in
-    ap all_show (c.as_mut_slice-2.ensures.value ∙ with_items_is v c.all_shown.new.tickets long) ∙ (sym c.all_shown.ensures.all ∙ search rules)
