@@ -1,4 +1,4 @@
-use Rattle.std.proofs.Common.{◌∙◌, rules}
+use Rattle.std.proofs.Common.{◌∙◌}
 use Rattle.dl_workers.specs.Seats.{sent_jobs}
 use Rattle.dl_haxl.proofs.HandedOver.{hands_back, hands_sent}
 use Rattle.dl_haxl.proofs.queued.JobQueueOutlet.give_out.Goals as goal
@@ -24,27 +24,3 @@ loop-job-preserved g c = record {
       c.loop-job.invariant.hands c.in_default.ensures.ok;
   tickets = c.loop-job.invariant.tickets;
 }
-
-pub returns-in-Err-fail_unsent-clause-fits : goal.returns-in-Err-fail_unsent-clause-fits
-returns-in-Err-fail_unsent-clause-fits g c = search rules
-
-pub returns-in-Err-fail_unsent-clause-gives_out : goal.returns-in-Err-fail_unsent-clause-gives_out
-returns-in-Err-fail_unsent-clause-gives_out g c = search rules
-
-pub returns-in-Err-fail_unsent-clause-sent : goal.returns-in-Err-fail_unsent-clause-sent
-returns-in-Err-fail_unsent-clause-sent g c = search rules
-
-pub returns-in-Err-fail_unsent-clause-tickets : goal.returns-in-Err-fail_unsent-clause-tickets
-returns-in-Err-fail_unsent-clause-tickets g c = search rules
-
-pub returns-clause-fits : goal.returns-clause-fits
-returns-clause-fits g c = search rules
-
-pub returns-clause-sent : goal.returns-clause-sent
-returns-clause-sent g c = search rules
-
-pub returns-clause-tickets : goal.returns-clause-tickets
-returns-clause-tickets g c = search rules
-
-pub returns-clause-grows : goal.returns-clause-grows
-returns-clause-grows g c = search rules
