@@ -27,7 +27,7 @@ FRIEND = (
 def script(kind, loads):
     table = "trips" if kind in FRONTS else "users"
     ids = (f"{FRONTS[kind]}{number:08}" if kind in FRONTS else number for number in range(loads))
-    calls = ",".join(f'{{"load":["{table}","{id}"]}}' for id in ids)
+    calls = ",".join(f'{{"load":["{table}","{key}"]}}' for key in ids)
     return f'{{"script":1,"calls":[{calls}]}}'
 
 

@@ -1,6 +1,6 @@
 -- A round from its steps.
 use Rattle.std.proofs.Common.{◌≡◌, ◌∙◌, ap, sym, subst, refl, ℕ, ◌+◌, ◌<◌, ◌≤◌, false, List, [], ◌∷◌, ◌++◌, map, length, Some, arith, append_assoc}
-use Rattle.std.proofs.Common.{rules, Result, Ok, Err, IfOk, IsErr, OnErr}
+use Rattle.std.proofs.Common.{rules, Result, Ok, Err, OnErr}
 use Rattle.std.proofs.lemmas.List.{length-map}
 use Rattle.dl_desk.specs.Key.{Key}
 use Rattle.dl_desk.specs.declared.reply.Job.{Job}
@@ -132,10 +132,6 @@ module _ (JobsEnd : ℕ → List Job → List Job → List Line → Type 0) (s :
 pub on_err : {A E P : Type 0} (r : Result A E) → P → OnErr r P
 on_err (Ok x) p = tt
 on_err (Err e) p = p
-
-pub not_ok : {A E : Type 0} (P : A → Type 0) (r : Result A E) → IsErr r → IfOk r P
-not_ok P (Ok x) err = cc
-not_ok P (Err e) err = tt
 
 pub none_sent : (jobs : List Job) → SentMore jobs jobs
 none_sent jobs = ([], search rules)

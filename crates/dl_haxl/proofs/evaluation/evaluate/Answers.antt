@@ -1,12 +1,13 @@
 use Rattle.std.specs.Prelude.{◌≤◌, ℕ, IfOk, Ok, Err, Result}
 use Rattle.std.proofs.Common.{rules}
+use Rattle.std.proofs.lemmas.Result.{IfOk-from_err}
 use Rattle.dl_terms.specs.Tree.{Tree, depth_of}
 use Rattle.dl_terms.specs.View.{term_view}
 use Rattle.dl_terms.specs.declared.answer.Answer.{Answer}
 use Rattle.dl_haxl.specs.Run.{IsRunOf, Run}
 use Rattle.dl_haxl.specs.Seen.{seen}
 use Rattle.dl_haxl.specs.declared.fault.RunFault.{RunFault}
-use Rattle.dl_haxl.proofs.RoundMade.{none_sent, not_ok}
+use Rattle.dl_haxl.proofs.RoundMade.{none_sent}
 use Rattle.dl_haxl.proofs.evaluation.evaluate.Goals as goal
 
 -- what holds of each term that a run is of holds of its own
@@ -20,8 +21,8 @@ returns-in_err-run g c =
     let err = c.from_residual.ensures.0 in
     record {
       fits = c.requires.fits;
-      evaluates = not_ok _ c.from_residual.result err;
-      rounds = not_ok _ c.from_residual.result err;
+      evaluates = IfOk-from_err _ _ err;
+      rounds = IfOk-from_err _ _ err;
       sent = none_sent (g.O.Outlet.sent_by c.args.seat.now);
       grows = search rules;
     }

@@ -1,5 +1,6 @@
 use Rattle.std.proofs.Common.{◌≡◌, ◌∙◌, ap, sym, subst, length, map, rules}
 use Rattle.std.proofs.lemmas.List.{length-map, with_items_is}
+use Rattle.std.proofs.lemmas.Result.{IfOk-from_err}
 use Rattle.std.specs.Vec.{with_items}
 use Rattle.dl_history.specs.Service.{Service}
 use Rattle.dl_history.specs.declared.event.Call.TheVariants.{LoadMany, Dispatch}
@@ -10,20 +11,19 @@ use Rattle.dl_haxl.specs.Pairs.{all_show, outcomes_shown}
 use Rattle.dl_haxl.specs.Reads.{GaveFresh, Reads}
 use Rattle.dl_haxl.specs.Stretch.{AddsAndSends, Round}
 use Rattle.dl_haxl.proofs.Reading.{reply_of, reads_shown}
-use Rattle.dl_haxl.proofs.RoundMade.{Steps, made_grows, two_grow, round_made, round_front, still_gave, none_sent, not_ok, on_err}
+use Rattle.dl_haxl.proofs.RoundMade.{Steps, made_grows, two_grow, round_made, round_front, still_gave, none_sent, on_err}
 use Rattle.dl_haxl.proofs.rounds.round.Goals as goal
 
 pub returns-in_err-tickets : goal.returns-in_err-tickets
 returns-in_err-tickets g c =
     let err = c.from_residual.ensures.0 in
-    let r = c.from_residual.result in
     record {
       fits = c.requires.fits;
       round = search rules;
-      shown = not_ok _ r err;
-      each = not_ok _ r err;
-      front = not_ok _ r err;
-      bound = not_ok _ r err;
+      shown = IfOk-from_err _ _ err;
+      each = IfOk-from_err _ _ err;
+      front = IfOk-from_err _ _ err;
+      bound = IfOk-from_err _ _ err;
       sent = none_sent (g.O.Outlet.sent_by c.args.seat.now);
       grows = search rules;
     }
@@ -39,10 +39,10 @@ returns-in_err-jobs g c =
     record {
       fits = c.requires.fits;
       round = search rules;
-      shown = not_ok _ r err;
-      each = not_ok _ r err;
-      front = not_ok _ r err;
-      bound = not_ok _ r err;
+      shown = IfOk-from_err _ _ err;
+      each = IfOk-from_err _ _ err;
+      front = IfOk-from_err _ _ err;
+      bound = IfOk-from_err _ _ err;
       sent = none_sent (g.O.Outlet.sent_by c.args.seat.now);
       grows = on_err r (subst (Grows old) (sym c.in_err-jobs.ensures.unchanged)
           (made_grows s old loaded (LoadMany c.args.wanted.now) (Many replies) c.in_ok-tickets.ensures.made));
@@ -61,10 +61,10 @@ returns-in_err-give_out g c =
     record {
       fits = c.give_out.ensures.fits;
       round = search rules;
-      shown = not_ok _ r err;
-      each = not_ok _ r err;
-      front = not_ok _ r err;
-      bound = not_ok _ r err;
+      shown = IfOk-from_err _ _ err;
+      each = IfOk-from_err _ _ err;
+      front = IfOk-from_err _ _ err;
+      bound = IfOk-from_err _ _ err;
       sent = c.give_out.ensures.sent;
       grows = on_err r (grows_after old dispatched c.give_out.new.pass.part sent c.in_err-give_out.ensures.grows);
     }
@@ -96,10 +96,10 @@ returns-in_err-read_each g c =
     record {
       fits = c.give_out.ensures.fits;
       round = search rules;
-      shown = not_ok _ r err;
-      each = not_ok _ r err;
-      front = not_ok _ r err;
-      bound = not_ok _ r err;
+      shown = IfOk-from_err _ _ err;
+      each = IfOk-from_err _ _ err;
+      front = IfOk-from_err _ _ err;
+      bound = IfOk-from_err _ _ err;
       sent = c.give_out.ensures.sent;
       grows = on_err r (grows_after old ended c.read_each.new.pass.part
           (grows_after old dispatched ended sent (ends.0, ends.1, ends.2)) c.in_err-read_each.ensures.grows);
