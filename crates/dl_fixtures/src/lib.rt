@@ -1,5 +1,5 @@
 //! What the tests of several crates share: the tables of users that worked rows read from, tables that count how often they
-//! are asked, a source without memory, and terms, answers and long texts as rows write them.
+//! are asked, a source without memory, and terms, answers and long lists as rows write them.
 #![tactic(auto)]
 
 mod counted_tables;
@@ -11,5 +11,5 @@ mod users;
 pub use counted_tables::CountedTables;
 pub use shapes::{BEST, FRIENDS, Shape, U1, U2, json, term};
 pub use starved::Starved;
-pub use texts::{Parts, answer_text, list_text, text};
+pub use texts::{answer_text, list_text};
 pub use users::{ADA, BOB, USERS, fault_text, outcome_text, tables};

@@ -1,4 +1,4 @@
-//! How answers and long texts are written in rows.
+//! How answers and long lists are written in rows.
 
 use dl_desk::BatchFault;
 use dl_terms::{Answer, EvalFault};
@@ -40,16 +40,4 @@ fn cause(fault: &BatchFault) -> &str {
 pub fn list_text(alloc: Global, item: &str, times: usize) -> Result<String, AllocError> {
     let items = [item].repeat(alloc, times)?.join(alloc, ",")?;
     format!(in alloc; "[{}]", items.as_str())
-}
-
-/// A text: its parts in order, each so many times.
-pub type Parts = &'static [(&'static str, usize)];
-
-/// The text of these parts.
-pub fn text(alloc: Global, parts: Parts) -> Result<String, AllocError> {
-    let mut text = String::new(alloc);
-    for (part, times) in parts {
-        text.push_str(part.repeat(alloc, *times)?.as_str())?;
-    }
-    Ok(text)
 }

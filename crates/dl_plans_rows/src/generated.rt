@@ -4,8 +4,7 @@ ghost use Rattle.std.specs.Prelude.{◌<◌};
 
 use crate::comparing::assert_is;
 use crate::lines::lines_of;
-use crate::reference::mixed;
-use crate::scripts::script;
+use crate::reference::{mixed, script};
 use dl_documents::Script;
 use dl_plans::run_script;
 use std::alloc::{AllocError, Global};

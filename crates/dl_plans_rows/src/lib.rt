@@ -1,5 +1,5 @@
-//! Tests of the program `plans`: worked scripts and plan files, documents that are refused, readers and writers that fail, and
-//! a growth that is refused.
+//! Tests of what the program `plans` is made of, where the program itself can't be asked: readers and writers that fail, a growth
+//! that is refused, no random numbers, and what the reference loader prints. `.ci/program` runs the program.
 #![tactic(auto)]
 
 #[cfg(test)]
@@ -11,12 +11,6 @@ mod host;
 #[cfg(test)]
 mod lines;
 #[cfg(test)]
-mod plan_files;
-#[cfg(test)]
 mod program;
 #[cfg(test)]
 mod reference;
-#[cfg(test)]
-mod scripts;
-#[cfg(test)]
-mod statuses;

@@ -1,13 +1,11 @@
 //! `run` over readers and writers, the lines of its failures, and the command line.
 
 use crate::comparing::assert_is;
-use dl_desk::LimitFault;
 use dl_documents::PlanFault;
 use dl_haxl::RunFault;
 use dl_loader::{CallFault, CloseFault, StartFault};
 use dl_plans::{Options, RunError, options, run};
 use dl_scope::ScopeFault;
-use dl_source::TableFault;
 use dl_workers::QueueFault;
 use std::alloc::Global;
 use std::hash::RandomState;
@@ -152,18 +150,6 @@ fn a_reader_that_fails_leaves_nothing_written(rt: HostRuntime) {
     }
 }
 
-#[test]
-fn a_document_without_its_first_byte_is_refused(rt: HostRuntime) {
-    let hashing = RandomState::new(&rt).expect(&rt, "no random numbers");
-    let reader = Drip {
-        rest: &DOCUMENT.as_bytes()[1..],
-        ..whole()
-    };
-    let writer = writer(usize::MAX, Ends::TakingNothing);
-    let want = Err(RunError::Refused(PlanFault::NotJson));
-    assert_run(&rt, rt.alloc(), hashing, reader, writer, want, 0);
-}
-
 /// Spaces that a reader has, how many of them a run leaves, and why it refuses the others.
 static SPACES: [(u64, u64, PlanFault); 3] = [
     (1_048_576, 0, PlanFault::NotJson),
@@ -249,88 +235,10 @@ fn is_for_want_of_memory(error: RunError) -> bool {
     }
 }
 
-/// How a run fails, its line, and the status of the program.
-static LINES: [(RunError, &str, u8); 33] = [
+/// How a run fails that no row of `.ci/documents.py` meets, its line, and the status of the program.
+static LINES: [(RunError, &str, u8); 12] = [
     (RunError::Read, "failed: read", 3),
-    (RunError::Write, "failed: write", 3),
     (RunError::OutOfMemory, "failed: memory", 3),
-    (
-        RunError::Refused(PlanFault::TooLarge),
-        "refused: too large",
-        1,
-    ),
-    (
-        RunError::Refused(PlanFault::NotJson),
-        "refused: not json",
-        1,
-    ),
-    (RunError::Refused(PlanFault::Version), "refused: version", 1),
-    (RunError::Refused(PlanFault::Top), "refused: top", 1),
-    (
-        RunError::Refused(PlanFault::BadCall { call: 10 }),
-        "refused: call 10",
-        1,
-    ),
-    (
-        RunError::Refused(PlanFault::Shape { plan: 1, step: 255 }),
-        "refused: plan 1 step 255",
-        1,
-    ),
-    (
-        RunError::Refused(PlanFault::TooDeep { plan: 15, step: 2 }),
-        "refused: too deep plan 15 step 2",
-        1,
-    ),
-    (
-        RunError::Refused(PlanFault::TooManySteps { plan: 3 }),
-        "refused: too many steps plan 3",
-        1,
-    ),
-    (
-        RunError::Refused(PlanFault::Table(TableFault::Shape)),
-        "refused: table Shape",
-        1,
-    ),
-    (
-        RunError::Refused(PlanFault::Table(TableFault::BadKey)),
-        "refused: table BadKey",
-        1,
-    ),
-    (
-        RunError::Refused(PlanFault::Table(TableFault::TextTooLong)),
-        "refused: table TextTooLong",
-        1,
-    ),
-    (
-        RunError::Refused(PlanFault::Table(TableFault::NotWhole)),
-        "refused: table NotWhole",
-        1,
-    ),
-    (
-        RunError::Refused(PlanFault::Table(TableFault::DuplicateTable)),
-        "refused: table DuplicateTable",
-        1,
-    ),
-    (
-        RunError::Refused(PlanFault::Table(TableFault::DuplicateKey)),
-        "refused: table DuplicateKey",
-        1,
-    ),
-    (
-        RunError::Refused(PlanFault::Limit(LimitFault::BatchLimit)),
-        "refused: limit BatchLimit",
-        1,
-    ),
-    (
-        RunError::Refused(PlanFault::Limit(LimitFault::CellLimit)),
-        "refused: limit CellLimit",
-        1,
-    ),
-    (
-        RunError::Refused(PlanFault::Limit(LimitFault::CallLimit)),
-        "refused: limit CallLimit",
-        1,
-    ),
     (RunError::Run(ScopeFault::NoPlans), "failed: NoPlans", 3),
     (
         RunError::Run(ScopeFault::TooManyPlans),
@@ -360,7 +268,6 @@ static LINES: [(RunError, &str, u8); 33] = [
         "failed: Run",
         3,
     ),
-    (RunError::Run(ScopeFault::Stopped), "failed: Stopped", 3),
     (
         RunError::Run(ScopeFault::Close(CloseFault::OutOfMemory)),
         "failed: Close",
@@ -380,19 +287,6 @@ static LINES: [(RunError, &str, u8); 33] = [
         RunError::Run(ScopeFault::OutOfMemory),
         "failed: OutOfMemory",
         3,
-    ),
-    (
-        RunError::Run(ScopeFault::Run {
-            plan: 0,
-            fault: RunFault::Call(CallFault::CellsFull { limit: 1 }),
-        }),
-        "failed: Run",
-        3,
-    ),
-    (
-        RunError::Refused(PlanFault::BadCall { call: 0 }),
-        "refused: call 0",
-        1,
     ),
 ];
 

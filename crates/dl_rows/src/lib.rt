@@ -9,8 +9,6 @@ mod comparing;
 #[cfg(test)]
 mod desk;
 #[cfg(test)]
-mod documents;
-#[cfg(test)]
 mod source;
 #[cfg(test)]
 mod terms;

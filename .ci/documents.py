@@ -1,0 +1,723 @@
+"""What the program `plans` gives for documents and command lines: rows, by what they show. `.ci/program` runs the program on each."""
+
+from typing import NamedTuple
+
+
+class Holding(NamedTuple):
+    """A text of another's making, as clap's: it isn't empty, and has this in it."""
+
+    part: str
+
+
+class Row(NamedTuple):
+    """A document on standard input, and how the program ends by each of the command lines."""
+
+    about: str
+    document: bytes
+    command_lines: tuple[str, ...] = ("",)
+    # None: that of a document that isn't refused, 0 or 3.
+    status: int | None = 0
+    # All of standard output and of standard error. None: whatever they are.
+    output: str | Holding | None = ""
+    error: str | Holding | None = ""
+    # Whether all of the document is read, or nothing of it.
+    is_read: bool = True
+    # Whether standard output takes nothing.
+    is_full: bool = False
+
+
+def document(*parts):
+    """The parts in order. One that comes several times is a pair, of a text and of how often."""
+    texts = (part if isinstance(part, (str, bytes)) else part[0] * part[1] for part in parts)
+    return b"".join(text if isinstance(text, bytes) else text.encode() for text in texts)
+
+
+def answered(about, text, *lines, **others):
+    """The row of a document that gives these lines on standard output, and nothing on standard error."""
+    return Row(about, document(text), output="".join(f"{line}\n" for line in lines), **others)
+
+
+def accepted(about, *parts):
+    """The row of a document that isn't refused, whatever it gives."""
+    return Row(about, document(*parts), status=None, output=None, error=None)
+
+
+def refused(line, *parts, about=None):
+    """The row of a document that is refused with this line, whatever the options. Where nothing is said about it, it is short."""
+    text = document(*parts)
+    return Row(about or text.decode(), text, command_lines=("", "--batches"), status=1, error=f"refused: {line}\n")
+
+
+ROWS = {}
+
+# ---- scripts
+
+ROWS["a script gives its text"] = [
+    answered(
+        "a second load hits",
+        '{"script":1,"maxBatchSize":2,"calls":[{"load":["t","a"]},{"load":["t","a"]}]}',
+        "fresh 0 0",
+        "hit 0",
+    ),
+    answered(
+        "a full batch is followed by a new one",
+        '{"script":1,"maxBatchSize":2,"calls":[{"load":["t","a"]},{"load":["t","b"]},{"load":["t","c"]},{"dispatch":true}]}',
+        "fresh 0 0",
+        "fresh 1 0",
+        "fresh 2 1",
+        "sent 2",
+        'job 0 ["t","a"] ["t","b"]',
+        'job 1 ["t","c"]',
+    ),
+    answered(
+        "calls on nothing reply",
+        '{"script":1,"maxBatchSize":2,"calls":[{"dispatch":true},{"loadMany":[]}]}',
+        "sent 0",
+        "many 0",
+    ),
+    answered(
+        "a batch holds a key once",
+        '{"script":1,"maxBatchSize":2,"calls":[{"load":["t","a"]},{"clear":["t","a"]},{"load":["t","a"]},{"load":["t","b"]}]}',
+        "fresh 0 0",
+        "ok",
+        "fresh 1 1",
+        "fresh 2 1",
+    ),
+    answered(
+        "a primed key is held",
+        '{"script":1,"maxBatchSize":2,"calls":[{"prime":["t","a"]},{"load":["t","a"]},{"prime":["t","a"]}]}',
+        "primed 0",
+        "hit 0",
+        "kept",
+    ),
+    answered(
+        "a pending key is kept until all are cleared",
+        '{"script":1,"maxBatchSize":2,"calls":[{"load":["t","a"]},{"prime":["t","a"]},{"clearAll":true},{"prime":["t","a"]}]}',
+        "fresh 0 0",
+        "kept",
+        "ok",
+        "primed 1",
+    ),
+    answered(
+        "a late failure keeps a newer cell",
+        '{"script":1,"maxBatchSize":2,"calls":[{"load":["t","a"]},{"dispatch":true},{"clear":["t","a"]},'
+        '{"load":["t","a"]},{"fail":0},{"load":["t","a"]}]}',
+        "fresh 0 0",
+        "sent 1",
+        'job 0 ["t","a"]',
+        "ok",
+        "fresh 1 1",
+        "ok",
+        "hit 1",
+    ),
+    answered(
+        "a failed batch is forgotten",
+        '{"script":1,"maxBatchSize":2,"calls":[{"load":["t","a"]},{"dispatch":true},{"fail":0},{"load":["t","a"]}]}',
+        "fresh 0 0",
+        "sent 1",
+        'job 0 ["t","a"]',
+        "ok",
+        "fresh 1 1",
+    ),
+    answered(
+        "a batch ends once after it was sent",
+        '{"script":1,"maxBatchSize":2,"calls":[{"load":["t","a"]},{"settle":0},{"dispatch":true},{"settle":0},'
+        '{"load":["t","a"]},{"settle":0},{"fail":0},{"settle":5}]}',
+        "fresh 0 0",
+        "refused NotSent",
+        "sent 1",
+        'job 0 ["t","a"]',
+        "ok",
+        "hit 0",
+        "refused SettledBefore",
+        "refused SettledBefore",
+        "refused NoBatch",
+    ),
+    answered(
+        "a batch fails once after it was sent",
+        '{"script":1,"calls":[{"load":["t","a"]},{"fail":0},{"fail":5},{"dispatch":true},{"fail":0},{"fail":0},'
+        '{"settle":0},{"settle":1}]}',
+        "fresh 0 0",
+        "refused NotSent",
+        "refused NoBatch",
+        "sent 1",
+        'job 0 ["t","a"]',
+        "ok",
+        "refused SettledBefore",
+        "refused SettledBefore",
+        "refused NoBatch",
+    ),
+    answered(
+        "the least limits",
+        '{"script":1,"maxBatchSize":1,"maxCells":1,"maxCalls":1,"calls":[{"load":["t","a"]}]}',
+        "fresh 0 0",
+    ),
+    answered(
+        "the largest limits",
+        '{"script":1,"maxBatchSize":65536,"maxCells":65536,"maxCalls":65536,"calls":[{"load":["t","a"]}]}',
+        "fresh 0 0",
+    ),
+    answered(
+        "a call that needs too many cells adds nothing",
+        '{"script":1,"maxBatchSize":2,"maxCells":2,"calls":[{"load":["t","a"]},{"loadMany":[["t","b"],["t","c"],["t","b"]]},'
+        '{"loadMany":[["t","b"],["t","b"],["t","a"]]},{"prime":["t","c"]}]}',
+        "fresh 0 0",
+        "refused CellsFull 2",
+        "many 3",
+        "fresh 1 0",
+        "hit 1",
+        "hit 0",
+        "refused CellsFull 2",
+    ),
+    answered(
+        "a load is refused where the cells are full",
+        '{"script":1,"maxCells":1,"calls":[{"load":["t","a"]},{"load":["t","b"]},{"load":["t","a"]}]}',
+        "fresh 0 0",
+        "refused CellsFull 1",
+        "hit 0",
+    ),
+    answered(
+        "ends come in any order",
+        '{"script":1,"maxBatchSize":1,"calls":[{"load":["t","a"]},{"load":["t","b"]},{"dispatch":true},{"settle":1},{"fail":0},'
+        '{"load":["t","a"]},{"load":["t","b"]},{"dispatch":true}]}',
+        "fresh 0 0",
+        "fresh 1 1",
+        "sent 2",
+        'job 0 ["t","a"]',
+        'job 1 ["t","b"]',
+        "ok",
+        "ok",
+        "fresh 2 2",
+        "hit 1",
+        "sent 1",
+        'job 2 ["t","a"]',
+    ),
+    answered(
+        "no batch has the greatest number",
+        '{"script":1,"calls":[{"settle":4294967295},{"fail":4294967295}]}',
+        "refused NoBatch",
+        "refused NoBatch",
+    ),
+    answered("no calls give nothing", '{"script":1,"calls":[]}'),
+]
+
+ROWS["other documents are no scripts"] = [
+    refused("not json", about="no bytes"),
+    refused("not json", "{"),
+    refused("not json", '{"script":1,"calls":[]} 1'),
+    refused("version", '{"script":2,"calls":[]}'),
+    refused("version", '{"script":1.0,"calls":[]}'),
+    refused("version", '{"script":"1","calls":[]}'),
+    refused("version", '{"version":1,"script":2,"tables":[],"plans":[[]]}'),
+    refused("top", '{"script":1,"version":1,"calls":[]}'),
+    refused("call 1", '{"script":1,"calls":[{"load":["t","a"]},{"load":["t",""]}]}'),
+    refused("top", '{"script":1,"x":1,"calls":[5]}'),
+    refused("top", '{"script":1}'),
+    refused("top", '{"script":1,"calls":{}}'),
+    refused("top", '{"script":1,"maxBatchSize":"2","calls":[]}'),
+    refused("top", '{"script":1,"maxCells":null,"calls":[]}'),
+    refused("top", '{"script":1,"maxCalls":1.0,"calls":[]}'),
+    refused("limit BatchLimit", '{"script":1,"maxBatchSize":0,"calls":[]}'),
+    refused("limit BatchLimit", '{"script":1,"maxBatchSize":65537,"maxCells":0,"calls":[]}'),
+    refused("limit BatchLimit", '{"script":1,"maxBatchSize":-1,"calls":[]}'),
+    refused("limit CellLimit", '{"script":1,"maxCells":0,"maxCalls":0,"calls":[]}'),
+    refused("limit CellLimit", '{"script":1,"maxCells":65537,"maxCalls":-1,"calls":[]}'),
+    refused("limit CallLimit", '{"script":1,"maxCalls":0,"calls":[]}'),
+    refused("limit CallLimit", '{"script":1,"maxCalls":18446744073709551615,"calls":[]}'),
+    refused("limit CallLimit", '{"script":1,"maxCalls":65537,"calls":[]}'),
+    refused("call 0", '{"script":1,"maxBatchSize":0,"calls":[{"clearAll":false}]}'),
+]
+
+# Items that are no calls: of no name or of two, of none that a script has, and each name with other arguments than its own.
+ROWS["other calls are refused"] = [
+    refused("call 1", '{"script":1,"calls":[{"clearAll":true},', item, "]}")
+    for item in [
+        "5",
+        "{}",
+        '{"load":["t","a"],"clear":["t","a"]}',
+        '{"read":["t","a"]}',
+        '{"load":"a"}',
+        '{"load":["t"]}',
+        '{"load":["t","a","b"]}',
+        '{"load":["t",1]}',
+        '{"load":["","a"]}',
+        '{"loadMany":["t","a"]}',
+        '{"loadMany":[["t","a"],["t",""]]}',
+        '{"prime":["t",""]}',
+        '{"clear":[1,"a"]}',
+        '{"clearAll":1}',
+        '{"clearAll":false}',
+        '{"dispatch":false}',
+        '{"settle":-1}',
+        '{"settle":4294967296}',
+        '{"fail":4294967296}',
+        '{"fail":1.0}',
+        '{"fail":"0"}',
+    ]
+]
+
+
+def load_of(table, key):
+    """The parts of a script that loads a key, whose table and id have so many bytes."""
+    return '{"script":1,"calls":[{"load":["', ("x", table), '","', ("x", key), '"]}]}'
+
+
+ROWS["a call takes keys up to their limits"] = [
+    accepted("a table of 1 byte, an id of 1", *load_of(1, 1)),
+    accepted("a table of 64 bytes, an id of 128", *load_of(64, 128)),
+    refused("call 0", *load_of(0, 1), about="a table of no bytes"),
+    refused("call 0", *load_of(65, 1), about="a table of 65 bytes"),
+    refused("call 0", *load_of(1, 0), about="an id of no bytes"),
+    refused("call 0", *load_of(1, 129), about="an id of 129 bytes"),
+]
+
+# ---- plan files
+
+# Three users, one whose row is an error, and one that breaks the source.
+USERS = (
+    '[{"name":"user","rows":[["u1",{"best":"u2","friends":["u2","u3"],"name":"Ada"}],["u2",{"best":"u1","friends":[],"name":"Bob"}],'
+    '["u3",{"name":"Cy"}]],"errors":[["u9","gone"]],"breaks":[["u13","db down"]]}]'
+)
+
+# Command lines that ask for no batches, and some that do.
+PLAIN = ("", "--workers 1", "--workers 16")
+BATCHES = ("--batches", "--batches --workers 1", "--workers 16 --batches")
+
+
+def plan_file(plans, limits='"maxBatchSize":2,'):
+    """A plan file over the tables of users. Its limits have a comma behind each."""
+    return f'{{"version":1,{limits}"tables":{USERS},"plans":{plans}}}'
+
+
+def plain(about, plans, *lines, **limits):
+    """The row of plans over the tables of users, whose batches aren't asked for."""
+    return answered(about, plan_file(plans, **limits), *lines, command_lines=PLAIN)
+
+
+def batches(about, plans, *lines, **limits):
+    """The row of a plan over the tables of users, whose rounds and batches are asked for."""
+    return answered(about, plan_file(plans, **limits), *lines, command_lines=BATCHES)
+
+
+def failed(name, about, plans, limits, command_lines):
+    """The row of plans that aren't served."""
+    return Row(about, document(plan_file(plans, limits)), command_lines, status=3, error=f"failed: {name}\n")
+
+
+NAME_OF_A_FRIEND = '[[{"eval":{"pick":[{"follow":[{"load":["user","u1"]},"best","user"]},"name"]}}]]'
+BOB = '0 0 ok "Bob"'
+
+# Four plans, which are served at once.
+FOUR = """[[{"eval":{"pick":[{"follow":[{"load":["user","u1"]},"best","user"]},"name"]}}],
+ [{"eval":{"each":[{"load":["user","u1"]},"friends","user"]}}],
+ [{"eval":{"all":[]}}],
+ [{"eval":{"load":["user","u7"]}}]]"""
+LINES_OF_FOUR = [
+    BOB,
+    '1 0 ok [{"best":"u1","friends":[],"name":"Bob"},{"name":"Cy"}]',
+    "2 0 ok []",
+    '3 0 fault key ["user","u7"] "no row"',
+]
+
+ONE_USER = '[[{"eval":{"load":["user","u1"]}}]]'
+ADA = '{"best":"u2","friends":["u2","u3"],"name":"Ada"}'
+
+# A plan file up to its one plan, and up to the term of that plan's one step.
+PLAN = '{"version":1,"tables":[],"plans":[['
+TERM = PLAN + '{"eval":'
+
+# A step that does little, with another behind it, and the last one, which ends the file.
+STEP = '{"clearAll":true},'
+LAST = '{"clearAll":true}]]}'
+
+ROWS["a plan file is answered"] = [
+    batches(
+        "two users, one of them twice",
+        '[[{"eval":{"all":[{"load":["user","u1"]},{"load":["user","u2"]},{"load":["user","u1"]}]}}]]',
+        f'0 0 ok [{ADA},{{"best":"u1","friends":[],"name":"Bob"}},{ADA}]',
+        "rounds 1",
+        'batch 0 [["user","u1"],["user","u2"]] settled',
+    ),
+    batches(
+        "the name of a friend",
+        NAME_OF_A_FRIEND,
+        BOB,
+        "rounds 2",
+        'batch 0 [["user","u1"]] settled',
+        'batch 1 [["user","u2"]] settled',
+    ),
+    batches(
+        "no friends",
+        '[[{"eval":{"each":[{"load":["user","u2"]},"friends","user"]}}]]',
+        "0 0 ok []",
+        "rounds 1",
+        'batch 0 [["user","u2"]] settled',
+    ),
+    batches(
+        "a key with an error, which is kept",
+        '[[{"eval":{"load":["user","u9"]}},{"eval":{"load":["user","u9"]}}]]',
+        '0 0 fault key ["user","u9"] "gone"',
+        '0 1 fault key ["user","u9"] "gone"',
+        "rounds 2",
+        'batch 0 [["user","u9"]] settled',
+    ),
+    batches(
+        "a key that breaks its batch, which is not kept",
+        '[[{"eval":{"all":[{"load":["user","u1"]},{"load":["user","u13"]}]}},{"eval":{"load":["user","u1"]}}]]',
+        '0 0 fault batch ["user","u1"] "db down"',
+        f"0 1 ok {ADA}",
+        "rounds 2",
+        'batch 0 [["user","u1"],["user","u13"]] failed',
+        'batch 1 [["user","u1"]] settled',
+    ),
+    plain("four plans in batches of one", FOUR, *LINES_OF_FOUR, limits='"maxBatchSize":1,'),
+    plain("four plans in batches of two", FOUR, *LINES_OF_FOUR),
+    plain("four plans in batches of any size", FOUR, *LINES_OF_FOUR, limits='"maxBatchSize":65536,'),
+    batches("four plans, whose batches are asked for in vain", FOUR, *LINES_OF_FOUR),
+    batches(
+        "a key that is primed, cleared and loaded",
+        '[[{"prime":[["user","u1"],{"value":5}]},{"eval":{"load":["user","u1"]}},{"clear":["user","u1"]},'
+        '{"eval":{"load":["user","u1"]}},{"clearAll":true}]]',
+        "0 1 ok 5",
+        f"0 3 ok {ADA}",
+        "rounds 2",
+        'batch 0 [["user","u1"]] settled',
+    ),
+    batches(
+        "terms that give no value",
+        '[[{"eval":{"pick":[{"value":1},"x"]}},{"eval":{"each":[{"load":["user","u3"]},"name","user"]}},'
+        '{"eval":{"follow":[{"load":["user","u1"]},"friends","user"]}},{"eval":{"load":["shop","s"]}}]]',
+        "0 0 fault NoField",
+        "0 1 fault NotAList",
+        "0 2 fault NotAKey",
+        '0 3 fault key ["shop","s"] "no table"',
+        "rounds 3",
+        'batch 0 [["user","u3"]] settled',
+        'batch 1 [["user","u1"]] settled',
+        'batch 2 [["shop","s"]] settled',
+    ),
+    batches(
+        "an error that is primed, whose text has a line feed",
+        r'[[{"prime":[["user","u1"],{"error":"a\n\"b\""}]},{"eval":{"load":["user","u1"]}}]]',
+        r'0 1 fault key ["user","u1"] "a\n\"b\""',
+        "rounds 1",
+    ),
+    batches(
+        "the members of a value in the order of their names, and its numbers",
+        '[[{"eval":{"value":{"b":[null,true,-9223372036854775808],"a":18446744073709551615}}}]]',
+        '0 0 ok {"a":18446744073709551615,"b":[null,true,-9223372036854775808]}',
+        "rounds 0",
+    ),
+    plain(
+        "a plan that ends while others go on",
+        '[[],[{"eval":{"value":1}}],[{"clearAll":true},{"clear":["user","u1"]},{"eval":{"value":[]}}]]',
+        "1 0 ok 1",
+        "2 2 ok []",
+    ),
+    failed(
+        "Run",
+        "two cells where there is one",
+        '[[{"eval":{"all":[{"load":["user","u1"]},{"load":["user","u2"]}]}}]]',
+        '"maxBatchSize":2,"maxCells":1,',
+        BATCHES,
+    ),
+    failed("Run", "two calls where there is one", ONE_USER, '"maxCalls":1,', PLAIN),
+    failed("Stopped", "three calls where there are two, the third of a worker", ONE_USER, '"maxCalls":2,', PLAIN),
+    plain("three calls where there are three", ONE_USER, f"0 0 ok {ADA}", limits='"maxCalls":3,'),
+    batches("a plan of no steps", "[[]]", "rounds 0"),
+    answered("no tables, and a plan of no steps", document(PLAN, "]]}")),
+    answered(
+        "a term of height 32, by all",
+        document(TERM, ('{"all":[', 31), '{"value":1}', ("]}", 31), "}]]}"),
+        "0 0 ok [[[[[[[[[[[[[[[[[[[[[[[[[[[[[[[1]]]]]]]]]]]]]]]]]]]]]]]]]]]]]]]",
+    ),
+    answered("the name of a friend, by no options", plan_file(NAME_OF_A_FRIEND), BOB),
+    answered("the name of a friend, in a file of 1,048,576 bytes", document(plan_file(NAME_OF_A_FRIEND), (" ", 1_048_243)), BOB),
+    answered(
+        "as many plans as there may be",
+        document('{"version":1,"tables":[],"plans":[', ("[],", 15), '[{"eval":{"value":"last"}}]]}'),
+        '15 0 ok "last"',
+    ),
+]
+
+ROWS["other documents are no plan files"] = [
+    refused("not json", ("[", 200), ("]", 200), about="200 lists in one another"),
+    refused("version", "{}"),
+    refused("version", "null"),
+    refused("version", "[1]"),
+    refused("version", '{"tables":[],"plans":[[]]}'),
+    refused("version", '{"version":2,"tables":[],"plans":[[]]}'),
+    refused("version", '{"version":3,"tables":[],"plans":[[]]}'),
+    refused("version", '{"version":1.0,"tables":[],"plans":[[]]}'),
+    refused("version", '{"version":"1","tables":[],"plans":[[]]}'),
+    refused("top", '{"version":1}'),
+    refused("top", '{"version":1,"tables":[]}'),
+    refused("top", '{"version":1,"plans":[[]]}'),
+    refused("top", '{"version":1,"tables":[],"plans":{}}'),
+    refused("top", '{"version":1,"tables":[],"plans":[]}'),
+    refused("top", '{"version":1,"tables":[],"plans":[[],{}]}'),
+    refused("top", '{"version":1,"tables":[],"plans":[[]],"calls":[]}'),
+    refused("top", '{"version":1,"maxBatchSize":"2","tables":[],"plans":[[]]}'),
+    refused("top", '{"version":1,"maxCells":null,"tables":[],"plans":[[]]}'),
+    refused("top", '{"version":1,"maxCalls":1.0,"tables":[],"plans":[[]]}'),
+    refused("plan 1 step 0", '{"version":1,"tables":[],"plans":[[],[{"eval":{"load":["t"]}}]]}'),
+    refused("plan 0 step 0", '{"version":1,"tables":[],"plans":[[{"eval":{"value":1.5}}]]}'),
+    refused("table Shape", '{"version":1,"tables":{},"plans":[[]]}'),
+    refused("table BadKey", '{"version":1,"tables":[{"name":"","rows":[]}],"plans":[[]]}'),
+    refused("table NotWhole", '{"version":1,"tables":[{"name":"t","rows":[["a",{"n":1.5}]]}],"plans":[[]]}'),
+    refused("table DuplicateTable", '{"version":1,"tables":[{"name":"t","rows":[]},{"name":"t","rows":[]}],"plans":[[]]}'),
+    refused("table DuplicateKey", '{"version":1,"tables":[{"name":"t","rows":[["u1",1],["u1",2]]}],"plans":[[]]}'),
+    refused("limit BatchLimit", '{"version":1,"maxBatchSize":0,"tables":[],"plans":[[]]}'),
+    refused("limit BatchLimit", '{"version":1,"maxBatchSize":-1,"tables":[],"plans":[[]]}'),
+    refused("limit CellLimit", '{"version":1,"maxCells":65537,"tables":[],"plans":[[]]}'),
+    refused("limit CallLimit", '{"version":1,"maxCalls":0,"tables":[],"plans":[[]]}'),
+    refused("limit CallLimit", '{"version":1,"maxCalls":65537,"tables":[],"plans":[[]]}'),
+    refused("limit CallLimit", '{"version":1,"maxCalls":18446744073709551615,"tables":[],"plans":[[]]}'),
+    # of two causes the first
+    refused("top", '{"version":1,"tables":[],"plans":[[5]],"x":1}'),
+    refused("plan 0 step 1", '{"version":1,"maxCells":0,"tables":{},"plans":[[{"clearAll":true},5]]}'),
+    refused("plan 0 step 1", '{"version":1,"tables":[],"plans":[[{"clearAll":true},{"clear":[]}],[{"x":1}]]}'),
+    refused("plan 1 step 1", '{"version":1,"tables":[],"plans":[[{"clearAll":true}],[{"clearAll":true},{"x":1},5],[5]]}'),
+    refused("table Shape", '{"version":1,"maxCells":0,"tables":[5],"plans":[[]]}'),
+    refused("table NotWhole", '{"version":1,"tables":[{"name":"t","rows":[["a",1.5]]},{"name":"t","rows":[]}],"plans":[[]]}'),
+    refused("table DuplicateKey", '{"version":1,"maxCalls":0,"tables":[{"name":"t","rows":[["a",1],["a",2]]}],"plans":[[]]}'),
+    refused("limit BatchLimit", '{"version":1,"maxCells":0,"maxBatchSize":65537,"tables":[],"plans":[[]]}'),
+    refused("limit CellLimit", '{"version":1,"maxCells":0,"maxCalls":0,"tables":[],"plans":[[]]}'),
+]
+
+# Items that are no steps: of no name or of two, of none that a step or a term has, and each name with other arguments than its own.
+ROWS["other steps are refused"] = [
+    refused("plan 1 step 2", '{"version":1,"tables":[],"plans":[[],[{"clearAll":true},{"clear":["t","a"]},', item, "]]}")
+    for item in [
+        "5",
+        "[]",
+        "{}",
+        '{"clearAll":true,"clear":["t","a"]}',
+        '{"load":["t","a"]}',
+        '{"dispatch":true}',
+        '{"clearAll":false}',
+        '{"clearAll":1}',
+        '{"clear":["t"]}',
+        '{"clear":["","a"]}',
+        '{"clear":["t",1]}',
+        '{"prime":["t","a"]}',
+        '{"prime":[["t","a"]]}',
+        '{"prime":[["t","a"],{"value":1},0]}',
+        '{"prime":[["t",""],{"value":1}]}',
+        '{"prime":[["t","a"],1]}',
+        '{"prime":[["t","a"],{}]}',
+        '{"prime":[["t","a"],{"value":1,"error":"x"}]}',
+        '{"prime":[["t","a"],{"error":1}]}',
+        '{"prime":[["t","a"],{"load":["t","a"]}]}',
+        '{"prime":[["t","a"],{"value":1.0}]}',
+        '{"prime":[["t","a"],{"value":[{"x":0.5}]}]}',
+        '{"eval":5}',
+        '{"eval":[]}',
+        '{"eval":{}}',
+        '{"eval":{"value":1,"load":["t","a"]}}',
+        '{"eval":{"other":1}}',
+        '{"eval":{"value":1e2}}',
+        '{"eval":{"value":{"a":[1,2.5]}}}',
+        '{"eval":{"value":18446744073709551616}}',
+        '{"eval":{"load":"a"}}',
+        '{"eval":{"load":["t","a","b"]}}',
+        '{"eval":{"load":["t",""]}}',
+        '{"eval":{"pick":[{"value":1}]}}',
+        '{"eval":{"pick":["f",{"value":1}]}}',
+        '{"eval":{"pick":[{"value":1},1]}}',
+        '{"eval":{"pick":[{"value":1},"f","t"]}}',
+        '{"eval":{"pick":{"value":1}}}',
+        '{"eval":{"follow":[{"value":1},"f"]}}',
+        '{"eval":{"follow":[{"value":1},"f",""]}}',
+        '{"eval":{"follow":[{"value":1.5},"f","t"]}}',
+        '{"eval":{"follow":["f",{"value":1},"t"]}}',
+        '{"eval":{"each":[{"value":1},"f",1]}}',
+        '{"eval":{"each":[{"value":1},1,"t"]}}',
+        '{"eval":{"each":[{"value":1},"f","t",0]}}',
+        '{"eval":{"each":[{"value":1},"f",""]}}',
+        '{"eval":{"all":{}}}',
+        '{"eval":{"all":{"value":1}}}',
+        '{"eval":{"all":[{"value":1},5]}}',
+        '{"eval":{"all":[{"all":[{"load":["t"]}]}]}}',
+        '{"eval":{"all":[{"all":[{"value":1.5}]}]}}',
+    ]
+]
+
+ROWS["a plan file has limits"] = [
+    accepted("16 plans", '{"version":1,"tables":[],"plans":[', ("[],", 15), "[]]}"),
+    refused("top", '{"version":1,"tables":[],"plans":[', ("[],", 16), "[]]}", about="17 plans"),
+    accepted("256 steps", PLAN, (STEP, 255), LAST),
+    refused("too many steps plan 0", PLAN, (STEP, 256), LAST, about="257 steps"),
+    refused("plan 0 step 256", PLAN, (STEP, 256), "5]]}", about="257 steps, of which the last is none"),
+    refused(
+        "too many steps plan 0",
+        PLAN,
+        (STEP, 256),
+        '{"clearAll":true}],[',
+        (STEP, 256),
+        LAST,
+        about="two plans of 257 steps",
+    ),
+    refused(
+        "too deep plan 0 step 0",
+        TERM,
+        ('{"all":[', 32),
+        '{"value":1}',
+        ("]}", 32),
+        "}]]}",
+        about="a term of height 33, by all",
+    ),
+    accepted("a term of height 32, by pick", TERM, ('{"pick":[', 31), '{"value":1}', (',"f"]}', 31), "}]]}"),
+    refused(
+        "too deep plan 0 step 0",
+        TERM,
+        ('{"pick":[', 32),
+        '{"value":1}',
+        (',"f"]}', 32),
+        "}]]}",
+        about="a term of height 33, by pick",
+    ),
+    refused(
+        "too deep plan 0 step 0",
+        TERM,
+        ('{"follow":[', 32),
+        '{"value":1}',
+        (',"f","t"]}', 32),
+        "}]]}",
+        about="a term of height 33, by follow",
+    ),
+    refused(
+        "too deep plan 0 step 0",
+        TERM,
+        ('{"each":[', 32),
+        '{"value":1}',
+        (',"f","t"]}', 32),
+        "}]]}",
+        about="a term of height 33, by each",
+    ),
+    refused(
+        "too deep plan 0 step 0",
+        TERM,
+        ('{"all":[', 32),
+        '{"all":[]}',
+        ("]}", 32),
+        "}]]}",
+        about="an all without parts at height 33",
+    ),
+    refused(
+        "plan 0 step 1",
+        TERM,
+        ('{"all":[', 32),
+        '{"value":1}',
+        ("]}", 32),
+        "},5]]}",
+        about="a term of height 33, and then a step that is none",
+    ),
+    refused(
+        "too deep plan 0 step 256",
+        PLAN,
+        (STEP, 256),
+        '{"eval":',
+        ('{"all":[', 33),
+        ("]}", 33),
+        "}]]}",
+        about="257 steps, of which the last has a term of height 33",
+    ),
+    accepted("an each of a table of 64 bytes", TERM, '{"each":[{"value":1},"f","', ("t", 64), '"]}}]]}'),
+    refused(
+        "plan 0 step 0",
+        TERM,
+        '{"each":[{"value":1},"f","',
+        ("t", 65),
+        '"]}}]]}',
+        about="an each of a table of 65 bytes",
+    ),
+    accepted("a follow into a table of 64 bytes", TERM, '{"follow":[{"value":1},"f","', ("t", 64), '"]}}]]}'),
+    refused(
+        "plan 0 step 0",
+        TERM,
+        '{"follow":[{"value":1},"f","',
+        ("t", 65),
+        '"]}}]]}',
+        about="a follow into a table of 65 bytes",
+    ),
+    accepted("a load from a table of 64 bytes", TERM, '{"load":["', ("t", 64), '","a"]}}]]}'),
+    refused("plan 0 step 0", TERM, '{"load":["', ("t", 65), '","a"]}}]]}', about="a load from a table of 65 bytes"),
+    accepted("a load of an id of 128 bytes", TERM, '{"load":["t","', ("é", 64), '"]}}]]}'),
+    refused("plan 0 step 0", TERM, '{"load":["t","a', ("é", 64), '"]}}]]}', about="a load of an id of 129 bytes"),
+    accepted("a clear of an id of 128 bytes", PLAN, '{"clear":["t","', ("a", 128), '"]}]]}'),
+    refused("plan 0 step 0", PLAN, '{"clear":["t","', ("a", 129), '"]}]]}', about="a clear of an id of 129 bytes"),
+    accepted("an error of 1,024 bytes", PLAN, '{"prime":[["t","a"],{"error":"', ("e", 1_024), '"}]}]]}'),
+    refused("plan 0 step 0", PLAN, '{"prime":[["t","a"],{"error":"', ("e", 1_025), '"}]}]]}', about="an error of 1,025 bytes"),
+    refused("plan 0 step 0", PLAN, '{"prime":[["t","', ("a", 129), '"],{"value":1}]}]]}', about="a prime of an id of 129 bytes"),
+    accepted("a field of no bytes", TERM, '{"pick":[{"value":{"":1}},""]}}]]}'),
+    accepted("a field of many bytes", TERM, '{"pick":[{"value":1},"', ("f", 5_000), '"]}}]]}'),
+    refused(
+        "table BadKey",
+        '{"version":1,"maxCalls":0,"plans":[[]],"tables":[{"name":"t","rows":[["',
+        ("a", 129),
+        '",1]]}]}',
+        about="an id of 129 bytes in a table, and a limit of 0",
+    ),
+    refused(
+        "table TextTooLong",
+        '{"version":1,"plans":[[]],"tables":[{"name":"t","rows":[],"breaks":[["a","',
+        ("e", 1_025),
+        '"]]}]}',
+        about="a break of 1,025 bytes in a table",
+    ),
+]
+
+# ---- both kinds
+
+ROWS["a refusal tells the place"] = [
+    refused("call 10", '{"script":1,"calls":[', (STEP, 10), "5]}", about="an eleventh call that is none"),
+    refused("plan 1 step 255", PLAN, "],[", (STEP, 255), "5]]}", about="a last step that is none, of the second plan"),
+    refused(
+        "too deep plan 15 step 2",
+        PLAN,
+        ("],[", 15),
+        (STEP, 2),
+        '{"eval":',
+        ('{"all":[', 33),
+        ("]}", 33),
+        "}]]}",
+        about="a term of height 33, of the last plan",
+    ),
+    refused("too many steps plan 3", PLAN, ("],[", 3), (STEP, 256), LAST, about="257 steps, of the fourth plan"),
+]
+
+SCRIPT = '{"script":1,"calls":[]}'
+
+ROWS["a document has a most of bytes"] = [
+    accepted("a script of 1,048,576 bytes", SCRIPT, (" ", 1_048_576 - len(SCRIPT))),
+    refused("too large", SCRIPT, (" ", 1_048_577 - len(SCRIPT)), about="a script of 1,048,577 bytes"),
+    refused("not json", (" ", 1_048_576), about="1,048,576 spaces"),
+    refused("too large", (" ", 1_048_577), about="1,048,577 spaces"),
+    refused("not json", b"\xff", (" ", 1_048_575), about="1,048,576 bytes, of which the first is no UTF-8"),
+    refused("too large", b"\xff", (" ", 1_048_576), about="1,048,577 bytes, of which the first is no UTF-8"),
+]
+
+PLAN_FILE = document(plan_file(NAME_OF_A_FRIEND))
+
+ROWS["a front of a document is refused"] = [
+    *(refused("not json", PLAN_FILE[:count], about=f"{count} bytes") for count in range(len(PLAN_FILE))),
+    refused("not json", PLAN_FILE[1:], about="a document without its first byte"),
+]
+
+# ---- the program
+
+LOAD = document('{"script":1,"calls":[{"load":["t","a"]}]}')
+
+ROWS["a run ends with its status"] = [
+    answered("a script", LOAD, "fresh 0 0"),
+    answered("a script, and all options", LOAD, "fresh 0 0", command_lines=("--batches --workers 16",)),
+    Row("help", LOAD, ("--help",), output=Holding(""), is_read=False),
+    Row("no document", b"", status=1, error="refused: not json\n"),
+    Row("no version", b"[1]", ("--workers 1",), status=1, error="refused: version\n"),
+    Row("no workers", LOAD, ("--workers 0",), status=2, error=Holding(""), is_read=False),
+    Row("too many workers", LOAD, ("--workers 17",), status=2, error=Holding("--workers"), is_read=False),
+    Row("an unknown option", LOAD, ("--jobs",), status=2, error=Holding(""), is_read=False),
+    Row("a word too many", LOAD, ("script.json",), status=2, error=Holding(""), is_read=False),
+    Row("an output that takes nothing", LOAD, status=3, error="failed: write\n", is_full=True),
+]
