@@ -15,12 +15,7 @@ use std::sync::Wait;
 
 impl<'a, L: LoaderName, S: Source, R: Abort + Wait> Stage<'a, L, S, R> {
     /// Makes a call by the law. No cell refuses its outcome.
-    pub(super) fn by_law(
-        &self,
-        hand: &mut Hand<'a, L>,
-        asked: &Asked,
-        want: &Result<Told, CallFault>,
-    )
+    pub(super) fn by_law(&self, hand: &mut Hand<'a, L>, asked: Asked, want: Result<Told, CallFault>)
         requires { Answers (S.answer self.now.source.now) L.service }
     {
         match self.made(hand, asked) {
@@ -28,12 +23,12 @@ impl<'a, L: LoaderName, S: Source, R: Abort + Wait> Stage<'a, L, S, R> {
                 assert_same(self.rt, "cells that refuse", refused, 0);
                 assert_told(self.rt, &reply, want);
             }
-            Err(fault) => assert_same(self.rt, "fault", Some(&fault), want.as_ref().err()),
+            Err(fault) => assert_same(self.rt, "fault", Some(fault), want.err()),
         }
     }
 
     /// The reply to a call, and how many cells refused their outcome.
-    fn made(&self, hand: &mut Hand<'a, L>, asked: &Asked) -> Result<(Reply, u32), CallFault>
+    fn made(&self, hand: &mut Hand<'a, L>, asked: Asked) -> Result<(Reply, u32), CallFault>
         requires { Answers (S.answer self.now.source.now) L.service }
     {
         match asked {
@@ -43,8 +38,8 @@ impl<'a, L: LoaderName, S: Source, R: Abort + Wait> Stage<'a, L, S, R> {
             Asked::Clear(id) => self.clear_asked(hand, id),
             Asked::ClearAll => self.clear_all_asked(hand),
             Asked::Dispatch => self.dispatch_asked(hand),
-            Asked::Settle(batch, ids) => self.settle_asked(hand, *batch, ids),
-            Asked::Fail(batch, ids, why) => self.fail_asked(hand, *batch, ids, *why),
+            Asked::Settle(batch, ids) => self.settle_asked(hand, batch, ids),
+            Asked::Fail(batch, ids, why) => self.fail_asked(hand, batch, ids, why),
         }
     }
 
@@ -75,7 +70,7 @@ impl<'a, L: LoaderName, S: Source, R: Abort + Wait> Stage<'a, L, S, R> {
         &self,
         hand: &mut Hand<'a, L>,
         id: &str,
-        primed: &Primed,
+        primed: Primed,
     ) -> Result<(Reply, u32), CallFault> {
         let key = user(self.rt, self.alloc, id);
         let outcome = outcome(self.rt, self.alloc, primed);
@@ -120,7 +115,7 @@ impl<'a, L: LoaderName, S: Source, R: Abort + Wait> Stage<'a, L, S, R> {
 }
 
 /// The reply is this, and the call was not to be refused.
-fn assert_told(rt: &impl Abort, reply: &Reply, want: &Result<Told, CallFault>) {
+fn assert_told(rt: &impl Abort, reply: &Reply, want: Result<Told, CallFault>) {
     match (reply, want) {
         (Reply::Sent(jobs), Ok(Told::Sent(want))) => assert_jobs(rt, jobs.as_slice(), want),
         (_, Ok(want)) => assert!(rt; is_told(reply, want), "another reply: {reply:?}"),
@@ -129,11 +124,11 @@ fn assert_told(rt: &impl Abort, reply: &Reply, want: &Result<Told, CallFault>) {
 }
 
 /// Whether a reply that sends no jobs is this.
-fn is_told(reply: &Reply, want: &Told) -> bool {
+fn is_told(reply: &Reply, want: Told) -> bool {
     match (reply, want) {
-        (Reply::Loaded(reply), Told::Loaded(want)) => *reply == *want,
-        (Reply::Many(replies), Told::Many(want)) => replies.as_slice() == *want,
-        (Reply::Primed(cell), Told::Primed(want)) => *cell == *want,
+        (Reply::Loaded(reply), Told::Loaded(want)) => *reply == want,
+        (Reply::Many(replies), Told::Many(want)) => replies.as_slice() == want,
+        (Reply::Primed(cell), Told::Primed(want)) => *cell == want,
         (Reply::Kept, Told::Kept) | (Reply::Done, Told::Done) => true,
         _ => false,
     }

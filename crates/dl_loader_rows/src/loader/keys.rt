@@ -62,7 +62,7 @@ pub(super) fn assert_jobs(rt: &impl Abort, jobs: &[Job], want: &[(u32, Ids)]) {
 }
 
 /// The outcome that a key is primed with.
-pub(super) fn outcome(rt: &impl Abort, alloc: Global, primed: &Primed) -> Outcome {
+pub(super) fn outcome(rt: &impl Abort, alloc: Global, primed: Primed) -> Outcome {
     match primed {
         Primed::Value(text) => value(rt, alloc, text),
         Primed::KeyError(text) => {

@@ -32,33 +32,33 @@ impl<'a, L: LoaderName, S: Source, R: Abort + Wait> Stage<'a, L, S, R> {
         for (caller, step) in steps {
             let hand = hands.get_mut(*caller).expect(self.rt, "no such caller");
             assert_same(self.rt, "caller", hand.pass.caller() as usize, *caller);
-            self.make(hand, step);
+            self.make(hand, *step);
         }
     }
 
     /// Makes one call.
-    fn make(&self, hand: &mut Hand<'a, L>, step: &Step)
+    fn make(&self, hand: &mut Hand<'a, L>, step: Step)
         requires { Answers (S.answer self.now.source.now) L.service }
     {
         match step {
-            Step::Load(id, want) => self.load(hand, id, *want),
-            Step::LoadMany(ids, want) => self.load_many(hand, ids, *want),
+            Step::Load(id, want) => self.load(hand, id, want),
+            Step::LoadMany(ids, want) => self.load_many(hand, ids, want),
             Step::ByLaw(asked, want) => self.by_law(hand, asked, want),
-            Step::Prime(id, primed, want) => self.prime(hand, id, primed, *want),
-            Step::Clear(id, want) => self.clear(hand, id, *want),
-            Step::ClearAll(want) => self.clear_all(hand, *want),
-            Step::Dispatch(want) => self.dispatch(hand, *want),
-            Step::Settle(batch, ids, want) => self.settle(hand, *batch, ids, *want),
-            Step::Fail(batch, ids, why, want) => self.fail(hand, *batch, ids, *why, *want),
-            Step::Look(cell, want) => self.look(hand, *cell, *want),
+            Step::Prime(id, primed, want) => self.prime(hand, id, primed, want),
+            Step::Clear(id, want) => self.clear(hand, id, want),
+            Step::ClearAll(want) => self.clear_all(hand, want),
+            Step::Dispatch(want) => self.dispatch(hand, want),
+            Step::Settle(batch, ids, want) => self.settle(hand, batch, ids, want),
+            Step::Fail(batch, ids, why, want) => self.fail(hand, batch, ids, why, want),
+            Step::Look(cell, want) => self.look(hand, cell, want),
             Step::Saw(want) => assert_shows(self.rt, self.alloc, hand.see(), Some(want)),
-            Step::Wait(want) => self.wait(hand, *want),
+            Step::Wait(want) => self.wait(hand, want),
             Step::Stop => self.stop(),
             Step::Entries {
                 kinds,
                 calls,
                 front,
-            } => self.entries(&hand.pass, kinds, (*calls, *front)),
+            } => self.entries(&hand.pass, kinds, (calls, front)),
         }
     }
 
@@ -85,7 +85,7 @@ impl<'a, L: LoaderName, S: Source, R: Abort + Wait> Stage<'a, L, S, R> {
         &self,
         hand: &mut Hand<'a, L>,
         id: &str,
-        primed: &Primed,
+        primed: Primed,
         want: Result<PrimeReply, CallFault>,
     ) {
         let key = user(self.rt, self.alloc, id);

@@ -7,6 +7,7 @@ use dl_loader::{CallFault, CloseFault, EntryKind, GiveUp, PrimeReply, Stopped};
 pub(super) type Ids = &'static [&'static str];
 
 /// A call of one caller, and what it must answer.
+#[derive(Clone, Copy)]
 pub(super) enum Step {
     /// The load of a key. The caller keeps its ticket, and lets go of the one before.
     Load(&'static str, Result<LoadReply, CallFault>),
@@ -43,6 +44,7 @@ pub(super) enum Step {
 }
 
 /// A call as a value, with its arguments.
+#[derive(Clone, Copy)]
 pub(super) enum Asked {
     Load(&'static str),
     LoadMany(Ids),
@@ -55,6 +57,7 @@ pub(super) enum Asked {
 }
 
 /// The reply to a call as the history tells it.
+#[derive(Clone, Copy)]
 pub(super) enum Told {
     Loaded(LoadReply),
     Many(&'static [LoadReply]),
@@ -65,6 +68,7 @@ pub(super) enum Told {
 }
 
 /// What a key is primed with.
+#[derive(Clone, Copy)]
 pub(super) enum Primed {
     /// The value of a JSON text.
     Value(&'static str),
