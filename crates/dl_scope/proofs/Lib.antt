@@ -3,7 +3,6 @@ mod Dealt
 mod EndedOnce
 mod Gave
 mod Headlines
-mod Least
 mod LoadedCells
 mod OwnAnswers
 mod OwnOutcomes
