@@ -3,6 +3,7 @@ mod Dealt
 mod EndedOnce
 mod Gave
 mod Headlines
+mod Joined
 mod Least
 mod LoadedCells
 mod OwnAnswers
