@@ -3,6 +3,7 @@ mod Dealt
 mod EndedOnce
 mod Gave
 mod Headlines
+mod Joined
 mod LoadedCells
 mod OwnAnswers
 mod OwnOutcomes
@@ -11,6 +12,5 @@ mod OwnSettles
 mod Placed
 mod Refusing
 mod SeatsBack
-mod Stretches
 mod Unprimed
 mod Worked
