@@ -6,3 +6,4 @@ pub mod Ended
 pub mod HandedOver
 pub mod RoundMade
 pub mod Stretched
+mod Stretches

@@ -1,4 +1,6 @@
+pub mod Follows
 pub mod Future
+pub mod Inside
 pub mod Pairs
 pub mod Reads
 pub mod Run

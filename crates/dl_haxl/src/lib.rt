@@ -6,7 +6,7 @@
 //!
 //! [`run_inline`] and [`run_term`] evaluate a term in rounds. Each round loads the keys that the term waits for,
 //! dispatches, and waits for the outcome of each load. `run_inline` fetches the dispatched jobs on the caller's own
-//! thread, and `run_term` hands them over to fetch workers by a queue.
+//! thread, and `run_term` hands them over to fetch workers by a queue. [`take_steps`] takes the steps of a whole plan so.
 #![tactic(auto)]
 
 mod evaluation;
@@ -19,6 +19,8 @@ mod queued;
 mod rounds;
 mod run;
 mod stage;
+mod step_answer;
+mod steps;
 
 pub use dl_terms::{Answer, EvalFault, Term, laws};
 pub use fault::{PollFault, RunFault};
@@ -26,3 +28,5 @@ pub use future::LoadFuture;
 pub use inline::run_inline;
 pub use queued::run_term;
 pub use run::TermRun;
+pub use step_answer::{StepAnswer, StepAnswers};
+pub use steps::take_steps;

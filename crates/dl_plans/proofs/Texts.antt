@@ -11,7 +11,7 @@ use Rattle.dl_desk.specs.Key.{Key}
 use Rattle.dl_desk.specs.declared.reply.End.{End}
 use Rattle.dl_documents.specs.Script.{key_tree}
 use Rattle.dl_history.specs.History.{keys_of}
-use Rattle.dl_scope.specs.declared.step_answer.StepAnswer.{StepAnswer}
+use Rattle.dl_haxl.specs.declared.step_answer.StepAnswer.{StepAnswer}
 use Rattle.dl_plans.specs.JsonText.{keys_text}
 use Rattle.dl_plans.specs.ReportText.{answer_line, answers_text, batch_line, batch_lines}
 

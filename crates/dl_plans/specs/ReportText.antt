@@ -12,7 +12,7 @@ use Rattle.dl_history.specs.History.{keys_of, log}
 use Rattle.dl_plans.specs.JsonText.{key_text, keys_text, quoted_text}
 use Rattle.dl_plans.specs.Lines.{text_line}
 use Rattle.dl_scope.specs.Report.{Report}
-use Rattle.dl_scope.specs.declared.step_answer.StepAnswer.{StepAnswer}
+use Rattle.dl_haxl.specs.declared.step_answer.StepAnswer.{StepAnswer}
 use Rattle.dl_terms.specs.declared.answer.Answer.{Answer}
 use Rattle.dl_terms.specs.declared.answer.Answer.TheVariants.{Value, Fault}
 use Rattle.dl_terms.specs.declared.answer.EvalFault.{EvalFault}

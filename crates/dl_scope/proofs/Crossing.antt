@@ -25,9 +25,9 @@ use Rattle.dl_scope.specs.contracts.jobs.PlanJob as PlanJob
 use Rattle.dl_scope.specs.contracts.jobs.PlanRun as PlanRun
 use Rattle.dl_terms.specs.contracts.plan.Plan as Plan
 use Rattle.dl_terms.specs.contracts.plan.Step as Step
-use Rattle.dl_scope.specs.contracts.step_answer.StepAnswer as StepAnswer
+use Rattle.dl_haxl.specs.contracts.step_answer.StepAnswer as StepAnswer
 use Rattle.dl_scope.specs.contracts.stage.Stage as Stage
-use Rattle.dl_scope.specs.contracts.steps.Given as Given
+use Rattle.dl_haxl.specs.contracts.step_answer.StepAnswers as StepAnswers
 
 Term-field-send : IsSend Term.the_field.row
 Term-field-send = search (terms_cross, Json-send, key.the_send, owners_cross, maps_cross, sendable) depth 40
@@ -44,8 +44,8 @@ Answer-field-send = search (Json-send, key.the_send, batch.the_field_send, owner
 StepAnswer-send : IsSend StepAnswer.the_row
 StepAnswer-send = search (Answer-field-send, owners_cross, sendable) depth 40 fits 20000
 
-Given-send : IsSend Given.the_row
-Given-send = search (StepAnswer-send, owners_cross, sendable) depth 40 fits 20000
+StepAnswers-send : IsSend StepAnswers.the_row
+StepAnswers-send = search (StepAnswer-send, owners_cross, sendable) depth 40 fits 20000
 
 module _ (T : RattleType) (n : name.Ghosts T.Denot) (l : ledger.Ghosts T.Denot) where
   pub PlanJob-send : IsSend (PlanJob.the_row T n l)
@@ -59,7 +59,7 @@ module _ (T : RattleType) (n : name.Ghosts T.Denot) (l : ledger.Ghosts T.Denot) 
     as_row_send (Pass.the_field T n l) (pass.the_send T n l),
     (
       as_row_send Sender.the_field sender.the_field_send,
-      (search (as_row_send, Given-send, fault.the_send, fault.the_field_send, owners_cross, sendable) depth 40 fits 20000, tt),
+      (search (as_row_send, StepAnswers-send, fault.the_send, fault.the_field_send, owners_cross, sendable) depth 40 fits 20000, tt),
     ),
   )
 

@@ -5,8 +5,8 @@ use Rattle.std.proofs.lemmas.List.{map-append}
 use Rattle.std.specs.declared.alloc.Global.{Global}
 use Rattle.dl_scope.specs.Inside.Gathered.{AllGave, Gave}
 use Rattle.dl_scope.specs.declared.jobs.PlanRun.{PlanRun}
-use Rattle.dl_scope.specs.declared.step_answer.StepAnswer.{StepAnswer}
-use Rattle.dl_scope.specs.declared.steps.Given.{Given}
+use Rattle.dl_haxl.specs.declared.step_answer.StepAnswer.{StepAnswer}
+use Rattle.dl_haxl.specs.declared.step_answer.StepAnswers.{StepAnswers}
 
 -- one more of a list's elements is put behind what there is
 pub mapped_more : {X Y : Type 0} (f : X → Y) (before now new : List Y) (xs : List X) (x : X) → now ≡ before ++ map f xs → new ≡ now ++ f x ∷ []
@@ -27,7 +27,7 @@ module _ {L : Type 0} where
   -- one plan more
   pub gave_more : (runs : List (PlanRun L)) (run : PlanRun L) (now new : List (Vec StepAnswer Global))
       (a : Vec StepAnswer Global) (rounds more : List ℕ) (n : ℕ)
-      (given : Given) → AllGave runs (map (λ (v : Vec StepAnswer Global). v.items) now) rounds → run.given ≡ Ok given
+      (given : StepAnswers) → AllGave runs (map (λ (v : Vec StepAnswer Global). v.items) now) rounds → run.given ≡ Ok given
       → given.answers ≡ a → given.rounds ≡ n → new ≡ now ++ a ∷ [] → more ≡ rounds ++ n ∷ []
       → AllGave (runs ++ run ∷ []) (map (λ (v : Vec StepAnswer Global). v.items) new) more
   gave_more runs run now new a rounds more n given gave is answers count push push2 =

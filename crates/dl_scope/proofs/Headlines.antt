@@ -10,15 +10,16 @@ use Rattle.dl_loader.specs.Closing.{IsLeastOf, account_of, accounts_of}
 use Rattle.dl_loader.specs.Pass.{Part, Pass}
 use Rattle.dl_workers.specs.declared.queue.Tally.{Tally}
 use Rattle.dl_scope.specs.Faults.{MayServe, RefusedAs}
-use Rattle.dl_scope.specs.Follows.{Follows}
-use Rattle.dl_scope.specs.Headline.{Headline, HeadlineBut, TellsEnd, given_up}
+use Rattle.dl_haxl.specs.Follows.{Follows}
+use Rattle.dl_scope.specs.Headline.{Headline, HeadlineBut, TellsEnd}
+use Rattle.dl_workers.specs.GivenUp.{given_up}
 use Rattle.dl_scope.specs.Inside.Served.{AreServed}
 use Rattle.dl_scope.specs.Report.{Report, report}
 use Rattle.dl_scope.specs.declared.fault.ScopeFault.{ScopeFault}
 use Rattle.dl_scope.specs.declared.fault.ScopeFault.TheVariants.{Unfetched}
 use Rattle.dl_scope.specs.declared.setup.Setup.{Setup}
 use Rattle.dl_terms.specs.declared.plan.Plan.{Plan}
-use Rattle.dl_scope.specs.declared.step_answer.StepAnswer.{StepAnswer}
+use Rattle.dl_haxl.specs.declared.step_answer.StepAnswer.{StepAnswer}
 use Rattle.dl_scope.proofs.EndedOnce.{end_once}
 use Rattle.dl_scope.proofs.Placed.{parts_of, part_account, entries_at, plan_at, served_long, served_numbered, worker_after}
 

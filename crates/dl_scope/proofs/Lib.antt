@@ -3,7 +3,7 @@ mod Dealt
 mod EndedOnce
 mod Gave
 mod Headlines
-mod Least
+mod Joined
 mod LoadedCells
 mod OwnAnswers
 mod OwnOutcomes
@@ -12,6 +12,5 @@ mod OwnSettles
 mod Placed
 mod Refusing
 mod SeatsBack
-mod Stretches
 mod Unprimed
 mod Worked

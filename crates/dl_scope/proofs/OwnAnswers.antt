@@ -27,7 +27,7 @@ use Rattle.dl_terms.specs.Rounds.{Gains}
 use Rattle.dl_terms.specs.Tree.{Tree}
 use Rattle.dl_terms.specs.View.{term_view}
 use Rattle.dl_haxl.specs.Stretch.{HandedOver, Rounds}
-use Rattle.dl_scope.specs.Follows.{Stretch, stretch, IsStep, AreSteps}
+use Rattle.dl_haxl.specs.Follows.{Stretch, stretch, IsStep, AreSteps}
 use Rattle.dl_scope.specs.Headline.{Headline, service_of, Ends, TellsEnd}
 use Rattle.dl_scope.specs.OwnAnswers.{IsNoPrime, NonePrimed, AreOwn, listed, PrimesNoKey}
 use Rattle.dl_scope.specs.OwnAnswers.{AnswersByTables, AnswersAreOwn, OwnAnswersAreOne}

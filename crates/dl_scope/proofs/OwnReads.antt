@@ -21,11 +21,11 @@ use Rattle.dl_terms.specs.View.{term_view}
 use Rattle.dl_terms.specs.declared.term.Term.{Term}
 use Rattle.dl_haxl.specs.Pairs.{paired}
 use Rattle.dl_haxl.specs.Stretch.{Round, Rounds, HandedOver}
-use Rattle.dl_scope.specs.Follows.{Stretch, stretch, step_answer, IsStep, AreSteps}
+use Rattle.dl_haxl.specs.Follows.{Stretch, stretch, step_answer, IsStep, AreSteps}
 use Rattle.dl_scope.specs.OwnAnswers.{AreOwn, IsOwn}
 use Rattle.dl_terms.specs.declared.plan.Step.{Step}
 use Rattle.dl_terms.specs.declared.plan.Step.TheVariants.{Prime, Clear, ClearAll, Eval}
-use Rattle.dl_scope.specs.declared.step_answer.StepAnswer.{StepAnswer}
+use Rattle.dl_haxl.specs.declared.step_answer.StepAnswer.{StepAnswer}
 use Rattle.dl_scope.proofs.Unprimed.{every_parts}
 
 -- each outcome that is read of a loadMany's cell is its key's own

@@ -13,7 +13,7 @@ use Rattle.dl_loader.specs.Added.{Adds}
 use Rattle.dl_loader.specs.Pass.{Part, part, Pass, fresh}
 use Rattle.dl_workers.specs.Seats.{taken_jobs}
 use Rattle.dl_workers.specs.declared.queue.JobQueue.{JobQueue}
-use Rattle.dl_scope.specs.Follows.{Follows}
+use Rattle.dl_haxl.specs.Follows.{Follows}
 use Rattle.dl_scope.specs.Headline.{TellsEnd}
 use Rattle.dl_scope.specs.Inside.Gathered.{AllGave, Gave}
 use Rattle.dl_scope.specs.Inside.Kept.{PlanKept, WorkerKept}
@@ -23,8 +23,8 @@ use Rattle.dl_scope.specs.declared.jobs.PlanRun.{PlanRun}
 use Rattle.dl_scope.specs.declared.jobs.WorkerJob.{WorkerJob}
 use Rattle.dl_scope.specs.declared.jobs.WorkerRun.{WorkerRun}
 use Rattle.dl_terms.specs.declared.plan.Plan.{Plan}
-use Rattle.dl_scope.specs.declared.step_answer.StepAnswer.{StepAnswer}
-use Rattle.dl_scope.specs.declared.steps.Given.{Given}
+use Rattle.dl_haxl.specs.declared.step_answer.StepAnswer.{StepAnswer}
+use Rattle.dl_haxl.specs.declared.step_answer.StepAnswers.{StepAnswers}
 use Rattle.dl_scope.proofs.Worked.{worked_adds}
 
 -- ---- fresh passes
@@ -50,7 +50,7 @@ module _ {L : Type 0} (queue : JobQueue) (service : Service) where
       → Gave run a r → (run.pass.part.caller ≡ n) × Follows n job.plan.steps.items run.pass.part.entries a r
   one_plan n job run a r is kept (given, gave, answers, rounds) =
       let own : Adds job.pass.part run.pass.part (λ lines. Follows job.pass.part.caller job.plan.steps.items lines given.answers.items given.rounds) =
-      subst (λ (g : Result Given RunFault). IfOk g (λ given. Adds job.pass.part run.pass.part
+      subst (λ (g : Result StepAnswers RunFault). IfOk g (λ given. Adds job.pass.part run.pass.part
       (λ lines. Follows job.pass.part.caller job.plan.steps.items lines given.answers.items given.rounds))) gave kept.1 in
       let all = added_to_fresh n job.pass.part run.pass.part
       (λ lines. Follows job.pass.part.caller job.plan.steps.items lines given.answers.items given.rounds) is own in

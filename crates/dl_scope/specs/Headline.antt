@@ -1,9 +1,8 @@
 -- The headline: what a report is evidence of, whatever the schedule was.
-use Rattle.std.specs.Prelude.{◌≡◌, ℕ, ◌+◌, ◌<◌, ◌≤◌, List, [], ◌∷◌, length, Some, slice_get, flat_map}
+use Rattle.std.specs.Prelude.{◌≡◌, ℕ, ◌+◌, ◌<◌, ◌≤◌, List, [], length, Some, slice_get}
 use Rattle.dl_desk.specs.Limits.{mixed}
 use Rattle.dl_desk.specs.Key.{Key}
 use Rattle.dl_desk.specs.declared.outcome.BatchAnswer.{BatchAnswer}
-use Rattle.dl_desk.specs.declared.outcome.BatchFault.TheVariants.{Memory, Unsent, Source}
 use Rattle.dl_history.specs.Agrees.{Agrees, HasEach, entries_of}
 use Rattle.dl_history.specs.Entries.{Line, Called, Saw}
 use Rattle.dl_history.specs.History.{IsLegal, AllEnded}
@@ -12,11 +11,12 @@ use Rattle.dl_history.specs.Service.{Service, service}
 use Rattle.dl_history.specs.declared.event.Call.{Call}
 use Rattle.dl_history.specs.declared.event.Call.TheVariants.{Load, LoadMany, Prime, Clear, ClearAll, Dispatch, Settle, Fail}
 use Rattle.dl_history.specs.declared.event.Event.{Event}
-use Rattle.dl_scope.specs.Follows.{Follows}
+use Rattle.dl_haxl.specs.Follows.{Follows}
 use Rattle.dl_scope.specs.Report.{Report}
+use Rattle.dl_workers.specs.GivenUp.{given_up}
 use Rattle.dl_terms.specs.declared.plan.Plan.{Plan}
 use Rattle.dl_scope.specs.declared.setup.Setup.{Setup}
-use Rattle.dl_scope.specs.declared.step_answer.StepAnswer.{StepAnswer}
+use Rattle.dl_haxl.specs.declared.step_answer.StepAnswer.{StepAnswer}
 
 -- what a server serves by: its callers are the plans and then the workers, and its source answers by one function
 abbrev pub service_of : Setup → ℕ → (List Key → BatchAnswer) → Service
@@ -41,23 +41,6 @@ TellsEnd (Saw r) = ⊥
 -- events that end the same batch are the same event
 abbrev pub EndOnce : List Event → Type 0
 EndOnce events = (b j k : ℕ) (e f : Event) → slice_get events j ≡ Some e → slice_get events k ≡ Some f → Ends b e.call → Ends b f.call → j ≡ k
-
--- the batch that the call fails without an answer of the source, if it does
-abbrev pub given_up_by : Call → List ℕ
-given_up_by (Fail b Memory) = b ∷ []
-given_up_by (Fail b Unsent) = b ∷ []
-given_up_by (Fail b (Source text)) = []
-given_up_by (Settle b os) = []
-given_up_by (Load k) = []
-given_up_by (LoadMany ks) = []
-given_up_by (Prime k o) = []
-given_up_by (Clear k) = []
-given_up_by ClearAll = []
-given_up_by Dispatch = []
-
--- the batches that failed without an answer of the source, in the order of their ends
-abbrev pub given_up : List Event → List ℕ
-given_up events = flat_map (λ e. given_up_by e.call) events
 
 -- Whatever the schedule, workers and batch limit, a report holds one history in which every load, loadMany, prime and clear
 -- has the reply of a DataLoader of one thread at its point, each caller's calls stand once in its order, every outcome that was

@@ -1,4 +1,3 @@
 pub mod Gathered
 pub mod Kept
 pub mod Served
-pub mod Taken

@@ -1,5 +1,4 @@
 pub mod Faults
-pub mod Follows
 pub mod Headline
 pub mod Inside
 pub mod OwnAnswers

@@ -21,7 +21,7 @@ use Rattle.dl_terms.specs.declared.plan.Plan.{Plan}
 use Rattle.dl_scope.specs.declared.setup.Setup.{Setup}
 use Rattle.dl_terms.specs.declared.plan.Step.{Step}
 use Rattle.dl_terms.specs.declared.plan.Step.TheVariants.{Prime, Clear, ClearAll, Eval}
-use Rattle.dl_scope.specs.declared.step_answer.StepAnswer.{StepAnswer}
+use Rattle.dl_haxl.specs.declared.step_answer.StepAnswer.{StepAnswer}
 
 -- what each answer of the source has for a key, whatever keys were asked with it
 abbrev pub AnswersOwn : Service → (Key → Outcome) → Type 0

@@ -6,10 +6,8 @@ ghost use Rattle.dl_scope.specs.Inside.Gathered.{AllGave, AreGathered, IsRunFaul
 
 use crate::fault::ScopeFault;
 use crate::jobs::{PlanRun, WorkerRun};
-use crate::step_answer::StepAnswer;
-use crate::steps::Given;
 use crate::threads::Runs;
-use dl_haxl::RunFault;
+use dl_haxl::{RunFault, StepAnswer, StepAnswers};
 use dl_loader::{CallFault, LoaderName, Pass};
 use dl_workers::{Sender, Taker, WorkerEnd};
 use std::alloc::{AllocError, Global};
@@ -104,7 +102,7 @@ impl<L: LoaderName> Gathered<L> {
                 sender,
                 given,
             } = run;
-            let Ok(Given { answers, rounds }) = given else {
+            let Ok(StepAnswers { answers, rounds }) = given else {
                 unreachable!()
             };
             self.passes.push(pass)?;

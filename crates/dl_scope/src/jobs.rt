@@ -5,8 +5,7 @@ ghost use Rattle.dl_workers.specs.Seats.{IsSenderOf, IsTakerOf};
 ghost use Rattle.dl_scope.specs.Inside.Kept.{PlanKept, WorkerKept};
 
 use crate::stage::Stage;
-use crate::steps::{Given, take_steps};
-use dl_haxl::RunFault;
+use dl_haxl::{RunFault, StepAnswers, take_steps};
 use dl_loader::{LoaderName, Pass};
 use dl_source::Source;
 use dl_terms::Plan;
@@ -28,7 +27,7 @@ pub(crate) struct PlanJob<L: LoaderName> {
 pub(crate) struct PlanRun<L: LoaderName> {
     pub(crate) pass: Pass<L>,
     pub(crate) sender: Sender,
-    pub(crate) given: Result<Given, RunFault>,
+    pub(crate) given: Result<StepAnswers, RunFault>,
 }
 
 impl<L: LoaderName> PlanJob<L> {
@@ -43,9 +42,20 @@ impl<L: LoaderName> PlanJob<L> {
             plan,
         } = self;
         let Plan { steps } = plan;
-        let given = take_steps(rt, stage, &mut pass, &mut sender, steps);
+        let (alloc, hashing) = (stage.alloc, stage.hashing);
+        let (loader, queue) = (stage.loader, stage.queue);
+        let given = take_steps(
+            rt,
+            alloc,
+            hashing,
+            loader,
+            &mut pass,
+            queue,
+            &mut sender,
+            steps,
+        );
         if given.is_err() {
-            stage.loader.stop(rt);
+            loader.stop(rt);
         }
         PlanRun {
             pass,

@@ -8,20 +8,17 @@
 mod dealing;
 mod fault;
 mod gathering;
-mod given_up;
 mod jobs;
 pub mod laws;
 mod report;
 mod serving;
 mod setup;
 mod stage;
-mod step_answer;
-mod steps;
 mod threads;
 
+pub use dl_haxl::StepAnswer;
 pub use dl_terms::{MOST_PLANS, Plan, Step};
 pub use fault::ScopeFault;
 pub use report::Report;
 pub use serving::{MOST_WORKERS, serve};
 pub use setup::Setup;
-pub use step_answer::StepAnswer;

@@ -3,7 +3,7 @@
 ghost use Rattle.std.specs.Prelude.{◌≡◌, map};
 ghost use Rattle.dl_scope.specs.Report.{report};
 
-use crate::step_answer::StepAnswer;
+use dl_haxl::StepAnswer;
 use dl_loader::History;
 use dl_workers::Tally;
 use std::marker::Model;
@@ -23,7 +23,7 @@ impl Model for Report {
     ghost use Rattle.dl_scope.specs.Report.{Report, report};
     ghost use Rattle.std.specs.Coded.{codes};
     ghost use Rattle.dl_history.specs.contracts.history.History as closed;
-    ghost use Rattle.dl_scope.specs.contracts.step_answer.StepAnswer as answer;
+    ghost use Rattle.dl_haxl.specs.contracts.step_answer.StepAnswer as answer;
 
     ghost Value = { Report };
 

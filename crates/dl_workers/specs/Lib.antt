@@ -4,4 +4,5 @@ pub mod QueueFaults
 pub mod Seats
 pub mod Balance
 pub mod Ending
+pub mod GivenUp
 pub mod Worked

@@ -20,6 +20,7 @@
 mod ending;
 mod fault;
 mod gate;
+mod given_up;
 mod queue;
 mod rule;
 mod seating;
@@ -29,6 +30,7 @@ mod worker;
 pub use ending::{end_job, end_jobs};
 pub use fault::QueueFault;
 pub use gate::{Gate, NoGate};
+pub use given_up::least_given_up;
 pub use queue::{JobQueue, LARGEST_CAPACITY, MOST_SEATS, Tally};
 pub use seats::{Sender, Taker};
 pub use worker::{WorkerEnd, work};

@@ -5,8 +5,8 @@ use Rattle.dl_scope.specs.declared.fault.ScopeFault.{ScopeFault}
 use Rattle.dl_scope.specs.declared.fault.ScopeFault.TheVariants.{NoPlans, TooManyPlans, BadWorkers, Start, Queue, Run, Stopped, Close, Unfetched, OutOfMemory}
 use Rattle.dl_scope.specs.declared.gathering.Gathered.{Gathered}
 use Rattle.dl_scope.specs.declared.jobs.PlanRun.{PlanRun}
-use Rattle.dl_scope.specs.declared.step_answer.StepAnswer.{StepAnswer}
-use Rattle.dl_scope.specs.declared.steps.Given.{Given}
+use Rattle.dl_haxl.specs.declared.step_answer.StepAnswer.{StepAnswer}
+use Rattle.dl_haxl.specs.declared.step_answer.StepAnswers.{StepAnswers}
 use Rattle.dl_scope.specs.declared.threads.Runs.{Runs}
 
 -- a fault of so many plans' runs: another than that the loader was stopped, of one of them, or that
@@ -29,7 +29,7 @@ module _ {L : Type 0} where
 
   -- the plan gave these answers and took so many rounds
   abbrev pub Gave : PlanRun L → List StepAnswer → ℕ → Type 0
-  Gave run answers rounds = (given : Given) × (run.given ≡ Ok given) × (given.answers.items ≡ answers) × (given.rounds ≡ rounds)
+  Gave run answers rounds = (given : StepAnswers) × (run.given ≡ Ok given) × (given.answers.items ≡ answers) × (given.rounds ≡ rounds)
 
   -- so did each of the plans
   abbrev pub AllGave : List (PlanRun L) → List (List StepAnswer) → List ℕ → Type 0

@@ -5,7 +5,7 @@ use Rattle.dl_loader.specs.Added.{Adds}
 use Rattle.dl_workers.specs.Seats.{IsSenderOf, IsTakerOf, taken_jobs}
 use Rattle.dl_workers.specs.Worked.{Worked}
 use Rattle.dl_workers.specs.declared.queue.JobQueue.{JobQueue}
-use Rattle.dl_scope.specs.Follows.{Follows}
+use Rattle.dl_haxl.specs.Follows.{Follows}
 use Rattle.dl_scope.specs.declared.jobs.PlanJob.{PlanJob}
 use Rattle.dl_scope.specs.declared.jobs.PlanRun.{PlanRun}
 use Rattle.dl_scope.specs.declared.jobs.WorkerJob.{WorkerJob}

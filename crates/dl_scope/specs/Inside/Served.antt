@@ -6,13 +6,13 @@ use Rattle.dl_history.specs.Service.{Service}
 use Rattle.dl_loader.specs.Pass.{Part, Pass}
 use Rattle.dl_workers.specs.Seats.{IsSenderOf}
 use Rattle.dl_workers.specs.declared.queue.JobQueue.{JobQueue}
-use Rattle.dl_scope.specs.Follows.{Follows}
+use Rattle.dl_haxl.specs.Follows.{Follows}
 use Rattle.dl_scope.specs.Headline.{TellsEnd}
 use Rattle.dl_scope.specs.Inside.Kept.{PlanKept, WorkerKept}
 use Rattle.dl_scope.specs.declared.jobs.PlanJob.{PlanJob}
 use Rattle.dl_scope.specs.declared.jobs.WorkerJob.{WorkerJob}
 use Rattle.dl_terms.specs.declared.plan.Plan.{Plan}
-use Rattle.dl_scope.specs.declared.step_answer.StepAnswer.{StepAnswer}
+use Rattle.dl_haxl.specs.declared.step_answer.StepAnswer.{StepAnswer}
 use Rattle.dl_scope.specs.declared.threads.Runs.{Runs}
 
 -- ---- by their passes

@@ -11,7 +11,7 @@ use Rattle.dl_terms.specs.View.{term_view}
 use Rattle.dl_haxl.specs.Stretch.{EvaluatesQueued}
 use Rattle.dl_terms.specs.declared.plan.Step.{Step}
 use Rattle.dl_terms.specs.declared.plan.Step.TheVariants.{Prime, Clear, ClearAll, Eval}
-use Rattle.dl_scope.specs.declared.step_answer.StepAnswer.{StepAnswer}
+use Rattle.dl_haxl.specs.declared.step_answer.StepAnswer.{StepAnswer}
 
 -- what a step leaves: entries of its caller, the answer of its term, if it has one, and the rounds of loads that it took
 pub record Stretch : Type 0 where

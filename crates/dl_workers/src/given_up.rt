@@ -2,13 +2,14 @@
 
 ghost use Rattle.std.specs.Prelude.{◌∷◌, ◌++◌, [], ℕ, List, Some, flat_map};
 ghost use Rattle.dl_loader.specs.Closing.{IsLeastOf};
-ghost use Rattle.dl_scope.specs.Headline.{given_up, given_up_by};
+ghost use Rattle.dl_workers.specs.GivenUp.{given_up, given_up_by};
 
 use dl_desk::BatchFault;
 use dl_loader::{Call, History};
 
-/// The least batch that failed for want of memory or since its job was not sent.
-pub(crate) fn least_given_up(history: &History) -> Option<u32>
+/// The least batch of a history that failed for want of memory or since its job was not sent, so without an answer of the
+/// source. Where there is none, each batch that ended was answered.
+pub fn least_given_up(history: &History) -> Option<u32>
     ensures { IsLeastOf result (given_up history.now.events) }
 {
     let events = history.events();

@@ -1,9 +1,9 @@
 use Rattle.std.proofs.Common.{◌+◌, ◌≤◌, ◌++◌, ◌∷◌, [], length, length-append, arith}
 use Rattle.dl_haxl.proofs.RoundMade.{on_err}
 use Rattle.dl_history.specs.Entries.{calls_of}
-use Rattle.dl_scope.specs.Inside.Taken.{answers_of, rounds_of}
-use Rattle.dl_scope.proofs.Stretches.{follows_more, gains_grow, gains_same, rounds_few}
-use Rattle.dl_scope.proofs.steps.take_steps.Goals as goal
+use Rattle.dl_haxl.specs.Inside.Taken.{answers_of, rounds_of}
+use Rattle.dl_haxl.proofs.Stretches.{follows_more, gains_grow, gains_same, rounds_few}
+use Rattle.dl_haxl.proofs.steps.take_steps.Goals as goal
 
 pub add-requires : goal.add-requires
 add-requires g c =

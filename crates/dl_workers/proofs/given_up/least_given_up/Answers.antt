@@ -1,8 +1,8 @@
 use Rattle.std.proofs.Common.{◌≡◌, ◌∙◌, ap, sym, slice_get}
 use Rattle.std.specs.Prelude.{option_copied}
-use Rattle.dl_scope.proofs.Least.{least_event, least_past}
-use Rattle.dl_scope.proofs.given_up.least_given_up.Goals.{in-Some, in_default}
-use Rattle.dl_scope.proofs.given_up.least_given_up.Goals as goal
+use Rattle.dl_workers.proofs.Least.{least_event, least_past}
+use Rattle.dl_workers.proofs.given_up.least_given_up.Goals.{in-Some, in_default}
+use Rattle.dl_workers.proofs.given_up.least_given_up.Goals as goal
 
 pub loop-at-preserved : goal.loop-at-preserved
 loop-at-preserved c =

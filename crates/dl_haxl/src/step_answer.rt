@@ -10,3 +10,12 @@ pub struct StepAnswer {
     /// What its term gives.
     pub answer: Answer,
 }
+
+/// What the steps of a plan gave.
+#[derive(Drop)]
+pub struct StepAnswers {
+    /// The answers of its terms, in order.
+    pub answers: Vec<StepAnswer>,
+    /// How many rounds of loads they took.
+    pub rounds: u64,
+}

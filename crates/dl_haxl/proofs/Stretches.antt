@@ -14,9 +14,9 @@ use Rattle.dl_terms.specs.Tree.{Tree}
 use Rattle.dl_terms.specs.View.{term_view}
 use Rattle.dl_haxl.specs.Stretch.{Rounds, HandedOver}
 use Rattle.dl_terms.specs.declared.plan.Step.TheVariants.{Prime, Clear, ClearAll, Eval}
-use Rattle.dl_scope.specs.Follows.{Stretch, stretch, then, IsStep, AreSteps, Follows}
+use Rattle.dl_haxl.specs.Follows.{Stretch, stretch, then, IsStep, AreSteps, Follows}
 use Rattle.dl_terms.specs.declared.plan.Step.{Step}
-use Rattle.dl_scope.specs.declared.step_answer.StepAnswer.{StepAnswer}
+use Rattle.dl_haxl.specs.declared.step_answer.StepAnswer.{StepAnswer}
 
 -- stretches of the same entries, answers and rounds
 same_stretch : (ls ms : List Line) (given bs : List StepAnswer) (m n : ℕ) → ls ≡ ms → given ≡ bs → m ≡ n → stretch ls given m ≡ stretch ms bs n

@@ -1,0 +1,18 @@
+use Rattle.std.proofs.Common.{subst}
+use Rattle.dl_scope.specs.Inside.Kept.{PlanKept}
+use Rattle.dl_scope.proofs.Joined.{all_joined}
+use Rattle.dl_scope.proofs.threads.+run_plans.Goals as goal
+
+-- with the job back at the end of the list that it was taken from
+pub returns : goal.returns
+returns g t c =
+    let queue = c.args.stage.now.queue.now in
+    let child = c.in-Some-start_plan in
+    let rest = c.run_plans-rest in
+    let run = c.join.result in
+    let kept = subst (λ job. PlanKept queue job run) child.ensures.job
+    (subst (λ q. PlanKept q child.child.promise.job.value run) child.ensures.queue c.join.ensures) in
+    record {
+      plans = rw c.in-Some.ensures.items (all_joined (PlanKept queue) (λ runs. runs.items) rest.result c.with_plan.result c.pop.new.self.items
+          c.in-Some.job run rest.ensures.plans kept c.with_plan.ensures);
+    }

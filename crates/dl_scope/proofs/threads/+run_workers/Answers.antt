@@ -1,0 +1,24 @@
+use Rattle.std.proofs.Common.{subst}
+use Rattle.std.specs.List.{AllZip}
+use Rattle.dl_workers.specs.Seats.{IsSenderOf}
+use Rattle.dl_scope.specs.Inside.Kept.{PlanKept, WorkerKept}
+use Rattle.dl_scope.proofs.Joined.{all_joined, others_stay}
+use Rattle.dl_scope.proofs.threads.+run_workers.Goals as goal
+
+-- with the job back at the end of the list that it was taken from
+pub returns : goal.returns
+returns g t c =
+    let queue = c.args.stage.now.queue.now in
+    let service = g.L.LoaderName.service in
+    let child = c.in-Some-start_worker in
+    let rest = c.run_workers-rest in
+    let run = c.join.result in
+    let kept = subst (λ job. WorkerKept queue service job run) child.ensures.job
+    (subst (λ q. WorkerKept q service child.child.promise.job.value run) child.ensures.queue c.join.ensures) in
+    record {
+      workers = rw c.in-Some.ensures.items (all_joined (WorkerKept queue service) (λ runs. runs.workers.items) rest.result c.with_worker.result
+          c.pop.new.self.items c.in-Some.job run rest.ensures.workers kept c.with_worker.ensures.workers);
+      plans = others_stay (λ plans. AllZip (PlanKept queue) c.args.plans.items plans.items) (λ runs. runs.plans) rest.result c.with_worker.result
+          rest.ensures.plans c.with_worker.ensures.plans;
+      own = others_stay (IsSenderOf queue) (λ runs. runs.own) rest.result c.with_worker.result rest.ensures.own c.with_worker.ensures.own;
+    }

@@ -1,0 +1,23 @@
+-- Batches that failed without an answer of the source.
+use Rattle.std.specs.Prelude.{ℕ, List, [], ◌∷◌, flat_map}
+use Rattle.dl_desk.specs.declared.outcome.BatchFault.TheVariants.{Memory, Unsent, Source}
+use Rattle.dl_history.specs.declared.event.Call.{Call}
+use Rattle.dl_history.specs.declared.event.Call.TheVariants.{Load, LoadMany, Prime, Clear, ClearAll, Dispatch, Settle, Fail}
+use Rattle.dl_history.specs.declared.event.Event.{Event}
+
+-- the batch that the call fails without an answer of the source, if it does
+abbrev pub given_up_by : Call → List ℕ
+given_up_by (Fail b Memory) = b ∷ []
+given_up_by (Fail b Unsent) = b ∷ []
+given_up_by (Fail b (Source text)) = []
+given_up_by (Settle b os) = []
+given_up_by (Load k) = []
+given_up_by (LoadMany ks) = []
+given_up_by (Prime k o) = []
+given_up_by (Clear k) = []
+given_up_by ClearAll = []
+given_up_by Dispatch = []
+
+-- the batches that failed without an answer of the source, in the order of their ends
+abbrev pub given_up : List Event → List ℕ
+given_up events = flat_map (λ e. given_up_by e.call) events
