@@ -3,6 +3,7 @@ pub mod Found
 pub mod KeyLaws
 pub mod CallLaws
 pub mod TermLaws
+pub mod TermParts
 pub mod StepLaws
 pub mod FoundLists
 pub mod Listed

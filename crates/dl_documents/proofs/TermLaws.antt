@@ -28,7 +28,7 @@ pub value_is : (d v : Data) → value_in d ≡ Some v → Spelled (λ x. x) IsWh
 value_is d v h = let p = passed (has_float d) d v h in rw (← p.1) (record { tree = refl; is = p.0 })
 
 -- a list of a part and a field
-field_is : (d : Data) (p : Data × Name) → field_in d ≡ Some p → d ≡ two p.0 (string p.1)
+pub field_is : (d : Data) (p : Data × Name) → field_in d ≡ Some p → d ≡ two p.0 (string p.1)
 field_is d p h =
     let a = from_and_then with_field (two_in d) p h in
     let items : Data × Data = a.0 in
@@ -36,9 +36,9 @@ field_is d p h =
     two_found d items a.1 ∙ (ap (two items.0) (string_of items.1 b.0 b.1) ∙ ap (λ (q : Data × Name). two q.0 (string q.1)) (sym b.2))
 
 -- a list of a part, a field and a table
-record IsLink (d : Data) (p : Data × Name × Name) : Type 0 where
-  tree : d ≡ three p.0 (string p.1) (string p.2)
-  table : IsTableName p.2
+pub record IsLink (d : Data) (p : Data × Name × Name) : Type 0 where
+  pub tree : d ≡ three p.0 (string p.1) (string p.2)
+  pub table : IsTableName p.2
 
 linked_is : (part : Data) (names : Name × Name) (p : Data × Name × Name) → linked part names ≡ Some p → IsLink (three part (string names.0) (string names.1)) p
 linked_is part names p h =
@@ -46,7 +46,7 @@ linked_is part names p h =
     let b = sized table_bytes names.1 a.0 in
     rw (← a.1) (record { tree = refl; table = record { some = b.0; short = b.1 } })
 
-link_is : (d : Data) (p : Data × Name × Name) → link_in d ≡ Some p → IsLink d p
+pub link_is : (d : Data) (p : Data × Name × Name) → link_in d ≡ Some p → IsLink d p
 link_is d p h =
     let a = from_and_then with_link (three_in d) p h in
     let items : Data × Data × Data = a.0 in

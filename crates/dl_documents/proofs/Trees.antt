@@ -3,18 +3,19 @@ use Rattle.std.proofs.Common.{◌≡◌, ◌∙◌, sym, ap, ℕ, zero, suc, ◌
 use Rattle.std.proofs.Common.{String, Vec, Global, string_bytes, refl, arith, rules}
 use Rattle.std.proofs.Math.Nat.{le-max_left, le-max_right}
 use Rattle.std.proofs.lemmas.List.{drop_all, append-nil}
+use Rattle.std.proofs.lemmas.Option.{none-some}
 use Rattle.std.specs.Prelude.{slice_get}
-use Rattle.serde_json.specs.Data.{Data, depth, items_depth}
+use Rattle.serde_json.specs.Data.{Data, object, Members, no_members, member, depth, items_depth}
 use Rattle.serde_json.specs.Find.{as_array, as_object}
 use Rattle.serde_json.specs.View.{view, items_view, members_view}
 use Rattle.serde_json.specs.declared.value.Value.{Value}
 use Rattle.dl_source.proofs.Spelled.{array_of}
 use Rattle.dl_terms.specs.Tree.{all}
-use Rattle.dl_terms.specs.View.{term_view, terms_view}
+use Rattle.dl_terms.specs.View.{trees_of, term_view, terms_view}
 use Rattle.dl_terms.specs.declared.term.Term.{Term, the_lemmas}
 use Rattle.dl_terms.specs.declared.term.Term.TheVariants.{All}
 use Rattle.dl_documents.proofs.Found.{one_found}
-use Rattle.dl_documents.specs.TermReading.{together, gathers, term_named, term_in, parts_in, parts_of}
+use Rattle.dl_documents.specs.TermReading.{together, gathers, term_named, term_in, term_of, parts_in, parts_of}
 use Rattle.dl_documents.specs.Reading.{one_of, one_in, two_of, two_in, three_of, three_in}
 
 two_of-other : (vs : List Value) → (length vs ≡ 2 → ⊥) → two_of (items_view vs) ≡ None
@@ -64,6 +65,16 @@ one_other d es o h = rw (← o) (one_of-other es h)
 pub one_term : (d : Data) (name : List ℕ) (a : Data) → Some (name, a) ≡ one_in d → term_named name a (parts_in a) ≡ term_in d
 one_term d name a h = rw (one_found d (name, a) (sym h)) refl
 
+no_term_of : (ms : Members) → None ≡ one_of ms → None ≡ term_of ms
+no_term_of no_members h = refl
+no_term_of (member name d no_members) h = absurd (none-some (name, d) h)
+no_term_of (member name d (member other e ms)) h = refl
+
+-- what isn't an object with one member is no term
+pub no_term : (d : Data) → None ≡ one_in d → None ≡ term_in d
+no_term (object ms) h = no_term_of ms h
+no_term d h = refl
+
 item_within : (vs : List Value) (i : ℕ) (v : Value) → i < length vs → v ≡ get_or vs i v → depth (view v) ≤ items_depth (items_view vs)
 item_within [] i v h is = absurd (omega arith)
 item_within (w ∷ vs) zero v h is = rw is (le-max_left (depth (view w)) (items_depth (items_view vs)))
@@ -88,3 +99,7 @@ all_read d vs parts i e long read =
     let found : Some (map term_view parts.items) ≡ together (parts_of (items_view vs)) =
     ap Some (sym (append-nil (map term_view parts.items))) ∙ rw none at read in
     rw (array_of d (items_view vs) (sym e), ← found) (ap Some (term_view-All parts))
+
+-- an item was read as no term
+pub all_unread : (d : Data) (vs : List Value) → Some (items_view vs) ≡ as_array d → None ≡ together (parts_of (items_view vs)) → None ≡ gathers (parts_in d) d
+all_unread d vs e none = rw (array_of d (items_view vs) (sym e)) (ap (option_map (λ ts. all (trees_of ts))) none)
