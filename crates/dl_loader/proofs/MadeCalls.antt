@@ -1,9 +1,11 @@
 -- What an event call of a book needs, and leaves where it is made.
-use Rattle.std.proofs.Common.{◌≡◌, ◌∙◌, ap, subst, sym, ◌<◌, ◌≤◌, ℕ, Bool, ◌∷◌, ◌++◌, [], length}
+use Rattle.std.proofs.Common.{◌≡◌, ◌∙◌, ap, subst, sym, ◌<◌, ◌≤◌, ℕ, Bool, ◌∷◌, ◌++◌, [], arith, length}
 use Rattle.dl_desk.specs.BatchBook.{BatchBook}
 use Rattle.dl_history.specs.declared.event.Call.{Call}
 use Rattle.dl_history.specs.declared.event.Reply.{Reply}
 use Rattle.dl_history.specs.Journal.{Journal}
+use Rattle.dl_history.specs.Kept.{Kept, IsKept}
+use Rattle.dl_history.specs.Service.{Service}
 use Rattle.dl_loader.specs.Book.{Locked, locked}
 use Rattle.dl_loader.specs.Inside.Recorded.{Recorded}
 use Rattle.dl_loader.specs.Made.{Makes, event_of, loads_of, with_event}
@@ -19,6 +21,13 @@ has_room {most = most} is room = subst (λ (v : Locked). length v.history < most
 -- the pass has seen no more than there is
 pub has_seen : {view b : Locked} {front : ℕ} → view ≡ b → front ≤ length b.history → front ≤ length view.history
 has_seen {front = front} is after = subst (λ (v : Locked). front ≤ length v.history) (sym is) after
+
+-- no more cells are begun than may be
+pub has_cells : {s : Service} {seen : Kept} → IsKept s seen → length seen.cells ≤ s.rules.limits.max_cells
+has_cells keeps =
+    let all = keeps.all_cells in
+    let fit = keeps.cells_fit in
+    omega arith
 
 -- ---- what it leaves
 

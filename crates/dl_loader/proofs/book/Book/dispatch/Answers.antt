@@ -8,6 +8,7 @@ use Rattle.dl_history.specs.declared.event.Call.TheVariants.{Dispatch}
 use Rattle.dl_loader.proofs.NotMade.{Refused, not_made, not_ready, no_memory, only_by_log, nothing_shown, nothing_made}
 use Rattle.dl_history.specs.declared.event.Reply.TheVariants.{Sent}
 use Rattle.dl_loader.proofs.MadeCalls.{has_room, has_seen, makes}
+use Rattle.dl_loader.proofs.Cleared.{cleared_refusals}
 use Rattle.dl_loader.proofs.book.Book.dispatch.Goals as goal
 
 pub invariant_of-self-2 : goal.invariant_of-self-2
@@ -25,6 +26,12 @@ make_dispatch-requires-clause-after g c = has_seen c.self.view_is c.in_ok-admit.
 
 pub returns-clause-made : goal.returns-clause-made
 returns-clause-made g c = makes c.self.view_is refl refl (ap Sent c.as_slice.ensures.value) c.in_ok-make_dispatch.ensures.recorded refl
+
+pub returns-clause-accepted : goal.returns-clause-accepted
+returns-clause-accepted g c = rw c.in_ok-admit.ensures.ok refl
+
+pub returns-clause-refused : goal.returns-clause-refused
+returns-clause-refused g c = cleared_refusals c.self.view_is c.in_ok-make_dispatch.ensures.recorded
 
 pub returns-in_err-admit : goal.returns-in_err-admit
 returns-in_err-admit g c =

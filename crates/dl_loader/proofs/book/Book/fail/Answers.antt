@@ -1,12 +1,13 @@
-use Rattle.std.proofs.Common.{refl, Some, ap}
+use Rattle.std.proofs.Common.{refl, Some, ap, ◌∙◌, ◌+◌, length}
 use Rattle.dl_desk.specs.Events.{atoms}
 use Rattle.dl_history.specs.declared.event.Call.TheVariants.{Fail}
 use Rattle.dl_history.specs.History.{log}
 use Rattle.dl_loader.specs.Asks.{fault_of}
 use Rattle.dl_loader.proofs.Kept.{may_call}
-use Rattle.dl_loader.proofs.BatchEnds.{can_end_cells, end_refused, fail_kept, few_end, given_up, may_end}
+use Rattle.dl_loader.proofs.BatchEnds.{as_many, can_end_cells, end_refused, fail_kept, few_end, given_up, may_end}
 use Rattle.dl_loader.proofs.NotMade.{Refused, not_ended, not_ready, for_cause, by_log, nothing_made}
-use Rattle.dl_loader.proofs.MadeCalls.{has_room, has_seen, makes_end}
+use Rattle.dl_loader.proofs.MadeCalls.{has_cells, has_room, has_seen, makes_end}
+use Rattle.dl_history.specs.Journal.{refusals}
 use Rattle.dl_loader.proofs.book.Book.fail.Goals as goal
 
 pub make_end-requires-clause-few : goal.make_end-requires-clause-few
@@ -48,6 +49,23 @@ make_end-requires-clause-after g c = has_seen c.self.view_is c.in_ok-admit.ensur
 pub returns-clause-made : goal.returns-clause-made
 returns-clause-made g c = makes_end c.self.inside.journal c.make_end.new.journal c.self.view_is (ap (Fail c.args.job.now.batch) c.batch_fault-fault.ensures)
     c.in_ok-settled.ensures.history c.in_ok-settled.ensures.part
+
+pub make_end-requires-clause-brings : goal.make_end-requires-clause-brings
+make_end-requires-clause-brings g c = λ i low. refl
+
+pub make_end-requires-clause-cells_fit : goal.make_end-requires-clause-cells_fit
+make_end-requires-clause-cells_fit g c = has_cells c.self.invariant
+
+pub returns-clause-refused : goal.returns-clause-refused
+returns-clause-refused g c = c.in_ok-settled.ensures.refused ∙ ap (λ b. refusals b.cells + c.in_ok-settled.settled.refused) c.self.view_is
+
+pub returns-clause-each : goal.returns-clause-each
+returns-clause-each g c =
+    let H = atoms (log c.self.inside.journal.history) in
+    let desk = c.self.invariant.desk in
+    let many = as_many H c.args.job.now.batch c.as_slice.result.now c.in_ok-cells.cells.now (c.in_ok-cells.ensures.accepted H desk)
+    (c.in_ok-cells.ensures.cells H desk) in
+    c.in_ok-settled.ensures.each ∙ (many ∙ ap length c.as_slice.ensures)
 
 pub returns-in_err-admit : goal.returns-in_err-admit
 returns-in_err-admit g c =

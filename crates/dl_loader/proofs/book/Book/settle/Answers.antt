@@ -1,4 +1,4 @@
-use Rattle.std.proofs.Common.{◌∙◌, ap, length, refl, Some}
+use Rattle.std.proofs.Common.{◌∙◌, ap, length, refl, Some, ◌+◌}
 use Rattle.dl_desk.specs.Events.{atoms}
 use Rattle.dl_source.specs.Fetched.{answer_of, job_of, source_of}
 use Rattle.dl_history.specs.History.{log}
@@ -8,7 +8,8 @@ use Rattle.dl_loader.proofs.Kept.{may_call}
 use Rattle.dl_loader.proofs.BatchEnds.{answered_so, answered_end, answer_brings, answer_kept, as_many, can_end_cells, end_refused, few_end, may_end}
 use Rattle.dl_loader.proofs.BatchEnds.{refusal_by}
 use Rattle.dl_loader.proofs.NotMade.{Refused, not_ended, not_ready, no_memory, for_cause, by_log, nothing_made}
-use Rattle.dl_loader.proofs.MadeCalls.{has_room, has_seen, makes_end}
+use Rattle.dl_loader.proofs.MadeCalls.{has_cells, has_room, has_seen, makes_end}
+use Rattle.dl_history.specs.Journal.{refusals}
 use Rattle.dl_loader.proofs.book.Book.settle.Goals as goal
 
 pub make_end-requires-clause-few : goal.make_end-requires-clause-few
@@ -76,6 +77,12 @@ returns-clause-made g c =
     let call = c.in_ok-call.ensures ∙ (ap (λ b. end_by b c.answer-answer.result.now) c.batch-batch.ensures
     ∙ ap (end_by (job_of c.args.fetched.now).batch) c.answer-answer.ensures.answer) in
     makes_end c.self.inside.journal c.make_end.new.journal c.self.view_is call c.in_ok-settled.ensures.history c.in_ok-settled.ensures.part
+
+pub make_end-requires-clause-cells_fit : goal.make_end-requires-clause-cells_fit
+make_end-requires-clause-cells_fit g c = has_cells c.self.invariant
+
+pub returns-clause-refused : goal.returns-clause-refused
+returns-clause-refused g c = c.in_ok-settled.ensures.refused ∙ ap (λ b. refusals b.cells + c.in_ok-settled.settled.refused) c.self.view_is
 
 pub returns-in_err-admit : goal.returns-in_err-admit
 returns-in_err-admit g c =
