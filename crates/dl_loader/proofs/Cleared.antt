@@ -2,6 +2,7 @@
 use Rattle.std.proofs.Common.{◌≡◌, ◌∙◌, ap, sym, ℕ, Bool, append-nil}
 use Rattle.dl_desk.specs.BatchBook.{BatchBook}
 use Rattle.dl_history.specs.declared.event.Call.{Call}
+use Rattle.dl_history.specs.declared.event.Event.{Event}
 use Rattle.dl_history.specs.declared.event.Reply.TheVariants.{Done}
 use Rattle.dl_history.specs.Journal.{Journal, refusals}
 use Rattle.dl_loader.specs.Book.{Locked, locked}
@@ -22,7 +23,6 @@ cleared_makes {before} {now} {old = old} {new = new} {call = call} is own same r
       stopped = ap (λ (x : Locked). x.stopped) is;
     }
 
-pub cleared_refusals : {before now : Journal} {desk : BatchBook} {stopped : Bool} {b : Locked} {old new : Part} {caller : ℕ} {copy : Call}
-    → locked before.history desk before.cells stopped ≡ b → Recorded before now old new (event caller copy Done) 0
-    → refusals now.cells ≡ refusals b.cells
+pub cleared_refusals : {before now : Journal} {desk : BatchBook} {stopped : Bool} {b : Locked} {old new : Part} {e : Event}
+    → locked before.history desk before.cells stopped ≡ b → Recorded before now old new e 0 → refusals now.cells ≡ refusals b.cells
 cleared_refusals is recorded = ap refusals (simp append-nil at recorded.cells) ∙ ap (λ (x : Locked). refusals x.cells) is

@@ -17,6 +17,8 @@ mod Called
 pub mod AddedLemmas
 pub mod StillGiven
 mod Accepted
+mod NotMade
+mod MadeCalls
 mod AccountLemmas
 mod ClosingLemmas
 mod Sources

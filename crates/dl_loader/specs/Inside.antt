@@ -5,3 +5,4 @@ pub mod Recorded
 pub mod EndedUpTo
 pub mod Closes
 pub mod Codes
+pub mod Told

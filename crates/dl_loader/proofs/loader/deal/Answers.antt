@@ -1,5 +1,6 @@
 use Rattle.std.proofs.Common.{arith}
 use Rattle.dl_loader.proofs.Fresh.{fresh_next}
+use Rattle.std.proofs.lemmas.Result.{IfOk-from_err}
 use Rattle.dl_loader.proofs.loader.deal.Goals as goal
 
 pub loop-caller-preserved : goal.loop-caller-preserved
@@ -13,3 +14,9 @@ loop-caller-preserved g c =
       fresh_next (λ p. p.part) c.loop-caller.passes.items c.push.new.self.items c.fresh.result c.loop-caller.caller
           c.in_ok-push.ensures.items c.fresh.ensures c.loop-caller.invariant.2,
     )
+
+pub returns-in_err-passes : goal.returns-in_err-passes
+returns-in_err-passes g c = IfOk-from_err _ _ c.from_residual.ensures.0
+
+pub returns-in_err-push : goal.returns-in_err-push
+returns-in_err-push g c = IfOk-from_err _ _ c.from_residual-in_err-push.ensures.0
