@@ -1,8 +1,9 @@
 -- What each step of a call on one key leaves stands for the history with its atom.
-use Rattle.std.proofs.Common.{◌≡◌, ◌∙◌, sym, ℕ, List, ◌∷◌, Some, None, refl}
+use Rattle.std.proofs.Common.{◌≡◌, ◌∙◌, sym, ℕ, Bool, true, false, ◌||◌, cond, List, ◌∷◌, Option, Some, None, refl}
+use Rattle.std.specs.List.{list_any}
 use Rattle.std.specs.Map.{lookup}
 use Rattle.dl_desk.specs.Key.{Key, key_eq}
-use Rattle.dl_desk.specs.History.{Atom, Load, Begun, held, load_reply}
+use Rattle.dl_desk.specs.History.{Atom, Load, Clear, Begun, Latest, later, latest, forgets, cell_kept, held, load_reply}
 use Rattle.dl_desk.specs.declared.reply.LoadReply.{LoadReply}
 use Rattle.dl_desk.specs.declared.reply.LoadReply.TheVariants.{Hit, Fresh}
 use Rattle.dl_desk.specs.BatchBook.{BatchBook, StandsFor}
@@ -50,3 +51,32 @@ put_stands old new history k (Hit cell) stands put = rw put.1 (record {
   batches = stands.batches;
 })
 put_stands old new history k (Fresh cell batch) stands put = rw (put.1, put.2) (stands_fresh old new history k stands put.0 (rw put.2 at put.3))
+
+removed_kept : (k : Key) (l : Latest) (a : Atom) (gone same : Bool) → cond (same || gone) None (Some l.cell) ≡ cond same None (cond gone None (Some l.cell))
+removed_kept k l a gone true = refl
+removed_kept k l a gone false = refl
+
+none_both : (t : Bool) → ◌≡◌ {A = Option ℕ} None (cond t None None)
+none_both true = refl
+none_both false = refl
+
+-- a clear of a key takes away what is held for it
+held-cleared : (history : List Atom) (j k : Key) → held (Clear j ∷ history) k ≡ cond (key_eq j k) None (held history k)
+held-cleared history j k = by (latest history k)
+  where
+    by : (o : Option Latest) → cell_kept k (later (Clear j) o) ≡ cond (key_eq j k) None (cell_kept k o)
+    by None = none_both (key_eq j k)
+    by (Some l) = removed_kept k l (Clear j) (list_any (forgets k l.batch) l.after) (key_eq j k)
+
+-- a book that forgets a key stands for the history with the clear of it
+pub stands_cleared : (old new : BatchBook) (memo : List (Key × ℕ)) (history : List Atom) (k : Key) → new ≡ old → StandsFor old history
+    → ((q : Key) → lookup (key_eq q) memo ≡ cond (key_eq k q) None (lookup (key_eq q) old.memo))
+    → StandsFor (record new { memo = memo }) (Clear k ∷ history)
+stands_cleared old new memo history k same stands cleared = rw same (record {
+  legal = (tt, stands.legal);
+  memo = λ q. cleared q ∙ (rw (stands.memo q) (sym (held-cleared history k q)));
+  cells = stands.cells;
+  sent = stands.sent;
+  count = stands.count;
+  batches = stands.batches;
+})

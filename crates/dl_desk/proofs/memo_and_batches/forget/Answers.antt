@@ -1,6 +1,7 @@
-use Rattle.std.proofs.Common.{◌≡◌, ◌∙◌, sym, ℕ, Option, take, refl}
+use Rattle.std.proofs.Common.{◌≡◌, ◌∙◌, sym, ℕ, Option, Some, None, [], take, refl}
 use Rattle.std.specs.Map.{lookup}
 use Rattle.dl_desk.specs.Key.{Key, key_eq}
+use Rattle.dl_desk.specs.Prepared.{without}
 use Rattle.dl_desk.proofs.Ended.{option_eq-true, option_eq-false, take-next}
 use Rattle.dl_desk.proofs.Shown.{Forgot, forgot_removed, forgot_kept}
 use Rattle.dl_desk.proofs.memo_and_batches.forget.Goals as goal
@@ -21,3 +22,10 @@ loop-place-preserved c =
           (forgot_kept first before (λ k. lookup (key_eq k) c.if-eq.memo.entries) _ c.member-cell.result.0.now c.member-cell.result.1 forgot
           (λ e. option_eq-false c.copied.result c.member-cell.result.1 (sym c.eq.ensures ∙ w.if-eq.false) (sym held ∙ e)) (λ q. rw w.memo-is refl)).is
     ])
+
+pub loop-place-init : goal.loop-place-init
+loop-place-init c = λ k. by k (lookup (key_eq k) c.args.memo.now.entries)
+  where
+    by : (k : Key) (o : Option ℕ) → o ≡ without [] k o
+    by k None = refl
+    by k (Some cell) = refl

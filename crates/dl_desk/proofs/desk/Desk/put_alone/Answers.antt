@@ -26,3 +26,8 @@ returns-in_err-try_copy-clause-put c = IfOk-from_err _ _ c.from_residual.ensures
 
 pub returns-in_err-hold-clause-put : goal.returns-in_err-hold-clause-put
 returns-in_err-hold-clause-put c = IfOk-from_err _ _ c.from_residual-in_err-hold.ensures.0
+
+pub returns-in-Some-clause-put : goal.returns-in-Some-clause-put
+returns-in-Some-clause-put c =
+    let held = rw c.in_ok-try_copy.ensures at (sym c.in_ok-hold.ensures.held ∙ c.in-Some.is) in
+    (rw (← c.self.view_is, held) refl, rw (c.in_ok-hold.ensures.kept (rw c.in-Some.is refl), ← c.self.view_is) refl)
