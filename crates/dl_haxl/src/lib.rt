@@ -22,7 +22,7 @@ mod stage;
 mod step_answer;
 mod steps;
 
-pub use dl_terms::{Answer, EvalFault, Term, laws};
+pub use dl_terms::{Answer, EvalFault, Step, Term, laws};
 pub use fault::{PollFault, RunFault};
 pub use future::LoadFuture;
 pub use inline::run_inline;
