@@ -1,7 +1,20 @@
 use Rattle.std.proofs.Common.{subst}
+use Rattle.dl_workers.specs.Seats.{IsSenderOf}
 use Rattle.dl_scope.specs.Inside.Kept.{PlanKept}
+use Rattle.dl_scope.specs.declared.jobs.PlanJob.{PlanJob}
 use Rattle.dl_scope.proofs.Joined.{all_joined}
+use Rattle.dl_scope.proofs.SeatsBack.{all_front, all_last}
 use Rattle.dl_scope.proofs.threads.+run_plans.Goals as goal
+
+pub start_plan-requires-clause-seat : goal.start_plan-requires-clause-seat
+start_plan-requires-clause-seat g t c = λ κs live.
+    all_last (λ (job : PlanJob g.row.L.Denot). IsSenderOf c.args.stage.now.queue.now job.sender) c.pop.new.self.items c.args.plans.items c.in-Some.job
+    c.in-Some.ensures.items c.requires.plans
+
+pub run_plans-rest-requires-clause-plans : goal.run_plans-rest-requires-clause-plans
+run_plans-rest-requires-clause-plans g t c = λ κs live.
+    all_front (λ (job : PlanJob g.row.L.Denot). IsSenderOf c.args.stage.now.queue.now job.sender) c.pop.new.self.items c.args.plans.items c.in-Some.job
+    c.in-Some.ensures.items c.requires.plans
 
 -- with the job back at the end of the list that it was taken from
 pub returns : goal.returns

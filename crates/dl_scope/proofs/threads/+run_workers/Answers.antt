@@ -1,9 +1,21 @@
 use Rattle.std.proofs.Common.{subst}
 use Rattle.std.specs.List.{AllZip}
-use Rattle.dl_workers.specs.Seats.{IsSenderOf}
+use Rattle.dl_workers.specs.Seats.{IsSenderOf, IsTakerOf}
 use Rattle.dl_scope.specs.Inside.Kept.{PlanKept, WorkerKept}
+use Rattle.dl_scope.specs.declared.jobs.WorkerJob.{WorkerJob}
 use Rattle.dl_scope.proofs.Joined.{all_joined, others_stay}
+use Rattle.dl_scope.proofs.SeatsBack.{all_front, all_last}
 use Rattle.dl_scope.proofs.threads.+run_workers.Goals as goal
+
+pub start_worker-requires-clause-seat : goal.start_worker-requires-clause-seat
+start_worker-requires-clause-seat g t c = λ κs live.
+    all_last (λ (job : WorkerJob g.row.L.Denot). IsTakerOf c.args.stage.now.queue.now job.taker) c.pop.new.self.items c.args.workers.items c.in-Some.job
+    c.in-Some.ensures.items c.requires.workers
+
+pub run_workers-rest-requires-clause-workers : goal.run_workers-rest-requires-clause-workers
+run_workers-rest-requires-clause-workers g t c = λ κs live.
+    all_front (λ (job : WorkerJob g.row.L.Denot). IsTakerOf c.args.stage.now.queue.now job.taker) c.pop.new.self.items c.args.workers.items c.in-Some.job
+    c.in-Some.ensures.items c.requires.workers
 
 -- with the job back at the end of the list that it was taken from
 pub returns : goal.returns
