@@ -15,7 +15,7 @@ none (Some e) is = absurd cc
 pub returns-clause-ok : goal.returns-clause-ok
 returns-clause-ok c =
     let low : c.args.number < length c.self.inside.batches.items =
-        let s = rw length-map at c.self.invariant.shown_book.all_stored in omega arith in
+    let s = rw length-map at c.self.invariant.shown_book.all_stored in omega arith in
     let got : slice_get c.self.inside.batches.items c.args.number ≡ Some c.index.result.now = slice_get_read _ _ _ _ refl low c.index.ensures in
     let at : slice_get (map front c.self.inside.batches.items) c.args.number ≡ Some (front c.index.result.now) = rw (slice_get-map, got) refl in
     rw (← c.self.view_is) (record {

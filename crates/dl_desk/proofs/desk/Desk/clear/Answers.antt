@@ -7,7 +7,7 @@ use Rattle.dl_desk.proofs.desk.Desk.clear.Goals as goal
 pub returns-clause-stands : goal.returns-clause-stands
 returns-clause-stands c = λ history stands.
     let memo : c.self.inside.memo.entries ≡ c.args.self.now.book.memo =
-        ap (λ (d : Desk). d.prepared.memo) c.self.view_is ∙ ap (λ (b : BatchBook). b.memo) c.discard.ensures.prepared in
+    ap (λ (d : Desk). d.prepared.memo) c.self.view_is ∙ ap (λ (b : BatchBook). b.memo) c.discard.ensures.prepared in
     let entries = c.swap_remove.new.self.entries in
     stands_cleared _ _ _ history c.args.key.now (ap (λ (d : Desk). d.book) c.self.view_is ∙ c.discard.ensures.book) stands
     (λ q. rw (c.len-self-inside.ensures.len, take_all (length entries) entries (omega arith)) (rw memo at (c.swap_remove.ensures.updates.0 q)))

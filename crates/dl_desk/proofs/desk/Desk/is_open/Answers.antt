@@ -11,7 +11,7 @@ pub returns-then-self-number : goal.returns-then-self-number
 returns-then-self-number c =
     let below = rw (length-begun _ _ _ _ _ c.self.invariant.prepared_book) at (rw (← c.self.view_is) at c.requires) in
     let low : c.args.number < length c.self.inside.batches.items =
-        let s = rw length-map at c.self.invariant.prepared_book.all_stored in omega arith in
+    let s = rw length-map at c.self.invariant.prepared_book.all_stored in omega arith in
     let got : slice_get c.self.inside.batches.items c.args.number ≡ Some c.index.result.now = slice_get_read _ _ _ _ refl low c.index.ensures in
     let at : slice_get (map whole c.self.inside.batches.items) c.args.number ≡ Some (whole c.index.result.now) = rw (slice_get-map, got) refl in
     rw (← c.self.view_is, get-take _ _ _ below, at, le-leb _ _ c.if-self-number.true, c.len.ensures, c.max_batch.ensures.value) refl
