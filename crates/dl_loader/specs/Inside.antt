@@ -5,4 +5,3 @@ pub mod Recorded
 pub mod EndedUpTo
 pub mod Closes
 pub mod Codes
-pub mod Told

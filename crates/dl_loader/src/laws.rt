@@ -7,9 +7,6 @@ ghost use Rattle.dl_loader.specs.Asks.{call_asked, job_asked, source_asked};
 ghost use Rattle.dl_loader.specs.Book.{Keeps};
 ghost use Rattle.dl_history.specs.Entries.{cell_of_load};
 ghost use Rattle.dl_history.specs.Journal.{refusals};
-ghost use Rattle.dl_history.specs.declared.event.Reply.TheVariants as reply;
-ghost use Rattle.dl_loader.specs.EventReplies.{refused_by, told_by};
-ghost use Rattle.dl_loader.specs.Inside.Told.{told_as};
 ghost use Rattle.dl_loader.specs.Made.{Makes};
 ghost use Rattle.dl_loader.specs.Refusals.{refusal, IsRefusal};
 
@@ -18,9 +15,7 @@ use crate::book::Book;
 use crate::fault::CallFault;
 use crate::loader::Loader;
 use crate::pass::Pass;
-use crate::reply::{PrimeReply, Settled};
 use crate::ticket::Ticket;
-use dl_desk::{Job, LoadReply};
 use dl_history::{Jobs, LoaderName, Replies, Reply, Rows};
 use dl_source::Source;
 use std::alloc::Global;
@@ -79,73 +74,34 @@ fn make<L: LoaderName, S: Source>(
     ensures unchanged { OnErr result ((book.new ≡ book.old) × (pass.new.part ≡ pass.old.part)) }
 {
     match ask {
-        Ask::Load(key) => loaded(book.load(alloc, rows, pass, key)),
-        Ask::LoadMany(keys) => many_loaded(book.load_many(alloc, rows, pass, keys)),
-        Ask::Prime(key, outcome) => primed(book.prime(alloc, rows, pass, key, outcome)),
-        Ask::Clear(key) => cleared(book.clear(alloc, rows, pass, key)),
-        Ask::ClearAll => cleared(book.clear_all(alloc, rows, pass)),
-        Ask::Dispatch => sent(book.dispatch(alloc, rows, pass)),
-        Ask::Settle(fetched) => ended(book.settle(alloc, rows, pass, fetched)),
-        Ask::Fail(job, give_up) => ended(book.fail(alloc, rows, pass, job, *give_up)),
-    }
-}
-
-/// What is told of a load.
-fn loaded(made: Result<LoadReply, CallFault>) -> Result<(Reply, u32), CallFault>
-    ensures { result ≡ told_as made (λ load. (reply.Loaded load, 0)) }
-{
-    match made {
-        Ok(reply) => Ok((Reply::Loaded(reply), 0)),
-        Err(fault) => Err(fault),
-    }
-}
-
-/// What is told of loads.
-fn many_loaded(made: Result<Vec<LoadReply>, CallFault>) -> Result<(Reply, u32), CallFault>
-    ensures { result ≡ told_as made (λ loads. (reply.Many loads.items, 0)) }
-{
-    match made {
-        Ok(replies) => Ok((Reply::Many(Replies::new(replies)), 0)),
-        Err(fault) => Err(fault),
-    }
-}
-
-/// What is told of a prime.
-fn primed(made: Result<PrimeReply, CallFault>) -> Result<(Reply, u32), CallFault>
-    ensures { result ≡ told_as made (λ prime. (told_by prime, refused_by prime)) }
-{
-    match made {
-        Ok(reply) => Ok(reply.told()),
-        Err(fault) => Err(fault),
-    }
-}
-
-/// What is told of a clear, of a key or of all keys.
-fn cleared(made: Result<(), CallFault>) -> Result<(Reply, u32), CallFault>
-    ensures { result ≡ told_as made (λ _. (reply.Done, 0)) }
-{
-    match made {
-        Ok(()) => Ok((Reply::Done, 0)),
-        Err(fault) => Err(fault),
-    }
-}
-
-/// What is told of a dispatch.
-fn sent(made: Result<Vec<Job>, CallFault>) -> Result<(Reply, u32), CallFault>
-    ensures { result ≡ told_as made (λ jobs. (reply.Sent jobs.items, 0)) }
-{
-    match made {
-        Ok(jobs) => Ok((Reply::Sent(Jobs::new(jobs)), 0)),
-        Err(fault) => Err(fault),
-    }
-}
-
-/// What is told of the end of a batch.
-fn ended(made: Result<Settled, CallFault>) -> Result<(Reply, u32), CallFault>
-    ensures { result ≡ told_as made (λ settled. (reply.Done, settled.refused)) }
-{
-    match made {
-        Ok(settled) => Ok((Reply::Done, settled.refused)),
-        Err(fault) => Err(fault),
+        Ask::Load(key) => {
+            let reply = book.load(alloc, rows, pass, key)?;
+            Ok((Reply::Loaded(reply), 0))
+        }
+        Ask::LoadMany(keys) => {
+            let replies = book.load_many(alloc, rows, pass, keys)?;
+            Ok((Reply::Many(Replies::new(replies)), 0))
+        }
+        Ask::Prime(key, outcome) => Ok(book.prime(alloc, rows, pass, key, outcome)?.told()),
+        Ask::Clear(key) => {
+            book.clear(alloc, rows, pass, key)?;
+            Ok((Reply::Done, 0))
+        }
+        Ask::ClearAll => {
+            book.clear_all(alloc, rows, pass)?;
+            Ok((Reply::Done, 0))
+        }
+        Ask::Dispatch => {
+            let jobs = book.dispatch(alloc, rows, pass)?;
+            Ok((Reply::Sent(Jobs::new(jobs)), 0))
+        }
+        Ask::Settle(fetched) => {
+            let settled = book.settle(alloc, rows, pass, fetched)?;
+            Ok((Reply::Done, settled.refused))
+        }
+        Ask::Fail(job, give_up) => {
+            let settled = book.fail(alloc, rows, pass, job, *give_up)?;
+            Ok((Reply::Done, settled.refused))
+        }
     }
 }
