@@ -5,7 +5,7 @@ use Rattle.std.proofs.lemmas.List.{drop_all, drop_more, length-drop}
 use Rattle.std.proofs.lemmas.List.Elements.{All-push, All-get_or}
 use Rattle.std.proofs.Math.Seq.{get_or-append_seam}
 use Rattle.std.specs.List.{All}
-use Rattle.dl_desk.specs.Key.{Key}
+use Rattle.dl_values.specs.Key.{Key}
 use Rattle.dl_c.specs.declared.codes.TheConstants.{BAD_LENGTHS, BAD_KEY, OUT_OF_MEMORY}
 use Rattle.dl_c.specs.declared.key_texts.KeyLengths.{KeyLengths}
 use Rattle.dl_c.specs.Keys.{IsKeyText}

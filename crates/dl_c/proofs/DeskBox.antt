@@ -7,7 +7,7 @@ use Rattle.std.specs.contracts.alloc.Global as Heap
 use Rattle.std.specs.contracts.impls.GlobalAllocator.TheImpl.{ghosts, dict}
 use Rattle.std.proofs.alloc.Global.TheLaws as heap
 use Rattle.std.specs.Prelude.{None}
-use Rattle.dl_desk.specs.Limits.{Rules}
+use Rattle.dl_values.specs.Limits.{Rules}
 use Rattle.dl_desk.specs.BatchBook as Book
 use Rattle.dl_desk.specs.contracts.desk.Desk as Desk
 use Rattle.dl_desk.proofs.desk.Desk.TheLaws as desk

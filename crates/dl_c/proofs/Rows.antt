@@ -2,7 +2,7 @@
 use Rattle.std.proofs.Common.{◌≡◌, ℕ, zero, suc, ◌+◌, ◌-◌, ◌<◌, List, [], ◌∷◌, ◌++◌}
 use Rattle.std.proofs.Common.{length, Option, Some, None, slice_get, refl, ap, sym, ◌∙◌, subst, length-append, arith}
 use Rattle.dl_desk.specs.History.{Atom, job, jobs, jobs_from, begun, sent}
-use Rattle.dl_desk.specs.declared.reply.Job.{Job}
+use Rattle.dl_values.specs.declared.job.Job.{Job}
 use Rattle.dl_c.specs.declared.answers.Dispatched.{Dispatched}
 use Rattle.dl_c.specs.Answers.{first_of, sent_as}
 

@@ -1,11 +1,11 @@
 -- The answers of a desk as C sees them.
 use Rattle.std.specs.Prelude.{◌≡◌, ℕ, List, [], ◌∷◌, length, Option, Some, None}
-use Rattle.dl_desk.specs.Key.{Key}
+use Rattle.dl_values.specs.Key.{Key}
 use Rattle.dl_desk.specs.declared.reply.LoadReply.{LoadReply}
 use Rattle.dl_desk.specs.declared.reply.LoadReply.TheVariants.{Hit, Fresh}
 use Rattle.dl_desk.specs.declared.reply.DeskPrime.{DeskPrime}
 use Rattle.dl_desk.specs.declared.reply.DeskPrime.TheVariants.{Primed, Kept}
-use Rattle.dl_desk.specs.declared.reply.Job.{Job}
+use Rattle.dl_values.specs.declared.job.Job.{Job}
 use Rattle.dl_c.specs.declared.codes.TheConstants.{DONE, HIT, FRESH, NO_MEMBER}
 use Rattle.dl_c.specs.declared.answers.Loaded.{Loaded}
 use Rattle.dl_c.specs.declared.answers.Dispatched.{Dispatched}

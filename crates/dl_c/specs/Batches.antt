@@ -1,6 +1,6 @@
 -- The calls on batches as C makes them.
 use Rattle.std.specs.Prelude.{◌≡◌, ℕ, ◌<◌, ◌≤◌, ◌⊎◌, List, [], ◌∷◌, length, Option, slice_get, IfSome, nat_le, if◌then◌else◌}
-use Rattle.dl_desk.specs.Key.{Key}
+use Rattle.dl_values.specs.Key.{Key}
 use Rattle.dl_desk.specs.History.{Atom, begun, members, jobs, jobs_from}
 use Rattle.dl_desk.specs.Calls.{DeskCall, Sends, Settles, Fails, refusal, after}
 use Rattle.dl_desk.specs.BatchBook.{BatchBook, StandsFor}

@@ -1,7 +1,7 @@
 -- The texts of keys as C hands them in and reads them back.
 use Rattle.std.specs.Prelude.{◌≡◌, ℕ, ◌⊎◌, List, length, take}
 use Rattle.std.specs.Str.{IsUtf8}
-use Rattle.dl_desk.specs.Key.{Key, IsKey}
+use Rattle.dl_values.specs.Key.{Key, IsKey}
 use Rattle.dl_c.specs.declared.codes.TheConstants.{OUT_OF_MEMORY, BAD_KEY}
 use Rattle.dl_c.specs.declared.key_texts.KeyTexts.{KeyTexts}
 

@@ -1,6 +1,6 @@
 -- Opening a desk.
 use Rattle.std.specs.Prelude.{◌≡◌, ℕ, ◌<◌, ◌⊎◌, [], true, false}
-use Rattle.dl_desk.specs.Limits.{Limits, AreLimits, mixed, largest_limit}
+use Rattle.dl_values.specs.Limits.{Limits, AreLimits, mixed, largest_limit}
 use Rattle.dl_desk.specs.BatchBook.{StandsFor}
 use Rattle.dl_c.specs.declared.codes.TheConstants.{DONE, OUT_OF_MEMORY, BAD_LIMIT, OPEN}
 use Rattle.dl_c.specs.declared.handle.Handle.{Handle}

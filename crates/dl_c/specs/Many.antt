@@ -1,7 +1,7 @@
 -- The load of several keys as C makes it.
 use Rattle.std.specs.Prelude.{◌≡◌, ℕ, ◌+◌, ◌<◌, ◌≤◌, ◌⊎◌, List, [], ◌∷◌, length, map, take, drop}
 use Rattle.std.specs.List.{All}
-use Rattle.dl_desk.specs.Key.{Key}
+use Rattle.dl_values.specs.Key.{Key}
 use Rattle.dl_desk.specs.History.{Atom, load_replies}
 use Rattle.dl_desk.specs.Calls.{Loads}
 use Rattle.dl_desk.specs.BatchBook.{BatchBook, StandsFor}

@@ -3,8 +3,8 @@ use Rattle.std.proofs.Common.{◌≡◌, ◌∙◌, sym, ap, subst, ℕ, ◌+◌
 use Rattle.std.proofs.Common.{is_some, refl, arith}
 use Rattle.std.specs.List.{list_any}
 use Rattle.std.proofs.lemmas.Bool.{lt-ltb, le-ltb}
-use Rattle.dl_desk.specs.Key.{Key, key_eq}
-use Rattle.dl_desk.specs.Limits.{Rules}
+use Rattle.dl_values.specs.Key.{Key, key_eq}
+use Rattle.dl_values.specs.Limits.{Rules}
 use Rattle.dl_desk.specs.History.{Atom, Load, held, cells, room, load_reply, loaded, load_replies}
 use Rattle.dl_desk.specs.declared.reply.LoadReply.{LoadReply}
 use Rattle.dl_desk.specs.declared.reply.LoadReply.TheVariants.{Hit, Fresh}
@@ -13,7 +13,7 @@ use Rattle.dl_desk.specs.declared.fault.DeskFault.TheVariants.{NoBatch, NotSent,
 use Rattle.dl_desk.specs.Calls.{new_count, full, IsRefusal, Loads}
 use Rattle.dl_desk.specs.BatchBook.{BatchBook, StandsFor}
 use Rattle.dl_desk.specs.Prepared.{RefusesStep}
-use Rattle.dl_desk.proofs.KeyLemmas.{key_eq-same}
+use Rattle.dl_values.proofs.KeyLemmas.{key_eq-same}
 use Rattle.dl_desk.proofs.HeldLemmas.{held-same, held-begun}
 
 -- ---- one load more

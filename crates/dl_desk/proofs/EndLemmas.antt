@@ -3,15 +3,15 @@ use Rattle.std.proofs.Common.{◌≡◌, ◌∙◌, sym, subst, ℕ, zero, suc, 
 use Rattle.std.proofs.Common.{None, slice_get, nat_eq, refl, arith}
 use Rattle.std.specs.List.{list_any}
 use Rattle.std.proofs.lemmas.Bool.{eqb-true, eqb-false, eq-eqb, ne_eqb, and_from, or_right}
-use Rattle.dl_desk.specs.Key.{Key, key_eq}
-use Rattle.dl_desk.specs.Limits.{Rules}
+use Rattle.dl_values.specs.Key.{Key, key_eq}
+use Rattle.dl_values.specs.Limits.{Rules}
 use Rattle.dl_desk.specs.History.{Atom, Settle, Fail, Begun, begins, cells, is_number, members, Latest, later, latest_at, latest, forgets, cell_kept, held}
 use Rattle.dl_desk.specs.History.{begun, end_of, MayEnd, IsAnswered, IsLegal}
 use Rattle.dl_desk.specs.declared.reply.End.{End}
 use Rattle.dl_desk.specs.declared.reply.End.TheVariants.{Settled, Failed}
 use Rattle.dl_desk.specs.BatchBook.{Batch, BatchBook, batch_at, StandsFor}
 use Rattle.dl_desk.specs.Prepared.{has_pair, without, set_end, MayEndIn, Forgets}
-use Rattle.dl_desk.proofs.KeyLemmas.{key_eq-sym}
+use Rattle.dl_values.proofs.KeyLemmas.{key_eq-sym}
 use Rattle.dl_desk.proofs.Facts.{fresh_cell}
 use Rattle.dl_desk.proofs.HeldLemmas.{held-same}
 use Rattle.dl_desk.proofs.Rooms.{members_at-are}

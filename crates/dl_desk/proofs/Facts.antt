@@ -3,8 +3,8 @@ use Rattle.std.proofs.Common.{◌≡◌, ◌∙◌, sym, subst, ℕ, zero, suc, 
 use Rattle.std.proofs.Common.{nat_lt, refl, arith}
 use Rattle.std.proofs.lemmas.Bool.{or_parts, ltb-true, ltb-false, eqb-true}
 use Rattle.std.proofs.lemmas.Bool.Decides.{nat_tests}
-use Rattle.dl_desk.specs.Key.{Key}
-use Rattle.dl_desk.specs.Limits.{Rules}
+use Rattle.dl_values.specs.Key.{Key}
+use Rattle.dl_values.specs.Limits.{Rules}
 use Rattle.dl_desk.specs.History.{Atom, Load, Prime, Clear, ClearAll, Dispatch, Settle, Fail, Begun, begins, cells, is_number, batch_of, is_named}
 use Rattle.dl_desk.specs.History.{count_batch, begun, add_member, members, held, sent, room, room_in, is_open, greatest, serves, load_reply_at}
 use Rattle.dl_desk.specs.History.{prime_reply_at, end_of, IsAnswered, IsLegal}

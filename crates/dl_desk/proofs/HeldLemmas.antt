@@ -1,6 +1,6 @@
 -- What one more atom does to the cell that is held for a key.
 use Rattle.std.proofs.Common.{◌≡◌, ℕ, Bool, true, false, cond, List, [], ◌∷◌, Option, Some, None, refl}
-use Rattle.dl_desk.specs.Key.{Key, key_eq}
+use Rattle.dl_values.specs.Key.{Key, key_eq}
 use Rattle.dl_desk.specs.History.{Atom, Begun, begins, Latest, later, latest, forgets, cell_kept, held}
 
 -- an atom that doesn't forget the key leaves the cell

@@ -9,12 +9,12 @@ use Rattle.std.proofs.lemmas.List.Elements.{All-push}
 use Rattle.std.proofs.lemmas.List.Folds.{list_any_at}
 use Rattle.std.proofs.lemmas.List.Quantifiers.{all_pairs_push}
 use Rattle.std.proofs.lemmas.Slice.Eq.{bytes_eq-Decides}
-use Rattle.dl_desk.specs.Key.{Key, key_eq}
-use Rattle.dl_desk.specs.Limits.{Rules, limit_by, limit_of}
+use Rattle.dl_values.specs.Key.{Key, key_eq}
+use Rattle.dl_values.specs.Limits.{Rules, limit_by, limit_of}
 use Rattle.dl_desk.specs.Laws.{HaveLimits, AreOfOneTable, IsBatch, BatchesAreWithinLimits}
 use Rattle.dl_desk.specs.History.{Atom, Begun, begins, is_number, add_member, members, begun, is_named, sent, has_member, serves_by, serves, greatest}
 use Rattle.dl_desk.specs.History.{is_open, room_in, room, IsAnswered, IsLegal}
-use Rattle.dl_desk.proofs.KeyLemmas.{key_eq-refl}
+use Rattle.dl_values.proofs.KeyLemmas.{key_eq-refl}
 use Rattle.dl_desk.proofs.Facts.{fresh_cell, named, members-unnamed}
 
 -- ---- the members of one table

@@ -4,8 +4,8 @@ use Rattle.std.proofs.Common.{nat_eq, is_none, refl, arith}
 use Rattle.std.specs.Option.{option_or, option_and_then}
 use Rattle.std.proofs.lemmas.Bool.{and_parts, eqb-true}
 use Rattle.std.proofs.lemmas.Bool.Decides.{nat_tests}
-use Rattle.dl_desk.specs.Key.{Key}
-use Rattle.dl_desk.specs.Limits.{Rules}
+use Rattle.dl_values.specs.Key.{Key}
+use Rattle.dl_values.specs.Limits.{Rules}
 use Rattle.dl_desk.specs.Laws.{EndsStay}
 use Rattle.dl_desk.specs.Events.{Made, One, Many, Event, with_loads, with_made, atoms, IsReplied, IsLegalLog, last_of, is_primed, primes, ends_batch, ends}
 use Rattle.dl_desk.specs.Events.{batch_at, cell_batch, Placed, newest, ending, ended}

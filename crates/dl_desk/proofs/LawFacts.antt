@@ -1,6 +1,6 @@
 -- Parts of a legal history.
 use Rattle.std.proofs.Common.{List, [], ◌∷◌, ◌++◌}
-use Rattle.dl_desk.specs.Limits.{Rules}
+use Rattle.dl_values.specs.Limits.{Rules}
 use Rattle.dl_desk.specs.History.{Atom, IsLegal}
 
 -- what a legal history begins with is legal

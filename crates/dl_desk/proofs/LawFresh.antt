@@ -2,12 +2,12 @@
 use Rattle.std.proofs.Common.{◌≡◌, ◌∙◌, sym, ap, ℕ, Bool, true, false, cond, List, [], ◌∷◌, ◌++◌, Option, Some, None, refl}
 use Rattle.std.specs.List.{list_any}
 use Rattle.std.proofs.lemmas.Bool.{or_parts}
-use Rattle.dl_desk.specs.Key.{Key, key_eq}
-use Rattle.dl_desk.specs.Limits.{Rules}
+use Rattle.dl_values.specs.Key.{Key, key_eq}
+use Rattle.dl_values.specs.Limits.{Rules}
 use Rattle.dl_desk.specs.Laws.{FreshLoadsAreApart}
 use Rattle.dl_desk.specs.History.{Atom, Load, Begun, begins, Latest, later, latest, latest_at, forgets, held, IsAnswered, IsLegal}
 use Rattle.dl_desk.specs.declared.reply.LoadReply.TheVariants.{Fresh}
-use Rattle.dl_desk.proofs.KeyLemmas.{key_eq-refl, key_eq-same}
+use Rattle.dl_values.proofs.KeyLemmas.{key_eq-refl, key_eq-same}
 use Rattle.dl_desk.proofs.Facts.{fresh_cell}
 use Rattle.dl_desk.proofs.LawFacts.{legal_before}
 

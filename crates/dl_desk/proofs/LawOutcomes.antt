@@ -5,14 +5,14 @@ use Rattle.std.specs.Option.{option_and_then}
 use Rattle.std.specs.List.{zip}
 use Rattle.std.specs.Map.{lookup}
 use Rattle.std.proofs.lemmas.List.{append-nil, map-append}
-use Rattle.dl_desk.specs.Key.{Key}
-use Rattle.dl_desk.specs.Limits.{Rules}
+use Rattle.dl_values.specs.Key.{Key}
+use Rattle.dl_values.specs.Limits.{Rules}
 use Rattle.dl_desk.specs.Laws.{OutcomesStay}
 use Rattle.dl_desk.specs.History.{Atom, Load, Begun, begins, cells, is_number, add_member, members}
 use Rattle.dl_desk.specs.Events.{Made, One, Many, Gave, Nothing, Given, Each, Broke, Event, with_loads, with_made, atoms, IsLegalLog, cell_batch, Placed}
 use Rattle.dl_desk.specs.Events.{ending, batch_cells, outcome_given, outcome}
 use Rattle.dl_desk.specs.declared.reply.LoadReply.{LoadReply}
-use Rattle.dl_desk.specs.declared.outcome.Outcome.{Outcome}
+use Rattle.dl_values.specs.declared.outcome.Outcome.{Outcome}
 use Rattle.dl_desk.proofs.LawEnds.{made-le, made_kept, ended-low, ending_stays}
 
 -- ---- members are added at the end

@@ -1,6 +1,4 @@
 pub mod Zips
-pub mod KeyLemmas
-pub mod KeyTexts
 pub mod Facts
 pub mod HeldLemmas
 pub mod Puts

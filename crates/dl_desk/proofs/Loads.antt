@@ -1,8 +1,8 @@
 -- Loads of several keys, one after another.
 use Rattle.std.proofs.Common.{◌≡◌, ◌∙◌, sym, ap, subst, ℕ, ◌+◌, ◌<◌, ◌≤◌, List, [], ◌∷◌, ◌++◌, length, take, drop, get_or, None, refl}
 use Rattle.std.proofs.lemmas.List.{take_more, take_all, drop_more, take-append-drop}
-use Rattle.dl_desk.specs.Key.{Key}
-use Rattle.dl_desk.specs.Limits.{Rules}
+use Rattle.dl_values.specs.Key.{Key}
+use Rattle.dl_values.specs.Limits.{Rules}
 use Rattle.dl_desk.specs.History.{Atom, Load, load_reply, loaded, load_replies}
 use Rattle.dl_desk.specs.declared.reply.LoadReply.{LoadReply}
 use Rattle.dl_desk.specs.declared.fault.DeskFault.{DeskFault}

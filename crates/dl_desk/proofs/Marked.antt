@@ -4,7 +4,7 @@ use Rattle.std.proofs.Common.{Option, Some, None, slice_get, refl, arith, length
 use Rattle.std.proofs.lemmas.Bool.{cases_lt, cases_eq, true≢false}
 use Rattle.std.proofs.lemmas.Option.{slice_get-map, slice_get_past}
 use Rattle.std.proofs.lemmas.List.{map-append, map-set, length-set, length-map, take_all}
-use Rattle.dl_desk.specs.Key.{Key}
+use Rattle.dl_values.specs.Key.{Key}
 use Rattle.dl_desk.specs.Stored.{Stored, blank}
 use Rattle.dl_desk.specs.BatchBook.{Batch}
 use Rattle.dl_desk.specs.Prepared.{whole, front, empty, IsStored, Same, members_of}

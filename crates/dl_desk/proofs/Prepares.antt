@@ -5,13 +5,13 @@ use Rattle.std.specs.Map.{lookup}
 use Rattle.std.proofs.lemmas.Bool.{cases_lt}
 use Rattle.std.proofs.lemmas.Option.{slice_get-map, slice_get_past}
 use Rattle.std.proofs.lemmas.List.{map-append, map-set, length-map, length-take, take-append-le}
-use Rattle.dl_desk.specs.Key.{Key, key_eq}
+use Rattle.dl_values.specs.Key.{Key, key_eq}
 use Rattle.dl_desk.specs.Stored.{Stored, blank}
-use Rattle.dl_desk.specs.Limits.{Rules}
+use Rattle.dl_values.specs.Limits.{Rules}
 use Rattle.dl_desk.specs.BatchBook.{Batch, BatchBook}
 use Rattle.dl_desk.specs.Prepared.{whole, front, empty, IsStored, members_of, put_member}
 use Rattle.dl_desk.specs.Marks.{MakesRoom, more, IsAdded}
-use Rattle.dl_desk.proofs.KeyLemmas.{key_eq-sym, key_eq-same}
+use Rattle.dl_values.proofs.KeyLemmas.{key_eq-sym, key_eq-same}
 use Rattle.dl_desk.proofs.Puts.{first_member}
 use Rattle.dl_desk.proofs.Sends.{get-take}
 use Rattle.dl_desk.proofs.Tails.{map-set_unseen}

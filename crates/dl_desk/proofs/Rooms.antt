@@ -1,6 +1,6 @@
 -- The batch that a fresh load goes into, as the book and as the history have it.
 use Rattle.std.proofs.Common.{◌≡◌, ◌∙◌, sym, ap, cond, ℕ, zero, suc, ◌<◌, Bool, true, false, List, length, Option, Some, None, refl, arith}
-use Rattle.dl_desk.specs.Key.{Key}
+use Rattle.dl_values.specs.Key.{Key}
 use Rattle.dl_desk.specs.History.{Atom, begun, has_member, members, serves, greatest, is_open, room_in, room}
 use Rattle.dl_desk.specs.BatchBook.{BatchBook, StandsFor}
 use Rattle.dl_desk.specs.Prepared.{members_at, has_room_in, is_open_in, room_of, book_room}

@@ -1,12 +1,12 @@
 -- The jobs of a dispatch.
 use Rattle.std.proofs.Common.{◌≡◌, ℕ, zero, suc, ◌+◌, ◌-◌, ◌<◌, ◌≤◌, List, [], ◌∷◌, ◌++◌, length, map, take, Some, slice_get, refl, arith}
 use Rattle.std.proofs.lemmas.Option.{slice_get-map}
-use Rattle.dl_desk.specs.Key.{Key}
+use Rattle.dl_values.specs.Key.{Key}
 use Rattle.dl_desk.specs.History.{Atom, begun, sent, members, jobs_from, jobs}
 use Rattle.dl_desk.specs.Stored.{Stored}
 use Rattle.dl_desk.specs.BatchBook.{Batch, BatchBook, StandsFor}
 use Rattle.dl_desk.specs.Prepared.{members_at, book_jobs}
-use Rattle.dl_desk.specs.declared.reply.Job.{Job}
+use Rattle.dl_values.specs.declared.job.Job.{Job}
 use Rattle.dl_desk.proofs.Facts.{sent-le}
 use Rattle.dl_desk.proofs.Rooms.{members_at-are}
 

@@ -2,7 +2,7 @@
 use Rattle.std.proofs.Common.{◌≡◌, ◌∙◌, sym, ℕ, Bool, true, false, ◌||◌, cond, List, ◌∷◌, Option, Some, None, refl}
 use Rattle.std.specs.List.{list_any}
 use Rattle.std.specs.Map.{lookup}
-use Rattle.dl_desk.specs.Key.{Key, key_eq}
+use Rattle.dl_values.specs.Key.{Key, key_eq}
 use Rattle.dl_desk.specs.History.{Atom, Load, Clear, Begun, Latest, later, latest, forgets, cell_kept, held, load_reply}
 use Rattle.dl_desk.specs.declared.reply.LoadReply.{LoadReply}
 use Rattle.dl_desk.specs.declared.reply.LoadReply.TheVariants.{Hit, Fresh}

@@ -5,7 +5,7 @@ use Rattle.std.specs.List.{zip, list_any}
 use Rattle.std.proofs.lemmas.List.{take-append-le, take_all, take-take}
 use Rattle.indexmap.proofs.ReorderLemmas.{zip_push, zip-take}
 use Rattle.indexmap.specs.IndexSet.{insert_key}
-use Rattle.dl_desk.specs.Key.{Key, key_eq}
+use Rattle.dl_values.specs.Key.{Key, key_eq}
 use Rattle.dl_desk.specs.History.{has_member}
 use Rattle.dl_desk.specs.declared.reply.End.{End}
 use Rattle.dl_desk.specs.Stored.{Stored}

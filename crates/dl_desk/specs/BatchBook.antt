@@ -1,8 +1,8 @@
 -- What contracts see of a desk, and the histories that it stands for.
 use Rattle.std.specs.Prelude.{◌≡◌, ℕ, ◌<◌, Bool, List, length, Option, Some, None, slice_get, nat_lt, if◌then◌else◌}
 use Rattle.std.specs.Map.{lookup}
-use Rattle.dl_desk.specs.Key.{Key, key_eq}
-use Rattle.dl_desk.specs.Limits.{Rules}
+use Rattle.dl_values.specs.Key.{Key, key_eq}
+use Rattle.dl_values.specs.Limits.{Rules}
 use Rattle.dl_desk.specs.History.{Atom, IsLegal, held, cells, begun, sent, members, end_of}
 use Rattle.dl_desk.specs.declared.reply.End.{End}
 use Rattle.dl_desk.specs.declared.reply.End.TheVariants as end

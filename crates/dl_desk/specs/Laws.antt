@@ -1,12 +1,12 @@
 -- What holds of every legal history, whatever its calls.
 use Rattle.std.specs.Prelude.{◌≡◌, ◌≢◌, ℕ, ◌≤◌, true, List, ◌∷◌, ◌++◌, length, Option, Some, None, All, AllPairs}
 use Rattle.std.specs.List.{list_any}
-use Rattle.dl_desk.specs.Key.{Key}
-use Rattle.dl_desk.specs.Limits.{Rules, limit_of}
+use Rattle.dl_values.specs.Key.{Key}
+use Rattle.dl_values.specs.Limits.{Rules, limit_of}
 use Rattle.dl_desk.specs.History.{Atom, Load, IsLegal, members, forgets}
 use Rattle.dl_desk.specs.Events.{Event, IsLegalLog, ended, outcome}
 use Rattle.dl_desk.specs.declared.reply.LoadReply.TheVariants.{Fresh}
-use Rattle.dl_desk.specs.declared.outcome.Outcome.{Outcome}
+use Rattle.dl_values.specs.declared.outcome.Outcome.{Outcome}
 
 -- Between two fresh loads of one key something forgets the key: a clear of it, a clear of all, or the
 -- failure of the first one's batch. So a key is fetched once between clears, unless its whole batch

@@ -1,7 +1,3 @@
-pub mod Key
-pub mod KeyOrder
-pub mod KeyFaults
-pub mod Limits
 pub mod History
 pub mod Calls
 pub mod Stored
@@ -11,5 +7,3 @@ pub mod Marks
 pub mod Ready
 pub mod Events
 pub mod Laws
--- words of private functions, and of what values are made of
-pub mod Inside

@@ -2,13 +2,13 @@
 use Rattle.std.specs.Prelude.{◌≡◌, ℕ, zero, suc, ◌<◌, ◌≤◌, ◌+◌, Bool, false, not, ◌&&◌, ◌||◌, ◌⊎◌, nat_eq, nat_lt, nat_le, if◌then◌else◌, map, take, List, []}
 use Rattle.std.specs.Prelude.{◌∷◌, ◌++◌, length, Option, Some, None, IsSome, slice_get}
 use Rattle.std.specs.Map.{lookup}
-use Rattle.dl_desk.specs.Key.{Key, key_eq}
-use Rattle.dl_desk.specs.Limits.{limit_of}
+use Rattle.dl_values.specs.Key.{Key, key_eq}
+use Rattle.dl_values.specs.Limits.{limit_of}
 use Rattle.dl_desk.specs.History.{has_member, serves, greatest}
 use Rattle.dl_desk.specs.Stored.{Stored}
 use Rattle.dl_desk.specs.BatchBook.{Batch, BatchBook}
 use Rattle.dl_desk.specs.declared.reply.End.{End}
-use Rattle.dl_desk.specs.declared.reply.Job.{Job}
+use Rattle.dl_values.specs.declared.job.Job.{Job}
 use Rattle.dl_desk.specs.declared.reply.LoadReply.{LoadReply}
 use Rattle.dl_desk.specs.declared.reply.LoadReply.TheVariants.{Hit, Fresh}
 use Rattle.dl_desk.specs.declared.reply.DeskPrime.{DeskPrime}

@@ -1,6 +1,6 @@
 -- A call that a desk has prepared.
 use Rattle.std.specs.Prelude.{◌≡◌, List}
-use Rattle.dl_desk.specs.Limits.{Rules}
+use Rattle.dl_values.specs.Limits.{Rules}
 use Rattle.dl_desk.specs.History.{Atom, load_replies, prime_reply, jobs}
 use Rattle.dl_desk.specs.Calls.{DeskCall, Loads, Primes, Clears, ClearsAll, Sends, Settles, Fails, after}
 use Rattle.dl_desk.specs.BatchBook.{Desk, StandsFor}

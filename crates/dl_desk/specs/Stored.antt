@@ -1,6 +1,6 @@
 -- A batch as a desk stores it.
 use Rattle.std.specs.Prelude.{ℕ, List, [], Option, None}
-use Rattle.dl_desk.specs.Key.{Key}
+use Rattle.dl_values.specs.Key.{Key}
 use Rattle.dl_desk.specs.declared.reply.End.{End}
 
 -- A stored batch: its members in order, how many of them are shown, and how it ended. The members

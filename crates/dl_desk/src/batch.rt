@@ -6,8 +6,8 @@ ghost use Rattle.dl_desk.specs.History.{has_member};
 ghost use Rattle.dl_desk.specs.Stored.{Stored, blank};
 ghost use Rattle.dl_desk.specs.Prepared.{whole, front};
 
-use crate::key::{FetchKey, Keys};
 use crate::reply::End;
+use dl_values::{FetchKey, Keys};
 use indexmap::IndexSet;
 use std::alloc::{AllocError, Global};
 use std::hash::RandomState;

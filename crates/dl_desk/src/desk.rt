@@ -4,8 +4,8 @@ ghost use Rattle.std.specs.Prelude.{◌≡◌, ◌<◌, ◌≤◌, ◌-◌, if�
 ghost use Rattle.std.specs.Prelude.{slice_get, nat_le, IsTrue};
 ghost use Rattle.std.specs.Prelude.{List};
 ghost use Rattle.std.specs.Map.{lookup};
-ghost use Rattle.dl_desk.specs.Key.{Key, key_eq};
-ghost use Rattle.dl_desk.specs.Limits.{mixed};
+ghost use Rattle.dl_values.specs.Key.{Key, key_eq};
+ghost use Rattle.dl_values.specs.Limits.{mixed};
 ghost use Rattle.dl_desk.specs.History.{Atom, Load, Prime, has_member, load_reply, prime_reply};
 ghost use Rattle.dl_desk.specs.BatchBook.{StandsFor};
 ghost use Rattle.dl_desk.specs.Prepared.{members_at, has_room_in, book_room, book_jobs, Puts, PutsAlone, RefusesStep};
@@ -17,11 +17,10 @@ mod prepare;
 
 use crate::batch::StoredBatch;
 use crate::fault::DeskFault;
-use crate::key::{FetchKey, Keys};
-use crate::limits::Limits;
 use crate::memo_and_batches;
-use crate::reply::{DeskPrime, Job, LoadReply};
+use crate::reply::{DeskPrime, LoadReply};
 pub use batch_view::BatchView;
+use dl_values::{FetchKey, Job, Keys, Limits};
 use indexmap::IndexMap;
 use std::alloc::{AllocError, Global};
 use std::hash::RandomState;
@@ -75,7 +74,7 @@ impl Drop for Desk {
 
 impl Model for Desk {
     ghost use Rattle.std.specs.Prelude.{take, map, length};
-    ghost use Rattle.dl_desk.specs.Limits.{mixed};
+    ghost use Rattle.dl_values.specs.Limits.{mixed};
     ghost use Rattle.dl_desk.specs.BatchBook.{Desk};
     ghost use Rattle.dl_desk.specs.Prepared.{whole, front};
     ghost use Rattle.dl_desk.specs.Marks.{IsDesk};

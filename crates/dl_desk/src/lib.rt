@@ -7,24 +7,16 @@
 mod batch;
 mod desk;
 mod fault;
-mod json;
-mod key;
 pub mod laws;
-mod limits;
 mod memo_and_batches;
-mod message;
-mod outcome;
 mod ready;
 mod reply;
-mod text;
 
 pub use desk::{BatchView, Desk};
-pub use fault::{DeskFault, KeyFault, LimitFault};
-pub use json::{Json, has_float};
-pub use key::{FetchKey, ID_BYTES, Keys, TABLE_BYTES};
-pub use limits::{LARGEST_LIMIT, Limits};
-pub use message::Message;
-pub use outcome::{BatchAnswer, BatchFault, Outcome, Outcomes};
+pub use dl_values::{
+    BatchAnswer, BatchFault, FetchKey, ID_BYTES, Job, Json, KeyFault, Keys, LARGEST_LIMIT,
+    LimitFault, Limits, Message, Outcome, Outcomes, TABLE_BYTES, Text, has_float,
+};
+pub use fault::DeskFault;
 pub use ready::Ready;
-pub use reply::{BatchState, DeskPrime, DeskReply, End, Job, LoadReply};
-pub use text::Text;
+pub use reply::{BatchState, DeskPrime, DeskReply, End, LoadReply};

@@ -2,13 +2,13 @@
 
 ghost use Rattle.std.specs.Prelude.{◌≡◌, ◌≤◌, Ok, None, true, false, not, if◌then◌else◌, [], ◌∷◌, ◌++◌, map, vec_len, slice_get, IsSome, OnErr, IfOk};
 ghost use Rattle.std.specs.Map.{lookup};
-ghost use Rattle.dl_desk.specs.Key.{Key, key_eq};
+ghost use Rattle.dl_values.specs.Key.{Key, key_eq};
 ghost use Rattle.dl_desk.specs.History.{has_member};
 ghost use Rattle.dl_desk.specs.Prepared.{whole, front, Same, members_of, without};
 ghost use Rattle.dl_desk.specs.Marks.{IsAdded, MakesRoom};
 
 use crate::batch::StoredBatch;
-use crate::key::FetchKey;
+use dl_values::FetchKey;
 use indexmap::IndexMap;
 use indexmap::map::Entry;
 use std::alloc::{AllocError, Global};

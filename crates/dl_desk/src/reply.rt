@@ -1,9 +1,6 @@
 //! Replies of a desk.
 
-ghost use Rattle.std.specs.Prelude.{◌≡◌, IfOk};
-
-use crate::key::Keys;
-use std::alloc::AllocError;
+use dl_values::Job;
 
 /// The reply to a load: the cell that will show the key's outcome.
 #[derive(Clone, Copy, Debug, PartialEq, Eq)]
@@ -30,36 +27,6 @@ pub enum End {
     Settled,
     /// As a whole.
     Failed,
-}
-
-/// A batch that was sent: the keys to fetch, in order.
-#[derive(Debug)]
-pub struct Job {
-    /// The batch's number.
-    pub batch: u32,
-    /// Its members' keys.
-    pub keys: Keys,
-}
-
-// Written out: a derived drop is proved anew in each function that lets a job go.
-impl Drop for Job {
-    fn drop(self) {
-        let Job { batch: _, keys } = self;
-        drop(keys);
-    }
-}
-
-impl Job {
-    /// An equal job, which shares the keys. It does not allocate; the error is that the reference count would overflow.
-    pub fn try_copy(&self) -> Result<Job, AllocError>
-        ensures { IfOk result (λ j. j ≡ self.now) }
-    {
-        let keys = self.keys.try_copy()?;
-        Ok(Job {
-            batch: self.batch,
-            keys,
-        })
-    }
 }
 
 /// The reply to a call that a desk can prepare.

@@ -4,7 +4,7 @@ use Rattle.std.specs.List.{AllByRecursion}
 use Rattle.serde_json.specs.Data.{Data, string, array, Items, no_items, item}
 use Rattle.serde_json.specs.Find.{as_str, as_array}
 use Rattle.serde_json.specs.View.{items_of}
-use Rattle.dl_desk.specs.Key.{Key, IsKey, table_bytes, id_bytes}
+use Rattle.dl_values.specs.Key.{Key, IsKey, table_bytes, id_bytes}
 use Rattle.dl_source.proofs.Spelled.{array_of, string_of}
 use Rattle.dl_source.specs.Faults.{is_sized}
 use Rattle.dl_terms.proofs.Options.{from_and_then, from_both}

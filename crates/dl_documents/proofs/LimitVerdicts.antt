@@ -2,9 +2,9 @@
 use Rattle.std.proofs.Common.{◌≡◌, inl, inr, ℕ, ◌<◌, ℤ, pos, List, codes, Some, refl, sym, ◌∙◌, arith}
 use Rattle.std.proofs.lemmas.Option.{same_Some}
 use Rattle.serde_json.specs.Data.{Data}
-use Rattle.dl_desk.specs.Limits.{Limits}
-use Rattle.dl_desk.specs.declared.fault.LimitFault.{LimitFault}
-use Rattle.dl_desk.specs.declared.fault.LimitFault.TheVariants.{BatchLimit, CellLimit, CallLimit}
+use Rattle.dl_values.specs.Limits.{Limits}
+use Rattle.dl_values.specs.declared.fault.LimitFault.{LimitFault}
+use Rattle.dl_values.specs.declared.fault.LimitFault.TheVariants.{BatchLimit, CellLimit, CallLimit}
 use Rattle.dl_documents.specs.Document.{GivesLimits, number_at}
 use Rattle.dl_documents.specs.Faults.{limit_name, limit_number, IsBadLimit, Causes, number, place, IsEarlier, IsLeast}
 use Rattle.dl_documents.specs.Numbers.{AreGiven, AreLimitsOf, IsInside, IsFirstOutside}

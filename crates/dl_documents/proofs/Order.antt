@@ -1,7 +1,7 @@
 -- Which refusal comes first: below which number a document gives no cause.
 use Rattle.std.proofs.Common.{◌≡◌, inl, inr, ℕ, ◌<◌, ◌≤◌, arith}
 use Rattle.serde_json.specs.Data.{Data}
-use Rattle.dl_desk.specs.declared.fault.LimitFault.{LimitFault}
+use Rattle.dl_values.specs.declared.fault.LimitFault.{LimitFault}
 use Rattle.dl_source.specs.declared.fault.TableFault.{TableFault}
 use Rattle.dl_documents.specs.Document.{IsFirstVersion}
 use Rattle.dl_documents.specs.Faults.{limit_name, IsBadTop, IsBadCall, IsBadStep, IsDeepStep, IsLongPlan, IsBadTable, IsBadLimit, Causes}

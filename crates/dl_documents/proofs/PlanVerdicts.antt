@@ -8,7 +8,7 @@ use Rattle.serde_json.specs.Data.{Data, array, Items}
 use Rattle.serde_json.specs.Events.{items_len}
 use Rattle.serde_json.specs.Find.{get_item, as_array}
 use Rattle.serde_json.specs.View.{items_of}
-use Rattle.dl_desk.specs.declared.fault.LimitFault.TheVariants.{BatchLimit, CellLimit, CallLimit}
+use Rattle.dl_values.specs.declared.fault.LimitFault.TheVariants.{BatchLimit, CellLimit, CallLimit}
 use Rattle.dl_source.specs.Faults as table
 use Rattle.dl_source.specs.declared.fault.TableFault.{TableFault}
 use Rattle.dl_documents.specs.Document.{is_script, items_at, list_name}

@@ -5,8 +5,8 @@ use Rattle.std.specs.List.{slice_get}
 use Rattle.serde_json.specs.Data.{Data, Items}
 use Rattle.serde_json.specs.Find.{get_item}
 use Rattle.serde_json.specs.View.{items_of}
-use Rattle.dl_desk.specs.declared.fault.LimitFault.{LimitFault}
-use Rattle.dl_desk.specs.declared.fault.LimitFault.TheVariants.{BatchLimit, CellLimit, CallLimit}
+use Rattle.dl_values.specs.declared.fault.LimitFault.{LimitFault}
+use Rattle.dl_values.specs.declared.fault.LimitFault.TheVariants.{BatchLimit, CellLimit, CallLimit}
 use Rattle.dl_source.specs.declared.fault.TableFault.{TableFault}
 use Rattle.dl_documents.specs.Document.{SpellsScript, is_script, items_at, list_name}
 use Rattle.dl_documents.specs.Faults.{IsBadTop, HasStrange, LacksList, LacksTables, HasOtherCount, HasNoPlan, HasNoNumber, IsNoCall, IsBadCall, IsPlanAt}

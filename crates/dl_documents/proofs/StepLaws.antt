@@ -5,9 +5,9 @@ use Rattle.std.proofs.lemmas.Option.{none-some}
 use Rattle.std.specs.Option.{option_zip}
 use Rattle.serde_json.specs.Data.{Data, string, object, no_members, member}
 use Rattle.serde_json.specs.Find.{as_str}
-use Rattle.dl_desk.specs.Key.{IsKey}
-use Rattle.dl_desk.specs.declared.outcome.Outcome.{Outcome}
-use Rattle.dl_desk.specs.declared.outcome.Outcome.TheVariants.{Value, KeyError, BatchFailed}
+use Rattle.dl_values.specs.Key.{IsKey}
+use Rattle.dl_values.specs.declared.outcome.Outcome.{Outcome}
+use Rattle.dl_values.specs.declared.outcome.Outcome.TheVariants.{Value, KeyError, BatchFailed}
 use Rattle.dl_source.proofs.Spelled.{string_of}
 use Rattle.dl_source.specs.Faults.{text_bytes}
 use Rattle.dl_terms.proofs.Options.{from_map, from_and_then}

@@ -5,7 +5,7 @@ use Rattle.std.specs.Option.{option_zip}
 use Rattle.serde_json.specs.Data.{Data, string, array, object, Items, no_items, item, Members, no_members, member}
 use Rattle.serde_json.specs.Find.{as_str, as_array}
 use Rattle.serde_json.specs.Written.{has_float}
-use Rattle.dl_desk.specs.Key.{IsKey, table_bytes}
+use Rattle.dl_values.specs.Key.{IsKey, table_bytes}
 use Rattle.dl_source.proofs.Spelled.{array_of, string_of}
 use Rattle.dl_source.specs.Faults.{is_sized}
 use Rattle.dl_terms.proofs.Options.{from_map, from_and_then, from_both}

@@ -5,7 +5,7 @@ use Rattle.std.specs.List.{AllByRecursion}
 use Rattle.serde_json.specs.Data.{Data, Items}
 use Rattle.serde_json.specs.Find.{get, as_number, as_integer, as_array}
 use Rattle.serde_json.specs.Read.{read}
-use Rattle.dl_desk.specs.Limits.{Limits, IsLimit, largest_limit}
+use Rattle.dl_values.specs.Limits.{Limits, IsLimit, largest_limit}
 use Rattle.dl_source.specs.Faults.{Causes}
 use Rattle.dl_source.specs.Listing.{NamedTables}
 use Rattle.dl_source.specs.Spelling.{Spells as SpellsTables, has_only}

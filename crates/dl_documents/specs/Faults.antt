@@ -3,9 +3,9 @@ use Rattle.std.specs.Prelude.{◌≡◌, ◌⊎◌, ℕ, ◌<◌, ℤ, pos, List
 use Rattle.serde_json.specs.Data.{Data, array, Items}
 use Rattle.serde_json.specs.Events.{items_len}
 use Rattle.serde_json.specs.Find.{as_array, get, get_item}
-use Rattle.dl_desk.specs.Limits.{IsLimit}
-use Rattle.dl_desk.specs.declared.fault.LimitFault.{LimitFault}
-use Rattle.dl_desk.specs.declared.fault.LimitFault.TheVariants.{BatchLimit, CellLimit, CallLimit}
+use Rattle.dl_values.specs.Limits.{IsLimit}
+use Rattle.dl_values.specs.declared.fault.LimitFault.{LimitFault}
+use Rattle.dl_values.specs.declared.fault.LimitFault.TheVariants.{BatchLimit, CellLimit, CallLimit}
 use Rattle.dl_source.specs.Faults as table
 use Rattle.dl_source.specs.declared.fault.TableFault.{TableFault}
 use Rattle.dl_terms.specs.Plans.{ArePlans}

@@ -1,9 +1,9 @@
 -- The numbers that a document gives for its limits.
 use Rattle.std.specs.Prelude.{◌≡◌, ℕ, ℤ, pos, codes, Some, None}
 use Rattle.serde_json.specs.Data.{Data}
-use Rattle.dl_desk.specs.Limits.{Limits, IsLimit, AreLimits}
-use Rattle.dl_desk.specs.declared.fault.LimitFault.{LimitFault}
-use Rattle.dl_desk.specs.declared.fault.LimitFault.TheVariants.{BatchLimit, CellLimit, CallLimit}
+use Rattle.dl_values.specs.Limits.{Limits, IsLimit, AreLimits}
+use Rattle.dl_values.specs.declared.fault.LimitFault.{LimitFault}
+use Rattle.dl_values.specs.declared.fault.LimitFault.TheVariants.{BatchLimit, CellLimit, CallLimit}
 use Rattle.dl_documents.specs.Document.{number_at}
 use Rattle.dl_documents.specs.Faults.{limit_name, IsOutside}
 use Rattle.dl_documents.specs.declared.limits.Numbers.{Numbers}

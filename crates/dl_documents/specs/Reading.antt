@@ -4,7 +4,7 @@ use Rattle.std.specs.Prelude.{option_map, option_and_then, unwrap_or}
 use Rattle.std.specs.Option.{option_zip}
 use Rattle.serde_json.specs.Data.{Data, Items, no_items, item, Members, no_members, member}
 use Rattle.serde_json.specs.Find.{as_array, as_str, as_object, as_bool, as_number, as_u64}
-use Rattle.dl_desk.specs.Key.{Key, table_bytes, id_bytes}
+use Rattle.dl_values.specs.Key.{Key, table_bytes, id_bytes}
 use Rattle.dl_source.specs.Faults.{is_sized}
 use Rattle.dl_terms.specs.Gives.{both}
 use Rattle.dl_documents.specs.declared.input.ScriptCall.{ScriptCall}

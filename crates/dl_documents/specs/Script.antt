@@ -3,7 +3,7 @@ use Rattle.std.specs.Prelude.{ℕ, ◌^◌, ◌<◌, List, map, true, codes}
 use Rattle.std.specs.List.{AllByRecursion}
 use Rattle.serde_json.specs.Data.{Data, unsigned, boolean, number, string, array, object, Items, no_items, item, no_members, member}
 use Rattle.serde_json.specs.View.{items_of}
-use Rattle.dl_desk.specs.Key.{Key, IsKey}
+use Rattle.dl_values.specs.Key.{Key, IsKey}
 use Rattle.dl_documents.specs.declared.input.ScriptCall.{ScriptCall}
 use Rattle.dl_documents.specs.declared.input.ScriptCall.TheVariants.{Load, LoadMany, Prime, Clear, ClearAll, Dispatch, Settle, Fail}
 

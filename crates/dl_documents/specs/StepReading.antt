@@ -3,8 +3,8 @@ use Rattle.std.specs.Prelude.{ℕ, ◌&&◌, List, length, codes, nat_le, bytes_
 use Rattle.std.specs.Option.{option_zip}
 use Rattle.serde_json.specs.Data.{Data}
 use Rattle.serde_json.specs.Find.{as_str}
-use Rattle.dl_desk.specs.declared.outcome.Outcome.{Outcome}
-use Rattle.dl_desk.specs.declared.outcome.Outcome.TheVariants.{Value, KeyError}
+use Rattle.dl_values.specs.declared.outcome.Outcome.{Outcome}
+use Rattle.dl_values.specs.declared.outcome.Outcome.TheVariants.{Value, KeyError}
 use Rattle.dl_source.specs.Faults.{text_bytes}
 use Rattle.dl_documents.specs.Reading.{one_in, two_in, key_in, is_true}
 use Rattle.dl_documents.specs.Steps.{StepTree, prime, clear, clear_all, eval}

@@ -3,9 +3,9 @@ use Rattle.std.specs.Prelude.{ℕ, ◌≤◌, List, length, map, true, codes}
 use Rattle.std.specs.List.{AllByRecursion}
 use Rattle.serde_json.specs.Data.{Data, null, boolean, string, array, Items}
 use Rattle.serde_json.specs.View.{items_of}
-use Rattle.dl_desk.specs.Key.{Key, IsKey}
-use Rattle.dl_desk.specs.declared.outcome.Outcome.{Outcome}
-use Rattle.dl_desk.specs.declared.outcome.Outcome.TheVariants.{Value, KeyError, BatchFailed}
+use Rattle.dl_values.specs.Key.{Key, IsKey}
+use Rattle.dl_values.specs.declared.outcome.Outcome.{Outcome}
+use Rattle.dl_values.specs.declared.outcome.Outcome.TheVariants.{Value, KeyError, BatchFailed}
 use Rattle.dl_source.specs.Faults.{text_bytes}
 use Rattle.dl_terms.specs.Tree.{Tree, height_of}
 use Rattle.dl_terms.specs.View.{term_view}

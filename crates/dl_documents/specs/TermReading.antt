@@ -4,7 +4,7 @@ use Rattle.std.specs.Option.{option_zip}
 use Rattle.serde_json.specs.Data.{Data, null, boolean, number, string, array, object, Items, no_items, item, Members, no_members, member}
 use Rattle.serde_json.specs.Find.{as_array, as_str}
 use Rattle.serde_json.specs.Written.{has_float}
-use Rattle.dl_desk.specs.Key.{table_bytes}
+use Rattle.dl_values.specs.Key.{table_bytes}
 use Rattle.dl_source.specs.Faults.{is_sized}
 use Rattle.dl_terms.specs.Gives.{both}
 use Rattle.dl_terms.specs.Tree.{Name, Tree, ended, load, pick, follow, each, all}

@@ -2,7 +2,7 @@
 use Rattle.std.specs.Prelude.{◌≡◌, ◌≤◌, length, false, codes}
 use Rattle.serde_json.specs.Data.{Data, null, string, array, Items, no_items, item}
 use Rattle.serde_json.specs.Written.{has_float}
-use Rattle.dl_desk.specs.Key.{IsKey, table_bytes}
+use Rattle.dl_values.specs.Key.{IsKey, table_bytes}
 use Rattle.dl_terms.specs.Tree.{Name, Tree, ended, load, pick, follow, each, all, Trees, no_trees, tree}
 use Rattle.dl_terms.specs.declared.answer.Answer.{Answer}
 use Rattle.dl_terms.specs.declared.answer.Answer.TheVariants.{Value, Fault}

@@ -5,7 +5,7 @@ ghost use Rattle.serde_json.specs.View.{view};
 ghost use Rattle.dl_documents.specs.Reading.{two_in, three_in, texts_in, key_in, keys_in, is_true};
 ghost use Rattle.dl_documents.specs.TermReading.{value_in};
 
-use dl_desk::{FetchKey, Json, KeyFault, Keys, has_float};
+use dl_values::{FetchKey, Json, KeyFault, Keys, has_float};
 use serde_json::Value;
 use std::alloc::{AllocError, Global};
 

@@ -3,8 +3,8 @@
 ghost use Rattle.std.specs.Prelude.{◌≡◌};
 ghost use Rattle.dl_documents.specs.declared.fault.PlanFault.TheVariants.{OutOfMemory};
 
-use dl_desk::LimitFault;
 use dl_source::TableFault;
+use dl_values::LimitFault;
 use std::alloc::{AllocError, AllocFailed};
 use thiserror::Error;
 

@@ -2,9 +2,9 @@
 
 ghost use Rattle.std.specs.Prelude.{◌≡◌};
 
-use dl_desk::{FetchKey, Keys, Limits};
 use dl_source::Tables;
 use dl_terms::Plan;
+use dl_values::{FetchKey, Keys, Limits};
 use std::marker::Model;
 
 /// A document that was read.

@@ -2,12 +2,12 @@
 
 ghost use Rattle.std.specs.Prelude.{◌≡◌, pos, IfOk, IfErr, MatchOption};
 ghost use Rattle.serde_json.specs.View.{view};
-ghost use Rattle.dl_desk.specs.Limits.{IsLimit, IsNoLimit};
+ghost use Rattle.dl_values.specs.Limits.{IsLimit, IsNoLimit};
 ghost use Rattle.dl_documents.specs.Document.{whole, number_at};
 ghost use Rattle.dl_documents.specs.Faults.{IsOutside};
 ghost use Rattle.dl_documents.specs.Numbers.{AreGiven, LacksNumber, AreLimitsOf, IsFirstOutside};
 
-use dl_desk::{LARGEST_LIMIT, LimitFault, Limits};
+use dl_values::{LARGEST_LIMIT, LimitFault, Limits};
 use serde_json::Value;
 
 /// The whole numbers that a document gives for its limits.

@@ -9,9 +9,9 @@ ghost use Rattle.dl_documents.specs.StepReading.{error_in, primed_named, primed_
 use crate::argument::{self, is_true, json, key, pair};
 use crate::member;
 use crate::terms::read_term;
-use dl_desk::{Message, Outcome};
 use dl_source::TEXT_BYTES;
 use dl_terms::Step;
+use dl_values::{Message, Outcome};
 use serde_json::Value;
 use std::alloc::{AllocError, Global};
 

@@ -8,8 +8,8 @@ ghost use Rattle.dl_documents.specs.TermReading.{field_in, link_in, picks, links
 
 use crate::argument::{json, key, pair, triple};
 use crate::member;
-use dl_desk::{TABLE_BYTES, Text};
 use dl_terms::Term;
+use dl_values::{TABLE_BYTES, Text};
 use serde_json::Value;
 use std::alloc::{AllocError, Global};
 

@@ -1,7 +1,7 @@
 -- What tables answer that count how often they are asked.
 use Rattle.std.specs.Prelude.{List}
-use Rattle.dl_desk.specs.Key.{Key}
-use Rattle.dl_desk.specs.declared.outcome.BatchAnswer.{BatchAnswer}
+use Rattle.dl_values.specs.Key.{Key}
+use Rattle.dl_values.specs.declared.outcome.BatchAnswer.{BatchAnswer}
 use Rattle.dl_source.specs.Source.{IsFor}
 use Rattle.dl_source.specs.Answer.{answer_of}
 use Rattle.dl_source.specs.AnswerFits.{answer_fits}

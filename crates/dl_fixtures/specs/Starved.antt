@@ -1,9 +1,9 @@
 -- What a source without memory would answer.
 use Rattle.std.specs.Prelude.{ℕ, List, codes}
-use Rattle.dl_desk.specs.Key.{Key}
+use Rattle.dl_values.specs.Key.{Key}
 use Rattle.dl_source.specs.Source.{IsFor}
-use Rattle.dl_desk.specs.declared.outcome.BatchAnswer.{BatchAnswer}
-use Rattle.dl_desk.specs.declared.outcome.BatchAnswer.TheVariants.{Break}
+use Rattle.dl_values.specs.declared.outcome.BatchAnswer.{BatchAnswer}
+use Rattle.dl_values.specs.declared.outcome.BatchAnswer.TheVariants.{Break}
 
 abbrev pub answer_starved : {S : Type 0} → S → List Key → BatchAnswer
 answer_starved s keys = Break (codes "starved")

@@ -1,7 +1,7 @@
 //! A source that counts how often it is asked.
 
-use dl_desk::FetchKey;
 use dl_source::{BatchAnswer, Source, Tables};
+use dl_values::FetchKey;
 use std::alloc::{AllocError, Global};
 use std::sync::atomic::{AtomicU32, Ordering};
 

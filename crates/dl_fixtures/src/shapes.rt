@@ -1,8 +1,8 @@
 //! Terms as data.
 
 use crate::texts::list_text;
-use dl_desk::{FetchKey, Json, Text, has_float};
 use dl_terms::Term;
+use dl_values::{FetchKey, Json, Text, has_float};
 use serde_json::Value;
 use std::alloc::Global;
 

@@ -1,7 +1,7 @@
 //! A source without memory.
 
-use dl_desk::FetchKey;
 use dl_source::{BatchAnswer, Source};
+use dl_values::FetchKey;
 use std::alloc::{AllocError, Global};
 
 /// A source that has no memory left.

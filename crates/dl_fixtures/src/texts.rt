@@ -1,7 +1,7 @@
 //! How answers and long lists are written in rows.
 
-use dl_desk::BatchFault;
 use dl_terms::{Answer, EvalFault};
+use dl_values::BatchFault;
 use std::alloc::{AllocError, Global};
 
 /// The text of an answer: of a value its JSON, else why there is none.

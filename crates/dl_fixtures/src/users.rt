@@ -1,7 +1,7 @@
 //! The tables of users that the worked rows read from, and how an outcome is written in them.
 
-use dl_desk::{BatchFault, Outcome};
 use dl_source::Tables;
+use dl_values::{BatchFault, Outcome};
 use serde_json::Value;
 use std::alloc::{AllocError, Global};
 use std::hash::RandomState;

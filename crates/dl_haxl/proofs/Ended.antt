@@ -1,6 +1,6 @@
 -- Jobs whose batches are ended, one after another.
 use Rattle.std.proofs.Common.{◌≡◌, ◌∙◌, ap, subst, refl, ℕ, List, [], ◌∷◌, ◌++◌, append_assoc, inl, inr}
-use Rattle.dl_desk.specs.declared.reply.Job.{Job}
+use Rattle.dl_values.specs.declared.job.Job.{Job}
 use Rattle.dl_history.specs.Entries.{Line}
 use Rattle.dl_history.specs.Service.{Service}
 use Rattle.dl_history.specs.declared.event.Reply.TheVariants.{Done}
@@ -8,7 +8,7 @@ use Rattle.dl_loader.specs.Added.{line, Adds}
 use Rattle.dl_loader.specs.Pass.{Part}
 use Rattle.dl_loader.proofs.AddedLemmas.{made_adds}
 use Rattle.dl_workers.specs.Ending.{WasEnded, end_answered, end_unanswered}
-use Rattle.dl_haxl.specs.Stretch.{AddsAndSends, EndedInline, InlineEnd, InlineEnds}
+use Rattle.dl_haxl.specs.Rounds.{AddsAndSends, EndedInline, InlineEnd, InlineEnds}
 
 end_adds : (s : Service) (old new : Part) (job : Job) → WasEnded s old job new
     → Adds old new (λ lines. (l : Line) × (lines ≡ l ∷ []) × InlineEnd s old.caller job l)

@@ -1,7 +1,7 @@
 -- Jobs that are handed over to fetch workers, one after another.
 use Rattle.std.proofs.Common.{◌≡◌, ◌∙◌, ap, sym, subst, refl, ℕ, List, [], ◌∷◌, ◌++◌, append_assoc, append-nil, inl, inr}
-use Rattle.dl_desk.specs.declared.reply.Job.{Job}
-use Rattle.dl_desk.specs.declared.outcome.BatchFault.TheVariants.{Unsent}
+use Rattle.dl_values.specs.declared.job.Job.{Job}
+use Rattle.dl_values.specs.declared.outcome.BatchFault.TheVariants.{Unsent}
 use Rattle.dl_history.specs.Entries.{Line}
 use Rattle.dl_history.specs.Service.{Service}
 use Rattle.dl_history.specs.declared.event.Call.TheVariants.{Fail}
@@ -10,7 +10,7 @@ use Rattle.dl_loader.specs.Added.{line}
 use Rattle.dl_loader.specs.Made.{WasMade}
 use Rattle.dl_loader.specs.Pass.{Part}
 use Rattle.dl_loader.proofs.AddedLemmas.{made_adds}
-use Rattle.dl_haxl.specs.Stretch.{AddsAndSends, HandedOver}
+use Rattle.dl_haxl.specs.Rounds.{AddsAndSends, HandedOver}
 
 -- one job more, which was sent
 one_sent : (caller : ℕ) (jobs : List Job) (job : Job) (sent : List Job) (ends : List Line) → HandedOver caller jobs sent ends

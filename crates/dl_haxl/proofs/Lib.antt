@@ -5,5 +5,5 @@ pub mod Reading
 pub mod Ended
 pub mod HandedOver
 pub mod RoundMade
-pub mod Stretched
+pub mod EvaluationMade
 mod Stretches

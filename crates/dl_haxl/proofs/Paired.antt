@@ -13,9 +13,9 @@ use Rattle.std.proofs.Common.{min}
 use Rattle.std.proofs.lemmas.Bool.{and_parts, and_from}
 use Rattle.std.proofs.lemmas.List.{take_more}
 use Rattle.dl_haxl.proofs.Shown.{shown_long}
-use Rattle.dl_desk.specs.Key.{Key, key_eq}
-use Rattle.dl_desk.specs.declared.outcome.Outcome.{Outcome}
-use Rattle.dl_desk.proofs.KeyLemmas.{key_eq-sym}
+use Rattle.dl_values.specs.Key.{Key, key_eq}
+use Rattle.dl_values.specs.declared.outcome.Outcome.{Outcome}
+use Rattle.dl_values.proofs.KeyLemmas.{key_eq-sym}
 use Rattle.dl_history.specs.declared.event.Ending.{Ending}
 use Rattle.dl_loader.specs.Pass.{Hold}
 use Rattle.dl_terms.specs.Gives.{Pairs, outcome_in}

@@ -2,8 +2,8 @@
 use Rattle.std.proofs.Common.{◌≡◌, ◌∙◌, ap, sym, subst, refl, ℕ, ◌+◌, ◌<◌, ◌≤◌, false, List, [], ◌∷◌, ◌++◌, map, length, Some, arith, append_assoc}
 use Rattle.std.proofs.Common.{rules, Result, Ok, Err, OnErr}
 use Rattle.std.proofs.lemmas.List.{length-map}
-use Rattle.dl_desk.specs.Key.{Key}
-use Rattle.dl_desk.specs.declared.reply.Job.{Job}
+use Rattle.dl_values.specs.Key.{Key}
+use Rattle.dl_values.specs.declared.job.Job.{Job}
 use Rattle.dl_history.specs.Entries.{Line, Called, told, line_front, front_of}
 use Rattle.dl_history.specs.Service.{Service}
 use Rattle.dl_history.specs.declared.event.Call.{Call}
@@ -17,7 +17,7 @@ use Rattle.dl_loader.proofs.AddedLemmas.{made_adds, gave_still, grows_after}
 use Rattle.dl_loader.proofs.Tickets.{tickets_entries}
 use Rattle.dl_haxl.specs.Pairs.{outcomes_shown}
 use Rattle.dl_haxl.specs.Reads.{Reads}
-use Rattle.dl_haxl.specs.Stretch.{AddsAndSends, Round, SentMore}
+use Rattle.dl_haxl.specs.Rounds.{AddsAndSends, Round, SentMore}
 use Rattle.dl_haxl.proofs.Reading.{reply_of, known_of, reads_shown}
 
 -- tickets that were given are given still, while the pass keeps its tickets

@@ -5,14 +5,14 @@ use Rattle.dl_history.specs.Entries.{Line, calls_of}
 use Rattle.dl_history.proofs.EntryLists.{calls_of-append}
 use Rattle.dl_loader.specs.Added.{Adds, Grows}
 use Rattle.dl_loader.specs.Pass.{Part}
-use Rattle.dl_desk.specs.declared.reply.Job.{Job}
+use Rattle.dl_values.specs.declared.job.Job.{Job}
 use Rattle.dl_history.specs.declared.event.Call.TheVariants.{LoadMany, Dispatch}
 use Rattle.dl_history.specs.declared.event.Reply.TheVariants.{Many, Sent}
 use Rattle.dl_loader.specs.Added.{line, saws}
 use Rattle.dl_terms.specs.Gives.{Pairs, frontier}
 use Rattle.dl_terms.specs.Tree.{Tree}
 use Rattle.dl_terms.specs.View.{term_view}
-use Rattle.dl_haxl.specs.Stretch.{Rounds, HandedOver}
+use Rattle.dl_haxl.specs.Rounds.{Rounds, HandedOver}
 use Rattle.dl_terms.specs.declared.plan.Step.TheVariants.{Prime, Clear, ClearAll, Eval}
 use Rattle.dl_haxl.specs.Follows.{Stretch, stretch, then, IsStep, AreSteps, Follows}
 use Rattle.dl_terms.specs.declared.plan.Step.{Step}

@@ -1,6 +1,6 @@
 -- How the entries of a plan's caller follow the plan: a stretch of them for each step, in order.
 use Rattle.std.specs.Prelude.{◌≡◌, ℕ, suc, ◌+◌, List, [], ◌∷◌, ◌++◌}
-use Rattle.dl_desk.specs.declared.reply.Job.{Job}
+use Rattle.dl_values.specs.declared.job.Job.{Job}
 use Rattle.dl_history.specs.Entries.{Line}
 use Rattle.dl_history.specs.declared.event.Call.{Call}
 use Rattle.dl_history.specs.declared.event.Call.TheVariants as call
@@ -8,7 +8,7 @@ use Rattle.dl_history.specs.declared.event.Reply.{Reply}
 use Rattle.dl_loader.specs.Added.{line}
 use Rattle.dl_terms.specs.declared.answer.Answer.{Answer}
 use Rattle.dl_terms.specs.View.{term_view}
-use Rattle.dl_haxl.specs.Stretch.{EvaluatesQueued}
+use Rattle.dl_haxl.specs.Rounds.{EvaluatesQueued}
 use Rattle.dl_terms.specs.declared.plan.Step.{Step}
 use Rattle.dl_terms.specs.declared.plan.Step.TheVariants.{Prime, Clear, ClearAll, Eval}
 use Rattle.dl_haxl.specs.declared.step_answer.StepAnswer.{StepAnswer}

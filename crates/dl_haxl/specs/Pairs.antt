@@ -1,8 +1,8 @@
 -- The pairs that the tickets of keys give.
 use Rattle.std.specs.Prelude.{◌≡◌, Bool, List, [], ◌∷◌, Option, Some, None, IfSome, is_some}
 use Rattle.std.specs.List.{list_all, AllZip}
-use Rattle.dl_desk.specs.Key.{Key}
-use Rattle.dl_desk.specs.declared.outcome.Outcome.{Outcome}
+use Rattle.dl_values.specs.Key.{Key}
+use Rattle.dl_values.specs.declared.outcome.Outcome.{Outcome}
 use Rattle.dl_history.specs.declared.event.Ending.{Ending}
 use Rattle.dl_loader.specs.Pass.{Hold}
 use Rattle.dl_terms.specs.Gives.{Pairs}

@@ -6,7 +6,7 @@ ghost use Rattle.dl_terms.specs.Tree.{Tree, depth_of};
 ghost use Rattle.dl_terms.specs.View.{term_view};
 ghost use Rattle.dl_haxl.specs.Run.{IsRunOf, asked_by};
 ghost use Rattle.dl_haxl.specs.Seen.{seen};
-ghost use Rattle.dl_haxl.specs.Stretch.{AddsAndSends, Evaluates, SentMore};
+ghost use Rattle.dl_haxl.specs.Rounds.{AddsAndSends, Evaluates, SentMore};
 
 use crate::fault::RunFault;
 use crate::outlet::Outlet;

@@ -1,13 +1,13 @@
 //! Terms that are evaluated on the caller's own thread.
 
 ghost use Rattle.std.specs.Prelude.{◌≡◌, ◌≤◌, ℕ, List, [], IfOk, OnErr, OnOk};
-ghost use Rattle.dl_desk.specs.declared.reply.Job.{Job};
+ghost use Rattle.dl_values.specs.declared.job.Job.{Job};
 ghost use Rattle.dl_history.specs.Service.{Answers};
 ghost use Rattle.dl_loader.specs.Added.{Adds, Grows};
 ghost use Rattle.dl_terms.specs.Tree.{depth_of};
 ghost use Rattle.dl_terms.specs.View.{term_view};
 ghost use Rattle.dl_workers.specs.Ending.{WasEnded};
-ghost use Rattle.dl_haxl.specs.Stretch.{EndedInline, EvaluatesInline};
+ghost use Rattle.dl_haxl.specs.Rounds.{EndedInline, EvaluatesInline};
 
 use crate::evaluation::evaluate;
 use crate::fault::RunFault;

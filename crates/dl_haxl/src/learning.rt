@@ -2,7 +2,7 @@
 
 ghost use Rattle.std.specs.Prelude.{◌≡◌, ◌++◌, true, All, None, OnOk, length};
 ghost use Rattle.std.specs.List.{IsDistinct};
-ghost use Rattle.dl_desk.specs.Key.{key_eq};
+ghost use Rattle.dl_values.specs.Key.{key_eq};
 ghost use Rattle.dl_terms.specs.Gives.{outcome_in};
 ghost use Rattle.dl_terms.specs.Reduces.{pairs_of};
 ghost use Rattle.dl_haxl.specs.Pairs.{AllLater, all_show, outcomes_shown, paired};

@@ -1,10 +1,10 @@
 //! Where the jobs of a round go.
 
 ghost use Rattle.std.specs.Prelude.{◌≡◌, ℕ, List, OnErr, OnOk};
-ghost use Rattle.dl_desk.specs.declared.reply.Job.{Job};
+ghost use Rattle.dl_values.specs.declared.job.Job.{Job};
 ghost use Rattle.dl_history.specs.Entries.{Line};
 ghost use Rattle.dl_loader.specs.Added.{Grows};
-ghost use Rattle.dl_haxl.specs.Stretch.{AddsAndSends, SentMore};
+ghost use Rattle.dl_haxl.specs.Rounds.{AddsAndSends, SentMore};
 
 use crate::fault::RunFault;
 use dl_desk::Job;

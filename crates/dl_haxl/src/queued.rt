@@ -1,8 +1,8 @@
 //! Terms whose jobs are handed over to fetch workers.
 
 ghost use Rattle.std.specs.Prelude.{◌≡◌, ◌≤◌, ◌++◌, ℕ, List, IfOk, OnErr, OnOk};
-ghost use Rattle.dl_desk.specs.declared.outcome.BatchFault.TheVariants.{Unsent};
-ghost use Rattle.dl_desk.specs.declared.reply.Job.{Job};
+ghost use Rattle.dl_values.specs.declared.outcome.BatchFault.TheVariants.{Unsent};
+ghost use Rattle.dl_values.specs.declared.job.Job.{Job};
 ghost use Rattle.dl_history.specs.declared.event.Call.TheVariants.{Fail};
 ghost use Rattle.dl_history.specs.declared.event.Reply.TheVariants.{Done};
 ghost use Rattle.dl_loader.specs.Added.{Grows};
@@ -10,7 +10,7 @@ ghost use Rattle.dl_loader.specs.Made.{WasMade};
 ghost use Rattle.dl_terms.specs.Tree.{depth_of};
 ghost use Rattle.dl_terms.specs.View.{term_view};
 ghost use Rattle.dl_workers.specs.Seats.{IsSenderOf, sent_jobs};
-ghost use Rattle.dl_haxl.specs.Stretch.{AddsAndSends, EvaluatesQueued, HandedOver, SentMore};
+ghost use Rattle.dl_haxl.specs.Rounds.{AddsAndSends, EvaluatesQueued, HandedOver, SentMore};
 
 use crate::evaluation::evaluate;
 use crate::fault::RunFault;

@@ -5,7 +5,7 @@ ghost use Rattle.dl_history.specs.Entries.{front_of};
 ghost use Rattle.dl_loader.specs.Added.{Grows};
 ghost use Rattle.dl_haxl.specs.Pairs.{all_show, outcomes_shown};
 ghost use Rattle.dl_haxl.specs.Reads.{GaveFresh, Reads};
-ghost use Rattle.dl_haxl.specs.Stretch.{AddsAndSends, Round, SentMore};
+ghost use Rattle.dl_haxl.specs.Rounds.{AddsAndSends, Round, SentMore};
 
 use crate::fault::RunFault;
 use crate::outlet::Outlet;

@@ -3,8 +3,8 @@ use Rattle.std.proofs.Common.{◌≡◌, ◌∙◌, sym, ap, subst, ℕ, zero, s
 use Rattle.std.proofs.Common.{Option, Some, None, slice_get, nat_eq, nat_le, nat_lt, refl, arith}
 use Rattle.std.proofs.lemmas.Bool.{and_parts, eqb-true, eq-eqb, ne_eqb, leb-true, cases_eq, cases_order}
 use Rattle.std.proofs.lemmas.Option.{slice_get_within}
-use Rattle.dl_desk.specs.Key.{Key}
-use Rattle.dl_desk.specs.Limits.{Rules, limit_of}
+use Rattle.dl_values.specs.Key.{Key}
+use Rattle.dl_values.specs.Limits.{Rules, limit_of}
 use Rattle.dl_desk.specs.History.{Atom, Load, Prime, Clear, ClearAll, Dispatch, Settle, Fail, Begun, begins, cells, is_number, add_member, members, sent, begun}
 use Rattle.dl_desk.specs.History.{has_member, greatest, serves, is_open, room_in, room, load_reply, load_replies, MayEnd, IsAnswered, IsLegal}
 use Rattle.dl_desk.specs.Events.{Made, One, Many, with_loads, with_made, IsReplied, ends_batch, ends, batch_at, cell_batch}

@@ -2,8 +2,8 @@
 use Rattle.std.proofs.Common.{◌≡◌, ap, ℕ, suc, ◌+◌, ◌<◌, ◌≤◌, Bool, true, false, cond, List, [], ◌∷◌, ◌++◌, length, Option, Some, None, refl, arith, take, drop}
 use Rattle.std.proofs.Common.{slice_get}
 use Rattle.std.specs.List.{list_any}
-use Rattle.dl_desk.specs.Key.{Key, key_eq}
-use Rattle.dl_desk.specs.Limits.{Rules}
+use Rattle.dl_values.specs.Key.{Key, key_eq}
+use Rattle.dl_values.specs.Limits.{Rules}
 use Rattle.dl_desk.specs.History.{Atom, Begun, begins, cells, count_cell, Latest, later, latest_at, latest, forgets, cell_kept, held, load_reply, load_replies}
 use Rattle.dl_desk.specs.History.{loaded, IsAnswered, IsLegal as AreLegal}
 use Rattle.dl_desk.specs.History as atom

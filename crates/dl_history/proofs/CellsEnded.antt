@@ -3,8 +3,8 @@ use Rattle.std.proofs.Common.{◌≡◌, ◌∙◌, sym, ℕ, ◌<◌, ◌≤◌
 use Rattle.std.proofs.Common.{arith}
 use Rattle.std.specs.Option.{option_or}
 use Rattle.std.proofs.lemmas.Bool.{and_right, cases_lt, eq-eqb, ltb-true}
-use Rattle.dl_desk.specs.Key.{Key}
-use Rattle.dl_desk.specs.Limits.{Rules}
+use Rattle.dl_values.specs.Key.{Key}
+use Rattle.dl_values.specs.Limits.{Rules}
 use Rattle.dl_desk.specs.History.{Atom, Load, Prime, Clear, ClearAll, Dispatch, Settle, Fail, Begun, begins, cells, count_cell, is_number, batch_of, is_named}
 use Rattle.dl_desk.specs.History.{begun, load_reply, load_replies, end_of, IsAnswered, IsLegal}
 use Rattle.dl_desk.specs.Events.{Made, One, Many, Event, with_loads, with_made, atoms, IsReplied, IsLegalLog, Placed, newest, last_of, primes, ends_batch, ends}

@@ -9,14 +9,14 @@ use Rattle.dl_history.specs.declared.name.LoaderName as name
 use Rattle.std.proofs.Crossing.{Vec-send, crosses as owners_cross}
 use Rattle.std.proofs.MapsCrossing.{crosses as maps_cross}
 use Rattle.serde_json.proofs.value.Value.TheLaws.TheKnot.{crosses as values_cross}
-use Rattle.dl_desk.proofs.key.FetchKey.TheSendSync as key
-use Rattle.dl_desk.proofs.key.Keys.TheSendSync as keys
-use Rattle.dl_desk.proofs.message.Message.TheSendSync as message
-use Rattle.dl_desk.proofs.outcome.BatchFault.TheSendSync as fault
+use Rattle.dl_values.proofs.key.FetchKey.TheSendSync as key
+use Rattle.dl_values.proofs.key.Keys.TheSendSync as keys
+use Rattle.dl_values.proofs.message.Message.TheSendSync as message
+use Rattle.dl_values.proofs.outcome.BatchFault.TheSendSync as fault
 use Rattle.dl_history.proofs.event.Reply.TheSendSync as reply
-use Rattle.dl_desk.specs.contracts.json.Json as Json
-use Rattle.dl_desk.specs.contracts.outcome.Outcome as Outcome
-use Rattle.dl_desk.specs.contracts.outcome.Outcomes as Outcomes
+use Rattle.dl_values.specs.contracts.json.Json as Json
+use Rattle.dl_values.specs.contracts.outcome.Outcome as Outcome
+use Rattle.dl_values.specs.contracts.outcome.Outcomes as Outcomes
 use Rattle.dl_history.specs.contracts.event.Call as Call
 use Rattle.dl_history.specs.contracts.event.Event as Event
 use Rattle.dl_history.specs.contracts.event.Ending as Ending
@@ -32,8 +32,8 @@ use Rattle.dl_history.specs.contracts.journal.Journal.TheInside as journal
 use Rattle.dl_history.specs.contracts.rows.Rows as Rows
 use Rattle.dl_history.specs.contracts.rows.Rows.TheInside as rows
 use Rattle.dl_history.specs.contracts.cell_state.CellState as CellState
-use Rattle.dl_desk.specs.contracts.limits.Limits as Limits
-use Rattle.dl_desk.proofs.limits.Limits.TheSendSync as limits
+use Rattle.dl_values.specs.contracts.limits.Limits as Limits
+use Rattle.dl_values.proofs.limits.Limits.TheSendSync as limits
 use Rattle.dl_cells.proofs.reader.Reader.TheSendSync as reader
 use Rattle.dl_cells.proofs.row.CellRow.TheSendSync as row
 

@@ -1,12 +1,12 @@
 -- What one more event of a legal history does to what a cell shows.
 use Rattle.std.proofs.Common.{◌≡◌, ◌∙◌, sym, ap, ℕ, ◌<◌, ◌≤◌, true, false, List, [], ◌∷◌, ◌++◌, length, Option, Some, None, slice_get, nat_eq, refl}
 use Rattle.std.proofs.lemmas.Bool.{and_right, eq-eqb, ne_eqb}
-use Rattle.dl_desk.specs.Key.{Key}
-use Rattle.dl_desk.specs.Limits.{Rules}
+use Rattle.dl_values.specs.Key.{Key}
+use Rattle.dl_values.specs.Limits.{Rules}
 use Rattle.dl_desk.specs.History.{Atom, begins, cells, members, load_reply, prime_reply, MayEnd}
 use Rattle.dl_desk.specs.History as atom
 use Rattle.dl_desk.specs.Events.{Made, Nothing, Given, Each, Broke, atoms, is_primed, primes, ends, cell_batch, newest, ending, outcome_given}
-use Rattle.dl_desk.specs.declared.outcome.Outcome.{Outcome}
+use Rattle.dl_values.specs.declared.outcome.Outcome.{Outcome}
 use Rattle.dl_desk.specs.declared.reply.LoadReply.{LoadReply}
 use Rattle.dl_desk.specs.declared.reply.LoadReply.TheVariants.{Hit, Fresh}
 use Rattle.dl_desk.specs.declared.reply.DeskPrime.{DeskPrime}

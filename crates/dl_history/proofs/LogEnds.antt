@@ -5,8 +5,8 @@ use Rattle.std.specs.Option.{option_or, option_and_then}
 use Rattle.std.specs.List.{zip}
 use Rattle.std.specs.Map.{lookup}
 use Rattle.std.proofs.lemmas.Bool.{and_parts, cases_lt}
-use Rattle.dl_desk.specs.Key.{Key}
-use Rattle.dl_desk.specs.Limits.{Rules}
+use Rattle.dl_values.specs.Key.{Key}
+use Rattle.dl_values.specs.Limits.{Rules}
 use Rattle.dl_desk.specs.History.{Atom, Begun, begins, cells, sent, end_of}
 use Rattle.dl_desk.specs.Events.{Made, One, Many, Gave, Nothing, Given, Each, Broke, Event, with_made, atoms, IsLegalLog, last_of, is_primed, primes, ends}
 use Rattle.dl_desk.specs.Events.{batch_at, cell_batch, Placed, newest, ending, batch_cells, outcome_given, outcome}

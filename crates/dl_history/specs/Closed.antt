@@ -1,7 +1,7 @@
 -- What contracts see of a history that a closed loader leaves.
 use Rattle.std.specs.Prelude.{◌≡◌, ℕ, ◌<◌, List, [], ◌∷◌, length, map, nat_eq, slice_get, if◌then◌else◌}
-use Rattle.dl_desk.specs.Key.{Key}
-use Rattle.dl_desk.specs.Limits.{AreLimits}
+use Rattle.dl_values.specs.Key.{Key}
+use Rattle.dl_values.specs.Limits.{AreLimits}
 use Rattle.dl_desk.specs.declared.reply.End.{End}
 use Rattle.dl_history.specs.Agrees.{Account, account, HasEach, Agrees}
 use Rattle.dl_history.specs.Entries.{Line, Called, Saw, told, read, kind_of, event_known, ending_known}

@@ -1,7 +1,7 @@
 -- What the entries of a pass tell.
 use Rattle.std.specs.Prelude.{◌≡◌, ℕ, ◌+◌, ◌≤◌, List, [], ◌∷◌, ◌++◌, map, max, Option, Some, None}
-use Rattle.dl_desk.specs.declared.outcome.Outcome.TheVariants.{BatchFailed}
-use Rattle.dl_desk.specs.declared.outcome.BatchFault.TheVariants.{Unsent}
+use Rattle.dl_values.specs.declared.outcome.Outcome.TheVariants.{BatchFailed}
+use Rattle.dl_values.specs.declared.outcome.BatchFault.TheVariants.{Unsent}
 use Rattle.dl_desk.specs.declared.reply.LoadReply.{LoadReply}
 use Rattle.dl_desk.specs.declared.reply.LoadReply.TheVariants.{Hit, Fresh}
 use Rattle.dl_history.specs.declared.event.Event.{Event}

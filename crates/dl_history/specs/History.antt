@@ -1,20 +1,20 @@
 -- The history of a shared loader: its events in order, and when it is legal. What a call is replied is
 -- said by the definitions of a data loader of one thread.
 use Rattle.std.specs.Prelude.{◌≡◌, ℕ, ◌<◌, List, [], ◌∷◌, Option, Some, None, IsSome, slice_get, map, take}
-use Rattle.dl_desk.specs.Key.{Key}
-use Rattle.dl_desk.specs.Limits.{Rules}
+use Rattle.dl_values.specs.Key.{Key}
+use Rattle.dl_values.specs.Limits.{Rules}
 use Rattle.dl_desk.specs.History.{Atom, MayEnd, begun, end_of, members, load_reply, load_replies, prime_reply, jobs}
 use Rattle.dl_desk.specs.History as atom
 use Rattle.dl_desk.specs.Events.{Made, One, Many, Gave, Nothing, Given, Each, Broke, atoms, ended, outcome}
 use Rattle.dl_desk.specs.Events as desk
 use Rattle.dl_desk.specs.Calls.{DeskCall, Loads, Primes, Clears, ClearsAll, Sends, Settles, Fails}
-use Rattle.dl_desk.specs.declared.outcome.Outcome.{Outcome}
-use Rattle.dl_desk.specs.declared.outcome.BatchFault.{BatchFault}
-use Rattle.dl_desk.specs.declared.outcome.BatchFault.TheVariants.{Source, Memory, Unsent}
+use Rattle.dl_values.specs.declared.outcome.Outcome.{Outcome}
+use Rattle.dl_values.specs.declared.outcome.BatchFault.{BatchFault}
+use Rattle.dl_values.specs.declared.outcome.BatchFault.TheVariants.{Source, Memory, Unsent}
 use Rattle.dl_desk.specs.declared.reply.DeskPrime.{DeskPrime}
 use Rattle.dl_desk.specs.declared.reply.DeskPrime.TheVariants as prime
-use Rattle.dl_desk.specs.declared.outcome.BatchAnswer.{BatchAnswer}
-use Rattle.dl_desk.specs.declared.outcome.BatchAnswer.TheVariants as answered
+use Rattle.dl_values.specs.declared.outcome.BatchAnswer.{BatchAnswer}
+use Rattle.dl_values.specs.declared.outcome.BatchAnswer.TheVariants as answered
 use Rattle.dl_history.specs.Service.{Service}
 use Rattle.dl_history.specs.declared.event.Event.{Event}
 use Rattle.dl_history.specs.declared.event.Ending.{Ending}

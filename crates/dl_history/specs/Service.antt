@@ -1,10 +1,10 @@
 -- What a loader serves by.
 use Rattle.std.specs.Prelude.{◌≡◌, ℕ, List, [], None, length}
-use Rattle.dl_desk.specs.Key.{Key}
-use Rattle.dl_desk.specs.Limits.{Rules}
-use Rattle.dl_desk.specs.declared.outcome.BatchAnswer.{BatchAnswer}
-use Rattle.dl_desk.specs.declared.outcome.BatchAnswer.TheVariants.{Each, Break}
-use Rattle.dl_desk.specs.declared.outcome.Outcome.{Outcome}
+use Rattle.dl_values.specs.Key.{Key}
+use Rattle.dl_values.specs.Limits.{Rules}
+use Rattle.dl_values.specs.declared.outcome.BatchAnswer.{BatchAnswer}
+use Rattle.dl_values.specs.declared.outcome.BatchAnswer.TheVariants.{Each, Break}
+use Rattle.dl_values.specs.declared.outcome.Outcome.{Outcome}
 
 -- What a loader serves by: how it makes batches, how many callers it has, and the one function by
 -- which its source answers.

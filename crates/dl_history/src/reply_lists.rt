@@ -57,8 +57,8 @@ pub struct Jobs {
 impl Model for Jobs {
     ghost use Rattle.std.specs.Prelude.{List};
     ghost use Rattle.std.specs.Coded.{coded_list};
-    ghost use Rattle.dl_desk.specs.declared.reply.Job.{Job};
-    ghost use Rattle.dl_desk.specs.contracts.reply.Job as job;
+    ghost use Rattle.dl_values.specs.declared.job.Job.{Job};
+    ghost use Rattle.dl_values.specs.contracts.job.Job as job;
 
     ghost Value = { List Job };
 

@@ -2,7 +2,7 @@
 
 ghost use Rattle.std.specs.Prelude.{◌≡◌};
 ghost use Rattle.dl_cells.specs.Cells.{row_len};
-ghost use Rattle.dl_desk.specs.Limits.{AreLimits};
+ghost use Rattle.dl_values.specs.Limits.{AreLimits};
 
 use crate::event::{Ending, Event};
 use crate::name::LoaderName;
@@ -21,7 +21,7 @@ pub struct Rows<L: LoaderName> {
 }
 
 impl<L: LoaderName> Model for Rows<L> {
-    ghost use Rattle.dl_desk.specs.Limits.{Limits};
+    ghost use Rattle.dl_values.specs.Limits.{Limits};
     ghost use Rattle.dl_history.specs.Inside.Rows.{AreRows};
 
     ghost Value = { Limits };

@@ -1,7 +1,7 @@
 -- The accounts of the passes with which a loader is closed.
 use Rattle.std.proofs.Common.{◌≡◌, ℕ, ◌<◌, List, [], ◌∷◌, length, map, sum_by, refl, arith}
 use Rattle.std.proofs.lemmas.List.{length-map}
-use Rattle.dl_desk.specs.Limits.{AreLimits}
+use Rattle.dl_values.specs.Limits.{AreLimits}
 use Rattle.dl_history.specs.declared.event.Event.{Event}
 use Rattle.dl_history.specs.Agrees.{Account, HasEach, NoneBehind, places_of, Fits}
 use Rattle.dl_history.specs.Closed.{IsClosed, closed, Outline, outline_of}

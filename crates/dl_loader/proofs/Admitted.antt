@@ -7,7 +7,7 @@ use Rattle.dl_history.specs.Service.{Service}
 use Rattle.dl_history.specs.Entries.{front_of}
 use Rattle.dl_loader.specs.Book.{Locked}
 use Rattle.dl_loader.specs.Pass.{Part}
-use Rattle.dl_desk.specs.declared.reply.Job.{Job}
+use Rattle.dl_values.specs.declared.job.Job.{Job}
 use Rattle.dl_history.specs.declared.event.Call.{Call}
 use Rattle.std.specs.Option.{option_or}
 use Rattle.dl_loader.specs.Refusals.{unready, refusal}

@@ -6,23 +6,23 @@ use Rattle.std.proofs.lemmas.Bool.{leb-false}
 use Rattle.std.proofs.lemmas.Option.{slice_get_within}
 use Rattle.std.proofs.lemmas.List.{length-map, length_push}
 use Rattle.std.proofs.lemmas.Slice.Eq.{slice_eq-Decides}
-use Rattle.dl_desk.specs.Key.{Key, key_eq}
+use Rattle.dl_values.specs.Key.{Key, key_eq}
 use Rattle.dl_desk.specs.Events.{atoms}
 use Rattle.dl_desk.specs.History.{Atom, Begun, begins, cells, count_cell, is_number, add_member, begun, sent, end_of, members, MayEnd}
 use Rattle.dl_desk.specs.History as atom
 use Rattle.dl_desk.specs.BatchBook.{BatchBook, StandsFor}
-use Rattle.dl_desk.specs.Limits.{Rules}
+use Rattle.dl_values.specs.Limits.{Rules}
 use Rattle.dl_desk.specs.Calls.{Settles, Fails, ended_so, refusal, unfit}
 use Rattle.dl_desk.specs.declared.fault.DeskFault.{DeskFault}
 use Rattle.dl_desk.specs.declared.fault.DeskFault.TheVariants as desk_fault
-use Rattle.dl_desk.specs.declared.outcome.Outcome.{Outcome}
-use Rattle.dl_desk.specs.declared.outcome.Outcome.TheVariants.{BatchFailed}
-use Rattle.dl_desk.specs.declared.outcome.BatchFault.{BatchFault}
+use Rattle.dl_values.specs.declared.outcome.Outcome.{Outcome}
+use Rattle.dl_values.specs.declared.outcome.Outcome.TheVariants.{BatchFailed}
+use Rattle.dl_values.specs.declared.outcome.BatchFault.{BatchFault}
 use Rattle.dl_desk.specs.declared.reply.End.{End}
-use Rattle.dl_desk.proofs.KeyLemmas.{key_eq-same, key_eq-refl}
-use Rattle.dl_desk.specs.declared.outcome.BatchAnswer.{BatchAnswer}
-use Rattle.dl_desk.specs.declared.outcome.BatchAnswer.TheVariants.{Each, Break}
-use Rattle.dl_desk.specs.declared.reply.Job.{Job}
+use Rattle.dl_values.proofs.KeyLemmas.{key_eq-same, key_eq-refl}
+use Rattle.dl_values.specs.declared.outcome.BatchAnswer.{BatchAnswer}
+use Rattle.dl_values.specs.declared.outcome.BatchAnswer.TheVariants.{Each, Break}
+use Rattle.dl_values.specs.declared.job.Job.{Job}
 use Rattle.dl_source.specs.Source.{IsFor}
 use Rattle.dl_loader.specs.declared.due_endings.Due.{Due}
 use Rattle.dl_history.specs.declared.event.Call.{Call}

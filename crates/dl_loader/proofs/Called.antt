@@ -3,7 +3,7 @@ use Rattle.std.proofs.Common.{◌≡◌, ◌∙◌, ap, subst, [], ◌∷◌, �
 use Rattle.dl_desk.specs.Events.{atoms}
 use Rattle.dl_history.specs.Service.{Service}
 use Rattle.dl_history.specs.History.{log, reply_to, IsLegal}
-use Rattle.dl_desk.specs.declared.reply.Job.{Job}
+use Rattle.dl_values.specs.declared.job.Job.{Job}
 use Rattle.dl_loader.specs.Refusals.{refusal}
 use Rattle.dl_loader.proofs.Admitted.{accepted_after}
 use Rattle.dl_loader.specs.Pass.{Part, with_call, with_tickets}

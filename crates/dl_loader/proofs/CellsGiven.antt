@@ -1,6 +1,6 @@
 -- The cells with which loads are answered: a book has each of them.
 use Rattle.std.proofs.Common.{◌≡◌, ◌∙◌, ap, subst, ◌<◌, List, [], ◌∷◌, ◌++◌, length, refl}
-use Rattle.dl_desk.specs.Key.{Key}
+use Rattle.dl_values.specs.Key.{Key}
 use Rattle.dl_desk.specs.History.{cells, load_reply, load_replies, loaded}
 use Rattle.dl_desk.specs.Events.{atoms}
 use Rattle.dl_desk.specs.Calls.{Loads, after}

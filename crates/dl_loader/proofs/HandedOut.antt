@@ -3,7 +3,7 @@ use Rattle.std.proofs.Common.{◌≡◌, ◌∙◌, sym, ap, subst, ℕ, zero, s
 use Rattle.std.proofs.Common.{option_map, slice_get, get_or, refl, arith, length-append}
 use Rattle.std.proofs.lemmas.List.{map-append, length-map, append_assoc, take_more}
 use Rattle.std.proofs.lemmas.Option.{slice_get-map}
-use Rattle.dl_desk.specs.Key.{Key}
+use Rattle.dl_values.specs.Key.{Key}
 use Rattle.dl_desk.specs.declared.reply.LoadReply.{LoadReply}
 use Rattle.dl_loader.specs.declared.pass.GivenTicket.{GivenTicket}
 use Rattle.dl_history.specs.declared.event.Call.TheVariants.{Load, LoadMany}

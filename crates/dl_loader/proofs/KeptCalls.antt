@@ -1,7 +1,7 @@
 -- What the book of a loader keeps after an event that begins no cell, and after loads, told by what its desk promises.
 use Rattle.std.proofs.Common.{◌≡◌, ◌∙◌, sym, ap, subst, ℕ, ◌+◌, ◌≤◌, List, length, None, arith}
-use Rattle.dl_desk.specs.Key.{Key}
-use Rattle.dl_desk.specs.Limits.{Rules}
+use Rattle.dl_values.specs.Key.{Key}
+use Rattle.dl_values.specs.Limits.{Rules}
 use Rattle.dl_desk.specs.History.{Atom, load_replies, loaded}
 use Rattle.dl_desk.specs.Events.{Nothing, atoms}
 use Rattle.dl_desk.specs.Calls.{Loads, refusal}

@@ -4,17 +4,17 @@ use Rattle.std.proofs.Common.{◌≡◌, ◌∙◌, sym, ap, subst, ℕ, ◌+◌
 use Rattle.std.proofs.Common.{◌≤◌, slice_get, refl, arith}
 use Rattle.std.specs.List.{repeat}
 use Rattle.std.proofs.lemmas.List.Sums.{fold-append}
-use Rattle.dl_desk.specs.Key.{Key}
-use Rattle.dl_desk.specs.Limits.{Rules}
+use Rattle.dl_values.specs.Key.{Key}
+use Rattle.dl_values.specs.Limits.{Rules}
 use Rattle.dl_desk.specs.History.{Atom, prime_reply, jobs}
 use Rattle.dl_desk.specs.History as atom
 use Rattle.dl_desk.specs.Events.{atoms}
 use Rattle.dl_desk.specs.Calls.{Primes, Clears, ClearsAll, Sends, refusal}
 use Rattle.dl_desk.specs.BatchBook.{BatchBook, StandsFor}
-use Rattle.dl_desk.specs.declared.outcome.Outcome.{Outcome}
+use Rattle.dl_values.specs.declared.outcome.Outcome.{Outcome}
 use Rattle.dl_desk.specs.declared.reply.DeskPrime.{DeskPrime}
 use Rattle.dl_desk.specs.declared.reply.DeskPrime.TheVariants as prime
-use Rattle.dl_desk.specs.declared.reply.Job.{Job}
+use Rattle.dl_values.specs.declared.job.Job.{Job}
 use Rattle.dl_history.specs.declared.event.Event.{Event}
 use Rattle.dl_history.specs.declared.event.Ending.{Ending}
 use Rattle.dl_history.specs.declared.event.Call.TheVariants.{Prime, Clear, ClearAll, Dispatch}

@@ -6,7 +6,7 @@ use Rattle.dl_desk.specs.Calls as desk
 use Rattle.dl_desk.specs.Events.{atoms}
 use Rattle.dl_desk.specs.History.{Atom}
 use Rattle.dl_desk.specs.declared.fault.DeskFault.{DeskFault}
-use Rattle.dl_desk.specs.declared.reply.Job.{Job}
+use Rattle.dl_values.specs.declared.job.Job.{Job}
 use Rattle.dl_history.specs.declared.event.Call.{Call}
 use Rattle.dl_history.specs.History.{log, call_of}
 use Rattle.dl_history.specs.Journal.{Journal}

@@ -1,9 +1,9 @@
 -- What the source of a loader keeps to.
 use Rattle.std.proofs.Common.{◌≡◌, ◌∙◌, List}
-use Rattle.dl_desk.specs.Key.{Key}
+use Rattle.dl_values.specs.Key.{Key}
 use Rattle.dl_source.specs.Source.{IsFor}
-use Rattle.dl_desk.specs.declared.outcome.BatchAnswer.{BatchAnswer}
-use Rattle.dl_desk.specs.declared.outcome.BatchAnswer.TheVariants.{Each}
+use Rattle.dl_values.specs.declared.outcome.BatchAnswer.{BatchAnswer}
+use Rattle.dl_values.specs.declared.outcome.BatchAnswer.TheVariants.{Each}
 use Rattle.dl_history.specs.Service.{AnswersEach}
 
 -- a function that answers as a source does has an outcome for each key, where it does not break

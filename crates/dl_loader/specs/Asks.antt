@@ -1,10 +1,10 @@
 -- What an event call asks for: the call that the history will tell, and the job that it ends.
 use Rattle.std.specs.Prelude.{ℕ, Option, Some, None}
-use Rattle.dl_desk.specs.declared.outcome.BatchFault.{BatchFault}
-use Rattle.dl_desk.specs.declared.outcome.BatchFault.TheVariants as fault
-use Rattle.dl_desk.specs.declared.reply.Job.{Job}
-use Rattle.dl_desk.specs.declared.outcome.BatchAnswer.{BatchAnswer}
-use Rattle.dl_desk.specs.declared.outcome.BatchAnswer.TheVariants.{Each, Break}
+use Rattle.dl_values.specs.declared.outcome.BatchFault.{BatchFault}
+use Rattle.dl_values.specs.declared.outcome.BatchFault.TheVariants as fault
+use Rattle.dl_values.specs.declared.job.Job.{Job}
+use Rattle.dl_values.specs.declared.outcome.BatchAnswer.{BatchAnswer}
+use Rattle.dl_values.specs.declared.outcome.BatchAnswer.TheVariants.{Each, Break}
 use Rattle.dl_source.specs.declared.source.Source.{Ghosts}
 use Rattle.dl_source.specs.Fetched.{source_of, job_of, answer_of}
 use Rattle.dl_loader.specs.declared.ask.Ask.{Ask}

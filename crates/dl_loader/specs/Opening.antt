@@ -1,9 +1,9 @@
 -- What a loader is opened with.
 use Rattle.std.specs.Prelude.{◌≡◌, ℕ, ◌<◌, ◌≤◌, List}
 use Rattle.dl_cells.specs.Cells.{RowName, row_len}
-use Rattle.dl_desk.specs.Key.{Key}
-use Rattle.dl_desk.specs.Limits.{Limits, Rules}
-use Rattle.dl_desk.specs.declared.outcome.BatchAnswer.{BatchAnswer}
+use Rattle.dl_values.specs.Key.{Key}
+use Rattle.dl_values.specs.Limits.{Limits, Rules}
+use Rattle.dl_values.specs.declared.outcome.BatchAnswer.{BatchAnswer}
 use Rattle.dl_history.specs.Service.{Service, Answers, AnswersEach, service}
 use Rattle.dl_loader.specs.declared.fault.StartFault.{StartFault}
 use Rattle.dl_loader.specs.declared.fault.StartFault.TheVariants.{NoCallers, TooManyCallers, OutOfMemory}

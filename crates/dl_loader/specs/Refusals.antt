@@ -2,13 +2,13 @@
 use Rattle.std.specs.Prelude.{◌≡◌, ◌⊎◌, Bool, List, length, Option, Some, None, option_map, if◌then◌else◌, nat_lt, nat_le}
 use Rattle.std.specs.Cmp.Lexicographic.{pointwise}
 use Rattle.std.specs.Option.{option_or}
-use Rattle.dl_desk.specs.Key.{Key, key_eq}
+use Rattle.dl_values.specs.Key.{Key, key_eq}
 use Rattle.dl_desk.specs.Events.{atoms}
 use Rattle.dl_desk.specs.History.{Atom}
 use Rattle.dl_desk.specs.Calls as desk
 use Rattle.dl_desk.specs.declared.fault.DeskFault.{DeskFault}
 use Rattle.dl_desk.specs.declared.fault.DeskFault.TheVariants as desk_fault
-use Rattle.dl_desk.specs.declared.reply.Job.{Job}
+use Rattle.dl_values.specs.declared.job.Job.{Job}
 use Rattle.dl_history.specs.Service.{Service}
 use Rattle.dl_history.specs.History.{log, keys_of, call_of}
 use Rattle.dl_history.specs.Entries.{front_of}

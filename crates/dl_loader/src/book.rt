@@ -1,7 +1,7 @@
 //! The book of a loader, which lies behind its lock.
 
 ghost use Rattle.std.specs.Prelude.{◌≡◌, ◌<◌, ◌≤◌, [], false, true, IfErr, None, OnOk, Some, length};
-ghost use Rattle.dl_desk.specs.Limits.{mixed};
+ghost use Rattle.dl_values.specs.Limits.{mixed};
 ghost use Rattle.dl_loader.specs.Book.{Keeps, locked};
 ghost use Rattle.dl_history.specs.Entries.{cell_of_load, front_of};
 ghost use Rattle.dl_loader.specs.Refusals.{unready};

@@ -46,7 +46,7 @@ impl<L: LoaderName> Drop for Loader<L> {
 }
 
 impl<L: LoaderName> Model for Loader<L> {
-    ghost use Rattle.dl_desk.specs.Limits.{Limits};
+    ghost use Rattle.dl_values.specs.Limits.{Limits};
     ghost use Rattle.dl_loader.specs.Opening.{IsLoader};
 
     ghost Value = { Limits };

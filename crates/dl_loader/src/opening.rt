@@ -1,7 +1,7 @@
 //! What a loader is opened with.
 
 ghost use Rattle.std.specs.Prelude.{◌≡◌, IfOk, IfErr, OnOk};
-ghost use Rattle.dl_desk.specs.Limits.{mixed};
+ghost use Rattle.dl_values.specs.Limits.{mixed};
 ghost use Rattle.dl_loader.specs.Opening.{AreCallers, RefusedAs};
 
 use crate::fault::StartFault;
@@ -34,7 +34,7 @@ pub struct Opening<'s, S: Source> {
 }
 
 impl<'s, S: Source> Model for Opening<'s, S> {
-    ghost use Rattle.dl_desk.specs.Limits.{mixed};
+    ghost use Rattle.dl_values.specs.Limits.{mixed};
     ghost use Rattle.dl_loader.specs.Opening.{Unstarted, IsOpening};
 
     ghost Value = { Unstarted S };

@@ -7,7 +7,7 @@ use Rattle.serde_json.specs.Data.{Data, array}
 use Rattle.serde_json.specs.View.{items_of}
 use Rattle.serde_json.specs.Written.{compact_text, has_float, items_have_float}
 use Rattle.dl_desk.specs.History.{Atom, end_of}
-use Rattle.dl_desk.specs.Key.{Key}
+use Rattle.dl_values.specs.Key.{Key}
 use Rattle.dl_desk.specs.declared.reply.End.{End}
 use Rattle.dl_documents.specs.Script.{key_tree}
 use Rattle.dl_history.specs.History.{keys_of}

@@ -10,7 +10,7 @@ use Rattle.dl_reference.specs.Begun.{begun_of}
 use Rattle.std.specs.Option.{option_or}
 use Rattle.dl_desk.specs.declared.reply.End.{End}
 use Rattle.dl_desk.specs.declared.reply.End.TheVariants.{Settled, Failed}
-use Rattle.dl_desk.specs.declared.reply.Job.{Job}
+use Rattle.dl_values.specs.declared.job.Job.{Job}
 use Rattle.dl_reference.specs.History.{desk_atom, ended_by, history_onto, history_of}
 
 pub history_onto-push : (before : List desk.Atom) (atoms : List Atom) (a : Atom)

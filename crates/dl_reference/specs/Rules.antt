@@ -1,6 +1,6 @@
 -- The rules of a loader, as the definitions have them.
 use Rattle.std.specs.Prelude.{option_map}
-use Rattle.dl_desk.specs.Limits as desk
+use Rattle.dl_values.specs.Limits as desk
 use Rattle.dl_reference.specs.declared.replies.Rules.{Rules}
 
 -- the rules of the definitions

@@ -1,11 +1,11 @@
 -- What a call replies, and the history that it leaves, by the definitions.
 use Rattle.std.specs.Prelude.{List, [], ◌∷◌, Option, Some, None}
-use Rattle.dl_desk.specs.Limits.{Rules}
+use Rattle.dl_values.specs.Limits.{Rules}
 use Rattle.dl_desk.specs.History.{Atom, load_reply, prime_reply, jobs, load_replies}
 use Rattle.dl_desk.specs.Calls.{DeskCall, Loads, Primes, Clears, ClearsAll, Sends, Settles, Fails, refusal, after}
 use Rattle.dl_desk.specs.declared.reply.LoadReply.{LoadReply}
 use Rattle.dl_desk.specs.declared.reply.DeskPrime.{DeskPrime}
-use Rattle.dl_desk.specs.declared.reply.Job.{Job}
+use Rattle.dl_values.specs.declared.job.Job.{Job}
 use Rattle.dl_desk.specs.declared.fault.DeskFault.{DeskFault}
 use Rattle.dl_reference.specs.declared.calls.Call.{Call}
 use Rattle.dl_reference.specs.declared.calls.Call.TheVariants.{Load, LoadMany, Prime, Clear, ClearAll, Dispatch, Settle, Fail}

@@ -2,7 +2,7 @@
 
 ghost use Rattle.std.specs.Prelude.{◌≡◌, ◌∷◌, IfOk, OnOk};
 ghost use Rattle.std.specs.List.{list_any};
-ghost use Rattle.dl_desk.specs.Key.{key_eq};
+ghost use Rattle.dl_values.specs.Key.{key_eq};
 ghost use Rattle.dl_desk.specs.History.{IsLegal, loaded, load_replies};
 ghost use Rattle.dl_desk.specs.Calls as desk;
 ghost use Rattle.dl_reference.specs.History.{desk_atom, history_of};

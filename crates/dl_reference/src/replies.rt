@@ -2,8 +2,8 @@
 
 ghost use Rattle.std.specs.Prelude.{◌≡◌, IfOk};
 ghost use Rattle.std.specs.List.{list_any};
-ghost use Rattle.dl_desk.specs.Key.{key_eq};
-ghost use Rattle.dl_desk.specs.Limits.{limit_of};
+ghost use Rattle.dl_values.specs.Key.{key_eq};
+ghost use Rattle.dl_values.specs.Limits.{limit_of};
 ghost use Rattle.dl_desk.specs.History as desk;
 ghost use Rattle.dl_reference.specs.History.{history_of};
 ghost use Rattle.dl_reference.specs.Rules.{rules_of};

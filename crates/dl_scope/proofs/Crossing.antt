@@ -7,8 +7,8 @@ use denote.Param.Send.{IsSend, IsSync, sendable}
 use Rattle.std.specs.declared.sync.ledger.Ledger as ledger
 use Rattle.std.proofs.Crossing.{crosses as owners_cross}
 use Rattle.std.proofs.MapsCrossing.{crosses as maps_cross}
-use Rattle.dl_desk.proofs.key.FetchKey.TheSendSync as key
-use Rattle.dl_desk.proofs.outcome.BatchFault.TheSendSync as batch
+use Rattle.dl_values.proofs.key.FetchKey.TheSendSync as key
+use Rattle.dl_values.proofs.outcome.BatchFault.TheSendSync as batch
 use Rattle.dl_history.specs.declared.name.LoaderName as name
 use Rattle.dl_history.proofs.Crossing.{Json-send, Outcome-field-send}
 use Rattle.dl_loader.specs.contracts.pass.Pass as Pass

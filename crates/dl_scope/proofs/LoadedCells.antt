@@ -2,14 +2,14 @@
 use Rattle.std.proofs.Common.{◌≡◌, sym, ap, subst, ℕ, zero, suc, Bool, true, false, cond, List, [], ◌∷◌, ◌++◌, length, Option, Some, None, slice_get, refl}
 use Rattle.std.specs.List.{list_any}
 use Rattle.std.proofs.lemmas.Bool.{eq-eqb}
-use Rattle.dl_desk.specs.Key.{Key, key_eq}
-use Rattle.dl_desk.specs.Limits.{Rules}
+use Rattle.dl_values.specs.Key.{Key, key_eq}
+use Rattle.dl_values.specs.Limits.{Rules}
 use Rattle.dl_desk.specs.History.{Atom, Load, Prime, Clear, ClearAll, Dispatch, Settle, Fail, Begun, begins, is_number, add_member, members, cells, room}
 use Rattle.dl_desk.specs.History.{Latest, later, latest_at, latest, forgets, cell_kept, held, load_reply_at, load_reply, load_replies}
 use Rattle.dl_desk.specs.Events.{Made, One, Many, with_loads, with_made}
 use Rattle.dl_desk.specs.declared.reply.LoadReply.{LoadReply}
 use Rattle.dl_desk.specs.declared.reply.LoadReply.TheVariants.{Hit, Fresh}
-use Rattle.dl_desk.proofs.KeyLemmas.{key_eq-same}
+use Rattle.dl_values.proofs.KeyLemmas.{key_eq-same}
 use Rattle.dl_history.specs.Entries.{cell_of_load}
 use Rattle.dl_history.specs.Lists.{Every}
 use Rattle.dl_history.proofs.ListLemmas.{get_longer}

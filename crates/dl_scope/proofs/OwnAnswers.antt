@@ -3,10 +3,10 @@ use Rattle.std.proofs.Common.{◌≡◌, ◌∙◌, ap, sym, subst, refl, ℕ, z
 use Rattle.std.proofs.Common.{Option, Some, None, slice_get, nat_eq, arith, inl, inr}
 use Rattle.std.proofs.lemmas.Bool.{cases_lt}
 use Rattle.std.proofs.lemmas.Bool.Decides.{nat_tests}
-use Rattle.dl_desk.specs.Key.{Key, key_eq}
-use Rattle.dl_desk.specs.declared.outcome.Outcome.{Outcome}
-use Rattle.dl_desk.specs.declared.reply.Job.{Job}
-use Rattle.dl_desk.proofs.KeyLemmas.{key_eq-same}
+use Rattle.dl_values.specs.Key.{Key, key_eq}
+use Rattle.dl_values.specs.declared.outcome.Outcome.{Outcome}
+use Rattle.dl_values.specs.declared.job.Job.{Job}
+use Rattle.dl_values.proofs.KeyLemmas.{key_eq-same}
 use Rattle.dl_history.specs.Agrees.{account, Agrees, Tells, entries_of, places_of}
 use Rattle.dl_history.specs.Entries.{Line, Called, Saw, Told}
 use Rattle.dl_history.specs.Lists.{Every, Among, places}
@@ -26,7 +26,7 @@ use Rattle.dl_terms.specs.Laws.{GivesOnce, GivesForEver}
 use Rattle.dl_terms.specs.Rounds.{Gains}
 use Rattle.dl_terms.specs.Tree.{Tree}
 use Rattle.dl_terms.specs.View.{term_view}
-use Rattle.dl_haxl.specs.Stretch.{HandedOver, Rounds}
+use Rattle.dl_haxl.specs.Rounds.{HandedOver, Rounds}
 use Rattle.dl_haxl.specs.Follows.{Stretch, stretch, IsStep, AreSteps}
 use Rattle.dl_scope.specs.Headline.{Headline, service_of, Ends, TellsEnd}
 use Rattle.dl_scope.specs.OwnAnswers.{IsNoPrime, NonePrimed, AreOwn, listed, PrimesNoKey}

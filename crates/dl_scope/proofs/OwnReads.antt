@@ -1,9 +1,9 @@
 -- What rounds of loads learn, where each read has its key's own outcome.
 use Rattle.std.proofs.Common.{◌≡◌, ◌∙◌, ap, sym, subst, refl, ℕ, zero, suc, ◌+◌, List, [], ◌∷◌, ◌++◌, length, map, Option, Some, None, arith, inl, inr, ◌⊎◌}
 use Rattle.std.specs.Prelude.{slice_get}
-use Rattle.dl_desk.specs.Key.{Key}
-use Rattle.dl_desk.specs.declared.outcome.Outcome.{Outcome}
-use Rattle.dl_desk.specs.declared.reply.Job.{Job}
+use Rattle.dl_values.specs.Key.{Key}
+use Rattle.dl_values.specs.declared.outcome.Outcome.{Outcome}
+use Rattle.dl_values.specs.declared.job.Job.{Job}
 use Rattle.dl_desk.specs.declared.reply.LoadReply.{LoadReply}
 use Rattle.dl_history.specs.Agrees.{Tells}
 use Rattle.dl_history.specs.Entries.{Line, cell_of_load}
@@ -20,7 +20,7 @@ use Rattle.dl_terms.specs.Tree.{Tree}
 use Rattle.dl_terms.specs.View.{term_view}
 use Rattle.dl_terms.specs.declared.term.Term.{Term}
 use Rattle.dl_haxl.specs.Pairs.{paired}
-use Rattle.dl_haxl.specs.Stretch.{Round, Rounds, HandedOver}
+use Rattle.dl_haxl.specs.Rounds.{Round, Rounds, HandedOver}
 use Rattle.dl_haxl.specs.Follows.{Stretch, stretch, step_answer, IsStep, AreSteps}
 use Rattle.dl_scope.specs.OwnAnswers.{AreOwn, IsOwn}
 use Rattle.dl_terms.specs.declared.plan.Step.{Step}

@@ -1,8 +1,8 @@
 -- The headline: what a report is evidence of, whatever the schedule was.
 use Rattle.std.specs.Prelude.{◌≡◌, ℕ, ◌+◌, ◌<◌, ◌≤◌, List, [], length, Some, slice_get}
-use Rattle.dl_desk.specs.Limits.{mixed}
-use Rattle.dl_desk.specs.Key.{Key}
-use Rattle.dl_desk.specs.declared.outcome.BatchAnswer.{BatchAnswer}
+use Rattle.dl_values.specs.Limits.{mixed}
+use Rattle.dl_values.specs.Key.{Key}
+use Rattle.dl_values.specs.declared.outcome.BatchAnswer.{BatchAnswer}
 use Rattle.dl_history.specs.Agrees.{Agrees, HasEach, entries_of}
 use Rattle.dl_history.specs.Entries.{Line, Called, Saw}
 use Rattle.dl_history.specs.History.{IsLegal, AllEnded}

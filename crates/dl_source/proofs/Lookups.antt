@@ -9,7 +9,7 @@ use Rattle.dl_source.specs.Faults.{lists}
 use Rattle.std.specs.Result.{result_copied}
 use Rattle.std.specs.declared.alloc.Global.{Global}
 use Rattle.std.specs.Map.{lookup}
-use Rattle.dl_desk.specs.Key.{Key}
+use Rattle.dl_values.specs.Key.{Key}
 use Rattle.dl_source.specs.declared.tables.Entry.{Entry}
 use Rattle.dl_source.specs.Listing.{Listing, NamedTables, named}
 use Rattle.dl_source.specs.Answer.{entry_at, found, found_in}

@@ -2,12 +2,12 @@
 use Rattle.std.specs.Prelude.{ℕ, List, [], ◌∷◌, map, codes, Option, Some, None, Result, Ok, Err, bytes_eq, ok_or}
 use Rattle.std.specs.Option.{option_or}
 use Rattle.std.specs.Map.{lookup}
-use Rattle.dl_desk.specs.Key.{Key}
-use Rattle.dl_desk.specs.declared.outcome.Outcome.{Outcome}
-use Rattle.dl_desk.specs.declared.outcome.Outcome.TheVariants.{Value, KeyError}
+use Rattle.dl_values.specs.Key.{Key}
+use Rattle.dl_values.specs.declared.outcome.Outcome.{Outcome}
+use Rattle.dl_values.specs.declared.outcome.Outcome.TheVariants.{Value, KeyError}
 use Rattle.dl_source.specs.Listing.{Listing, NamedTables}
-use Rattle.dl_desk.specs.declared.outcome.BatchAnswer.{BatchAnswer}
-use Rattle.dl_desk.specs.declared.outcome.BatchAnswer.TheVariants as batch
+use Rattle.dl_values.specs.declared.outcome.BatchAnswer.{BatchAnswer}
+use Rattle.dl_values.specs.declared.outcome.BatchAnswer.TheVariants as batch
 use Rattle.dl_source.specs.declared.tables.Entry.{Entry}
 use Rattle.dl_source.specs.declared.tables.Entry.TheVariants.{Row, Error, Break}
 

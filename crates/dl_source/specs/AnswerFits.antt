@@ -1,8 +1,8 @@
 -- The tables' answer has as many outcomes as there are keys.
 use Rattle.std.specs.Prelude.{◌≡◌, ℕ, List, Option, Some, None, length}
 use Rattle.std.proofs.lemmas.List.{length-map}
-use Rattle.dl_desk.specs.Key.{Key}
-use Rattle.dl_desk.specs.declared.outcome.Outcome.{Outcome}
+use Rattle.dl_values.specs.Key.{Key}
+use Rattle.dl_values.specs.declared.outcome.Outcome.{Outcome}
 use Rattle.dl_source.specs.Listing.{NamedTables}
 use Rattle.dl_source.specs.Source.{IsFor}
 use Rattle.dl_source.specs.Answer.{answer_of, first_break, outcomes_of, outcome_of, found, unless}

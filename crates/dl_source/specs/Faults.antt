@@ -3,7 +3,7 @@ use Rattle.std.specs.Prelude.{◌≡◌, ◌⊎◌, ℕ, ◌<◌, ◌&&◌, ◌|
 use Rattle.std.specs.List.{list_any}
 use Rattle.serde_json.specs.Data.{Data}
 use Rattle.serde_json.specs.Written.{has_float}
-use Rattle.dl_desk.specs.Key.{table_bytes, id_bytes}
+use Rattle.dl_values.specs.Key.{table_bytes, id_bytes}
 use Rattle.dl_source.specs.declared.tables.Entry.{Entry}
 use Rattle.dl_source.specs.declared.tables.Entry.TheVariants.{Row, Error, Break}
 use Rattle.dl_source.specs.declared.fault.TableFault.{TableFault}

@@ -1,6 +1,6 @@
 -- What a job that was fetched consists of.
-use Rattle.dl_desk.specs.declared.reply.Job.{Job}
-use Rattle.dl_desk.specs.declared.outcome.BatchAnswer.{BatchAnswer}
+use Rattle.dl_values.specs.declared.job.Job.{Job}
+use Rattle.dl_values.specs.declared.outcome.BatchAnswer.{BatchAnswer}
 use Rattle.dl_source.specs.declared.source.Source.{Ghosts}
 use Rattle.dl_source.specs.declared.fetched.Fetched.{Fetched}
 

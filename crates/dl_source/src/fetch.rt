@@ -5,7 +5,7 @@ ghost use Rattle.dl_source.specs.Fetched.{source_of, job_of};
 
 use crate::fetched::Fetched;
 use crate::source::Source;
-use dl_desk::Job;
+use dl_values::Job;
 use std::alloc::{AllocError, Global};
 
 /// Asks the source for the job's keys.

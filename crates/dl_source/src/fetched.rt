@@ -3,7 +3,7 @@
 ghost use Rattle.std.specs.Prelude.{◌≡◌};
 
 use crate::source::Source;
-use dl_desk::{BatchAnswer, FetchKey, Job};
+use dl_values::{BatchAnswer, FetchKey, Job};
 
 /// A job and what its source answered to the job's keys; [`fetch_job`](crate::fetch_job) makes one.
 /// The type keeps that the answer is the source's own.

@@ -9,7 +9,7 @@ mod reading;
 mod source;
 mod tables;
 
-pub use dl_desk::BatchAnswer;
+pub use dl_values::BatchAnswer;
 pub use fault::TableFault;
 pub use fetch::fetch_job;
 pub use fetched::Fetched;

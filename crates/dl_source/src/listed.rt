@@ -8,7 +8,7 @@ ghost use Rattle.dl_source.specs.Faults.{is_sized, has_bad_id, is_long, is_not_w
 
 use crate::reading::TEXT_BYTES;
 use crate::tables::Entry;
-use dl_desk::{ID_BYTES, Json, Message, TABLE_BYTES, has_float};
+use dl_values::{ID_BYTES, Json, Message, TABLE_BYTES, has_float};
 use serde_json::Value;
 use std::alloc::{AllocError, Global};
 use std::marker::Model;

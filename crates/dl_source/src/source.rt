@@ -1,11 +1,11 @@
 //! What a source is.
 
 ghost use Rattle.std.specs.Prelude.{◌≡◌, List, IfOk};
-ghost use Rattle.dl_desk.specs.Key.{Key};
-ghost use Rattle.dl_desk.specs.declared.outcome.BatchAnswer.{BatchAnswer};
+ghost use Rattle.dl_values.specs.Key.{Key};
+ghost use Rattle.dl_values.specs.declared.outcome.BatchAnswer.{BatchAnswer};
 ghost use Rattle.dl_source.specs.Source.{IsFor};
 
-use dl_desk::{BatchAnswer, FetchKey};
+use dl_values::{BatchAnswer, FetchKey};
 use std::alloc::{AllocError, Global};
 
 /// Where outcomes come from. A source answers by one function of the keys: asked twice, it answers

@@ -10,7 +10,7 @@ use crate::fault::TableFault;
 use crate::listed::{ListedEntry, ListedTable};
 use crate::reading::{content_fault, read_tables, repeats_name};
 use crate::source::Source;
-use dl_desk::{BatchAnswer, FetchKey, Json, Message, Outcome, Outcomes};
+use dl_values::{BatchAnswer, FetchKey, Json, Message, Outcome, Outcomes};
 use indexmap::IndexMap;
 use serde_json::Value;
 use std::alloc::{AllocError, Global};

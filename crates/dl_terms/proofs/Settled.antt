@@ -1,8 +1,8 @@
 -- A term has an answer exactly where none of its loads waits.
 use Rattle.std.proofs.Common.{◌≡◌, ◌≢◌, ap, sym, subst, refl, List, [], ◌∷◌, ◌++◌, Option, Some, None}
 use Rattle.std.specs.Option.{option_map, option_and_then}
-use Rattle.dl_desk.specs.Key.{Key}
-use Rattle.dl_desk.specs.declared.outcome.Outcome.{Outcome}
+use Rattle.dl_values.specs.Key.{Key}
+use Rattle.dl_values.specs.declared.outcome.Outcome.{Outcome}
 use Rattle.dl_terms.specs.declared.answer.Answer.{Answer}
 use Rattle.dl_terms.specs.Tree.{Tree, ended, load, pick, follow, each, all, Trees, no_trees, tree}
 use Rattle.dl_terms.specs.Gives.{loaded, picked, gathered, both, load_waits_for, waits_after, firsts, Target, target_in, target_answer, target_answers}

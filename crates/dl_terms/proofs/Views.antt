@@ -2,7 +2,7 @@
 use Rattle.std.proofs.Common.{◌≡◌, rules}
 use Rattle.std.specs.Prelude.{ℕ, Vec, Box}
 use Rattle.std.specs.declared.alloc.Global.{Global}
-use Rattle.dl_desk.specs.Key.{Key}
+use Rattle.dl_values.specs.Key.{Key}
 use Rattle.dl_terms.specs.declared.answer.Answer.{Answer}
 use Rattle.dl_terms.specs.declared.node.Node.{Node, the_lemmas}
 use Rattle.dl_terms.specs.declared.node.Node.TheVariants as form

@@ -2,7 +2,7 @@
 use Rattle.std.specs.Prelude.{◌≡◌, ℕ, ◌≤◌, ◌↔◌, [], None, All}
 use Rattle.std.specs.List.{IsDistinct}
 use Rattle.indexmap.specs.IndexSet.{insert_all}
-use Rattle.dl_desk.specs.Key.{key_eq}
+use Rattle.dl_values.specs.Key.{key_eq}
 use Rattle.dl_terms.specs.declared.answer.Answer.{Answer}
 use Rattle.dl_terms.specs.Tree.{Tree, depth_of}
 use Rattle.dl_terms.specs.Gives.{Pairs, outcome_in, waits, gives, frontier}

@@ -1,7 +1,7 @@
 -- What a term gives, as a relation: by which rule each form gives which answer (Haxl).
 use Rattle.std.specs.Prelude.{◌≡◌, List, [], ◌∷◌, Some}
-use Rattle.dl_desk.specs.Key.{Key}
-use Rattle.dl_desk.specs.declared.outcome.Outcome.{Outcome}
+use Rattle.dl_values.specs.Key.{Key}
+use Rattle.dl_values.specs.declared.outcome.Outcome.{Outcome}
 use Rattle.dl_terms.specs.declared.answer.Answer.{Answer}
 use Rattle.dl_terms.specs.declared.answer.Answer.TheVariants.{Fault}
 use Rattle.dl_terms.specs.Tree.{Tree, ended, load, pick, follow, each, all, Trees, no_trees, tree}

@@ -1,6 +1,6 @@
 -- What a term is: its six forms, with an answer in the place of a value, and its depth and height.
 use Rattle.std.specs.Prelude.{ℕ, ◌+◌, max, List}
-use Rattle.dl_desk.specs.Key.{Key}
+use Rattle.dl_values.specs.Key.{Key}
 use Rattle.dl_terms.specs.declared.answer.Answer.{Answer}
 
 -- the name of a field or a table

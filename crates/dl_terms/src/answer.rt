@@ -1,6 +1,6 @@
 //! What the evaluation of a term ends with.
 
-use dl_desk::{BatchFault, FetchKey, Json, Message};
+use dl_values::{BatchFault, FetchKey, Json, Message};
 
 /// What the evaluation of a term ends with.
 #[derive(Debug, Drop)]

@@ -3,7 +3,7 @@
 ghost use Rattle.std.specs.Prelude.{◌≡◌, Some, None, IfOk, OnOk, IsSome, is_some, option_map};
 ghost use Rattle.std.specs.List.{list_all};
 ghost use Rattle.serde_json.specs.View.{view};
-ghost use Rattle.dl_desk.specs.Key.{key_eq};
+ghost use Rattle.dl_values.specs.Key.{key_eq};
 ghost use Rattle.indexmap.specs.IndexSet.{insert_all};
 ghost use Rattle.dl_terms.specs.Gives.{picked, gathered, waits, all_wait, waits_after, target_in, target_waits, targets_in, targets_waits};
 ghost use Rattle.dl_terms.specs.Node.{node_view, nodes_view, result_of, results_of};
@@ -15,7 +15,7 @@ ghost use Rattle.dl_terms.specs.declared.answer.Answer.TheVariants as answer;
 use crate::answer::{Answer, EvalFault};
 use crate::node::{HOLLOW, Node};
 use crate::target::{Known, Wanted, load, load_id, load_ids};
-use dl_desk::{Json, Text};
+use dl_values::{Json, Text};
 use serde_json::Value;
 use std::alloc::{AllocError, Global};
 use std::mem;

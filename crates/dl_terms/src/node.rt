@@ -6,7 +6,7 @@ ghost use Rattle.dl_terms.specs.Node.{node_view, nodes_view, result_of};
 
 use crate::answer::{Answer, EvalFault};
 use crate::term::Term;
-use dl_desk::{FetchKey, Text};
+use dl_values::{FetchKey, Text};
 use std::alloc::{AllocError, Global};
 use std::mem;
 

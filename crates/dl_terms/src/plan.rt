@@ -1,7 +1,7 @@
 //! Plans: what a request does, step by step.
 
 use crate::term::Term;
-use dl_desk::{FetchKey, Outcome};
+use dl_values::{FetchKey, Outcome};
 
 /// The most plans that are served at once.
 pub const MOST_PLANS: usize = 16;

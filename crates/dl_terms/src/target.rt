@@ -2,7 +2,7 @@
 
 ghost use Rattle.std.specs.Prelude.{◌≡◌, IfOk, OnOk, map, option_map};
 ghost use Rattle.serde_json.specs.View.{view, items_view};
-ghost use Rattle.dl_desk.specs.Key.{key_eq};
+ghost use Rattle.dl_values.specs.Key.{key_eq};
 ghost use Rattle.indexmap.specs.IndexSet.{insert_all};
 ghost use Rattle.dl_terms.specs.Gives.{loaded, value_target, target_waits, item_targets, each_target_waits, load_waits, Target};
 ghost use Rattle.dl_terms.specs.Node.{node_view, nodes_view};
@@ -11,7 +11,7 @@ ghost use Rattle.dl_terms.specs.Inside.Exploring.{LoadsTarget, LoadsEach, target
 
 use crate::answer::{Answer, EvalFault};
 use crate::node::Node;
-use dl_desk::{FetchKey, KeyFault, Outcome, Text};
+use dl_values::{FetchKey, KeyFault, Outcome, Text};
 use indexmap::{IndexMap, IndexSet};
 use serde_json::Value;
 use std::alloc::{AllocError, Global};

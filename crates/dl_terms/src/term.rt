@@ -4,7 +4,7 @@ ghost use Rattle.std.specs.Prelude.{◌≡◌, ◌-◌, ◌^◌, min};
 ghost use Rattle.dl_terms.specs.Tree.{depth_of, height_of};
 ghost use Rattle.dl_terms.specs.View.{term_view};
 
-use dl_desk::{FetchKey, Json, Text};
+use dl_values::{FetchKey, Json, Text};
 
 /// What to load, and how to go on from what was loaded (Haxl: a computation of `Done` and
 /// `Blocked`).

@@ -1,7 +1,7 @@
 -- What one step of a seat makes of its traffic.
 use Rattle.std.proofs.Common.{◌≡◌, ◌+◌, List, [], ◌∷◌, ◌++◌, length, ap, ◌∙◌, length-append, Result, Ok, Err, MatchResult, arith}
 use Rattle.std.proofs.lemmas.List.{append-nil}
-use Rattle.dl_desk.specs.declared.reply.Job.{Job}
+use Rattle.dl_values.specs.declared.job.Job.{Job}
 use Rattle.dl_workers.specs.Lossless.{traffic, jobs}
 use Rattle.dl_workers.specs.declared.rule.Item.TheVariants.{Work, End}
 use Rattle.dl_workers.specs.declared.rule.Traffic.{Traffic}

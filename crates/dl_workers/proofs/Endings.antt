@@ -1,7 +1,7 @@
 -- Ends of jobs, one after another.
 use Rattle.std.proofs.Common.{◌≡◌, ◌∙◌, sym, subst, refl, ◌<◌, List, [], ◌∷◌, ◌++◌, length, map, take}
 use Rattle.std.proofs.lemmas.List.{map-id}
-use Rattle.dl_desk.specs.declared.reply.Job.{Job}
+use Rattle.dl_values.specs.declared.job.Job.{Job}
 use Rattle.dl_loader.specs.Pass.{Part}
 use Rattle.dl_history.specs.Service.{Service}
 use Rattle.dl_workers.specs.Ending.{WasEnded, WereEnded, WereEndedBefore}

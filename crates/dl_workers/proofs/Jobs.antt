@@ -1,7 +1,7 @@
 -- The jobs among items: the end marks dropped.
 use Rattle.std.proofs.Common.{◌≡◌, Bool, true, false, List, [], ◌∷◌, ◌++◌, cond, length, sym, refl, ap, ◌∙◌, count_by, flat_map, arith}
 use Rattle.std.proofs.lemmas.List.Sums.{sum_by-cons}
-use Rattle.dl_desk.specs.declared.reply.Job.{Job}
+use Rattle.dl_values.specs.declared.job.Job.{Job}
 use Rattle.dl_workers.specs.Bag.{EachAsOften}
 use Rattle.dl_workers.specs.Lossless.{jobs}
 use Rattle.dl_workers.specs.declared.rule.Item.{Item}

@@ -1,7 +1,7 @@
 -- What a worker took and ended, one job more.
 use Rattle.std.proofs.Common.{◌≡◌, ◌∙◌, sym, ap, refl, ℕ, ◌+◌, ◌⊎◌, inl, inr, List, [], ◌∷◌, ◌++◌}
 use Rattle.std.proofs.lemmas.List.{append_assoc, append-nil, length-append}
-use Rattle.dl_desk.specs.declared.reply.Job.{Job}
+use Rattle.dl_values.specs.declared.job.Job.{Job}
 use Rattle.dl_loader.specs.Pass.{Part}
 use Rattle.dl_history.specs.Service.{Service}
 use Rattle.dl_workers.specs.Ending.{WasEnded, WereEnded}

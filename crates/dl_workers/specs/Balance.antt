@@ -1,6 +1,6 @@
 -- What the seats of a finished queue sent and took.
 use Rattle.std.specs.Prelude.{◌≡◌, List, ◌++◌, length, flat_map}
-use Rattle.dl_desk.specs.declared.reply.Job.{Job}
+use Rattle.dl_values.specs.declared.job.Job.{Job}
 use Rattle.dl_workers.specs.Bag.{EachAsOften}
 use Rattle.dl_workers.specs.Seats.{sent_jobs, taken_jobs}
 use Rattle.dl_workers.specs.declared.seats.Sender.{Sender}

@@ -1,8 +1,8 @@
 -- How a caller ends the batch of a job: by what the loader's source answers to the job's keys, or as one that
 -- failed for want of memory.
 use Rattle.std.specs.Prelude.{◌≡◌, ◌⊎◌, ℕ, ◌<◌, List, [], ◌∷◌, length, take, Some}
-use Rattle.dl_desk.specs.declared.outcome.BatchFault.TheVariants.{Memory}
-use Rattle.dl_desk.specs.declared.reply.Job.{Job}
+use Rattle.dl_values.specs.declared.outcome.BatchFault.TheVariants.{Memory}
+use Rattle.dl_values.specs.declared.job.Job.{Job}
 use Rattle.dl_loader.specs.Asks.{end_by}
 use Rattle.dl_loader.specs.Made.{WasMade, WasRefused}
 use Rattle.dl_loader.specs.Pass.{Part}

@@ -1,6 +1,6 @@
 -- Batches that failed without an answer of the source.
 use Rattle.std.specs.Prelude.{ℕ, List, [], ◌∷◌, flat_map}
-use Rattle.dl_desk.specs.declared.outcome.BatchFault.TheVariants.{Memory, Unsent, Source}
+use Rattle.dl_values.specs.declared.outcome.BatchFault.TheVariants.{Memory, Unsent, Source}
 use Rattle.dl_history.specs.declared.event.Call.{Call}
 use Rattle.dl_history.specs.declared.event.Call.TheVariants.{Load, LoadMany, Prime, Clear, ClearAll, Dispatch, Settle, Fail}
 use Rattle.dl_history.specs.declared.event.Event.{Event}

@@ -2,7 +2,7 @@
 use Rattle.std.specs.Prelude.{◌≡◌, ℕ, ◌+◌, ◌<◌, Bool, List, [], ◌∷◌, ◌++◌, sum_by, count_by}
 use mathlib.Core.Option.{some}
 use lib.ListN.{get_elem?}
-use Rattle.dl_desk.specs.declared.reply.Job.{Job}
+use Rattle.dl_values.specs.declared.job.Job.{Job}
 use Rattle.dl_workers.specs.Bag.{EachAsOften}
 use Rattle.dl_workers.specs.declared.rule.Item.{Item}
 use Rattle.dl_workers.specs.declared.rule.Item.TheVariants.{Work, End}

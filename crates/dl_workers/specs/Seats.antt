@@ -2,7 +2,7 @@
 use Rattle.std.specs.Prelude.{◌≡◌, ℕ, ◌+◌, List, [], length, All}
 use Rattle.crossbeam_channel.specs.Claims.{view, IsSeatAt}
 use Rattle.crossbeam_channel.specs.Ends.{sends_on, ruled_capacity}
-use Rattle.dl_desk.specs.declared.reply.Job.{Job}
+use Rattle.dl_values.specs.declared.job.Job.{Job}
 use Rattle.dl_workers.specs.Lossless.{jobs}
 use Rattle.dl_workers.specs.declared.rule.Item.{Item}
 use Rattle.dl_workers.specs.declared.seats.Sender.{Sender}

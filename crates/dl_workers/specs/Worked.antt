@@ -1,6 +1,6 @@
 -- What a fetch worker leaves: the jobs that it took, and the ends that it gave their batches.
 use Rattle.std.specs.Prelude.{◌≡◌, ◌⊎◌, ℕ, List, [], ◌∷◌, ◌++◌, length}
-use Rattle.dl_desk.specs.declared.reply.Job.{Job}
+use Rattle.dl_values.specs.declared.job.Job.{Job}
 use Rattle.dl_loader.specs.Pass.{Part}
 use Rattle.dl_history.specs.Service.{Service}
 use Rattle.dl_workers.specs.Ending.{WereEnded}

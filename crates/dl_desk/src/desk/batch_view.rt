@@ -8,8 +8,8 @@ ghost use Rattle.dl_desk.specs.History.{Atom, held, begun};
 ghost use Rattle.dl_desk.specs.BatchBook.{StandsFor, batch_shown};
 
 use crate::desk::Desk;
-use crate::key::FetchKey;
 use crate::reply::{BatchState, End};
+use dl_values::FetchKey;
 use std::iter::Zip;
 use std::marker::Model;
 use std::slice::Iter;

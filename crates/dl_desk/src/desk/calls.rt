@@ -7,8 +7,8 @@ ghost use Rattle.dl_desk.specs.BatchBook.{StandsFor};
 
 use crate::desk::Desk;
 use crate::fault::DeskFault;
-use crate::key::FetchKey;
-use crate::reply::{DeskPrime, Job, LoadReply};
+use crate::reply::{DeskPrime, LoadReply};
+use dl_values::{FetchKey, Job};
 use std::alloc::{AllocError, Global};
 
 impl Desk {

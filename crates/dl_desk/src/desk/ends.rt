@@ -2,7 +2,7 @@
 
 ghost use Rattle.std.specs.Prelude.{◌≡◌, ◌<◌, ◌∷◌, [], length, List, None, Some, IfOk, OnOk, IfErr, OnErr};
 ghost use Rattle.std.specs.Map.{lookup};
-ghost use Rattle.dl_desk.specs.Key.{key_eq};
+ghost use Rattle.dl_values.specs.Key.{key_eq};
 ghost use Rattle.dl_desk.specs.History.{Atom};
 ghost use Rattle.dl_desk.specs.Calls.{Settles, Fails, refusal, after, ended_so, unfit};
 ghost use Rattle.dl_desk.specs.BatchBook.{StandsFor, batch_shown};

@@ -8,9 +8,9 @@ ghost use Rattle.dl_desk.specs.Ready.{IsReadyFor, IsReplyTo};
 
 use crate::desk::Desk;
 use crate::fault::DeskFault;
-use crate::key::FetchKey;
 use crate::ready::Ready;
 use crate::reply::DeskReply;
+use dl_values::FetchKey;
 use std::alloc::{AllocError, Global};
 
 impl Desk {

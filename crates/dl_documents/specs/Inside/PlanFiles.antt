@@ -6,8 +6,8 @@ use Rattle.serde_json.specs.Data.{Data, array, Items}
 use Rattle.serde_json.specs.Find.{as_array, get}
 use Rattle.serde_json.specs.View.{view, items_of}
 use Rattle.serde_json.specs.declared.value.Value.{Value}
-use Rattle.dl_desk.specs.Limits.{Limits}
-use Rattle.dl_desk.specs.declared.fault.LimitFault.{LimitFault}
+use Rattle.dl_values.specs.Limits.{Limits}
+use Rattle.dl_values.specs.declared.fault.LimitFault.{LimitFault}
 use Rattle.dl_source.specs.Faults as table
 use Rattle.dl_source.specs.Listing.{NamedTables}
 use Rattle.dl_source.specs.Spelling.{Spells as SpellsTables}

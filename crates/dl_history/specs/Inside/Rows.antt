@@ -1,7 +1,7 @@
 -- What holds of the rows of a loader.
 use Rattle.std.specs.Prelude.{◌≡◌}
 use Rattle.dl_cells.specs.Cells.{RowName, row_len}
-use Rattle.dl_desk.specs.Limits.{Limits}
+use Rattle.dl_values.specs.Limits.{Limits}
 
 -- they are the loader's own, with room for all calls and cells that its limits let it have
 pub record AreRows (limits own_limits : Limits) (log outcomes own_log own_outcomes : RowName) : Type 0 where

@@ -3,7 +3,7 @@
 ghost use Rattle.std.specs.Prelude.{◌≡◌, ◌+◌, ◌<◌, ◌≤◌, ◌∷◌, ◌++◌, [], IfOk, OnErr, OnOk, length};
 ghost use Rattle.std.specs.List.{repeat};
 ghost use Rattle.dl_cells.specs.Cells.{cell_of, row_len};
-ghost use Rattle.dl_desk.specs.Limits.{largest_limit};
+ghost use Rattle.dl_values.specs.Limits.{largest_limit};
 ghost use Rattle.dl_history.specs.declared.journal.append.AppendFault.TheVariants.{OutOfMemory};
 ghost use Rattle.dl_history.specs.Entries.{told};
 ghost use Rattle.dl_history.specs.Journal.{AreBlank, waiting};

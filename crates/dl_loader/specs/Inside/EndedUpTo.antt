@@ -1,6 +1,6 @@
 -- How far the cells of a batch's members have got their ends.
 use Rattle.std.specs.Prelude.{◌≡◌, ℕ, ◌<◌, List, length, Some, slice_get}
-use Rattle.dl_desk.specs.Key.{Key}
+use Rattle.dl_values.specs.Key.{Key}
 use Rattle.dl_history.specs.History.{ending_of}
 use Rattle.dl_history.specs.Journal.{Cell}
 use Rattle.dl_history.specs.Kept.{ShowsEnd}

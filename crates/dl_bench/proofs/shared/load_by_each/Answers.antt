@@ -7,8 +7,8 @@ use denote.Struct.Tuple.{TupleAt}
 use denote.Param.Send.{param_sync, arg_sync, shr_sync, shr_slice_sync}
 use Rattle.std.proofs.Crossing.{sync}
 use Rattle.std.specs.contracts.alloc.Global as Heap
-use Rattle.dl_desk.specs.contracts.key.FetchKey as FetchKey
-use Rattle.dl_desk.proofs.key.FetchKey.TheSendSync as key
+use Rattle.dl_values.specs.contracts.key.FetchKey as FetchKey
+use Rattle.dl_values.proofs.key.FetchKey.TheSendSync as key
 use Rattle.dl_loader.proofs.Captured.{captures_sync}
 use Rattle.dl_loader.proofs.Crossing.{Loader-sync}
 use Rattle.dl_loader.specs.contracts.loader.Loader as Loader

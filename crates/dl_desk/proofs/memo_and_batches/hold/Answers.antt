@@ -1,6 +1,6 @@
 use Rattle.std.proofs.Common.{◌∙◌, rules}
 use Rattle.indexmap.proofs.CallerLemmas.{insert_entry-new}
-use Rattle.dl_desk.specs.Key.{key_eq}
+use Rattle.dl_values.specs.Key.{key_eq}
 use Rattle.dl_desk.proofs.memo_and_batches.hold.Goals as goal
 
 pub returns-in-Vacant-clause-noted : goal.returns-in-Vacant-clause-noted

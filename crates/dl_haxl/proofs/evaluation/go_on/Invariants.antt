@@ -5,8 +5,8 @@ use Rattle.dl_terms.specs.Tree.{Tree}
 use Rattle.dl_haxl.specs.Pairs.{all_show}
 use Rattle.dl_haxl.specs.Run.{IsRunOf}
 use Rattle.dl_haxl.specs.Seen.{seen}
-use Rattle.dl_haxl.specs.Stretch.{AddsAndSends, Rounds, SentMore}
-use Rattle.dl_haxl.proofs.Stretched.{with_supplied}
+use Rattle.dl_haxl.specs.Rounds.{AddsAndSends, Rounds, SentMore}
+use Rattle.dl_haxl.proofs.EvaluationMade.{with_supplied}
 use Rattle.dl_haxl.proofs.evaluation.go_on.Given as goal
 
 abbrev pub invariant-loop : goal.invariant-loop

@@ -2,7 +2,7 @@ use Rattle.std.proofs.Common.{◌≡◌, ◌∙◌, ap, sym, subst, ◌<◌, len
 use Rattle.std.specs.Map.{lookup}
 use Rattle.std.proofs.lemmas.List.Elements.{recursion_from_All}
 use Rattle.indexmap.proofs.CallerLemmas.{insert_entry-new}
-use Rattle.dl_desk.specs.Key.{key_eq}
+use Rattle.dl_values.specs.Key.{key_eq}
 use Rattle.dl_terms.specs.Gives.{outcome_in}
 use Rattle.dl_terms.specs.Reduces.{pairs_of}
 use Rattle.dl_haxl.specs.Pairs.{Later, all_show, outcomes_shown}

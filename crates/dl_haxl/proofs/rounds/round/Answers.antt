@@ -9,7 +9,7 @@ use Rattle.dl_loader.specs.Added.{Grows}
 use Rattle.dl_loader.proofs.AddedLemmas.{grows_after}
 use Rattle.dl_haxl.specs.Pairs.{all_show, outcomes_shown}
 use Rattle.dl_haxl.specs.Reads.{GaveFresh, Reads}
-use Rattle.dl_haxl.specs.Stretch.{AddsAndSends, Round}
+use Rattle.dl_haxl.specs.Rounds.{AddsAndSends, Round}
 use Rattle.dl_haxl.proofs.Reading.{reply_of, reads_shown}
 use Rattle.dl_haxl.proofs.RoundMade.{Steps, made_grows, two_grow, round_made, round_front, still_gave, none_sent, on_err}
 use Rattle.dl_haxl.proofs.rounds.round.Goals as goal

@@ -1,6 +1,6 @@
 -- What was written, with the lines of the calls that are left, is the script's text.
 use Rattle.std.proofs.Common.{drop, string_bytes}
-use Rattle.dl_desk.specs.Limits.{mixed}
+use Rattle.dl_values.specs.Limits.{mixed}
 use Rattle.dl_plans.specs.Output.{script_text}
 use Rattle.dl_plans.proofs.Scripts.{Answered}
 use Rattle.dl_plans.proofs.script_text.run_script.Given as goal

@@ -3,7 +3,7 @@ use Rattle.std.specs.List.{AllZip}
 use Rattle.std.proofs.lemmas.List.{take_all, drop_all, take_more_set, length-set, get_or-set_other}
 use Rattle.std.proofs.lemmas.Result.{IfOk-from_err}
 use Rattle.indexmap.specs.IndexSet.{insert_all}
-use Rattle.dl_desk.specs.Key.{key_eq}
+use Rattle.dl_values.specs.Key.{key_eq}
 use Rattle.dl_terms.specs.Gives.{waits, all_wait}
 use Rattle.dl_terms.specs.Node.{node_view, nodes_view}
 use Rattle.dl_terms.specs.Reduces.{known_of, Reduces}

@@ -2,7 +2,7 @@
 use Rattle.std.proofs.Common.{◌≡◌, take, drop}
 use Rattle.std.specs.List.{AllZip}
 use Rattle.indexmap.specs.IndexSet.{insert_all}
-use Rattle.dl_desk.specs.Key.{key_eq}
+use Rattle.dl_values.specs.Key.{key_eq}
 use Rattle.dl_terms.specs.Gives.{all_wait}
 use Rattle.dl_terms.specs.Node.{node_view, nodes_view}
 use Rattle.dl_terms.specs.Reduces.{known_of, Reduces}

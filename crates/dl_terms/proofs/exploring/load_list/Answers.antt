@@ -3,7 +3,7 @@ use Rattle.std.specs.Prelude.{Result, Ok, Err, IfOk, OnOk}
 use Rattle.indexmap.specs.IndexSet.{insert_all}
 use Rattle.serde_json.specs.Find.{as_array}
 use Rattle.serde_json.specs.View.{view, items_view}
-use Rattle.dl_desk.specs.Key.{key_eq}
+use Rattle.dl_values.specs.Key.{key_eq}
 use Rattle.dl_terms.specs.declared.answer.Answer.TheVariants.{Fault}
 use Rattle.dl_terms.specs.declared.answer.EvalFault.TheVariants.{TooMany}
 use Rattle.dl_terms.specs.Gives.{Targets, targets_waits, item_targets, list_targets, target_answers, each_target_waits}

@@ -1,6 +1,6 @@
 use Rattle.std.proofs.Common.{◌∙◌, ap, sym, subst}
 use Rattle.indexmap.specs.IndexSet.{insert_all}
-use Rattle.dl_desk.specs.Key.{key_eq}
+use Rattle.dl_values.specs.Key.{key_eq}
 use Rattle.dl_terms.specs.Node.{node_view}
 use Rattle.dl_terms.specs.Reduces.{known_of}
 use Rattle.dl_terms.specs.Inside.Exploring.{GoesOn, own_waits}

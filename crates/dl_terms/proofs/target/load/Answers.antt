@@ -1,6 +1,6 @@
 use Rattle.std.proofs.Common.{◌∙◌, ap, sym}
 use Rattle.indexmap.specs.IndexSet.{insert_key, insert_all}
-use Rattle.dl_desk.specs.Key.{key_eq}
+use Rattle.dl_values.specs.Key.{key_eq}
 use Rattle.dl_terms.specs.Tree.{ended}
 use Rattle.dl_terms.specs.Gives.{load_waits_for}
 use Rattle.dl_terms.specs.Reduces.{known_of}

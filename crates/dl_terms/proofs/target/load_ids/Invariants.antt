@@ -3,7 +3,7 @@ use Rattle.std.proofs.Common.{◌≡◌, take, drop}
 use Rattle.std.specs.List.{AllZip}
 use Rattle.indexmap.specs.IndexSet.{insert_all}
 use Rattle.serde_json.specs.View.{view, items_view}
-use Rattle.dl_desk.specs.Key.{key_eq}
+use Rattle.dl_values.specs.Key.{key_eq}
 use Rattle.dl_terms.specs.Gives.{value_target, item_targets, each_target_waits}
 use Rattle.dl_terms.specs.Node.{node_view}
 use Rattle.dl_terms.specs.Reduces.{known_of}

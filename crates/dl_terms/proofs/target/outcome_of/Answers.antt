@@ -1,8 +1,8 @@
 use Rattle.std.proofs.Common.{◌≡◌, ◌∙◌, ap, sym}
 use Rattle.std.specs.Option.{option_map}
 use Rattle.std.specs.Map.{lookup}
-use Rattle.dl_desk.specs.Key.{key_eq}
-use Rattle.dl_desk.proofs.KeyLemmas.{key_eq-same}
+use Rattle.dl_values.specs.Key.{key_eq}
+use Rattle.dl_values.proofs.KeyLemmas.{key_eq-same}
 use Rattle.dl_terms.proofs.Learned.{known_found}
 use Rattle.dl_terms.proofs.target.outcome_of.Goals as goal
 

@@ -1,7 +1,7 @@
 use Rattle.std.proofs.Common.{◌≡◌, ◌∙◌, ap, sym, Ok, None, Bool, ℕ, List, take, cond, map, slice_get, ◌≤◌, ◌++◌, ◌∷◌, [], length, length-append, refl, arith}
 use Rattle.std.specs.Map.{lookup}
 use Rattle.std.proofs.lemmas.Result.{IfOk-from_err}
-use Rattle.dl_desk.specs.Key.{Key, key_eq}
+use Rattle.dl_values.specs.Key.{Key, key_eq}
 use Rattle.dl_desk.specs.History.{has_member}
 use Rattle.dl_desk.specs.BatchBook.{Batch}
 use Rattle.dl_desk.specs.Prepared.{whole, members_of, book_room}

@@ -2,7 +2,7 @@ use Rattle.std.proofs.Common.{◌≡◌, ◌∙◌, ap, sym, true, length, [], �
 use Rattle.std.proofs.lemmas.List.{with_items_is}
 use Rattle.std.specs.Vec.{with_items}
 use Rattle.indexmap.specs.IndexSet.{insert_all}
-use Rattle.dl_desk.specs.Key.{key_eq}
+use Rattle.dl_values.specs.Key.{key_eq}
 use Rattle.dl_terms.specs.Gives.{outcome_in, waits}
 use Rattle.dl_terms.specs.Node.{node_view}
 use Rattle.dl_terms.specs.Reduces.{pairs_of, Reduces}

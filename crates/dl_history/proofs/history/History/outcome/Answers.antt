@@ -1,6 +1,6 @@
 use Rattle.std.proofs.Common.{◌≡◌, ap, subst, Bor, List, option_copied}
 use Rattle.dl_desk.specs.Events.{outcome}
-use Rattle.dl_desk.specs.declared.outcome.Outcome.{Outcome}
+use Rattle.dl_values.specs.declared.outcome.Outcome.{Outcome}
 use Rattle.dl_history.specs.Closed.{Closed, IsClosed}
 use Rattle.dl_history.specs.History.{log}
 use Rattle.dl_history.specs.Kept.{kept}

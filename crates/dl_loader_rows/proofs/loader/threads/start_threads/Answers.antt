@@ -6,8 +6,8 @@ use denote.Ref.{ShrRef}
 use denote.Struct.Tuple.{TupleAt, tuple_name}
 use Rattle.std.proofs.Crossing.{send}
 use Rattle.std.specs.contracts.alloc.Global as Heap
-use Rattle.dl_desk.specs.contracts.key.FetchKey as FetchKey
-use Rattle.dl_desk.proofs.key.FetchKey.TheSendSync as key
+use Rattle.dl_values.specs.contracts.key.FetchKey as FetchKey
+use Rattle.dl_values.proofs.key.FetchKey.TheSendSync as key
 use Rattle.dl_loader.specs.contracts.loader.Loader as Loader
 use Rattle.dl_loader.specs.contracts.pass.Pass as Pass
 use Rattle.dl_loader.specs.contracts.ticket.Ticket as Ticket

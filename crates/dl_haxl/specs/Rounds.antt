@@ -1,9 +1,9 @@
 -- What an evaluation adds to a pass and sends to a queue: rounds, each of a loadMany, a dispatch, ends of jobs and reads.
 use Rattle.std.specs.Prelude.{◌≡◌, ◌≢◌, ◌⊎◌, ℕ, zero, suc, List, [], ◌∷◌, ◌++◌, length, map}
-use Rattle.dl_desk.specs.Key.{Key}
-use Rattle.dl_desk.specs.declared.outcome.Outcome.{Outcome}
-use Rattle.dl_desk.specs.declared.outcome.BatchFault.TheVariants.{Unsent}
-use Rattle.dl_desk.specs.declared.reply.Job.{Job}
+use Rattle.dl_values.specs.Key.{Key}
+use Rattle.dl_values.specs.declared.outcome.Outcome.{Outcome}
+use Rattle.dl_values.specs.declared.outcome.BatchFault.TheVariants.{Unsent}
+use Rattle.dl_values.specs.declared.job.Job.{Job}
 use Rattle.dl_desk.specs.declared.reply.LoadReply.{LoadReply}
 use Rattle.dl_history.specs.Entries.{Line}
 use Rattle.dl_history.specs.Service.{Service}

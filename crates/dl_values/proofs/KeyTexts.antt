@@ -6,9 +6,9 @@ use Rattle.std.proofs.Math.Seq.{take-append_seam, drop-append_seam}
 use Rattle.std.proofs.lemmas.Bool.Decides.{same_from_decides}
 use Rattle.std.proofs.lemmas.Slice.Eq.{bytes_eq-Decides}
 use Rattle.std.proofs.lemmas.Str.{IsCharBoundary-at_seam, IsUtf8-append}
-use Rattle.dl_desk.specs.Key.{Key, IsKey, key_eq}
-use Rattle.dl_desk.specs.Inside.KeyText.{marked, unmarked, IsMarked}
-use Rattle.dl_desk.proofs.KeyLemmas.{key_eq-refl, key_eq-same}
+use Rattle.dl_values.specs.Key.{Key, IsKey, key_eq}
+use Rattle.dl_values.specs.Inside.KeyText.{marked, unmarked, IsMarked}
+use Rattle.dl_values.proofs.KeyLemmas.{key_eq-refl, key_eq-same}
 
 -- the text of a key tells it
 pub unmarked_marked : (k : Key) → unmarked (marked k) ≡ k

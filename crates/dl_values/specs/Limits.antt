@@ -1,8 +1,8 @@
 -- The limits of a loader, and how its batches are made.
 use Rattle.std.specs.Prelude.{◌≡◌, ℕ, ◌<◌, ◌≤◌, ◌⊎◌, List, Option, Some, None, unwrap_or, bytes_eq}
 use Rattle.std.specs.Map.{lookup}
-use Rattle.dl_desk.specs.declared.fault.LimitFault.{LimitFault}
-use Rattle.dl_desk.specs.declared.fault.LimitFault.TheVariants.{BatchLimit, CellLimit, CallLimit}
+use Rattle.dl_values.specs.declared.fault.LimitFault.{LimitFault}
+use Rattle.dl_values.specs.declared.fault.LimitFault.TheVariants.{BatchLimit, CellLimit, CallLimit}
 
 -- the limits of a loader: the most members of a batch, the most cells and the most calls
 pub record Limits : Type 0 where

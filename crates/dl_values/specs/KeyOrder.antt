@@ -3,8 +3,8 @@ use Rattle.std.specs.Prelude.{ℕ, List, [], ◌∷◌}
 use Rattle.std.specs.declared.cmp.Ordering.{Ordering}
 use Rattle.std.specs.Ordering.{then_cmp, on, nat_cmp}
 use Rattle.std.specs.Cmp.Lexicographic.{slice_cmp}
-use Rattle.dl_desk.specs.Key.{Key}
-use Rattle.dl_desk.specs.Inside.KeyText.{marked}
+use Rattle.dl_values.specs.Key.{Key}
+use Rattle.dl_values.specs.Inside.KeyText.{marked}
 
 -- keys are ordered by table, and keys of one table by id, each by its bytes
 abbrev pub key_cmp : Key → Key → Ordering

@@ -5,9 +5,9 @@ ghost use Rattle.std.proofs.Common.{rules};
 ghost use Rattle.std.specs.Ordering.{as_partial_cmp};
 ghost use Rattle.std.specs.Cmp.{partial_order_from_own_ties};
 ghost use Rattle.std.specs.Cmp.Rules.{comparing, hashing};
-ghost use Rattle.dl_desk.specs.Key.{IsKey, key_eq};
-ghost use Rattle.dl_desk.specs.KeyOrder.{key_cmp, key_input};
-ghost use Rattle.dl_desk.specs.KeyFaults.{RefusedAs};
+ghost use Rattle.dl_values.specs.Key.{IsKey, key_eq};
+ghost use Rattle.dl_values.specs.KeyOrder.{key_cmp, key_input};
+ghost use Rattle.dl_values.specs.KeyFaults.{RefusedAs};
 
 use crate::fault::KeyFault;
 use crate::text::Text;
@@ -32,8 +32,8 @@ struct KeyText {
 }
 
 impl Model for KeyText {
-    ghost use Rattle.dl_desk.specs.Key.{Key};
-    ghost use Rattle.dl_desk.specs.Inside.KeyText.{marked, unmarked, IsMarked};
+    ghost use Rattle.dl_values.specs.Key.{Key};
+    ghost use Rattle.dl_values.specs.Inside.KeyText.{marked, unmarked, IsMarked};
 
     ghost Value = { Key };
 
@@ -104,7 +104,7 @@ impl Drop for FetchKey {
 }
 
 impl Model for FetchKey {
-    ghost use Rattle.dl_desk.specs.Key.{Key, IsKey};
+    ghost use Rattle.dl_values.specs.Key.{Key, IsKey};
     ghost use Rattle.std.specs.Arc.{arc_value};
 
     ghost Value = { Key };
@@ -243,7 +243,7 @@ impl Drop for Keys {
 impl Model for Keys {
     ghost use Rattle.std.specs.Prelude.{List};
     ghost use Rattle.std.specs.Arc.{arc_value};
-    ghost use Rattle.dl_desk.specs.Key.{Key};
+    ghost use Rattle.dl_values.specs.Key.{Key};
 
     ghost Value = { List Key };
 

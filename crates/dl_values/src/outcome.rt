@@ -93,8 +93,8 @@ impl Drop for Outcomes {
 impl Model for Outcomes {
     ghost use Rattle.std.specs.Prelude.{List};
     ghost use Rattle.std.specs.Coded.{coded_list};
-    ghost use Rattle.dl_desk.specs.declared.outcome.Outcome.{Outcome};
-    ghost use Rattle.dl_desk.specs.contracts.outcome.Outcome as outcome;
+    ghost use Rattle.dl_values.specs.declared.outcome.Outcome.{Outcome};
+    ghost use Rattle.dl_values.specs.contracts.outcome.Outcome as outcome;
 
     ghost Value = { List Outcome };
 

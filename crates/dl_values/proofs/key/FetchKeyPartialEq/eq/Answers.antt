@@ -1,8 +1,8 @@
 -- The joined texts are compared.
 use Rattle.std.proofs.Common.{◌≡◌, ◌∙◌}
-use Rattle.dl_desk.specs.Key.{key_eq}
-use Rattle.dl_desk.proofs.KeyTexts.{marked_eq-is}
-use Rattle.dl_desk.proofs.key.FetchKeyPartialEq.eq.Goals as goal
+use Rattle.dl_values.specs.Key.{key_eq}
+use Rattle.dl_values.proofs.KeyTexts.{marked_eq-is}
+use Rattle.dl_values.proofs.key.FetchKeyPartialEq.eq.Goals as goal
 
 pub returns : goal.returns
 returns c =

@@ -2,7 +2,7 @@
 use Rattle.std.proofs.Common.{◌≡◌, drop}
 use Rattle.serde_json.specs.View.{items_view, members_view}
 use Rattle.serde_json.specs.Written.{items_have_float, members_have_float}
-use Rattle.dl_desk.proofs.json.+whole.Given as goal
+use Rattle.dl_values.proofs.json.+whole.Given as goal
 
 abbrev pub invariant-items_have_float-loop-item : goal.invariant-items_have_float-loop-item
 invariant-items_have_float-loop-item l =

@@ -1,8 +1,8 @@
 -- When a pair of texts is refused as a key.
 use Rattle.std.specs.Prelude.{◌≡◌, ℕ, ◌<◌, ◌≤◌, List, length}
-use Rattle.dl_desk.specs.Key.{IsKey, table_bytes, id_bytes}
-use Rattle.dl_desk.specs.declared.fault.KeyFault.{KeyFault}
-use Rattle.dl_desk.specs.declared.fault.KeyFault.TheVariants.{EmptyTable, TableTooLong, EmptyId, IdTooLong, OutOfMemory}
+use Rattle.dl_values.specs.Key.{IsKey, table_bytes, id_bytes}
+use Rattle.dl_values.specs.declared.fault.KeyFault.{KeyFault}
+use Rattle.dl_values.specs.declared.fault.KeyFault.TheVariants.{EmptyTable, TableTooLong, EmptyId, IdTooLong, OutOfMemory}
 
 -- The fault is the first one that the texts have. Memory runs out only for texts that have none.
 abbrev pub RefusedAs : List ℕ → List ℕ → KeyFault → Type 0

@@ -6,10 +6,10 @@ use Rattle.std.specs.List.{AllByRecursion}
 use Rattle.std.proofs.lemmas.Bool.{and_parts, and_from, cases_lt}
 use Rattle.std.proofs.lemmas.List.{length-map}
 use Rattle.std.proofs.lemmas.List.Elements.{All-from_recursion}
-use Rattle.dl_desk.specs.Key.{Key, key_eq}
-use Rattle.dl_desk.specs.declared.outcome.Outcome.{Outcome}
-use Rattle.dl_desk.specs.declared.reply.Job.{Job}
-use Rattle.dl_desk.proofs.KeyLemmas.{key_eq-refl}
+use Rattle.dl_values.specs.Key.{Key, key_eq}
+use Rattle.dl_values.specs.declared.outcome.Outcome.{Outcome}
+use Rattle.dl_values.specs.declared.job.Job.{Job}
+use Rattle.dl_values.proofs.KeyLemmas.{key_eq-refl}
 use Rattle.dl_history.specs.Entries.{Line}
 use Rattle.dl_history.specs.declared.event.Ending.{Ending}
 use Rattle.dl_loader.specs.Pass.{Part, Hold}
@@ -21,7 +21,7 @@ use Rattle.dl_terms.specs.Rounds.{Gains, Covers, GainsFrontier, PartOf}
 use Rattle.dl_terms.proofs.Settled.{answered}
 use Rattle.dl_haxl.specs.Pairs.{AllLater, all_show, outcomes_shown, paired, with_shown}
 use Rattle.dl_haxl.specs.Run.{Run, IsRunOf, Finishes, Learns, NowWants, Pends, asked_by}
-use Rattle.dl_haxl.specs.Stretch.{AddsAndSends, Round, LastRound, Rounds, Evaluates, SentMore}
+use Rattle.dl_haxl.specs.Rounds.{AddsAndSends, Round, LastRound, Rounds, Evaluates, SentMore}
 use Rattle.dl_haxl.proofs.Explored.{more_known}
 
 -- the pairs of a run once it has learned what its supplied tickets show

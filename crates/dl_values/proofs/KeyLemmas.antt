@@ -4,7 +4,7 @@ use Rattle.std.specs.Str.{bytes_eq}
 use Rattle.std.proofs.lemmas.Bool.{and_parts, and_from}
 use Rattle.std.proofs.lemmas.Cmp.{nat_list_eq_equiv}
 use Rattle.std.proofs.lemmas.Slice.Eq.{bytes_eq-Decides}
-use Rattle.dl_desk.specs.Key.{Key, key_eq}
+use Rattle.dl_values.specs.Key.{Key, key_eq}
 
 pub key_eq-refl : (k : Key) → key_eq k k ≡ true
 key_eq-refl k = and_from (bytes_eq k.table k.table) (bytes_eq k.id k.id) (nat_list_eq_equiv.refl k.table) (nat_list_eq_equiv.refl k.id)

@@ -1,7 +1,7 @@
 -- The two texts of a key as one.
 use Rattle.std.specs.Prelude.{◌≡◌, ℕ, List, [], ◌∷◌, ◌++◌, length, take, drop}
 use Rattle.std.specs.Str.{IsCharBoundary}
-use Rattle.dl_desk.specs.Key.{Key, IsKey}
+use Rattle.dl_values.specs.Key.{Key, IsKey}
 
 -- how many bytes the table has, then the table, then the id
 abbrev pub marked : Key → List ℕ

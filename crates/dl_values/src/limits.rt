@@ -1,7 +1,7 @@
 //! The limits of a loader.
 
 ghost use Rattle.std.specs.Prelude.{◌≡◌, ◌&&◌, nat_le, IfOk, IfErr};
-ghost use Rattle.dl_desk.specs.Limits.{AreLimits, RefusedAs, largest_limit};
+ghost use Rattle.dl_values.specs.Limits.{AreLimits, RefusedAs, largest_limit};
 
 use crate::fault::LimitFault;
 use std::marker::Model;
@@ -19,7 +19,7 @@ pub struct Limits {
 }
 
 impl Model for Limits {
-    ghost use Rattle.dl_desk.specs.Limits.{Limits, AreLimits};
+    ghost use Rattle.dl_values.specs.Limits.{Limits, AreLimits};
 
     ghost Value = { Limits };
 

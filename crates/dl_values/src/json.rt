@@ -26,7 +26,7 @@ impl Drop for Json {
 
 impl Model for Json {
     ghost use Rattle.serde_json.specs.Data.{Data};
-    ghost use Rattle.dl_desk.specs.Inside.Json.{data_code};
+    ghost use Rattle.dl_values.specs.Inside.Json.{data_code};
 
     ghost Value = { Data };
 

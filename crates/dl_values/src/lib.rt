@@ -1,0 +1,23 @@
+//! The values that every crate here speaks of: keys, what their loads end with, jobs, and the limits of a loader.
+//!
+//! A key is two texts, a value is a JSON tree, and each is shared by a copy that allocates nothing. Their contracts see
+//! them as plain lists and trees.
+#![tactic(auto)]
+
+mod fault;
+mod job;
+mod json;
+mod key;
+mod limits;
+mod message;
+mod outcome;
+mod text;
+
+pub use fault::{KeyFault, LimitFault};
+pub use job::Job;
+pub use json::{Json, has_float};
+pub use key::{FetchKey, ID_BYTES, Keys, TABLE_BYTES};
+pub use limits::{LARGEST_LIMIT, Limits};
+pub use message::Message;
+pub use outcome::{BatchAnswer, BatchFault, Outcome, Outcomes};
+pub use text::Text;
