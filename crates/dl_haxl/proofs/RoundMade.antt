@@ -1,6 +1,6 @@
 -- A round from its steps.
 use Rattle.std.proofs.Common.{◌≡◌, ◌∙◌, ap, sym, subst, refl, ℕ, ◌+◌, ◌<◌, ◌≤◌, false, List, [], ◌∷◌, ◌++◌, map, length, Some, arith, append_assoc}
-use Rattle.std.proofs.Common.{rules, Result, Ok, Err, OnErr}
+use Rattle.std.proofs.Common.{rules}
 use Rattle.std.proofs.lemmas.List.{length-map}
 use Rattle.dl_values.specs.Key.{Key}
 use Rattle.dl_values.specs.declared.job.Job.{Job}
@@ -128,10 +128,6 @@ module _ (JobsEnd : ℕ → List Job → List Job → List Line → Type 0) (s :
       let ends = grown_front steps.dispatched steps.ended (third.0, third.1, third.2) in
       let last = grown_front steps.ended new (steps.reads.caller, saws (map reply_of ts) steps.reads.endings, steps.reads.entries) in
       omega (arith, loads, dispatches, ends, last)
-
-pub on_err : {A E P : Type 0} (r : Result A E) → P → OnErr r P
-on_err (Ok x) p = tt
-on_err (Err e) p = p
 
 pub none_sent : (jobs : List Job) → SentMore jobs jobs
 none_sent jobs = ([], search rules)

@@ -1,12 +1,12 @@
 use Rattle.std.proofs.Common.{◌≡◌, ◌∙◌, ap, sym, subst, ◌+◌, ℕ, List, ◌++◌, arith, rules}
 use Rattle.dl_history.specs.Entries.{Line}
+use Rattle.dl_values.proofs.Errors.{on_err}
 use Rattle.dl_values.specs.declared.job.Job.{Job}
 use Rattle.dl_loader.proofs.AddedLemmas.{grows_after}
 use Rattle.dl_haxl.specs.Pairs.{all_show, outcomes_shown, paired}
 use Rattle.dl_haxl.specs.Run.{Finishes, asked_by, wanted_by}
 use Rattle.dl_haxl.specs.Seen.{seen}
 use Rattle.dl_haxl.specs.Rounds.{AddsAndSends, Evaluates, Round, Rounds}
-use Rattle.dl_haxl.proofs.RoundMade.{on_err}
 use Rattle.dl_haxl.proofs.EvaluationMade.{learned_now, rounds_next, rounds_within, run_ends, sent_after, wants_now, with_supplied}
 use Rattle.dl_haxl.proofs.evaluation.go_on.Goals as goal
 

@@ -2,6 +2,7 @@ use Rattle.std.proofs.Common.{◌≡◌, ◌∙◌, ap, sym, subst, length, map,
 use Rattle.std.proofs.lemmas.List.{length-map, with_items_is}
 use Rattle.std.proofs.lemmas.Result.{IfOk-from_err}
 use Rattle.std.specs.Vec.{with_items}
+use Rattle.dl_values.proofs.Errors.{on_err}
 use Rattle.dl_history.specs.Service.{Service}
 use Rattle.dl_history.specs.declared.event.Call.TheVariants.{LoadMany, Dispatch}
 use Rattle.dl_history.specs.declared.event.Reply.TheVariants.{Many, Sent}
@@ -11,7 +12,7 @@ use Rattle.dl_haxl.specs.Pairs.{all_show, outcomes_shown}
 use Rattle.dl_haxl.specs.Reads.{GaveFresh, Reads}
 use Rattle.dl_haxl.specs.Rounds.{AddsAndSends, Round}
 use Rattle.dl_haxl.proofs.Reading.{reply_of, reads_shown}
-use Rattle.dl_haxl.proofs.RoundMade.{Steps, made_grows, two_grow, round_made, round_front, still_gave, none_sent, on_err}
+use Rattle.dl_haxl.proofs.RoundMade.{Steps, made_grows, two_grow, round_made, round_front, still_gave, none_sent}
 use Rattle.dl_haxl.proofs.rounds.round.Goals as goal
 
 pub returns-in_err-tickets : goal.returns-in_err-tickets

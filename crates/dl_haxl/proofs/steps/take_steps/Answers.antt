@@ -1,5 +1,5 @@
 use Rattle.std.proofs.Common.{◌+◌, ◌≤◌, ◌++◌, ◌∷◌, [], length, length-append, arith}
-use Rattle.dl_haxl.proofs.RoundMade.{on_err}
+use Rattle.dl_values.proofs.Errors.{on_err}
 use Rattle.dl_history.specs.Entries.{calls_of}
 use Rattle.dl_haxl.specs.Inside.Taken.{answers_of, rounds_of}
 use Rattle.dl_haxl.proofs.Stretches.{follows_more, gains_grow, gains_same, rounds_few}

@@ -2,6 +2,9 @@ use Rattle.std.proofs.Common.{rules}
 use Rattle.dl_loader.proofs.GivenDues.{due_more}
 use Rattle.dl_loader.proofs.due_endings.dues.Goals as goal
 
+pub new-requires : goal.new-requires
+new-requires c = c.requires c.loop-place.place c.loop-place-test.true
+
 pub loop-place-preserved : goal.loop-place-preserved
 loop-place-preserved c =
     let count = c.loop-place.invariant.count in

@@ -1,6 +1,7 @@
-use Rattle.std.proofs.Common.{◌∙◌, Result, Ok, Err, OnErr, rules}
+use Rattle.std.proofs.Common.{◌∙◌, rules}
 use Rattle.std.proofs.lemmas.Iterator.Adapters.{YieldsList-from_vec}
 use Rattle.std.proofs.lemmas.Iterator.Consumers.{YieldsList-turn, YieldsList-so_far}
+use Rattle.dl_values.proofs.Errors.{on_err}
 use Rattle.dl_history.specs.Service.{Service}
 use Rattle.dl_workers.proofs.Endings.{ended_before, ended_more}
 use Rattle.dl_workers.proofs.ending.end_jobs.Goals as goal
@@ -12,10 +13,6 @@ loop-job-preserved g c = record {
   ended = ended_more _ _ _ _ c.loop-job.yielded c.in-Some.job c.loop-job.invariant.ended c.in_ok-end_job.ensures.ended;
   tickets = c.end_job.ensures.tickets ∙ c.loop-job.invariant.tickets;
 }
-
-on_err : {A E P : Type 0} (r : Result A E) → P → OnErr r P
-on_err (Ok x) p = tt
-on_err (Err e) p = p
 
 pub returns-in_err-end_job-clause-stopped : goal.returns-in_err-end_job-clause-stopped
 returns-in_err-end_job-clause-stopped g c =
