@@ -1,4 +1,5 @@
-//! The sequential loader: keys, outcomes, the memo of held cells, and batches.
+//! The sequential loader: the memo of held cells, and batches. Keys, outcomes and limits are those of `dl_values`, which have
+//! the same names here.
 //!
 //! A [`Desk`] answers each call as a data loader of one thread does. Its contracts speak of the
 //! history of the calls made so far, in the words of `specs/History.antt`.

@@ -1,4 +1,4 @@
-//! The values that every crate here speaks of: keys, what their loads end with, jobs, and the limits of a loader.
+//! The values that every loader here speaks of: keys, what their loads end with, jobs, and limits.
 //!
 //! A key is two texts, a value is a JSON tree, and each is shared by a copy that allocates nothing. Their contracts see
 //! them as plain lists and trees.
