@@ -24,7 +24,8 @@ use dl_source::Source;
 use std::alloc::Global;
 
 /// Makes one event of a pass on the book, and answers its reply and how many cells refused the outcome that
-/// it gave them. This is what each event call does under the lock.
+/// it gave them. This is what each event call does under the lock. Where the event ended a batch, those that wait for a
+/// ticket are woken, and go on once the book is given back.
 ///
 /// # Errors
 /// The first cause of [`CallFault`] that applies, with the ask. The book and the pass are then as they were.
@@ -47,7 +48,12 @@ pub fn event<'a, L: LoaderName, S: Source>(
     let made = make(alloc, &loader.rows, book, pass, &ask);
     book.keeps();
     match made {
-        Ok(made) => Ok(made),
+        Ok(made) => {
+            if matches!(ask, Ask::Settle(_) | Ask::Fail(..)) {
+                loader.wake();
+            }
+            Ok(made)
+        }
         Err(fault) => Err((fault, ask)),
     }
 }

@@ -46,7 +46,7 @@ impl<L: LoaderName> Loader<L> {
         let mut book = self.book.lock(rt);
         match book.make(alloc, &self.rows, pass, &Settle { fetched: &fetched }) {
             Ok((_, settled)) => {
-                self.changed.notify_all();
+                self.wake();
                 Ok(settled)
             }
             Err(fault) => Err((fault, fetched)),
@@ -76,7 +76,7 @@ impl<L: LoaderName> Loader<L> {
         let mut book = self.book.lock(rt);
         match book.make(alloc, &self.rows, pass, &Fail { job: &job, give_up }) {
             Ok((_, settled)) => {
-                self.changed.notify_all();
+                self.wake();
                 Ok(settled)
             }
             Err(fault) => Err((fault, job)),
