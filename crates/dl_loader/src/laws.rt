@@ -1,4 +1,4 @@
-//! One event, made on the locked book, and what all looks of one cell have in common.
+//! One event, made on the locked book, what all looks of one cell have in common, and the laws of histories.
 
 ghost use Rattle.dl_history.specs.Service.{Answers};
 ghost use Rattle.std.specs.Prelude.{◌≡◌, ◌+◌, None, IfErr, IfOk, IfSome, OnErr, OnOk};
@@ -19,6 +19,10 @@ use crate::fault::CallFault;
 use crate::loader::Loader;
 use crate::pass::Pass;
 use crate::ticket::Ticket;
+pub use dl_history::laws::{
+    batches_are_within_limits, ends_stay, events_are_calls, fresh_loads_are_apart,
+    histories_begin_empty,
+};
 use dl_history::{Jobs, LoaderName, Replies, Reply, Rows};
 use dl_source::Source;
 use std::alloc::Global;
