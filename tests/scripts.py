@@ -416,15 +416,18 @@ class Program(Case):
 
     def setUp(self):
         super().setUp()
-        for name in ("program", "documents.py"):
-            self.write(f".ci/{name}", (TOP / ".ci" / name).read_text(), 0o755)
-        with (self.tree / ".ci/documents.py").open("a") as rows:
-            rows.write(ROWS)
+        for name in (".ci/program", ".ci/documents.py", "check_document", "docs/documents.schema.json"):
+            self.write(name, (TOP / name).read_text(), 0o755)
+        self.add_rows(ROWS)
         whole = (TOP / ".ci/program").read_text()
         self.assertEqual(whole.count("LONGEST = 60\n"), 1)
         self.write(".ci/program", whole.replace("LONGEST = 60\n", "LONGEST = 0.5\n"), 0o755)
-        self.write("examples/one.json", '{"script":1}')
+        self.write("examples/one.json", '{"script":1,"calls":[]}')
         self.write("examples/one.out", "fresh 0 0\n")
+
+    def add_rows(self, text):
+        with (self.tree / ".ci/documents.py").open("a") as rows:
+            rows.write(text)
 
     def run_program(self, text):
         """Runs .ci/program over a program with this text."""
@@ -464,6 +467,12 @@ class Program(Case):
 
     def test_tells_a_document_that_is_not_read(self):
         self.fails("#!/usr/bin/env bash\necho 'fresh 0 0'\n", "0 passed, 3 failed", "0 bytes read")
+
+    def test_tells_where_the_checker_says_otherwise(self):
+        self.add_rows("""ROWS["a document that it refuses"] = [answered("three", '{"script":1}', "fresh 0 0")]\n""")
+        self.fails(RIGHT, "3 passed, 1 failed", "three:", "check_document: refused: top")
+        self.write("check_document", (TOP / "check_document").read_text().replace('"refused: version"', '"refused: top"'))
+        self.fails(RIGHT, "2 passed, 2 failed", "[1]:", "check_document: refused: top")
 
     def test_fails_without_a_program(self):
         ran = self.run_program(None)
