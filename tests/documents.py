@@ -1,4 +1,4 @@
-"""What the program `plans` gives for documents and command lines: rows, by what they show. `.ci/program` runs the program on each."""
+"""What the program `plans` gives for documents and command lines: rows, by what they show. `tests/program` runs the program on each."""
 
 from typing import NamedTuple
 
@@ -763,7 +763,7 @@ ROWS["a run ends with its status"] = [
     usage("an unknown option", "--jobs", "unexpected argument '--jobs' found", "Usage: plans"),
     usage("a word too many", "script.json", "unexpected argument 'script.json' found", "Usage: plans"),
     # The byte 255.
-    usage("a word that is no UTF-8", "\udcff", ""),
-    usage("a number that is no UTF-8", "--workers \udcff", ""),
+    usage("a word that is no UTF-8", "\udcff", "invalid UTF-8 was detected in one or more arguments", "Usage: plans"),
+    usage("a number that is no UTF-8", "--workers \udcff", "invalid UTF-8 was detected in one or more arguments", "Usage: plans"),
     Row("an output that takes nothing", LOAD, status=3, error="failed: write\n", is_full=True),
 ]
