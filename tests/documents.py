@@ -1,4 +1,5 @@
-"""What the program `plans` gives for documents and command lines: rows, by what they show. `tests/program` runs the program on each."""
+"""What the program `plans` gives for documents and command lines: rows, by what they show. The program `program` beside this one
+runs it on each."""
 
 from typing import NamedTuple
 
@@ -742,7 +743,7 @@ def usage(about, words, front, *parts):
 ROWS["a run ends with its status"] = [
     answered("a script", LOAD, "fresh 0 0"),
     answered("a script, and all options", LOAD, "fresh 0 0", command_lines=("--batches --workers 16", "--workers=1 --batches")),
-    answered("a number with a plus sign, or with zeros in front", LOAD, "fresh 0 0", command_lines=("--workers +16", "--workers 016")),
+    answered("a number with a plus sign, or a zero in front", LOAD, "fresh 0 0", command_lines=("--workers +16", "--workers 016")),
     Row(
         "help",
         LOAD,
