@@ -1,6 +1,6 @@
-/* A C program that makes the calls of dl_desk.h where a growth is refused: of each call its first growth, then its second, and so on
- * until it meets no refusal. A call that is refused a growth answers DL_OUT_OF_MEMORY or its own answer, and made again its own; and
- * so do all calls behind it. It is linked with refuse.c. It prints each check that fails, and how many passed. */
+/* A C program that makes the calls of dl_desk.h where a growth is refused: of each call its first growth, then its second, and so
+ * on until it meets no refusal. A call that is refused a growth answers DL_OUT_OF_MEMORY or its own answer, and made again its own;
+ * and so do all calls behind it. It is linked with refuse.c. It prints each check that fails, and how many calls passed. */
 #include "dl_desk.h"
 #include "refuse.h"
 
@@ -23,15 +23,13 @@ typedef struct {
     bool grows;
 } call;
 
-static unsigned passed, failed;
+static unsigned faults;
 static long refusals;
 
 static void check(bool holds, const char *what, size_t place, long growth)
 {
-    if (holds) {
-        passed++;
-    } else {
-        failed++;
+    if (!holds) {
+        faults++;
         printf("call %zu, growth %ld: %s\n", place, growth, what);
     }
 }
@@ -171,7 +169,8 @@ static bool make_all(size_t place, long growth)
                 continue;
             }
         }
-        check(is(make(&desk, &CALLS[i]), CALLS[i].own), i == place ? "the answer of the call made again" : "a later answer", i, growth);
+        given = make(&desk, &CALLS[i]);
+        check(is(given, CALLS[i].own), i == place ? "the answer of the call made again" : "a later answer", i, growth);
     }
     return met;
 }
@@ -179,18 +178,24 @@ static bool make_all(size_t place, long growth)
 int main(void)
 {
     bool grew[CLOSE + 1] = {false};
+    unsigned failed = 0;
 
     for (size_t place = 0; place < COUNT; place++) {
+        unsigned before = faults;
         long growth = 1;
         while (make_all(place, growth)) {
             growth++;
         }
         grew[CALLS[place].name] |= growth > 1;
-        check(growth == 1 || CALLS[place].grows, "it takes memory", place, 0);
+        check(growth == 1 || CALLS[place].grows, "it takes memory", place, growth);
+        failed += faults > before;
     }
     for (size_t place = 0; place < COUNT; place++) {
-        check(grew[CALLS[place].name] || !CALLS[place].grows, "no call of this name took memory", place, 0);
+        if (CALLS[place].grows && !grew[CALLS[place].name]) {
+            failed++;
+            printf("call %zu: no growth was refused\n", place);
+        }
     }
-    printf("%ld growths refused\n%u passed, %u failed\n", refusals, passed, failed);
+    printf("%ld growths refused\n%u passed, %u failed\n", refusals, failed < COUNT ? (unsigned)COUNT - failed : 0, failed);
     return failed == 0 ? 0 : 1;
 }

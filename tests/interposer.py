@@ -24,7 +24,8 @@ class Ending(NamedTuple):
 
     def __str__(self):
         status = "it hasn't ended" if self.status is None else f"status {self.status}"
-        return f"{status}, and on standard output and standard error\n{self.output.decode(errors='replace')}{self.error.decode(errors='replace')}"
+        text = (self.output + self.error).decode(errors="replace")
+        return f"{status}, and on standard output and standard error\n{text}"
 
 
 class Interposer:
@@ -38,7 +39,7 @@ class Interposer:
 
     def __enter__(self):
         source = pathlib.Path(__file__).with_name("refuse.c")
-        flags = ["-std=gnu11", "-O2", "-Wall", "-Wextra", "-Werror", "-shared", "-fPIC"]
+        flags = ["-std=c11", "-O2", "-Wall", "-Wextra", "-Werror", "-shared", "-fPIC"]
         subprocess.run(["cc", *flags, "-o", self.library, source], check=True)
         return self
 

@@ -1,6 +1,6 @@
 """Makes calls of the Python class DataLoader where a growth of the library below it is refused: of each call its first growth,
-then its second, and so on until it meets no refusal. A call that is refused a growth raises MemoryError or gives its own answer, and
-made again its own; and so do all calls behind it. The last line counts the calls.
+then its second, and so on until it meets no refusal. A call that is refused a growth raises MemoryError or gives its own answer,
+and made again its own; and so do all calls behind it. The last line counts the calls.
 
 It runs above refuse.c, and says itself which growth is refused: LD_PRELOAD=refuse.so REFUSE_IN=_desk.
 """

@@ -1,10 +1,10 @@
 #!/usr/bin/env python3
-"""Runs the program `plans` that `rt ci` has built, where what it asks of the system is refused in turn: the first growth, then the
-second, and so on until a run meets no refusal; and so each thread, the random numbers, each read and each write, once and with all
-that follow.
+"""Runs the program `plans` that `rt ci` has built, where what it asks of the system is refused in turn: the first growth, then
+the second, and so on until a run meets no refusal; and so each thread, the random numbers, each read and each write, once and with
+all that follow.
 
-A run that met a refusal has to end as ENDS says, and one that met none as if nothing stood below the program. The last line counts
-the sweeps: a document, a command line, and what is refused.
+A run that met a refusal has to end as ENDS says, and one that met none as if nothing stood below the program. The last line
+counts the sweeps: a document, a command line, and what is refused.
 """
 
 import argparse
@@ -170,7 +170,8 @@ def rules_of(case):
     asked = ["GROWTH", "RANDOM", *(["THREAD"] if case.is_served() else [])]
     for with_all_after in (False, True):
         yield from (Rule(kind, with_all_after) for kind in asked)
-        yield from (Rule("READ", with_all_after, error, most) for error in READ_ERRORS for most in (None, 1 + len(case.document) // 4))
+        few = 1 + len(case.document) // 4
+        yield from (Rule("READ", with_all_after, error, most) for error in READ_ERRORS for most in (None, few))
         if case.own.output:
             yield from (Rule("WRITE", with_all_after, error, most) for error in WRITE_ERRORS for most in (None, 100))
 
@@ -188,7 +189,7 @@ def tries():
 
 def main():
     reader = argparse.ArgumentParser(description=__doc__.partition("\n\n")[0])
-    reader.add_argument("--program", type=pathlib.Path, default=PROGRAM, help="the program, if it isn't the one that is built here")
+    reader.add_argument("--program", type=pathlib.Path, default=PROGRAM, help="another program than the one that is built here")
     reader.add_argument("--longest", type=float, default=LONGEST, help="the seconds after which a run is stopped")
     given = reader.parse_args()
     if not given.program.exists():

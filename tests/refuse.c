@@ -1,10 +1,10 @@
 /* Stands below a program (LD_PRELOAD, or linked with it) and refuses what it asks of the system.
  *
  * The environment says what: REFUSE_GROWTH, REFUSE_THREAD, REFUSE_RANDOM, REFUSE_READ or REFUSE_WRITE=n refuses the n-th, counted
- * from 1; with a + behind it, that one and all that follow; and with :e behind that, by the error e. A write that is refused by the
- * error 0 takes nothing. MOST_READ and MOST_WRITE have a read or a write take so many bytes at most. Of reads those of standard input
- * count alone, and of writes those of standard output. REFUSE_IN counts the growths alone that are asked for by an object (the program,
- * or a library) whose file has this in its name. YIELD=s has threads yield or sleep for an instant at growths, as s draws it.
+ * from 1; with a + behind it, that one and all that follow; and with :e behind that, by the error e. By the error 0 a write takes
+ * nothing. MOST_READ and MOST_WRITE have a read or a write take so many bytes at most. Of reads those of standard input count
+ * alone, and of writes those of standard output. REFUSE_IN counts the growths alone that are asked for by a library whose file has
+ * this in its name. YIELD=s has threads yield or sleep for an instant at growths, as s draws it.
  *
  * REFUSE_TOLD is the number of an open file, whose first eight bytes become how many were refused. */
 #define _GNU_SOURCE

@@ -1,6 +1,6 @@
 #!/usr/bin/env python3
-"""Runs the program `plans`, built by `rt ci`, on plan files that are drawn, with as many workers as are drawn, while threads yield or
-sleep at some growths. What it prints is held against evaluation.py.
+"""Runs the program `plans` that `rt ci` has built on plan files that are drawn, by as many workers as are drawn, while its threads
+yield or sleep at growths. What it prints is held against evaluation.py.
 
 What is drawn follows from a seed, which is printed, and from the number of the run; --seed and --only run one again.
 """
@@ -18,12 +18,14 @@ from typing import NamedTuple
 
 sys.dont_write_bytecode = True
 
-from evaluation import LIMIT, Loader, Source, Stop, answers_of, batch_lines, lines_of  # noqa: E402
+from evaluation import LIMIT, Loader, Source, Stop, answers_of, batch_lines, compact, lines_of  # noqa: E402
 from interposer import LONGEST, PROGRAM, Ending, Interposer  # noqa: E402
 
 IDS = ["a", "b", "c", "d", "e", "f", "1", "ü", 'q"\\', "x" * 128]
 NO_IDS = ["", "x" * 129, "é" * 65, 7, None, ["a"], {}]
 FIELDS = ["next", "list", "name", "none", ""]
+FORMS = ["load", "pick", "follow", "follow", "each", "each", "all", "all"]
+LEAVES = ["load", "load", "value"]
 TEXTS = ["", "gone", "line\nfeed", "\u0001\u007f\t\b", "𝄞 ü", "x" * 1_024]
 NUMBERS = [0, -1, 2**53 + 1, 2**64 - 1, -(2**63)]
 
@@ -37,8 +39,8 @@ class Drawn(NamedTuple):
 
 
 class Draw(random.Random):
-    """Draws a plan file. With several plans none depends on what another primes or forgets: what a plan primes is of a table of its own,
-    and then no plan forgets all."""
+    """Draws a plan file. Of several plans none depends on what another primes or forgets: what a plan primes is of a table of its
+    own, and then no plan forgets all."""
 
     def may(self, chance):
         return self.random() < chance
@@ -76,7 +78,7 @@ class Draw(random.Random):
         return [self.choice(tables), self.choice(IDS)]
 
     def term(self, height, tables):
-        form = self.choice(["load", "load", "value"] if height == 1 else ["load", "pick", "follow", "follow", "each", "each", "all", "all"])
+        form = self.choice(FORMS if height > 1 else LEAVES)
         if form == "load":
             return {"load": self.key(tables)}
         if form == "value":
@@ -125,8 +127,8 @@ class Draw(random.Random):
 
 
 class Wanted(NamedTuple):
-    """How a run may end: with these lines, with one of these faults, or both may be. Where a batch of several plans may fail, any answer
-    may be the failure of its batch by one of these texts."""
+    """How a run may end: with these lines, if there are any, or with one of these faults. Where batches of several plans may fail,
+    any answer may be the failure of a batch by one of these texts."""
 
     lines: list[str] | None
     faults: tuple[str, ...] = ()
@@ -163,12 +165,13 @@ def wanted_of_one(file, words):
 
 
 def wanted_of_several(file):
-    """How a file of several plans ends: each answers as it does alone. Its batches may be those of a key each, but that a key breaks its
-    batch."""
+    """How a file of several plans ends: each answers as it does alone, in batches of one key."""
     source = Source(file["tables"])
     loaders = [Loader(source, 1) for _ in file["plans"]]
-    lines = [line for number, plan in enumerate(file["plans"]) for line in lines_of(number, answers_of(loaders[number], plan)[0])]
-    breaks = () if file.get("maxBatchSize") == 1 else tuple(json.dumps(text, ensure_ascii=False) for text in source.breaks())
+    answers = [answers_of(loader, plan)[0] for loader, plan in zip(loaders, file["plans"])]
+    lines = [line for number, given in enumerate(answers) for line in lines_of(number, given)]
+    # In a larger batch a key that breaks it takes others with it.
+    breaks = () if file.get("maxBatchSize") == 1 else tuple(map(compact, source.breaks()))
     # Each load may begin a cell and a batch, where others forget its key.
     most_cells = sum(len(loader.cells) + loader.loads for loader in loaders)
     most_calls = sum(loader.calls + loader.loads for loader in loaders)
@@ -199,7 +202,7 @@ def try_one(interposer, seed, number):
 
 def main():
     reader = argparse.ArgumentParser(description=__doc__.partition("\n\n")[0])
-    reader.add_argument("--program", type=pathlib.Path, default=PROGRAM, help="the program, if it isn't the one that is built here")
+    reader.add_argument("--program", type=pathlib.Path, default=PROGRAM, help="another program than the one that is built here")
     reader.add_argument("--longest", type=float, default=LONGEST, help="the seconds after which a run is stopped")
     reader.add_argument("--runs", type=int, default=400, help="how many runs there are")
     reader.add_argument("--seed", type=int, default=random.SystemRandom().getrandbits(32), help="what the draws follow from")
