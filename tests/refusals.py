@@ -23,8 +23,6 @@ sys.dont_write_bytecode = True
 
 from interposer import LONGEST, PROGRAM, TOP, Ending, Interposer  # noqa: E402
 
-sys.path.append(str(TOP / ".ci"))
-
 from documents import PLAN_FILE, ROWS  # noqa: E402
 
 WORKERS = (("--workers", "1"), ("--workers", "3"), ("--workers", "16"))
