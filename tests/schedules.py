@@ -66,9 +66,9 @@ class Draw(random.Random):
     def table(self, name, has_breaks):
         table = {"name": name, "rows": []}
         for key in self.sample(IDS, len(IDS) - self.choice([0, 0, 1, 1, 5])):
-            if self.may(0.93):
+            if self.may(0.85 if has_breaks else 0.95):
                 table["rows"].append([key, self.row()])
-            elif has_breaks and self.may(0.5):
+            elif has_breaks and self.may(0.7):
                 table.setdefault("breaks", []).append([key, self.choice(TEXTS)])
             else:
                 table.setdefault("errors", []).append([key, self.choice(TEXTS)])
@@ -114,8 +114,8 @@ class Draw(random.Random):
         file = {
             "version": 1,
             "maxBatchSize": self.choice([1, 1, 2, 3, 5, 17, LIMIT]),
-            "maxCells": self.randint(1, 40) if self.may(0.2) else LIMIT,
-            "maxCalls": self.randint(1, 60) if self.may(0.2) else LIMIT,
+            "maxCells": self.randint(1, self.choice([5, 40])) if self.may(0.25) else LIMIT,
+            "maxCalls": self.randint(1, self.choice([8, 60])) if self.may(0.25) else LIMIT,
             "tables": [self.table(name, has_breaks) for name in [*tables, *(["own0"] if self.may(0.6) else [])]],
             "plans": list(self.plans(count, tables)),
         }
