@@ -2,6 +2,7 @@
  * prints each check that fails, and how many passed. */
 #include "dl_desk.h"
 
+#include <malloc.h>
 #include <stdio.h>
 #include <string.h>
 
@@ -40,10 +41,13 @@ static bool sent(dl_dispatched answer, uint32_t first, size_t count)
     return answer.code == DL_DONE && answer.first == first && answer.count == count;
 }
 
+#define SEED_LOW UINT64_C(0x0123456789abcdef)
+#define SEED_HIGH UINT64_C(0xfedcba9876543210)
+
 /* A new desk. A program with keys of strangers takes its seed from getrandom. */
 static void open_desk(dl_desk *desk, uint32_t max_batch, uint32_t max_cells)
 {
-    CHECK(dl_desk_open(desk, max_batch, max_cells, 0x0123456789abcdef, 0xfedcba9876543210) == DL_DONE);
+    CHECK(dl_desk_open(desk, max_batch, max_cells, SEED_LOW, SEED_HIGH) == DL_DONE);
 }
 
 static void a_closed_handle_answers(void)
@@ -90,6 +94,31 @@ static void a_desk_opens_and_closes_once(void)
     CHECK(dl_desk_close(&desk) == DL_CLOSED);
     open_desk(&desk, 1, 1);
     CHECK(is(dl_desk_load(&desk, USER("b")), DL_FRESH, 0, 0));
+    CHECK(dl_desk_close(&desk) == DL_DONE);
+}
+
+/* Whether the memory that an open desk begins with has this number in it. */
+static bool has(const dl_desk *desk, uint64_t number)
+{
+    const uint8_t *memory = desk->held;
+
+    for (size_t at = 0; at + sizeof number <= malloc_usable_size(desk->held); at += sizeof number) {
+        if (memcmp(memory + at, &number, sizeof number) == 0) {
+            return true;
+        }
+    }
+    return false;
+}
+
+/* No answer tells by what a desk hashes, so this looks into its memory. */
+static void a_desk_keeps_both_halves_of_its_seed(void)
+{
+    dl_desk desk = {0};
+
+    open_desk(&desk, 2, 4);
+    CHECK(has(&desk, SEED_LOW));
+    CHECK(has(&desk, SEED_HIGH));
+    CHECK(!has(&desk, SEED_LOW + 1));
     CHECK(dl_desk_close(&desk) == DL_DONE);
 }
 
@@ -255,6 +284,7 @@ int main(void)
 {
     a_closed_handle_answers();
     a_desk_opens_and_closes_once();
+    a_desk_keeps_both_halves_of_its_seed();
     texts_that_are_no_key_are_refused();
     loads_are_batched_once_a_turn();
     a_settled_key_is_held_and_a_failed_one_is_not();

@@ -8,7 +8,8 @@ import tempfile
 import threading
 from typing import NamedTuple
 
-TOP = pathlib.Path(__file__).resolve().parent.parent
+from shared import TOP
+
 PROGRAM = TOP / "crates/plans/out/plans"
 
 # After so many seconds a run is stopped, which takes a few thousandths of one.

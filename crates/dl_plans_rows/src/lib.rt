@@ -1,5 +1,5 @@
 //! Tests of what the program `plans` is made of, where the program itself can't be asked: readers and writers that fail, a growth
-//! that is refused, no random numbers, and what the reference loader prints. `.ci/program` runs the program.
+//! that is refused, no random numbers, and what the reference loader prints. `tests/program` runs the program.
 #![tactic(auto)]
 
 #[cfg(test)]

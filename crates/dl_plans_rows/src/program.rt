@@ -235,7 +235,7 @@ fn is_for_want_of_memory(error: RunError) -> bool {
     }
 }
 
-/// How a run fails that no row of `.ci/documents.py` meets, its line, and the status of the program.
+/// How a run fails that no row of `tests/documents.py` meets, its line, and the status of the program.
 static LINES: [(RunError, &str, u8); 12] = [
     (RunError::Read, "failed: read", 3),
     (RunError::OutOfMemory, "failed: memory", 3),

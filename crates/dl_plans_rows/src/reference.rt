@@ -9,7 +9,7 @@ use std::alloc::Global;
 use std::hash::RandomState;
 use std::process::Abort;
 
-/// Scripts that the program is run on too, by `.ci/program`: what each shows, its document, and the text that it gives.
+/// Scripts that the program is run on too, by `tests/program`: what each shows, its document, and the text that it gives.
 static ROWS: [(&str, &str, &str); 17] = [
     (
         "a second load hits",

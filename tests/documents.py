@@ -1,12 +1,14 @@
-"""What the program `plans` gives for documents and command lines: rows, by what they show. `.ci/program` runs the program on each."""
+"""What the program `plans` gives for documents and command lines: rows, by what they show. The program `program` beside this one
+runs it on each."""
 
 from typing import NamedTuple
 
 
 class Holding(NamedTuple):
-    """A text of another's making, as clap's: it isn't empty, and has this in it."""
+    """A text of clap's making: it begins so, and has these parts in it, in this order."""
 
-    part: str
+    front: str
+    parts: tuple[str, ...]
 
 
 class Row(NamedTuple):
@@ -15,11 +17,10 @@ class Row(NamedTuple):
     about: str
     document: bytes
     command_lines: tuple[str, ...] = ("",)
-    # None: that of a document that isn't refused, 0 or 3.
-    status: int | None = 0
-    # All of standard output and of standard error. None: whatever they are.
-    output: str | Holding | None = ""
-    error: str | Holding | None = ""
+    status: int = 0
+    # All of standard output and of standard error.
+    output: str | Holding = ""
+    error: str | Holding = ""
     # Whether all of the document is read, or nothing of it.
     is_read: bool = True
     # Whether standard output takes nothing.
@@ -35,11 +36,6 @@ def document(*parts):
 def answered(about, text, *lines, **others):
     """The row of a document that gives these lines on standard output, and nothing on standard error."""
     return Row(about, document(text), output="".join(f"{line}\n" for line in lines), **others)
-
-
-def accepted(about, *parts):
-    """The row of a document that isn't refused, whatever it gives."""
-    return Row(about, document(*parts), status=None, output=None, error=None)
 
 
 def refused(line, *parts, about=None):
@@ -263,8 +259,8 @@ def load_of(table, key):
 
 
 ROWS["a call takes keys up to their limits"] = [
-    accepted("a table of 1 byte, an id of 1", *load_of(1, 1)),
-    accepted("a table of 64 bytes, an id of 128", *load_of(64, 128)),
+    answered("a table of 1 byte, an id of 1", document(*load_of(1, 1)), "fresh 0 0"),
+    answered("a table of 64 bytes, an id of 128", document(*load_of(64, 128)), "fresh 0 0"),
     refused("call 0", *load_of(0, 1), about="a table of no bytes"),
     refused("call 0", *load_of(65, 1), about="a table of 65 bytes"),
     refused("call 0", *load_of(1, 0), about="an id of no bytes"),
@@ -553,9 +549,9 @@ ROWS["other steps are refused"] = [
 ]
 
 ROWS["a plan file has limits"] = [
-    accepted("16 plans", '{"version":1,"tables":[],"plans":[', ("[],", 15), "[]]}"),
+    answered("16 plans", document('{"version":1,"tables":[],"plans":[', ("[],", 15), "[]]}")),
     refused("top", '{"version":1,"tables":[],"plans":[', ("[],", 16), "[]]}", about="17 plans"),
-    accepted("256 steps", PLAN, (STEP, 255), LAST),
+    answered("256 steps", document(PLAN, (STEP, 255), LAST)),
     refused("too many steps plan 0", PLAN, (STEP, 256), LAST, about="257 steps"),
     refused("plan 0 step 256", PLAN, (STEP, 256), "5]]}", about="257 steps, of which the last is none"),
     refused(
@@ -576,7 +572,11 @@ ROWS["a plan file has limits"] = [
         "}]]}",
         about="a term of height 33, by all",
     ),
-    accepted("a term of height 32, by pick", TERM, ('{"pick":[', 31), '{"value":1}', (',"f"]}', 31), "}]]}"),
+    answered(
+        "a term of height 32, by pick",
+        document(TERM, ('{"pick":[', 31), '{"value":1}', (',"f"]}', 31), "}]]}"),
+        "0 0 fault NoField",
+    ),
     refused(
         "too deep plan 0 step 0",
         TERM,
@@ -632,7 +632,11 @@ ROWS["a plan file has limits"] = [
         "}]]}",
         about="257 steps, of which the last has a term of height 33",
     ),
-    accepted("an each of a table of 64 bytes", TERM, '{"each":[{"value":1},"f","', ("t", 64), '"]}}]]}'),
+    answered(
+        "an each of a table of 64 bytes",
+        document(TERM, '{"each":[{"value":{"f":["a"]}},"f","', ("t", 64), '"]}}]]}'),
+        f'0 0 fault key ["{"t" * 64}","a"] "no table"',
+    ),
     refused(
         "plan 0 step 0",
         TERM,
@@ -641,7 +645,11 @@ ROWS["a plan file has limits"] = [
         '"]}}]]}',
         about="an each of a table of 65 bytes",
     ),
-    accepted("a follow into a table of 64 bytes", TERM, '{"follow":[{"value":1},"f","', ("t", 64), '"]}}]]}'),
+    answered(
+        "a follow into a table of 64 bytes",
+        document(TERM, '{"follow":[{"value":{"f":"a"}},"f","', ("t", 64), '"]}}]]}'),
+        f'0 0 fault key ["{"t" * 64}","a"] "no table"',
+    ),
     refused(
         "plan 0 step 0",
         TERM,
@@ -650,17 +658,33 @@ ROWS["a plan file has limits"] = [
         '"]}}]]}',
         about="a follow into a table of 65 bytes",
     ),
-    accepted("a load from a table of 64 bytes", TERM, '{"load":["', ("t", 64), '","a"]}}]]}'),
+    answered(
+        "a load from a table of 64 bytes",
+        document(TERM, '{"load":["', ("t", 64), '","a"]}}]]}'),
+        f'0 0 fault key ["{"t" * 64}","a"] "no table"',
+    ),
     refused("plan 0 step 0", TERM, '{"load":["', ("t", 65), '","a"]}}]]}', about="a load from a table of 65 bytes"),
-    accepted("a load of an id of 128 bytes", TERM, '{"load":["t","', ("é", 64), '"]}}]]}'),
+    answered(
+        "a load of an id of 128 bytes",
+        document(TERM, '{"load":["t","', ("é", 64), '"]}}]]}'),
+        f'0 0 fault key ["t","{"é" * 64}"] "no table"',
+    ),
     refused("plan 0 step 0", TERM, '{"load":["t","a', ("é", 64), '"]}}]]}', about="a load of an id of 129 bytes"),
-    accepted("a clear of an id of 128 bytes", PLAN, '{"clear":["t","', ("a", 128), '"]}]]}'),
+    answered("a clear of an id of 128 bytes", document(PLAN, '{"clear":["t","', ("a", 128), '"]}]]}')),
     refused("plan 0 step 0", PLAN, '{"clear":["t","', ("a", 129), '"]}]]}', about="a clear of an id of 129 bytes"),
-    accepted("an error of 1,024 bytes", PLAN, '{"prime":[["t","a"],{"error":"', ("e", 1_024), '"}]}]]}'),
+    answered(
+        "an error of 1,024 bytes",
+        document(PLAN, '{"prime":[["t","a"],{"error":"', ("e", 1_024), '"}]},{"eval":{"load":["t","a"]}}]]}'),
+        f'0 1 fault key ["t","a"] "{"e" * 1_024}"',
+    ),
     refused("plan 0 step 0", PLAN, '{"prime":[["t","a"],{"error":"', ("e", 1_025), '"}]}]]}', about="an error of 1,025 bytes"),
     refused("plan 0 step 0", PLAN, '{"prime":[["t","', ("a", 129), '"],{"value":1}]}]]}', about="a prime of an id of 129 bytes"),
-    accepted("a field of no bytes", TERM, '{"pick":[{"value":{"":1}},""]}}]]}'),
-    accepted("a field of many bytes", TERM, '{"pick":[{"value":1},"', ("f", 5_000), '"]}}]]}'),
+    answered("a field of no bytes", document(TERM, '{"pick":[{"value":{"":1}},""]}}]]}'), "0 0 ok 1"),
+    answered(
+        "a field of many bytes",
+        document(TERM, '{"pick":[{"value":{"', ("f", 5_000), '":1}},"', ("f", 5_000), '"]}}]]}'),
+        "0 0 ok 1",
+    ),
     refused(
         "table BadKey",
         '{"version":1,"maxCalls":0,"plans":[[]],"tables":[{"name":"t","rows":[["',
@@ -699,7 +723,7 @@ ROWS["a refusal tells the place"] = [
 SCRIPT = '{"script":1,"calls":[]}'
 
 ROWS["a document has a most of bytes"] = [
-    accepted("a script of 1,048,576 bytes", SCRIPT, (" ", 1_048_576 - len(SCRIPT))),
+    answered("a script of 1,048,576 bytes", document(SCRIPT, (" ", 1_048_576 - len(SCRIPT)))),
     refused("too large", SCRIPT, (" ", 1_048_577 - len(SCRIPT)), about="a script of 1,048,577 bytes"),
     refused("not json", (" ", 1_048_576), about="1,048,576 spaces"),
     refused("too large", (" ", 1_048_577), about="1,048,577 spaces"),
@@ -718,15 +742,38 @@ ROWS["a front of a document is refused"] = [
 
 LOAD = document('{"script":1,"calls":[{"load":["t","a"]}]}')
 
+
+
+def usage(about, words, front, *parts):
+    """The row of a command line that clap refuses with a text that begins so, and has these parts."""
+    return Row(about, LOAD, (words,), status=2, error=Holding(f"error: {front}", parts), is_read=False)
+
+
 ROWS["a run ends with its status"] = [
     answered("a script", LOAD, "fresh 0 0"),
-    answered("a script, and all options", LOAD, "fresh 0 0", command_lines=("--batches --workers 16",)),
-    Row("help", LOAD, ("--help",), output=Holding(""), is_read=False),
+    answered("a script, and all options", LOAD, "fresh 0 0", command_lines=("--batches --workers 16", "--workers=1 --batches")),
+    answered("a number with a plus sign, or a zero in front", LOAD, "fresh 0 0", command_lines=("--workers +16", "--workers 016")),
+    Row(
+        "help",
+        LOAD,
+        ("--help", "-h", "--batches --help"),
+        output=Holding("", ("Usage: plans", "--workers <N>", "[default: 3]", "--batches", "--help")),
+        is_read=False,
+    ),
     Row("no document", b"", status=1, error="refused: not json\n"),
     Row("no version", b"[1]", ("--workers 1",), status=1, error="refused: version\n"),
-    Row("no workers", LOAD, ("--workers 0",), status=2, error=Holding(""), is_read=False),
-    Row("too many workers", LOAD, ("--workers 17",), status=2, error=Holding("--workers"), is_read=False),
-    Row("an unknown option", LOAD, ("--jobs",), status=2, error=Holding(""), is_read=False),
-    Row("a word too many", LOAD, ("script.json",), status=2, error=Holding(""), is_read=False),
+    usage("no workers", "--workers 0", "invalid value '0' for '--workers <N>'"),
+    usage("too many workers", "--workers 17", "invalid value '17' for '--workers <N>'"),
+    usage("more workers than a number counts", "--workers 4294967297", "invalid value '4294967297' for '--workers <N>'"),
+    usage("workers that are no number", "--workers x", "invalid value 'x' for '--workers <N>'"),
+    usage("workers in part", "--workers 1.0", "invalid value '1.0' for '--workers <N>'"),
+    usage("workers without their number", "--workers", "a value is required for '--workers <N>'"),
+    usage("workers twice", "--workers 1 --workers 1", "the argument '--workers <N>' cannot be used multiple times"),
+    usage("a flag with a value", "--batches=true", "unexpected value 'true' for '--batches'"),
+    usage("an unknown option", "--jobs", "unexpected argument '--jobs' found", "Usage: plans"),
+    usage("a word too many", "script.json", "unexpected argument 'script.json' found", "Usage: plans"),
+    # The byte 255.
+    usage("a word that is no UTF-8", "\udcff", "invalid UTF-8 was detected in one or more arguments", "Usage: plans"),
+    usage("a number that is no UTF-8", "--workers \udcff", "invalid UTF-8 was detected in one or more arguments", "Usage: plans"),
     Row("an output that takes nothing", LOAD, status=3, error="failed: write\n", is_full=True),
 ]
