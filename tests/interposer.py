@@ -8,7 +8,8 @@ import tempfile
 import threading
 from typing import NamedTuple
 
-TOP = pathlib.Path(__file__).resolve().parent.parent
+from shared import TOP
+
 PROGRAM = TOP / "crates/plans/out/plans"
 
 # After so many seconds a run is stopped, which takes a few thousandths of one.
@@ -53,8 +54,8 @@ class Interposer:
         os.pwrite(self.threads.told, bytes(8), 0)
         return self.threads.told
 
-    def run(self, document, words, environment):
-        """Runs the program on a document: how it ends, and how much it was refused."""
+    def run(self, document, words, environment, program=None):
+        """Runs the program, or another one, on a document: how it ends, and how much it was refused."""
         told = self.told()
         with os.fdopen(os.memfd_create("document"), "wb") as given:
             given.write(document)
@@ -62,7 +63,7 @@ class Interposer:
             os.lseek(given.fileno(), 0, os.SEEK_SET)
             try:
                 ran = subprocess.run(
-                    [self.program, *words],
+                    [program or self.program, *words],
                     stdin=given,
                     capture_output=True,
                     timeout=self.longest,
