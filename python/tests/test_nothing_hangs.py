@@ -508,13 +508,14 @@ class OtherLoop(asyncio.SelectorEventLoop):
         self.hidden = thread
 
 
-class Loops(unittest.TestCase):
-    def run_on(self, loop, coroutine):
-        try:
-            return loop.run_until_complete(coroutine)
-        finally:
-            loop.close()
+def run_on(loop, coroutine):
+    try:
+        return loop.run_until_complete(coroutine)
+    finally:
+        loop.close()
 
+
+class Loops(unittest.TestCase):
     def test_a_loop_makes_its_own_futures(self):
         async def batch_load_fn(keys):
             return keys
@@ -527,48 +528,7 @@ class Loops(unittest.TestCase):
             self.assertIsInstance(loader.prime(3, 3).load(3), OtherLoop.Future)
             return await soon(future), await soon(loader.load(1))
 
-        self.assertEqual(self.run_on(OtherLoop(), main()), (1, 1))
-
-    @unittest.skipUnless(hasattr(asyncio, "eager_task_factory"), "this Python has no eager tasks")
-    def test_eager_tasks(self):
-        batches = []
-
-        async def main():
-            asyncio.get_running_loop().set_task_factory(asyncio.eager_task_factory)
-
-            async def batch_load_fn(keys):
-                batches.append(list(keys))
-                return [key if key > 9 else (await loader.load(key + 10)) + 1 for key in keys]
-
-            loader = DataLoader(batch_load_fn)
-            self.assertEqual(await soon(asyncio.gather(loader.load(1), loader.load(2))), [12, 13])
-            self.assertEqual(await soon(loader.load_many([3, 1])), [14, 12])
-            single = DataLoader(batch_load_fn, max_batch_size=1)
-            self.assertEqual(await soon(single.load_many([1, 2])), [12, 13])
-            return await soon(loader.load(9))
-
-        self.assertEqual(self.run_on(asyncio.new_event_loop(), main()), 20)
-        self.assertEqual(batches[0], [1, 2])
-
-    @unittest.skipUnless(hasattr(asyncio, "eager_task_factory"), "this Python has no eager tasks")
-    def test_eager_tasks_join_one_batch(self):
-        batches = []
-
-        async def batch_load_fn(keys):
-            batches.append(list(keys))
-            return keys
-
-        async def main():
-            asyncio.get_running_loop().set_task_factory(asyncio.eager_task_factory)
-            loader = DataLoader(batch_load_fn)
-
-            async def one(key):
-                return await loader.load(key)
-
-            return await soon(asyncio.gather(*map(one, range(5))))
-
-        self.assertEqual(self.run_on(asyncio.new_event_loop(), main()), list(range(5)))
-        self.assertEqual(batches, [list(range(5))])
+        self.assertEqual(run_on(OtherLoop(), main()), (1, 1))
 
     def test_a_loop_that_ends_amid_a_fetch_says_nothing(self):
         reports = []
@@ -587,6 +547,49 @@ class Loops(unittest.TestCase):
         for load in loads:
             self.assertIsInstance(load.exception(), RuntimeError)
         self.assertEqual(reports, [])
+
+
+if sys.version_info >= (3, 12):
+
+    class Eager(unittest.TestCase):
+        def test_eager_tasks(self):
+            batches = []
+
+            async def main():
+                asyncio.get_running_loop().set_task_factory(asyncio.eager_task_factory)
+
+                async def batch_load_fn(keys):
+                    batches.append(list(keys))
+                    return [key if key > 9 else (await loader.load(key + 10)) + 1 for key in keys]
+
+                loader = DataLoader(batch_load_fn)
+                self.assertEqual(await soon(asyncio.gather(loader.load(1), loader.load(2))), [12, 13])
+                self.assertEqual(await soon(loader.load_many([3, 1])), [14, 12])
+                single = DataLoader(batch_load_fn, max_batch_size=1)
+                self.assertEqual(await soon(single.load_many([1, 2])), [12, 13])
+                return await soon(loader.load(9))
+
+            self.assertEqual(run_on(asyncio.new_event_loop(), main()), 20)
+            self.assertEqual(batches[0], [1, 2])
+
+        def test_eager_tasks_join_one_batch(self):
+            batches = []
+
+            async def batch_load_fn(keys):
+                batches.append(list(keys))
+                return keys
+
+            async def main():
+                asyncio.get_running_loop().set_task_factory(asyncio.eager_task_factory)
+                loader = DataLoader(batch_load_fn)
+
+                async def one(key):
+                    return await loader.load(key)
+
+                return await soon(asyncio.gather(*map(one, range(5))))
+
+            self.assertEqual(run_on(asyncio.new_event_loop(), main()), list(range(5)))
+            self.assertEqual(batches, [list(range(5))])
 
 
 class Subclasses(unittest.IsolatedAsyncioTestCase):

@@ -3,7 +3,7 @@
 from __future__ import annotations
 
 import asyncio
-import types
+from collections import deque
 from collections.abc import Awaitable, Callable, Coroutine, Generator, Hashable, Iterable, MutableMapping, Sequence
 from functools import partial
 from typing import Any, Literal, NamedTuple, TypeVar, overload
@@ -19,8 +19,12 @@ Loader = TypeVar("Loader", bound="DataLoader[Any, Any]")
 # The most keys of a batch, and the most cells of a loader.
 LARGEST_LIMIT = 65_536
 
-# The most turns of the event loop that a batch waits for further loads.
-MOST_TURNS = 8
+# The most turns of an event loop that is always busy for which a batch waits, and the most without a load.
+MOST_TURNS = 32
+MOST_QUIET_TURNS = 4
+
+# How many tasks of each event loop wait for its others.
+_waiting: dict[asyncio.AbstractEventLoop, int] = {}
 
 
 class Counters(NamedTuple):
@@ -173,28 +177,48 @@ class DataLoader(Desk[K, V]):
         self._fetch_all(self._send())
 
     async def _send_late(self) -> None:
-        """Sends what is collected after a turn of the event loop that has brought no further load: callers that were a few tasks
-        behind have then made theirs. A batch that is alone is fetched by the same task."""
+        """Sends what is collected once callers that are a few tasks behind have made their loads. A batch that is alone is fetched by
+        the same task."""
         try:
-            await _turn()
-            cells = None
-            turns = 0
-            while cells != self._cells and turns < MOST_TURNS:
-                cells = self._cells
-                turns += 1
-                await _turn()
+            await _NEXT_TURN
+            while self._sender is None:
+                # It is an eager task, within the load that has begun it.
+                await _NEXT_TURN
+            await self._others()
             sender, self._sender = self._sender, None
             batches = self._send()
         except (Exception, asyncio.CancelledError) as fault:
             self._sender = None
             self._abandon(fault)
             raise
-        if len(batches) == 1 and sender is not None:
+        if len(batches) == 1:
             batch, keys = batches[0]
             self._fetches[batch] = sender
             await self._fetch(batch, keys)
         else:
             self._fetch_all(batches)
+
+    async def _others(self) -> None:
+        """Waits until the event loop has nothing ready but what waits here. A loop that is busy with other things is waited for while
+        it brings loads, and for a few turns more."""
+        loop = self._loop
+        ready = getattr(loop, "_ready", None)
+        if not isinstance(ready, deque):
+            # A loop that isn't asyncio's own doesn't tell what it has ready.
+            await _NEXT_TURN
+            return
+        cells, quiet, turns = self._cells, 0, 0
+        while len(ready) > _waiting.get(loop, 0) and quiet < MOST_QUIET_TURNS and turns < MOST_TURNS:
+            _waiting[loop] = _waiting.get(loop, 0) + 1
+            try:
+                await _NEXT_TURN
+            finally:
+                _waiting[loop] -= 1
+                if not _waiting[loop]:
+                    del _waiting[loop]
+            turns += 1
+            quiet = quiet + 1 if self._cells == cells else 0
+            cells = self._cells
 
     def _fetch_all(self, batches: list[tuple[int, list[K]]]) -> None:
         """Begins to fetch each batch."""
@@ -210,7 +234,7 @@ class DataLoader(Desk[K, V]):
 
     async def _fetch_soon(self, batch: int, keys: list[K]) -> None:
         try:
-            await _turn()
+            await _NEXT_TURN
         except asyncio.CancelledError as fault:
             self._fail(batch, fault)
             raise
@@ -243,10 +267,14 @@ class DataLoader(Desk[K, V]):
             raise
 
 
-@types.coroutine
-def _turn() -> Generator[None, None, None]:
-    """Waits for the next turn of the event loop."""
-    yield
+class _Turn:
+    """What is awaited until the next turn of the event loop."""
+
+    def __await__(self) -> Generator[None, None, None]:
+        yield
+
+
+_NEXT_TURN = _Turn()
 
 
 def _check_answer(answer: object) -> None:
