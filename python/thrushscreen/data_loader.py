@@ -23,8 +23,15 @@ LARGEST_LIMIT = 65_536
 MOST_TURNS = 32
 MOST_QUIET_TURNS = 4
 
-# How many tasks of each event loop wait for its others.
-_waiting: dict[asyncio.AbstractEventLoop, int] = {}
+
+class _Senders:
+    """The tasks of an event loop that wait until it has nothing else ready."""
+
+    count = 0
+    may_send = False
+
+
+_senders: dict[asyncio.AbstractEventLoop, _Senders] = {}
 
 
 class Counters(NamedTuple):
@@ -120,7 +127,8 @@ class DataLoader(Desk[K, V]):
         # The task that will send what is collected, where one will, and those that fetch, by their batches.
         self._sender: asyncio.Task[None] | None = None
         self._fetches: dict[int, asyncio.Task[None]] = {}
-        super().__init__(largest if self.batch else 1, max_cells, self.cache, self.get_cache_key, self.cache_map)
+        cache_map = self.cache_map if self.cache else None
+        super().__init__(largest if self.batch else 1, max_cells, self.cache, self.get_cache_key, cache_map)
 
     def __repr__(self) -> str:
         return f"<{type(self).__name__} {self.name!r}>" if self.name is not None else super().__repr__()
@@ -199,26 +207,33 @@ class DataLoader(Desk[K, V]):
             self._fetch_all(batches)
 
     async def _others(self) -> None:
-        """Waits until the event loop has nothing ready but what waits here. A loop that is busy with other things is waited for while
-        it brings loads, and for a few turns more."""
+        """Waits until the event loop has nothing ready but senders, which then all send. A loop that is busy with other things is
+        waited for while it brings loads, and for a few turns more."""
         loop = self._loop
         ready = getattr(loop, "_ready", None)
         if not isinstance(ready, deque):
             # A loop that isn't asyncio's own doesn't tell what it has ready.
             await _NEXT_TURN
             return
+        if not ready and loop not in _senders:
+            return
+        senders = _senders.setdefault(loop, _Senders())
+        senders.count += 1
         cells, quiet, turns = self._cells, 0, 0
-        while len(ready) > _waiting.get(loop, 0) and quiet < MOST_QUIET_TURNS and turns < MOST_TURNS:
-            _waiting[loop] = _waiting.get(loop, 0) + 1
-            try:
+        try:
+            while not senders.may_send and quiet < MOST_QUIET_TURNS and turns < MOST_TURNS:
+                if len(ready) < senders.count:
+                    senders.may_send = True
+                    del _senders[loop]
+                # Those that have waited before send first.
                 await _NEXT_TURN
-            finally:
-                _waiting[loop] -= 1
-                if not _waiting[loop]:
-                    del _waiting[loop]
-            turns += 1
-            quiet = quiet + 1 if self._cells == cells else 0
-            cells = self._cells
+                turns += 1
+                quiet = quiet + 1 if self._cells == cells else 0
+                cells = self._cells
+        finally:
+            senders.count -= 1
+            if not senders.count and _senders.get(loop) is senders:
+                del _senders[loop]
 
     def _fetch_all(self, batches: list[tuple[int, list[K]]]) -> None:
         """Begins to fetch each batch."""
