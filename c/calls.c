@@ -196,7 +196,7 @@ static void a_settled_key_is_held_and_a_failed_one_is_not(void)
     CHECK(dl_desk_fail(&desk, 1) == DL_DONE);
     CHECK(is(dl_desk_held(&desk, USER("a")), DL_HIT, 0, 0));
     CHECK(is(dl_desk_held(&desk, USER("b")), DL_HIT, 1, 0));
-    CHECK(is(dl_desk_held(&desk, USER("c")), DL_FRESH, 0, 0));
+    CHECK(is(dl_desk_held(&desk, USER("c")), DL_NONE, 0, 0));
     CHECK(is(dl_desk_held(&desk, USER("d")), DL_HIT, 4, 0));
     CHECK(is(dl_desk_load(&desk, USER("c")), DL_FRESH, 5, 2));
     CHECK(dl_desk_close(&desk) == DL_DONE);
@@ -212,11 +212,11 @@ static void keys_are_primed_and_cleared(void)
     CHECK(is(dl_desk_load(&desk, USER("a")), DL_HIT, 0, 0));
     CHECK(dl_desk_clear(&desk, USER("b")) == DL_DONE);
     CHECK(dl_desk_clear(&desk, USER("a")) == DL_DONE);
-    CHECK(is(dl_desk_held(&desk, USER("a")), DL_FRESH, 0, 0));
+    CHECK(is(dl_desk_held(&desk, USER("a")), DL_NONE, 0, 0));
     CHECK(is(dl_desk_load(&desk, USER("a")), DL_FRESH, 1, 0));
     CHECK(is(dl_desk_load(&desk, USER("b")), DL_FRESH, 2, 0));
     CHECK(dl_desk_clear_all(&desk) == DL_DONE);
-    CHECK(is(dl_desk_held(&desk, USER("b")), DL_FRESH, 0, 0));
+    CHECK(is(dl_desk_held(&desk, USER("b")), DL_NONE, 0, 0));
     /* A fresh load goes into the batch that is begun, but for one that has the key. */
     CHECK(is(dl_desk_prime(&desk, USER("c")), DL_FRESH, 3, 0));
     CHECK(is(dl_desk_prime(&desk, USER("d")), DL_CELLS_FULL, 0, 0));
