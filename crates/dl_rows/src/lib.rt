@@ -9,6 +9,8 @@ mod comparing;
 #[cfg(test)]
 mod desk;
 #[cfg(test)]
+mod largest;
+#[cfg(test)]
 mod source;
 #[cfg(test)]
 mod terms;
