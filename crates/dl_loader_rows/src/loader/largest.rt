@@ -103,7 +103,8 @@ impl<'a, L: LoaderName, S: Source, R: Abort + Wait> Stage<'a, L, S, R> {
         match load.then {
             Then::Reads => {
                 self.settle_all(pass, jobs);
-                self.read_all(pass, keys);
+                let read = self.read_all(pass, keys);
+                assert!(self.rt; read.is_ok());
             }
             Then::Fills => {
                 self.settle_all(pass, jobs);
@@ -134,13 +135,12 @@ impl<'a, L: LoaderName, S: Source, R: Abort + Wait> Stage<'a, L, S, R> {
     }
 
     /// Loads the keys, whose outcomes are shown, and reads each of them.
-    fn read_all(&self, pass: &mut Pass<L>, keys: &[FetchKey]) {
-        let tickets = self.loader.load_many(self.rt, self.alloc, pass, keys);
-        let tickets = tickets.expect(self.rt, "no loads");
+    fn read_all(&self, pass: &mut Pass<L>, keys: &[FetchKey]) -> Result<(), CallFault> {
+        let tickets = self.loader.load_many(self.rt, self.alloc, pass, keys)?;
         for mut ticket in tickets {
-            let waited = self.loader.wait(self.rt, pass, &mut ticket);
-            assert!(self.rt; waited.is_ok());
+            self.loader.wait(self.rt, pass, &mut ticket)?;
         }
+        Ok(())
     }
 }
 

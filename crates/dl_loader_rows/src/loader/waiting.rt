@@ -36,7 +36,7 @@ pub(super) enum Release {
     EndsByLaw,
     /// It fails the only batch so, by the law.
     GivesUpByLaw,
-    /// It fails the only batch as one for which there was no memory.
+    /// It fails the only batch as one that is out of memory.
     GivesUp,
     /// It stops the loader.
     Stops,
@@ -237,7 +237,7 @@ fn lead<L: LoaderName, S: Source, R: Abort + Wait>(
             end_jobs(rt, alloc, loader, source, pass, jobs).expect(rt, "no end");
         }
         Release::EndsByLaw => settle_by_law(rt, alloc, source, loader, pass),
-        Release::GivesUpByLaw => fail_by_law(rt, alloc, source, loader, pass),
+        Release::GivesUpByLaw => fail_by_law::<L, S, R>(rt, alloc, loader, pass),
         Release::GivesUp => give_up(rt, alloc, loader, pass),
         Release::Stops => loader.stop(rt),
     }
@@ -263,7 +263,6 @@ fn settle_by_law<L: LoaderName, S: Source, R: Abort + Wait>(
 fn fail_by_law<L: LoaderName, S: Source, R: Abort + Wait>(
     rt: &R,
     alloc: Global,
-    _source: &S,
     loader: &Loader<L>,
     pass: &mut Pass<L>,
 ) {
@@ -287,7 +286,7 @@ fn make_by_law<L: LoaderName, S: Source, R: Abort + Wait>(
     assert!(rt; made.is_ok());
 }
 
-/// Sends the only batch, and fails it for want of memory.
+/// Sends the only batch, and fails it as one that is out of memory.
 fn give_up<L: LoaderName, R: Abort + Wait>(
     rt: &R,
     alloc: Global,
