@@ -156,6 +156,7 @@ class Keys(unittest.IsolatedAsyncioTestCase):
     async def test_keys_that_differ_are_several(self):
         batches = []
         keys = ["1", 1, 1.5, b"1", ("1",), (1,), "ints1", "one", "\ud800", "\ud801", -1, -2, 2**61, 2**61 + 1, 2**125, -(2**125), "é", "e\u0301"]
+        keys += ["x" * 128, "x" * 129, "x" * 128 + "y", "é" * 64, "é" * 64 + "y", "0", 0]
         loader = loader_of(batches)
         await loader.load_many(keys)
         self.assertEqual(batches, [keys])

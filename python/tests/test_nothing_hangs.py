@@ -4,9 +4,11 @@
 """
 
 import asyncio
+import gc
 import sys
 import threading
 import unittest
+import weakref
 
 from thrushscreen import Counters, DataLoader, LoaderFull
 
@@ -143,7 +145,7 @@ class Cancelled(unittest.IsolatedAsyncioTestCase):
 
     async def test_a_cancelled_fetch_ends_its_waiters(self):
         """Before its first step, while it collects, before it fetches, and while it fetches."""
-        for count in range(5):
+        for count in range(12):
             for options in ({}, {"max_batch_size": 1}):
                 with self.subTest(turns=count, **options):
                     gated = Gated()
@@ -169,6 +171,53 @@ class Cancelled(unittest.IsolatedAsyncioTestCase):
             self.assertIsInstance(outcome, RuntimeError)
             self.assertIsInstance(outcome.__cause__, asyncio.CancelledError)
         self.assertIsNone(loader.held(1))
+
+
+    async def test_a_fetch_that_is_cancelled_before_its_first_step_ends_its_waiters(self):
+        gated = Gated()
+        sends = []
+        loader = DataLoader(gated, max_batch_size=1, batch_schedule_fn=sends.append)
+        waiters = [loader.load(1), loader.load(2)]
+        sends.pop()()
+        for task in await self.fetches():
+            task.cancel()
+        for outcome in await soon(asyncio.gather(*waiters, return_exceptions=True)):
+            self.assertIsInstance(outcome, RuntimeError)
+        self.assertEqual(gated.batches, [])
+        self.assertIsNone(loader.held(1))
+
+    async def test_waiters_over_a_cache_map_are_apart(self):
+        gated = Gated()
+        cache_map = {}
+        loader = DataLoader(gated, cache_map=cache_map)
+        first, second, third = loader.load(1), loader.load(1), loader.load_many([1, 1])
+        first.cancel()
+        third.cancel()
+        await turns()
+        gated.gate.set()
+        self.assertEqual(await soon(second), "1!")
+        self.assertEqual(await soon(loader.load(1)), "1!")
+        self.assertEqual(cache_map[1].result(), "1!")
+        with self.assertRaises(asyncio.CancelledError):
+            await third
+
+    async def test_a_fetch_goes_on_though_nobody_else_knows_what_it_awaits(self):
+        awaited = []
+
+        async def batch_load_fn(keys):
+            future = asyncio.get_running_loop().create_future()
+            awaited.append(weakref.ref(future))
+            return [await future for _ in keys]
+
+        for options in ({}, {"batch_schedule_fn": lambda send: send()}):
+            loader = DataLoader(batch_load_fn, **options)
+            load = loader.load(1)
+            await turns()
+            gc.collect()
+            future = awaited.pop()()
+            self.assertIsNotNone(future)
+            future.set_result("one")
+            self.assertEqual(await soon(load), "one")
 
 
 class Raised(unittest.IsolatedAsyncioTestCase):
@@ -334,6 +383,50 @@ class Raised(unittest.IsolatedAsyncioTestCase):
         for outcome in others:
             self.assertIsInstance(outcome, OSError)
         self.assertEqual(await soon(loader.load_many(range(4))), list(range(4)))
+
+    async def test_a_cache_map_forgets_the_keys_of_a_failed_batch(self):
+        gate = asyncio.Event()
+        batches = []
+
+        async def batch_load_fn(keys):
+            batches.append(list(keys))
+            if len(batches) == 1:
+                await gate.wait()
+                raise OSError("down")
+            return keys
+
+        cache_map = {}
+        loader = DataLoader(batch_load_fn, cache_map=cache_map)
+        loads = [loader.load(1), loader.load(2)]
+        await turns()
+        self.assertEqual(await soon(loader.clear(2).load(2)), 2)
+        gate.set()
+        for outcome in await soon(asyncio.gather(*loads, return_exceptions=True)):
+            self.assertIsInstance(outcome, OSError)
+        # What was loaded anew stays.
+        self.assertEqual(list(cache_map), [2])
+        self.assertEqual(await soon(loader.load_many([1, 2])), [1, 2])
+        self.assertEqual(batches, [[1, 2], [2], [1]])
+
+    async def test_a_cache_map_that_raises_leaves_the_loader_as_it_was(self):
+        class Full(dict):
+            is_full = True
+
+            def __setitem__(self, key, value):
+                if self.is_full:
+                    raise OSError("no room")
+                super().__setitem__(key, value)
+
+        async def batch_load_fn(keys):
+            return keys
+
+        cache_map = Full()
+        loader = DataLoader(batch_load_fn, cache_map=cache_map)
+        for call in (lambda: loader.load(1), lambda: loader.load_many([1, 2]), lambda: loader.prime(1, 5)):
+            with self.assertRaises(OSError):
+                call()
+        cache_map.is_full = False
+        self.assertEqual(await soon(loader.load_many([1, 2])), [1, 2])
 
     async def test_the_list_of_a_batch_is_the_batch_functions(self):
         async def batch_load_fn(keys):
@@ -590,6 +683,35 @@ if sys.version_info >= (3, 12):
 
             self.assertEqual(run_on(asyncio.new_event_loop(), main()), list(range(5)))
             self.assertEqual(batches, [list(range(5))])
+
+
+class Closed(unittest.TestCase):
+    def test_a_loop_that_is_closed_amid_a_fetch_says_nothing(self):
+        unraisable = []
+
+        async def batch_load_fn(keys):
+            await asyncio.get_running_loop().create_future()
+
+        async def main():
+            loader = DataLoader(batch_load_fn, max_batch_size=1)
+            loads = [loader.load(1), loader.load(2)]
+            for load in loads:
+                load.add_done_callback(lambda _: None)
+            waiting = DataLoader(batch_load_fn)
+            waiting.load(1).add_done_callback(lambda _: None)
+            await turns(count)
+
+        hook, sys.unraisablehook = sys.unraisablehook, unraisable.append
+        try:
+            for count in (0, 1, 9):
+                loop = asyncio.new_event_loop()
+                loop.set_exception_handler(lambda *_: None)
+                run_on(loop, main())
+                del loop
+                gc.collect()
+        finally:
+            sys.unraisablehook = hook
+        self.assertEqual(unraisable, [])
 
 
 class Subclasses(unittest.IsolatedAsyncioTestCase):
