@@ -30,7 +30,8 @@ use Rattle.dl_history.specs.declared.event.Reply.{Reply}
 use Rattle.dl_history.specs.declared.event.Reply.TheVariants.{Loaded, Many as ManyReplies, Primed, Kept, Done, Sent}
 use Rattle.dl_history.specs.Service.{Service}
 use Rattle.dl_history.specs.History.{IsLegal, IsNext, as_made, end_with, ending_of, log, made, primed, reply_to}
-use Rattle.dl_history.specs.Laws.{loads_in, LoadsFresh, Forgets, ForgetsBetween, FreshLoadsAreApart, BatchesAreWithinLimits, EndsStay, EventsAreCalls, HistoriesBeginEmpty}
+use Rattle.dl_history.specs.Laws.{loads_in, LoadsFresh, Forgets, ForgetsBetween, FreshLoadsAreApart, BatchesAreWithinLimits, EndsStay, EventsAreCalls}
+use Rattle.dl_history.specs.Laws.{HistoriesBeginEmpty}
 use Rattle.dl_history.specs.Agrees.{Account, account, Tells, entries_of, places_of}
 use Rattle.dl_history.specs.Closed.{Closed, IsClosed}
 use Rattle.dl_history.specs.Entries.{Line, Called, Saw, Told, told, calls_of}
@@ -79,7 +80,9 @@ IsTold e = (rules : Rules) × (h : List Atom) × (e.reply ≡ reply_to rules h e
 forgets_by : (key : Key) (b : ℕ) (h : List Atom) (rules : Rules) (call : Call)
     → list_any (forgets key (Some b)) (with_made (made call (reply_to rules h call)) []) ≡ true → Forgets key b call
 forgets_by key b h rules (Load k) holds = absurd (let bad : false ≡ true = holds in cc)
-forgets_by key b h rules (LoadMany ks) holds = absurd (let none = loads_forget key (Some b) ks (atom.load_replies rules h ks) [] in let bad : false ≡ true = sym none ∙ holds in cc)
+forgets_by key b h rules (LoadMany ks) holds =
+    let none = loads_forget key (Some b) ks (atom.load_replies rules h ks) [] in
+    absurd (let bad : false ≡ true = sym none ∙ holds in cc)
 forgets_by key b h rules (Prime k o) holds = by (prime_reply h k) holds
   where
     by : (r : DeskPrime) → list_any (forgets key (Some b)) (with_made (made (Prime k o) (primed r)) []) ≡ true → ⊥
@@ -138,7 +141,8 @@ cut_event b rules h (Load k) n key r got = cut_loads key b (k ∷ []) (load_repl
 cut_event b rules h (LoadMany ks) n key r got = cut_loads key b ks (atom.load_replies rules h ks) [] n key r got
 cut_event b rules h (Prime k o) n key r got = by (prime_reply h k) got
   where
-    by : (p : DeskPrime) → slice_get (loads_in (Prime k o) (primed p)) n ≡ Some (key, r) → CutAt key b key r (with_made (made (Prime k o) (primed (prime_reply h k))) []) []
+    by : (p : DeskPrime) → slice_get (loads_in (Prime k o) (primed p)) n ≡ Some (key, r)
+        → CutAt key b key r (with_made (made (Prime k o) (primed (prime_reply h k))) []) []
     by (prime.Primed c) got = absurd (let bad : ◌≡◌ {A = Option (Key × LoadReply)} None (Some (key, r)) = got in cc)
     by prime.Kept got = absurd (let bad : ◌≡◌ {A = Option (Key × LoadReply)} None (Some (key, r)) = got in cc)
 cut_event b rules h (Clear k) n key r got = absurd (let bad : ◌≡◌ {A = Option (Key × LoadReply)} None (Some (key, r)) = got in cc)
@@ -220,7 +224,8 @@ apart : (s : Service) (events : List Event) → IsLegal s events → (key : Key)
 apart s events legal key batch later_batch i j m n first later there there_later load later_load low =
     let cut = split_at events i first there in
     let long = cut.long in
-    by_back cut (rest_at cut (get-append_cases cut.front (first ∷ cut.back) j later (subst (λ (es : List Event). slice_get es j ≡ Some later) cut.is there_later)))
+    let there_cut = subst (λ (es : List Event). slice_get es j ≡ Some later) cut.is there_later in
+    by_back cut (rest_at cut (get-append_cases cut.front (first ∷ cut.back) j later there_cut))
   where
     rest_at : (cut : SplitAt events i first) → ((j < length cut.front) × (slice_get cut.front j ≡ Some later))
         ⊎ ((length cut.front ≤ j) × (slice_get (first ∷ cut.back) (j - length cut.front) ≡ Some later)) → slice_get cut.back (j - suc i) ≡ Some later
@@ -238,11 +243,12 @@ apart s events legal key batch later_batch i j m n first later there there_later
         let told = each_told s events legal in
         let one = cut_at (Some batch) first m key batch (told i first there) load in
         let two = cut_at (Some batch) later n key later_batch (told j later there_later) later_load in
+        let told_later : List Atom = two.later ++ atom.Load key (Fresh later_load.cell later_batch) ∷ (two.before ++ []) in
         let all : told_in events ≡ (told_in rest.back ++ two.later) ++ atom.Load key (Fresh later_load.cell later_batch)
         ∷ ((two.before ++ (told_in rest.front ++ one.later)) ++ atom.Load key (Fresh load.cell batch) ∷ (one.before ++ told_in cut.front)) =
         ap told_in whole ∙ (told_cut cut.front first rest.front later rest.back
         ∙ (ap (λ (xs : List Atom). (((told_in rest.back ++ xs) ++ told_in rest.front) ++ told_of first) ++ told_in cut.front) two.is
-        ∙ (ap (λ (xs : List Atom). (((told_in rest.back ++ (two.later ++ atom.Load key (Fresh later_load.cell later_batch) ∷ (two.before ++ []))) ++ told_in rest.front) ++ xs) ++ told_in cut.front) one.is
+        ∙ (ap (λ (xs : List Atom). (((told_in rest.back ++ told_later) ++ told_in rest.front) ++ xs) ++ told_in cut.front) one.is
         ∙ regroup (told_in rest.back) two.later (atom.Load key (Fresh later_load.cell later_batch)) two.before (told_in rest.front) one.later
         (atom.Load key (Fresh load.cell batch)) one.before (told_in cut.front)))) in
         let holds = between_forget s events key load.cell batch later_load.cell later_batch (told_in rest.back ++ two.later)

@@ -118,7 +118,8 @@ cut_two key b (i ∷ ks) (s ∷ rs) h zero (suc n) k j r q first second low =
       later = cut.later;
       between = cut.before;
       before = h;
-      is = subst (λ (p : Key × LoadReply). with_loads ks rs (atom.Load i s ∷ h) ≡ cut.later ++ atom.Load j q ∷ (cut.before ++ atom.Load p.0 p.1 ∷ h)) same cut.is;
+      is = subst (λ (p : Key × LoadReply). with_loads ks rs (atom.Load i s ∷ h) ≡ cut.later ++ atom.Load j q ∷ (cut.before ++ atom.Load p.0 p.1 ∷ h))
+          same cut.is;
       between_keep = cut.before_keep;
     }
 cut_two key b (i ∷ ks) (s ∷ rs) h (suc m) (suc n) k j r q first second low =

@@ -54,7 +54,8 @@ pub record ForgetsBetween (events : List Event) (i j : ℕ) (key : Key) (batch :
 pub record FreshLoads (events : List Event) (key : Key) : Type 0 where
   pub apart : (batch later_batch i j m n : ℕ) (first later : Event) → slice_get events i ≡ Some first → slice_get events j ≡ Some later
       → LoadsFresh first m key batch → LoadsFresh later n key later_batch → i < j → ForgetsBetween events i j key batch
-  pub once : (batch later_batch i m n : ℕ) (e : Event) → slice_get events i ≡ Some e → LoadsFresh e m key batch → LoadsFresh e n key later_batch → m < n → ⊥
+  pub once : (batch later_batch i m n : ℕ) (e : Event) → slice_get events i ≡ Some e → LoadsFresh e m key batch → LoadsFresh e n key later_batch
+      → m < n → ⊥
 
 abbrev pub FreshLoadsAreApart : Type 0
 FreshLoadsAreApart = (service : Service) (events : List Event) → IsLegal service events → (key : Key) → FreshLoads events key
