@@ -1,3 +1,5 @@
+mod CallTotals
+mod Counted
 mod Crossing
 mod Dealt
 mod EndedOnce
@@ -5,6 +7,7 @@ mod Gave
 mod Headlines
 mod Joined
 mod LoadedCells
+mod MetFaults
 mod OwnAnswers
 mod OwnOutcomes
 mod OwnReads
@@ -12,5 +15,7 @@ mod OwnSettles
 mod Placed
 mod Refusing
 mod SeatsBack
+mod SentCounts
+mod Tallied
 mod Unprimed
 mod Worked

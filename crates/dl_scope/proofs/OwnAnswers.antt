@@ -69,8 +69,8 @@ step_unprimed : (caller number : ℕ) (step : Step) (s : Stretch) → PrimesNoKe
 step_unprimed caller number (Prime key outcome) s none one = absurd none
 step_unprimed caller number (Clear key) s none (at, reply, is) = subst (λ (x : Stretch). Every Unprimed x.lines) (sym is) (tt, tt)
 step_unprimed caller number ClearAll s none (at, reply, is) = subst (λ (x : Stretch). Every Unprimed x.lines) (sym is) (tt, tt)
-step_unprimed caller number (Eval term) s none (a, sent, answers, (known, rounds, ended, gives)) =
-    rounds_unprimed caller (term_view term) s.rounds s.lines known sent rounds
+step_unprimed caller number (Eval term) s none (a, answers, (known, rounds, ended, gives)) =
+    rounds_unprimed caller (term_view term) s.rounds s.lines known s.sent rounds
 
 steps_unprimed : (caller number : ℕ) (steps : List Step) (s : Stretch) → Every PrimesNoKey steps → AreSteps caller number steps s → Every Unprimed s.lines
 steps_unprimed caller number [] s none is = subst (λ (x : Stretch). Every Unprimed x.lines) (sym is) tt
@@ -140,8 +140,8 @@ module _ (s : Service) (plans : List Plan) (r : Report) (h : Headline s plans r)
         let answers = some_at r.answers n (omega (arith, h.answers_each, plan)) in
         let rounds = some_at r.rounds n (omega (arith, h.rounds_each, plan)) in
         let follows = h.follow n p.0 answers.0 rounds.0 p.1 answers.1 rounds.1 in
-        steps_unprimed n 0 p.0.steps.items (stretch (entries_of n r.history.accounts) answers.0 rounds.0)
-        (every_among (λ (plan : Plan). Every PrimesNoKey plan.steps.items) plans p.0 (n, p.1) none) follows)
+        steps_unprimed n 0 p.0.steps.items (stretch (entries_of n r.history.accounts) answers.0 rounds.0 follows.0)
+        (every_among (λ (plan : Plan). Every PrimesNoKey plan.steps.items) plans p.0 (n, p.1) none) follows.1)
     | inr worker ↦ ends_unprimed (entries_of n r.history.accounts) (h.work n worker low)
   ]
 
@@ -181,8 +181,8 @@ answers_are_own tables setup plans r h unfailed unprimed n plan answers at given
     let agrees : Agrees r.history.events (account n (entries_of n r.history.accounts)) =
     entries_agree r.history.events n r.history.accounts (h.each n (omega (arith, low))) h.agree in
     every_from (AnswersByTables tables plan) answers (λ i a got.
-    let found = steps_own (listed tables) r.history.events reads n 0 plan.steps.items (stretch (entries_of n r.history.accounts) answers rounds.0)
-    agrees.tells follows a (i, got) in
+    let found = steps_own (listed tables) r.history.events reads n 0 plan.steps.items (stretch (entries_of n r.history.accounts) answers rounds.0 follows.0)
+    agrees.tells follows.1 a (i, got) in
     let place : found.0 ≡ a.step = omega (arith, found.2) in
     (found.1, subst (λ k. slice_get plan.steps.items k ≡ Some (Eval found.1)) place found.3, found.4))
 
