@@ -1,7 +1,10 @@
 mod CallTotals
+mod CallersCalls
+mod Carried
 mod Counted
 mod Crossing
 mod Dealt
+mod EndCounts
 mod EndedOnce
 mod Gave
 mod Headlines

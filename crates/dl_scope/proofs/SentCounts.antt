@@ -36,7 +36,7 @@ loads_send_none rules history [] = refl
 loads_send_none rules history (k ∷ ks) = loads_send_none rules (atom.Load k (load_reply rules history k) ∷ history) ks
 
 -- a call sends as many batches more as its reply has jobs
-call_sends : (rules : Rules) (history : List Atom) (call : Call)
+pub call_sends : (rules : Rules) (history : List Atom) (call : Call)
     → sent history + length (dispatched_by call (reply_to rules history call)) ≡ sent (after rules history (call_of call))
 call_sends rules history (Load k) = omega arith
 call_sends rules history (LoadMany ks) = let same = loads_send_none rules history ks in omega (arith, same)

@@ -36,7 +36,7 @@ ones_long : (n : ℕ) (p : Part) → cond (nat_le n p.caller) (length (events_to
 ones_long n p =
     ap (λ k. cond (nat_le n p.caller) k 0) (length-map (calls_of p.entries) (λ (t : Told). t.event)) ∙ sym (ones (nat_le n p.caller) (calls_of p.entries))
 
-ones_count : (test : Event → Bool) (es : List Event) → total (λ e. cond (test e) 1 0) es ≡ count_by test es
+pub ones_count : (test : Event → Bool) (es : List Event) → total (λ e. cond (test e) 1 0) es ≡ count_by test es
 ones_count test [] = refl
 ones_count test (e ∷ es) =
     let rest = ones_count test es in
