@@ -48,6 +48,8 @@ pub(crate) fn dues(
 }
 
 /// Gives the cells their dues, and tells how many of them refused. It does not allocate.
+// Inlined for the sake of calls that end no cell.
+#[inline(always)]
 pub(crate) fn give<L: LoaderName>(journal: &mut Journal<L>, rows: &Rows<L>, dues: Vec<Due>) -> usize
     requires fits { length journal.old.cells ≤ L.service.rules.limits.max_cells }
     requires can { CanEnd (map (λ d. d.cell) dues.items) journal.old.cells }
@@ -84,6 +86,7 @@ fn outcome_at(call: &Call, place: usize) -> Result<Outcome, AllocError>
     ensures { IfOk result (λ outcome. outcome_by call.now place ≡ Some outcome) }
 {
     match call {
+        Call::Prime(_, outcome) => outcome.try_copy(),
         Call::Settle { outcomes, .. } => outcomes.as_slice()[place].try_copy(),
         Call::Fail { fault, .. } => Ok(Outcome::BatchFailed(fault.try_copy()?)),
         _ => unreachable!(),

@@ -12,6 +12,9 @@ ghost use Rattle.dl_loader.specs.Refusals.{refusal, IsRefusal};
 
 use crate::ask::Ask;
 use crate::book::Book;
+use crate::event_call::{
+    Clear, ClearAll, Dispatch, Fail, Load, LoadMany, Prime, Settle, prime_told,
+};
 use crate::fault::CallFault;
 use crate::loader::Loader;
 use crate::pass::Pass;
@@ -75,33 +78,40 @@ fn make<L: LoaderName, S: Source>(
 {
     match ask {
         Ask::Load(key) => {
-            let reply = book.load(alloc, rows, pass, key)?;
-            Ok((Reply::Loaded(reply), 0))
+            let (reply, ended) = book.record(alloc, rows, pass, &Load { key })?;
+            Ok((Reply::Loaded(reply), ended.refused))
         }
         Ask::LoadMany(keys) => {
-            let replies = book.load_many(alloc, rows, pass, keys)?;
-            Ok((Reply::Many(Replies::new(replies)), 0))
+            let (replies, ended) = book.record(alloc, rows, pass, &LoadMany { keys })?;
+            Ok((Reply::Many(Replies::new(replies)), ended.refused))
         }
-        Ask::Prime(key, outcome) => Ok(book.prime(alloc, rows, pass, key, outcome)?.told()),
+        Ask::Prime(key, outcome) => {
+            let (reply, ended) = book.record(alloc, rows, pass, &Prime { key, outcome })?;
+            Ok((prime_told(reply), ended.refused))
+        }
         Ask::Clear(key) => {
-            book.clear(alloc, rows, pass, key)?;
-            Ok((Reply::Done, 0))
+            let (_, ended) = book.record(alloc, rows, pass, &Clear { key })?;
+            Ok((Reply::Done, ended.refused))
         }
         Ask::ClearAll => {
-            book.clear_all(alloc, rows, pass)?;
-            Ok((Reply::Done, 0))
+            let (_, ended) = book.record(alloc, rows, pass, &ClearAll)?;
+            Ok((Reply::Done, ended.refused))
         }
         Ask::Dispatch => {
-            let jobs = book.dispatch(alloc, rows, pass)?;
-            Ok((Reply::Sent(Jobs::new(jobs)), 0))
+            let (jobs, ended) = book.record(alloc, rows, pass, &Dispatch)?;
+            Ok((Reply::Sent(Jobs::new(jobs)), ended.refused))
         }
         Ask::Settle(fetched) => {
-            let settled = book.settle(alloc, rows, pass, fetched)?;
-            Ok((Reply::Done, settled.refused))
+            let (_, ended) = book.record(alloc, rows, pass, &Settle { fetched })?;
+            Ok((Reply::Done, ended.refused))
         }
         Ask::Fail(job, give_up) => {
-            let settled = book.fail(alloc, rows, pass, job, *give_up)?;
-            Ok((Reply::Done, settled.refused))
+            let call = Fail {
+                job,
+                give_up: *give_up,
+            };
+            let (_, ended) = book.record(alloc, rows, pass, &call)?;
+            Ok((Reply::Done, ended.refused))
         }
     }
 }

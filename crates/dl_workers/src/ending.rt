@@ -57,7 +57,7 @@ pub fn end_jobs<L: LoaderName, S: Source>(
 ) -> Result<(), CallFault>
     requires source { Answers (S.answer source.now) L.service }
     ensures ended { OnOk result (WereEnded L.service pass.old.part jobs.items pass.new.part) }
-    ensures stopped { OnErr result (WereEndedBefore L.service pass.old.part jobs.items pass.new.part) }
+    ensures stopped { IfErr result (WereEndedBefore L.service pass.old.part jobs.items pass.new.part) }
     ensures tickets { pass.new.part.tickets ≡ pass.old.part.tickets }
 {
     for job in jobs {
