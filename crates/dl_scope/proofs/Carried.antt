@@ -66,10 +66,10 @@ none_at (x ∷ es) (suc i) e at none = none_at es i e at (parts_none (unsent_by 
 abbrev ByWorkers : ℕ → ℕ → Call → Type 0
 ByWorkers plans n c = unsent_by c ≡ [] → ends_one c ≡ cond (nat_le plans n) 1 0
 
-of_plan : (plans n : ℕ) → n < plans → 0 ≡ cond (nat_le plans n) 1 0
+of_plan : (plans n : ℕ) → n < plans → ◌≡◌ {A = ℕ} 0 (cond (nat_le plans n) 1 0)
 of_plan plans n low = let past : nat_le plans n ≡ false = grind (arith, nat_tests) in ap (λ (t : Bool). cond t 1 0) (sym past)
 
-of_worker : (plans n : ℕ) → plans ≤ n → 1 ≡ cond (nat_le plans n) 1 0
+of_worker : (plans n : ℕ) → plans ≤ n → ◌≡◌ {A = ℕ} 1 (cond (nat_le plans n) 1 0)
 of_worker plans n high = let yes : nat_le plans n ≡ true = grind (arith, nat_tests) in ap (λ (t : Bool). cond t 1 0) (sym yes)
 
 by_rounds : (plans n : ℕ) → n < plans → OfRounds (ByWorkers plans) n

@@ -1,6 +1,6 @@
 -- The faults that runs of plans met, by their places.
 use Rattle.std.proofs.Common.{◌≡◌, ◌∙◌, ap, sym, subst, refl, ℕ, zero, suc, ◌<◌, ◌⊎◌, true, false, List, [], ◌∷◌, map, take, Option, Some, None, Ok, Err, arith}
-use Rattle.std.specs.Prelude.{All, IfErr, IsErr, Result, slice_get}
+use Rattle.std.specs.Prelude.{All, IfErr, IsOk, Result, slice_get}
 use Rattle.std.specs.List.{AllByRecursion}
 use Rattle.std.proofs.lemmas.List.Elements.{recursion_from_All}
 use Rattle.dl_workers.specs.declared.worker.WorkerEnd.{WorkerEnd}
@@ -8,7 +8,7 @@ use Rattle.dl_workers.specs.declared.worker.WorkerEnd.TheVariants.{GaveUp}
 use Rattle.dl_haxl.specs.declared.fault.RunFault.{RunFault}
 use Rattle.dl_haxl.specs.declared.step_answer.StepAnswers.{StepAnswers}
 use Rattle.dl_scope.specs.Faults.{AnyGaveUp, AnyMet, IsLeastFault, IsStop, Met, WereStopped}
-use Rattle.dl_scope.specs.Inside.Gathered.{MetNoOwn, fault_of, met}
+use Rattle.dl_scope.specs.Inside.Gathered.{MetNoOwn, WasTaken, fault_of, met}
 use Rattle.dl_scope.specs.declared.jobs.PlanRun.{PlanRun}
 use Rattle.dl_scope.specs.declared.jobs.WorkerRun.{WorkerRun}
 
@@ -33,7 +33,7 @@ module _ {L : Type 0} where
   stops_all (run ∷ runs) (one, none) zero fault at = let here : met run.given ≡ Some fault = cc in stop_here run fault one here
   stops_all (run ∷ runs) (one, none) (suc n) fault at = stops_all runs none n fault at
 
-  met_at : (runs : List (PlanRun L)) (n : ℕ) (run : PlanRun L) (fault : RunFault) → slice_get runs n ≡ Some run → run.given ≡ Err fault
+  pub met_at : (runs : List (PlanRun L)) (n : ℕ) (run : PlanRun L) (fault : RunFault) → slice_get runs n ≡ Some run → run.given ≡ Err fault
       → Met (map fault_of runs) n fault
   met_at [] n run fault at is = absurd (let bad : ◌≡◌ {A = Option (PlanRun L)} None (Some run) = at in cc)
   met_at (first ∷ runs) zero run fault at is =
@@ -51,13 +51,8 @@ module _ {L : Type 0} where
     least = λ m other low met_it. stops_before runs n (recursion_from_All MetNoOwn (take n runs) before) m other low met_it;
   }
 
-  -- a run that met a fault
-  pub any_met_at : (runs : List (PlanRun L)) (n : ℕ) (run : PlanRun L) → slice_get runs n ≡ Some run → IsErr run.given → AnyMet (map fault_of runs)
-  any_met_at runs n run at err = by run.given refl err
-    where
-      by : (g : Result StepAnswers RunFault) → run.given ≡ g → IsErr g → AnyMet (map fault_of runs)
-      by (Ok given) is bad = absurd (let no : false ≡ true = bad in cc)
-      by (Err fault) is bad = (n, fault, met_at runs n run fault at is)
+  pub taken_at : (run : PlanRun L) (given : StepAnswers) → run.given ≡ Ok given → WasTaken run
+  taken_at run given is = subst (λ (g : Result StepAnswers RunFault). IsOk g) (sym is) refl
 
   -- a worker that gave up
   pub gave_up_at : (runs : List (WorkerRun L)) (n : ℕ) (run : WorkerRun L) (batch : ℕ) → slice_get runs n ≡ Some run → run.end ≡ GaveUp batch

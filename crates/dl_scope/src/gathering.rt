@@ -75,8 +75,9 @@ fn any_met<L: LoaderName>(plans: &[PlanRun<L>]) -> bool
     ensures { MatchBool result (AnyMet (map fault_of plans.now)) (All WasTaken plans.now) }
 {
     for run in plans {
-        if run.given.is_err() {
-            return true;
+        match run.given {
+            Ok(_) => {}
+            Err(_) => return true,
         }
     }
     false
