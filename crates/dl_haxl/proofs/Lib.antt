@@ -7,3 +7,4 @@ pub mod HandedOver
 pub mod RoundMade
 pub mod EvaluationMade
 mod Stretches
+pub mod JobsCounted

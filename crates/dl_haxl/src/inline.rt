@@ -3,7 +3,7 @@
 ghost use Rattle.std.specs.Prelude.{◌≡◌, ◌≤◌, ℕ, List, [], IfOk, OnErr, OnOk};
 ghost use Rattle.dl_values.specs.declared.job.Job.{Job};
 ghost use Rattle.dl_history.specs.Service.{Answers};
-ghost use Rattle.dl_loader.specs.Added.{Adds, Grows};
+ghost use Rattle.dl_loader.specs.Added.{Adds, Grows, KeepsTickets};
 ghost use Rattle.dl_terms.specs.Tree.{depth_of};
 ghost use Rattle.dl_terms.specs.View.{term_view};
 ghost use Rattle.dl_workers.specs.Ending.{WasEnded};
@@ -43,6 +43,7 @@ pub fn run_inline<L: LoaderName, S: Source>(
     ensures evaluates { IfOk result (λ r. Adds pass.old.part pass.new.part
         (λ lines. EvaluatesInline L.service pass.old.part.caller (term_view term) lines r.0 r.1)) }
     ensures rounds { IfOk result (λ r. r.1 ≤ depth_of (term_view term)) }
+    ensures older { KeepsTickets pass.old.part pass.new.part }
     ensures grows { OnErr result (Grows pass.old.part pass.new.part) }
 {
     let outlet = OwnThread { source };

@@ -5,7 +5,7 @@ ghost use Rattle.dl_values.specs.declared.outcome.BatchFault.TheVariants.{Unsent
 ghost use Rattle.dl_values.specs.declared.job.Job.{Job};
 ghost use Rattle.dl_history.specs.declared.event.Call.TheVariants.{Fail};
 ghost use Rattle.dl_history.specs.declared.event.Reply.TheVariants.{Done};
-ghost use Rattle.dl_loader.specs.Added.{Grows};
+ghost use Rattle.dl_loader.specs.Added.{Grows, KeepsTickets};
 ghost use Rattle.dl_loader.specs.Made.{WasMade};
 ghost use Rattle.dl_terms.specs.Tree.{depth_of};
 ghost use Rattle.dl_terms.specs.View.{term_view};
@@ -48,6 +48,7 @@ pub fn run_term<L: LoaderName, R: Wait>(
         (λ lines sent. EvaluatesQueued pass.old.part.caller (term_view term) lines r.0 r.1 sent)) }
     ensures rounds { IfOk result (λ r. r.1 ≤ depth_of (term_view term)) }
     ensures sent { OnErr result (SentMore (sent_jobs sender.old) (sent_jobs sender.new)) }
+    ensures older { KeepsTickets pass.old.part pass.new.part }
     ensures grows { OnErr result (Grows pass.old.part pass.new.part) }
 {
     evaluate(rt, alloc, hashing, loader, queue, sender, pass, term)

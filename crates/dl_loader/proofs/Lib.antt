@@ -12,6 +12,7 @@ pub mod RecordedEvent
 mod Called
 pub mod AddedLemmas
 pub mod StillGiven
+pub mod TicketsKept
 mod AccountLemmas
 mod ClosingLemmas
 mod Sources

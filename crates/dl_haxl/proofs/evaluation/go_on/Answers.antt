@@ -3,6 +3,7 @@ use Rattle.dl_history.specs.Entries.{Line}
 use Rattle.dl_values.proofs.Errors.{on_err}
 use Rattle.dl_values.specs.declared.job.Job.{Job}
 use Rattle.dl_loader.proofs.AddedLemmas.{grows_after}
+use Rattle.dl_loader.proofs.TicketsKept.{keeps_after}
 use Rattle.dl_haxl.specs.Pairs.{all_show, outcomes_shown, paired}
 use Rattle.dl_haxl.specs.Run.{Finishes, asked_by, wanted_by}
 use Rattle.dl_haxl.specs.Seen.{seen}
@@ -39,6 +40,10 @@ pub returns-in_err-tickets-clause-grows : goal.returns-in_err-tickets-clause-gro
 returns-in_err-tickets-clause-grows g c =
     on_err c.from_residual.result
     (grows_after c.args.pass.now.part c.loop.pass.part c.round.new.pass.part c.loop.invariant.grows c.in_err-tickets.ensures.grows)
+
+pub returns-in_err-tickets-clause-older : goal.returns-in_err-tickets-clause-older
+returns-in_err-tickets-clause-older g c =
+    keeps_after c.args.pass.now.part c.loop.pass.part c.round.new.pass.part c.loop.invariant.older c.round.ensures.older
 
 pub loop-preserved : goal.loop-preserved
 loop-preserved g c =
@@ -81,6 +86,7 @@ loop-preserved g c =
           (wants.all t (kept.run t is)) wants.some in
           subst (λ ps. AddsAndSends old new first sent_now (λ lines sent. Rounds (ends caller) caller t (n + 1) lines ps sent)) (sym supplied) next;
       sent = sent_after first sent_before sent_now kept.sent c.round.ensures.sent;
+      older = keeps_after old now new kept.older c.round.ensures.older;
       grows = grows_after old now new kept.grows (round.2.0, round.2.1, round.2.2);
       front = omega (arith, low, high);
     }
