@@ -22,7 +22,7 @@ run_jobs-requires-clause-passes g c =
 pub check-requires : goal.check-requires
 check-requires g c =
     let ran = c.in_ok-runs.ensures.ran in
-    let kept = AllZip-long (PlanKept c.in-Ok.made.0 g.L.LoaderName.service) ran.plan_jobs c.in_ok-runs.runs.plans.items ran.planned in
+    let kept = AllZip-long (PlanKept c.in-Ok.made.0) ran.plan_jobs c.in_ok-runs.runs.plans.items ran.planned in
     let jobs = length-map ran.plan_jobs (λ job. job.plan) in
     let plans = ap length ran.plans_are in
     let same = ap length c.as_slice.ensures.value in
@@ -33,14 +33,13 @@ returns-in_err-check-clause-refused g c =
     let ran = c.in_ok-runs.ensures.ran in
     let runs = c.in_ok-runs.runs in
     let service = g.L.LoaderName.service in
-    let fresh = ap parts_of ran.passes_are ∙ c.requires.passes in
     let workers = ran.all_takers ∙ (sym c.in-Ok.ensures.seats.all_takers ∙ c.in-Ok.ensures.takers) in
     let faults = ap (map fault_of) c.as_slice.ensures.value in
     let ends = ap (map (λ run. run.end)) c.as_slice-2.ensures.value in
     run_refused service c.args.setup c.args.plans.items (map fault_of runs.plans.items) (map (λ run. run.end) runs.workers.items) c.in_err-check.fault
     (record { plans_are = c.requires.plans; workers_are = c.requires.workers; capacity = c.in-Ok.ensures.accepted.0 })
-    (are_ends c.in-Ok.made.0 service service.callers c.args.setup.workers c.args.plans.items ran.plan_jobs runs.plans.items ran.worker_jobs
-    runs.workers.items ran.planned ran.worked fresh ran.plans_are workers)
+    (are_ends c.in-Ok.made.0 service c.args.setup.workers c.args.plans.items ran.plan_jobs runs.plans.items ran.worker_jobs
+    runs.workers.items ran.planned ran.worked ran.plans_are workers)
     (subst (λ fs. IsFaultOf fs (map (λ run. run.end) runs.workers.items) c.in_err-check.fault) faults
     (subst (λ es. IsFaultOf (map fault_of c.as_slice.result.now) es c.in_err-check.fault) ends c.in_err-check.ensures.fault))
 
