@@ -37,8 +37,8 @@ const LATER: PlanShape = &[
     Users(7),
 ];
 
-/// For how long a worker is held before it fetches.
-const HOLD: Duration = Duration::from_millis(50);
+/// For how many milliseconds a worker is held before it fetches.
+const HOLD: u64 = 50;
 
 /// A gate that holds each worker for a while, and counts the batches that have ended.
 #[derive(Drop)]
@@ -49,7 +49,7 @@ struct Slow<'a, R: Clock> {
 
 impl<'a, R: Clock> Gate for Slow<'a, R> {
     fn before_fetch(&self, _batch: u32) {
-        sleep(self.rt, HOLD);
+        sleep(self.rt, Duration::from_millis(HOLD));
     }
 
     fn after_settle(&self, _batch: u32) {
