@@ -1,6 +1,6 @@
 //! How the steps of a plan are taken.
 
-ghost use Rattle.std.specs.Prelude.{◌≡◌, ◌+◌, ◌^◌, ◌<◌, ◌∷◌, ◌++◌, [], ℕ, IfOk, OnErr, OnOk};
+ghost use Rattle.std.specs.Prelude.{◌≡◌, ◌+◌, ◌^◌, ◌<◌, ◌∷◌, ◌++◌, [], ℕ, IfErr, IfOk, OnErr, OnOk};
 ghost use Rattle.dl_history.specs.declared.event.Call.TheVariants.{Prime};
 ghost use Rattle.dl_history.specs.declared.event.Reply.{Reply};
 ghost use Rattle.dl_loader.specs.Added.{Adds, Grows, KeepsTickets, line};
@@ -8,6 +8,7 @@ ghost use Rattle.dl_workers.specs.Seats.{IsSenderOf, sent_jobs};
 ghost use Rattle.dl_haxl.specs.Follows.{FollowsAndSends, IsStep, stretch};
 ghost use Rattle.dl_haxl.specs.Inside.Taken.{answers_of, rounds_of};
 ghost use Rattle.dl_haxl.specs.Rounds.{AddsAndSends, SentMore};
+ghost use Rattle.dl_haxl.specs.RunFaults.{IsRunFault};
 
 use crate::fault::RunFault;
 use crate::queued::run_term;
@@ -60,6 +61,7 @@ pub fn take_steps<L: LoaderName, R: Wait>(
         (λ lines sent. FollowsAndSends pass.old.part.caller steps.items lines given.answers.items given.rounds sent)) }
     ensures sent { OnErr result (SentMore (sent_jobs sender.old) (sent_jobs sender.new)) }
     ensures older { KeepsTickets pass.old.part pass.new.part }
+    ensures fault { IfErr result (IsRunFault L.service pass.old.part.caller) }
     ensures grows { OnErr result (Grows pass.old.part pass.new.part) }
 {
     let mut given = StepAnswers {
@@ -93,6 +95,7 @@ fn take_step<L: LoaderName, R: Wait>(
         (λ lines sent. IsStep pass.old.part.caller number step (stretch lines (answers_of number given) (rounds_of given) sent))) }
     ensures sent { OnErr result (SentMore (sent_jobs sender.old) (sent_jobs sender.new)) }
     ensures older { KeepsTickets pass.old.part pass.new.part }
+    ensures fault { IfErr result (IsRunFault L.service pass.old.part.caller) }
     ensures grows { OnErr result (Grows pass.old.part pass.new.part) }
 {
     match step {
@@ -119,6 +122,7 @@ fn prime<L: LoaderName>(
     ensures primed { OnOk result (Adds pass.old.part pass.new.part
         (λ lines. (at : ℕ) × (reply : Reply) × (lines ≡ line pass.old.part.caller at (Prime key.now outcome) reply ∷ []))) }
     ensures tickets { pass.new.part.tickets ≡ pass.old.part.tickets }
+    ensures fault { IfErr result (IsRunFault L.service pass.old.part.caller) }
     ensures grows { OnErr result (Grows pass.old.part pass.new.part) }
 {
     match loader.prime(rt, alloc, pass, key, outcome)? {

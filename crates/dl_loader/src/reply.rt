@@ -1,8 +1,8 @@
 //! What event calls answer, where it is neither a ticket nor a job.
 
-ghost use Rattle.std.specs.Prelude.{◌≡◌};
+ghost use Rattle.std.specs.Prelude.{◌≡◌, ◌≤◌};
 ghost use Rattle.dl_history.specs.History.{primed};
-ghost use Rattle.dl_loader.specs.EventReplies.{told_by};
+ghost use Rattle.dl_loader.specs.EventReplies.{refused_by, told_by};
 
 use dl_desk::DeskPrime;
 
@@ -19,7 +19,8 @@ pub enum PrimeReply {
 impl PrimeReply {
     /// What a prime answers that the desk replied to so, where its cell took its outcome so.
     pub(crate) fn of(reply: DeskPrime, ended: Settled) -> PrimeReply
-        ensures { told_by result ≡ primed reply }
+        ensures told { told_by result ≡ primed reply }
+        ensures refused { refused_by result ≤ ended.refused }
     {
         match reply {
             DeskPrime::Primed(cell) => PrimeReply::Primed {

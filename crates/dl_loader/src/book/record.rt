@@ -4,6 +4,7 @@ ghost use Rattle.std.specs.Prelude.{◌≡◌, ◌+◌, ◌<◌, ◌≤◌, IfEr
 ghost use Rattle.dl_history.specs.Entries.{cell_of_load};
 ghost use Rattle.dl_history.specs.Journal.{refusals};
 ghost use Rattle.dl_history.specs.Lists.{Every};
+ghost use Rattle.dl_loader.specs.Book.{SomeCellRefused};
 ghost use Rattle.dl_loader.specs.Inside.Prepared.{ended_count};
 ghost use Rattle.dl_loader.specs.Made.{Makes, WasMade, WasRefused, loads_of};
 ghost use Rattle.dl_loader.specs.Pass.{with_tickets};
@@ -83,6 +84,7 @@ impl<L: LoaderName> Book<L> {
         ensures tickets { IfOk result (λ r. pass.new.part.tickets ≡ (with_tickets pass.old.part (loads_of (C.told r.0))).tickets) }
         ensures begun { IfOk result (λ r. Every (λ load. cell_of_load load < length self.new.cells) (loads_of (C.told r.0))) }
         ensures each { IfOk result (λ r. r.1.shown + r.1.refused ≡ ended_count (C.job call.now) (C.told r.0)) }
+        ensures refused { IfOk result (λ r. 0 < r.1.refused → SomeCellRefused L.service) }
         ensures fault { IfErr result (WasRefused L.service pass.old.part (C.call call.now) (C.job call.now)) }
         ensures unchanged { OnErr result (pass.new.part ≡ pass.old.part) }
     {

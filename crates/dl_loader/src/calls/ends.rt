@@ -1,11 +1,12 @@
 //! The ends of batches.
 
 ghost use Rattle.dl_history.specs.Service.{Answers};
-ghost use Rattle.std.specs.Prelude.{◌≡◌, ◌+◌, IfErr, IfOk, OnErr, OnOk, Some, length};
+ghost use Rattle.std.specs.Prelude.{◌≡◌, ◌+◌, ◌<◌, IfErr, IfOk, OnErr, OnOk, Some, length};
 ghost use Rattle.dl_source.specs.Fetched.{answer_of, job_of, source_of};
 ghost use Rattle.dl_history.specs.declared.event.Call.TheVariants as call;
 ghost use Rattle.dl_history.specs.declared.event.Reply.TheVariants as reply;
 ghost use Rattle.dl_loader.specs.Asks.{end_by, fault_of};
+ghost use Rattle.dl_loader.specs.Book.{SomeCellRefused};
 ghost use Rattle.dl_loader.specs.Made.{WasMade, WasRefused};
 
 use crate::ask::GiveUp;
@@ -38,6 +39,7 @@ impl<L: LoaderName> Loader<L> {
         ensures made { OnOk result (WasMade L.service pass.old.part (end_by (job_of fetched.entry).batch (answer_of fetched.entry)) reply.Done pass.new.part) }
         ensures tickets { OnOk result (pass.new.part.tickets ≡ pass.old.part.tickets) }
         ensures each { IfOk result (λ settled. settled.shown + settled.refused ≡ length (job_of fetched.entry).keys) }
+        ensures refused { IfOk result (λ settled. 0 < settled.refused → SomeCellRefused L.service) }
         ensures fault { IfErr result
             (λ e. WasRefused L.service pass.old.part (end_by (job_of fetched.entry).batch (answer_of fetched.entry)) (Some (job_of fetched.entry)) e.0) }
         ensures back { IfErr result (λ e. e.1 ≡ fetched.entry) }
@@ -69,6 +71,7 @@ impl<L: LoaderName> Loader<L> {
         ensures made { OnOk result (WasMade L.service pass.old.part (call.Fail job.batch (fault_of give_up)) reply.Done pass.new.part) }
         ensures tickets { OnOk result (pass.new.part.tickets ≡ pass.old.part.tickets) }
         ensures each { IfOk result (λ settled. settled.shown + settled.refused ≡ length job.keys) }
+        ensures refused { IfOk result (λ settled. 0 < settled.refused → SomeCellRefused L.service) }
         ensures fault { IfErr result (λ e. WasRefused L.service pass.old.part (call.Fail job.batch (fault_of give_up)) (Some job) e.0) }
         ensures back { IfErr result (λ e. e.1 ≡ job) }
         ensures unchanged { OnErr result (pass.new.part ≡ pass.old.part) }

@@ -1,9 +1,10 @@
 //! The calls on keys, and the dispatch.
 
-ghost use Rattle.std.specs.Prelude.{◌≡◌, None, IfErr, IfOk, OnErr, OnOk};
+ghost use Rattle.std.specs.Prelude.{◌≡◌, ◌<◌, None, IfErr, IfOk, OnErr, OnOk};
 ghost use Rattle.dl_history.specs.declared.event.Call.TheVariants as call;
 ghost use Rattle.dl_history.specs.declared.event.Reply.TheVariants as reply;
-ghost use Rattle.dl_loader.specs.EventReplies.{told_by};
+ghost use Rattle.dl_loader.specs.EventReplies.{refused_by, told_by};
+ghost use Rattle.dl_loader.specs.Book.{SomeCellRefused};
 ghost use Rattle.dl_loader.specs.Made.{WasMade, WasRefused};
 
 use crate::event_call::{Clear, ClearAll, Dispatch, Prime};
@@ -32,6 +33,7 @@ impl<L: LoaderName> Loader<L> {
         outcome: Outcome,
     ) -> Result<PrimeReply, CallFault>
         ensures made { IfOk result (λ r. WasMade L.service pass.old.part (call.Prime key.now outcome) (told_by r) pass.new.part) }
+        ensures refused { IfOk result (λ r. 0 < refused_by r → SomeCellRefused L.service) }
         ensures tickets { OnOk result (pass.new.part.tickets ≡ pass.old.part.tickets) }
         ensures fault { IfErr result (WasRefused L.service pass.old.part (call.Prime key.now outcome) None) }
         ensures unchanged { OnErr result (pass.new.part ≡ pass.old.part) }

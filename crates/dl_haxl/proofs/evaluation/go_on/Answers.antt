@@ -1,4 +1,4 @@
-use Rattle.std.proofs.Common.{◌≡◌, ◌∙◌, ap, sym, subst, ◌+◌, ℕ, List, ◌++◌, arith, rules}
+use Rattle.std.proofs.Common.{◌≡◌, ◌∙◌, ap, sym, subst, ◌+◌, ℕ, List, ◌++◌, arith, rules, Err}
 use Rattle.dl_history.specs.Entries.{Line}
 use Rattle.dl_values.proofs.Errors.{on_err}
 use Rattle.dl_values.specs.declared.job.Job.{Job}
@@ -8,6 +8,7 @@ use Rattle.dl_haxl.specs.Pairs.{all_show, outcomes_shown, paired}
 use Rattle.dl_haxl.specs.Run.{Finishes, asked_by, wanted_by}
 use Rattle.dl_haxl.specs.Seen.{seen}
 use Rattle.dl_haxl.specs.Rounds.{AddsAndSends, Evaluates, Round, Rounds}
+use Rattle.dl_haxl.proofs.Faults.{fault_of_same}
 use Rattle.dl_haxl.proofs.EvaluationMade.{learned_now, rounds_next, rounds_within, run_ends, sent_after, wants_now, with_supplied}
 use Rattle.dl_haxl.proofs.evaluation.go_on.Goals as goal
 
@@ -44,6 +45,12 @@ returns-in_err-tickets-clause-grows g c =
 pub returns-in_err-tickets-clause-older : goal.returns-in_err-tickets-clause-older
 returns-in_err-tickets-clause-older g c =
     keeps_after c.args.pass.now.part c.loop.pass.part c.round.new.pass.part c.loop.invariant.older c.round.ensures.older
+
+pub returns-in_err-tickets-clause-fault : goal.returns-in_err-tickets-clause-fault
+returns-in_err-tickets-clause-fault g c =
+    let same : c.from_residual.result ≡ Err c.in_err-tickets.field-0.0 = search rules in
+    rw same (fault_of_same g.L.LoaderName.service c.loop.pass.part.caller c.args.pass.now.part.caller c.in_err-tickets.field-0.0
+    c.loop.invariant.grows.0 c.in_err-tickets.ensures.fault)
 
 pub loop-preserved : goal.loop-preserved
 loop-preserved g c =
