@@ -366,8 +366,10 @@ class Refusals(unittest.IsolatedAsyncioTestCase):
 
     async def test_a_loader_opens_once(self):
         loader = loader_of([])
+        load = loader.load("a")
         with self.assertRaises(RuntimeError):
             loader.__init__(loader.batch_load_fn)
+        self.assertEqual(await load, "a")
 
     async def test_a_loader_that_was_not_opened_answers(self):
         loader = DataLoader.__new__(DataLoader)

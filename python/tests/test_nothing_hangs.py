@@ -331,6 +331,7 @@ class Raised(unittest.IsolatedAsyncioTestCase):
         with self.assertRaises(OSError):
             loader.load_many([1, 2])
         self.assertIsNone(loader.held(1))
+        self.assertEqual(loader.counters, Counters(0, 0, 0, 0, 0))
         loads = [loader.load(1), loader.load(3)]
         callbacks[0]()
         self.assertEqual(await soon(asyncio.gather(*loads)), [1, 3])
