@@ -294,7 +294,8 @@ _NEXT_TURN = _Turn()
 
 def _check_answer(answer: object) -> None:
     """Refuses what is no sequence, or one of something else than values."""
-    if not isinstance(answer, Sequence) or isinstance(answer, (str, bytes, bytearray, memoryview)):
+    is_sequence = hasattr(answer, "__len__") and hasattr(answer, "__getitem__") and not hasattr(answer, "keys")
+    if not is_sequence or isinstance(answer, (str, bytes, bytearray, memoryview)):
         raise TypeError(f"a batch function answers a list of values, and not {type(answer).__name__}")
 
 
