@@ -5,7 +5,7 @@ import gc
 import unittest
 import weakref
 from array import array
-from collections import deque
+from collections import Counter, UserDict, deque
 from decimal import Decimal
 from enum import Enum, IntEnum
 from fractions import Fraction
@@ -228,12 +228,21 @@ class Outcomes(unittest.IsolatedAsyncioTestCase):
                 await DataLoader(answers(answer)).load("a")
 
     async def test_what_is_no_list_of_values_is_refused_by_its_type(self):
-        for answer in (None, 5, {"a": 1}, {"a"}, "a", b"a", bytearray(1), memoryview(b"a"), iter(["a"]), {"a": 1}.values(), (n for n in "a")):
+        for answer in (None, 5, {"a": 1}, {"a"}, "a", b"a", bytearray(1), memoryview(b"a"), iter(["a"]), {"a": 1}.values(), (n for n in "a"), Counter("a"), UserDict(a=1)):
             with self.assertRaisesRegex(TypeError, type(answer).__name__):
                 await DataLoader(answers(answer)).load("a")
 
     async def test_other_sequences_are_taken(self):
-        for answer in ((1, 2), range(1, 3), deque([1, 2]), array("i", [1, 2])):
+        class Column:
+            """As numpy has them."""
+
+            def __len__(self):
+                return 2
+
+            def __getitem__(self, place):
+                return [1, 2][place]
+
+        for answer in ((1, 2), range(1, 3), deque([1, 2]), array("i", [1, 2]), Column()):
             self.assertEqual(await DataLoader(answers(answer)).load_many(["a", "b"]), [1, 2])
 
     async def test_a_batch_function_that_answers_at_once_is_refused(self):
@@ -366,8 +375,10 @@ class Refusals(unittest.IsolatedAsyncioTestCase):
 
     async def test_a_loader_opens_once(self):
         loader = loader_of([])
+        load = loader.load("a")
         with self.assertRaises(RuntimeError):
             loader.__init__(loader.batch_load_fn)
+        self.assertEqual(await load, "a")
 
     async def test_a_loader_that_was_not_opened_answers(self):
         loader = DataLoader.__new__(DataLoader)
@@ -429,6 +440,19 @@ class Map(dict):
 
 
 class NoLoop(unittest.TestCase):
+    def test_a_key_is_primed_before_the_loop_runs(self):
+        batches = []
+        loader = loader_of(batches)
+        loader.prime("a", 1).prime("b", KeyError("b")).prime("c", 3).clear("c")
+
+        async def later():
+            with self.assertRaises(KeyError):
+                await loader.load("b")
+            return await loader.load_many(["a", "c"])
+
+        self.assertEqual(asyncio.run(later()), [1, "c"])
+        self.assertEqual(batches, [["c"]])
+
     def test_a_load_outside_of_a_loop_is_refused_and_forgotten(self):
         loader = loader_of([])
         with self.assertRaises(RuntimeError):

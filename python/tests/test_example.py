@@ -1,17 +1,26 @@
-"""The example server answers its queries, and prints how many SQL statements they took."""
+"""The examples of the documents print what stands beside them."""
 
 import pathlib
+import re
 import subprocess
 import sys
 import unittest
 
-EXAMPLES = pathlib.Path(__file__).resolve().parents[2] / "examples"
+TOP = pathlib.Path(__file__).resolve().parents[2]
 
 
-class Example(unittest.TestCase):
-    def test_it_prints_what_stands_beside_it(self):
-        ran = subprocess.run([sys.executable, EXAMPLES / "server.py"], capture_output=True, text=True)
-        self.assertEqual((ran.stdout, ran.returncode), ((EXAMPLES / "server.out").read_text(), 0), ran.stderr)
+class Examples(unittest.TestCase):
+    def check(self, program, output):
+        ran = subprocess.run([sys.executable, *program], capture_output=True, text=True)
+        self.assertEqual((ran.stdout, ran.returncode), (output, 0), ran.stderr)
+
+    def test_the_server(self):
+        self.check([TOP / "examples" / "server.py"], (TOP / "examples" / "server.out").read_text())
+
+    def test_the_program_of_the_page(self):
+        page = (TOP / "docs" / "EMBEDDING.md").read_text()
+        program, output = re.search(r"`hello\.py`:\n\n```python\n(.*?)```.*?```text\n(.*?)```", page, re.DOTALL).groups()
+        self.check(["-c", program], output)
 
 
 if __name__ == "__main__":

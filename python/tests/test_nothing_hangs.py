@@ -331,6 +331,7 @@ class Raised(unittest.IsolatedAsyncioTestCase):
         with self.assertRaises(OSError):
             loader.load_many([1, 2])
         self.assertIsNone(loader.held(1))
+        self.assertEqual(loader.counters, Counters(0, 0, 0, 0, 0))
         loads = [loader.load(1), loader.load(3)]
         callbacks[0]()
         self.assertEqual(await soon(asyncio.gather(*loads)), [1, 3])
@@ -583,11 +584,36 @@ class Elsewhere(unittest.TestCase):
         self.assertEqual(sorted(seen), ["all", "refused", "refused", "refused"])
 
 
+class Ready:
+    """What a loop has ready, in a form of its own."""
+
+    def __init__(self):
+        self.handles = []
+
+    def __len__(self):
+        return len(self.handles)
+
+    def append(self, handle):
+        self.handles.append(handle)
+
+    def popleft(self):
+        return self.handles.pop(0)
+
+    def clear(self):
+        self.handles.clear()
+
+
 class OtherLoop(asyncio.SelectorEventLoop):
-    """A loop with futures of its own, that doesn't tell the thread that it runs on."""
+    """A loop with futures of its own, that tells neither the thread that it runs on nor what it has ready."""
 
     class Future(asyncio.Future):
         """One of its futures."""
+
+    def __init__(self):
+        super().__init__()
+        while self._ready:
+            self._ready.popleft()
+        self._ready = Ready()
 
     def create_future(self):
         return self.Future(loop=self)
@@ -712,6 +738,78 @@ class Closed(unittest.TestCase):
         finally:
             sys.unraisablehook = hook
         self.assertEqual(unraisable, [])
+
+
+class Late(unittest.TestCase):
+    """When a batch is sent: no load waits for a loop that is always busy."""
+
+    def batches_of(self, loop, count, is_busy=False):
+        """The batches of loads that tasks make, each a task deeper than the one before."""
+        batches = []
+
+        async def batch_load_fn(keys):
+            batches.append(list(keys))
+            return keys
+
+        async def main():
+            loader = DataLoader(batch_load_fn)
+            is_done = False
+
+            async def deeper(key):
+                loads = [loader.load(key)]
+                if key + 1 < count:
+                    loads.append(asyncio.ensure_future(deeper(key + 1)))
+                await asyncio.gather(*loads)
+
+            async def spin():
+                while not is_done:
+                    await asyncio.sleep(0)
+
+            spinning = asyncio.ensure_future(spin()) if is_busy else None
+            await soon(deeper(0))
+            is_done = True
+            if spinning is not None:
+                await spinning
+
+        run_on(loop, main())
+        return batches
+
+    def test_loads_of_deeper_tasks_join_the_batch(self):
+        self.assertEqual(self.batches_of(asyncio.new_event_loop(), 20), [list(range(20))])
+
+    def test_a_loop_that_does_not_tell_what_is_ready_waits_two_turns(self):
+        self.assertEqual(self.batches_of(OtherLoop(), 2), [[0, 1]])
+
+    def test_a_busy_loop_delays_a_batch_by_some_turns(self):
+        self.assertEqual(self.batches_of(asyncio.new_event_loop(), 4, is_busy=True), [[0, 1, 2, 3]])
+
+    def test_a_loader_that_always_gets_loads_sends_its_batches(self):
+        async def batch_load_fn(keys):
+            return keys
+
+        async def main():
+            loader = DataLoader(batch_load_fn)
+            first = loader.load("first")
+            for key in range(1_000):
+                loader.load(key)
+                await asyncio.sleep(0)
+                if first.done():
+                    return True
+            return False
+
+        self.assertTrue(run_on(asyncio.new_event_loop(), main()))
+
+    def test_loaders_that_wait_for_each_other_send(self):
+        async def batch_load_fn(keys):
+            return keys
+
+        async def main():
+            loaders = [DataLoader(batch_load_fn) for _ in range(50)]
+            loads = [loader.load(key) for loader in loaders for key in (1, 2)]
+            self.assertEqual(await soon(asyncio.gather(*loads)), [1, 2] * 50)
+            return {loader.counters.batches for loader in loaders}
+
+        self.assertEqual(run_on(asyncio.new_event_loop(), main()), {1})
 
 
 class Subclasses(unittest.IsolatedAsyncioTestCase):

@@ -36,24 +36,24 @@ typedef struct {
     dl_desk desk;
     Cell *cells; /* by their numbers */
     uint32_t cell_count, cell_room;
-    bool is_memo;      /* whether a load may find what an earlier one has loaded */
-    bool is_collecting; /* whether what is collected will be sent */
-    PyObject *get_cache_key; /* a callable, or NULL */
-    PyObject *cache_map;     /* a mapping that is the memo in the desk's place, or NULL */
-    PyObject *numbers;       /* a dict: the numbers of keys that are neither a str nor an int, or NULL */
+    bool is_memo;              /* whether a load may find what an earlier one has loaded */
+    bool is_collecting;        /* whether what is collected will be sent */
+    PyObject *get_cache_key;   /* a callable, or NULL */
+    PyObject *cache_map;       /* a mapping that is the memo in the desk's place, or NULL */
+    PyObject *numbers;         /* a dict: the numbers of keys that are neither a str nor an int, or NULL */
     unsigned long long unique; /* how many numbers were given to loads that find nothing */
-    PyObject *loop;          /* the event loop of the first load, or NULL */
-    PyObject *create_future; /* the loop's own method, or NULL where it makes asyncio's futures */
-    unsigned long thread;    /* the thread of the first load */
-    PyObject *loop_dict;     /* the loop's `__dict__`, or NULL */
-    PyObject *run;           /* the loop's `_thread_id` as of a load, or NULL: while it is this very object, the loop runs on */
+    PyObject *loop;            /* the event loop of the first load, or NULL */
+    unsigned long thread;      /* its thread */
+    PyObject *create_future;   /* the loop's own method, or NULL where it makes asyncio's futures */
+    PyObject *loop_dict;       /* the loop's `__dict__`, or NULL */
+    PyObject *run;             /* the loop's `_thread_id` as of a load, or NULL: while it is this very object, the loop runs on */
     Counts counts;
 } Desk;
 
 /* What this module takes from asyncio, and the names of methods. */
 static PyObject *loader_full, *get_running_loop, *future_type, *base_create_future, *cancelled_error, *invalid_state;
-static PyObject *shield, *schedule_name, *create_future_name, *thread_id_name, *exception_name, *set_result_name, *set_exception_name, *cancel_name,
-    *pop_name, *get_name, *clear_name, *loop_names;
+static PyObject *shield, *schedule_name, *create_future_name, *thread_id_name, *exception_name, *set_result_name,
+    *set_exception_name, *cancel_name, *pop_name, *get_name, *clear_name, *loop_names;
 
 static PyObject *raise_code(uint32_t code)
 {
@@ -590,12 +590,10 @@ static PyObject *load_cell(Desk *self, PyObject *key)
         if (answer.code == DL_FRESH) {
             note_cell(self, key, answer.cell, COLLECTED);
         }
-        if (answer.code <= DL_FRESH) {
+        future = answer.code <= DL_FRESH ? loaded_future(self, answer, &texts) : raise_code(answer.code);
+        if (future != NULL) {
             self->counts.loads++;
             self->counts.hits += answer.code == DL_HIT;
-            future = loaded_future(self, answer, &texts);
-        } else {
-            raise_code(answer.code);
         }
     }
     Py_XDECREF(texts.owner);
@@ -727,17 +725,15 @@ static void forget_many(Desk *self, const Many *many, PyObject *futures)
 static PyObject *loaded_futures(Desk *self, PyObject *keys, const Many *many)
 {
     PyObject *futures;
-    bool is_fresh = false, is_made;
+    Py_ssize_t fresh = 0;
+    bool is_made;
 
     for (Py_ssize_t i = 0; i < many->count; i++) {
         if (many->answers[i].code == DL_FRESH) {
             note_cell(self, PyTuple_GET_ITEM(keys, i), many->answers[i].cell, COLLECTED);
-            is_fresh = true;
-        } else {
-            self->counts.hits++;
+            fresh++;
         }
     }
-    self->counts.loads += (unsigned long long)many->count;
     futures = PyList_New(0);
     is_made = futures != NULL;
     for (Py_ssize_t i = 0; is_made && i < many->count; i++) {
@@ -745,10 +741,13 @@ static PyObject *loaded_futures(Desk *self, PyObject *keys, const Many *many)
         is_made = future != NULL && PyList_Append(futures, future) == 0;
         Py_XDECREF(future);
     }
-    if (is_made && is_fresh) {
+    if (is_made && fresh > 0) {
         is_made = schedule(self);
     }
-    if (!is_made) {
+    if (is_made) {
+        self->counts.loads += (unsigned long long)many->count;
+        self->counts.hits += (unsigned long long)(many->count - fresh);
+    } else {
         forget_many(self, many, futures);
         Py_CLEAR(futures);
     }

@@ -124,11 +124,11 @@ class DataLoader(Desk[K, V]):
         if self.max_batch_size is not None:
             _check_type("max_batch_size", self.max_batch_size, int)
             largest = self.max_batch_size
+        cache_map = self.cache_map if self.cache else None
+        super().__init__(largest if self.batch else 1, max_cells, self.cache, self.get_cache_key, cache_map)
         # The task that will send what is collected, where one will, and those that fetch, by their batches.
         self._sender: asyncio.Task[None] | None = None
         self._fetches: dict[int, asyncio.Task[None]] = {}
-        cache_map = self.cache_map if self.cache else None
-        super().__init__(largest if self.batch else 1, max_cells, self.cache, self.get_cache_key, cache_map)
 
     def __repr__(self) -> str:
         return f"<{type(self).__name__} {self.name!r}>" if self.name is not None else super().__repr__()
@@ -294,7 +294,8 @@ _NEXT_TURN = _Turn()
 
 def _check_answer(answer: object) -> None:
     """Refuses what is no sequence, or one of something else than values."""
-    if not isinstance(answer, Sequence) or isinstance(answer, (str, bytes, bytearray, memoryview)):
+    is_sequence = hasattr(answer, "__len__") and hasattr(answer, "__getitem__") and not hasattr(answer, "keys")
+    if not is_sequence or isinstance(answer, (str, bytes, bytearray, memoryview)):
         raise TypeError(f"a batch function answers a list of values, and not {type(answer).__name__}")
 
 
