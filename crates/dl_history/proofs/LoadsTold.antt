@@ -28,10 +28,6 @@ pub atoms-append : (xs ys : List desk.Event) → atoms (xs ++ ys) ≡ atoms xs +
 atoms-append [] ys = refl
 atoms-append (e ∷ xs) ys = ap (with_made e.made) (atoms-append xs ys) ∙ with_made-append e.made (atoms xs) (atoms ys)
 
--- the history with a call, before which stands another
-pub with_made-onto : (m : Made) (h : List Atom) → with_made m h ≡ with_made m [] ++ h
-with_made-onto m h = with_made-append m [] h
-
 log_onto-append : (es : List Event) (xs ys : List desk.Event) → log_onto (xs ++ ys) es ≡ log_onto xs es ++ ys
 log_onto-append [] xs ys = refl
 log_onto-append (e ∷ es) xs ys = log_onto-append es (as_made e ∷ xs) ys
