@@ -3,7 +3,6 @@ use Rattle.std.proofs.Common.{◌≡◌, ◌∙◌, sym, ap, subst, ℕ, zero, s
 use Rattle.std.proofs.Common.{Some, None, MatchBool, slice_get, refl, arith}
 use Rattle.std.specs.Global.{Box}
 use Rattle.std.specs.List.{repeat}
-use Rattle.std.proofs.Math.Seq.{set-append_seam}
 use Rattle.dl_history.specs.declared.event.Ending.{Ending}
 use Rattle.dl_history.specs.declared.cell_state.Mark.{Mark}
 use Rattle.dl_history.specs.declared.cell_state.Mark.TheVariants.{Waiting, Ended, Refused}
@@ -37,10 +36,6 @@ length-repeat_one zero x = refl
 length-repeat_one (suc n) x = let rest = length-repeat_one n x in omega arith
 
 -- ---- one element set
-
--- the last one set
-pub set_last : {X : Type 0} (xs : List X) (y x : X) → set (xs ++ y ∷ []) (length xs) x ≡ xs ++ x ∷ []
-set_last xs y x = set-append_seam xs y [] x
 
 -- what stands at the place that was set
 pub get-set_same : {X : Type 0} (xs : List X) (i : ℕ) (x z : X) → slice_get (set xs i x) i ≡ Some z → z ≡ x

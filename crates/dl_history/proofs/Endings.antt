@@ -95,11 +95,6 @@ pub others_stay : (s : Service) (es : List Event) (e : Event) (c : ℕ) → IsLe
     → ending_of (es ++ e ∷ []) c ≡ ending_of es c
 others_stay s es e c legal next none = spared_stays s es e c legal next (nothing_spares s es e c next none)
 
--- and one that was not begun before it shows no end
-pub new_open : (s : Service) (es : List Event) (e : Event) (c : ℕ) → IsLegal s es → IsNext s es e → gave e.call e.reply ≡ Nothing → cells (atoms (log es)) ≤ c
-    → ending_of (es ++ e ∷ []) c ≡ None
-new_open s es e c legal next none high = others_stay s es e c legal next none ∙ none_unbegun s es c legal high
-
 -- ---- an event that ends a cell
 
 -- what a cell shows that the newest event ended

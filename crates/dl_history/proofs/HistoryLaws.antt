@@ -1,7 +1,7 @@
 -- The laws of histories: they follow from those of the desk's, over what the log tells.
 use Rattle.std.proofs.Common.{◌≡◌, ◌∙◌, sym, ap, subst, ℕ, zero, suc, ◌+◌, ◌-◌, ◌<◌, ◌≤◌, ◌⊎◌, inl, inr, Bool, true, false, ◌||◌, List, [], ◌∷◌, ◌++◌}
 use Rattle.std.proofs.Common.{length, map, take, cond, Option, Some, None, slice_get, nat_eq, refl, arith, append_assoc, append-nil}
-use Rattle.std.specs.List.{list_any, zip}
+use Rattle.std.specs.List.{list_any}
 use Rattle.std.proofs.lemmas.Bool.{eqb-true}
 use Rattle.std.proofs.lemmas.List.Folds.{list_any-append}
 use Rattle.std.proofs.lemmas.Option.{slice_get_within}
@@ -13,11 +13,10 @@ use Rattle.dl_desk.specs.History.{Atom, forgets, members, prime_reply, load_repl
 use Rattle.dl_desk.specs.History as atom
 use Rattle.dl_desk.specs.Events.{One, Many, with_loads, with_made, atoms, ended, outcome, IsLegalLog}
 use Rattle.dl_desk.specs.Events as desk
-use Rattle.dl_desk.specs.Laws as desk_laws
 use Rattle.dl_desk.specs.declared.reply.DeskPrime.{DeskPrime}
 use Rattle.dl_desk.specs.declared.reply.DeskPrime.TheVariants as prime
 use Rattle.dl_desk.specs.declared.reply.LoadReply.{LoadReply}
-use Rattle.dl_desk.specs.declared.reply.LoadReply.TheVariants.{Hit, Fresh}
+use Rattle.dl_desk.specs.declared.reply.LoadReply.TheVariants.{Fresh}
 use Rattle.dl_desk.proofs.LawFresh as fresh
 use Rattle.dl_desk.proofs.LawBatches as batches
 use Rattle.dl_desk.proofs.LawEnds as ends
@@ -26,20 +25,17 @@ use Rattle.dl_history.specs.declared.event.Event.{Event}
 use Rattle.dl_history.specs.declared.event.Ending.{Ending}
 use Rattle.dl_history.specs.declared.event.Call.{Call}
 use Rattle.dl_history.specs.declared.event.Call.TheVariants.{Load, LoadMany, Prime, Clear, ClearAll, Dispatch, Settle, Fail}
-use Rattle.dl_history.specs.declared.event.Reply.{Reply}
-use Rattle.dl_history.specs.declared.event.Reply.TheVariants.{Loaded, Many as ManyReplies, Primed, Kept, Done, Sent}
 use Rattle.dl_history.specs.Service.{Service}
-use Rattle.dl_history.specs.History.{IsLegal, IsNext, as_made, end_with, ending_of, log, made, primed, reply_to}
+use Rattle.dl_history.specs.History.{IsLegal, end_with, log, made, primed, reply_to}
 use Rattle.dl_history.specs.Laws.{loads_in, LoadsFresh, Forgets, ForgetsBetween, FreshLoadsAreApart, BatchesAreWithinLimits, EndsStay, EventsAreCalls}
 use Rattle.dl_history.specs.Laws.{HistoriesBeginEmpty}
-use Rattle.dl_history.specs.Agrees.{Account, account, Tells, entries_of, places_of}
-use Rattle.dl_history.specs.Closed.{Closed, IsClosed}
+use Rattle.dl_history.specs.Agrees.{Account, Tells, entries_of}
 use Rattle.dl_history.specs.Entries.{Line, Called, Saw, Told, told, calls_of}
-use Rattle.dl_history.specs.Lists.{Among, Every, places}
+use Rattle.dl_history.specs.Lists.{Among, Every}
 use Rattle.dl_history.proofs.CellLists.{get-append_cases}
 use Rattle.dl_history.proofs.HistoryLemmas.{caller_agrees}
-use Rattle.dl_history.proofs.LoadsTold.{CutAt, atoms_log-append, atoms_log-cons, CutTwice, cut_loads, cut_two, loads_forget, log-append, with_made-onto}
-use Rattle.dl_history.proofs.Logs.{get-append, get-append_at, legal_atoms, legal_log}
+use Rattle.dl_history.proofs.LoadsTold.{CutAt, atoms_log-append, atoms_log-cons, CutTwice, cut_loads, cut_two, loads_forget, log-append}
+use Rattle.dl_history.proofs.Logs.{get-append, legal_atoms, legal_log}
 use Rattle.dl_history.proofs.OneHistory.{place_among}
 
 -- ---- batches

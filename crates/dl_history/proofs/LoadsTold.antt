@@ -1,6 +1,6 @@
 -- The history that a log tells, cut at its events and at the loads of one.
-use Rattle.std.proofs.Common.{◌≡◌, ◌∙◌, sym, ap, subst, ℕ, zero, suc, ◌<◌, Bool, true, false, ◌||◌, List, [], ◌∷◌, ◌++◌, Option, Some, None, slice_get}
-use Rattle.std.proofs.Common.{refl, arith, append_assoc, append-nil}
+use Rattle.std.proofs.Common.{◌≡◌, ◌∙◌, sym, ap, subst, ℕ, zero, suc, ◌<◌, Bool, false, ◌||◌, List, [], ◌∷◌, ◌++◌, Option, Some, None, slice_get}
+use Rattle.std.proofs.Common.{refl, arith, append_assoc}
 use Rattle.std.specs.List.{list_any, zip}
 use Rattle.std.proofs.lemmas.List.Folds.{list_any-append}
 use Rattle.dl_values.specs.Key.{Key}
@@ -27,10 +27,6 @@ with_made-append (Many ks rs) xs ys = with_loads-append ks rs xs ys
 pub atoms-append : (xs ys : List desk.Event) → atoms (xs ++ ys) ≡ atoms xs ++ atoms ys
 atoms-append [] ys = refl
 atoms-append (e ∷ xs) ys = ap (with_made e.made) (atoms-append xs ys) ∙ with_made-append e.made (atoms xs) (atoms ys)
-
--- the history with a call, before which stands another
-pub with_made-onto : (m : Made) (h : List Atom) → with_made m h ≡ with_made m [] ++ h
-with_made-onto m h = with_made-append m [] h
 
 log_onto-append : (es : List Event) (xs ys : List desk.Event) → log_onto (xs ++ ys) es ≡ log_onto xs es ++ ys
 log_onto-append [] xs ys = refl
