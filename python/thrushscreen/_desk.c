@@ -1,8 +1,8 @@
 /* The desk for Python: a type over dl_desk.h that keeps, for each cell, who waits for it and then its outcome. It works under the
  * interpreter's lock, and a desk belongs to the thread and the event loop of its first load.
  *
- * Any call of Python's may come back with another call of the same desk, by a finalizer if nothing else. So what the desk answers is
- * noted before the next such call, and a cell is looked up by its number after each. */
+ * Any call of Python's may come back with another call of the same desk, by a finalizer if nothing else. So what the desk answers
+ * is noted before the next such call, and a cell is looked up by its number after each. */
 #define PY_SSIZE_T_CLEAN
 #include <Python.h>
 
@@ -89,8 +89,8 @@ static PyObject *raise_code(uint32_t code)
 
 /* Keys. */
 
-/* The two texts of a key: a str or an int as it is, each in a table of its own, so that "1" and 1 are two keys; and any other key by
- * its number, in a third table. A fourth has the numbers of loads that find nothing. */
+/* The two texts of a key: a str or an int as it is, each in a table of its own, so that "1" and 1 are two keys; and any other key
+ * by its number, in a third table. A fourth has the numbers of loads that find nothing. */
 typedef struct {
     const uint8_t *table, *id;
     size_t table_len, id_len;
@@ -163,7 +163,8 @@ static int equal_number_texts(PyObject *key, Py_hash_t hash, KeyTexts *texts)
     return is_equal == 0 && hash == -2 ? equal_int_texts(key, -1, texts) : is_equal;
 }
 
-/* The number of any other key, which a new one gets where `is_given`: 1 with the texts, 0 where it has none, -1 with an exception. */
+/* The number of any other key, which a new one gets where `is_given`: 1 with the texts; 0 where it has none; -1 with an
+ * exception. */
 static int numbered_texts(Desk *self, PyObject *key, bool is_given, KeyTexts *texts)
 {
     PyObject *number;
@@ -221,8 +222,8 @@ static PyObject *cache_key_of(Desk *self, PyObject *key)
     return key;
 }
 
-/* The texts of a key: 1; 0 where it isn't known, and won't be as `is_given` says; -1 with an exception. Where it isn't -1, the owner
- * is let go by the caller. */
+/* The texts of a key: 1; 0 where it isn't known, and won't be as `is_given` says; -1 with an exception. Where it isn't -1, the
+ * owner is let go by the caller. */
 static int key_texts(Desk *self, PyObject *key, bool is_given, KeyTexts *texts)
 {
     Py_ssize_t len;
@@ -314,7 +315,8 @@ static bool bind(Desk *self, PyObject *loop)
     return true;
 }
 
-/* What the loop's `_thread_id` is: asyncio's own loops have an object of their own there for each run, and None between. Borrowed. */
+/* What the loop's `_thread_id` is: asyncio's own loops have an object of their own there for each run, and None between. It is
+ * borrowed. */
 static PyObject *current_run(const Desk *self)
 {
     PyObject *run = self->loop_dict == NULL ? NULL : PyDict_GetItemWithError(self->loop_dict, thread_id_name);
@@ -341,7 +343,8 @@ static bool find_loop(Desk *self)
     } else if (self->loop == loop) {
         is_own = true;
     } else {
-        PyErr_SetString(PyExc_RuntimeError, "the loader belongs to another event loop: make a loader for each request, inside its loop");
+        PyErr_SetString(PyExc_RuntimeError,
+                        "the loader belongs to another event loop: make a loader for each request, inside its loop");
     }
     Py_DECREF(loop);
     if (is_own) {
@@ -949,8 +952,8 @@ static PyObject *batch_keys(Desk *self, uint32_t batch)
     return keys;
 }
 
-/* The batches that the desk has sent, each by its number with the keys of its members. One whose loads have all raised is ended, and
- * isn't among them. */
+/* The batches that the desk has sent, each by its number with the keys of its members. One whose loads have all raised is ended,
+ * and isn't among them. */
 static PyObject *sent_batches(Desk *self, dl_dispatched sent)
 {
     PyObject *batches = PyList_New(0);
@@ -1140,7 +1143,7 @@ static PyObject *desk_fail(Desk *self, PyObject *const *args, Py_ssize_t count)
     Py_RETURN_NONE;
 }
 
-/* Ends what is collected and can't be sent. A desk without the memory to send forgets all its keys, which no memory is needed for. */
+/* Ends what is collected and can't be sent. A desk without the memory to send forgets all its keys: that takes no memory. */
 static PyObject *desk_abandon(Desk *self, PyObject *fault)
 {
     bool is_any = false;
@@ -1242,7 +1245,8 @@ static int desk_init(Desk *self, PyObject *args, PyObject *kwargs)
     uint64_t seed[2];
     uint32_t code;
 
-    if (!PyArg_ParseTupleAndKeywords(args, kwargs, "IIpOO:Desk", names, &max_batch, &max_cells, &is_memo, &get_cache_key, &cache_map)) {
+    if (!PyArg_ParseTupleAndKeywords(args, kwargs, "IIpOO:Desk", names, &max_batch, &max_cells, &is_memo, &get_cache_key,
+                                     &cache_map)) {
         return -1;
     }
     if (!take_seed(seed)) {
@@ -1341,7 +1345,8 @@ static PyTypeObject desk_type = {
     .tp_name = "thrushscreen._desk.Desk",
     .tp_basicsize = sizeof(Desk),
     .tp_flags = Py_TPFLAGS_DEFAULT | Py_TPFLAGS_BASETYPE | Py_TPFLAGS_HAVE_GC,
-    .tp_doc = PyDoc_STR("The proved loader of one thread, and who waits for what. A subclass has `_schedule`, which has `_send` called."),
+    .tp_doc = PyDoc_STR("The proved loader of one thread, and who waits for what. A subclass has `_schedule`, which has `_send` "
+                        "called."),
     .tp_new = PyType_GenericNew,
     .tp_init = (initproc)desk_init,
     .tp_dealloc = (destructor)desk_dealloc,
