@@ -94,7 +94,7 @@ static PyObject *raise_code(uint32_t code)
 typedef struct {
     const uint8_t *table, *id;
     size_t table_len, id_len;
-    PyObject *owner; /* who owns the id's bytes, or NULL */
+    PyObject *owner; /* who owns the id's bytes, or NULL where the caller's key does */
     uint8_t digits[24];
 } KeyTexts;
 
@@ -226,29 +226,38 @@ static PyObject *cache_key_of(Desk *self, PyObject *key)
  * owner is let go by the caller. */
 static int key_texts(Desk *self, PyObject *key, bool is_given, KeyTexts *texts)
 {
-    Py_ssize_t len;
+    const char *id = NULL;
+    Py_ssize_t len = 0;
     int found;
 
-    key = cache_key_of(self, key);
-    if (key == NULL) {
+    texts->owner = NULL;
+    texts->table_len = 4;
+    if (!is_key(key)) {
         return -1;
     }
-    texts->owner = key;
-    texts->table_len = 4;
-    if (PyUnicode_Check(key) && is_plain(Py_TYPE(key), &PyUnicode_Type)) {
-        const char *id = PyUnicode_AsUTF8AndSize(key, &len);
-        if (id != NULL && len > 0 && len <= DL_ID_BYTES) {
-            texts->table = (const uint8_t *)"text";
-            texts->id = (const uint8_t *)id;
-            texts->id_len = (size_t)len;
-            return 1;
+    if (self->get_cache_key != NULL) {
+        key = texts->owner = PyObject_CallOneArg(self->get_cache_key, key);
+        if (key == NULL) {
+            return -1;
         }
+    }
+    if (PyUnicode_CheckExact(key) && PyUnicode_IS_COMPACT_ASCII(key)) {
+        id = (const char *)PyUnicode_1BYTE_DATA(key);
+        len = PyUnicode_GET_LENGTH(key);
+    } else if (PyUnicode_Check(key) && is_plain(Py_TYPE(key), &PyUnicode_Type)) {
+        id = PyUnicode_AsUTF8AndSize(key, &len);
         /* A surrogate is in no UTF-8. */
         if (id == NULL && !PyErr_ExceptionMatches(PyExc_UnicodeEncodeError)) {
             goto failed;
         }
         PyErr_Clear();
     } else if (PyLong_Check(key) && is_plain(Py_TYPE(key), &PyLong_Type) && int_texts(key, texts)) {
+        return 1;
+    }
+    if (id != NULL && len > 0 && len <= DL_ID_BYTES) {
+        texts->table = (const uint8_t *)"text";
+        texts->id = (const uint8_t *)id;
+        texts->id_len = (size_t)len;
         return 1;
     }
     found = numbered_texts(self, key, is_given, texts);
@@ -805,7 +814,7 @@ static PyObject *desk_held(Desk *self, PyObject *key)
     if (found == 1) {
         answer = dl_desk_held(&self->desk, texts.table, texts.table_len, texts.id, texts.id_len);
     }
-    Py_DECREF(texts.owner);
+    Py_XDECREF(texts.owner);
     if (answer.code == DL_NONE) {
         Py_RETURN_NONE;
     }
@@ -877,7 +886,7 @@ static PyObject *desk_prime(Desk *self, PyObject *key)
         return NULL;
     }
     cell = prime_cell(self, &texts);
-    Py_DECREF(texts.owner);
+    Py_XDECREF(texts.owner);
     return cell;
 }
 
@@ -906,7 +915,7 @@ static PyObject *desk_clear(Desk *self, PyObject *key)
     if (found == 1) {
         code = dl_desk_clear(&self->desk, texts.table, texts.table_len, texts.id, texts.id_len);
     }
-    Py_DECREF(texts.owner);
+    Py_XDECREF(texts.owner);
     if (code != DL_DONE) {
         return raise_code(code);
     }
