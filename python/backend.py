@@ -51,7 +51,8 @@ def build_wheel(wheel_directory, config_settings=None, metadata_directory=None):
     tag = f"{python}-{python}{sys.abiflags}-{re.sub('[-.]', '_', sysconfig.get_platform())}"
     info = f"thrushscreen-{VERSION}.dist-info"
     wheel = f"Wheel-Version: 1.0\nGenerator: thrushscreen ({VERSION})\nRoot-Is-Purelib: false\nTag: {tag}\n"
-    files = {f"thrushscreen/{file.name}": file.read_bytes() for file in sorted(PACKAGE.iterdir()) if file.suffix in (".py", ".pyi") or file.name == "py.typed"}
+    sources = [file for file in sorted(PACKAGE.iterdir()) if file.suffix in (".py", ".pyi", ".typed")]
+    files = {f"thrushscreen/{file.name}": file.read_bytes() for file in sources}
     files[f"thrushscreen/_desk{sysconfig.get_config_var('EXT_SUFFIX')}"] = extension()
     files[f"{info}/METADATA"] = METADATA.encode()
     files[f"{info}/WHEEL"] = wheel.encode()

@@ -277,7 +277,8 @@ class AcceptsOptions(unittest.IsolatedAsyncioTestCase):
 
     async def test_keys_are_repeated_in_batch_when_cache_disabled(self):
         loader, load_calls = id_loader(cache=False)
-        values = await asyncio.gather(loader.load("A"), loader.load("C"), loader.load("D"), loader.load_many(["C", "D", "A", "A", "B"]))
+        many = ["C", "D", "A", "A", "B"]
+        values = await asyncio.gather(loader.load("A"), loader.load("C"), loader.load("D"), loader.load_many(many))
         self.assertEqual(values, ["A", "C", "D", ["C", "D", "A", "A", "B"]])
         self.assertEqual(load_calls, [["A", "C", "D", "C", "D", "A", "A", "B"]])
 

@@ -336,6 +336,33 @@ class Raised(unittest.IsolatedAsyncioTestCase):
         callbacks[0]()
         self.assertEqual(await soon(asyncio.gather(*loads)), [1, 3])
         self.assertEqual(batches, [[1, 3]])
+        self.assertEqual(loader.counters, Counters(loads=2, hits=0, batches=1, keys=2, failures=0))
+
+    async def test_a_call_that_raises_leaves_no_future_behind(self):
+        gate = asyncio.Event()
+        fails = [False, True]
+        reports = []
+
+        def batch_schedule_fn(send):
+            if fails.pop(0):
+                raise OSError("no timer")
+            send()
+
+        async def batch_load_fn(keys):
+            await gate.wait()
+            raise OSError("down")
+
+        loader = DataLoader(batch_load_fn, batch_schedule_fn=batch_schedule_fn)
+        load = loader.load(1)
+        with self.assertRaisesRegex(OSError, "no timer"):
+            loader.load_many([1, 2])
+        asyncio.get_running_loop().set_exception_handler(lambda _, context: reports.append(context["message"]))
+        gate.set()
+        with self.assertRaisesRegex(OSError, "down"):
+            await soon(load)
+        await turns()
+        gc.collect()
+        self.assertEqual(reports, [])
 
     async def test_a_task_that_cannot_be_made_forgets_the_keys(self):
         loop = asyncio.get_running_loop()

@@ -1,8 +1,8 @@
 /* The desk for Python: a type over dl_desk.h that keeps, for each cell, who waits for it and then its outcome. It works under the
  * interpreter's lock, and a desk belongs to the thread and the event loop of its first load.
  *
- * Any call of Python's may come back with another call of the same desk, by a finalizer if nothing else. So what the desk answers is
- * noted before the next such call, and a cell is looked up by its number after each. */
+ * Any call of Python's may come back with another call of the same desk, by a finalizer if nothing else. So what the desk answers
+ * is noted before the next such call, and a cell is looked up by its number after each. */
 #define PY_SSIZE_T_CLEAN
 #include <Python.h>
 
@@ -89,12 +89,12 @@ static PyObject *raise_code(uint32_t code)
 
 /* Keys. */
 
-/* The two texts of a key: a str or an int as it is, each in a table of its own, so that "1" and 1 are two keys; and any other key by
- * its number, in a third table. A fourth has the numbers of loads that find nothing. */
+/* The two texts of a key: a str or an int as it is, each in a table of its own, so that "1" and 1 are two keys; and any other key
+ * by its number, in a third table. A fourth has the numbers of loads that find nothing. */
 typedef struct {
     const uint8_t *table, *id;
     size_t table_len, id_len;
-    PyObject *owner; /* who owns the id's bytes, or NULL */
+    PyObject *owner; /* who owns the id's bytes, or NULL where the caller's key does */
     uint8_t digits[24];
 } KeyTexts;
 
@@ -163,7 +163,8 @@ static int equal_number_texts(PyObject *key, Py_hash_t hash, KeyTexts *texts)
     return is_equal == 0 && hash == -2 ? equal_int_texts(key, -1, texts) : is_equal;
 }
 
-/* The number of any other key, which a new one gets where `is_given`: 1 with the texts, 0 where it has none, -1 with an exception. */
+/* The number of any other key, which a new one gets where `is_given`: 1 with the texts; 0 where it has none; -1 with an
+ * exception. */
 static int numbered_texts(Desk *self, PyObject *key, bool is_given, KeyTexts *texts)
 {
     PyObject *number;
@@ -221,33 +222,42 @@ static PyObject *cache_key_of(Desk *self, PyObject *key)
     return key;
 }
 
-/* The texts of a key: 1; 0 where it isn't known, and won't be as `is_given` says; -1 with an exception. Where it isn't -1, the owner
- * is let go by the caller. */
+/* The texts of a key: 1; 0 where it isn't known, and won't be as `is_given` says; -1 with an exception. Where it isn't -1, the
+ * owner is let go by the caller. */
 static int key_texts(Desk *self, PyObject *key, bool is_given, KeyTexts *texts)
 {
-    Py_ssize_t len;
+    const char *id = NULL;
+    Py_ssize_t len = 0;
     int found;
 
-    key = cache_key_of(self, key);
-    if (key == NULL) {
+    texts->owner = NULL;
+    texts->table_len = 4;
+    if (!is_key(key)) {
         return -1;
     }
-    texts->owner = key;
-    texts->table_len = 4;
-    if (PyUnicode_Check(key) && is_plain(Py_TYPE(key), &PyUnicode_Type)) {
-        const char *id = PyUnicode_AsUTF8AndSize(key, &len);
-        if (id != NULL && len > 0 && len <= DL_ID_BYTES) {
-            texts->table = (const uint8_t *)"text";
-            texts->id = (const uint8_t *)id;
-            texts->id_len = (size_t)len;
-            return 1;
+    if (self->get_cache_key != NULL) {
+        key = texts->owner = PyObject_CallOneArg(self->get_cache_key, key);
+        if (key == NULL) {
+            return -1;
         }
+    }
+    if (PyUnicode_CheckExact(key) && PyUnicode_IS_COMPACT_ASCII(key)) {
+        id = (const char *)PyUnicode_1BYTE_DATA(key);
+        len = PyUnicode_GET_LENGTH(key);
+    } else if (PyUnicode_Check(key) && is_plain(Py_TYPE(key), &PyUnicode_Type)) {
+        id = PyUnicode_AsUTF8AndSize(key, &len);
         /* A surrogate is in no UTF-8. */
         if (id == NULL && !PyErr_ExceptionMatches(PyExc_UnicodeEncodeError)) {
             goto failed;
         }
         PyErr_Clear();
     } else if (PyLong_Check(key) && is_plain(Py_TYPE(key), &PyLong_Type) && int_texts(key, texts)) {
+        return 1;
+    }
+    if (id != NULL && len > 0 && len <= DL_ID_BYTES) {
+        texts->table = (const uint8_t *)"text";
+        texts->id = (const uint8_t *)id;
+        texts->id_len = (size_t)len;
         return 1;
     }
     found = numbered_texts(self, key, is_given, texts);
@@ -314,7 +324,8 @@ static bool bind(Desk *self, PyObject *loop)
     return true;
 }
 
-/* What the loop's `_thread_id` is: asyncio's own loops have an object of their own there for each run, and None between. Borrowed. */
+/* What the loop's `_thread_id` is: asyncio's own loops have an object of their own there for each run, and None between. It is
+ * borrowed. */
 static PyObject *current_run(const Desk *self)
 {
     PyObject *run = self->loop_dict == NULL ? NULL : PyDict_GetItemWithError(self->loop_dict, thread_id_name);
@@ -341,7 +352,8 @@ static bool find_loop(Desk *self)
     } else if (self->loop == loop) {
         is_own = true;
     } else {
-        PyErr_SetString(PyExc_RuntimeError, "the loader belongs to another event loop: make a loader for each request, inside its loop");
+        PyErr_SetString(PyExc_RuntimeError,
+                        "the loader belongs to another event loop: make a loader for each request, inside its loop");
     }
     Py_DECREF(loop);
     if (is_own) {
@@ -802,7 +814,7 @@ static PyObject *desk_held(Desk *self, PyObject *key)
     if (found == 1) {
         answer = dl_desk_held(&self->desk, texts.table, texts.table_len, texts.id, texts.id_len);
     }
-    Py_DECREF(texts.owner);
+    Py_XDECREF(texts.owner);
     if (answer.code == DL_NONE) {
         Py_RETURN_NONE;
     }
@@ -874,7 +886,7 @@ static PyObject *desk_prime(Desk *self, PyObject *key)
         return NULL;
     }
     cell = prime_cell(self, &texts);
-    Py_DECREF(texts.owner);
+    Py_XDECREF(texts.owner);
     return cell;
 }
 
@@ -903,7 +915,7 @@ static PyObject *desk_clear(Desk *self, PyObject *key)
     if (found == 1) {
         code = dl_desk_clear(&self->desk, texts.table, texts.table_len, texts.id, texts.id_len);
     }
-    Py_DECREF(texts.owner);
+    Py_XDECREF(texts.owner);
     if (code != DL_DONE) {
         return raise_code(code);
     }
@@ -949,8 +961,8 @@ static PyObject *batch_keys(Desk *self, uint32_t batch)
     return keys;
 }
 
-/* The batches that the desk has sent, each by its number with the keys of its members. One whose loads have all raised is ended, and
- * isn't among them. */
+/* The batches that the desk has sent, each by its number with the keys of its members. One whose loads have all raised is ended,
+ * and isn't among them. */
 static PyObject *sent_batches(Desk *self, dl_dispatched sent)
 {
     PyObject *batches = PyList_New(0);
@@ -1140,7 +1152,7 @@ static PyObject *desk_fail(Desk *self, PyObject *const *args, Py_ssize_t count)
     Py_RETURN_NONE;
 }
 
-/* Ends what is collected and can't be sent. A desk without the memory to send forgets all its keys, which no memory is needed for. */
+/* Ends what is collected and can't be sent. A desk without the memory to send forgets all its keys: that takes no memory. */
 static PyObject *desk_abandon(Desk *self, PyObject *fault)
 {
     bool is_any = false;
@@ -1242,7 +1254,8 @@ static int desk_init(Desk *self, PyObject *args, PyObject *kwargs)
     uint64_t seed[2];
     uint32_t code;
 
-    if (!PyArg_ParseTupleAndKeywords(args, kwargs, "IIpOO:Desk", names, &max_batch, &max_cells, &is_memo, &get_cache_key, &cache_map)) {
+    if (!PyArg_ParseTupleAndKeywords(args, kwargs, "IIpOO:Desk", names, &max_batch, &max_cells, &is_memo, &get_cache_key,
+                                     &cache_map)) {
         return -1;
     }
     if (!take_seed(seed)) {
@@ -1341,7 +1354,8 @@ static PyTypeObject desk_type = {
     .tp_name = "thrushscreen._desk.Desk",
     .tp_basicsize = sizeof(Desk),
     .tp_flags = Py_TPFLAGS_DEFAULT | Py_TPFLAGS_BASETYPE | Py_TPFLAGS_HAVE_GC,
-    .tp_doc = PyDoc_STR("The proved loader of one thread, and who waits for what. A subclass has `_schedule`, which has `_send` called."),
+    .tp_doc = PyDoc_STR("The proved loader of one thread, and who waits for what. A subclass has `_schedule`, which has `_send` "
+                        "called."),
     .tp_new = PyType_GenericNew,
     .tp_init = (initproc)desk_init,
     .tp_dealloc = (destructor)desk_dealloc,

@@ -141,7 +141,9 @@ class DataLoader(Desk[K, V]):
     # `load(key)`, `held(key)`, `clear(key)` and `clear_all()` are the desk's.
 
     @overload
-    def load_many(self, keys: Iterable[K], *, return_exceptions: Literal[True] = ...) -> asyncio.Future[list[V | BaseException]]: ...
+    def load_many(
+        self, keys: Iterable[K], *, return_exceptions: Literal[True] = ...
+    ) -> asyncio.Future[list[V | BaseException]]: ...
 
     @overload
     def load_many(self, keys: Iterable[K], *, return_exceptions: Literal[False]) -> asyncio.Future[list[V]]: ...
@@ -185,8 +187,8 @@ class DataLoader(Desk[K, V]):
         self._fetch_all(self._send())
 
     async def _send_late(self) -> None:
-        """Sends what is collected once callers that are a few tasks behind have made their loads. A batch that is alone is fetched by
-        the same task."""
+        """Sends what is collected once callers that are a few tasks behind have made their loads. A batch that is alone is fetched
+        by the same task."""
         try:
             await _NEXT_TURN
             while self._sender is None:
