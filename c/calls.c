@@ -6,12 +6,28 @@
 #include <stdio.h>
 #include <string.h>
 
+#define AT(type, member, place) _Static_assert(offsetof(type, member) == (place), "the place of " #member)
+
 _Static_assert(sizeof(dl_desk) == 16, "a handle");
-_Static_assert(offsetof(dl_desk, held) == 8, "the pointer of a handle");
+AT(dl_desk, is_open, 0);
+AT(dl_desk, held, 8);
 _Static_assert(sizeof(dl_loaded) == 12, "an answer with a cell");
+AT(dl_loaded, code, 0);
+AT(dl_loaded, cell, 4);
+AT(dl_loaded, batch, 8);
 _Static_assert(sizeof(dl_dispatched) == 16, "an answer to a dispatch");
+AT(dl_dispatched, code, 0);
+AT(dl_dispatched, first, 4);
+AT(dl_dispatched, count, 8);
 _Static_assert(sizeof(dl_key_lengths) == 8, "the lengths of a key");
+AT(dl_key_lengths, table, 0);
+AT(dl_key_lengths, id, 4);
 _Static_assert(sizeof(dl_key_texts) == 208, "the texts of a key");
+AT(dl_key_texts, table_len, 0);
+AT(dl_key_texts, id_len, 8);
+AT(dl_key_texts, table, 16);
+AT(dl_key_texts, id, 80);
+_Static_assert(DL_TABLE_BYTES == 64 && DL_ID_BYTES == 128 && DL_LARGEST_LIMIT == 65536, "limits");
 
 static unsigned passed, failed;
 
@@ -196,7 +212,7 @@ static void a_settled_key_is_held_and_a_failed_one_is_not(void)
     CHECK(dl_desk_fail(&desk, 1) == DL_DONE);
     CHECK(is(dl_desk_held(&desk, USER("a")), DL_HIT, 0, 0));
     CHECK(is(dl_desk_held(&desk, USER("b")), DL_HIT, 1, 0));
-    CHECK(is(dl_desk_held(&desk, USER("c")), DL_FRESH, 0, 0));
+    CHECK(is(dl_desk_held(&desk, USER("c")), DL_NONE, 0, 0));
     CHECK(is(dl_desk_held(&desk, USER("d")), DL_HIT, 4, 0));
     CHECK(is(dl_desk_load(&desk, USER("c")), DL_FRESH, 5, 2));
     CHECK(dl_desk_close(&desk) == DL_DONE);
@@ -212,11 +228,11 @@ static void keys_are_primed_and_cleared(void)
     CHECK(is(dl_desk_load(&desk, USER("a")), DL_HIT, 0, 0));
     CHECK(dl_desk_clear(&desk, USER("b")) == DL_DONE);
     CHECK(dl_desk_clear(&desk, USER("a")) == DL_DONE);
-    CHECK(is(dl_desk_held(&desk, USER("a")), DL_FRESH, 0, 0));
+    CHECK(is(dl_desk_held(&desk, USER("a")), DL_NONE, 0, 0));
     CHECK(is(dl_desk_load(&desk, USER("a")), DL_FRESH, 1, 0));
     CHECK(is(dl_desk_load(&desk, USER("b")), DL_FRESH, 2, 0));
     CHECK(dl_desk_clear_all(&desk) == DL_DONE);
-    CHECK(is(dl_desk_held(&desk, USER("b")), DL_FRESH, 0, 0));
+    CHECK(is(dl_desk_held(&desk, USER("b")), DL_NONE, 0, 0));
     /* A fresh load goes into the batch that is begun, but for one that has the key. */
     CHECK(is(dl_desk_prime(&desk, USER("c")), DL_FRESH, 3, 0));
     CHECK(is(dl_desk_prime(&desk, USER("d")), DL_CELLS_FULL, 0, 0));

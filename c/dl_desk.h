@@ -33,7 +33,8 @@ typedef struct dl_desk {
 enum {
     DL_DONE = 0,          /* the call is made */
     DL_HIT = 0,           /* a cell is found; of a prime: the key is held already */
-    DL_FRESH = 1,         /* a cell is begun; of dl_desk_held: none is held */
+    DL_FRESH = 1,         /* a cell is begun */
+    DL_NONE = 1,          /* of dl_desk_held: no cell is held */
     DL_OUT_OF_MEMORY = 2, /* malloc or realloc refused */
     DL_CELLS_FULL = 3,    /* the call would begin more cells than the limit */
     DL_NO_BATCH = 4,      /* no batch has this number yet */
@@ -108,7 +109,7 @@ uint32_t dl_desk_load_many(dl_desk *desk, const uint8_t *texts, size_t texts_len
 dl_loaded dl_desk_prime(dl_desk *desk, DL_KEY);
 
 /* The cell that is held for a key. It changes nothing.
- * DL_HIT with the cell; DL_FRESH where none is held.
+ * DL_HIT with the cell; DL_NONE where none is held.
  * DL_CLOSED, DL_BAD_KEY, DL_OUT_OF_MEMORY. */
 dl_loaded dl_desk_held(dl_desk *desk, DL_KEY);
 

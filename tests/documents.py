@@ -428,7 +428,15 @@ ROWS["a plan file is answered"] = [
         "0 0 ok [[[[[[[[[[[[[[[[[[[[[[[[[[[[[[[1]]]]]]]]]]]]]]]]]]]]]]]]]]]]]]]",
     ),
     answered("the name of a friend, by no options", plan_file(NAME_OF_A_FRIEND), BOB),
-    answered("the name of a friend, in a file of 1,048,576 bytes", document(plan_file(NAME_OF_A_FRIEND), (" ", 1_048_243)), BOB),
+    answered(
+        "the name of a friend, in a file of 1,048,576 bytes",
+        document(plan_file(NAME_OF_A_FRIEND), (" ", 1_048_243)),
+        BOB,
+        "rounds 2",
+        'batch 0 [["user","u1"]] settled',
+        'batch 1 [["user","u2"]] settled',
+        command_lines=BATCHES,
+    ),
     answered(
         "as many plans as there may be",
         document('{"version":1,"tables":[],"plans":[', ("[],", 15), '[{"eval":{"value":"last"}}]]}'),
@@ -438,6 +446,7 @@ ROWS["a plan file is answered"] = [
 
 ROWS["other documents are no plan files"] = [
     refused("not json", ("[", 200), ("]", 200), about="200 lists in one another"),
+    refused("not json", b"\xff", about="one byte that is no UTF-8"),
     refused("version", "{}"),
     refused("version", "null"),
     refused("version", "[1]"),

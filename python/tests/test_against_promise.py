@@ -53,28 +53,27 @@ def script(seed):
 
 
 class Notes:
-    """What is seen of a run: which outcome each load gave, by its first place, the batches, and how each outcome ended."""
+    """What is seen of a run: whether each load was a hit, the batches, and how each load ended."""
 
-    def __init__(self):
+    def __init__(self, load):
+        self.load_by = load
         self.seen = []
         self.lists = []
         self.batches = []
         self.ends = []
 
-    def load(self, outcome):
-        for place, other in enumerate(self.seen):
-            if other is outcome:
-                return place
+    def load(self, loader, key):
+        is_hit, outcome = self.load_by(loader, key)
         self.seen.append(outcome)
-        return len(self.seen) - 1
+        return is_hit
 
 
 def call(loader, notes, name, keys):
     if name == "load":
-        return notes.load(loader.load(keys[0]))
+        return notes.load(loader, keys[0])
     if name == "load_many":
         notes.lists.append(loader.load_many(keys))
-        return [notes.load(loader.load(key)) for key in keys]
+        return [notes.load(loader, key) for key in keys]
     if name == "prime":
         loader.prime(keys[0], "primed")
     elif name == "prime_error":
@@ -90,8 +89,14 @@ def spelled(kind, what):
     return f"{kind.__name__}({what})" if isinstance(what, Exception) else what
 
 
+def load_future(loader, key):
+    hits = loader.counters.hits
+    future = loader.load(key)
+    return loader.counters.hits > hits, future
+
+
 async def by_futures(limit, turns):
-    notes = Notes()
+    notes = Notes(load_future)
     broken = None
 
     async def batch_load_fn(keys):
@@ -109,8 +114,13 @@ async def by_futures(limit, turns):
     return replies, notes.batches, notes.ends
 
 
+def load_promise(loader, key):
+    is_hit = key in loader._promise_cache
+    return is_hit, loader.load(key)
+
+
 def by_promises(limit, turns):
-    notes = Notes()
+    notes = Notes(load_promise)
     broken = None
 
     def batch_load_fn(keys):

@@ -1,6 +1,7 @@
 """Thrushscreen's data loader for asyncio: what hits, what is batched and what is forgotten is decided by a proved library."""
 
 from ._desk import LoaderFull
-from .data_loader import DataLoader
+from .data_loader import Counters, DataLoader
 
-__all__ = ["DataLoader", "LoaderFull"]
+__all__ = ["Counters", "DataLoader", "LoaderFull"]
+__version__ = "0.2.0"

@@ -1,131 +1,315 @@
 """A data loader for asyncio, over the proved desk."""
 
+from __future__ import annotations
+
 import asyncio
-from typing import Any, Awaitable, Callable, Hashable, Iterable, List, Optional, Sequence, Union
+from collections import deque
+from collections.abc import Awaitable, Callable, Coroutine, Generator, Hashable, Iterable, MutableMapping, Sequence
+from functools import partial
+from typing import Any, Literal, NamedTuple, TypeVar, overload
 
 from ._desk import Desk
 
+__all__ = ["Counters", "DataLoader"]
+
+K = TypeVar("K")
+V = TypeVar("V")
+Loader = TypeVar("Loader", bound="DataLoader[Any, Any]")
+
+# The most keys of a batch, and the most cells of a loader.
 LARGEST_LIMIT = 65_536
 
-Key = Any
-BatchLoadFn = Callable[[List[Key]], Awaitable[Sequence[Any]]]
+# The most turns of an event loop that is always busy for which a batch waits, and the most without a load.
+MOST_TURNS = 32
+MOST_QUIET_TURNS = 4
 
 
-class DataLoader(Desk):
-    """Loads keys in batches, once a turn of the event loop, and each key once.
+class _Senders:
+    """The tasks of an event loop that wait until it has nothing else ready."""
+
+    count = 0
+    may_send = False
+
+
+_senders: dict[asyncio.AbstractEventLoop, _Senders] = {}
+
+
+class Counters(NamedTuple):
+    """What a loader has done since it was made."""
+
+    loads: int
+    """Keys that were loaded, each as often as it was."""
+    hits: int
+    """Loads among them that found their key."""
+    batches: int
+    """Batches that were sent to the batch function."""
+    keys: int
+    """Keys that these batches had."""
+    failures: int
+    """Batches that failed as a whole."""
+
+
+class DataLoader(Desk[K, V]):
+    """Loads keys in batches, and each key once.
 
     The batch function is given the keys of a batch, in the order of their loads, and answers a value for each, in the same order.
     An exception in a value's place is the error of that key alone: it stays, like a value. An exception that the function raises
     is the error of each key of the batch: these are forgotten, so that a later load fetches them again.
 
-    A key is a ``str`` of 1 to 128 bytes as UTF-8, or an ``int``; ``get_cache_key`` makes one of any other key. A loader begins
-    ``max_cells`` cells at most, and gives none back: make one for each request. It belongs to one event loop.
+    A load that waits has a future of its own: cancelling it touches no other. A loader belongs to the event loop of its first load.
+    It begins ``max_cells`` cells at most, and gives none back: make one for each request.
     """
 
-    batch_load_fn: BatchLoadFn
-    max_batch_size: Optional[int] = None
-    get_cache_key: Optional[Callable[[Key], Union[str, int]]] = None
+    # What a loader isn't given, it has of its class.
+    batch_load_fn: Callable[[list[K]], Awaitable[Sequence[V | BaseException]]]
+    batch: bool = True
+    max_batch_size: int | None = None
+    cache: bool = True
+    get_cache_key: Callable[[K], Hashable] | None = None
+    cache_map: MutableMapping[Any, asyncio.Future[V]] | None = None
+    batch_schedule_fn: Callable[[Callable[[], None]], object] | None = None
+    name: str | None = None
 
     def __init__(
         self,
-        batch_load_fn: Optional[BatchLoadFn] = None,
-        max_batch_size: Optional[int] = None,
-        get_cache_key: Optional[Callable[[Key], Union[str, int]]] = None,
+        batch_load_fn: Callable[[list[K]], Awaitable[Sequence[V | BaseException]]] | None = None,
+        *,
+        batch: bool | None = None,
+        max_batch_size: int | None = None,
+        cache: bool | None = None,
+        get_cache_key: Callable[[K], Hashable] | None = None,
+        cache_map: MutableMapping[Any, asyncio.Future[V]] | None = None,
+        batch_schedule_fn: Callable[[Callable[[], None]], object] | None = None,
+        name: str | None = None,
         max_cells: int = LARGEST_LIMIT,
     ) -> None:
-        """A loader with this batch function, or with that of a subclass."""
+        """A loader with this batch function, or with that of a subclass.
+
+        :param batch: whether several keys are fetched at once.
+        :param max_batch_size: the most keys of a batch.
+        :param cache: whether a key is remembered. Else each load is fetched.
+        :param get_cache_key: makes of a key the one by which it is remembered.
+        :param cache_map: remembers the futures of keys in the loader's place. It belongs to one loader.
+        :param batch_schedule_fn: is given a function that sends what is collected, and has it called when it likes.
+        :param name: for reports.
+        :param max_cells: the most keys that are begun.
+        """
         if batch_load_fn is not None:
             self.batch_load_fn = batch_load_fn
-        if not callable(getattr(self, "batch_load_fn", None)):
-            raise TypeError("a loader needs a batch function")
+        if batch is not None:
+            self.batch = batch
         if max_batch_size is not None:
             self.max_batch_size = max_batch_size
+        if cache is not None:
+            self.cache = cache
         if get_cache_key is not None:
             self.get_cache_key = get_cache_key
-        super().__init__(
-            LARGEST_LIMIT if self.max_batch_size is None else self.max_batch_size,
-            max_cells,
-            self.get_cache_key,
-        )
-        # The keys and the futures of each batch that isn't sent, in the order of their loads.
-        self._collecting = {}
-        # The tasks that fetch batches.
-        self._fetches = set()
+        if cache_map is not None:
+            self.cache_map = cache_map
+        if batch_schedule_fn is not None:
+            self.batch_schedule_fn = batch_schedule_fn
+        if name is not None:
+            self.name = name
+        if not callable(getattr(self, "batch_load_fn", None)):
+            raise TypeError("a loader needs a batch function")
+        if self.get_cache_key is not None:
+            _check_function("get_cache_key", self.get_cache_key)
+        if self.batch_schedule_fn is not None:
+            _check_function("batch_schedule_fn", self.batch_schedule_fn)
+        if self.cache_map is not None:
+            _check_map(self.cache_map)
+        if self.name is not None:
+            _check_type("name", self.name, str)
+        largest = LARGEST_LIMIT
+        if self.max_batch_size is not None:
+            _check_type("max_batch_size", self.max_batch_size, int)
+            largest = self.max_batch_size
+        cache_map = self.cache_map if self.cache else None
+        super().__init__(largest if self.batch else 1, max_cells, self.cache, self.get_cache_key, cache_map)
+        # The task that will send what is collected, where one will, and those that fetch, by their batches.
+        self._sender: asyncio.Task[None] | None = None
+        self._fetches: dict[int, asyncio.Task[None]] = {}
 
-    # `load(key)`, `clear(key)` and `clear_all()` are the desk's. `load` answers the future of the key: one for all its loads.
+    def __repr__(self) -> str:
+        return f"<{type(self).__name__} {self.name!r}>" if self.name is not None else super().__repr__()
 
-    def load_many(self, keys: Iterable[Key]) -> "asyncio.Future[List[Any]]":
-        """Loads the keys as one call: a future of their values in order, or of the first error."""
-        return asyncio.gather(*self.load_all(keys))
+    @property
+    def counters(self) -> Counters:
+        """What the loader has done so far."""
+        return Counters(*self._counts)
 
-    def prime(self, key: Key, value: Any) -> "DataLoader":
-        """Holds a value, or an exception, for the key, unless one is held."""
-        future = asyncio.get_running_loop().create_future()
-        _end(future, value)
-        if isinstance(value, BaseException):
-            # It was looked at, so that the loop doesn't report it.
-            future.exception()
-        self.prime_outcome(key, future)
+    # `load(key)`, `held(key)`, `clear(key)` and `clear_all()` are the desk's.
+
+    @overload
+    def load_many(self, keys: Iterable[K], *, return_exceptions: Literal[True] = ...) -> asyncio.Future[list[V | BaseException]]: ...
+
+    @overload
+    def load_many(self, keys: Iterable[K], *, return_exceptions: Literal[False]) -> asyncio.Future[list[V]]: ...
+
+    def load_many(self, keys: Iterable[K], *, return_exceptions: bool = True) -> asyncio.Future[Any]:
+        """Loads the keys: a future of the value or the exception of each, in order.
+
+        :param return_exceptions: where it is false, the future has the first exception for its own.
+        """
+        futures: Iterable[Awaitable[V]]
+        if type(self).load is Desk.load and self.cache_map is None:
+            futures = self._load_all(keys)
+        else:
+            futures = [self.load(key) for key in keys]
+        return asyncio.gather(*futures, return_exceptions=return_exceptions)
+
+    def prime(self: Loader, key: K, value: V | BaseException | asyncio.Future[V]) -> Loader:
+        """Holds a value for the key, unless one is held. It may be an exception, or a future of either."""
+        cell = self._prime(key)
+        if cell is not None:
+            if asyncio.isfuture(value):
+                value.add_done_callback(partial(self._end_as, cell))
+            else:
+                self._end(cell, value)
         return self
 
-    def begin(self, key: Key, batch: int) -> "asyncio.Future[Any]":
-        """The future of a new cell, which is a member of the batch."""
-        loop = asyncio.get_running_loop()
-        future = loop.create_future()
-        members = self._collecting.get(batch)
-        if members is None:
-            if not self._collecting:
-                loop.call_soon(self._dispatch)
-            members = self._collecting[batch] = ([], [])
-        members[0].append(key)
-        members[1].append(future)
-        return future
+    def _end_as(self, cell: int, future: asyncio.Future[V]) -> None:
+        """Ends a cell as the future has ended."""
+        error = asyncio.CancelledError() if future.cancelled() else future.exception()
+        self._end(cell, future.result() if error is None else error)
+
+    def _schedule(self) -> None:
+        """Has what is collected from here on sent."""
+        if self.batch_schedule_fn is None:
+            self._sender = self._start(self._send_late())
+        else:
+            self.batch_schedule_fn(self._dispatch)
 
     def _dispatch(self) -> None:
-        """Sends the batches of this turn, and begins to fetch each."""
-        loop = asyncio.get_running_loop()
-        first, count = self.send()
-        for batch in range(first, first + count):
-            members = self._collecting.pop(batch, None)
-            if members is None:
-                # Each of its keys was loaded where no loop was running, and is forgotten.
-                self.settle(batch)
-                continue
-            keys, futures = members
-            task = loop.create_task(self._fetch(batch, keys, futures))
-            self._fetches.add(task)
-            task.add_done_callback(self._fetches.discard)
+        """Sends what is collected, and begins to fetch each batch."""
+        self._fetch_all(self._send())
 
-    async def _fetch(self, batch: int, keys: List[Key], futures: List["asyncio.Future[Any]"]) -> None:
+    async def _send_late(self) -> None:
+        """Sends what is collected once callers that are a few tasks behind have made their loads. A batch that is alone is fetched by
+        the same task."""
         try:
-            values = await self.batch_load_fn(keys)
-            _check(values, keys)
+            await _NEXT_TURN
+            while self._sender is None:
+                # It is an eager task, within the load that has begun it.
+                await _NEXT_TURN
+            await self._others()
+            sender, self._sender = self._sender, None
+            batches = self._send()
+        except (Exception, asyncio.CancelledError) as fault:
+            self._sender = None
+            self._abandon(fault)
+            raise
+        if len(batches) == 1:
+            batch, keys = batches[0]
+            self._fetches[batch] = sender
+            await self._fetch(batch, keys)
+        else:
+            self._fetch_all(batches)
+
+    async def _others(self) -> None:
+        """Waits until the event loop has nothing ready but senders, which then all send. A loop that is busy with other things is
+        waited for while it brings loads, and for a few turns more."""
+        loop = self._loop
+        ready = getattr(loop, "_ready", None)
+        if not isinstance(ready, deque):
+            # A loop that isn't asyncio's own doesn't tell what it has ready.
+            await _NEXT_TURN
+            return
+        if not ready and loop not in _senders:
+            return
+        senders = _senders.setdefault(loop, _Senders())
+        senders.count += 1
+        cells, quiet, turns = self._cells, 0, 0
+        try:
+            while not senders.may_send and quiet < MOST_QUIET_TURNS and turns < MOST_TURNS:
+                if len(ready) < senders.count:
+                    senders.may_send = True
+                    del _senders[loop]
+                # Those that have waited before send first.
+                await _NEXT_TURN
+                turns += 1
+                quiet = quiet + 1 if self._cells == cells else 0
+                cells = self._cells
+        finally:
+            senders.count -= 1
+            if not senders.count and _senders.get(loop) is senders:
+                del _senders[loop]
+
+    def _fetch_all(self, batches: list[tuple[int, list[K]]]) -> None:
+        """Begins to fetch each batch."""
+        for place, (batch, keys) in enumerate(batches):
+            try:
+                task = self._start(self._fetch_soon(batch, keys))
+            except BaseException as fault:
+                for left, _ in batches[place:]:
+                    self._fail(left, fault)
+                raise
+            if not task.done():
+                self._fetches[batch] = task
+
+    async def _fetch_soon(self, batch: int, keys: list[K]) -> None:
+        try:
+            await _NEXT_TURN
+        except asyncio.CancelledError as fault:
+            self._fail(batch, fault)
+            raise
+        await self._fetch(batch, keys)
+
+    async def _fetch(self, batch: int, keys: list[K]) -> None:
+        """Fetches a batch, and ends it."""
+        try:
+            answer = await self.batch_load_fn(keys)
+            if type(answer) is not list:
+                _check_answer(answer)
+            self._settle(batch, answer)
+        except GeneratorExit:
+            # The event loop is gone, and who waited with it.
+            raise
         except BaseException as fault:
-            self.fail(batch)
-            for future in futures:
-                _end(future, fault)
+            self._fail(batch, fault)
             if not isinstance(fault, Exception):
                 raise
-            return
-        self.settle(batch)
-        for future, value in zip(futures, values):
-            _end(future, value)
+        finally:
+            self._fetches.pop(batch, None)
+
+    def _start(self, step: Coroutine[Any, Any, None]) -> asyncio.Task[None]:
+        """A task that goes on with the step from its first turn on. Cancelled before, it still finds the step within its `try`."""
+        step.send(None)
+        try:
+            return self._loop.create_task(step)
+        except BaseException:
+            step.close()
+            raise
 
 
-def _check(values: Sequence[Any], keys: Sequence[Hashable]) -> None:
-    if not hasattr(values, "__len__") or not hasattr(values, "__iter__"):
-        raise TypeError("a batch function answers a list of values")
-    if len(values) != len(keys):
-        raise TypeError(f"a batch function answers a value for each of {len(keys)} keys, and not {len(values)}")
+class _Turn:
+    """What is awaited until the next turn of the event loop."""
+
+    def __await__(self) -> Generator[None, None, None]:
+        yield
 
 
-def _end(future: "asyncio.Future[Any]", value: Any) -> None:
-    if future.done():
-        # Whoever waited for it has cancelled it.
-        return
-    if isinstance(value, asyncio.CancelledError):
-        future.cancel()
-    elif isinstance(value, BaseException):
-        future.set_exception(value)
-    else:
-        future.set_result(value)
+_NEXT_TURN = _Turn()
+
+
+def _check_answer(answer: object) -> None:
+    """Refuses what is no sequence, or one of something else than values."""
+    is_sequence = hasattr(answer, "__len__") and hasattr(answer, "__getitem__") and not hasattr(answer, "keys")
+    if not is_sequence or isinstance(answer, (str, bytes, bytearray, memoryview)):
+        raise TypeError(f"a batch function answers a list of values, and not {type(answer).__name__}")
+
+
+def _check_type(option: str, given: object, wanted: type) -> None:
+    if not isinstance(given, wanted) or isinstance(given, bool):
+        raise TypeError(f"{option} is of type {wanted.__name__}, and not {type(given).__name__}")
+
+
+def _check_function(option: str, given: object) -> None:
+    if not callable(given):
+        raise TypeError(f"{option} is a function, and not of type {type(given).__name__}")
+
+
+def _check_map(given: object) -> None:
+    for method in ("get", "__setitem__", "pop", "clear"):
+        if not callable(getattr(given, method, None)):
+            raise TypeError(f"cache_map is a mapping, and {type(given).__name__} has no {method}")

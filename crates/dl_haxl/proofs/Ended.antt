@@ -1,29 +1,16 @@
 -- Jobs whose batches are ended, one after another.
-use Rattle.std.proofs.Common.{◌≡◌, ◌∙◌, ap, subst, refl, ℕ, List, [], ◌∷◌, ◌++◌, append_assoc, inl, inr}
+use Rattle.std.proofs.Common.{◌≡◌, ◌∙◌, ap, subst, ℕ, List, [], ◌∷◌, ◌++◌, append_assoc}
 use Rattle.dl_values.specs.declared.job.Job.{Job}
 use Rattle.dl_history.specs.Entries.{Line}
 use Rattle.dl_history.specs.Service.{Service}
-use Rattle.dl_history.specs.declared.event.Reply.TheVariants.{Done}
-use Rattle.dl_loader.specs.Added.{line, Adds}
 use Rattle.dl_loader.specs.Pass.{Part}
-use Rattle.dl_loader.proofs.AddedLemmas.{made_adds}
-use Rattle.dl_workers.specs.Ending.{WasEnded, end_answered, end_unanswered}
-use Rattle.dl_haxl.specs.Rounds.{AddsAndSends, EndedInline, InlineEnd, InlineEnds}
-
-end_adds : (s : Service) (old new : Part) (job : Job) → WasEnded s old job new
-    → Adds old new (λ lines. (l : Line) × (lines ≡ l ∷ []) × InlineEnd s old.caller job l)
-end_adds s old new job (inl made) =
-    let added = made_adds s old new (end_answered s job) Done made in
-    let l : Line = line old.caller added.0 (end_answered s job) Done in
-    (added.1, l ∷ [], added.2, (l, refl, (added.0, end_answered s job, inl refl, refl)))
-end_adds s old new job (inr made) =
-    let added = made_adds s old new (end_unanswered job) Done made in
-    let l : Line = line old.caller added.0 (end_unanswered job) Done in
-    (added.1, l ∷ [], added.2, (l, refl, (added.0, end_unanswered job, inr refl, refl)))
+use Rattle.dl_workers.specs.Ending.{AreEndsOf, IsEndOf, WasEnded}
+use Rattle.dl_workers.proofs.EndsTold.{end_adds}
+use Rattle.dl_haxl.specs.Rounds.{AddsAndSends, EndedInline}
 
 -- one job more
-one_ended : (s : Service) (caller : ℕ) (jobs : List Job) (job : Job) (ends : List Line) (l : Line) → InlineEnds s caller jobs ends → InlineEnd s caller job l
-    → InlineEnds s caller (jobs ++ job ∷ []) (ends ++ l ∷ [])
+one_ended : (s : Service) (caller : ℕ) (jobs : List Job) (job : Job) (ends : List Line) (l : Line) → AreEndsOf s caller jobs ends → IsEndOf s caller job l
+    → AreEndsOf s caller (jobs ++ job ∷ []) (ends ++ l ∷ [])
 one_ended s caller [] job [] l ended end = (end, tt)
 one_ended s caller [] job (x ∷ ends) l ended end = absurd ended
 one_ended s caller (j ∷ jobs) job [] l ended end = absurd ended
@@ -39,5 +26,5 @@ ends_more s old now new jobs job (sent, unsent, added) ended =
     let l : Line = one.3.0 in
     let entries : new.entries ≡ old.entries ++ (added.1 ++ l ∷ []) =
     one.2 ∙ (ap (λ ls. now.entries ++ ls) one.3.1 ∙ (ap (λ ls. ls ++ l ∷ []) added.2 ∙ append_assoc old.entries added.1 (l ∷ []))) in
-    let end : InlineEnd s old.caller job l = subst (λ c. InlineEnd s c job l) added.0 one.3.2 in
+    let end : IsEndOf s old.caller job l = subst (λ c. IsEndOf s c job l) added.0 one.3.2 in
     (sent, unsent, (one.0 ∙ added.0, added.1 ++ l ∷ [], entries, (added.3.0, one_ended s old.caller jobs job added.1 l added.3.1 end)))

@@ -7,3 +7,5 @@ pub mod HandedOver
 pub mod RoundMade
 pub mod EvaluationMade
 mod Stretches
+mod Faults
+pub mod JobsCounted

@@ -14,7 +14,7 @@ use Rattle.dl_loader.specs.Pass.{Part, Hold, GaveTicket, GaveTickets, given, wit
 use Rattle.dl_loader.proofs.AddedLemmas.{seen_once}
 use Rattle.dl_terms.proofs.Options.{none_absurd, some_same}
 use Rattle.dl_haxl.specs.Pairs.{outcomes_shown, with_shown, all_show}
-use Rattle.dl_haxl.specs.Reads.{Reads}
+use Rattle.dl_haxl.specs.Reads.{KeepsOthers, Reads}
 
 abbrev pub reply_of : Hold → LoadReply
 reply_of t = t.reply
@@ -35,6 +35,7 @@ pub record Reading (first i : ℕ) (old now : Part) (before ts : List Hold) : Ty
   pub endings : List Ending
   pub known : map known_of (take i ts) ≡ map Some endings
   pub entries : now.entries ≡ old.entries ++ saws (map reply_of (take i ts)) endings
+  pub others : KeepsOthers before old now
 
 -- ---- what is read
 
@@ -50,13 +51,19 @@ number_found : (o : Option Hold) (n : ℕ) → Some n ≡ option_map number_of o
 number_found None n is = absurd (none_absurd n (sym is))
 number_found (Some t) n is = (t, refl, sym (some_same n t.number is))
 
+-- the ticket that stood at a place before
+before_at : (before ts : List Hold) (j : ℕ) (t : Hold) → map number_of ts ≡ map number_of before → slice_get ts j ≡ Some t
+    → (b : Hold) × (slice_get before j ≡ Some b) × (b.number ≡ t.number)
+before_at before ts j t numbers is =
+    let here = ap (option_map number_of) (sym is) ∙ (sym (slice_get-map number_of ts j)
+    ∙ (ap (λ ns. slice_get ns j) numbers ∙ slice_get-map number_of before j)) in
+    number_found (slice_get before j) t.number here
+
 -- the number of the ticket at a place
 number_at : (first : ℕ) (before ts : List Hold) (j : ℕ) (t : Hold) → map number_of ts ≡ map number_of before
     → ((k : ℕ) (u : Hold) → slice_get before k ≡ Some u → u.number ≡ first + k) → slice_get ts j ≡ Some t → t.number ≡ first + j
 number_at first before ts j t numbers numbered is =
-    let here = ap (option_map number_of) (sym is) ∙ (sym (slice_get-map number_of ts j)
-    ∙ (ap (λ ns. slice_get ns j) numbers ∙ slice_get-map number_of before j)) in
-    let found = number_found (slice_get before j) t.number here in
+    let found = before_at before ts j t numbers is in
     sym found.2 ∙ numbered j found.0 found.1
 
 module _ (first i : ℕ) (old now next : Part) (before ts : List Hold) (d u : Hold) (e : Ending) (so_far : Reading first i old now before ts) (lt : i < length ts)
@@ -117,6 +124,11 @@ module _ (first i : ℕ) (old now next : Part) (before ts : List Hold) (d u : Ho
     endings = so_far.endings ++ e ∷ [];
     known = known_next;
     entries = entries_next (ap (λ (p : Part). p.entries) is);
+    others = λ n g other at.
+        let b = before_at before ts i t so_far.numbers there in
+        let apart : n ≢ t.number = λ same. other i b.0 b.1 (b.2 ∙ sym same) in
+        ap (λ (p : Part). slice_get p.tickets n) is
+        ∙ (get-set_other now.tickets t.number n (given (cell_of_load t.reply) true) apart ∙ so_far.others n g other at);
   }
 
   pub read_next : (seen : Bool) → GaveTicket now t seen → next ≡ with_saw now t.number (cell_of_load t.reply) e seen
@@ -142,6 +154,7 @@ reading_none first p ts gave = record {
   endings = [];
   known = refl;
   entries = sym (append-nil p.entries);
+  others = λ n g other at. at;
 }
 
 pub reading_all : (first i : ℕ) (old now : Part) (before ts : List Hold) → Reading first i old now before ts → length ts ≤ i → Reads old now before ts

@@ -1,5 +1,5 @@
 -- A round from its steps.
-use Rattle.std.proofs.Common.{◌≡◌, ◌∙◌, ap, sym, subst, refl, ℕ, ◌+◌, ◌<◌, ◌≤◌, false, List, [], ◌∷◌, ◌++◌, map, length, Some, arith, append_assoc}
+use Rattle.std.proofs.Common.{◌≡◌, ◌∙◌, ap, sym, subst, refl, ℕ, ◌+◌, ◌<◌, ◌≤◌, false, List, [], ◌∷◌, ◌++◌, map, length, slice_get, Some, arith, append_assoc}
 use Rattle.std.proofs.Common.{rules}
 use Rattle.std.proofs.lemmas.List.{length-map}
 use Rattle.dl_values.specs.Key.{Key}
@@ -10,13 +10,14 @@ use Rattle.dl_history.specs.declared.event.Call.{Call}
 use Rattle.dl_history.specs.declared.event.Reply.{Reply}
 use Rattle.dl_history.specs.declared.event.Call.TheVariants.{LoadMany, Dispatch}
 use Rattle.dl_history.specs.declared.event.Reply.TheVariants.{Many, Sent}
-use Rattle.dl_loader.specs.Added.{line, saws, Grows}
+use Rattle.dl_loader.specs.Added.{line, saws, Grows, KeepsTickets}
 use Rattle.dl_loader.specs.Made.{WasMade, event_of, loads_of}
 use Rattle.dl_loader.specs.Pass.{Part, Hold, GaveTickets, with_call}
 use Rattle.dl_loader.proofs.AddedLemmas.{made_adds, gave_still, grows_after}
 use Rattle.dl_loader.proofs.Tickets.{tickets_entries}
+use Rattle.dl_loader.proofs.TicketsKept.{keeps_same, number_low}
 use Rattle.dl_haxl.specs.Pairs.{outcomes_shown}
-use Rattle.dl_haxl.specs.Reads.{Reads}
+use Rattle.dl_haxl.specs.Reads.{KeepsOthers, Reads}
 use Rattle.dl_haxl.specs.Rounds.{AddsAndSends, Round, SentMore}
 use Rattle.dl_haxl.proofs.Reading.{reply_of, known_of, reads_shown}
 
@@ -26,6 +27,17 @@ still_gave p q first ts same gave = record {
   numbered = gave.numbered;
   gave = λ i t is. gave_still p q t false same (gave.gave i t is);
 }
+
+-- older tickets stand as they stood, where tickets were given after them and those alone were read
+pub round_keeps : (old loaded ended new : Part) (ts us : List Hold) → KeepsTickets old loaded → GaveTickets loaded (length old.tickets) ts
+    → us ≡ ts → ended.tickets ≡ loaded.tickets → KeepsOthers us ended new → KeepsTickets old new
+round_keeps old loaded ended new ts us keeps gave same ends others = λ n g is.
+    let low = number_low old.tickets n g is in
+    let there = keeps_same loaded ended ends n g (keeps n g is) in
+    others n g (λ i t at number.
+    let one = gave.numbered i t (ap (λ hs. slice_get hs i) (sym same) ∙ at) in
+    let bad : length old.tickets + i ≡ n = sym one ∙ number in
+    omega (arith, low, bad)) there
 
 -- ---- the front
 

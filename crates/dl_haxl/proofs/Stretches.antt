@@ -2,8 +2,13 @@
 use Rattle.std.proofs.Common.{◌≡◌, ◌∙◌, ap, sym, subst, refl, ℕ, suc, ◌+◌, List, [], ◌∷◌, ◌++◌, length, append_assoc, append-nil, arith, zero, ◌≤◌}
 use Rattle.std.proofs.Common.{length-append}
 use Rattle.dl_history.specs.Entries.{Line, calls_of}
+use Rattle.dl_history.specs.Service.{Service}
+use Rattle.dl_history.specs.declared.event.Call.{Call}
+use Rattle.dl_history.specs.declared.event.Reply.{Reply}
+use Rattle.dl_loader.specs.Made.{WasMade}
+use Rattle.dl_loader.proofs.AddedLemmas.{made_adds}
 use Rattle.dl_history.proofs.EntryLists.{calls_of-append}
-use Rattle.dl_loader.specs.Added.{Adds, Grows}
+use Rattle.dl_loader.specs.Added.{Adds}
 use Rattle.dl_loader.specs.Pass.{Part}
 use Rattle.dl_values.specs.declared.job.Job.{Job}
 use Rattle.dl_history.specs.declared.event.Call.TheVariants.{LoadMany, Dispatch}
@@ -12,31 +17,34 @@ use Rattle.dl_loader.specs.Added.{line, saws}
 use Rattle.dl_terms.specs.Gives.{Pairs, frontier}
 use Rattle.dl_terms.specs.Tree.{Tree}
 use Rattle.dl_terms.specs.View.{term_view}
-use Rattle.dl_haxl.specs.Rounds.{Rounds, HandedOver}
+use Rattle.dl_haxl.specs.Rounds.{AddsAndSends, Rounds, HandedOver}
 use Rattle.dl_terms.specs.declared.plan.Step.TheVariants.{Prime, Clear, ClearAll, Eval}
-use Rattle.dl_haxl.specs.Follows.{Stretch, stretch, then, IsStep, AreSteps, Follows}
+use Rattle.dl_haxl.specs.Follows.{Stretch, stretch, then, IsCall, IsStep, AreSteps, FollowsAndSends}
 use Rattle.dl_terms.specs.declared.plan.Step.{Step}
 use Rattle.dl_haxl.specs.declared.step_answer.StepAnswer.{StepAnswer}
 
--- stretches of the same entries, answers and rounds
-same_stretch : (ls ms : List Line) (given bs : List StepAnswer) (m n : ℕ) → ls ≡ ms → given ≡ bs → m ≡ n → stretch ls given m ≡ stretch ms bs n
-same_stretch ls ms given bs m n lines answers rounds =
-    ap (λ xs. stretch xs given m) lines ∙ (ap (λ xs. stretch ms xs m) answers ∙ ap (λ r. stretch ms bs r) rounds)
+-- stretches of the same entries, answers, rounds and jobs
+same_stretch : (ls ms : List Line) (given bs : List StepAnswer) (m n : ℕ) (js ks : List Job) → ls ≡ ms → given ≡ bs → m ≡ n → js ≡ ks
+    → stretch ls given m js ≡ stretch ms bs n ks
+same_stretch ls ms given bs m n js ks lines answers rounds sent =
+    ap (λ xs. stretch xs given m js) lines ∙ (ap (λ xs. stretch ms xs m js) answers
+    ∙ (ap (λ r. stretch ms bs r js) rounds ∙ ap (λ xs. stretch ms bs n xs) sent))
 
 abbrev nothing : Stretch
-nothing = stretch [] [] 0
+nothing = stretch [] [] 0 []
 
 then_none : (s : Stretch) → then s nothing ≡ s
-then_none s = same_stretch (s.lines ++ []) s.lines (s.answers ++ []) s.answers (s.rounds + 0) s.rounds
-    (append-nil s.lines) (append-nil s.answers) (omega arith)
+then_none s = same_stretch (s.lines ++ []) s.lines (s.answers ++ []) s.answers (s.rounds + 0) s.rounds (s.sent ++ []) s.sent
+    (append-nil s.lines) (append-nil s.answers) (omega arith) (append-nil s.sent)
 
 none_then : (s : Stretch) → then nothing s ≡ s
-none_then s = same_stretch s.lines s.lines s.answers s.answers (0 + s.rounds) s.rounds refl refl (omega arith)
+none_then s = same_stretch s.lines s.lines s.answers s.answers (0 + s.rounds) s.rounds s.sent s.sent refl refl (omega arith) refl
 
 then_assoc : (a b c : Stretch) → then (then a b) c ≡ then a (then b c)
 then_assoc a b c = same_stretch ((a.lines ++ b.lines) ++ c.lines) (a.lines ++ (b.lines ++ c.lines))
     ((a.answers ++ b.answers) ++ c.answers) (a.answers ++ (b.answers ++ c.answers)) (a.rounds + b.rounds + c.rounds) (a.rounds + (b.rounds + c.rounds))
-    (append_assoc a.lines b.lines c.lines) (append_assoc a.answers b.answers c.answers) (omega arith)
+    ((a.sent ++ b.sent) ++ c.sent) (a.sent ++ (b.sent ++ c.sent))
+    (append_assoc a.lines b.lines c.lines) (append_assoc a.answers b.answers c.answers) (omega arith) (append_assoc a.sent b.sent c.sent)
 
 -- one step more
 pub steps_more : (caller first number : ℕ) (steps : List Step) (step : Step) (s own : Stretch) → number ≡ first + length steps
@@ -54,17 +62,35 @@ steps_more caller first number (x ∷ steps) step s own is (before, rest, split,
       steps_more caller (suc first) number steps step rest own next others one,
     )
 
--- the same of the entries of a pass
-pub follows_more : (old now new : Part) (steps : List Step) (step : Step) (number : ℕ) (given more : List StepAnswer) (r q : ℕ) → number ≡ length steps
-    → Adds old now (λ lines. Follows old.caller steps lines given r)
-    → Adds now new (λ lines. IsStep now.caller number step (stretch lines more q))
-    → Adds old new (λ lines. Follows old.caller (steps ++ step ∷ []) lines (given ++ more) (r + q))
-follows_more old now new steps step number given more r q is (caller, lines, entries, so_far) (caller2, own, entries2, taken) =
-    let one : IsStep old.caller number step (stretch own more q) = subst (λ n. IsStep n number step (stretch own more q)) caller taken in (
-      caller2 ∙ caller,
-      lines ++ own,
-      entries2 ∙ (ap (λ ls. ls ++ own) entries ∙ append_assoc old.entries lines own),
-      steps_more old.caller 0 number steps step (stretch lines given r) (stretch own more q) (omega (arith, is)) so_far one,
+-- what steps leave in a pass and in what its sender sent
+abbrev pub Leaves : Part → Part → List Job → List Job → List Step → List StepAnswer → ℕ → Type 0
+Leaves old new before after steps answers r =
+    AddsAndSends old new before after (λ lines sent. FollowsAndSends old.caller steps lines answers r sent)
+
+-- what one step leaves there
+abbrev pub LeavesOne : Part → Part → List Job → List Job → ℕ → Step → List StepAnswer → ℕ → Type 0
+LeavesOne old new before after number step answers r =
+    AddsAndSends old new before after (λ lines sent. IsStep old.caller number step (stretch lines answers r sent))
+
+-- nothing was taken yet
+pub leaves_none : (p : Part) (before : List Job) → Leaves p p before before [] [] 0
+leaves_none p before = ([], sym (append-nil before), (refl, [], sym (append-nil p.entries), refl))
+
+-- one step more
+pub leaves_more : (old now new : Part) (before next after : List Job) (steps : List Step) (step : Step) (number : ℕ) (given more : List StepAnswer)
+    (r q : ℕ) → number ≡ length steps → Leaves old now before next steps given r → LeavesOne now new next after number step more q
+    → Leaves old new before after (steps ++ step ∷ []) (given ++ more) (r + q)
+leaves_more old now new before next after steps step number given more r q is (sent, jobs, (caller, lines, entries, so_far))
+    (later, jobs2, (caller2, own, entries2, taken)) =
+    let one : IsStep old.caller number step (stretch own more q later) = subst (λ n. IsStep n number step (stretch own more q later)) caller taken in (
+      sent ++ later,
+      jobs2 ∙ (ap (λ js. js ++ later) jobs ∙ append_assoc before sent later),
+      (
+        caller2 ∙ caller,
+        lines ++ own,
+        entries2 ∙ (ap (λ ls. ls ++ own) entries ∙ append_assoc old.entries lines own),
+        steps_more old.caller 0 number steps step (stretch lines given r sent) (stretch own more q later) (omega (arith, is)) so_far one,
+      ),
     )
 
 -- ---- how many rounds there are
@@ -89,8 +115,8 @@ step_called : (caller number : ℕ) (step : Step) (s : Stretch) → IsStep calle
 step_called caller number (Prime key outcome) s (at, reply, is) = let none : s.rounds ≡ 0 = ap (λ (x : Stretch). x.rounds) is in omega (arith, none)
 step_called caller number (Clear key) s (at, reply, is) = let none : s.rounds ≡ 0 = ap (λ (x : Stretch). x.rounds) is in omega (arith, none)
 step_called caller number ClearAll s (at, reply, is) = let none : s.rounds ≡ 0 = ap (λ (x : Stretch). x.rounds) is in omega (arith, none)
-step_called caller number (Eval term) s (a, sent, answers, (known, rounds, ended, gives)) =
-    rounds_called (HandedOver caller) caller (term_view term) s.rounds s.lines known sent rounds
+step_called caller number (Eval term) s (a, answers, (known, rounds, ended, gives)) =
+    rounds_called (HandedOver caller) caller (term_view term) s.rounds s.lines known s.sent rounds
 
 steps_called : (caller number : ℕ) (steps : List Step) (s : Stretch) → AreSteps caller number steps s → s.rounds ≤ length (calls_of s.lines)
 steps_called caller number [] s none = let zero : s.rounds ≡ 0 = ap (λ (x : Stretch). x.rounds) none in omega (arith, zero)
@@ -105,25 +131,47 @@ steps_called caller number (step ∷ steps) s (own, rest, is, one, others) =
     omega (arith, first, next, rounds, long)
 
 -- at most as many as the pass has calls
-pub rounds_few : (old new : Part) (steps : List Step) (answers : List StepAnswer) (r : ℕ)
-    → Adds old new (λ lines. Follows old.caller steps lines answers r) → r ≤ length (calls_of new.entries)
-rounds_few old new steps answers r (caller, lines, entries, follows) =
-    let few = steps_called old.caller 0 steps (stretch lines answers r) follows in
+pub rounds_few : (old new : Part) (before after : List Job) (steps : List Step) (answers : List StepAnswer) (r : ℕ)
+    → Leaves old new before after steps answers r → r ≤ length (calls_of new.entries)
+rounds_few old new before after steps answers r (sent, jobs, (caller, lines, entries, follows)) =
+    let few = steps_called old.caller 0 steps (stretch lines answers r sent) follows in
     let whole : calls_of new.entries ≡ calls_of old.entries ++ calls_of lines = ap calls_of entries ∙ calls_of-append old.entries lines in
     let long : length (calls_of new.entries) ≡ length (calls_of old.entries) + length (calls_of lines) =
     ap length whole ∙ length-append (calls_of old.entries) (calls_of lines) in
     omega (arith, few, long)
 
 -- what steps gave is the same, told otherwise
-pub gains_same : (old new : Part) (steps : List Step) (answers answers2 : List StepAnswer) (r q : ℕ) → answers2 ≡ answers → q ≡ r
-    → Adds old new (λ lines. Follows old.caller steps lines answers r) → Adds old new (λ lines. Follows old.caller steps lines answers2 q)
-gains_same old new steps answers answers2 r q same rounds adds =
-    subst (λ n. Adds old new (λ lines. Follows old.caller steps lines answers2 n)) (sym rounds)
-    (subst (λ given. Adds old new (λ lines. Follows old.caller steps lines given r)) (sym same) adds)
+pub leaves_same : (old new : Part) (before after : List Job) (steps : List Step) (answers answers2 : List StepAnswer) (r q : ℕ) → answers2 ≡ answers
+    → q ≡ r → Leaves old new before after steps answers r → Leaves old new before after steps answers2 q
+leaves_same old new before after steps answers answers2 r q same rounds leaves =
+    subst (λ n. Leaves old new before after steps answers2 n) (sym rounds)
+    (subst (λ given. Leaves old new before after steps given r) (sym same) leaves)
 
--- after steps and one more the pass has lost no entry
-pub gains_grow : (old now new : Part) (steps : List Step) (step : Step) (number : ℕ) (answers more : List StepAnswer) (r q : ℕ) → number ≡ length steps
-    → Adds old now (λ lines. Follows old.caller steps lines answers r)
-    → Adds now new (λ lines. IsStep now.caller number step (stretch lines more q)) → Grows old new
-gains_grow old now new steps step number answers more r q is so_far taken =
-    let all = follows_more old now new steps step number answers more r q is so_far taken in (all.0, all.1, all.2)
+-- ---- a step that is a call
+
+-- a call of the caller's, and no job sent
+pub call_step : (p q r : Part) (before : List Job) (number : ℕ) (taken step : Step) (call : Call) → taken ≡ step → r ≡ q
+    → ((s : Stretch) → IsCall p.caller call s → IsStep p.caller number step s)
+    → Adds p q (λ lines. (at : ℕ) × (reply : Reply) × (lines ≡ line p.caller at call reply ∷ []))
+    → AddsAndSends p r before before (λ lines sent. IsStep p.caller number taken (stretch lines [] 0 sent))
+call_step p q r before number taken step call same now is_step (caller, lines, entries, (at, reply, is)) =
+    let one : IsStep p.caller number step (stretch lines [] 0 []) =
+    is_step (stretch lines [] 0 []) (at, reply, ap (λ ls. stretch ls [] 0 []) is) in (
+      [],
+      sym (append-nil before),
+      (
+        ap (λ (x : Part). x.caller) now ∙ caller,
+        lines,
+        ap (λ (x : Part). x.entries) now ∙ entries,
+        subst (λ st. IsStep p.caller number st (stretch lines [] 0 [])) (sym same) one,
+      ),
+    )
+
+-- one that was made
+pub made_step : (service : Service) (p q r : Part) (before : List Job) (number : ℕ) (taken step : Step) (call : Call) (reply : Reply) → taken ≡ step
+    → r ≡ q → ((s : Stretch) → IsCall p.caller call s → IsStep p.caller number step s) → WasMade service p call reply q
+    → AddsAndSends p r before before (λ lines sent. IsStep p.caller number taken (stretch lines [] 0 sent))
+made_step service p q r before number taken step call reply same now is_step made =
+    let one = made_adds service p q call reply made in
+    call_step p q r before number taken step call same now is_step
+    (one.1, line p.caller one.0 call reply ∷ [], one.2, (one.0, reply, refl))

@@ -5,4 +5,5 @@ pub mod Pairs
 pub mod Reads
 pub mod Rounds
 pub mod Run
+pub mod RunFaults
 pub mod Seen

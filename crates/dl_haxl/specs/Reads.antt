@@ -1,8 +1,9 @@
 -- What a pass gains by reading the outcomes of tickets.
-use Rattle.std.specs.Prelude.{◌≡◌, ℕ, List, ◌++◌, map, Some}
+use Rattle.std.specs.Prelude.{◌≡◌, ◌≢◌, ℕ, List, ◌++◌, map, Some, slice_get}
 use Rattle.dl_history.specs.declared.event.Ending.{Ending}
 use Rattle.dl_loader.specs.Added.{saws}
 use Rattle.dl_loader.specs.Pass.{Part, Hold, GaveTickets}
+use Rattle.dl_loader.specs.declared.pass.GivenTicket.{GivenTicket}
 
 -- the pass gave the tickets one after another, and read none of their outcomes yet
 abbrev pub GaveFresh : Part → List Hold → Type 0
@@ -15,3 +16,8 @@ pub record Reads (old new : Part) (before ts : List Hold) : Type 0 where
   pub replies : map (λ t. t.reply) ts ≡ map (λ t. t.reply) before
   pub known : map (λ t. t.known) ts ≡ map Some endings
   pub entries : new.entries ≡ old.entries ++ saws (map (λ t. t.reply) before) endings
+
+-- each ticket that the pass had given and that is none of these stands as it stood
+abbrev pub KeepsOthers : List Hold → Part → Part → Type 0
+KeepsOthers ts old new = (number : ℕ) (given : GivenTicket) → ((i : ℕ) (t : Hold) → slice_get ts i ≡ Some t → t.number ≢ number)
+    → slice_get old.tickets number ≡ Some given → slice_get new.tickets number ≡ Some given

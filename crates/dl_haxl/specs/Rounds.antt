@@ -7,7 +7,6 @@ use Rattle.dl_values.specs.declared.job.Job.{Job}
 use Rattle.dl_desk.specs.declared.reply.LoadReply.{LoadReply}
 use Rattle.dl_history.specs.Entries.{Line}
 use Rattle.dl_history.specs.Service.{Service}
-use Rattle.dl_history.specs.declared.event.Call.{Call}
 use Rattle.dl_history.specs.declared.event.Call.TheVariants.{LoadMany, Dispatch, Fail}
 use Rattle.dl_history.specs.declared.event.Ending.{Ending}
 use Rattle.dl_history.specs.declared.event.Reply.TheVariants.{Many, Sent, Done}
@@ -16,26 +15,14 @@ use Rattle.dl_loader.specs.Pass.{Part}
 use Rattle.dl_terms.specs.declared.answer.Answer.{Answer}
 use Rattle.dl_terms.specs.Tree.{Tree}
 use Rattle.dl_terms.specs.Gives.{Pairs, frontier, gives}
-use Rattle.dl_workers.specs.Ending.{end_answered, end_unanswered}
+use Rattle.dl_workers.specs.Ending.{AreEndsOf}
 use Rattle.dl_haxl.specs.Pairs.{paired}
 
 -- ---- jobs that are fetched on the caller's own thread
 
--- the entry of the end of a job: by what the source answers to its keys, or for want of memory
-abbrev pub InlineEnd : Service → ℕ → Job → Line → Type 0
-InlineEnd service caller job l =
-    (at : ℕ) × (call : Call) × ((call ≡ end_answered service job) ⊎ (call ≡ end_unanswered job)) × (l ≡ line caller at call Done)
-
--- one end of each job, in order
-abbrev pub InlineEnds : Service → ℕ → List Job → List Line → Type 0
-InlineEnds service caller [] [] = Unit {0}
-InlineEnds service caller [] (l ∷ ls) = ⊥
-InlineEnds service caller (job ∷ jobs) [] = ⊥
-InlineEnds service caller (job ∷ jobs) (l ∷ ls) = InlineEnd service caller job l × InlineEnds service caller jobs ls
-
 -- of these jobs none was sent to a queue, and each was ended
 abbrev pub EndedInline : Service → ℕ → List Job → List Job → List Line → Type 0
-EndedInline service caller jobs sent ends = (sent ≡ []) × InlineEnds service caller jobs ends
+EndedInline service caller jobs sent ends = (sent ≡ []) × AreEndsOf service caller jobs ends
 
 -- ---- jobs that are handed over to fetch workers
 

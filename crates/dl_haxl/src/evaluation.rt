@@ -1,12 +1,13 @@
 //! Terms that are evaluated in rounds of loads, wherever the jobs of these go.
 
-ghost use Rattle.std.specs.Prelude.{◌≡◌, ◌≤◌, [], IfOk, OnErr};
-ghost use Rattle.dl_loader.specs.Added.{Grows};
+ghost use Rattle.std.specs.Prelude.{◌≡◌, ◌≤◌, [], IfErr, IfOk, OnErr};
+ghost use Rattle.dl_loader.specs.Added.{Grows, KeepsTickets};
 ghost use Rattle.dl_terms.specs.Tree.{Tree, depth_of};
 ghost use Rattle.dl_terms.specs.View.{term_view};
 ghost use Rattle.dl_haxl.specs.Run.{IsRunOf, asked_by};
 ghost use Rattle.dl_haxl.specs.Seen.{seen};
 ghost use Rattle.dl_haxl.specs.Rounds.{AddsAndSends, Evaluates, SentMore};
+ghost use Rattle.dl_haxl.specs.RunFaults.{IsRunFault};
 
 use crate::fault::RunFault;
 use crate::outlet::Outlet;
@@ -41,6 +42,8 @@ pub(crate) fn evaluate<L: LoaderName, O: Outlet<L>, R: Wait>(
         (λ lines sent. Evaluates (O.jobs_end pass.old.part.caller) pass.old.part.caller (term_view term) lines r.0 r.1 sent)) }
     ensures rounds { IfOk result (λ r. r.1 ≤ depth_of (term_view term)) }
     ensures sent { SentMore (O.sent_by seat.old) (O.sent_by seat.new) }
+    ensures older { KeepsTickets pass.old.part pass.new.part }
+    ensures fault { IfErr result (IsRunFault L.service pass.old.part.caller) }
     ensures grows { OnErr result (Grows pass.old.part pass.new.part) }
 {
     let mut run = TermRun::new(alloc, hashing, term)?;
@@ -67,6 +70,8 @@ fn go_on<'l, L: LoaderName, O: Outlet<L>, R: Wait>(
         (λ lines sent. Evaluates (O.jobs_end pass.old.part.caller) pass.old.part.caller t lines r.0 r.1 sent)) }
     ensures rounds { IfOk result (λ r. (t : Tree) → IsRunOf t (seen run.old) → r.1 ≤ depth_of t) }
     ensures sent { SentMore (O.sent_by seat.old) (O.sent_by seat.new) }
+    ensures older { KeepsTickets pass.old.part pass.new.part }
+    ensures fault { IfErr result (IsRunFault L.service pass.old.part.caller) }
     ensures grows { OnErr result (Grows pass.old.part pass.new.part) }
 {
     laws::gives_by_depth();

@@ -1,13 +1,14 @@
 //! Terms that are evaluated on the caller's own thread.
 
-ghost use Rattle.std.specs.Prelude.{◌≡◌, ◌≤◌, ℕ, List, [], IfOk, OnErr, OnOk};
+ghost use Rattle.std.specs.Prelude.{◌≡◌, ◌≤◌, ℕ, List, [], IfErr, IfOk, OnErr, OnOk};
 ghost use Rattle.dl_values.specs.declared.job.Job.{Job};
 ghost use Rattle.dl_history.specs.Service.{Answers};
-ghost use Rattle.dl_loader.specs.Added.{Adds, Grows};
+ghost use Rattle.dl_loader.specs.Added.{Adds, Grows, KeepsTickets};
 ghost use Rattle.dl_terms.specs.Tree.{depth_of};
 ghost use Rattle.dl_terms.specs.View.{term_view};
 ghost use Rattle.dl_workers.specs.Ending.{WasEnded};
 ghost use Rattle.dl_haxl.specs.Rounds.{EndedInline, EvaluatesInline};
+ghost use Rattle.dl_haxl.specs.RunFaults.{IsRunFault};
 
 use crate::evaluation::evaluate;
 use crate::fault::RunFault;
@@ -43,6 +44,8 @@ pub fn run_inline<L: LoaderName, S: Source>(
     ensures evaluates { IfOk result (λ r. Adds pass.old.part pass.new.part
         (λ lines. EvaluatesInline L.service pass.old.part.caller (term_view term) lines r.0 r.1)) }
     ensures rounds { IfOk result (λ r. r.1 ≤ depth_of (term_view term)) }
+    ensures older { KeepsTickets pass.old.part pass.new.part }
+    ensures fault { IfErr result (IsRunFault L.service pass.old.part.caller) }
     ensures grows { OnErr result (Grows pass.old.part pass.new.part) }
 {
     let outlet = OwnThread { source };
@@ -96,6 +99,7 @@ fn end_shown<L: LoaderName, S: Source>(
     requires source { Answers (S.answer source.now) L.service }
     ensures ended { OnOk result (WasEnded L.service pass.old.part job pass.new.part) }
     ensures tickets { pass.new.part.tickets ≡ pass.old.part.tickets }
+    ensures fault { IfErr result (IsRunFault L.service pass.old.part.caller) }
     ensures grows { OnErr result (Grows pass.old.part pass.new.part) }
 {
     let settled = end_job(rt, alloc, loader, source, pass, job)?;

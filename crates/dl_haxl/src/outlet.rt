@@ -1,10 +1,11 @@
 //! Where the jobs of a round go.
 
-ghost use Rattle.std.specs.Prelude.{◌≡◌, ℕ, List, OnErr, OnOk};
+ghost use Rattle.std.specs.Prelude.{◌≡◌, ℕ, List, IfErr, OnErr, OnOk};
 ghost use Rattle.dl_values.specs.declared.job.Job.{Job};
 ghost use Rattle.dl_history.specs.Entries.{Line};
 ghost use Rattle.dl_loader.specs.Added.{Grows};
 ghost use Rattle.dl_haxl.specs.Rounds.{AddsAndSends, SentMore};
+ghost use Rattle.dl_haxl.specs.RunFaults.{IsRunFault};
 
 use crate::fault::RunFault;
 use dl_desk::Job;
@@ -46,5 +47,6 @@ pub(crate) trait Outlet<L: LoaderName> {
             (λ ends sent. jobs_end pass.old.part.caller jobs.items sent ends)) }
         ensures sent { SentMore (sent_by seat.old) (sent_by seat.new) }
         ensures tickets { pass.new.part.tickets ≡ pass.old.part.tickets }
+        ensures fault { IfErr result (IsRunFault L.service pass.old.part.caller) }
         ensures grows { OnErr result (Grows pass.old.part pass.new.part) };
 }

@@ -1,16 +1,17 @@
 //! Terms whose jobs are handed over to fetch workers.
 
-ghost use Rattle.std.specs.Prelude.{◌≡◌, ◌≤◌, ◌++◌, ℕ, List, IfOk, OnErr, OnOk};
+ghost use Rattle.std.specs.Prelude.{◌≡◌, ◌≤◌, ◌++◌, ℕ, List, IfErr, IfOk, OnErr, OnOk};
 ghost use Rattle.dl_values.specs.declared.outcome.BatchFault.TheVariants.{Unsent};
 ghost use Rattle.dl_values.specs.declared.job.Job.{Job};
 ghost use Rattle.dl_history.specs.declared.event.Call.TheVariants.{Fail};
 ghost use Rattle.dl_history.specs.declared.event.Reply.TheVariants.{Done};
-ghost use Rattle.dl_loader.specs.Added.{Grows};
+ghost use Rattle.dl_loader.specs.Added.{Grows, KeepsTickets};
 ghost use Rattle.dl_loader.specs.Made.{WasMade};
 ghost use Rattle.dl_terms.specs.Tree.{depth_of};
 ghost use Rattle.dl_terms.specs.View.{term_view};
 ghost use Rattle.dl_workers.specs.Seats.{IsSenderOf, sent_jobs};
 ghost use Rattle.dl_haxl.specs.Rounds.{AddsAndSends, EvaluatesQueued, HandedOver, SentMore};
+ghost use Rattle.dl_haxl.specs.RunFaults.{IsRunFault};
 
 use crate::evaluation::evaluate;
 use crate::fault::RunFault;
@@ -48,6 +49,8 @@ pub fn run_term<L: LoaderName, R: Wait>(
         (λ lines sent. EvaluatesQueued pass.old.part.caller (term_view term) lines r.0 r.1 sent)) }
     ensures rounds { IfOk result (λ r. r.1 ≤ depth_of (term_view term)) }
     ensures sent { OnErr result (SentMore (sent_jobs sender.old) (sent_jobs sender.new)) }
+    ensures older { KeepsTickets pass.old.part pass.new.part }
+    ensures fault { IfErr result (IsRunFault L.service pass.old.part.caller) }
     ensures grows { OnErr result (Grows pass.old.part pass.new.part) }
 {
     evaluate(rt, alloc, hashing, loader, queue, sender, pass, term)
@@ -94,6 +97,7 @@ fn fail_unsent<L: LoaderName>(
 ) -> Result<(), RunFault>
     ensures failed { OnOk result (WasMade L.service pass.old.part (Fail job.batch Unsent) Done pass.new.part) }
     ensures tickets { pass.new.part.tickets ≡ pass.old.part.tickets }
+    ensures fault { IfErr result (IsRunFault L.service pass.old.part.caller) }
     ensures grows { OnErr result (Grows pass.old.part pass.new.part) }
 {
     match loader.fail(rt, alloc, pass, job, GiveUp::Unsent) {

@@ -1,11 +1,13 @@
 //! Rounds of loads: what stands between two polls of a run.
 
-ghost use Rattle.std.specs.Prelude.{◌≡◌, ◌^◌, ◌<◌, true, IfOk, OnErr, OnOk, length};
+ghost use Rattle.std.specs.Prelude.{◌≡◌, ◌^◌, ◌<◌, true, IfErr, IfOk, OnErr, OnOk, length};
 ghost use Rattle.dl_history.specs.Entries.{front_of};
-ghost use Rattle.dl_loader.specs.Added.{Grows};
+ghost use Rattle.dl_loader.specs.Book.{SomeStopped};
+ghost use Rattle.dl_loader.specs.Added.{Grows, KeepsTickets};
 ghost use Rattle.dl_haxl.specs.Pairs.{all_show, outcomes_shown};
-ghost use Rattle.dl_haxl.specs.Reads.{GaveFresh, Reads};
+ghost use Rattle.dl_haxl.specs.Reads.{GaveFresh, KeepsOthers, Reads};
 ghost use Rattle.dl_haxl.specs.Rounds.{AddsAndSends, Round, SentMore};
+ghost use Rattle.dl_haxl.specs.RunFaults.{IsRunFault};
 
 use crate::fault::RunFault;
 use crate::outlet::Outlet;
@@ -38,6 +40,8 @@ pub(crate) fn round<'l, L: LoaderName, O: Outlet<L>, R: Wait>(
     ensures front { OnOk result (front_of pass.old.part.entries < front_of pass.new.part.entries) }
     ensures bound { OnOk result (front_of pass.new.part.entries < 2 ^ 32) }
     ensures sent { SentMore (O.sent_by seat.old) (O.sent_by seat.new) }
+    ensures older { KeepsTickets pass.old.part pass.new.part }
+    ensures fault { IfErr result (IsRunFault L.service pass.old.part.caller) }
     ensures grows { OnErr result (Grows pass.old.part pass.new.part) }
 {
     let mut tickets = loader.load_many(rt, alloc, pass, wanted)?;
@@ -60,6 +64,8 @@ fn read_each<L: LoaderName>(
 ) -> Result<(), Stopped>
     requires gave { GaveFresh pass.old.part tickets.old }
     ensures reads { OnOk result (Reads pass.old.part pass.new.part tickets.old tickets.new) }
+    ensures others { KeepsOthers tickets.old pass.old.part pass.new.part }
+    ensures stopped { OnErr result (SomeStopped L.service) }
     ensures grows { OnErr result (Grows pass.old.part pass.new.part) }
 {
     for ticket in tickets.iter_mut() {

@@ -1,12 +1,14 @@
 //! How the steps of a plan are taken.
 
-ghost use Rattle.std.specs.Prelude.{◌≡◌, ◌+◌, ◌^◌, ◌<◌, ◌∷◌, ◌++◌, [], ℕ, IfOk, OnErr, OnOk};
+ghost use Rattle.std.specs.Prelude.{◌≡◌, ◌+◌, ◌^◌, ◌<◌, ◌∷◌, ◌++◌, [], ℕ, IfErr, IfOk, OnErr, OnOk};
 ghost use Rattle.dl_history.specs.declared.event.Call.TheVariants.{Prime};
 ghost use Rattle.dl_history.specs.declared.event.Reply.{Reply};
-ghost use Rattle.dl_loader.specs.Added.{Adds, Grows, line};
-ghost use Rattle.dl_workers.specs.Seats.{IsSenderOf};
-ghost use Rattle.dl_haxl.specs.Follows.{Follows, IsStep, stretch};
+ghost use Rattle.dl_loader.specs.Added.{Adds, Grows, KeepsTickets, line};
+ghost use Rattle.dl_workers.specs.Seats.{IsSenderOf, sent_jobs};
+ghost use Rattle.dl_haxl.specs.Follows.{FollowsAndSends, IsStep, stretch};
 ghost use Rattle.dl_haxl.specs.Inside.Taken.{answers_of, rounds_of};
+ghost use Rattle.dl_haxl.specs.Rounds.{AddsAndSends, SentMore};
+ghost use Rattle.dl_haxl.specs.RunFaults.{IsRunFault};
 
 use crate::fault::RunFault;
 use crate::queued::run_term;
@@ -55,8 +57,11 @@ pub fn take_steps<L: LoaderName, R: Wait>(
 ) -> Result<StepAnswers, RunFault>
     requires seat { IsSenderOf queue.now sender.old }
     ensures seat { IsSenderOf queue.now sender.new }
-    ensures follows { IfOk result (λ given. Adds pass.old.part pass.new.part
-        (λ lines. Follows pass.old.part.caller steps.items lines given.answers.items given.rounds)) }
+    ensures follows { IfOk result (λ given. AddsAndSends pass.old.part pass.new.part (sent_jobs sender.old) (sent_jobs sender.new)
+        (λ lines sent. FollowsAndSends pass.old.part.caller steps.items lines given.answers.items given.rounds sent)) }
+    ensures sent { OnErr result (SentMore (sent_jobs sender.old) (sent_jobs sender.new)) }
+    ensures older { KeepsTickets pass.old.part pass.new.part }
+    ensures fault { IfErr result (IsRunFault L.service pass.old.part.caller) }
     ensures grows { OnErr result (Grows pass.old.part pass.new.part) }
 {
     let mut given = StepAnswers {
@@ -86,8 +91,11 @@ fn take_step<L: LoaderName, R: Wait>(
 ) -> Result<Option<(Answer, u32)>, RunFault>
     requires seat { IsSenderOf queue.now sender.old }
     ensures seat { IsSenderOf queue.now sender.new }
-    ensures step { IfOk result (λ given. (number : ℕ) → Adds pass.old.part pass.new.part
-        (λ lines. IsStep pass.old.part.caller number step (stretch lines (answers_of number given) (rounds_of given)))) }
+    ensures step { IfOk result (λ given. (number : ℕ) → AddsAndSends pass.old.part pass.new.part (sent_jobs sender.old) (sent_jobs sender.new)
+        (λ lines sent. IsStep pass.old.part.caller number step (stretch lines (answers_of number given) (rounds_of given) sent))) }
+    ensures sent { OnErr result (SentMore (sent_jobs sender.old) (sent_jobs sender.new)) }
+    ensures older { KeepsTickets pass.old.part pass.new.part }
+    ensures fault { IfErr result (IsRunFault L.service pass.old.part.caller) }
     ensures grows { OnErr result (Grows pass.old.part pass.new.part) }
 {
     match step {
@@ -113,6 +121,8 @@ fn prime<L: LoaderName>(
 ) -> Result<(), RunFault>
     ensures primed { OnOk result (Adds pass.old.part pass.new.part
         (λ lines. (at : ℕ) × (reply : Reply) × (lines ≡ line pass.old.part.caller at (Prime key.now outcome) reply ∷ []))) }
+    ensures tickets { pass.new.part.tickets ≡ pass.old.part.tickets }
+    ensures fault { IfErr result (IsRunFault L.service pass.old.part.caller) }
     ensures grows { OnErr result (Grows pass.old.part pass.new.part) }
 {
     match loader.prime(rt, alloc, pass, key, outcome)? {

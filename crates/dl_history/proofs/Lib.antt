@@ -16,5 +16,7 @@ pub mod Counting
 pub mod AccountCounts
 pub mod Agreement
 pub mod OneHistory
+pub mod LoadsTold
 pub mod HistoryLemmas
+pub mod HistoryLaws
 pub mod Crossing

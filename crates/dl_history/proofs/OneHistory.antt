@@ -21,7 +21,7 @@ same_lists {X} (x ∷ xs) (y ∷ ys) same =
     cc
 
 -- the place of an element that is n's is among n's places
-place_among : {X : Type 0} (who : X → ℕ) (n k i j : ℕ) (xs : List X) (x : X) → slice_get xs i ≡ Some x → who x ≡ n → j ≡ k + i → Among j (places who n k xs)
+pub place_among : {X : Type 0} (who : X → ℕ) (n k i j : ℕ) (xs : List X) (x : X) → slice_get xs i ≡ Some x → who x ≡ n → j ≡ k + i → Among j (places who n k xs)
 place_among {X} who n k i j [] x there own at = absurd (let bad : ◌≡◌ {A = Option X} None (Some x) = there in cc)
 place_among {X} who n k zero j (y ∷ xs) x there own at =
     let two : ◌≡◌ {A = Option X} (Some y) (Some x) = there in

@@ -6,5 +6,6 @@ pub mod Agrees
 pub mod Journal
 pub mod Kept
 pub mod Closed
+pub mod Laws
 -- words of private functions, and of what values are made of
 pub mod Inside

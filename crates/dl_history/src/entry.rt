@@ -47,7 +47,7 @@ impl<L: LoaderName> Model for Told<L> {
 impl<L: LoaderName> Told<L> {
     /// Puts an event into its cell of the log. Where the log has another event there, hands the event
     /// back. Either way the reader knows from then on what the cell has. It does not allocate.
-    pub fn store(
+    pub(crate) fn store(
         row: &CellRow<Event>,
         at: u16,
         reader: &mut Reader<Event>,
@@ -77,7 +77,7 @@ impl<L: LoaderName> Told<L> {
     }
 
     /// A reader of the event's cell, which knows the event. It does not allocate.
-    pub fn reader(&self) -> Reader<Event>
+    pub(crate) fn reader(&self) -> Reader<Event>
         ensures known { IsKnown L.log self.now.at result }
         ensures event { event_known result.known ≡ self.now.event }
     {
@@ -86,7 +86,7 @@ impl<L: LoaderName> Told<L> {
     }
 
     /// A reader of the event's cell that knows an event knows this one, whichever threads hold the two.
-    pub fn agree(&self, reader: &Reader<Event>)
+    pub(crate) fn agree(&self, reader: &Reader<Event>)
         requires { reader.now.cell ≡ cell_of L.log self.now.at }
         ensures { IfSome reader.now.known (λ event. event ≡ self.now.event) }
     {
@@ -151,7 +151,7 @@ impl<L: LoaderName> Read<L> {
     }
 
     /// A reader of the cell that knows an outcome knows this one, whichever threads hold the two.
-    pub fn agree(&self, reader: &Reader<Ending>)
+    pub(crate) fn agree(&self, reader: &Reader<Ending>)
         requires { reader.now.cell ≡ cell_of L.outcomes self.now.cell }
         ensures { IfSome reader.now.known (λ ending. ending ≡ self.now.ending) }
     {
@@ -222,7 +222,7 @@ impl<L: LoaderName> Entry<L> {
     }
 
     /// What the journal has at the entry's place, or of its cell, is what the entry tells.
-    pub fn agree(&self, journal: &Journal<L>)
+    pub(crate) fn agree(&self, journal: &Journal<L>)
         ensures { Meets journal.now.history journal.now.cells self.now }
     {
         match &self.kind {

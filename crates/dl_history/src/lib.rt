@@ -12,6 +12,7 @@ mod event;
 mod events;
 mod history;
 mod journal;
+pub mod laws;
 mod name;
 mod reply_lists;
 mod rows;

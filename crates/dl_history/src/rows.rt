@@ -66,7 +66,7 @@ impl<L: LoaderName> Rows<L> {
     }
 
     /// The row that the events lie in.
-    pub fn log(&self) -> &CellRow<Event>
+    pub(crate) fn log(&self) -> &CellRow<Event>
         ensures row { result.now ≡ L.log }
         ensures calls { row_len L.log ≡ L.service.rules.limits.max_calls }
     {

@@ -1,19 +1,15 @@
 -- What a call that was made, or an outcome that was read, adds to a pass: all that a crate above needs of both.
-use Rattle.std.proofs.Common.{◌≡◌, ◌∙◌, sym, ap, refl, ℕ, Bool, true, false, List, [], ◌∷◌, ◌++◌, length, Option, Some, append_assoc, append-nil}
-use Rattle.dl_values.specs.Key.{Key}
+use Rattle.std.proofs.Common.{◌≡◌, ◌∙◌, sym, ap, refl, ℕ, Bool, false, List, [], ◌∷◌, ◌++◌, length, Option, Some, append_assoc, append-nil}
 use Rattle.dl_desk.specs.declared.reply.LoadReply.{LoadReply}
 use Rattle.dl_history.specs.declared.event.Call.{Call}
-use Rattle.dl_history.specs.declared.event.Call.TheVariants.{LoadMany}
 use Rattle.dl_history.specs.declared.event.Ending.{Ending}
 use Rattle.dl_history.specs.declared.event.Reply.{Reply}
-use Rattle.dl_history.specs.declared.event.Reply.TheVariants.{Many}
 use Rattle.dl_history.specs.Entries.{Line, Saw, cell_of_load, read}
 use Rattle.dl_history.specs.Service.{Service}
 use Rattle.dl_loader.specs.Added.{line, Adds, Grows}
 use Rattle.dl_loader.specs.Made.{WasMade, event_of, loads_of}
 use Rattle.dl_loader.specs.declared.pass.GivenTicket.{GivenTicket}
 use Rattle.dl_loader.specs.Pass.{Part, Hold, GaveTicket, given, with_call, with_saw, with_ticket, with_tickets}
-use Rattle.dl_loader.proofs.CellsGiven.{loads_long}
 use Rattle.dl_loader.proofs.Tickets.{tickets_entries}
 
 -- ---- the caller
@@ -22,11 +18,6 @@ use Rattle.dl_loader.proofs.Tickets.{tickets_entries}
 pub tickets_caller : (p : Part) (rs : List LoadReply) → (with_tickets p rs).caller ≡ p.caller
 tickets_caller p [] = refl
 tickets_caller p (r ∷ rs) = tickets_caller (with_ticket p (cell_of_load r)) rs
-
--- nor are outcomes that are read
-pub saw_caller : (p : Part) (number cell : ℕ) (e : Ending) (seen : Bool) → (with_saw p number cell e seen).caller ≡ p.caller
-saw_caller p number cell e true = refl
-saw_caller p number cell e false = refl
 
 -- ---- calls
 
@@ -38,10 +29,6 @@ made_adds s old new call reply (before, now, kept, keeps, after, made) =
     let caller = ap (λ (p : Part). p.caller) made.part ∙ tickets_caller called (loads_of reply) in
     let entries = ap (λ (p : Part). p.entries) made.part ∙ tickets_entries called (loads_of reply) in
     (length before.history, caller, entries)
-
--- a loadMany has a reply for each key
-pub made_long : (s : Service) (old new : Part) (ks : List Key) (rs : List LoadReply) → WasMade s old (LoadMany ks) (Many rs) new → length rs ≡ length ks
-made_long s old new ks rs (before, now, kept, keeps, after, made) = loads_long s before now old new ks rs keeps made
 
 -- ---- reads
 

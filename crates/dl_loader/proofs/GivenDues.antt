@@ -97,6 +97,14 @@ next_inside all ys before now d n fits given waits =
     let long = given.long in
     omega arith
 
+-- where there are no dues each cell is as it was
+pub given_none : {ds : List Due} {xs : List Cell} → ds ≡ [] → AreGiven ds xs xs
+given_none {ds} {xs} none = rw none (record {
+  long = refl;
+  ended = λ j d x due got. absurd (let bad : ◌≡◌ {A = Option Due} None (Some d) = due in cc);
+  others = λ c rest. refl;
+})
+
 given_there : (ys : List Due) (before now : List Cell) (d e : Due) (x y : Cell) (j : ℕ) → AreGiven ys before now
     → ((f : Due) (i : ℕ) → slice_get ys i ≡ Some f → f.cell ≡ d.cell → ⊥)
     → ShowsEnd (Some d.ending.value) x.mark x.shows → slice_get (set now d.cell x) e.cell ≡ Some y

@@ -6,13 +6,15 @@ use Rattle.std.proofs.lemmas.Option.{slice_get-map}
 use Rattle.dl_values.specs.Key.{Key}
 use Rattle.dl_desk.specs.declared.reply.LoadReply.{LoadReply}
 use Rattle.dl_loader.specs.declared.pass.GivenTicket.{GivenTicket}
-use Rattle.dl_history.specs.declared.event.Call.TheVariants.{Load, LoadMany}
-use Rattle.dl_history.specs.declared.event.Reply.TheVariants.{Loaded, Many}
+use Rattle.dl_history.specs.declared.event.Call.{Call}
+use Rattle.dl_history.specs.declared.event.Reply.{Reply}
+use Rattle.dl_history.specs.declared.event.Call.TheVariants.{LoadMany}
+use Rattle.dl_history.specs.declared.event.Reply.TheVariants.{Many}
 use Rattle.dl_loader.specs.Book.{Locked}
-use Rattle.dl_loader.specs.Made.{event_of, Makes}
+use Rattle.dl_loader.specs.Made.{event_of, loads_of, Makes}
 use Rattle.dl_history.specs.Entries.{cell_of_load}
 use Rattle.dl_loader.specs.Pass.{Part, Hold, given, with_call, with_ticket, with_tickets, GaveTicket, AreTickets, GaveTickets}
-use Rattle.dl_history.proofs.Logs.{get-append_at, get-snoc}
+use Rattle.dl_history.proofs.Logs.{get-snoc}
 
 -- ---- tickets in order
 
@@ -66,17 +68,7 @@ gave_all p rs ts are = record { numbered = are.numbered; gave = gave }
         ∙ (get_later p.tickets (map new_ticket rs) i (length p.tickets + i) refl ∙ told) in
         rw (are.numbered i t got) last
 
--- the pass gave the ticket of its last load
-pub gave_one : (p : Part) (r : LoadReply) (t : Hold) → t.number ≡ length p.tickets → t.reply ≡ r → GaveTicket (with_tickets p (r ∷ [])) t false
-gave_one p r t number reply = rw (number, reply) (get-append_at p.tickets (given (cell_of_load r) false) [])
-
 -- ---- as an event gave them
-
--- the pass gave the ticket of the load that was its last event
-pub gave_load : (b now : Locked) (p new : Part) (k : Key) (r : LoadReply) (t : Hold) → Makes b p (Load k) (Loaded r) now new → t.number ≡ length p.tickets
-    → t.reply ≡ r → GaveTicket new t false
-gave_load b now p new k r t made number reply =
-    subst (λ (q : Part). GaveTicket q t false) (sym made.part) (gave_one (with_call p (length b.history) (event_of p (Load k) (Loaded r))) r t number reply)
 
 -- a loadMany gives a ticket for each of its loads
 pub tickets_last : (b now : Locked) (p new : Part) (ks : List Key) (rs : List LoadReply) → Makes b p (LoadMany ks) (Many rs) now new
@@ -96,3 +88,9 @@ gave_loads b now p new ks rs ts made are =
     let first : length new.tickets - length rs ≡ length p.tickets = omega arith in
     let called : Part = with_call p (length b.history) (event_of p (LoadMany ks) (Many rs)) in
     subst (λ (q : Part). GaveTickets q (length p.tickets) ts) (sym made.part) (gave_all called rs ts (subst (λ (n : ℕ). AreTickets n rs ts) first are))
+
+-- a call gives the tickets of the loads that it answers, and no others
+pub tickets_by_loads : {b now : Locked} {p new : Part} {c : Call} {r : Reply} → Makes b p c r now new → new.tickets ≡ (with_tickets p (loads_of r)).tickets
+tickets_by_loads {b} {now} {p} {new} {c} {r} made =
+    ap (λ (q : Part). q.tickets) made.part
+    ∙ (tickets_are (with_call p (length b.history) (event_of p c r)) (loads_of r) ∙ sym (tickets_are p (loads_of r)))

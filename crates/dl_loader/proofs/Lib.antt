@@ -1,24 +1,18 @@
 pub mod PassLemmas
 mod Fresh
-mod Admitted
 pub mod Tickets
 pub mod HandedOut
 pub mod CellsGiven
-pub mod Begun
-pub mod Kept
-pub mod KeptEnds
-pub mod KeptCalls
-mod LoadEvents
-pub mod KeyEvents
-mod Cleared
+pub mod BegunCells
+pub mod NextEvent
+pub mod EndedCells
 pub mod GivenDues
-pub mod BatchEnds
+pub mod PreparedCalls
+pub mod RecordedEvent
 mod Called
 pub mod AddedLemmas
 pub mod StillGiven
-mod Accepted
-mod NotMade
-mod MadeCalls
+pub mod TicketsKept
 mod AccountLemmas
 mod ClosingLemmas
 mod Sources

@@ -1,10 +1,11 @@
 -- What calls and reads add to the entries of a pass.
-use Rattle.std.specs.Prelude.{◌≡◌, ℕ, List, [], ◌∷◌, ◌++◌}
+use Rattle.std.specs.Prelude.{◌≡◌, ℕ, List, [], ◌∷◌, ◌++◌, Some, slice_get}
 use Rattle.dl_desk.specs.declared.reply.LoadReply.{LoadReply}
 use Rattle.dl_history.specs.Entries.{Line, Called, Saw, told, read, cell_of_load}
 use Rattle.dl_history.specs.declared.event.Call.{Call}
 use Rattle.dl_history.specs.declared.event.Ending.{Ending}
 use Rattle.dl_history.specs.declared.event.Reply.{Reply}
+use Rattle.dl_loader.specs.declared.pass.GivenTicket.{GivenTicket}
 use Rattle.dl_loader.specs.Pass.{Part}
 
 -- the entry of a caller's call at a place, with its reply
@@ -24,3 +25,7 @@ Adds old new P = (new.caller ≡ old.caller) × (lines : List Line) × (new.entr
 -- the pass is its caller's still, and has lost no entry
 abbrev pub Grows : Part → Part → Type 0
 Grows old new = (new.caller ≡ old.caller) × (lines : List Line) × (new.entries ≡ old.entries ++ lines)
+
+-- each ticket that the pass had given stands as it stood, whatever was given and read since
+abbrev pub KeepsTickets : Part → Part → Type 0
+KeepsTickets old new = (number : ℕ) (given : GivenTicket) → slice_get old.tickets number ≡ Some given → slice_get new.tickets number ≡ Some given

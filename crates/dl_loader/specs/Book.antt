@@ -1,8 +1,8 @@
 -- What contracts see of a loader's book, which lies behind its lock, and what the book keeps.
-use Rattle.std.specs.Prelude.{◌≡◌, Bool, true, List}
+use Rattle.std.specs.Prelude.{◌≡◌, ◌<◌, Bool, true, List}
 use Rattle.dl_desk.specs.BatchBook.{BatchBook}
 use Rattle.dl_history.specs.Service.{Service}
-use Rattle.dl_history.specs.Journal.{Cell}
+use Rattle.dl_history.specs.Journal.{Cell, refusals}
 use Rattle.dl_history.specs.Kept.{Kept, kept, IsKept}
 use Rattle.dl_history.specs.declared.event.Event.{Event}
 
@@ -28,3 +28,7 @@ Keeps service b = IsKept service (kept_of b)
 -- some book that keeps what the loader's does is stopped; that it is the locked one nothing says
 abbrev pub SomeStopped : Service → Type 0
 SomeStopped service = (b : Locked) × Keeps service b × (b.stopped ≡ true)
+
+-- some book that keeps what the loader's does has a cell that refused its outcome; that it is the locked one nothing says
+abbrev pub SomeCellRefused : Service → Type 0
+SomeCellRefused service = (b : Locked) × Keeps service b × (0 < refusals b.cells)

@@ -3,6 +3,7 @@ use Rattle.std.specs.Prelude.{◌≡◌, ◌⊎◌, Bool, List, length, Option, 
 use Rattle.std.specs.Cmp.Lexicographic.{pointwise}
 use Rattle.std.specs.Option.{option_or}
 use Rattle.dl_values.specs.Key.{Key, key_eq}
+use Rattle.dl_values.specs.Limits.{Rules}
 use Rattle.dl_desk.specs.Events.{atoms}
 use Rattle.dl_desk.specs.History.{Atom}
 use Rattle.dl_desk.specs.Calls as desk
@@ -52,13 +53,14 @@ abbrev pub wrong_keys : List Atom → Option Job → Option CallFault
 wrong_keys history None = None
 wrong_keys history (Some job) = if same_keys job.keys (keys_of history job.batch) then None else Some WrongKeys
 
+-- the refusal of a call at a history, perhaps with a job that it ends
+abbrev pub cause : Rules → List Atom → Call → Option Job → Option CallFault
+cause rules history call job = option_or (option_map call_fault (desk.refusal rules history (call_of call))) (wrong_keys history job)
+
 -- The refusal of a call, perhaps with a job that it ends: the first cause that applies, but for want of memory
 -- and a log that refuses.
 abbrev pub refusal : Service → Locked → Part → Call → Option Job → Option CallFault
-refusal service b p call job =
-    option_or (unready service b p)
-    (option_or (option_map call_fault (desk.refusal service.rules (atoms (log b.history)) (call_of call)))
-    (wrong_keys (atoms (log b.history)) job))
+refusal service b p call job = option_or (unready service b p) (cause service.rules (atoms (log b.history)) call job)
 
 -- The call is refused so: for its cause, for want of memory, or, where it has no cause, because the log refused its event.
 abbrev pub IsRefusal : Service → Locked → Part → Call → Option Job → CallFault → Type 0

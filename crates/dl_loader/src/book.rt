@@ -7,9 +7,7 @@ ghost use Rattle.dl_history.specs.Entries.{cell_of_load, front_of};
 ghost use Rattle.dl_loader.specs.Refusals.{unready};
 
 mod closing;
-mod ends;
-mod keys;
-mod loads;
+mod record;
 
 use crate::fault::CallFault;
 use crate::pass::Pass;

@@ -48,6 +48,9 @@ pub(crate) fn dues(
 }
 
 /// Gives the cells their dues, and tells how many of them refused. It does not allocate.
+// Inlined for the sake of calls that end no cell.
+#[inline(always)]
+#[tactic(auto, using(crate::proofs::GivenDues::given_none))]
 pub(crate) fn give<L: LoaderName>(journal: &mut Journal<L>, rows: &Rows<L>, dues: Vec<Due>) -> usize
     requires fits { length journal.old.cells ≤ L.service.rules.limits.max_cells }
     requires can { CanEnd (map (λ d. d.cell) dues.items) journal.old.cells }
@@ -56,6 +59,9 @@ pub(crate) fn give<L: LoaderName>(journal: &mut Journal<L>, rows: &Rows<L>, dues
     ensures refused { refusals journal.new.cells ≡ refusals journal.old.cells + result }
     ensures few { result ≤ length dues.items }
 {
+    if dues.is_empty() {
+        return 0;
+    }
     let mut refused = 0;
     for due in dues {
         let Due { cell, ending } = due;
@@ -84,6 +90,7 @@ fn outcome_at(call: &Call, place: usize) -> Result<Outcome, AllocError>
     ensures { IfOk result (λ outcome. outcome_by call.now place ≡ Some outcome) }
 {
     match call {
+        Call::Prime(_, outcome) => outcome.try_copy(),
         Call::Settle { outcomes, .. } => outcomes.as_slice()[place].try_copy(),
         Call::Fail { fault, .. } => Ok(Outcome::BatchFailed(fault.try_copy()?)),
         _ => unreachable!(),

@@ -1,4 +1,4 @@
-//! One event, made on the locked book, and what all looks of one cell have in common.
+//! One event, made on the locked book, what all looks of one cell have in common, and the laws of histories.
 
 ghost use Rattle.dl_history.specs.Service.{Answers};
 ghost use Rattle.std.specs.Prelude.{◌≡◌, ◌+◌, None, IfErr, IfOk, IfSome, OnErr, OnOk};
@@ -12,16 +12,24 @@ ghost use Rattle.dl_loader.specs.Refusals.{refusal, IsRefusal};
 
 use crate::ask::Ask;
 use crate::book::Book;
+use crate::event_call::{
+    Clear, ClearAll, Dispatch, Fail, Load, LoadMany, Prime, Settle, prime_told,
+};
 use crate::fault::CallFault;
 use crate::loader::Loader;
 use crate::pass::Pass;
 use crate::ticket::Ticket;
+pub use dl_history::laws::{
+    batches_are_within_limits, ends_stay, events_are_calls, fresh_loads_are_apart,
+    histories_begin_empty,
+};
 use dl_history::{Jobs, LoaderName, Replies, Reply, Rows};
 use dl_source::Source;
 use std::alloc::Global;
 
 /// Makes one event of a pass on the book, and answers its reply and how many cells refused the outcome that
-/// it gave them. This is what each event call does under the lock.
+/// it gave them. This is what each event call does under the lock. Where the event ended a batch, those that wait for a
+/// ticket are woken, and go on once the book is given back.
 ///
 /// # Errors
 /// The first cause of [`CallFault`] that applies, with the ask. The book and the pass are then as they were.
@@ -44,7 +52,12 @@ pub fn event<'a, L: LoaderName, S: Source>(
     let made = make(alloc, &loader.rows, book, pass, &ask);
     book.keeps();
     match made {
-        Ok(made) => Ok(made),
+        Ok(made) => {
+            if matches!(ask, Ask::Settle(_) | Ask::Fail(..)) {
+                loader.wake();
+            }
+            Ok(made)
+        }
         Err(fault) => Err((fault, ask)),
     }
 }
@@ -75,33 +88,40 @@ fn make<L: LoaderName, S: Source>(
 {
     match ask {
         Ask::Load(key) => {
-            let reply = book.load(alloc, rows, pass, key)?;
-            Ok((Reply::Loaded(reply), 0))
+            let (reply, ended) = book.record(alloc, rows, pass, &Load { key })?;
+            Ok((Reply::Loaded(reply), ended.refused))
         }
         Ask::LoadMany(keys) => {
-            let replies = book.load_many(alloc, rows, pass, keys)?;
-            Ok((Reply::Many(Replies::new(replies)), 0))
+            let (replies, ended) = book.record(alloc, rows, pass, &LoadMany { keys })?;
+            Ok((Reply::Many(Replies::new(replies)), ended.refused))
         }
-        Ask::Prime(key, outcome) => Ok(book.prime(alloc, rows, pass, key, outcome)?.told()),
+        Ask::Prime(key, outcome) => {
+            let (reply, ended) = book.record(alloc, rows, pass, &Prime { key, outcome })?;
+            Ok((prime_told(reply), ended.refused))
+        }
         Ask::Clear(key) => {
-            book.clear(alloc, rows, pass, key)?;
-            Ok((Reply::Done, 0))
+            let (_, ended) = book.record(alloc, rows, pass, &Clear { key })?;
+            Ok((Reply::Done, ended.refused))
         }
         Ask::ClearAll => {
-            book.clear_all(alloc, rows, pass)?;
-            Ok((Reply::Done, 0))
+            let (_, ended) = book.record(alloc, rows, pass, &ClearAll)?;
+            Ok((Reply::Done, ended.refused))
         }
         Ask::Dispatch => {
-            let jobs = book.dispatch(alloc, rows, pass)?;
-            Ok((Reply::Sent(Jobs::new(jobs)), 0))
+            let (jobs, ended) = book.record(alloc, rows, pass, &Dispatch)?;
+            Ok((Reply::Sent(Jobs::new(jobs)), ended.refused))
         }
         Ask::Settle(fetched) => {
-            let settled = book.settle(alloc, rows, pass, fetched)?;
-            Ok((Reply::Done, settled.refused))
+            let (_, ended) = book.record(alloc, rows, pass, &Settle { fetched })?;
+            Ok((Reply::Done, ended.refused))
         }
         Ask::Fail(job, give_up) => {
-            let settled = book.fail(alloc, rows, pass, job, *give_up)?;
-            Ok((Reply::Done, settled.refused))
+            let call = Fail {
+                job,
+                give_up: *give_up,
+            };
+            let (_, ended) = book.record(alloc, rows, pass, &call)?;
+            Ok((Reply::Done, ended.refused))
         }
     }
 }

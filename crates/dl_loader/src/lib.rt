@@ -9,6 +9,7 @@ mod ask;
 mod book;
 mod calls;
 mod due_endings;
+mod event_call;
 mod fault;
 pub mod laws;
 mod load_replies;

@@ -1,7 +1,7 @@
 //! What the replies to loads bring: cells, and tickets for their caller.
 
 ghost use Rattle.std.specs.Prelude.{◌≡◌, ◌-◌, ◌<◌, ◌≤◌, [], length, vec_capacity};
-ghost use Rattle.dl_loader.specs.Inside.Begun.{begun_by, cells_begun};
+ghost use Rattle.dl_loader.specs.Inside.Begun.{begun_by, begun_in, cells_begun};
 ghost use Rattle.dl_history.specs.Entries.{cell_of_load, cells_of};
 ghost use Rattle.dl_history.specs.Lists.{Among, Every};
 ghost use Rattle.dl_loader.specs.Pass.{AreTickets, with_tickets};
@@ -10,7 +10,7 @@ use crate::book::Book;
 use crate::pass::Pass;
 use crate::ticket::{Ticket, load_cell};
 use dl_desk::LoadReply;
-use dl_history::{LoaderName, Rows};
+use dl_history::{LoaderName, Reply, Rows};
 
 /// How many cells a load began.
 pub(crate) fn begun_by(reply: LoadReply) -> u32
@@ -45,6 +45,20 @@ pub(crate) fn new_cells<L: LoaderName>(rows: &Rows<L>, replies: &[LoadReply]) ->
     let cells = cells_begun(replies);
     prove!(cells <= most);
     cells as u32
+}
+
+/// How many cells a call began that was replied so, where these are no more than may be begun.
+#[inline(always)]
+pub(crate) fn begun_in<L: LoaderName>(rows: &Rows<L>, reply: &Reply) -> u32
+    requires { begun_in reply.now ≤ L.service.rules.limits.max_cells }
+    ensures { result ≡ begun_in reply.now }
+{
+    match reply {
+        Reply::Loaded(reply) => begun_by(*reply),
+        Reply::Many(replies) => new_cells(rows, replies.as_slice()),
+        Reply::Primed(_) => 1,
+        _ => 0,
+    }
 }
 
 impl<L: LoaderName> Book<L> {

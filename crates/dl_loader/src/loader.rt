@@ -89,20 +89,25 @@ impl<L: LoaderName> Loader<L> {
     }
 
     /// The book, which lies behind the loader's lock. Whoever has it keeps all others from their calls, and its own
-    /// calls of the loader would wait for ever; the law of one event is stated over it.
+    /// calls of the loader would wait for ever.
+    ///
+    /// It is lent for the law of one event: [`laws::event`](crate::laws::event) makes an event on it, and wakes those that
+    /// wait where the event ended a batch. Beside that a program learns of it what every book keeps ([`Book::keeps`]), and can do
+    /// nothing with it: it can't stop it, show one of its cells, or put another book in its place.
     pub fn lock(&self, rt: &impl Wait) -> MutexGuard<'_, Book<L>> {
         self.book.lock(rt)
-    }
-
-    /// The rows that the loader's history and outcomes lie in.
-    pub fn rows(&self) -> &Rows<L> {
-        &self.rows
     }
 
     /// Stops the loader: from then on no pass may make an event, and no wait for a cell that has not ended
     /// goes on.
     pub fn stop(&self, rt: &impl Wait) {
         self.book.lock(rt).stop();
+        self.wake();
+    }
+
+    /// Wakes those that wait for a ticket: a batch has ended, or the loader is stopped. Where the book is lent they go on once
+    /// it is given back.
+    pub(crate) fn wake(&self) {
         self.changed.notify_all();
     }
 

@@ -114,9 +114,12 @@ impl<L: LoaderName> Pass<L> {
         Account::of(alloc, *caller, entries.as_slice())
     }
 
-    /// The calls that were made and the outcomes that were read, in order.
+    /// The calls that were made and the outcomes that were read, in order. The calls are the caller's own; each has a place above
+    /// those of all calls and reads before it; and each outcome that was read is of a cell with which a call before it was
+    /// answered.
     pub fn entries(&self) -> &[Entry<L>]
-        ensures { result.now ≡ self.now.part.entries }
+        ensures entries { result.now ≡ self.now.part.entries }
+        ensures account { IsAccount L.service.callers (account_of self.now.part) }
     {
         self.entries.as_slice()
     }

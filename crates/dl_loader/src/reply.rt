@@ -1,9 +1,10 @@
 //! What event calls answer, where it is neither a ticket nor a job.
 
-ghost use Rattle.std.specs.Prelude.{◌≡◌};
+ghost use Rattle.std.specs.Prelude.{◌≡◌, ◌≤◌};
+ghost use Rattle.dl_history.specs.History.{primed};
 ghost use Rattle.dl_loader.specs.EventReplies.{refused_by, told_by};
 
-use dl_history::Reply;
+use dl_desk::DeskPrime;
 
 /// What a prime answers.
 #[derive(Clone, Copy, Debug, PartialEq, Eq)]
@@ -16,15 +17,17 @@ pub enum PrimeReply {
 }
 
 impl PrimeReply {
-    /// The reply that the history tells, and how many cells refused the outcome.
-    pub(crate) fn told(self) -> (Reply, u32)
-        ensures reply { result.0 ≡ told_by self }
-        ensures refused { result.1 ≡ refused_by self }
+    /// What a prime answers that the desk replied to so, where its cell took its outcome so.
+    pub(crate) fn of(reply: DeskPrime, ended: Settled) -> PrimeReply
+        ensures told { told_by result ≡ primed reply }
+        ensures refused { refused_by result ≤ ended.refused }
     {
-        match self {
-            PrimeReply::Primed { cell, shown: true } => (Reply::Primed(cell), 0),
-            PrimeReply::Primed { cell, shown: false } => (Reply::Primed(cell), 1),
-            PrimeReply::Kept => (Reply::Kept, 0),
+        match reply {
+            DeskPrime::Primed(cell) => PrimeReply::Primed {
+                cell,
+                shown: ended.refused == 0,
+            },
+            DeskPrime::Kept => PrimeReply::Kept,
         }
     }
 }

@@ -4,6 +4,7 @@ mod by_law;
 mod closed;
 mod hand;
 mod keys;
+mod largest;
 mod player;
 mod row;
 mod rows;
@@ -12,11 +13,12 @@ mod threads;
 mod using;
 mod waiting;
 
+use crate::loader::largest::{Load, MOST, Then};
 use crate::loader::step::Row;
 use crate::loader::waiting::{CALLERS, Crowd, Release};
 use dl_desk::Limits;
-use dl_fixtures::{ADA, USERS, tables};
-use dl_loader::{Opening, StartFault};
+use dl_fixtures::{ADA, USERS, numbered_keys, tables};
+use dl_loader::{CloseFault, MOST_CALLERS, Opening, StartFault};
 use dl_source::Tables;
 use std::alloc::Global;
 use std::hash::RandomState;
@@ -111,9 +113,9 @@ fn callers_on_threads<R: Abort + Threads + Wait + Sync>(
     using::assert_history(rt, alloc, &history);
 }
 
-// Callers that wait for one batch that ends or fails, for several that end one after another, at a loader that is
+// Callers that wait for one batch that ends or fails, by a call or by the law, for several that end one after another, at a loader that is
 // stopped, and once all is over.
-static CROWDS: [Crowd; 7] = [
+static CROWDS: [Crowd; 9] = [
     Crowd {
         max_batch: 2,
         loads: &[("u1", ADA)],
@@ -131,6 +133,18 @@ static CROWDS: [Crowd; 7] = [
         loads: &[("u1", ADA), ("u9", "error gone"), ("u13", "batch db down")],
         release: Release::Ends,
         is_late: true,
+    },
+    Crowd {
+        max_batch: 1,
+        loads: &[("u1", ADA)],
+        release: Release::EndsByLaw,
+        is_late: false,
+    },
+    Crowd {
+        max_batch: 1,
+        loads: &[("u1", "memory")],
+        release: Release::GivesUpByLaw,
+        is_late: false,
     },
     Crowd {
         max_batch: 1,
@@ -179,4 +193,64 @@ fn wait_by<R: Abort + Threads + Wait + Sync>(
     let limits = Limits::new(crowd.max_batch, 8, 32).expect(rt, "no limits");
     let opening = Opening::new(alloc, hashing, users, limits, CALLERS).expect(rt, "no opening");
     waiting::wait_at_once::<Brand, _, _>(rt, alloc, users, opening, crowd);
+}
+
+/// The most keys in one batch.
+const MOST_KEYS: Load = Load {
+    max_batch: MOST,
+    keys: MOST,
+    batches: 1,
+    then: Then::Reads,
+    close: Ok(4),
+};
+
+#[test]
+fn the_most_keys_of_one_batch(rt: HostRuntime) {
+    let users = users(&rt, rt.alloc());
+    load_most(&rt, rt.alloc(), hashing(&rt), &users, &MOST_KEYS);
+}
+
+/// As many batches of one key as the log has room for the ends of.
+const MOST_CALLS: Load = Load {
+    max_batch: 1,
+    keys: MOST - 2,
+    batches: MOST - 2,
+    then: Then::Fills,
+    close: Ok(65_536),
+};
+
+#[test]
+fn the_most_calls_of_one_log(rt: HostRuntime) {
+    let users = users(&rt, rt.alloc());
+    load_most(&rt, rt.alloc(), hashing(&rt), &users, &MOST_CALLS);
+}
+
+/// As many batches as there may be.
+const MOST_BATCHES: Load = Load {
+    max_batch: 1,
+    keys: MOST,
+    batches: MOST,
+    then: Then::Ends,
+    close: Err(CloseFault::Unsettled { batch: 0 }),
+};
+
+#[test]
+fn the_most_batches_of_one_dispatch(rt: HostRuntime) {
+    let users = users(&rt, rt.alloc());
+    load_most(&rt, rt.alloc(), hashing(&rt), &users, &MOST_BATCHES);
+}
+
+/// The first of as many callers as there may be loads keys on a loader of the greatest limits over these tables.
+fn load_most<R: Abort + Wait>(
+    rt: &R,
+    alloc: Global,
+    hashing: RandomState,
+    users: &Tables,
+    load: &Load,
+) {
+    let keys = numbered_keys(alloc, load.keys).expect(rt, "no keys");
+    let limits = Limits::new(load.max_batch, MOST, MOST).expect(rt, "no limits");
+    let opening = Opening::new(alloc, hashing, users, limits, MOST_CALLERS);
+    let opening = opening.expect(rt, "no opening");
+    largest::load_most::<Brand, _, _>(rt, alloc, users, opening, load, keys.as_slice());
 }

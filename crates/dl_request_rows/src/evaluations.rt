@@ -1,16 +1,20 @@
 //! Terms that are evaluated on the caller's own thread: their answers, their rounds, and the batches that these make.
 
+ghost use Rattle.std.specs.Prelude.{◌≡◌};
 ghost use Rattle.dl_history.specs.Service.{Answers};
+ghost use Rattle.dl_loader.specs.Opening.{Names};
 
 use crate::comparing::assert_is;
 use crate::rows::{Player, Row, try_row};
 use crate::texts::evaluation_text;
-use dl_fixtures::{ADA, BEST, FRIENDS, Shape, U1, U2, list_text, term};
+use dl_desk::Limits;
+use dl_fixtures::{ADA, BEST, FRIENDS, Shape, U1, U2, USERS, list_text, tables, term};
 use dl_haxl::run_inline;
-use dl_loader::{Loader, LoaderName, Pass};
-use dl_source::Source;
+use dl_loader::{Loader, LoaderName, Opening, Pass};
+use dl_source::{Source, Tables};
 use std::alloc::Global;
 use std::hash::RandomState;
+use std::marker::Brand;
 use std::process::Abort;
 use std::sync::Wait;
 
@@ -290,4 +294,42 @@ pub(crate) fn starve<L: LoaderName, S: Source, R: Abort + Wait>(
     let is_given = text == row.answer || STARVED.contains(&text);
     assert_is(rt, &is_given, &true, text);
     Some(())
+}
+
+/// What the load of the first user gives to two callers, one after the other, where the log has room for the loads and the
+/// dispatch of the first alone: its batch can't be ended, and so the loader is stopped.
+static UNENDED: [&str; 2] = ["Call(LogFull { limit: 2 })", "Call(Stopped)"];
+
+#[test]
+fn a_batch_that_can_not_be_ended_stops_the_loader(rt: HostRuntime) {
+    let hashing = RandomState::new(&rt).expect(&rt, "no random numbers");
+    let users = tables(rt.alloc(), hashing, USERS).expect(&rt, "no tables");
+    evaluate_unended(&rt, rt.alloc(), hashing, &users);
+}
+
+/// Two callers of a loader over these tables evaluate a load, one after the other.
+fn evaluate_unended<R: Abort + Wait>(rt: &R, alloc: Global, hashing: RandomState, users: &Tables) {
+    let limits = Limits::new(2, 8, 2).expect(rt, "no limits");
+    let opening = Opening::new(alloc, hashing, users, limits, 2).expect(rt, "no opening");
+    evaluate_by_each::<Brand, _, _>(rt, alloc, hashing, users, opening);
+}
+
+/// Each caller of the loader of an opening, which `L` stands for, evaluates a load.
+fn evaluate_by_each<L: LoaderName, S: Source, R: Abort + Wait>(
+    rt: &R,
+    alloc: Global,
+    hashing: RandomState,
+    source: &S,
+    opening: Opening<'_, S>,
+)
+    requires source { opening.source ≡ source.now }
+    requires names { Names S.answer opening L.service L.parts L.log L.outcomes L.name }
+{
+    let load = Row { term: U1, ..ROW };
+    let (loader, mut passes) = Loader::<L>::start(alloc, opening).expect(rt, "no loader");
+    for (pass, want) in passes.iter_mut().zip(UNENDED.iter()) {
+        let given = evaluated(rt, alloc, hashing, source, &loader, pass, &load);
+        let (text, _) = given.expect(rt, "no memory");
+        assert_is(rt, &text.as_str(), want, "a batch that can't be ended");
+    }
 }

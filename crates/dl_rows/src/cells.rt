@@ -6,6 +6,7 @@ ghost use Rattle.dl_cells.specs.Cells.{row_len, cell_of};
 use crate::comparing::assert_is;
 use dl_cells::{CellRow, Reader};
 use std::alloc::{AllocError, Global};
+use std::io::Eprint;
 use std::process::Abort;
 use std::sync::Arc;
 use std::test::Fail;
@@ -243,13 +244,18 @@ fn has_reader(row: &CellRow<u8>, place: u32) -> bool
     row.reader(place).is_ok()
 }
 
-/// Refused calls on the cells of a row are made again.
-fn use_again(rt: &impl Abort, alloc: Global, row: &CellRow<u8>) -> Result<(), AllocError>
+/// Refused calls on the cells of a row are made again. Where the growth for a reader of cell 64 is refused, that is told.
+fn use_again<R: Abort + Eprint>(rt: &R, alloc: Global, row: &CellRow<u8>) -> Result<(), AllocError>
     requires { row_len row.now ≡ 130 }
 {
     watched_again(row, 0)?;
     // The segment of cell 63 was made for cell 0, and that of cell 64 wasn't.
     assert!(rt; has_reader(row, 63));
+    if !has_reader(row, 64) {
+        assert!(rt; has_reader(row, 63));
+        rt.eprintln("cell 64 has no reader")
+            .expect(rt, "no text told");
+    }
     let cell = watched_again(row, 64)?;
     show_again(rt, alloc, cell)
 }

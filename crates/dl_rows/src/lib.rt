@@ -1,5 +1,5 @@
 //! Tests of the crates below the shared loader, and worked rows of their calls: one file for each crate that it
-//! exercises.
+//! exercises, and one for calls at their largest arguments.
 #![tactic(auto)]
 
 #[cfg(test)]
@@ -8,6 +8,8 @@ mod cells;
 mod comparing;
 #[cfg(test)]
 mod desk;
+#[cfg(test)]
+mod largest;
 #[cfg(test)]
 mod source;
 #[cfg(test)]

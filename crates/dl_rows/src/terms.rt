@@ -2,7 +2,9 @@
 
 use crate::comparing::assert_is;
 use dl_desk::{FetchKey, Outcome, Text};
-use dl_fixtures::{BEST, FRIENDS, Shape, answer_text, json, term};
+use dl_fixtures::{
+    BEST, FRIENDS, Shape, answer_text, json, list_text, numbered_keys, numbered_list, term,
+};
 use dl_terms::{Answer, EvalFault, Known, Node, Term, Wanted, explore, unexplored};
 use indexmap::{IndexMap, IndexSet};
 use std::alloc::{AllocError, Global};
@@ -197,4 +199,59 @@ fn an_id_has_1_to_128_bytes(rt: HostRuntime) {
         let key = (table.as_str(), id.as_str());
         assert_loads(&rt, rt.alloc(), hashing, key, *is_id);
     }
+}
+
+/// The most items that an each may have.
+const MOST_ITEMS: u32 = 1_024;
+
+/// Outcomes of as many keys, each of which is 7.
+fn sevens(rt: &impl Abort, alloc: Global) -> Vec<(FetchKey, Outcome)> {
+    let mut outcomes = Vec::new(alloc);
+    for key in numbered_keys(alloc, MOST_ITEMS).expect(rt, "no keys") {
+        let value = json(alloc, "7").expect(rt, "no JSON");
+        let pushed = outcomes.push((key, Outcome::Value(value)));
+        pushed.expect(rt, "no memory");
+    }
+    outcomes
+}
+
+/// An each of as many keys of the table `t`.
+fn largest_each(rt: &impl Abort, alloc: Global) -> Term {
+    let list = numbered_list(alloc, MOST_ITEMS, "\"", "\"").expect(rt, "no memory");
+    Term::Each {
+        part: object(rt, alloc, list.as_str()),
+        field: name(rt, alloc, "f"),
+        table: name(rt, alloc, "t"),
+    }
+}
+
+/// How many outcomes are known in a round, and how many keys are wanted then.
+static LARGEST_ROUNDS: [(usize, usize); 2] = [(0, 1_024), (1_024, 0)];
+
+/// In each round the node wants so many keys.
+fn assert_largest_rounds(
+    rt: &impl Abort,
+    alloc: Global,
+    hashing: RandomState,
+    node: &mut Node,
+    outcomes: &[(FetchKey, Outcome)],
+) {
+    for (count, want) in &LARGEST_ROUNDS {
+        let known = known_of(rt, alloc, hashing, outcomes, *count);
+        let mut wanted: Wanted = IndexSet::with_hasher(alloc, hashing);
+        explore(alloc, node, &known, &mut wanted).expect(rt, "no memory");
+        assert_is(rt, &wanted.len(), want, "keys that are wanted");
+    }
+}
+
+#[test]
+fn an_each_of_the_most_items_is_answered(rt: HostRuntime) {
+    let hashing = RandomState::new(&rt).expect(&rt, "no random numbers");
+    let outcomes = sevens(&rt, rt.alloc());
+    let each = largest_each(&rt, rt.alloc());
+    let mut node = unexplored(rt.alloc(), each).expect(&rt, "no memory");
+    assert_largest_rounds(&rt, rt.alloc(), hashing, &mut node, &outcomes);
+    let want = list_text(rt.alloc(), "7", 1_024).expect(&rt, "no memory");
+    let text = text_of(&rt, rt.alloc(), node);
+    assert_is(&rt, &text.as_str(), &want.as_str(), "the answer");
 }

@@ -4,7 +4,7 @@ ghost use Rattle.std.specs.Prelude.{◌≡◌, ◌++◌, ◌∷◌, [], All, IfO
 ghost use Rattle.std.specs.List.{AllZip};
 ghost use Rattle.dl_history.specs.Service.{Answers};
 ghost use Rattle.dl_workers.specs.Seats.{IsSenderOf, IsTakerOf};
-ghost use Rattle.dl_scope.specs.Inside.Kept.{PlanKept, WorkerKept};
+ghost use Rattle.dl_scope.specs.Inside.Kept.{OwnKept, PlanKept, WorkerKept};
 
 use crate::jobs::{PlanJob, PlanPromise, PlanRun, WorkerJob, WorkerPromise, WorkerRun};
 use crate::stage::Stage;
@@ -50,7 +50,7 @@ pub(crate) fn run_all<
     requires own { IsSenderOf stage.now.queue.now own }
     ensures workers { IfOk result (λ runs. AllZip (WorkerKept stage.now.queue.now L.service) workers.items runs.workers.items) }
     ensures plans { IfOk result (λ runs. AllZip (PlanKept stage.now.queue.now) plans.items runs.plans.items) }
-    ensures own { IfOk result (λ runs. IsSenderOf stage.now.queue.now runs.own) }
+    ensures own { IfOk result (λ runs. OwnKept stage.now.queue.now own runs.own) }
 {
     thread::scope(
         thread::scope_env(),
@@ -61,7 +61,7 @@ pub(crate) fn run_all<
                 × All (λ job. IsSenderOf stage.now.queue.now job.sender) plans.items × IsSenderOf stage.now.queue.now own }
             ensures workers { IfOk result (λ runs. AllZip (WorkerKept stage.entry.now.queue.now L.service) workers.items runs.workers.items) }
             ensures plans { IfOk result (λ runs. AllZip (PlanKept stage.entry.now.queue.now) plans.items runs.plans.items) }
-            ensures own { IfOk result (λ runs. IsSenderOf stage.entry.now.queue.now runs.own) }
+            ensures own { IfOk result (λ runs. OwnKept stage.entry.now.queue.now own runs.own) }
         { run_workers(scope, rt, stage, source, gate, workers, plans, own) },
     )
 }
@@ -90,7 +90,7 @@ fn run_workers<
     requires own { IsSenderOf stage.now.queue.now own }
     ensures workers { IfOk result (λ runs. AllZip (WorkerKept stage.now.queue.now L.service) workers.items runs.workers.items) }
     ensures plans { IfOk result (λ runs. AllZip (PlanKept stage.now.queue.now) plans.items runs.plans.items) }
-    ensures own { IfOk result (λ runs. IsSenderOf stage.now.queue.now runs.own) }
+    ensures own { IfOk result (λ runs. OwnKept stage.now.queue.now own runs.own) }
 {
     let Some(job) = workers.pop() else {
         return run_plans_alone(scope, rt, stage, plans, own);
@@ -172,7 +172,7 @@ fn run_plans_alone<'s, E, L: LoaderName + Send + Sync + 's, R: Threads + Wait + 
     requires own { IsSenderOf stage.now.queue.now own }
     ensures workers { IfOk result (λ runs. runs.workers.items ≡ []) }
     ensures plans { IfOk result (λ runs. AllZip (PlanKept stage.now.queue.now) plans.items runs.plans.items) }
-    ensures own { IfOk result (λ runs. IsSenderOf stage.now.queue.now runs.own) }
+    ensures own { IfOk result (λ runs. OwnKept stage.now.queue.now own runs.own) }
 {
     let plans = run_plans(scope, rt, stage, plans);
     stage.queue.shut(rt, &mut own);

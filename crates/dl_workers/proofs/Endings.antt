@@ -1,10 +1,12 @@
 -- Ends of jobs, one after another.
-use Rattle.std.proofs.Common.{◌≡◌, ◌∙◌, sym, subst, refl, ◌<◌, List, [], ◌∷◌, ◌++◌, length, map, take}
+use Rattle.std.proofs.Common.{◌≡◌, ◌∙◌, sym, subst, refl, ◌<◌, List, [], ◌∷◌, ◌++◌, length, map, take, get_or, slice_get, Some}
 use Rattle.std.proofs.lemmas.List.{map-id}
+use Rattle.std.proofs.lemmas.Option.{slice_get_read}
 use Rattle.dl_values.specs.declared.job.Job.{Job}
 use Rattle.dl_loader.specs.Pass.{Part}
 use Rattle.dl_history.specs.Service.{Service}
-use Rattle.dl_workers.specs.Ending.{WasEnded, WereEnded, WereEndedBefore}
+use Rattle.dl_loader.specs.declared.fault.CallFault.{CallFault}
+use Rattle.dl_workers.specs.Ending.{WasEnded, WasNotEnded, WereEnded, WereEndedBefore}
 
 -- one job more
 pub ended_more : (s : Service) (old now new : Part) (jobs : List Job) (job : Job)
@@ -15,10 +17,12 @@ ended_more s old now new (x ∷ jobs) job (next, first, rest) ended = (next, fir
 front : (so_far jobs : List Job) → map (λ job. job) so_far ≡ take (length so_far) jobs → so_far ≡ take (length so_far) jobs
 front so_far jobs is = sym (map-id so_far) ∙ is
 
--- the jobs so far are those before the next one
-pub ended_before : (s : Service) (old now new : Part) (so_far jobs : List Job)
-    → WereEnded s old so_far now → map (λ job. job) so_far ≡ take (length so_far) jobs → length so_far < length jobs → new ≡ now
-    → WereEndedBefore s old jobs new
-ended_before s old now new so_far jobs ended is low same =
+-- the jobs so far are those before the next one, whose end was refused
+pub ended_before : (s : Service) (old now new : Part) (so_far jobs : List Job) (job : Job) (fault : CallFault)
+    → WereEnded s old so_far now → map (λ job. job) so_far ≡ take (length so_far) jobs
+    → (length so_far < length jobs) × (job ≡ get_or jobs (length so_far) job) → new ≡ now → WasNotEnded s now job fault
+    → WereEndedBefore s old jobs new fault
+ended_before s old now new so_far jobs job fault ended is next same refused =
     let P : List Job → Type 0 = λ js. WereEnded s old js new in
-    (length so_far, low, subst P (front so_far jobs is) (rw same ended))
+    let there : slice_get jobs (length so_far) ≡ Some job = slice_get_read jobs (length jobs) (length so_far) job refl next.0 next.1 in
+    (length so_far, job, there, subst P (front so_far jobs is) (rw same ended), rw same refused)

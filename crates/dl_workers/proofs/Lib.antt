@@ -1,5 +1,6 @@
 mod Accounts
 pub mod Endings
+pub mod EndsTold
 mod Dealt
 mod Finish
 mod Jobs

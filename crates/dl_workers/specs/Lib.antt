@@ -4,5 +4,6 @@ pub mod QueueFaults
 pub mod Seats
 pub mod Balance
 pub mod Ending
+pub mod Sent
 pub mod GivenUp
 pub mod Worked

@@ -1,5 +1,5 @@
 -- The rule of the queue's channel: no item is lost, doubled or made up.
-use Rattle.std.specs.Prelude.{◌≡◌, ℕ, ◌+◌, ◌<◌, Bool, List, [], ◌∷◌, ◌++◌, sum_by, count_by}
+use Rattle.std.specs.Prelude.{◌≡◌, ℕ, ◌+◌, ◌<◌, Bool, true, false, List, [], ◌∷◌, ◌++◌, sum_by, count_by}
 use mathlib.Core.Option.{some}
 use lib.ListN.{get_elem?}
 use Rattle.dl_values.specs.declared.job.Job.{Job}
@@ -17,6 +17,12 @@ abbrev pub jobs : List Item → List Job
 jobs [] = []
 jobs (Work job ∷ items) = job ∷ jobs items
 jobs (End ∷ items) = jobs items
+
+-- whether an end mark is among items
+abbrev pub has_end : List Item → Bool
+has_end [] = false
+has_end (Work job ∷ items) = has_end items
+has_end (End ∷ items) = true
 
 -- a pass that stands for a seat knows how many seats all passes stand for
 abbrev pub KnowsAll : List Traffic → Type 0

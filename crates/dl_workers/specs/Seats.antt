@@ -1,9 +1,9 @@
 -- The seats of a queue: whose they are, and what they sent or took.
-use Rattle.std.specs.Prelude.{◌≡◌, ℕ, ◌+◌, List, [], length, All}
+use Rattle.std.specs.Prelude.{◌≡◌, ◌⊎◌, ℕ, ◌+◌, ◌^◌, true, List, [], length, All}
 use Rattle.crossbeam_channel.specs.Claims.{view, IsSeatAt}
 use Rattle.crossbeam_channel.specs.Ends.{sends_on, ruled_capacity}
 use Rattle.dl_values.specs.declared.job.Job.{Job}
-use Rattle.dl_workers.specs.Lossless.{jobs}
+use Rattle.dl_workers.specs.Lossless.{has_end, jobs}
 use Rattle.dl_workers.specs.declared.rule.Item.{Item}
 use Rattle.dl_workers.specs.declared.seats.Sender.{Sender}
 use Rattle.dl_workers.specs.declared.seats.Taker.{Taker}
@@ -24,6 +24,10 @@ taken_items t = (view t.pass).taken
 -- the jobs that a taker took, in order
 abbrev pub taken_jobs : Taker → List Job
 taken_jobs t = jobs (taken_items t)
+
+-- A taker that takes no more: its end mark is among what it took, or it took as many jobs as a seat may.
+abbrev pub HasEnded : Taker → Type 0
+HasEnded t = (has_end (taken_items t) ≡ true) ⊎ (length (taken_jobs t) + 1 ≡ 2 ^ 32)
 
 -- a seat at this queue, which knows how many seats the queue has
 abbrev pub IsSenderOf : JobQueue → Sender → Type 0

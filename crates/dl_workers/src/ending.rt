@@ -1,7 +1,8 @@
 //! The ends of jobs' batches by what a source answers.
 
-ghost use Rattle.std.specs.Prelude.{◌≡◌, ◌+◌, IfErr, IfOk, OnErr, OnOk, length};
+ghost use Rattle.std.specs.Prelude.{◌≡◌, ◌+◌, ◌<◌, IfErr, IfOk, OnErr, OnOk, length};
 ghost use Rattle.dl_history.specs.Service.{Answers};
+ghost use Rattle.dl_loader.specs.Book.{SomeCellRefused};
 ghost use Rattle.dl_workers.specs.Ending.{WasEnded, WasNotEnded, WereEnded, WereEndedBefore};
 
 use dl_desk::Job;
@@ -27,6 +28,7 @@ pub fn end_job<L: LoaderName, S: Source>(
     requires source { Answers (S.answer source.now) L.service }
     ensures ended { OnOk result (WasEnded L.service pass.old.part job pass.new.part) }
     ensures each { IfOk result (λ settled. settled.shown + settled.refused ≡ length job.keys) }
+    ensures refused { IfOk result (λ settled. 0 < settled.refused → SomeCellRefused L.service) }
     ensures fault { IfErr result (WasNotEnded L.service pass.old.part job) }
     ensures unchanged { OnErr result (pass.new.part ≡ pass.old.part) }
     ensures tickets { pass.new.part.tickets ≡ pass.old.part.tickets }
@@ -57,7 +59,7 @@ pub fn end_jobs<L: LoaderName, S: Source>(
 ) -> Result<(), CallFault>
     requires source { Answers (S.answer source.now) L.service }
     ensures ended { OnOk result (WereEnded L.service pass.old.part jobs.items pass.new.part) }
-    ensures stopped { OnErr result (WereEndedBefore L.service pass.old.part jobs.items pass.new.part) }
+    ensures stopped { IfErr result (WereEndedBefore L.service pass.old.part jobs.items pass.new.part) }
     ensures tickets { pass.new.part.tickets ≡ pass.old.part.tickets }
 {
     for job in jobs {
@@ -76,6 +78,7 @@ fn give_up<L: LoaderName>(
 ) -> Result<Settled, CallFault>
     ensures ended { OnOk result (WasEnded L.service pass.old.part job pass.new.part) }
     ensures each { IfOk result (λ settled. settled.shown + settled.refused ≡ length job.keys) }
+    ensures refused { IfOk result (λ settled. 0 < settled.refused → SomeCellRefused L.service) }
     ensures fault { IfErr result (WasNotEnded L.service pass.old.part job) }
     ensures unchanged { OnErr result (pass.new.part ≡ pass.old.part) }
     ensures tickets { pass.new.part.tickets ≡ pass.old.part.tickets }

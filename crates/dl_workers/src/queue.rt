@@ -61,10 +61,10 @@ impl Drop for JobQueue {
 }
 
 impl JobQueue {
-    ghost use Rattle.std.specs.Prelude.{◌+◌, ◌*◌, ◌^◌, [], ◌∷◌, ◌++◌, length, All, MatchOption, MatchResult, OnOk, IfOk, IfErr, flat_map, vec_len};
+    ghost use Rattle.std.specs.Prelude.{◌+◌, ◌*◌, ◌^◌, [], ◌∷◌, ◌++◌, length, All, IfNone, MatchOption, MatchResult, OnOk, IfOk, IfErr, flat_map, vec_len};
     ghost use Rattle.crossbeam_channel.specs.Claims.{view, IsSeatAt};
     ghost use Rattle.dl_workers.specs.QueueFaults.{IsCapacity, IsCount, RefusedAs};
-    ghost use Rattle.dl_workers.specs.Seats.{IsSenderOf, IsTakerOf, AreSeatsOf, sent_items, sent_jobs, taken_items, taken_jobs, queue_room};
+    ghost use Rattle.dl_workers.specs.Seats.{IsSenderOf, IsTakerOf, AreSeatsOf, HasEnded, sent_items, sent_jobs, taken_items, taken_jobs, queue_room};
     ghost use Rattle.dl_workers.specs.Balance.{Balances};
     ghost use Rattle.dl_workers.specs.Lossless.{traffic};
 
@@ -167,22 +167,39 @@ impl JobQueue {
         requires { IsTakerOf self.now taker.old }
         ensures seat { IsTakerOf self.now taker.new }
         ensures taken { MatchOption result (taken_jobs taker.new ≡ taken_jobs taker.old) (λ job. taken_jobs taker.new ≡ taken_jobs taker.old ++ job ∷ []) }
+        ensures ended { IfNone result (HasEnded taker.new) }
         ensures bound { length (taken_jobs taker.new) < 2 ^ 32 }
     {
         if taker.taken == u32::MAX || taker.ended {
             return None;
         }
-        match self.receives.recv_as::<Takes, R>(rt, &mut taker.pass) {
-            Ok(Item::Work(job)) => {
+        match self.receive(rt, &mut taker.pass) {
+            Item::Work(job) => {
                 taker.taken += 1;
                 Some(job)
             }
-            Ok(Item::End) => {
+            Item::End => {
                 taker.ended = true;
                 None
             }
-            Err(_) => None,
         }
+    }
+
+    /// Takes the next item, and waits where there is none. The channel tells that no sender is left by an error, which never
+    /// comes: the queue is a sender itself.
+    fn receive<R: Wait>(&self, rt: &R, pass: &mut Pass<Item, Traffic>) -> Item
+        requires seat { IsSeatAt (sends_on self.now.sends) pass.old }
+        requires some_seat { 0 < (view pass.old).seats }
+        ensures seat { IsSeatAt (sends_on self.now.sends) pass.new }
+        ensures taken { view pass.new ≡ traffic (view pass.old).seats (view pass.old).all (view pass.old).sent
+            ((view pass.old).taken ++ result ∷ []) }
+    {
+        for _ in rt.forever() {
+            if let Ok(item) = self.receives.recv_as::<Takes, R>(rt, pass) {
+                return item;
+            }
+        }
+        unreachable!()
     }
 
     /// Shuts the queue: a send that begins once this has returned gives its job back, and each taker

@@ -2,7 +2,7 @@
 
 ghost use Rattle.std.specs.Prelude.{◌≡◌, [], length};
 ghost use Rattle.crossbeam_channel.specs.Claims.{view};
-ghost use Rattle.dl_workers.specs.Lossless.{traffic, jobs};
+ghost use Rattle.dl_workers.specs.Lossless.{has_end, traffic, jobs};
 
 use crate::rule::{Item, Traffic};
 use crossbeam_channel::Pass;
@@ -25,6 +25,7 @@ pub struct Taker {
     pub(crate) ended: bool,
     ghost one_seat: { (view pass).seats ≡ 1 },
     ghost counted: { taken ≡ length (jobs (view pass).taken) },
+    ghost marked: { ended ≡ has_end (view pass).taken },
     ghost none_sent: { (view pass).sent ≡ [] },
 }
 

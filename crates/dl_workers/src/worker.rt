@@ -3,7 +3,7 @@
 ghost use Rattle.std.specs.Prelude.{◌≡◌, ◌⊎◌, ◌++◌, MatchBool, length};
 ghost use Rattle.dl_history.specs.Service.{Answers};
 ghost use Rattle.dl_workers.specs.Ending.{WasEnded};
-ghost use Rattle.dl_workers.specs.Seats.{IsTakerOf, taken_jobs};
+ghost use Rattle.dl_workers.specs.Seats.{HasEnded, IsTakerOf, taken_jobs};
 ghost use Rattle.dl_workers.specs.Worked.{Took, Worked};
 
 use crate::ending::end_job;
@@ -45,6 +45,7 @@ pub fn work<L: LoaderName, S: Source, G: Gate, R: Wait>(
     requires seat { IsTakerOf queue.now taker.old }
     ensures seat { IsTakerOf queue.now taker.new }
     ensures worked { Worked L.service result (taken_jobs taker.old) (taken_jobs taker.new) pass.old.part pass.new.part }
+    ensures ended { HasEnded taker.new }
     ensures tickets { pass.new.part.tickets ≡ pass.old.part.tickets }
 {
     let mut batches = 0;
@@ -93,6 +94,7 @@ fn drop_rest<R: Wait>(rt: &R, queue: &JobQueue, taker: &mut Taker)
     requires { IsTakerOf queue.now taker.old }
     ensures seat { IsTakerOf queue.now taker.new }
     ensures took { Took (taken_jobs taker.old) (taken_jobs taker.new) }
+    ensures ended { HasEnded taker.new }
 {
     for _ in rt.forever() {
         if queue.take(rt, taker).is_none() {

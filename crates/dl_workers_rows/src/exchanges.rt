@@ -24,11 +24,11 @@ struct Exchange {
     times: u32,
 }
 
-/// The jobs of an exchange, and how often each of them was taken or came back. The jobs are told apart by their numbers.
+/// The jobs of an exchange, and how often each of them was taken or came back. The jobs are told apart by their numbers:
+/// each sender has the same many, and those of the first sender come first.
 #[derive(Drop)]
 struct Jobs {
     keys: Keys,
-    next: AtomicU32,
     seen: Vec<AtomicU32>,
 }
 
@@ -39,14 +39,12 @@ impl Jobs {
         for _ in 0..count {
             seen.push(AtomicU32::new(0))?;
         }
-        let next = AtomicU32::new(0);
-        Ok(Jobs { keys, next, seen })
+        Ok(Jobs { keys, seen })
     }
 
-    /// The next job, which nobody else gets.
-    fn next(&self) -> Option<Job> {
+    /// The job of a number.
+    fn numbered(&self, batch: u32) -> Option<Job> {
         let keys = self.keys.try_copy().ok()?;
-        let batch = self.next.fetch_add(1, Ordering::SeqCst);
         Some(Job { batch, keys })
     }
 
@@ -69,12 +67,12 @@ impl Jobs {
     }
 }
 
-/// Sends the next job. Where it comes back it is noted, and the answer is `true`.
-fn send_next<R: Wait>(rt: &R, queue: &JobQueue, sender: &mut Sender, jobs: &Jobs) -> bool
+/// Sends the job of a number. Where it comes back it is noted, and the answer is `true`.
+fn send_one<R: Wait>(rt: &R, queue: &JobQueue, sender: &mut Sender, batch: u32, jobs: &Jobs) -> bool
     requires { IsSenderOf queue.now sender.old }
     ensures { IsSenderOf queue.now sender.new }
 {
-    let Some(job) = jobs.next() else {
+    let Some(job) = jobs.numbered(batch) else {
         return false;
     };
     match queue.send(rt, sender, job) {
@@ -86,7 +84,7 @@ fn send_next<R: Wait>(rt: &R, queue: &JobQueue, sender: &mut Sender, jobs: &Jobs
     }
 }
 
-/// Sends jobs of the exchange from the sender of a number. A sender that has shut the queue gets each of them back.
+/// Sends the jobs of the sender of a number. A sender that has shut the queue gets each of them back.
 fn send_all<R: Abort + Wait>(
     rt: &R,
     queue: &JobQueue,
@@ -103,14 +101,17 @@ fn send_all<R: Abort + Wait>(
     } else {
         exchange.jobs
     };
-    for _ in 0..first {
-        send_next(rt, queue, sender, jobs);
+    let number = u32::try_from(number).expect(rt, "no number of a sender");
+    let least = number.saturating_mul(exchange.jobs);
+    for turn in 0..first {
+        send_one(rt, queue, sender, least.saturating_add(turn), jobs);
     }
     if first < exchange.jobs {
         queue.shut(rt, sender);
     }
-    for _ in first..exchange.jobs {
-        assert!(rt; send_next(rt, queue, sender, jobs));
+    for turn in first..exchange.jobs {
+        let back = send_one(rt, queue, sender, least.saturating_add(turn), jobs);
+        assert!(rt; back);
     }
 }
 

@@ -8,8 +8,10 @@ ghost use Rattle.dl_workers.specs.Seats.{IsSenderOf, IsTakerOf};
 
 use crate::steps::Steps;
 use dl_desk::{FetchKey, Limits};
-use dl_fixtures::{fault_text, outcome_text};
-use dl_loader::{Call, CloseFault, History, Loader, LoaderName, Opening, Pass, Stopped, Ticket};
+use dl_fixtures::{fault_text, numbered_keys, outcome_text};
+use dl_loader::{
+    Call, CallFault, CloseFault, History, Loader, LoaderName, Opening, Pass, Stopped, Ticket,
+};
 use dl_source::{Source, Tables};
 use dl_workers::{JobQueue, Sender, Taker, Tally, WorkerEnd, work};
 use std::alloc::{AllocError, Global};
@@ -18,13 +20,17 @@ use std::marker::Brand;
 use std::sync::Wait;
 use std::thread::{Threads, join};
 
-/// What a caller loads, and under which limits.
+/// What a caller loads, under which limits, and over which queue it sends the jobs.
 #[derive(Clone, Copy)]
 pub(crate) struct Loads {
+    /// How many jobs the queue has room for.
+    pub(crate) capacity: u32,
     /// The most keys of a batch.
     pub(crate) max_batch: u32,
     /// The most calls of the loader.
     pub(crate) max_calls: u32,
+    /// How many keys of no table are loaded first, by one call.
+    pub(crate) crowd: u32,
     /// The users that are loaded, each by a call of its own.
     pub(crate) ids: &'static [&'static str],
 }
@@ -46,6 +52,8 @@ pub(crate) struct Seen {
     pub(crate) calls: usize,
     /// The text of the outcome of the caller's last load, for which it waited.
     pub(crate) waited: Result<String, Stopped>,
+    /// What the caller's next call answers, once the worker has ended.
+    pub(crate) next: Result<(), CallFault>,
     pub(crate) tally: Tally,
 }
 
@@ -200,7 +208,8 @@ fn send_and_wait<L: LoaderName, R: Wait>(
     caller
 }
 
-/// Loads users, each by a call of its own, and sends each job of a dispatch. The ticket is that of the last load.
+/// Loads the crowd and users, each of these by a call of its own, and sends each job of a dispatch. The ticket is that of the
+/// last load.
 fn send<'a, L: LoaderName, R: Wait>(
     rt: &R,
     alloc: Global,
@@ -215,12 +224,28 @@ fn send<'a, L: LoaderName, R: Wait>(
     ensures gave { IfSome result (λ ticket. GaveTicket pass.new.part ticket false) }
 {
     let (last, others) = loads.ids.split_last()?;
+    if loads.crowd > 0 {
+        load_crowd(rt, alloc, loader, pass, loads.crowd)?;
+    }
     for id in others {
         load(rt, alloc, loader, pass, id)?;
     }
     let ticket = load(rt, alloc, loader, pass, last)?;
     send_jobs(rt, alloc, loader, queue, pass, sender)?;
     Some(ticket)
+}
+
+/// Loads so many keys of no table, by one call, and lets their tickets go.
+fn load_crowd<L: LoaderName>(
+    rt: &impl Wait,
+    alloc: Global,
+    loader: &Loader<L>,
+    pass: &mut Pass<L>,
+    count: u32,
+) -> Option<()> {
+    let keys = numbered_keys(alloc, count)?;
+    loader.load_many(rt, alloc, pass, keys.as_slice()).ok()?;
+    Some(())
 }
 
 /// Loads a user.
@@ -286,7 +311,7 @@ pub(crate) fn play_over<R: Threads + Wait + Sync>(
     place: Place,
     gate: &Steps,
 ) -> Option<(Seen, Result<String, CloseFault>)> {
-    let limits = Limits::new(loads.max_batch, 8, loads.max_calls).ok()?;
+    let limits = Limits::new(loads.max_batch, 64, loads.max_calls).ok()?;
     let Ok(opening) = Opening::new(alloc, hashing, users, limits, 2) else {
         return None;
     };
@@ -329,7 +354,7 @@ fn use_loader<L: LoaderName + Send + Sync, S: Source, R: Threads + Wait + Sync>(
 ) -> Option<Seen>
     requires { Answers (S.answer source.now) L.service }
 {
-    let Ok((queue, senders, takers)) = JobQueue::new(alloc, 4, 1, 1) else {
+    let Ok((queue, senders, takers)) = JobQueue::new(alloc, loads.capacity, 1, 1) else {
         return None;
     };
     let (worker, caller) = (passes.pop()?, passes.pop()?);
@@ -351,7 +376,8 @@ fn use_loader<L: LoaderName + Send + Sync, S: Source, R: Threads + Wait + Sync>(
         seats: takers,
         end: None,
     };
-    let (caller, worker) = stage.play(rt, place, caller, worker);
+    let (mut caller, worker) = stage.play(rt, place, caller, worker);
+    let next = loader.clear_all(rt, alloc, &mut caller.pass);
     let tally = queue.finish(rt, caller.seats, worker.seats);
     let calls = worker.pass.calls();
     passes.push(caller.pass).ok()?;
@@ -360,6 +386,7 @@ fn use_loader<L: LoaderName + Send + Sync, S: Source, R: Threads + Wait + Sync>(
         end: worker.end?,
         calls,
         waited: caller.waited?,
+        next,
         tally,
     })
 }

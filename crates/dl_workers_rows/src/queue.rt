@@ -16,7 +16,7 @@ fn job(rt: &impl Abort, alloc: Global, batch: u32) -> Job {
 }
 
 /// Capacities and numbers of senders and takers: the bounds, and what lies past them.
-const NUMBERS: [(u32, u32, u32, Option<QueueFault>); 11] = [
+const NUMBERS: [(u32, u32, u32, Option<QueueFault>); 12] = [
     (0, 1, 1, Some(QueueFault::BadCapacity)),
     (1_025, 1, 1, Some(QueueFault::BadCapacity)),
     (0, 0, 0, Some(QueueFault::BadCapacity)),
@@ -28,6 +28,7 @@ const NUMBERS: [(u32, u32, u32, Option<QueueFault>); 11] = [
     (1_024, 1, 1, None),
     (1, 32, 1, None),
     (1, 1, 32, None),
+    (1_024, 32, 32, None),
 ];
 
 #[test]

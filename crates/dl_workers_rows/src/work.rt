@@ -3,7 +3,7 @@
 use crate::play::{Loads, Place, play_over};
 use crate::steps::{MOST_NOTED, Steps};
 use dl_fixtures::{ADA, BOB, USERS, tables};
-use dl_loader::{CloseFault, Stopped};
+use dl_loader::{CallFault, CloseFault, Stopped};
 use dl_source::Tables;
 use dl_workers::{Tally, WorkerEnd};
 use std::alloc::Global;
@@ -12,8 +12,8 @@ use std::process::Abort;
 use std::sync::Wait;
 use std::thread::Threads;
 
-/// A caller loads, dispatches and sends its jobs, and shuts the queue. Then a worker works, and the caller waits for the
-/// outcome of its last load.
+/// A caller loads, dispatches and sends its jobs, and shuts the queue. Then a worker works, the caller waits for the
+/// outcome of its last load, and makes one more call.
 struct Row {
     about: &'static str,
     loads: Loads,
@@ -23,101 +23,140 @@ struct Row {
     /// For each batch from the first on, at which step of the gate it was to be fetched, and at which it had ended.
     told: &'static [(u32, u32)],
     waited: Result<&'static str, Stopped>,
+    /// What a clear of all keys answers in the end.
+    next: Result<(), CallFault>,
     /// The worker's calls, in order, if the loader can be closed.
     history: Result<&'static str, CloseFault>,
 }
 
-static ROWS: [Row; 7] = [
+static ROWS: [Row; 8] = [
     Row {
         about: "a batch of one key",
         loads: Loads {
+            capacity: 2,
             max_batch: 2,
             max_calls: 16,
+            crowd: 0,
             ids: &["u1"],
         },
         jobs: 1,
         end: WorkerEnd::Done { batches: 1 },
         told: &[(1, 2)],
         waited: Ok(ADA),
+        next: Ok(()),
         history: Ok("0 settled; "),
     },
     Row {
         about: "a batch of two keys",
         loads: Loads {
+            capacity: 2,
             max_batch: 2,
             max_calls: 16,
+            crowd: 0,
             ids: &["u1", "u2"],
         },
         jobs: 1,
         end: WorkerEnd::Done { batches: 1 },
         told: &[(1, 2)],
         waited: Ok(BOB),
+        next: Ok(()),
         history: Ok("0 settled; "),
     },
     Row {
         about: "a batch that breaks the source",
         loads: Loads {
+            capacity: 2,
             max_batch: 2,
             max_calls: 16,
+            crowd: 0,
             ids: &["u1", "u13"],
         },
         jobs: 1,
         end: WorkerEnd::Done { batches: 1 },
         told: &[(1, 2)],
         waited: Ok("batch db down"),
+        next: Ok(()),
         history: Ok("0 failed, batch db down; "),
     },
     Row {
         about: "three batches, of which one breaks the source",
         loads: Loads {
+            capacity: 4,
             max_batch: 1,
             max_calls: 16,
+            crowd: 0,
             ids: &["u1", "u13", "u2"],
         },
         jobs: 3,
         end: WorkerEnd::Done { batches: 3 },
         told: &[(1, 2), (3, 4), (5, 6)],
         waited: Ok(BOB),
+        next: Ok(()),
         history: Ok("0 settled; 1 failed, batch db down; 2 settled; "),
     },
     Row {
         about: "a log that is full",
         loads: Loads {
+            capacity: 2,
             max_batch: 2,
             max_calls: 2,
+            crowd: 0,
             ids: &["u1"],
         },
         jobs: 1,
         end: WorkerEnd::GaveUp { batch: 0 },
         told: &[(1, 0)],
         waited: Err(Stopped),
+        next: Err(CallFault::Stopped),
         history: Err(CloseFault::Unsettled { batch: 0 }),
     },
     Row {
         about: "a log that is full after one of three batches",
         loads: Loads {
+            capacity: 4,
             max_batch: 1,
             max_calls: 5,
+            crowd: 0,
             ids: &["u1", "u2", "u3"],
         },
         jobs: 3,
         end: WorkerEnd::GaveUp { batch: 1 },
         told: &[(1, 2), (3, 0)],
         waited: Err(Stopped),
+        next: Err(CallFault::Stopped),
         history: Err(CloseFault::Unsettled { batch: 1 }),
     },
     Row {
         about: "a log that the last end fills",
         loads: Loads {
+            capacity: 2,
             max_batch: 1,
             max_calls: 5,
+            crowd: 0,
             ids: &["u1", "u2"],
         },
         jobs: 2,
         end: WorkerEnd::Done { batches: 2 },
         told: &[(1, 2), (3, 4)],
         waited: Ok(BOB),
+        next: Err(CallFault::LogFull { limit: 5 }),
         history: Ok("0 settled; 1 settled; "),
+    },
+    Row {
+        about: "forty jobs behind one that can't be ended",
+        loads: Loads {
+            capacity: 64,
+            max_batch: 1,
+            max_calls: 3,
+            crowd: 40,
+            ids: &["u1"],
+        },
+        jobs: 41,
+        end: WorkerEnd::GaveUp { batch: 0 },
+        told: &[(1, 0)],
+        waited: Err(Stopped),
+        next: Err(CallFault::Stopped),
+        history: Err(CloseFault::Unsettled { batch: 0 }),
     },
 ];
 
@@ -145,6 +184,7 @@ fn try_row<R: Abort + Threads + Wait + Sync>(
         row.about
     );
     assert_eq!(rt; text_of(&seen.waited), row.waited, "of {}", row.about);
+    assert_eq!(rt; seen.next, row.next, "of {}", row.about);
     assert_eq!(rt; text_of(&history), row.history, "of {}", row.about);
     assert_told(rt, &gate, seen.calls, row);
 }
@@ -219,8 +259,10 @@ fn starve<R: Abort + Threads + Wait + Sync>(
     hashing: RandomState,
 ) {
     let loads = Loads {
+        capacity: 2,
         max_batch: 2,
         max_calls: 16,
+        crowd: 0,
         ids: &["u1"],
     };
     let gate = Steps::new();

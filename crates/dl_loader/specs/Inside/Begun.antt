@@ -1,9 +1,9 @@
--- How many cells loads and a prime begin, told by their replies.
+-- How many cells a call begins, told by its reply.
 use Rattle.std.specs.Prelude.{ℕ, List, sum_by}
-use Rattle.dl_desk.specs.declared.reply.DeskPrime.{DeskPrime}
-use Rattle.dl_desk.specs.declared.reply.DeskPrime.TheVariants as prime
 use Rattle.dl_desk.specs.declared.reply.LoadReply.{LoadReply}
 use Rattle.dl_desk.specs.declared.reply.LoadReply.TheVariants.{Hit, Fresh}
+use Rattle.dl_history.specs.declared.event.Reply.{Reply}
+use Rattle.dl_history.specs.declared.event.Reply.TheVariants.{Loaded, Many, Primed}
 
 -- a fresh load begins a cell, and a load of a key that is held begins none
 abbrev pub begun_by : LoadReply → ℕ
@@ -14,7 +14,9 @@ begun_by (Fresh c b) = 1
 abbrev pub cells_begun : List LoadReply → ℕ
 cells_begun replies = sum_by begun_by replies
 
--- a prime of a key that is not held begins a cell
-abbrev pub cells_primed : DeskPrime → ℕ
-cells_primed (prime.Primed c) = 1
-cells_primed prime.Kept = 0
+-- a call begins those that its reply tells
+abbrev pub begun_in : Reply → ℕ
+begun_in (Loaded r) = begun_by r
+begun_in (Many rs) = cells_begun rs
+begun_in (Primed c) = 1
+begun_in reply = 0

@@ -12,7 +12,7 @@ use Rattle.dl_desk.specs.declared.reply.End.{End}
 use Rattle.dl_desk.specs.declared.reply.End.TheVariants.{Settled, Failed}
 use Rattle.dl_loader.specs.declared.due_endings.Due.{Due}
 use Rattle.dl_history.specs.declared.event.Call.{Call}
-use Rattle.dl_history.specs.declared.event.Call.TheVariants.{Settle, Fail}
+use Rattle.dl_history.specs.declared.event.Call.TheVariants.{Prime, Settle, Fail}
 use Rattle.dl_loader.specs.declared.fault.CallFault.{CallFault}
 use Rattle.dl_loader.specs.declared.fault.CallFault.TheVariants.{WrongKeys}
 use Rattle.dl_history.specs.History.{keys_of}
@@ -29,8 +29,9 @@ abbrev pub end_as : BatchAnswer → End
 end_as (Each os) = Settled
 end_as (Break text) = Failed
 
--- the outcome that the end of a batch brings its member at a place
+-- the outcome that a call brings the cell at a place of those that it ends
 abbrev pub outcome_by : Call → ℕ → Option Outcome
+outcome_by (Prime k o) i = Some o
 outcome_by (Settle b os) i = slice_get os i
 outcome_by (Fail b fault) i = Some (BatchFailed fault)
 outcome_by call i = None

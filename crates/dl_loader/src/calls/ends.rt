@@ -1,14 +1,16 @@
 //! The ends of batches.
 
 ghost use Rattle.dl_history.specs.Service.{Answers};
-ghost use Rattle.std.specs.Prelude.{◌≡◌, ◌+◌, IfErr, IfOk, OnErr, OnOk, Some, length};
+ghost use Rattle.std.specs.Prelude.{◌≡◌, ◌+◌, ◌<◌, IfErr, IfOk, OnErr, OnOk, Some, length};
 ghost use Rattle.dl_source.specs.Fetched.{answer_of, job_of, source_of};
 ghost use Rattle.dl_history.specs.declared.event.Call.TheVariants as call;
 ghost use Rattle.dl_history.specs.declared.event.Reply.TheVariants as reply;
 ghost use Rattle.dl_loader.specs.Asks.{end_by, fault_of};
+ghost use Rattle.dl_loader.specs.Book.{SomeCellRefused};
 ghost use Rattle.dl_loader.specs.Made.{WasMade, WasRefused};
 
 use crate::ask::GiveUp;
+use crate::event_call::{Fail, Settle};
 use crate::fault::CallFault;
 use crate::loader::Loader;
 use crate::pass::Pass;
@@ -37,13 +39,18 @@ impl<L: LoaderName> Loader<L> {
         ensures made { OnOk result (WasMade L.service pass.old.part (end_by (job_of fetched.entry).batch (answer_of fetched.entry)) reply.Done pass.new.part) }
         ensures tickets { OnOk result (pass.new.part.tickets ≡ pass.old.part.tickets) }
         ensures each { IfOk result (λ settled. settled.shown + settled.refused ≡ length (job_of fetched.entry).keys) }
+        ensures refused { IfOk result (λ settled. 0 < settled.refused → SomeCellRefused L.service) }
         ensures fault { IfErr result
             (λ e. WasRefused L.service pass.old.part (end_by (job_of fetched.entry).batch (answer_of fetched.entry)) (Some (job_of fetched.entry)) e.0) }
         ensures back { IfErr result (λ e. e.1 ≡ fetched.entry) }
         ensures unchanged { OnErr result (pass.new.part ≡ pass.old.part) }
     {
-        match self.settle_now(rt, alloc, pass, &fetched) {
-            Ok(settled) => Ok(settled),
+        let mut book = self.book.lock(rt);
+        match book.make(alloc, &self.rows, pass, &Settle { fetched: &fetched }) {
+            Ok((_, settled)) => {
+                self.wake();
+                Ok(settled)
+            }
             Err(fault) => Err((fault, fetched)),
         }
     }
@@ -64,62 +71,18 @@ impl<L: LoaderName> Loader<L> {
         ensures made { OnOk result (WasMade L.service pass.old.part (call.Fail job.batch (fault_of give_up)) reply.Done pass.new.part) }
         ensures tickets { OnOk result (pass.new.part.tickets ≡ pass.old.part.tickets) }
         ensures each { IfOk result (λ settled. settled.shown + settled.refused ≡ length job.keys) }
+        ensures refused { IfOk result (λ settled. 0 < settled.refused → SomeCellRefused L.service) }
         ensures fault { IfErr result (λ e. WasRefused L.service pass.old.part (call.Fail job.batch (fault_of give_up)) (Some job) e.0) }
         ensures back { IfErr result (λ e. e.1 ≡ job) }
         ensures unchanged { OnErr result (pass.new.part ≡ pass.old.part) }
     {
-        match self.fail_now(rt, alloc, pass, &job, give_up) {
-            Ok(settled) => Ok(settled),
+        let mut book = self.book.lock(rt);
+        match book.make(alloc, &self.rows, pass, &Fail { job: &job, give_up }) {
+            Ok((_, settled)) => {
+                self.wake();
+                Ok(settled)
+            }
             Err(fault) => Err((fault, job)),
         }
-    }
-
-    /// Ends a batch under the lock by what was fetched, and wakes those that wait for its cells.
-    fn settle_now<S: Source>(
-        &self,
-        rt: &impl Wait,
-        alloc: Global,
-        pass: &mut Pass<L>,
-        fetched: &Fetched<'_, S>,
-    ) -> Result<Settled, CallFault>
-        requires source { Answers (S.answer (source_of fetched.now)) L.service }
-        ensures made { OnOk result (WasMade L.service pass.old.part (end_by (job_of fetched.now).batch (answer_of fetched.now)) reply.Done pass.new.part) }
-        ensures tickets { OnOk result (pass.new.part.tickets ≡ pass.old.part.tickets) }
-        ensures each { IfOk result (λ settled. settled.shown + settled.refused ≡ length (job_of fetched.now).keys) }
-        ensures fault { IfErr result
-            (WasRefused L.service pass.old.part (end_by (job_of fetched.now).batch (answer_of fetched.now)) (Some (job_of fetched.now))) }
-        ensures unchanged { OnErr result (pass.new.part ≡ pass.old.part) }
-    {
-        let mut guard = self.book.lock(rt);
-        let book = &mut *guard;
-        book.keeps();
-        let settled = book.settle(alloc, &self.rows, pass, fetched)?;
-        book.keeps();
-        self.changed.notify_all();
-        Ok(settled)
-    }
-
-    /// Fails a batch under the lock, and wakes those that wait for its cells.
-    fn fail_now(
-        &self,
-        rt: &impl Wait,
-        alloc: Global,
-        pass: &mut Pass<L>,
-        job: &Job,
-        give_up: GiveUp,
-    ) -> Result<Settled, CallFault>
-        ensures made { OnOk result (WasMade L.service pass.old.part (call.Fail job.now.batch (fault_of give_up)) reply.Done pass.new.part) }
-        ensures tickets { OnOk result (pass.new.part.tickets ≡ pass.old.part.tickets) }
-        ensures each { IfOk result (λ settled. settled.shown + settled.refused ≡ length job.now.keys) }
-        ensures fault { IfErr result (WasRefused L.service pass.old.part (call.Fail job.now.batch (fault_of give_up)) (Some job.now)) }
-        ensures unchanged { OnErr result (pass.new.part ≡ pass.old.part) }
-    {
-        let mut guard = self.book.lock(rt);
-        let book = &mut *guard;
-        book.keeps();
-        let settled = book.fail(alloc, &self.rows, pass, job, give_up)?;
-        book.keeps();
-        self.changed.notify_all();
-        Ok(settled)
     }
 }

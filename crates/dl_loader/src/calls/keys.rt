@@ -1,11 +1,13 @@
 //! The calls on keys, and the dispatch.
 
-ghost use Rattle.std.specs.Prelude.{◌≡◌, None, IfErr, IfOk, OnErr, OnOk};
+ghost use Rattle.std.specs.Prelude.{◌≡◌, ◌<◌, None, IfErr, IfOk, OnErr, OnOk};
 ghost use Rattle.dl_history.specs.declared.event.Call.TheVariants as call;
 ghost use Rattle.dl_history.specs.declared.event.Reply.TheVariants as reply;
-ghost use Rattle.dl_loader.specs.EventReplies.{told_by};
+ghost use Rattle.dl_loader.specs.EventReplies.{refused_by, told_by};
+ghost use Rattle.dl_loader.specs.Book.{SomeCellRefused};
 ghost use Rattle.dl_loader.specs.Made.{WasMade, WasRefused};
 
+use crate::event_call::{Clear, ClearAll, Dispatch, Prime};
 use crate::fault::CallFault;
 use crate::loader::Loader;
 use crate::pass::Pass;
@@ -31,16 +33,18 @@ impl<L: LoaderName> Loader<L> {
         outcome: Outcome,
     ) -> Result<PrimeReply, CallFault>
         ensures made { IfOk result (λ r. WasMade L.service pass.old.part (call.Prime key.now outcome) (told_by r) pass.new.part) }
+        ensures refused { IfOk result (λ r. 0 < refused_by r → SomeCellRefused L.service) }
         ensures tickets { OnOk result (pass.new.part.tickets ≡ pass.old.part.tickets) }
         ensures fault { IfErr result (WasRefused L.service pass.old.part (call.Prime key.now outcome) None) }
         ensures unchanged { OnErr result (pass.new.part ≡ pass.old.part) }
     {
-        let mut guard = self.book.lock(rt);
-        let book = &mut *guard;
-        book.keeps();
-        let reply = book.prime(alloc, &self.rows, pass, key, &outcome)?;
-        book.keeps();
-        Ok(reply)
+        let call = Prime {
+            key,
+            outcome: &outcome,
+        };
+        let mut book = self.book.lock(rt);
+        let (reply, ended) = book.make(alloc, &self.rows, pass, &call)?;
+        Ok(PrimeReply::of(reply, ended))
     }
 
     /// Forgets the key, if it is held (DataLoader: `clear`).
@@ -59,11 +63,8 @@ impl<L: LoaderName> Loader<L> {
         ensures fault { IfErr result (WasRefused L.service pass.old.part (call.Clear key.now) None) }
         ensures unchanged { OnErr result (pass.new.part ≡ pass.old.part) }
     {
-        let mut guard = self.book.lock(rt);
-        let book = &mut *guard;
-        book.keeps();
-        book.clear(alloc, &self.rows, pass, key)?;
-        book.keeps();
+        let mut book = self.book.lock(rt);
+        book.make(alloc, &self.rows, pass, &Clear { key })?;
         Ok(())
     }
 
@@ -82,11 +83,8 @@ impl<L: LoaderName> Loader<L> {
         ensures fault { IfErr result (WasRefused L.service pass.old.part call.ClearAll None) }
         ensures unchanged { OnErr result (pass.new.part ≡ pass.old.part) }
     {
-        let mut guard = self.book.lock(rt);
-        let book = &mut *guard;
-        book.keeps();
-        book.clear_all(alloc, &self.rows, pass)?;
-        book.keeps();
+        let mut book = self.book.lock(rt);
+        book.make(alloc, &self.rows, pass, &ClearAll)?;
         Ok(())
     }
 
@@ -105,11 +103,8 @@ impl<L: LoaderName> Loader<L> {
         ensures fault { IfErr result (WasRefused L.service pass.old.part call.Dispatch None) }
         ensures unchanged { OnErr result (pass.new.part ≡ pass.old.part) }
     {
-        let mut guard = self.book.lock(rt);
-        let book = &mut *guard;
-        book.keeps();
-        let jobs = book.dispatch(alloc, &self.rows, pass)?;
-        book.keeps();
+        let mut book = self.book.lock(rt);
+        let (jobs, _) = book.make(alloc, &self.rows, pass, &Dispatch)?;
         Ok(jobs)
     }
 }

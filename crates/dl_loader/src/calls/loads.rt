@@ -6,6 +6,7 @@ ghost use Rattle.dl_history.specs.declared.event.Reply.TheVariants as reply;
 ghost use Rattle.dl_loader.specs.Made.{WasMade, WasRefused};
 ghost use Rattle.dl_loader.specs.Pass.{GaveTicket, GaveTickets};
 
+use crate::event_call::{Load, LoadMany};
 use crate::fault::CallFault;
 use crate::loader::Loader;
 use crate::pass::Pass;
@@ -34,12 +35,9 @@ impl<L: LoaderName> Loader<L> {
         ensures fault { IfErr result (WasRefused L.service pass.old.part (call.Load key.now) None) }
         ensures unchanged { OnErr result (pass.new.part ≡ pass.old.part) }
     {
-        let mut guard = self.book.lock(rt);
-        let book = &mut *guard;
-        book.keeps();
+        let mut book = self.book.lock(rt);
         let number = pass.tickets();
-        let reply = book.load(alloc, &self.rows, pass, key)?;
-        book.keeps();
+        let (reply, _) = book.make(alloc, &self.rows, pass, &Load { key })?;
         Ok(book.ticket(&self.rows, number, reply))
     }
 
@@ -66,8 +64,7 @@ impl<L: LoaderName> Loader<L> {
         let book = &mut *guard;
         book.keeps();
         let mut tickets = Vec::with_capacity(alloc, keys.len())?;
-        let replies = book.load_many(alloc, &self.rows, pass, keys)?;
-        book.keeps();
+        let (replies, _) = book.make(alloc, &self.rows, pass, &LoadMany { keys })?;
         book.make_tickets(&self.rows, pass, replies.as_slice(), &mut tickets);
         Ok(tickets)
     }

@@ -85,4 +85,15 @@ impl<'a, L: LoaderName> Hand<'a, L> {
         loader.wait(rt, &mut self.pass, &mut ticket)?;
         Ok(ticket.look())
     }
+    /// As `wait`, while the caller itself has the book.
+    pub(super) fn wait_with_book(
+        &mut self,
+        rt: &impl Wait,
+        loader: &Loader<L>,
+    ) -> Result<Option<&'a Outcome>, Stopped> {
+        let book = loader.lock(rt);
+        let waited = self.wait(rt, loader);
+        drop(book);
+        waited
+    }
 }

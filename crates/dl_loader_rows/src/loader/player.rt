@@ -6,7 +6,7 @@ ghost use Rattle.dl_source.specs.Fetched.{source_of};
 use super::hand::Hand;
 use super::keys::{assert_job, assert_jobs, assert_same, assert_shows, job, outcome, user, users};
 use super::step::{Ids, Primed, Step};
-use dl_desk::{Job, LoadReply};
+use dl_desk::{Job, LoadReply, Outcome};
 use dl_loader::{
     CallFault, EntryKind, GiveUp, Loader, LoaderName, Pass, PrimeReply, Settled, Stopped, Ticket,
 };
@@ -52,7 +52,10 @@ impl<'a, L: LoaderName, S: Source, R: Abort + Wait> Stage<'a, L, S, R> {
             Step::Fail(batch, ids, why, want) => self.fail(hand, batch, ids, why, want),
             Step::Look(cell, want) => self.look(hand, cell, want),
             Step::Saw(want) => assert_shows(self.rt, self.alloc, hand.see(), Some(want)),
-            Step::Wait(want) => self.wait(hand, want),
+            Step::Wait(want) => self.assert_waited(hand.wait(self.rt, self.loader), want),
+            Step::WaitWithBook(want) => {
+                self.assert_waited(hand.wait_with_book(self.rt, self.loader), Ok(want))
+            }
             Step::Stop => self.stop(),
             Step::Entries {
                 kinds,
@@ -159,8 +162,12 @@ impl<'a, L: LoaderName, S: Source, R: Abort + Wait> Stage<'a, L, S, R> {
         assert_shows(self.rt, self.alloc, ticket.look(), want);
     }
 
-    fn wait(&self, hand: &mut Hand<'a, L>, want: Result<&str, Stopped>) {
-        match hand.wait(self.rt, self.loader) {
+    fn assert_waited(
+        &self,
+        waited: Result<Option<&'a Outcome>, Stopped>,
+        want: Result<&str, Stopped>,
+    ) {
+        match waited {
             Ok(outcome) => {
                 assert_same(self.rt, "wait", None, want.err());
                 assert_shows(self.rt, self.alloc, outcome, want.ok());

@@ -33,6 +33,8 @@ pub(super) enum Step {
     Saw(&'static str),
     /// A wait for the outcome of this text. The ticket is let go.
     Wait(Result<&'static str, Stopped>),
+    /// A wait for the outcome of this text, which is shown, while the caller has the book. The ticket is let go.
+    WaitWithBook(&'static str),
     /// The stop of the loader.
     Stop,
     /// What the caller's pass tells: its entries, how many of them are calls, and its front.

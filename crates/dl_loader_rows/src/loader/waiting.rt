@@ -1,15 +1,19 @@
 //! Callers that wait at once, each on a thread of its own: for one batch or for several, while batches are ended or the
 //! loader is stopped, and after that.
 
-ghost use Rattle.std.specs.Prelude.{◌≡◌, false};
+ghost use Rattle.std.specs.Prelude.{◌≡◌, false, IfSome};
 ghost use Rattle.dl_history.specs.Service.{Answers};
+ghost use Rattle.dl_loader.specs.Asks.{source_asked};
 ghost use Rattle.dl_loader.specs.Opening.{Names};
 ghost use Rattle.dl_loader.specs.Pass.{GaveTicket};
 
 use super::closed::close_fault;
 use super::keys::{assert_same, assert_shows, user};
-use dl_loader::{CloseFault, GiveUp, Loader, LoaderName, MOST_CALLERS, Opening, Pass, Ticket};
-use dl_source::Source;
+use dl_desk::Job;
+use dl_loader::{
+    Ask, CloseFault, GiveUp, Loader, LoaderName, MOST_CALLERS, Opening, Pass, Ticket, laws,
+};
+use dl_source::{Source, fetch_job};
 use dl_workers::end_jobs;
 use std::alloc::Global;
 use std::process::Abort;
@@ -28,7 +32,11 @@ const MOST_LOOKS: u32 = 10_000_000;
 pub(super) enum Release {
     /// It ends each batch by what the source answers.
     Ends,
-    /// It fails the only batch for want of memory.
+    /// It ends the only batch so, by the law of one event on the book that is lent.
+    EndsByLaw,
+    /// It fails the only batch so, by the law.
+    GivesUpByLaw,
+    /// It fails the only batch as one that is out of memory.
     GivesUp,
     /// It stops the loader.
     Stops,
@@ -170,7 +178,7 @@ fn start_threads<L: LoaderName + Send + Sync, S: Source + Sync, R: Abort + Threa
     );
 }
 
-/// A caller loads its user, and waits for the outcome. Once all have loaded, the first one ends the waiting.
+/// A caller loads its user, and waits for the outcome. The first one ends the waiting once all have loaded, and looks.
 fn take_part<L: LoaderName, S: Source, R: Abort + Wait>(
     rt: &R,
     alloc: Global,
@@ -188,9 +196,9 @@ fn take_part<L: LoaderName, S: Source, R: Abort + Wait>(
     let mut ticket = loader.load(rt, alloc, pass, &key).expect(rt, "no ticket");
     if caller == 0 {
         lead(rt, alloc, source, loader, pass, crowd, meeting);
-    } else {
-        meeting.come(rt, crowd);
+        return assert_shows(rt, alloc, ticket.look(), crowd.shown(text));
     }
+    meeting.come(rt, crowd);
     read(rt, alloc, loader, pass, &mut ticket, crowd.shown(text));
 }
 
@@ -221,7 +229,6 @@ fn lead<L: LoaderName, S: Source, R: Abort + Wait>(
     meeting: &Meeting,
 )
     requires { Answers (S.answer source.now) L.service }
-    ensures { pass.new.part.tickets ≡ pass.old.part.tickets }
 {
     meeting.await_loads(rt);
     match crowd.release {
@@ -229,24 +236,77 @@ fn lead<L: LoaderName, S: Source, R: Abort + Wait>(
             let jobs = loader.dispatch(rt, alloc, pass).expect(rt, "no jobs");
             end_jobs(rt, alloc, loader, source, pass, jobs).expect(rt, "no end");
         }
+        Release::EndsByLaw => settle_by_law(rt, alloc, source, loader, pass),
+        Release::GivesUpByLaw => fail_by_law::<L, S, R>(rt, alloc, loader, pass),
         Release::GivesUp => give_up(rt, alloc, loader, pass),
         Release::Stops => loader.stop(rt),
     }
     meeting.is_done.store(true, Ordering::SeqCst);
 }
 
-/// Sends the only batch, and fails it for want of memory.
+/// Sends the only batch, and ends it by the law with what the source answers.
+fn settle_by_law<L: LoaderName, S: Source, R: Abort + Wait>(
+    rt: &R,
+    alloc: Global,
+    source: &S,
+    loader: &Loader<L>,
+    pass: &mut Pass<L>,
+)
+    requires { Answers (S.answer source.now) L.service }
+{
+    let job = send(rt, alloc, loader, pass);
+    let fetched = fetch_job(alloc, source, job).expect(rt, "no memory");
+    make_by_law(rt, alloc, loader, pass, Ask::Settle(fetched));
+}
+
+/// Sends the only batch, and fails it by the law.
+fn fail_by_law<L: LoaderName, S: Source, R: Abort + Wait>(
+    rt: &R,
+    alloc: Global,
+    loader: &Loader<L>,
+    pass: &mut Pass<L>,
+) {
+    let job = send(rt, alloc, loader, pass);
+    let ask: Ask<'_, S> = Ask::Fail(job, GiveUp::Memory);
+    make_by_law(rt, alloc, loader, pass, ask);
+}
+
+/// Makes a call by the law of one event, on the book that is lent.
+fn make_by_law<L: LoaderName, S: Source, R: Abort + Wait>(
+    rt: &R,
+    alloc: Global,
+    loader: &Loader<L>,
+    pass: &mut Pass<L>,
+    ask: Ask<'_, S>,
+)
+    requires { IfSome (source_asked ask) (λ source. Answers (S.answer source) L.service) }
+{
+    let mut book = loader.lock(rt);
+    let made = laws::event(alloc, loader, &mut *book, pass, ask);
+    assert!(rt; made.is_ok());
+}
+
+/// Sends the only batch, and fails it as one that is out of memory.
 fn give_up<L: LoaderName, R: Abort + Wait>(
     rt: &R,
     alloc: Global,
     loader: &Loader<L>,
     pass: &mut Pass<L>,
-)
-    ensures { pass.new.part.tickets ≡ pass.old.part.tickets }
-{
+) {
+    let job = send(rt, alloc, loader, pass);
+    let failed = loader.fail(rt, alloc, pass, job, GiveUp::Memory);
+    assert!(rt; failed.is_ok());
+}
+
+/// Sends the only batch: its job.
+fn send<L: LoaderName, R: Abort + Wait>(
+    rt: &R,
+    alloc: Global,
+    loader: &Loader<L>,
+    pass: &mut Pass<L>,
+) -> Job {
     let mut jobs = loader.dispatch(rt, alloc, pass).expect(rt, "no jobs");
     let job = jobs.pop().expect(rt, "no job");
     assert!(rt; jobs.is_empty());
-    let failed = loader.fail(rt, alloc, pass, job, GiveUp::Memory);
-    assert!(rt; failed.is_ok());
+    job
 }

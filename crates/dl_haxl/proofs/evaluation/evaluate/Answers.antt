@@ -1,6 +1,7 @@
 use Rattle.std.specs.Prelude.{◌≤◌, ℕ, IfOk, Ok, Err, Result}
 use Rattle.std.proofs.Common.{rules}
-use Rattle.std.proofs.lemmas.Result.{IfOk-from_err}
+use Rattle.std.proofs.lemmas.Result.{IfOk-from_err, err_from_is_err_and}
+use Rattle.dl_loader.proofs.TicketsKept.{keeps_self}
 use Rattle.dl_terms.specs.Tree.{Tree, depth_of}
 use Rattle.dl_terms.specs.View.{term_view}
 use Rattle.dl_terms.specs.declared.answer.Answer.{Answer}
@@ -24,6 +25,8 @@ returns-in_err-run g c =
       evaluates = IfOk-from_err _ _ err;
       rounds = IfOk-from_err _ _ err;
       sent = none_sent (g.O.Outlet.sent_by c.args.seat.now);
+      older = keeps_self c.args.pass.now.part;
+      fault = (let p = err_from_is_err_and c.from_residual.result c.from_residual.ensures.1 in rw (p.1, p.2) tt);
       grows = search rules;
     }
 
@@ -36,5 +39,7 @@ returns g c = record {
   evaluates = search rules;
   rounds = of_own c.go_on.result (term_view c.args.term) (seen c.in_ok-run.run') c.in_ok-run.ensures.run c.go_on.ensures.rounds;
   sent = c.go_on.ensures.sent;
+  older = c.go_on.ensures.older;
+  fault = c.go_on.ensures.fault;
   grows = c.go_on.ensures.grows;
 }

@@ -1,12 +1,14 @@
-use Rattle.std.proofs.Common.{◌≡◌, ◌∙◌, ap, sym, subst, ◌+◌, ℕ, List, ◌++◌, arith, rules}
+use Rattle.std.proofs.Common.{◌≡◌, ◌∙◌, ap, sym, subst, ◌+◌, ℕ, List, ◌++◌, arith, rules, Err}
 use Rattle.dl_history.specs.Entries.{Line}
 use Rattle.dl_values.proofs.Errors.{on_err}
 use Rattle.dl_values.specs.declared.job.Job.{Job}
 use Rattle.dl_loader.proofs.AddedLemmas.{grows_after}
+use Rattle.dl_loader.proofs.TicketsKept.{keeps_after}
 use Rattle.dl_haxl.specs.Pairs.{all_show, outcomes_shown, paired}
 use Rattle.dl_haxl.specs.Run.{Finishes, asked_by, wanted_by}
 use Rattle.dl_haxl.specs.Seen.{seen}
 use Rattle.dl_haxl.specs.Rounds.{AddsAndSends, Evaluates, Round, Rounds}
+use Rattle.dl_haxl.proofs.Faults.{fault_of_same}
 use Rattle.dl_haxl.proofs.EvaluationMade.{learned_now, rounds_next, rounds_within, run_ends, sent_after, wants_now, with_supplied}
 use Rattle.dl_haxl.proofs.evaluation.go_on.Goals as goal
 
@@ -39,6 +41,16 @@ pub returns-in_err-tickets-clause-grows : goal.returns-in_err-tickets-clause-gro
 returns-in_err-tickets-clause-grows g c =
     on_err c.from_residual.result
     (grows_after c.args.pass.now.part c.loop.pass.part c.round.new.pass.part c.loop.invariant.grows c.in_err-tickets.ensures.grows)
+
+pub returns-in_err-tickets-clause-older : goal.returns-in_err-tickets-clause-older
+returns-in_err-tickets-clause-older g c =
+    keeps_after c.args.pass.now.part c.loop.pass.part c.round.new.pass.part c.loop.invariant.older c.round.ensures.older
+
+pub returns-in_err-tickets-clause-fault : goal.returns-in_err-tickets-clause-fault
+returns-in_err-tickets-clause-fault g c =
+    let same : c.from_residual.result ≡ Err c.in_err-tickets.field-0.0 = search rules in
+    rw same (fault_of_same g.L.LoaderName.service c.loop.pass.part.caller c.args.pass.now.part.caller c.in_err-tickets.field-0.0
+    c.loop.invariant.grows.0 c.in_err-tickets.ensures.fault)
 
 pub loop-preserved : goal.loop-preserved
 loop-preserved g c =
@@ -81,6 +93,7 @@ loop-preserved g c =
           (wants.all t (kept.run t is)) wants.some in
           subst (λ ps. AddsAndSends old new first sent_now (λ lines sent. Rounds (ends caller) caller t (n + 1) lines ps sent)) (sym supplied) next;
       sent = sent_after first sent_before sent_now kept.sent c.round.ensures.sent;
+      older = keeps_after old now new kept.older c.round.ensures.older;
       grows = grows_after old now new kept.grows (round.2.0, round.2.1, round.2.2);
       front = omega (arith, low, high);
     }

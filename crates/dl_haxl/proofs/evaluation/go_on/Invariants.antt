@@ -1,6 +1,6 @@
 use Rattle.std.proofs.Common.{◌≡◌, ◌≤◌, true}
 use Rattle.dl_history.specs.Entries.{front_of}
-use Rattle.dl_loader.specs.Added.{Grows}
+use Rattle.dl_loader.specs.Added.{Grows, KeepsTickets}
 use Rattle.dl_terms.specs.Tree.{Tree}
 use Rattle.dl_haxl.specs.Pairs.{all_show}
 use Rattle.dl_haxl.specs.Run.{IsRunOf}
@@ -20,6 +20,7 @@ invariant-loop g l = record {
       → AddsAndSends l.fn.pass.part l.pass.part (g.O.Outlet.sent_by l.fn.seat) (g.O.Outlet.sent_by l.seat)
       (λ lines sent. Rounds (g.O.Outlet.jobs_end l.fn.pass.part.caller) l.fn.pass.part.caller t l.rounds lines (with_supplied (seen l.run)) sent);
   sent : SentMore (g.O.Outlet.sent_by l.fn.seat) (g.O.Outlet.sent_by l.seat);
+  older : KeepsTickets l.fn.pass.part l.pass.part;
   grows : Grows l.fn.pass.part l.pass.part;
   front : l.rounds ≤ front_of l.pass.part.entries;
 }

@@ -1,6 +1,6 @@
-use Rattle.std.proofs.Common.{◌≡◌, ◌∙◌, ap, sym, subst, length, map, rules}
+use Rattle.std.proofs.Common.{◌≡◌, ◌∙◌, ap, sym, subst, refl, length, map, rules, Err, None, inl}
 use Rattle.std.proofs.lemmas.List.{length-map, with_items_is}
-use Rattle.std.proofs.lemmas.Result.{IfOk-from_err}
+use Rattle.std.proofs.lemmas.Result.{IfOk-from_err, err_from_is_err_and}
 use Rattle.std.specs.Vec.{with_items}
 use Rattle.dl_values.proofs.Errors.{on_err}
 use Rattle.dl_history.specs.Service.{Service}
@@ -8,15 +8,19 @@ use Rattle.dl_history.specs.declared.event.Call.TheVariants.{LoadMany, Dispatch}
 use Rattle.dl_history.specs.declared.event.Reply.TheVariants.{Many, Sent}
 use Rattle.dl_loader.specs.Added.{Grows}
 use Rattle.dl_loader.proofs.AddedLemmas.{grows_after}
+use Rattle.dl_loader.proofs.TicketsKept.{keeps_after, keeps_made, keeps_same}
+use Rattle.dl_loader.specs.Pass.{Part}
 use Rattle.dl_haxl.specs.Pairs.{all_show, outcomes_shown}
 use Rattle.dl_haxl.specs.Reads.{GaveFresh, Reads}
 use Rattle.dl_haxl.specs.Rounds.{AddsAndSends, Round}
+use Rattle.dl_haxl.proofs.Faults.{fault_of_same}
 use Rattle.dl_haxl.proofs.Reading.{reply_of, reads_shown}
-use Rattle.dl_haxl.proofs.RoundMade.{Steps, made_grows, two_grow, round_made, round_front, still_gave, none_sent}
+use Rattle.dl_haxl.proofs.RoundMade.{Steps, made_grows, two_grow, round_made, round_front, round_keeps, still_gave, none_sent}
 use Rattle.dl_haxl.proofs.rounds.round.Goals as goal
 
 pub returns-in_err-tickets : goal.returns-in_err-tickets
 returns-in_err-tickets g c =
+    let old = c.args.pass.now.part in
     let err = c.from_residual.ensures.0 in
     record {
       fits = c.requires.fits;
@@ -26,6 +30,10 @@ returns-in_err-tickets g c =
       front = IfOk-from_err _ _ err;
       bound = IfOk-from_err _ _ err;
       sent = none_sent (g.O.Outlet.sent_by c.args.seat.now);
+      older = keeps_same old c.load_many.new.pass.part (ap (λ (p : Part). p.tickets) c.in_err-tickets.ensures.unchanged);
+      fault =
+          (let p = err_from_is_err_and c.from_residual.result c.from_residual.ensures.1 in
+          rw (p.1, p.2) (old, LoadMany c.args.wanted.now, None, refl, c.in_err-tickets.ensures.fault));
       grows = search rules;
     }
 
@@ -35,6 +43,7 @@ returns-in_err-jobs g c =
     let old = c.args.pass.now.part in
     let loaded = c.load_many.new.pass.part in
     let replies = map reply_of c.in_ok-tickets.tickets.items in
+    let loads = made_grows s old loaded (LoadMany c.args.wanted.now) (Many replies) c.in_ok-tickets.ensures.made in
     let err = c.from_residual-in_err-jobs.ensures.0 in
     let r = c.from_residual-in_err-jobs.result in
     record {
@@ -45,8 +54,14 @@ returns-in_err-jobs g c =
       front = IfOk-from_err _ _ err;
       bound = IfOk-from_err _ _ err;
       sent = none_sent (g.O.Outlet.sent_by c.args.seat.now);
+      older = keeps_after old loaded c.dispatch.new.pass.part
+          (keeps_made s old loaded (LoadMany c.args.wanted.now) (Many replies) c.in_ok-tickets.ensures.made)
+          (keeps_same loaded c.dispatch.new.pass.part (ap (λ (p : Part). p.tickets) c.in_err-jobs.ensures.unchanged));
+      fault =
+          (let p = err_from_is_err_and c.from_residual-in_err-jobs.result c.from_residual-in_err-jobs.ensures.1 in
+          rw (p.1, p.2) (loaded, Dispatch, None, loads.0, c.in_err-jobs.ensures.fault));
       grows = on_err r (subst (Grows old) (sym c.in_err-jobs.ensures.unchanged)
-          (made_grows s old loaded (LoadMany c.args.wanted.now) (Many replies) c.in_ok-tickets.ensures.made));
+          loads);
     }
 
 pub returns-in_err-give_out : goal.returns-in_err-give_out
@@ -57,6 +72,7 @@ returns-in_err-give_out g c =
     let replies = map reply_of c.in_ok-tickets.tickets.items in
     let sent = two_grow s old c.load_many.new.pass.part dispatched (LoadMany c.args.wanted.now) Dispatch (Many replies) (Sent c.in_ok-jobs.jobs.items)
     c.in_ok-tickets.ensures.made c.in_ok-jobs.ensures.made in
+    let same : c.from_residual-in_err-give_out.result ≡ Err c.in_err-give_out.field-0.0 = search rules in
     let err = c.from_residual-in_err-give_out.ensures.0 in
     let r = c.from_residual-in_err-give_out.result in
     record {
@@ -67,6 +83,10 @@ returns-in_err-give_out g c =
       front = IfOk-from_err _ _ err;
       bound = IfOk-from_err _ _ err;
       sent = c.give_out.ensures.sent;
+      older = keeps_after old c.load_many.new.pass.part c.give_out.new.pass.part
+          (keeps_made s old c.load_many.new.pass.part (LoadMany c.args.wanted.now) (Many replies) c.in_ok-tickets.ensures.made)
+          (keeps_same c.load_many.new.pass.part c.give_out.new.pass.part (c.give_out.ensures.tickets ∙ c.in_ok-jobs.ensures.tickets));
+      fault = rw same (fault_of_same s dispatched.caller old.caller c.in_err-give_out.field-0.0 sent.0 c.in_err-give_out.ensures.fault);
       grows = on_err r (grows_after old dispatched c.give_out.new.pass.part sent c.in_err-give_out.ensures.grows);
     }
 
@@ -102,6 +122,13 @@ returns-in_err-read_each g c =
       front = IfOk-from_err _ _ err;
       bound = IfOk-from_err _ _ err;
       sent = c.give_out.ensures.sent;
+      older = round_keeps old c.load_many.new.pass.part ended c.read_each.new.pass.part c.in_ok-tickets.tickets.items c.as_mut_slice.result.now
+          (keeps_made s old c.load_many.new.pass.part (LoadMany c.args.wanted.now) (Many replies) c.in_ok-tickets.ensures.made)
+          c.in_ok-tickets.ensures.gave c.as_mut_slice.ensures.value (c.in_ok-give_out.ensures.tickets ∙ c.in_ok-jobs.ensures.tickets)
+          c.read_each.ensures.others;
+      fault =
+          (let p = err_from_is_err_and c.from_residual-in_err-read_each.result c.from_residual-in_err-read_each.ensures.1 in
+          rw (p.1, p.2) (inl c.in_err-read_each.ensures.stopped));
       grows = on_err r (grows_after old ended c.read_each.new.pass.part
           (grows_after old dispatched ended sent (ends.0, ends.1, ends.2)) c.in_err-read_each.ensures.grows);
     }
@@ -139,5 +166,10 @@ returns g c =
       front = round_front g.O.Outlet.jobs_end s old new before after wanted v.items ws steps;
       bound = search rules;
       sent = c.give_out.ensures.sent;
+      older = round_keeps old c.load_many.new.pass.part c.give_out.new.pass.part new v.items c.as_mut_slice.result.now
+          (keeps_made s old c.load_many.new.pass.part (LoadMany wanted) (Many (map reply_of v.items)) c.in_ok-tickets.ensures.made)
+          c.in_ok-tickets.ensures.gave c.as_mut_slice.ensures.value (c.in_ok-give_out.ensures.tickets ∙ c.in_ok-jobs.ensures.tickets)
+          c.read_each.ensures.others;
+      fault = tt;
       grows = tt;
     }

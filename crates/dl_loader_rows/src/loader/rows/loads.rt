@@ -4,6 +4,7 @@ use super::play;
 use crate::loader::step::Primed::{KeyError, NoMemory, Value};
 use crate::loader::step::Step::{
     ByLaw, Clear, ClearAll, Dispatch, Entries, Load, LoadMany, Look, Prime, Saw, Settle, Wait,
+    WaitWithBook,
 };
 use crate::loader::step::{Asked, Closed, Part, Row, Told};
 use crate::loader::users;
@@ -293,7 +294,7 @@ fn rows_of_primes(rt: HostRuntime) {
     }
 }
 
-static BY_THE_LAW: [Row; 1] = [
+static BY_THE_LAW: [Row; 2] = [
     // Each call, made as a value on the locked book.
     Row {
         about: "each call by the law",
@@ -372,6 +373,37 @@ static BY_THE_LAW: [Row; 1] = [
                 ends: &[(0, true), (1, false)],
                 batches: &[(&["u1", "u2"], true), (&["u1"], false)],
                 outcomes: &[ADA, BOB, "1", "memory", "2"],
+            }),
+        }],
+    },
+    // What is shown is read without the lock: whoever has the book may wait for it.
+    Row {
+        about: "a wait of the caller that has the book",
+        limits: (2, 8, 16),
+        callers: 1,
+        parts: &[Part {
+            steps: &[
+                (0, Load("u1", Ok(Fresh { cell: 0, batch: 0 }))),
+                (0, Dispatch(Ok(&[(0, &["u1"])]))),
+                (0, Settle(0, &["u1"], Ok(1))),
+                (0, WaitWithBook(ADA)),
+            ],
+            passes: 1,
+            close: Ok(&Closed {
+                events: 3,
+                callers: &[(
+                    0,
+                    &[
+                        Call { at: 0 },
+                        Call { at: 1 },
+                        Call { at: 2 },
+                        Read { cell: 0, at: 2 },
+                    ],
+                    &[0, 1, 2],
+                )],
+                ends: &[(0, true)],
+                batches: &[(&["u1"], true)],
+                outcomes: &[ADA],
             }),
         }],
     },

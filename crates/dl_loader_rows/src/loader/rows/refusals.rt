@@ -185,7 +185,7 @@ static STOPPED: [Row; 2] = [
     Row {
         about: "a stopped loader by each call",
         limits: (2, 8, 3),
-        callers: 1,
+        callers: 2,
         parts: &[Part {
             steps: &[
                 (0, Load("u1", Ok(Fresh { cell: 0, batch: 0 }))),
@@ -204,8 +204,10 @@ static STOPPED: [Row; 2] = [
                 (0, Dispatch(Err(Stopped))),
                 (0, Settle(0, &["u1"], Err(Stopped))),
                 (0, GivesUp(5, &["u1"], Memory, Err(Stopped))),
+                (1, Load("u1", Err(Stopped))),
+                (1, Dispatch(Err(Stopped))),
             ],
-            passes: 1,
+            passes: 2,
             close: Ok(&Closed {
                 events: 3,
                 callers: &[(

@@ -1,7 +1,6 @@
-use Rattle.std.proofs.Common.{◌∙◌, rules}
+use Rattle.std.proofs.Common.{◌≡◌, ◌∙◌, Err, rules}
 use Rattle.std.proofs.lemmas.Iterator.Adapters.{YieldsList-from_vec}
 use Rattle.std.proofs.lemmas.Iterator.Consumers.{YieldsList-turn, YieldsList-so_far}
-use Rattle.dl_values.proofs.Errors.{on_err}
 use Rattle.dl_history.specs.Service.{Service}
 use Rattle.dl_workers.proofs.Endings.{ended_before, ended_more}
 use Rattle.dl_workers.proofs.ending.end_jobs.Goals as goal
@@ -20,6 +19,7 @@ returns-in_err-end_job-clause-stopped g c =
     let all = YieldsList-from_vec c.args.jobs.items (search rules) (search rules) in
     let turn = YieldsList-turn all c.loop-job.yielded _ c.loop-job.yielded_by _ c.next.new.self c.in-Some.job c.in-Some.is c.next.ensures.steps in
     let so_far = YieldsList-so_far all c.loop-job.yielded _ c.loop-job.yielded_by in
-    on_err c.from_residual.result
-    (ended_before s c.args.pass.now.part c.loop-job.pass.part c.end_job.new.pass.part c.loop-job.yielded c.args.jobs.items
-    c.loop-job.invariant.ended so_far turn.0 c.in_err-end_job.ensures.unchanged)
+    let fault = c.in_err-end_job.field-0.0 in
+    let same : c.from_residual.result ≡ Err fault = search rules in
+    rw same (ended_before s c.args.pass.now.part c.loop-job.pass.part c.end_job.new.pass.part c.loop-job.yielded c.args.jobs.items c.in-Some.job fault
+    c.loop-job.invariant.ended so_far turn c.in_err-end_job.ensures.unchanged c.in_err-end_job.ensures.fault)

@@ -41,5 +41,6 @@ pub returns-in_default : goal.returns-in_default
 returns-in_default g c = record {
   seat = c.take.ensures.seat;
   worked = rw c.in_default.ensures.taken c.loop.invariant.ended;
+  ended = c.in_default.ensures.ended;
   tickets = c.loop.invariant.tickets;
 }

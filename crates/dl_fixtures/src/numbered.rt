@@ -1,0 +1,34 @@
+//! Many keys, and long lists.
+
+use dl_values::FetchKey;
+use std::alloc::{AllocError, Global};
+
+/// So many keys of the table `t`, whose ids are the numbers from 0 on, if there is memory for them.
+pub fn numbered_keys(alloc: Global, count: u32) -> Option<Vec<FetchKey>> {
+    let mut keys = Vec::new(alloc);
+    for number in 0..count {
+        keys.push(numbered_key(alloc, number)?).ok()?;
+    }
+    Some(keys)
+}
+
+fn numbered_key(alloc: Global, number: u32) -> Option<FetchKey> {
+    let id = format!(in alloc; "{number}").ok()?;
+    FetchKey::new(alloc, "t", id.as_str()).ok()
+}
+
+/// The JSON list of so many items, each of which has its number, from 0 on, between two texts.
+pub fn numbered_list(
+    alloc: Global,
+    count: u32,
+    before: &str,
+    after: &str,
+) -> Result<String, AllocError> {
+    let mut text = String::from_str(alloc, "[")?;
+    for number in 0..count {
+        let comma = if number == 0 { "" } else { "," };
+        write!(text, "{comma}{before}{number}{after}")?;
+    }
+    text.push_str("]")?;
+    Ok(text)
+}

@@ -1,0 +1,111 @@
+//! The one step of a book: an event, whatever its call.
+
+ghost use Rattle.std.specs.Prelude.{◌≡◌, ◌+◌, ◌<◌, ◌≤◌, IfErr, IfOk, None, OnErr, OnOk, length};
+ghost use Rattle.dl_history.specs.Entries.{cell_of_load};
+ghost use Rattle.dl_history.specs.Journal.{refusals};
+ghost use Rattle.dl_history.specs.Lists.{Every};
+ghost use Rattle.dl_loader.specs.Book.{SomeCellRefused};
+ghost use Rattle.dl_loader.specs.Inside.Prepared.{ended_count};
+ghost use Rattle.dl_loader.specs.Made.{Makes, WasMade, WasRefused, loads_of};
+ghost use Rattle.dl_loader.specs.Pass.{with_tickets};
+ghost use Rattle.dl_loader.specs.Refusals.{IsRefusal, refusal};
+
+use crate::book::Book;
+use crate::due_endings::give;
+use crate::event_call::{EventCall, Prepared};
+use crate::fault::CallFault;
+use crate::load_replies::{add_tickets, begun_in};
+use crate::pass::Pass;
+use crate::reply::Settled;
+use dl_history::{Event, LoaderName, Rows};
+use std::alloc::Global;
+
+impl<L: LoaderName> Book<L> {
+    /// Makes a call as an event of the pass, which gets its tickets, and answers what the desk replied, and how the cells
+    /// that it ends took their outcomes.
+    ///
+    /// # Errors
+    /// The first of these causes that applies: `Stopped`, `Behind`, `LogFull`, the call's own; else `OutOfMemory` or
+    /// `LogRefused`. The book and the pass then tell what they told before.
+    // Inlined, so that an event is made where it will lie, and not moved there.
+    #[inline(always)]
+    pub(crate) fn record<C: EventCall>(
+        &mut self,
+        alloc: Global,
+        rows: &Rows<L>,
+        pass: &mut Pass<L>,
+        call: &C,
+    ) -> Result<(C::Reply, Settled), CallFault>
+        requires answers { C.brings call.now L.service.answer }
+        ensures made { IfOk result (λ r. Makes self.old pass.old.part (C.call call.now) (C.told r.0) self.new pass.new.part) }
+        ensures accepted { OnOk result (refusal L.service self.old pass.old.part (C.call call.now) (C.job call.now) ≡ None) }
+        ensures refused { IfOk result (λ r. refusals self.new.cells ≡ refusals self.old.cells + r.1.refused) }
+        ensures each { IfOk result (λ r. r.1.shown + r.1.refused ≡ ended_count (C.job call.now) (C.told r.0)) }
+        ensures fault { IfErr result (IsRefusal L.service self.old pass.old.part (C.call call.now) (C.job call.now)) }
+        ensures unchanged { OnErr result ((self.new ≡ self.old) × (pass.new.part ≡ pass.old.part)) }
+    {
+        self.admit(rows, pass)?;
+        let caller = pass.caller();
+        let at = self.journal.next_place(rows);
+        let prepared = call.prepare(alloc, at, &mut self.desk)?;
+        let Prepared {
+            call: copy,
+            reply,
+            dues,
+            answer,
+        } = prepared;
+        let cells = begun_in(rows, &reply);
+        let event = Event {
+            caller,
+            call: copy,
+            reply,
+        };
+        let loads = C::loads(&answer);
+        pass.reserve(loads.len())?;
+        pass.add_event(alloc, rows, &mut self.journal, event, cells)?;
+        call.show(&mut self.desk);
+        add_tickets(pass, loads);
+        let ended = dues.len();
+        let refused = give(&mut self.journal, rows, dues);
+        Ok((answer, settled(rows, ended, refused)))
+    }
+
+    /// The same, as its caller knows it.
+    #[inline(always)]
+    pub(crate) fn make<C: EventCall>(
+        &mut self,
+        alloc: Global,
+        rows: &Rows<L>,
+        pass: &mut Pass<L>,
+        call: &C,
+    ) -> Result<(C::Reply, Settled), CallFault>
+        requires answers { C.brings call.now L.service.answer }
+        ensures made { IfOk result (λ r. WasMade L.service pass.old.part (C.call call.now) (C.told r.0) pass.new.part) }
+        ensures tickets { IfOk result (λ r. pass.new.part.tickets ≡ (with_tickets pass.old.part (loads_of (C.told r.0))).tickets) }
+        ensures begun { IfOk result (λ r. Every (λ load. cell_of_load load < length self.new.cells) (loads_of (C.told r.0))) }
+        ensures each { IfOk result (λ r. r.1.shown + r.1.refused ≡ ended_count (C.job call.now) (C.told r.0)) }
+        ensures refused { IfOk result (λ r. 0 < r.1.refused → SomeCellRefused L.service) }
+        ensures fault { IfErr result (WasRefused L.service pass.old.part (C.call call.now) (C.job call.now)) }
+        ensures unchanged { OnErr result (pass.new.part ≡ pass.old.part) }
+    {
+        self.keeps();
+        let made = self.record(alloc, rows, pass, call)?;
+        self.keeps();
+        Ok(made)
+    }
+}
+
+/// So many cells took their outcome, where so many of them refused it.
+fn settled<L: LoaderName>(rows: &Rows<L>, cells: usize, refused: usize) -> Settled
+    requires few { cells ≤ L.service.rules.limits.max_cells }
+    requires among { refused ≤ cells }
+    ensures each { result.shown + result.refused ≡ cells }
+    ensures refused { result.refused ≡ refused }
+{
+    let most = rows.limits().max_cells() as usize;
+    prove!(cells <= most);
+    Settled {
+        shown: (cells - refused) as u32,
+        refused: refused as u32,
+    }
+}

@@ -1,0 +1,81 @@
+//! The event calls: what each prepares in the desk, and then shows there.
+
+ghost use Rattle.std.specs.Prelude.{◌≡◌, List, Option, IfErr, IfOk, OnOk};
+ghost use Rattle.dl_values.specs.Key.{Key};
+ghost use Rattle.dl_values.specs.declared.job.Job.{Job};
+ghost use Rattle.dl_values.specs.declared.outcome.BatchAnswer.{BatchAnswer};
+ghost use Rattle.dl_desk.specs.BatchBook as book;
+ghost use Rattle.dl_history.specs.declared.event.Call.{Call};
+ghost use Rattle.dl_history.specs.declared.event.Reply.{Reply};
+ghost use Rattle.dl_history.specs.History.{call_of};
+ghost use Rattle.dl_loader.specs.Inside.Prepared.{IsPrepared, Refuses, Steps};
+ghost use Rattle.dl_loader.specs.Made.{loads_of};
+
+mod ends;
+mod keys;
+mod loads;
+
+use crate::due_endings::Due;
+use crate::fault::CallFault;
+use dl_desk::{Desk, LoadReply};
+use dl_history::{Call, Reply};
+pub(crate) use ends::{Fail, Settle};
+pub(crate) use keys::{Clear, ClearAll, Dispatch, Prime, prime_told};
+pub(crate) use loads::{Load, LoadMany};
+use std::alloc::Global;
+
+/// What is prepared for a call: what its event will tell, the ends that it gives to cells, and what the desk replies.
+#[derive(Drop)]
+pub(crate) struct Prepared<R> {
+    pub(crate) call: Call,
+    pub(crate) reply: Reply,
+    pub(crate) dues: Vec<Due>,
+    pub(crate) answer: R,
+}
+
+/// An event call, with its arguments.
+pub(crate) trait EventCall {
+    /// What the desk replies.
+    type Reply: Drop;
+
+    // The call that the history tells.
+    ghost call: { Self → Call };
+
+    // The job that it ends.
+    ghost job: { Self → Option Job };
+
+    // The reply that the history tells.
+    ghost told: { Self.Reply → Reply };
+
+    // What it brings is what a source with this function answers.
+    ghost brings: { Self → (List Key → BatchAnswer) → Type 0 } = { λ _ _. Unit {0} };
+
+    // The desk is ready to show it.
+    ghost ready: { Self → book.Desk → Type 0 };
+
+    /// Makes its allocations, for an event at this place, and changes nothing that can be seen of the desk.
+    ///
+    /// # Errors
+    /// The cause for which the desk refuses it, or `WrongKeys`; else `OutOfMemory`.
+    fn prepare(
+        &self,
+        alloc: Global,
+        at: u16,
+        desk: &mut Desk,
+    ) -> Result<Prepared<Self::Reply>, CallFault>
+        ensures same { desk.new.book ≡ desk.old.book }
+        ensures call { IfOk result (λ p. p.call ≡ call self.now) }
+        ensures reply { IfOk result (λ p. p.reply ≡ told p.answer) }
+        ensures prepared { IfOk result (λ p. IsPrepared desk.old.book (call self.now) (job self.now) (brings self.now) at p.reply p.dues.items) }
+        ensures ready { OnOk result (ready self.now desk.new) }
+        ensures fault { IfErr result (Refuses desk.old.book (call self.now) (job self.now)) };
+
+    /// Shows it in the desk. It does not allocate.
+    fn show(&self, desk: &mut Desk)
+        requires { ready self.now desk.old }
+        ensures { Steps desk.old.book desk.new.book (call_of (call self.now)) };
+
+    /// The loads that are replied to, for each of which the caller gets a ticket.
+    fn loads(reply: &Self::Reply) -> &[LoadReply]
+        ensures { loads_of (told reply.now) ≡ result.now };
+}

@@ -1,0 +1,205 @@
+//! The calls on keys, and the dispatch.
+
+ghost use Rattle.std.specs.Prelude.{◌≡◌, [], None};
+ghost use Rattle.dl_desk.specs.Calls.{Primes, Sends};
+ghost use Rattle.dl_history.specs.History.{primed};
+ghost use Rattle.dl_history.specs.declared.event.Call.TheVariants as made;
+ghost use Rattle.dl_history.specs.declared.event.Reply.TheVariants as reply;
+ghost use Rattle.dl_loader.specs.Inside.Prepared.{IsReady, cell_primed};
+ghost use Rattle.dl_loader.specs.Made.{loads_of};
+
+use crate::due_endings::dues;
+use crate::event_call::{EventCall, Prepared};
+use crate::fault::CallFault;
+use dl_desk::{Desk, DeskPrime, FetchKey, Job, LoadReply, Outcome};
+use dl_history::{Call, Jobs, Reply};
+use std::alloc::Global;
+use std::slice;
+
+/// The clear of a key: the memo forgets it, if it is held.
+#[derive(Drop)]
+pub(crate) struct Clear<'a> {
+    pub(crate) key: &'a FetchKey,
+}
+
+impl EventCall for Clear<'_> {
+    type Reply = ();
+
+    ghost call = { λ c. made.Clear c.key.now };
+
+    ghost job = { λ _. None };
+
+    ghost told = { λ _. reply.Done };
+
+    ghost ready = { λ _ _. Unit {0} };
+
+    fn prepare(
+        &self,
+        alloc: Global,
+        _at: u16,
+        _desk: &mut Desk,
+    ) -> Result<Prepared<()>, CallFault> {
+        Ok(Prepared {
+            call: Call::Clear(self.key.try_copy()?),
+            reply: Reply::Done,
+            dues: Vec::new(alloc),
+            answer: (),
+        })
+    }
+
+    fn show(&self, desk: &mut Desk) {
+        desk.clear(self.key);
+    }
+
+    fn loads(_reply: &()) -> &[LoadReply]
+        ensures { [] ≡ result.now }
+    {
+        &[]
+    }
+}
+
+/// The clear of all keys.
+#[derive(Drop)]
+pub(crate) struct ClearAll;
+
+impl EventCall for ClearAll {
+    type Reply = ();
+
+    ghost call = { λ _. made.ClearAll };
+
+    ghost job = { λ _. None };
+
+    ghost told = { λ _. reply.Done };
+
+    ghost ready = { λ _ _. Unit {0} };
+
+    fn prepare(
+        &self,
+        alloc: Global,
+        _at: u16,
+        _desk: &mut Desk,
+    ) -> Result<Prepared<()>, CallFault> {
+        Ok(Prepared {
+            call: Call::ClearAll,
+            reply: Reply::Done,
+            dues: Vec::new(alloc),
+            answer: (),
+        })
+    }
+
+    fn show(&self, desk: &mut Desk) {
+        desk.clear_all();
+    }
+
+    fn loads(_reply: &()) -> &[LoadReply] {
+        &[]
+    }
+}
+
+/// The prime of a key with an outcome: a key that isn't held gets a cell that ends with it.
+#[derive(Drop)]
+pub(crate) struct Prime<'a> {
+    pub(crate) key: &'a FetchKey,
+    pub(crate) outcome: &'a Outcome,
+}
+
+impl EventCall for Prime<'_> {
+    type Reply = DeskPrime;
+
+    ghost call = { λ c. made.Prime c.key.now c.outcome.now };
+
+    ghost job = { λ _. None };
+
+    ghost told = { primed };
+
+    ghost ready = { λ c desk. IsReady desk (Primes c.key.now) };
+
+    fn prepare(
+        &self,
+        alloc: Global,
+        at: u16,
+        desk: &mut Desk,
+    ) -> Result<Prepared<DeskPrime>, CallFault> {
+        let reply = desk.prepare_prime(self.key)?;
+        let call = Call::Prime(self.key.try_copy()?, self.outcome.try_copy()?);
+        let dues = dues(alloc, at, cell_primed(&reply), &call)?;
+        Ok(Prepared {
+            call,
+            reply: prime_told(reply),
+            dues,
+            answer: reply,
+        })
+    }
+
+    fn show(&self, desk: &mut Desk) {
+        desk.make_prepared();
+    }
+
+    fn loads(reply: &DeskPrime) -> &[LoadReply]
+        ensures { loads_of (primed reply.now) ≡ result.now }
+    {
+        let _ = *reply;
+        &[]
+    }
+}
+
+/// The dispatch: every batch that was begun and not sent is sent, each as a job.
+#[derive(Drop)]
+pub(crate) struct Dispatch;
+
+impl EventCall for Dispatch {
+    type Reply = Vec<Job>;
+
+    ghost call = { λ _. made.Dispatch };
+
+    ghost job = { λ _. None };
+
+    ghost told = { λ jobs. reply.Sent jobs.items };
+
+    ghost ready = { λ _ desk. IsReady desk Sends };
+
+    fn prepare(
+        &self,
+        alloc: Global,
+        _at: u16,
+        desk: &mut Desk,
+    ) -> Result<Prepared<Vec<Job>>, CallFault> {
+        let jobs = desk.prepare_dispatch(alloc)?;
+        Ok(Prepared {
+            call: Call::Dispatch,
+            reply: Reply::Sent(Jobs::copy_of(alloc, jobs.as_slice())?),
+            dues: Vec::new(alloc),
+            answer: jobs,
+        })
+    }
+
+    fn show(&self, desk: &mut Desk) {
+        desk.make_prepared();
+    }
+
+    fn loads(_jobs: &Vec<Job>) -> &[LoadReply]
+        ensures { [] ≡ result.now }
+    {
+        &[]
+    }
+}
+
+/// The desk's reply to a prime, as the history has it.
+pub(crate) fn prime_told(reply: DeskPrime) -> Reply
+    ensures { result ≡ primed reply }
+{
+    match reply {
+        DeskPrime::Primed(cell) => Reply::Primed(cell),
+        DeskPrime::Kept => Reply::Kept,
+    }
+}
+
+/// The cell that a prime begins and ends, if any.
+fn cell_primed(reply: &DeskPrime) -> &[u32]
+    ensures { result.now ≡ cell_primed reply.now }
+{
+    match reply {
+        DeskPrime::Primed(cell) => slice::from_ref(cell),
+        DeskPrime::Kept => &[],
+    }
+}

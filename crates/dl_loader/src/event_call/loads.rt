@@ -1,0 +1,103 @@
+//! The loads of keys.
+
+ghost use Rattle.std.specs.Prelude.{◌≡◌, None, [], ◌∷◌};
+ghost use Rattle.dl_desk.specs.Calls.{Loads};
+ghost use Rattle.dl_history.specs.declared.event.Call.TheVariants as made;
+ghost use Rattle.dl_history.specs.declared.event.Reply.TheVariants as reply;
+ghost use Rattle.dl_loader.specs.Inside.Prepared.{IsReady};
+
+use crate::event_call::{EventCall, Prepared};
+use crate::fault::CallFault;
+use dl_desk::{Desk, FetchKey, Keys, LoadReply};
+use dl_history::{Call, Replies, Reply};
+use std::alloc::Global;
+use std::slice;
+
+/// The load of a key.
+#[derive(Drop)]
+pub(crate) struct Load<'a> {
+    pub(crate) key: &'a FetchKey,
+}
+
+impl EventCall for Load<'_> {
+    type Reply = LoadReply;
+
+    ghost call = { λ c. made.Load c.key.now };
+
+    ghost job = { λ _. None };
+
+    ghost told = { λ r. reply.Loaded r };
+
+    ghost ready = { λ c desk. IsReady desk (Loads (c.key.now ∷ [])) };
+
+    #[inline(always)]
+    fn prepare(
+        &self,
+        alloc: Global,
+        _at: u16,
+        desk: &mut Desk,
+    ) -> Result<Prepared<LoadReply>, CallFault> {
+        let reply = desk.prepare_load(alloc, self.key)?;
+        Ok(Prepared {
+            call: Call::Load(self.key.try_copy()?),
+            reply: Reply::Loaded(reply),
+            dues: Vec::new(alloc),
+            answer: reply,
+        })
+    }
+
+    #[inline(always)]
+    fn show(&self, desk: &mut Desk) {
+        desk.make_prepared();
+    }
+
+    #[inline(always)]
+    fn loads(reply: &LoadReply) -> &[LoadReply]
+        ensures { reply.now ∷ [] ≡ result.now }
+    {
+        slice::from_ref(reply)
+    }
+}
+
+/// The loads of several keys in order, as one call.
+#[derive(Drop)]
+pub(crate) struct LoadMany<'a> {
+    pub(crate) keys: &'a [FetchKey],
+}
+
+impl EventCall for LoadMany<'_> {
+    type Reply = Vec<LoadReply>;
+
+    ghost call = { λ c. made.LoadMany c.keys.now };
+
+    ghost job = { λ _. None };
+
+    ghost told = { λ rs. reply.Many rs.items };
+
+    ghost ready = { λ c desk. IsReady desk (Loads c.keys.now) };
+
+    fn prepare(
+        &self,
+        alloc: Global,
+        _at: u16,
+        desk: &mut Desk,
+    ) -> Result<Prepared<Vec<LoadReply>>, CallFault> {
+        let replies = desk.prepare_loads(alloc, self.keys)?;
+        Ok(Prepared {
+            call: Call::LoadMany(Keys::copy_of(alloc, self.keys)?),
+            reply: Reply::Many(Replies::copy_of(alloc, replies.as_slice())?),
+            dues: Vec::new(alloc),
+            answer: replies,
+        })
+    }
+
+    fn show(&self, desk: &mut Desk) {
+        desk.make_prepared();
+    }
+
+    fn loads(replies: &Vec<LoadReply>) -> &[LoadReply]
+        ensures { replies.now.items ≡ result.now }
+    {
+        replies.as_slice()
+    }
+}

@@ -1,0 +1,68 @@
+"""Builds the wheel with the C compiler and Python alone, over the library that `rt lib` proves and builds."""
+
+import base64
+import hashlib
+import os
+import pathlib
+import re
+import shlex
+import subprocess
+import sys
+import sysconfig
+import tempfile
+import zipfile
+
+HERE = pathlib.Path(__file__).resolve().parent
+PACKAGE = HERE / "thrushscreen"
+CRATE = HERE.parent / "crates" / "dl_c"
+VERSION = re.search(r'^__version__ = "(.+)"', (PACKAGE / "__init__.py").read_text(), re.MULTILINE)[1]
+
+METADATA = f"""\
+Metadata-Version: 2.1
+Name: thrushscreen
+Version: {VERSION}
+Summary: A data loader for asyncio over a proved library
+Requires-Python: >=3.10
+"""
+
+
+def archives():
+    """The archives of the desk and of its heap: those that DL_DESK_ARCHIVES names, or what `rt` builds."""
+    if "DL_DESK_ARCHIVES" in os.environ:
+        return shlex.split(os.environ["DL_DESK_ARCHIVES"])
+    subprocess.run(["rt", "lib"], cwd=CRATE, check=True)
+    page = subprocess.run(["rt", "doc"], check=True, capture_output=True, text=True).stdout.strip()
+    return [CRATE / "out" / "libdl_c.a", pathlib.Path(page).parent / "c" / "liblibc_c.a"]
+
+
+def extension():
+    """The bytes of the extension, which shows nothing but its module."""
+    with tempfile.TemporaryDirectory() as folder:
+        built = pathlib.Path(folder, "_desk.so")
+        command = [*shlex.split(os.environ.get("CC", "cc")), "-shared", "-fPIC", "-O3", "-Wall", "-Wextra", "-fvisibility=hidden"]
+        command += [*shlex.split(os.environ.get("CFLAGS", "")), f"-I{sysconfig.get_path('include')}", f"-I{HERE.parent / 'c'}"]
+        subprocess.run([*command, "-o", built, PACKAGE / "_desk.c", *archives(), "-Wl,--exclude-libs,ALL"], check=True)
+        return built.read_bytes()
+
+
+def build_wheel(wheel_directory, config_settings=None, metadata_directory=None):
+    """What pip calls."""
+    python = f"cp{sys.version_info.major}{sys.version_info.minor}"
+    tag = f"{python}-{python}{sys.abiflags}-{re.sub('[-.]', '_', sysconfig.get_platform())}"
+    info = f"thrushscreen-{VERSION}.dist-info"
+    wheel = f"Wheel-Version: 1.0\nGenerator: thrushscreen ({VERSION})\nRoot-Is-Purelib: false\nTag: {tag}\n"
+    files = {f"thrushscreen/{file.name}": file.read_bytes() for file in sorted(PACKAGE.iterdir()) if file.suffix in (".py", ".pyi") or file.name == "py.typed"}
+    files[f"thrushscreen/_desk{sysconfig.get_config_var('EXT_SUFFIX')}"] = extension()
+    files[f"{info}/METADATA"] = METADATA.encode()
+    files[f"{info}/WHEEL"] = wheel.encode()
+    record = [f"{name},sha256={checksum(content)},{len(content)}\n" for name, content in files.items()]
+    files[f"{info}/RECORD"] = "".join([*record, f"{info}/RECORD,,\n"]).encode()
+    name = f"thrushscreen-{VERSION}-{tag}.whl"
+    with zipfile.ZipFile(pathlib.Path(wheel_directory, name), "w", zipfile.ZIP_DEFLATED) as archive:
+        for file, content in files.items():
+            archive.writestr(file, content)
+    return name
+
+
+def checksum(content):
+    return base64.urlsafe_b64encode(hashlib.sha256(content).digest()).rstrip(b"=").decode()

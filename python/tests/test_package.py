@@ -1,0 +1,112 @@
+"""The package as an engineer meets it: its names, its types, and what it installs."""
+
+import ast
+import importlib.metadata
+import inspect
+import os
+import pathlib
+import shutil
+import subprocess
+import sys
+import tempfile
+import unittest
+
+import thrushscreen
+from thrushscreen import _desk
+
+TESTS = pathlib.Path(__file__).resolve().parent
+PACKAGE = pathlib.Path(thrushscreen.__file__).resolve().parent
+
+# What a type checker is to refuse, each beside what it is told of it.
+WRONG = {
+    'DataLoader[int, str](fetch).load("1")': "arg-type",
+    'number: int = await DataLoader[int, str](fetch).load(1)': "assignment",
+    "several: list[str] = await DataLoader[int, str](fetch).load_many([1])": "assignment",
+    "DataLoader[int, str](fetch).prime(1, 1)": "arg-type",
+    "DataLoader[str, str](fetch)": "arg-type",
+    "DataLoader[int, str](fetch, get_cache_key=3)": "arg-type",
+}
+
+
+def names_of(kind):
+    return {name for name in dir(kind) if not name.startswith("_")}
+
+
+class Names(unittest.TestCase):
+    def test_the_public_names_are_those_of_the_documents(self):
+        self.assertEqual(sorted(thrushscreen.__all__), ["Counters", "DataLoader", "LoaderFull"])
+        self.assertEqual(
+            names_of(thrushscreen.DataLoader),
+            {"load", "load_many", "held", "prime", "clear", "clear_all", "counters"}
+            | {"batch", "max_batch_size", "cache", "cache_map", "get_cache_key", "batch_schedule_fn", "name"},
+        )
+
+    def test_options_have_the_names_of_the_ports(self):
+        options = list(inspect.signature(thrushscreen.DataLoader).parameters)
+        self.assertEqual(options[:4], ["batch_load_fn", "batch", "max_batch_size", "cache"])
+        self.assertIn("get_cache_key", options)
+
+    def test_the_version_is_that_of_the_wheel_and_of_the_changes(self):
+        self.assertEqual(importlib.metadata.version("thrushscreen"), thrushscreen.__version__)
+        changes = (TESTS.parent / "CHANGELOG.md").read_text().splitlines()
+        self.assertEqual([line for line in changes if line.startswith("## ")][0], f"## {thrushscreen.__version__}")
+
+    def test_calls_of_the_extension_tell_what_they_take(self):
+        for call in ("load", "held", "clear"):
+            self.assertEqual(str(inspect.signature(getattr(thrushscreen.DataLoader, call))), "(self, key, /)")
+
+
+class Files(unittest.TestCase):
+    def test_types_are_installed(self):
+        for file in ("py.typed", "_desk.pyi"):
+            self.assertTrue((PACKAGE / file).exists(), file)
+
+    def test_the_extension_shows_its_module_alone(self):
+        told = subprocess.run(["nm", "-D", "--defined-only", _desk.__file__], check=True, capture_output=True, text=True).stdout
+        self.assertEqual([line.split()[-1] for line in told.splitlines()], ["PyInit__desk"])
+
+    def test_each_file_is_recorded(self):
+        for file in importlib.metadata.files("thrushscreen"):
+            self.assertTrue(file.locate().exists(), file)
+
+
+class Stub(unittest.TestCase):
+    def test_the_stub_tells_of_what_is_there(self):
+        tree = ast.parse((PACKAGE / "_desk.pyi").read_text())
+        for kind in [node for node in tree.body if isinstance(node, ast.ClassDef)]:
+            of = getattr(_desk, kind.name)
+            told = {node.name for node in kind.body if isinstance(node, ast.FunctionDef)}
+            self.assertEqual({name for name in told if not hasattr(of, name)}, set())
+            if kind.name == "Desk":
+                self.assertEqual({name for name in vars(of) if not name.startswith("__")}, told - {"__init__"})
+
+
+# Types don't depend on the Python that runs the tests.
+if os.path.realpath(sys.executable).startswith("/usr/bin/"):
+
+    class Types(unittest.TestCase):
+        def check(self, *files):
+            with tempfile.TemporaryDirectory() as cache:
+                shutil.copytree(PACKAGE, f"{cache}/source/thrushscreen", ignore=shutil.ignore_patterns("*.so", "__pycache__"))
+                environment = {**os.environ, "MYPYPATH": f"{cache}/source", "PYTHONPATH": ""}
+                command = ["/usr/bin/mypy", "--strict", "--python-version", "3.10", "--cache-dir", cache, "--no-error-summary", *files]
+                return subprocess.run(command, capture_output=True, text=True, env=environment, cwd=cache)
+
+        def test_the_package_and_a_program_have_types(self):
+            ran = self.check("-p", "thrushscreen")
+            self.assertEqual((ran.stdout, ran.returncode), ("", 0), ran.stderr)
+            ran = self.check(TESTS / "typed.py")
+            self.assertEqual((ran.stdout, ran.returncode), ("", 0), ran.stderr)
+
+        def test_wrong_programs_are_refused(self):
+            with tempfile.TemporaryDirectory() as folder:
+                program = pathlib.Path(folder, "wrong.py")
+                lines = (TESTS / "typed.py").read_text().splitlines()
+                head = lines[: lines.index("class Users(DataLoader[int, str]):")]
+                program.write_text("\n".join([*head, "async def wrong() -> None:", *(f"    {line}" for line in WRONG)]))
+                told = self.check(program).stdout.splitlines()
+            self.assertEqual([line.rsplit("[", 1)[1].rstrip("]") for line in told if ": error:" in line], list(WRONG.values()), told)
+
+
+if __name__ == "__main__":
+    unittest.main()

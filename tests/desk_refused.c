@@ -1,0 +1,201 @@
+/* A C program that makes the calls of dl_desk.h where a growth is refused: of each call its first growth, then its second, and so
+ * on until it meets no refusal. A call that is refused a growth answers DL_OUT_OF_MEMORY or its own answer, and made again its own;
+ * and so do all calls behind it. It is linked with refuse.c. It prints each check that fails, and how many calls passed. */
+#include "dl_desk.h"
+#include "refuse.h"
+
+#include <stdio.h>
+#include <string.h>
+
+typedef enum { OPEN, LOAD, LOAD_MANY, PRIME, HELD, CLEAR, CLEAR_ALL, DISPATCH, MEMBER, KEY, SETTLE, FAIL, CLOSE } call_name;
+
+/* What a call answers: its code, two numbers, and what else it writes, as one sum. */
+typedef struct {
+    uint32_t code, first, second, sum;
+} answer;
+
+/* A call with the letters of its keys or the number of its batch, its own answer, and whether it may take memory. */
+typedef struct {
+    call_name name;
+    const char *ids;
+    uint32_t batch;
+    answer own;
+    bool grows;
+} call;
+
+static unsigned faults;
+static long refusals;
+
+static void check(bool holds, const char *what, size_t place, long growth)
+{
+    if (!holds) {
+        faults++;
+        printf("call %zu, growth %ld: %s\n", place, growth, what);
+    }
+}
+
+static answer loaded(dl_loaded given)
+{
+    return (answer){given.code, given.cell, given.batch, 0};
+}
+
+static answer load_many(dl_desk *desk, const char *ids)
+{
+    enum { MOST = 16 };
+    size_t count = strlen(ids);
+    uint8_t texts[5 * MOST] = {0};
+    dl_key_lengths lengths[MOST] = {{0, 0}};
+    dl_loaded answers[MOST] = {{0, 0, 0}};
+    answer given = {0, 0, 0, 0};
+
+    for (size_t i = 0; i < count; i++) {
+        memcpy(texts + 5 * i, "user", 4);
+        texts[5 * i + 4] = (uint8_t)ids[i];
+        lengths[i] = (dl_key_lengths){4, 1};
+    }
+    given.code = dl_desk_load_many(desk, texts, 5 * count, lengths, count, answers, count);
+    for (size_t i = 0; i < count; i++) {
+        given.first += answers[i].cell;
+        given.second += answers[i].batch;
+        given.sum += answers[i].code;
+    }
+    return given;
+}
+
+static answer key_of(dl_desk *desk, uint32_t batch)
+{
+    dl_key_texts texts;
+    answer given = {0, 0, 0, 0};
+
+    memset(&texts, 0, sizeof texts);
+    given.code = dl_desk_key(desk, batch, 0, &texts);
+    given.first = (uint32_t)texts.table_len;
+    given.second = (uint32_t)texts.id_len;
+    given.sum = texts.id[0];
+    return given;
+}
+
+static answer make(dl_desk *desk, const call *call)
+{
+    const uint8_t *user = (const uint8_t *)"user", *id = (const uint8_t *)call->ids;
+    dl_dispatched sent;
+
+    switch (call->name) {
+    case OPEN:
+        return (answer){dl_desk_open(desk, 2, 64, 1, 2), 0, 0, 0};
+    case LOAD:
+        return loaded(dl_desk_load(desk, user, 4, id, 1));
+    case LOAD_MANY:
+        return load_many(desk, call->ids);
+    case PRIME:
+        return loaded(dl_desk_prime(desk, user, 4, id, 1));
+    case HELD:
+        return loaded(dl_desk_held(desk, user, 4, id, 1));
+    case CLEAR:
+        return (answer){dl_desk_clear(desk, user, 4, id, 1), 0, 0, 0};
+    case CLEAR_ALL:
+        return (answer){dl_desk_clear_all(desk), 0, 0, 0};
+    case DISPATCH:
+        sent = dl_desk_dispatch(desk);
+        return (answer){sent.code, sent.first, (uint32_t)sent.count, 0};
+    case MEMBER:
+        return loaded(dl_desk_member(desk, call->batch, 0));
+    case KEY:
+        return key_of(desk, call->batch);
+    case SETTLE:
+        return (answer){dl_desk_settle(desk, call->batch), 0, 0, 0};
+    case FAIL:
+        return (answer){dl_desk_fail(desk, call->batch), 0, 0, 0};
+    case CLOSE:
+        return (answer){dl_desk_close(desk), 0, 0, 0};
+    }
+    return (answer){0, 0, 0, 0};
+}
+
+static const call CALLS[] = {
+    {OPEN, "", 0, {DL_DONE, 0, 0, 0}, true},
+    {LOAD, "a", 0, {DL_FRESH, 0, 0, 0}, true},
+    {LOAD, "b", 0, {DL_FRESH, 1, 0, 0}, true},
+    {LOAD, "a", 0, {DL_HIT, 0, 0, 0}, true},
+    {HELD, "a", 0, {DL_HIT, 0, 0, 0}, true},
+    {HELD, "z", 0, {DL_FRESH, 0, 0, 0}, true},
+    {PRIME, "c", 0, {DL_FRESH, 2, 0, 0}, true},
+    {PRIME, "c", 0, {DL_HIT, 0, 0, 0}, true},
+    /* d, e, a hit, f, and g: cells 3, 4, 1, 5, 6 and batches 1, 1, none, 2, 2, of which four are fresh. */
+    {LOAD_MANY, "debfg", 0, {DL_DONE, 19, 6, 4}, true},
+    {CLEAR, "d", 0, {DL_DONE, 0, 0, 0}, true},
+    {CLEAR, "z", 0, {DL_DONE, 0, 0, 0}, true},
+    {SETTLE, "", 0, {DL_NOT_SENT, 0, 0, 0}, false},
+    {DISPATCH, "", 0, {DL_DONE, 0, 3, 0}, true},
+    {DISPATCH, "", 0, {DL_DONE, 0, 0, 0}, true},
+    {MEMBER, "", 1, {DL_HIT, 3, 0, 0}, false},
+    {KEY, "", 2, {DL_DONE, 4, 1, 'f'}, false},
+    {SETTLE, "", 0, {DL_DONE, 0, 0, 0}, false},
+    {LOAD, "d", 0, {DL_FRESH, 7, 3, 0}, true},
+    {FAIL, "", 1, {DL_DONE, 0, 0, 0}, false},
+    {FAIL, "", 1, {DL_ENDED_BEFORE, 0, 0, 0}, false},
+    {HELD, "d", 0, {DL_HIT, 7, 0, 0}, true},
+    /* e was forgotten with its batch, and a and b are held. */
+    {LOAD_MANY, "eab", 0, {DL_DONE, 8 + 0 + 1, 3, 1}, true},
+    {CLEAR_ALL, "", 0, {DL_DONE, 0, 0, 0}, false},
+    {LOAD_MANY, "abcdefghijklmnop", 0, {DL_DONE, (9 + 24) * 8, 4 * 16 + 2 * (0 + 1 + 2 + 3 + 4 + 5 + 6 + 7), 16}, true},
+    {DISPATCH, "", 0, {DL_DONE, 3, 9, 0}, true},
+    {CLOSE, "", 0, {DL_DONE, 0, 0, 0}, false},
+};
+
+enum { COUNT = sizeof CALLS / sizeof CALLS[0] };
+
+static bool is(answer given, answer own)
+{
+    return given.code == own.code && given.first == own.first && given.second == own.second && given.sum == own.sum;
+}
+
+/* Makes all calls, one of them with that growth refused. Whether it was refused. */
+static bool make_all(size_t place, long growth)
+{
+    static const answer refused = {DL_OUT_OF_MEMORY, 0, 0, 0};
+    dl_desk desk = {0};
+    answer given;
+    bool met = false;
+
+    for (size_t i = 0; i < COUNT; i++) {
+        if (i == place) {
+            refuse_growth(growth);
+            given = make(&desk, &CALLS[i]);
+            met = growths_refused() > 0;
+            refusals += met;
+            check(is(given, CALLS[i].own) || (met && is(given, refused)), "the answer", i, growth);
+            if (!met || is(given, CALLS[i].own)) {
+                continue;
+            }
+        }
+        given = make(&desk, &CALLS[i]);
+        check(is(given, CALLS[i].own), i == place ? "the answer of the call made again" : "a later answer", i, growth);
+    }
+    return met;
+}
+
+int main(void)
+{
+    bool grew[CLOSE + 1] = {false};
+    unsigned failed = 0;
+
+    for (size_t place = 0; place < COUNT; place++) {
+        unsigned before = faults;
+        long growth = 1;
+        while (make_all(place, growth)) {
+            growth++;
+        }
+        grew[CALLS[place].name] |= growth > 1;
+        check(growth == 1 || CALLS[place].grows, "it takes memory", place, growth);
+        failed += faults > before;
+    }
+    for (size_t place = 0; place < COUNT; place++) {
+        if (CALLS[place].grows && !grew[CALLS[place].name]) {
+            failed++;
+            printf("call %zu: no growth was refused\n", place);
+        }
+    }
+    printf("%ld growths refused\n%u passed, %u failed\n", refusals, failed < COUNT ? (unsigned)COUNT - failed : 0, failed);
+    return failed == 0 ? 0 : 1;
+}

@@ -1,0 +1,253 @@
+"""What `plans --batches` prints of a plan file: a plain evaluation of a plan by one loader on one thread, as docs/FORMATS.md says.
+
+It shares nothing with the program, and refuses no document.
+"""
+
+import json
+from typing import NamedTuple
+
+# The most of a key's id in bytes, and of an `each` in items.
+ID_BYTES = 128
+ITEMS = 1_024
+
+LIMIT = 65_536
+
+
+class Stop(Exception):
+    """The plan ends without a report, for the fault of this name."""
+
+
+class Outcome(NamedTuple):
+    """What a load of a key gives: its value, or the text of its error or of the failure of its batch."""
+
+    kind: str
+    value: object
+
+
+class Answer(NamedTuple):
+    """What a term gives: a value, or the words of a fault."""
+
+    is_fault: bool
+    value: object
+
+
+class Batch:
+    """Keys that are loaded together, the numbers of their cells, and how it ended."""
+
+    def __init__(self):
+        self.keys, self.cells, self.end = [], [], None
+
+
+def compact(value):
+    """The text of a value as the program prints it."""
+    return json.dumps(value, ensure_ascii=False, separators=(",", ":"), sort_keys=True)
+
+
+class Source:
+    """The tables of a plan file."""
+
+    def __init__(self, tables):
+        self.tables = {
+            table["name"]: (dict(table["rows"]), dict(table.get("errors", ())), dict(table.get("breaks", ()))) for table in tables
+        }
+
+    def breaks(self):
+        """The texts by which batches may fail."""
+        return {text for _, _, breaks in self.tables.values() for text in breaks.values()}
+
+    def break_of(self, keys):
+        """The text of the first key that breaks a batch of the keys, or None."""
+        for table, key in keys:
+            breaks = self.tables.get(table, ({}, {}, {}))[2]
+            if key in breaks:
+                return breaks[key]
+        return None
+
+    def outcome(self, table, key):
+        if table not in self.tables:
+            return Outcome("key", "no table")
+        rows, errors, _ = self.tables[table]
+        if key in rows:
+            return Outcome("value", rows[key])
+        return Outcome("key", errors.get(key, "no row"))
+
+
+class Loader:
+    """A loader with its limits, whose batches are fetched as they are sent."""
+
+    def __init__(self, source, most_keys=LIMIT, most_cells=LIMIT, most_calls=LIMIT):
+        self.source, self.most_keys, self.most_cells, self.most_calls = source, most_keys, most_cells, most_calls
+        self.calls = 0
+        self.loads = 0
+        self.cells = []
+        self.held = {}
+        self.batches = []
+        self.collecting = []
+
+    def call(self, fault="Run"):
+        """Counts a call, which a plan makes, or a worker that ends a batch."""
+        if self.calls == self.most_calls:
+            raise Stop(fault)
+        self.calls += 1
+
+    def begin(self, key, outcome):
+        self.cells.append(outcome)
+        self.held[key] = len(self.cells) - 1
+        return len(self.cells) - 1
+
+    def make_room(self, cells):
+        if len(self.cells) + cells > self.most_cells:
+            raise Stop("Run")
+
+    def load_many(self, keys):
+        """Loads distinct keys, fetches what isn't held, and gives each key's outcome."""
+        self.make_room(sum(key not in self.held for key in keys))
+        self.call()
+        self.loads += len(keys)
+        cells = [self.held[key] if key in self.held else self.join(key) for key in keys]
+        self.call()
+        sent, self.collecting = self.collecting, []
+        for batch in sent:
+            self.call("Stopped")
+            self.fetch(batch)
+        return {key: self.cells[cell] for key, cell in zip(keys, cells)}
+
+    def join(self, key):
+        """Begins a cell for a key that isn't held, in the last batch or a new one."""
+        last = self.collecting[-1] if self.collecting else None
+        if last is None or len(last.keys) == self.most_keys or key in last.keys:
+            last = Batch()
+            self.batches.append(last)
+            self.collecting.append(last)
+        cell = self.begin(key, None)
+        last.keys.append(key)
+        last.cells.append(cell)
+        return cell
+
+    def fetch(self, batch):
+        failure = self.source.break_of(batch.keys)
+        batch.end = "settled" if failure is None else "failed"
+        for key, cell in zip(batch.keys, batch.cells):
+            if failure is None:
+                self.cells[cell] = self.source.outcome(*key)
+            else:
+                self.cells[cell] = Outcome("batch", failure)
+                if self.held.get(key) == cell:
+                    del self.held[key]
+
+    def prime(self, key, outcome):
+        if key not in self.held:
+            self.make_room(1)
+            self.begin(key, outcome)
+        self.call()
+
+    def clear(self, key):
+        self.call()
+        self.held.pop(key, None)
+
+    def clear_all(self):
+        self.call()
+        self.held.clear()
+
+
+class Evaluation:
+    """A term, and what is known of the keys that it loaded."""
+
+    def __init__(self, loader, term):
+        self.loader, self.term = loader, term
+        self.known, self.wanted, self.rounds = {}, [], 0
+
+    def answer(self):
+        """Loads what the term waits for, round by round, until it has an answer."""
+        while True:
+            self.wanted = []
+            answer = self.explore(self.term)
+            if not self.wanted:
+                return answer
+            self.known |= self.loader.load_many(self.wanted)
+            self.rounds += 1
+
+    def explore(self, term):
+        """The answer of a term from what is known, or None where it waits for keys, which are then wanted."""
+        ((form, argument),) = term.items()
+        if form == "value":
+            return Answer(False, argument)
+        if form == "load":
+            return self.look(tuple(argument))
+        if form == "all":
+            return joined([self.explore(part) for part in argument])
+        part = self.explore(argument[0])
+        if part is None or part.is_fault:
+            return part
+        if not isinstance(part.value, dict) or argument[1] not in part.value:
+            return Answer(True, "NoField")
+        field = part.value[argument[1]]
+        if form == "pick":
+            return Answer(False, field)
+        if form == "follow":
+            return self.load_id(argument[2], field)
+        if not isinstance(field, list):
+            return Answer(True, "NotAList")
+        if len(field) > ITEMS:
+            return Answer(True, "TooMany")
+        return joined([self.load_id(argument[2], item) for item in field])
+
+    def load_id(self, table, key):
+        if isinstance(key, str) and 1 <= len(key.encode()) <= ID_BYTES:
+            return self.look((table, key))
+        return Answer(True, "NotAKey")
+
+    def look(self, key):
+        outcome = self.known.get(key)
+        if outcome is None:
+            if key not in self.wanted:
+                self.wanted.append(key)
+            return None
+        if outcome.kind == "value":
+            return Answer(False, outcome.value)
+        return Answer(True, f"{outcome.kind} {compact(key)} {compact(outcome.value)}")
+
+
+def joined(answers):
+    """The answer of a list of parts: none while one waits, the leftmost fault, or the list of their values."""
+    if None in answers:
+        return None
+    for answer in answers:
+        if answer.is_fault:
+            return answer
+    return Answer(False, [answer.value for answer in answers])
+
+
+def answers_of(loader, plan):
+    """The answers of a plan's evaluations, each by the number of its step, and how many rounds they took."""
+    answers, rounds = {}, 0
+    for number, step in enumerate(plan):
+        ((name, argument),) = step.items()
+        if name == "prime":
+            ((kind, value),) = argument[1].items()
+            loader.prime(tuple(argument[0]), Outcome("value" if kind == "value" else "key", value))
+        elif name == "clear":
+            loader.clear(tuple(argument))
+        elif name == "clearAll":
+            loader.clear_all()
+        else:
+            evaluation = Evaluation(loader, argument)
+            answers[number] = evaluation.answer()
+            rounds += evaluation.rounds
+    return answers, rounds
+
+
+def lines_of(number, answers):
+    """The lines of a plan's answers."""
+    return [
+        f"{number} {step} fault {answer.value}" if answer.is_fault else f"{number} {step} ok {compact(answer.value)}"
+        for step, answer in answers.items()
+    ]
+
+
+def batch_lines(loader, rounds):
+    """The lines of a plan's rounds and batches."""
+    return [
+        f"rounds {rounds}",
+        *(f"batch {number} {compact(batch.keys)} {batch.end}" for number, batch in enumerate(loader.batches)),
+    ]
