@@ -25,6 +25,19 @@ pub fn options<'a, S: AsStr>(alloc: Global, words: &'a [S]) -> Result<Options, E
     }
 }
 
+/// The refusal of words of which one is no UTF-8, with the usage in its text.
+pub(crate) fn unreadable(alloc: Global) -> Error {
+    match refusal(alloc, "invalid UTF-8 was detected in one or more arguments") {
+        Ok(error) | Err(error) => error,
+    }
+}
+
+/// A refusal of the command line that says this.
+fn refusal(alloc: Global, message: &str) -> Result<Error, Error> {
+    let mut command = command(alloc)?;
+    Ok(command.error(ErrorKind::InvalidValue, message)?)
+}
+
 /// The options that the words give by the command line, if the number of workers is in range.
 fn read<'a, S: AsStr>(command: &mut Command<'a>, words: &'a [S]) -> Result<Option<Options>, Error>
     requires { app_of command.old ≡ plans_app }

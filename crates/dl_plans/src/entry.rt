@@ -1,9 +1,11 @@
 //! The program `plans` over a runtime.
 
-use crate::command::options;
+use crate::command::{options, unreadable};
+use crate::fault::RunError;
 use crate::program::run;
 use crate::settings::Options;
 use crate::status::{FAILED, RAN, command_status, words_status};
+use clap::error::ErrorKind;
 use std::hash::RandomState;
 use std::process::ExitCode;
 use std::random::RandomSource;
@@ -21,7 +23,7 @@ pub fn plans<
     let status = match words(rt) {
         Ok(words) => obey(rt, threads, &words),
         Err(error) => {
-            let _ = eprintln!(rt; "error: {error}");
+            tell_unread(rt, &error);
             words_status(&error)
         }
     };
@@ -34,7 +36,23 @@ fn words<R: Env + AllocGlobal>(rt: &R) -> io::Result<Vec<String>> {
     Ok(words)
 }
 
-/// Obeys the command line. A request for help, and why it is refused, are printed by clap.
+/// Says why the words can't be read: an allocation failed, or one is no UTF-8.
+fn tell_unread<R: Print + Eprint + AllocGlobal>(rt: &R, error: &io::Error) {
+    let _ = match error.kind() {
+        io::ErrorKind::OutOfMemory => eprintln!(rt; "{}", RunError::OutOfMemory),
+        _ => unreadable(rt.alloc()).print(rt),
+    };
+}
+
+/// Says why words give no options: an allocation failed; or clap says that they are refused, or gives the help asked for.
+fn tell_no_options<R: Print + Eprint>(rt: &R, error: &clap::Error) {
+    let _ = match error.kind() {
+        ErrorKind::OutOfMemory => eprintln!(rt; "{}", RunError::OutOfMemory),
+        _ => error.print(rt),
+    };
+}
+
+/// Obeys the command line.
 fn obey<R: RandomSource + Input + Print + Eprint + AllocGlobal, T: Threads + Wait + Sync>(
     rt: &R,
     threads: &T,
@@ -43,7 +61,7 @@ fn obey<R: RandomSource + Input + Print + Eprint + AllocGlobal, T: Threads + Wai
     match options(rt.alloc(), words) {
         Ok(options) => answer(rt, threads, options),
         Err(error) => {
-            let _ = error.print(rt);
+            tell_no_options(rt, &error);
             command_status(&error)
         }
     }

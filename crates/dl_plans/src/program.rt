@@ -96,17 +96,20 @@ fn served<T: Threads + Wait + Sync>(
     ensures headline { IfOk result (Headline (file_service options file) file.plans.items) }
     ensures refused { IfErr result (RefusedAs (file_service options file) (setup_of options file) file.plans.items) }
 {
-    let PlanFile {
-        limits,
-        tables,
-        plans,
-    } = file;
-    let setup = Setup {
-        limits,
+    let setup = setup(&file, options);
+    let PlanFile { tables, plans, .. } = file;
+    serve(rt, alloc, hashing, &tables, setup, plans, &NoGate)
+}
+
+/// How a plan file is served: within its limits, by as many workers as the options say, over a queue of `QUEUE_PLACES`.
+fn setup(file: &PlanFile, options: Options) -> Setup
+    ensures { result ≡ setup_of options file.now }
+{
+    Setup {
+        limits: file.limits,
         workers: options.workers,
         queue: QUEUE_PLACES,
-    };
-    serve(rt, alloc, hashing, &tables, setup, plans, &NoGate)
+    }
 }
 
 /// The bytes that the reader has, up to one more than a document's. A read is repeated until it
