@@ -13,6 +13,8 @@ mod handing;
 #[cfg(test)]
 mod handovers;
 #[cfg(test)]
+mod older_tickets;
+#[cfg(test)]
 mod polls;
 #[cfg(test)]
 mod rows;
