@@ -28,7 +28,7 @@ no_such_end b n e rest none = by (nat_eq b n) refl none
     by true is f = absurd (let bad : ◌≡◌ {A = Option End} (Some e) None = f in cc)
     by false is f = (λ same. let bad : ◌≡◌ {A = Bool} true false = sym (eq-eqb b n (sym same)) ∙ is in cc, f)
 
-loads_end_none : (rules : Rules) (history : List Atom) (ks : List Key) (b : ℕ) → end_of (loaded rules history ks) b ≡ end_of history b
+pub loads_end_none : (rules : Rules) (history : List Atom) (ks : List Key) (b : ℕ) → end_of (loaded rules history ks) b ≡ end_of history b
 loads_end_none rules history [] b = refl
 loads_end_none rules history (k ∷ ks) b = loads_end_none rules (atom.Load k (load_reply rules history k) ∷ history) ks b
 

@@ -13,7 +13,7 @@ use Rattle.dl_scope.specs.Faults.{MayServe, RefusedAs}
 use Rattle.dl_haxl.specs.Follows.{Follows}
 use Rattle.dl_scope.specs.Headline.{Headline, HeadlineBut, TellsEnd}
 use Rattle.dl_workers.specs.GivenUp.{given_up}
-use Rattle.dl_scope.specs.Inside.Served.{AreServed}
+use Rattle.dl_scope.specs.Inside.Served.{AreServed, IsCounted}
 use Rattle.dl_scope.specs.Report.{Report, report}
 use Rattle.dl_scope.specs.declared.fault.ScopeFault.{ScopeFault}
 use Rattle.dl_scope.specs.declared.fault.ScopeFault.TheVariants.{Unfetched}
@@ -21,6 +21,7 @@ use Rattle.dl_scope.specs.declared.setup.Setup.{Setup}
 use Rattle.dl_terms.specs.declared.plan.Plan.{Plan}
 use Rattle.dl_haxl.specs.declared.step_answer.StepAnswer.{StepAnswer}
 use Rattle.dl_scope.proofs.EndedOnce.{end_once}
+use Rattle.dl_scope.proofs.Tallied.{sent_tallied, taken_tallied}
 use Rattle.dl_scope.proofs.Placed.{parts_of, part_account, entries_at, plan_at, served_long, served_numbered, worker_after}
 
 accounts_by_parts : (passes : List Pass) → accounts_of passes ≡ map part_account (parts_of passes)
@@ -29,10 +30,13 @@ accounts_by_parts (p ∷ passes) = ap (λ (given : List Account). account_of p.p
 
 module _ (service : Service) (plans : List Plan) (answers : List (List StepAnswer)) (rounds : List ℕ) (passes : List Pass) (h : Closed)
     (is : h.accounts ≡ accounts_of passes) (served : AreServed 0 plans answers rounds (parts_of passes)) where
+  accounts_are : h.accounts ≡ map part_account (parts_of passes)
+  accounts_are = is ∙ accounts_by_parts passes
+
   -- the entries of a caller are those of its pass
   entries_are : (n : ℕ) (p : Part) → slice_get (parts_of passes) n ≡ Some p → entries_of n h.accounts ≡ p.entries
   entries_are n p at =
-      ap (entries_of n) (is ∙ accounts_by_parts passes)
+      ap (entries_of n) accounts_are
       ∙ entries_at 0 n n (parts_of passes) p (served_numbered 0 plans answers rounds (parts_of passes) served) (omega arith) at
 
   plan_follows : (n : ℕ) (plan : Plan) (given : List StepAnswer) (r : ℕ) → slice_get plans n ≡ Some plan
@@ -53,7 +57,7 @@ module _ (service : Service) (plans : List Plan) (answers : List (List StepAnswe
       let found = worker_after 0 n plans answers rounds (parts_of passes) served beyond here in
       subst (λ ls. Every TellsEnd ls) (sym (entries_are n found.0 found.1)) found.2
 
-  headline_but : (tally : Tally) → IsClosed service h → tally.sent ≡ tally.taken + tally.left
+  headline_but : (tally : Tally) → IsClosed service h → IsCounted (length plans) (parts_of passes) tally
       → HeadlineBut (given_up h.events) service plans (report answers rounds h tally)
   headline_but tally closed counted =
       let each = served_long 0 plans answers rounds (parts_of passes) served in
@@ -69,11 +73,13 @@ module _ (service : Service) (plans : List Plan) (answers : List (List StepAnswe
         ended = closed.ended;
         once = end_once service h.events closed.legal;
         fetched = refl;
-        counted = counted;
+        sent = sent_tallied service h closed (parts_of passes) accounts_are (length plans) tally counted;
+        taken = taken_tallied service h closed (parts_of passes) accounts_are (length plans) tally counted;
+        counted = counted.sum;
       }
 
   -- the report, if there is one, has the headline
-  pub headline_of : (tally : Tally) (result : Result Report ScopeFault) → IsClosed service h → tally.sent ≡ tally.taken + tally.left
+  pub headline_of : (tally : Tally) (result : Result Report ScopeFault) → IsClosed service h → IsCounted (length plans) (parts_of passes) tally
       → IfOk result (λ made. made ≡ report answers rounds h tally) → OnOk result (given_up h.events ≡ []) → IfOk result (Headline service plans)
   headline_of tally (Err fault) closed counted made fetched = tt
   headline_of tally (Ok r) closed counted made fetched =
@@ -81,7 +87,7 @@ module _ (service : Service) (plans : List Plan) (answers : List (List StepAnswe
       (subst (λ batches. HeadlineBut batches service plans (report answers rounds h tally)) fetched (headline_but tally closed counted))
 
   -- the refusal, if there is one, names the least batch that was given up
-  pub unfetched_of : (setup : Setup) (tally : Tally) (result : Result Report ScopeFault) → IsClosed service h → tally.sent ≡ tally.taken + tally.left
+  pub unfetched_of : (setup : Setup) (tally : Tally) (result : Result Report ScopeFault) → IsClosed service h → IsCounted (length plans) (parts_of passes) tally
       → MayServe setup (length plans) → IfErr result (λ fault. (batch : ℕ) × (fault ≡ Unfetched batch) × IsLeastOf (Some batch) (given_up h.events))
       → IfErr result (RefusedAs service setup plans)
   unfetched_of setup tally (Ok r) closed counted may fault = tt

@@ -1,10 +1,16 @@
+mod CallTotals
+mod CallersCalls
+mod Carried
+mod Counted
 mod Crossing
 mod Dealt
+mod EndCounts
 mod EndedOnce
 mod Gave
 mod Headlines
 mod Joined
 mod LoadedCells
+mod MetFaults
 mod OwnAnswers
 mod OwnOutcomes
 mod OwnReads
@@ -12,5 +18,7 @@ mod OwnSettles
 mod Placed
 mod Refusing
 mod SeatsBack
+mod SentCounts
+mod Tallied
 mod Unprimed
 mod Worked

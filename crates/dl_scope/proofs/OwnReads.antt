@@ -81,7 +81,7 @@ module _ (own : Key → Outcome) (events : List Event) (reads : OwnReads own eve
   Answered number steps given = (i : ℕ) × (term : Term) × (given.step ≡ number + i) × (slice_get steps i ≡ Some (Eval term))
       × IsOwn own (term_view term) given.answer
 
-  no_answer : (number : ℕ) (steps : List Step) (s : Stretch) (lines : List Line) (given : StepAnswer) → s ≡ stretch lines [] 0 → Among given s.answers
+  no_answer : (number : ℕ) (steps : List Step) (s : Stretch) (lines : List Line) (given : StepAnswer) → s ≡ stretch lines [] 0 [] → Among given s.answers
       → Answered number steps given
   no_answer number steps s lines given is among =
       let none : s.answers ≡ [] = ap (λ (x : Stretch). x.answers) is in
@@ -100,9 +100,9 @@ module _ (own : Key → Outcome) (events : List Event) (reads : OwnReads own eve
       no_answer number (Clear key ∷ steps) s (line caller at (call.Clear key) reply ∷ []) given is among
   step_own caller number ClearAll steps s told (at, reply, is) given among =
       no_answer number (ClearAll ∷ steps) s (line caller at call.ClearAll reply ∷ []) given is among
-  step_own caller number (Eval term) steps s told (a, sent, answers, (known, rounds, ended, gives)) given among =
+  step_own caller number (Eval term) steps s told (a, answers, (known, rounds, ended, gives)) given among =
       let here : given ≡ step_answer number a = one_answer given (step_answer number a) (subst (Among given) answers among) in
-      let pairs = rounds_own (HandedOver caller) caller (term_view term) s.rounds s.lines known sent told rounds in
+      let pairs = rounds_own (HandedOver caller) caller (term_view term) s.rounds s.lines known s.sent told rounds in
       let step : given.step ≡ number = ap (λ (x : StepAnswer). x.step) here in
       let answer : a ≡ given.answer = sym (ap (λ (x : StepAnswer). x.answer) here) in
       (0, term, omega (arith, step), refl, subst (IsOwn own (term_view term)) answer (known, pairs, gives))

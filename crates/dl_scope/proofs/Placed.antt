@@ -11,9 +11,10 @@ use Rattle.dl_history.specs.Lists.{Every}
 use Rattle.dl_history.specs.Service.{Service}
 use Rattle.dl_loader.specs.Added.{Adds}
 use Rattle.dl_loader.specs.Pass.{Part, part, Pass, fresh}
-use Rattle.dl_workers.specs.Seats.{taken_jobs}
+use Rattle.dl_workers.specs.Seats.{sent_jobs, taken_jobs}
 use Rattle.dl_workers.specs.declared.queue.JobQueue.{JobQueue}
-use Rattle.dl_haxl.specs.Follows.{Follows}
+use Rattle.dl_haxl.specs.Follows.{Follows, FollowsAndSends}
+use Rattle.dl_haxl.specs.Rounds.{AddsAndSends}
 use Rattle.dl_scope.specs.Headline.{TellsEnd}
 use Rattle.dl_scope.specs.Inside.Gathered.{AllGave, Gave}
 use Rattle.dl_scope.specs.Inside.Kept.{PlanKept, WorkerKept}
@@ -33,31 +34,36 @@ abbrev pub parts_of : List Pass → List Part
 parts_of passes = map (λ p. p.part) passes
 
 -- the first of fresh parts, and the others
-fresh_first : (n k : ℕ) (p : Part) (ps : List Part) → p ∷ ps ≡ fresh n k → (m : ℕ) × (p ≡ part n [] []) × (ps ≡ fresh (suc n) m)
+pub fresh_first : (n k : ℕ) (p : Part) (ps : List Part) → p ∷ ps ≡ fresh n k → (m : ℕ) × (p ≡ part n [] []) × (ps ≡ fresh (suc n) m)
 fresh_first n zero p ps is = absurd (omega (arith, ap length is))
 fresh_first n (suc m) p ps is = (m, cc, (let rest : ps ≡ fresh (n + 1) m = cc in subst (λ i. ps ≡ fresh i m) (add-one n) rest))
 
 -- ---- what is added to a fresh part
 
-added_to_fresh : (n : ℕ) (old new : Part) (P : List Line → Type 0) → old ≡ part n [] [] → Adds old new P → (new.caller ≡ n) × P new.entries
+pub added_to_fresh : (n : ℕ) (old new : Part) (P : List Line → Type 0) → old ≡ part n [] [] → Adds old new P → (new.caller ≡ n) × P new.entries
 added_to_fresh n old new P is (caller, lines, entries, holds) =
     let none : old.entries ≡ [] = ap (λ (p : Part). p.entries) is in
     let all : new.entries ≡ lines = entries ∙ ap (λ ls. ls ++ lines) none in
     (caller ∙ ap (λ (p : Part). p.caller) is, subst P (sym all) holds)
 
 module _ {L : Type 0} (queue : JobQueue) (service : Service) where
-  one_plan : (n : ℕ) (job : PlanJob L) (run : PlanRun L) (a : List StepAnswer) (r : ℕ) → job.pass.part ≡ part n [] [] → PlanKept queue job run
+  one_plan : (n : ℕ) (job : PlanJob L) (run : PlanRun L) (a : List StepAnswer) (r : ℕ) → job.pass.part ≡ part n [] [] → PlanKept queue service job run
       → Gave run a r → (run.pass.part.caller ≡ n) × Follows n job.plan.steps.items run.pass.part.entries a r
   one_plan n job run a r is kept (given, gave, answers, rounds) =
-      let own : Adds job.pass.part run.pass.part (λ lines. Follows job.pass.part.caller job.plan.steps.items lines given.answers.items given.rounds) =
-      subst (λ (g : Result StepAnswers RunFault). IfOk g (λ given. Adds job.pass.part run.pass.part
-      (λ lines. Follows job.pass.part.caller job.plan.steps.items lines given.answers.items given.rounds))) gave kept.1 in
+      let own : AddsAndSends job.pass.part run.pass.part (sent_jobs job.sender) (sent_jobs run.sender)
+      (λ lines sent. FollowsAndSends job.pass.part.caller job.plan.steps.items lines given.answers.items given.rounds sent) =
+      subst (λ (g : Result StepAnswers RunFault). IfOk g (λ given. AddsAndSends job.pass.part run.pass.part (sent_jobs job.sender) (sent_jobs run.sender)
+      (λ lines sent. FollowsAndSends job.pass.part.caller job.plan.steps.items lines given.answers.items given.rounds sent))) gave kept.1 in
       let all = added_to_fresh n job.pass.part run.pass.part
-      (λ lines. Follows job.pass.part.caller job.plan.steps.items lines given.answers.items given.rounds) is own in
-      let named = subst (λ c. Follows c job.plan.steps.items run.pass.part.entries given.answers.items given.rounds) (ap (λ (p : Part). p.caller) is) all.1 in (
+      (λ lines. FollowsAndSends job.pass.part.caller job.plan.steps.items lines given.answers.items given.rounds own.0) is own.2 in
+      let named = subst (λ c. FollowsAndSends c job.plan.steps.items run.pass.part.entries given.answers.items given.rounds own.0)
+      (ap (λ (p : Part). p.caller) is) all.1 in (
         all.0,
-        subst (λ m. Follows n job.plan.steps.items run.pass.part.entries a m) rounds
-            (subst (λ xs. Follows n job.plan.steps.items run.pass.part.entries xs given.rounds) answers named),
+        (
+          own.0,
+          subst (λ m. FollowsAndSends n job.plan.steps.items run.pass.part.entries a m own.0) rounds
+              (subst (λ xs. FollowsAndSends n job.plan.steps.items run.pass.part.entries xs given.rounds own.0) answers named),
+        ),
       )
 
   one_worker : (n : ℕ) (job : WorkerJob L) (run : WorkerRun L) → job.pass.part ≡ part n [] [] → WorkerKept queue service job run
@@ -80,7 +86,7 @@ module _ {L : Type 0} (queue : JobQueue) (service : Service) where
   -- plans and workers that were given fresh passes
   pub all_served : (n k : ℕ) (jobs : List (PlanJob L)) (runs : List (PlanRun L)) (answers : List (List StepAnswer)) (rounds : List ℕ)
       (worker_jobs : List (WorkerJob L)) (worker_runs : List (WorkerRun L))
-      → AllZip (PlanKept queue) jobs runs → AllGave runs answers rounds → AllZip (WorkerKept queue service) worker_jobs worker_runs
+      → AllZip (PlanKept queue service) jobs runs → AllGave runs answers rounds → AllZip (WorkerKept queue service) worker_jobs worker_runs
       → parts_of (map (λ job. job.pass) jobs ++ map (λ job. job.pass) worker_jobs) ≡ fresh n k
       → AreServed n (map (λ job. job.plan) jobs) answers rounds (parts_of (map (λ run. run.pass) runs ++ map (λ run. run.pass) worker_runs))
   all_served n k [] [] [] [] worker_jobs worker_runs kept gave worked is = workers_served n k worker_jobs worker_runs worked is

@@ -6,11 +6,11 @@ use Rattle.std.proofs.lemmas.List.{length-map}
 use Rattle.std.proofs.lemmas.List.Elements.{All-from_recursion, recursion_from_All, All-append, All-cons, All-nil, All-same}
 use Rattle.std.proofs.lemmas.Slice.Zip.{AllZip-long}
 use Rattle.dl_history.specs.Service.{Service}
-use Rattle.dl_workers.specs.Seats.{AreSeatsOf, IsSenderOf, IsTakerOf}
+use Rattle.dl_workers.specs.Seats.{AreSeatsOf, IsSenderOf, IsTakerOf, sent_jobs, taken_jobs}
 use Rattle.dl_workers.specs.declared.queue.JobQueue.{JobQueue}
 use Rattle.dl_workers.specs.declared.seats.Sender.{Sender}
 use Rattle.dl_workers.specs.declared.seats.Taker.{Taker}
-use Rattle.dl_scope.specs.Inside.Kept.{PlanKept, WorkerKept}
+use Rattle.dl_scope.specs.Inside.Kept.{OwnKept, PlanKept, WorkerKept}
 use Rattle.dl_scope.specs.declared.jobs.PlanJob.{PlanJob}
 use Rattle.dl_scope.specs.declared.jobs.PlanRun.{PlanRun}
 use Rattle.dl_scope.specs.declared.jobs.WorkerJob.{WorkerJob}
@@ -45,7 +45,7 @@ pub all_last : {X : Type 0} (P : X → Type 0) (xs all : List X) (y : X) → all
 all_last P xs all y is each = last_by P xs y (recursion_from_All P (xs ++ y ∷ []) (All-same P (xs ++ y ∷ []) all (sym is) each))
 
 module _ {L : Type 0} (queue : JobQueue) (service : Service) where
-  senders_by : (jobs : List (PlanJob L)) (runs : List (PlanRun L)) → AllZip (PlanKept queue) jobs runs
+  senders_by : (jobs : List (PlanJob L)) (runs : List (PlanRun L)) → AllZip (PlanKept queue service) jobs runs
       → AllByRecursion (IsSenderOf queue) (map (λ (run : PlanRun L). run.sender) runs)
   senders_by [] [] kept = tt
   senders_by [] (run ∷ runs) kept = absurd kept
@@ -62,14 +62,14 @@ module _ {L : Type 0} (queue : JobQueue) (service : Service) where
   -- all seats are given back
   pub seats_back : (jobs : List (PlanJob L)) (runs : List (PlanRun L)) (worker_jobs : List (WorkerJob L)) (worker_runs : List (WorkerRun L))
       (own : Sender) (senders : List Sender) (takers : List Taker)
-      → AllZip (PlanKept queue) jobs runs → AllZip (WorkerKept queue service) worker_jobs worker_runs → IsSenderOf queue own
+      → AllZip (PlanKept queue service) jobs runs → AllZip (WorkerKept queue service) worker_jobs worker_runs → IsSenderOf queue own
       → length jobs + 1 ≡ queue.senders → length worker_jobs ≡ queue.takers
       → senders ≡ map (λ (run : PlanRun L). run.sender) runs ++ own ∷ [] → takers ≡ map (λ (run : WorkerRun L). run.taker) worker_runs
       → AreSeatsOf queue senders takers
   seats_back jobs runs worker_jobs worker_runs own senders takers kept worked is_own count count2 are are2 =
       let sent = map (λ (run : PlanRun L). run.sender) runs in
       let took = map (λ (run : WorkerRun L). run.taker) worker_runs in
-      let long = AllZip-long (PlanKept queue) jobs runs kept in
+      let long = AllZip-long (PlanKept queue service) jobs runs kept in
       let long2 = AllZip-long (WorkerKept queue service) worker_jobs worker_runs worked in
       let mapped = length-map runs (λ (run : PlanRun L). run.sender) in
       let mapped2 = length-map worker_runs (λ (run : WorkerRun L). run.taker) in
@@ -94,24 +94,28 @@ pub split_at : {X : Type 0} (xs : List X) (n : ℕ) (front back : List X) → fr
 split_at xs n front back is is2 = ap (λ ys. ys ++ back) is ∙ (ap (λ ys. take n xs ++ ys) is2 ∙ taken_apart xs n)
 
 module _ {L : Type 0} (queue : JobQueue) (service : Service) (passes : List Pass) (plans : List Plan) (jobs : List (PlanJob L))
-    (workers : List (WorkerJob L)) where
+    (workers : List (WorkerJob L)) (own : Sender) where
   -- what the threads gave back, if they were started
   pub ran_all : (result : Result (Runs L) AllocError)
       → map (λ (job : PlanJob L). job.pass) jobs ++ map (λ (job : WorkerJob L). job.pass) workers ≡ passes
       → map (λ (job : PlanJob L). job.plan) jobs ≡ plans → length jobs + 1 ≡ queue.senders → length workers ≡ queue.takers
-      → IfOk result (λ runs. AllZip (PlanKept queue) jobs runs.plans.items)
+      → All (λ job. sent_jobs job.sender ≡ []) jobs → All (λ job. taken_jobs job.taker ≡ []) workers → sent_jobs own ≡ []
+      → IfOk result (λ runs. AllZip (PlanKept queue service) jobs runs.plans.items)
       → IfOk result (λ runs. AllZip (WorkerKept queue service) workers runs.workers.items)
-      → IfOk result (λ runs. IsSenderOf queue runs.own)
+      → IfOk result (λ runs. OwnKept queue own runs.own)
       → IfOk result (Ran queue service passes plans)
-  ran_all (Err e) passes_are plans_are senders takers kept worked own = tt
-  ran_all (Ok runs) passes_are plans_are senders takers kept worked own = record {
+  ran_all (Err e) passes_are plans_are senders takers none_sent none_taken unused kept worked own_kept = tt
+  ran_all (Ok runs) passes_are plans_are senders takers none_sent none_taken unused kept worked own_kept = record {
     plan_jobs = jobs;
     worker_jobs = workers;
     passes_are = passes_are;
     plans_are = plans_are;
+    none_sent = none_sent;
+    none_taken = none_taken;
     planned = kept;
     worked = worked;
-    own_is = own;
+    own_is = own_kept.0;
+    own_unused = own_kept.1 ∙ unused;
     all_senders = senders;
     all_takers = takers;
   }

@@ -1,5 +1,5 @@
 -- The headline: what a report is evidence of, whatever the schedule was.
-use Rattle.std.specs.Prelude.{◌≡◌, ℕ, ◌+◌, ◌<◌, ◌≤◌, List, [], length, Some, slice_get}
+use Rattle.std.specs.Prelude.{◌≡◌, ℕ, ◌+◌, ◌<◌, ◌≤◌, List, [], length, count_by, nat_le, Some, slice_get}
 use Rattle.dl_values.specs.Limits.{mixed}
 use Rattle.dl_values.specs.Key.{Key}
 use Rattle.dl_values.specs.declared.outcome.BatchAnswer.{BatchAnswer}
@@ -14,6 +14,7 @@ use Rattle.dl_history.specs.declared.event.Event.{Event}
 use Rattle.dl_haxl.specs.Follows.{Follows}
 use Rattle.dl_scope.specs.Report.{Report}
 use Rattle.dl_workers.specs.GivenUp.{given_up}
+use Rattle.dl_workers.specs.Sent.{dispatched, unsent}
 use Rattle.dl_terms.specs.declared.plan.Plan.{Plan}
 use Rattle.dl_scope.specs.declared.setup.Setup.{Setup}
 use Rattle.dl_haxl.specs.declared.step_answer.StepAnswer.{StepAnswer}
@@ -42,6 +43,10 @@ TellsEnd (Saw r) = ⊥
 abbrev pub EndOnce : List Event → Type 0
 EndOnce events = (b j k : ℕ) (e f : Event) → slice_get events j ≡ Some e → slice_get events k ≡ Some f → Ends b e.call → Ends b f.call → j ≡ k
 
+-- how many of the events are calls of the callers from a number on
+abbrev pub calls_after : ℕ → List Event → ℕ
+calls_after n events = count_by (λ e. nat_le n e.caller) events
+
 -- Whatever the schedule, workers and batch limit, a report holds one history in which every load, loadMany, prime and clear
 -- has the reply of a DataLoader of one thread at its point, each caller's calls stand once in its order, every outcome that was
 -- read is the one that the history gives its load, and every batch is answered once by the source, but for these, which were
@@ -66,7 +71,10 @@ pub record HeadlineBut (batches : List ℕ) (service : Service) (plans : List Pl
   pub ended : AllEnded r.history.events
   pub once : EndOnce r.history.events
   pub fetched : given_up r.history.events ≡ batches
-  -- of the jobs that were sent, each was taken or left
+  -- the jobs that were sent are those that dispatches handed out, but for those whose batches failed as unsent
+  pub sent : r.tally.sent + length (unsent r.history.events) ≡ length (dispatched r.history.events)
+  -- the jobs that were taken are those whose batches the workers ended, and the others were left
+  pub taken : r.tally.taken ≡ calls_after (length plans) r.history.events
   pub counted : r.tally.sent ≡ r.tally.taken + r.tally.left
 
 abbrev pub Headline : Service → List Plan → Report → Type 0

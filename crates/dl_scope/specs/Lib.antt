@@ -1,3 +1,4 @@
+pub mod Carried
 pub mod Faults
 pub mod Headline
 pub mod Inside

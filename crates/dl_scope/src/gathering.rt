@@ -1,8 +1,9 @@
 //! How what the threads give back is put together.
 
-ghost use Rattle.std.specs.Prelude.{[], ◌≡◌, ◌≤◌, ◌++◌, All, IfErr, IfOk, OnOk, length, map};
+ghost use Rattle.std.specs.Prelude.{[], ◌≡◌, ◌≤◌, ◌++◌, All, Err, IfErr, IfOk, MatchBool, MatchOption, OnOk, length, map};
 ghost use Rattle.dl_terms.specs.Plans.{most_plans};
-ghost use Rattle.dl_scope.specs.Inside.Gathered.{AllGave, AreGathered, IsRunFault, WasTaken};
+ghost use Rattle.dl_scope.specs.Faults.{AnyGaveUp, AnyMet, IsLeastFault, IsStop};
+ghost use Rattle.dl_scope.specs.Inside.Gathered.{AllGave, AreGathered, IsDone, IsFaultOf, MetNoOwn, WasTaken, fault_of};
 
 use crate::fault::ScopeFault;
 use crate::jobs::{PlanRun, WorkerRun};
@@ -33,27 +34,59 @@ pub(crate) fn check<L: LoaderName>(
 ) -> Result<(), ScopeFault>
     requires few { length plans.now ≤ most_plans }
     ensures taken { OnOk result (All WasTaken plans.now) }
-    ensures fault { IfErr result (IsRunFault (length plans.now)) }
+    ensures done { OnOk result (All IsDone workers.now) }
+    ensures fault { IfErr result (IsFaultOf (map fault_of plans.now) (map (λ run. run.end) workers.now)) }
 {
-    let mut stopped = false;
-    for (plan, run) in plans.iter().enumerate() {
-        match run.given {
-            Ok(_) => {}
-            Err(RunFault::Stopped | RunFault::Call(CallFault::Stopped)) => stopped = true,
-            Err(fault) => {
-                let plan = plan as u32;
-                return Err(ScopeFault::Run { plan, fault });
-            }
-        }
+    if let Some((plan, fault)) = least_fault(plans) {
+        return Err(ScopeFault::Run { plan, fault });
     }
-    if stopped || any_gave_up(workers) {
+    if any_met(plans) || any_gave_up(workers) {
         return Err(ScopeFault::Stopped);
     }
     Ok(())
 }
 
+/// The first plan that met a fault, other than that the loader was stopped, with its fault.
+fn least_fault<L: LoaderName>(plans: &[PlanRun<L>]) -> Option<(u32, RunFault)>
+    requires few { length plans.now ≤ most_plans }
+    ensures { MatchOption result (All MetNoOwn plans.now) (λ named. IsLeastFault (map fault_of plans.now) named.0 named.1) }
+{
+    for (plan, run) in plans.iter().enumerate() {
+        if let Some(fault) = own_fault(run) {
+            return Some((plan as u32, fault));
+        }
+    }
+    None
+}
+
+/// The fault that a plan met, other than that the loader was stopped.
+fn own_fault<L: LoaderName>(run: &PlanRun<L>) -> Option<RunFault>
+    ensures { MatchOption result (MetNoOwn run.now) (λ fault. (run.now.given ≡ Err fault) × (IsStop fault → ⊥)) }
+{
+    match run.given {
+        Ok(_) => None,
+        Err(RunFault::Stopped | RunFault::Call(CallFault::Stopped)) => None,
+        Err(fault) => Some(fault),
+    }
+}
+
+/// Whether a plan met a fault.
+fn any_met<L: LoaderName>(plans: &[PlanRun<L>]) -> bool
+    ensures { MatchBool result (AnyMet (map fault_of plans.now)) (All WasTaken plans.now) }
+{
+    for run in plans {
+        match run.given {
+            Ok(_) => {}
+            Err(_) => return true,
+        }
+    }
+    false
+}
+
 /// Whether a worker gave up.
-fn any_gave_up<L: LoaderName>(workers: &[WorkerRun<L>]) -> bool {
+fn any_gave_up<L: LoaderName>(workers: &[WorkerRun<L>]) -> bool
+    ensures { MatchBool result (AnyGaveUp (map (λ run. run.end) workers.now)) (All IsDone workers.now) }
+{
     for run in workers {
         if let WorkerEnd::GaveUp { .. } = run.end {
             return true;

@@ -1,6 +1,17 @@
 //! Laws of what reports have, for every report. Each function does nothing: its contract is the law.
 
+ghost use Rattle.dl_scope.specs.Carried.{EachIsCarried, JobsAreBatches};
 ghost use Rattle.dl_scope.specs.OwnAnswers.{AnswersAreOwn, OwnAnswersAreOne};
+
+/// The dispatches of a report's history handed out one job for each batch, also where batches were given up.
+pub fn jobs_are_batches()
+    ensures { JobsAreBatches }
+{}
+
+/// In a report the job of each batch was sent and taken, and none is left.
+pub fn each_is_carried()
+    ensures { EachIsCarried }
+{}
 
 /// Where no batch failed and no plan primes a key, each answer over tables is what its term gives by the tables alone.
 pub fn answers_are_own()

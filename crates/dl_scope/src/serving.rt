@@ -1,18 +1,18 @@
 //! Serving plans.
 
-ghost use Rattle.std.specs.Prelude.{◌≡◌, ◌+◌, [], ℕ, IfErr, IfOk, OnOk, Some, length, map};
+ghost use Rattle.std.specs.Prelude.{◌≡◌, ◌+◌, [], ℕ, All, IfErr, IfOk, OnOk, Some, length, map};
 ghost use Rattle.dl_history.specs.Service.{Answers};
 ghost use Rattle.dl_loader.specs.Closing.{IsLeastOf};
 ghost use Rattle.dl_loader.specs.Opening.{Names};
 ghost use Rattle.dl_loader.specs.Pass.{fresh};
 ghost use Rattle.dl_workers.specs.GivenUp.{given_up};
-ghost use Rattle.dl_workers.specs.Seats.{AreSeatsOf};
+ghost use Rattle.dl_workers.specs.Seats.{AreSeatsOf, sent_jobs, taken_jobs};
 ghost use Rattle.dl_terms.specs.Plans.{ArePlans};
 ghost use Rattle.dl_scope.specs.Faults.{AreWorkers, MayServe, RefusedAs};
 ghost use Rattle.dl_scope.specs.Headline.{Headline, service_of};
 ghost use Rattle.dl_scope.specs.Report.{report};
 ghost use Rattle.dl_scope.specs.declared.fault.ScopeFault.TheVariants.{Unfetched};
-ghost use Rattle.dl_scope.specs.Inside.Served.{AreServed, Ran};
+ghost use Rattle.dl_scope.specs.Inside.Served.{AreServed, IsCounted, Ran};
 
 use crate::dealing::{plan_jobs, worker_jobs};
 use crate::fault::ScopeFault;
@@ -164,7 +164,7 @@ fn serve_by<
     requires callers { L.service.callers ≡ length plans.items + setup.workers }
     requires passes { map (λ p. p.part) passes.items ≡ fresh 0 L.service.callers }
     ensures served { IfOk result (λ s. AreServed 0 plans.items (map (λ a. a.items) s.answers.items) s.rounds.items (map (λ p. p.part) s.passes.items)) }
-    ensures counted { IfOk result (λ s. s.tally.sent ≡ s.tally.taken + s.tally.left) }
+    ensures counted { IfOk result (λ s. IsCounted (length plans.items) (map (λ p. p.part) s.passes.items) s.tally) }
     ensures accepted { OnOk result (MayServe setup (length plans.items)) }
     ensures refused { IfErr result (RefusedAs L.service setup plans.items) }
 {
@@ -180,8 +180,9 @@ fn serve_by<
         queue: &queue,
     };
     let runs = run_jobs(rt, &stage, source, gate, passes, senders, takers, plans)?;
-    if let Err(fault) = check(runs.plans.as_slice(), runs.workers.as_slice()) {
-        return Err(fault);
+    match check(runs.plans.as_slice(), runs.workers.as_slice()) {
+        Ok(()) => {}
+        Err(fault) => return Err(fault),
     }
     let Gathered {
         passes,
@@ -219,6 +220,8 @@ fn run_jobs<
     requires source { Answers (S.answer source.now) L.service }
     requires seats { AreSeatsOf stage.now.queue.now senders.items takers.items }
     requires senders { length senders.items ≡ length plans.items + 1 }
+    requires none_sent { All (λ s. sent_jobs s ≡ []) senders.items }
+    requires none_taken { All (λ t. taken_jobs t ≡ []) takers.items }
     requires passes { length passes.items ≡ length plans.items + length takers.items }
     ensures ran { IfOk result (Ran stage.now.queue.now L.service passes.items plans.items) }
 {

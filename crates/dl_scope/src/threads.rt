@@ -4,7 +4,7 @@ ghost use Rattle.std.specs.Prelude.{◌≡◌, ◌++◌, ◌∷◌, [], All, IfO
 ghost use Rattle.std.specs.List.{AllZip};
 ghost use Rattle.dl_history.specs.Service.{Answers};
 ghost use Rattle.dl_workers.specs.Seats.{IsSenderOf, IsTakerOf};
-ghost use Rattle.dl_scope.specs.Inside.Kept.{PlanKept, WorkerKept};
+ghost use Rattle.dl_scope.specs.Inside.Kept.{OwnKept, PlanKept, WorkerKept};
 
 use crate::jobs::{PlanJob, PlanPromise, PlanRun, WorkerJob, WorkerPromise, WorkerRun};
 use crate::stage::Stage;
@@ -49,8 +49,8 @@ pub(crate) fn run_all<
     requires plans { All (λ job. IsSenderOf stage.now.queue.now job.sender) plans.items }
     requires own { IsSenderOf stage.now.queue.now own }
     ensures workers { IfOk result (λ runs. AllZip (WorkerKept stage.now.queue.now L.service) workers.items runs.workers.items) }
-    ensures plans { IfOk result (λ runs. AllZip (PlanKept stage.now.queue.now) plans.items runs.plans.items) }
-    ensures own { IfOk result (λ runs. IsSenderOf stage.now.queue.now runs.own) }
+    ensures plans { IfOk result (λ runs. AllZip (PlanKept stage.now.queue.now L.service) plans.items runs.plans.items) }
+    ensures own { IfOk result (λ runs. OwnKept stage.now.queue.now own runs.own) }
 {
     thread::scope(
         thread::scope_env(),
@@ -60,8 +60,8 @@ pub(crate) fn run_all<
                 × All (λ job. IsTakerOf stage.now.queue.now job.taker) workers.items
                 × All (λ job. IsSenderOf stage.now.queue.now job.sender) plans.items × IsSenderOf stage.now.queue.now own }
             ensures workers { IfOk result (λ runs. AllZip (WorkerKept stage.entry.now.queue.now L.service) workers.items runs.workers.items) }
-            ensures plans { IfOk result (λ runs. AllZip (PlanKept stage.entry.now.queue.now) plans.items runs.plans.items) }
-            ensures own { IfOk result (λ runs. IsSenderOf stage.entry.now.queue.now runs.own) }
+            ensures plans { IfOk result (λ runs. AllZip (PlanKept stage.entry.now.queue.now L.service) plans.items runs.plans.items) }
+            ensures own { IfOk result (λ runs. OwnKept stage.entry.now.queue.now own runs.own) }
         { run_workers(scope, rt, stage, source, gate, workers, plans, own) },
     )
 }
@@ -89,8 +89,8 @@ fn run_workers<
     requires plans { All (λ job. IsSenderOf stage.now.queue.now job.sender) plans.items }
     requires own { IsSenderOf stage.now.queue.now own }
     ensures workers { IfOk result (λ runs. AllZip (WorkerKept stage.now.queue.now L.service) workers.items runs.workers.items) }
-    ensures plans { IfOk result (λ runs. AllZip (PlanKept stage.now.queue.now) plans.items runs.plans.items) }
-    ensures own { IfOk result (λ runs. IsSenderOf stage.now.queue.now runs.own) }
+    ensures plans { IfOk result (λ runs. AllZip (PlanKept stage.now.queue.now L.service) plans.items runs.plans.items) }
+    ensures own { IfOk result (λ runs. OwnKept stage.now.queue.now own runs.own) }
 {
     let Some(job) = workers.pop() else {
         return run_plans_alone(scope, rt, stage, plans, own);
@@ -171,8 +171,8 @@ fn run_plans_alone<'s, E, L: LoaderName + Send + Sync + 's, R: Threads + Wait + 
     requires plans { All (λ job. IsSenderOf stage.now.queue.now job.sender) plans.items }
     requires own { IsSenderOf stage.now.queue.now own }
     ensures workers { IfOk result (λ runs. runs.workers.items ≡ []) }
-    ensures plans { IfOk result (λ runs. AllZip (PlanKept stage.now.queue.now) plans.items runs.plans.items) }
-    ensures own { IfOk result (λ runs. IsSenderOf stage.now.queue.now runs.own) }
+    ensures plans { IfOk result (λ runs. AllZip (PlanKept stage.now.queue.now L.service) plans.items runs.plans.items) }
+    ensures own { IfOk result (λ runs. OwnKept stage.now.queue.now own runs.own) }
 {
     let plans = run_plans(scope, rt, stage, plans);
     stage.queue.shut(rt, &mut own);
@@ -191,7 +191,7 @@ fn run_plans<'s, E, L: LoaderName + Send + Sync + 's, R: Threads + Wait + Sync +
     mut plans: Vec<PlanJob<L>>,
 ) -> Result<Vec<PlanRun<L>>, AllocError>
     requires plans { All (λ job. IsSenderOf stage.now.queue.now job.sender) plans.items }
-    ensures plans { IfOk result (λ runs. AllZip (PlanKept stage.now.queue.now) plans.items runs.items) }
+    ensures plans { IfOk result (λ runs. AllZip (PlanKept stage.now.queue.now L.service) plans.items runs.items) }
 {
     let Some(job) = plans.pop() else {
         return Ok(Vec::new(stage.alloc));
@@ -223,7 +223,7 @@ fn start_plan<'s, E, L: LoaderName + Send + Sync + 's, R: Wait + Sync + 's>(
             promise,
             move || -> PlanRun<L>
                 requires { IsSenderOf stage.now.queue.now job.sender }
-                ensures { PlanKept stage.entry.now.queue.now job result }
+                ensures { PlanKept stage.entry.now.queue.now L.service job result }
             { job.run(rt, stage) },
         )
         .ok()

@@ -1,11 +1,13 @@
 -- What serving plans leaves before the loader is closed.
-use Rattle.std.specs.Prelude.{◌≡◌, ℕ, suc, ◌+◌, List, [], ◌∷◌, ◌++◌, length, map}
+use Rattle.std.specs.Prelude.{◌≡◌, ℕ, suc, ◌+◌, List, [], ◌∷◌, ◌++◌, length, map, All, nat_le, if◌then◌else◌}
 use Rattle.std.specs.List.{AllZip}
-use Rattle.dl_history.specs.Lists.{Every}
+use Rattle.dl_history.specs.Lists.{Every, total}
 use Rattle.dl_history.specs.Service.{Service}
 use Rattle.dl_loader.specs.Pass.{Part, Pass}
-use Rattle.dl_workers.specs.Seats.{IsSenderOf}
+use Rattle.dl_workers.specs.Seats.{IsSenderOf, sent_jobs, taken_jobs}
+use Rattle.dl_workers.specs.Sent.{dispatched, events_told, unsent}
 use Rattle.dl_workers.specs.declared.queue.JobQueue.{JobQueue}
+use Rattle.dl_workers.specs.declared.queue.Tally.{Tally}
 use Rattle.dl_haxl.specs.Follows.{Follows}
 use Rattle.dl_scope.specs.Headline.{TellsEnd}
 use Rattle.dl_scope.specs.Inside.Kept.{PlanKept, WorkerKept}
@@ -34,6 +36,15 @@ AreServed n (plan ∷ plans) [] rounds parts = ⊥
 AreServed n [] (a ∷ answers) rounds parts = ⊥
 AreServed n [] [] (r ∷ rounds) parts = ⊥
 
+-- ---- by their passes and their queue
+
+-- The tally counts by what the passes tell: of the jobs that dispatches handed out, those were sent whose batches didn't
+-- fail as unsent; those were taken whose batches the callers after so many plans ended; and each was taken or left.
+pub record IsCounted (plans : ℕ) (parts : List Part) (tally : Tally) : Type 0 where
+  pub sent : tally.sent + total (λ p. length (unsent (events_told p.entries))) parts ≡ total (λ p. length (dispatched (events_told p.entries))) parts
+  pub taken : tally.taken ≡ total (λ p. if nat_le plans p.caller then length (events_told p.entries) else 0) parts
+  pub sum : tally.sent ≡ tally.taken + tally.left
+
 -- ---- by their threads
 
 module _ {L : Type 0} where
@@ -43,8 +54,11 @@ module _ {L : Type 0} where
     pub worker_jobs : List (WorkerJob L)
     pub passes_are : map (λ job. job.pass) plan_jobs ++ map (λ job. job.pass) worker_jobs ≡ passes
     pub plans_are : map (λ job. job.plan) plan_jobs ≡ plans
-    pub planned : AllZip (PlanKept queue) plan_jobs runs.plans.items
+    pub none_sent : All (λ job. sent_jobs job.sender ≡ []) plan_jobs
+    pub none_taken : All (λ job. taken_jobs job.taker ≡ []) worker_jobs
+    pub planned : AllZip (PlanKept queue service) plan_jobs runs.plans.items
     pub worked : AllZip (WorkerKept queue service) worker_jobs runs.workers.items
     pub own_is : IsSenderOf queue runs.own
+    pub own_unused : sent_jobs runs.own ≡ []
     pub all_senders : length plan_jobs + 1 ≡ queue.senders
     pub all_takers : length worker_jobs ≡ queue.takers

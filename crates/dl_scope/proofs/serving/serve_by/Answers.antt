@@ -1,10 +1,14 @@
-use Rattle.std.proofs.Common.{◌∙◌, ap, sym, subst, List, length, map, arith}
+use Rattle.std.proofs.Common.{◌≡◌, ◌∙◌, ◌+◌, [], ap, sym, subst, List, length, map, arith}
 use Rattle.std.proofs.lemmas.List.{length-map}
+use Rattle.std.proofs.lemmas.List.Elements.{All-same, recursion_from_All}
 use Rattle.std.proofs.lemmas.Slice.Zip.{AllZip-long}
+use Rattle.dl_workers.specs.Seats.{sent_jobs, taken_jobs}
+use Rattle.dl_scope.specs.Inside.Gathered.{IsDone, IsFaultOf, fault_of}
 use Rattle.dl_scope.specs.Inside.Kept.{PlanKept}
 use Rattle.dl_scope.specs.Inside.Served.{AreServed}
+use Rattle.dl_scope.proofs.Counted.{all_counted, fresh_after, plans_count, workers_count}
 use Rattle.dl_scope.proofs.Placed.{all_served, parts_of}
-use Rattle.dl_scope.proofs.Refusing.{run_refused}
+use Rattle.dl_scope.proofs.Refusing.{are_ends, run_refused}
 use Rattle.dl_scope.proofs.SeatsBack.{fresh_long, seats_back}
 use Rattle.dl_scope.proofs.serving.serve_by.Goals as goal
 
@@ -18,7 +22,7 @@ run_jobs-requires-clause-passes g c =
 pub check-requires : goal.check-requires
 check-requires g c =
     let ran = c.in_ok-runs.ensures.ran in
-    let kept = AllZip-long (PlanKept c.in-Ok.made.0) ran.plan_jobs c.in_ok-runs.runs.plans.items ran.planned in
+    let kept = AllZip-long (PlanKept c.in-Ok.made.0 g.L.LoaderName.service) ran.plan_jobs c.in_ok-runs.runs.plans.items ran.planned in
     let jobs = length-map ran.plan_jobs (λ job. job.plan) in
     let plans = ap length ran.plans_are in
     let same = ap length c.as_slice.ensures.value in
@@ -27,13 +31,19 @@ check-requires g c =
 pub returns-in-Err-check-clause-refused : goal.returns-in-Err-check-clause-refused
 returns-in-Err-check-clause-refused g c =
     let ran = c.in_ok-runs.ensures.ran in
-    let kept = AllZip-long (PlanKept c.in-Ok.made.0) ran.plan_jobs c.in_ok-runs.runs.plans.items ran.planned in
-    let jobs = length-map ran.plan_jobs (λ job. job.plan) in
-    let plans = ap length ran.plans_are in
-    let same = ap length c.as_slice.ensures.value in
-    run_refused g.L.LoaderName.service c.args.setup c.args.plans.items (length c.as_slice.result.now) c.in-Err-check.fault
+    let runs = c.in_ok-runs.runs in
+    let service = g.L.LoaderName.service in
+    let fresh = ap parts_of ran.passes_are ∙ c.requires.passes in
+    let workers : length ran.worker_jobs ≡ c.args.setup.workers =
+    omega (arith, ran.all_takers, c.in-Ok.ensures.seats.all_takers, c.in-Ok.ensures.takers) in
+    let faults = ap (map fault_of) c.as_slice.ensures.value in
+    let ends = ap (map (λ run. run.end)) c.as_slice-2.ensures.value in
+    run_refused service c.args.setup c.args.plans.items (map fault_of runs.plans.items) (map (λ run. run.end) runs.workers.items) c.in-Err-check.fault
     (record { plans_are = c.requires.plans; workers_are = c.requires.workers; capacity = c.in-Ok.ensures.accepted.0 })
-    (omega (arith, kept, jobs, plans, same)) c.in-Err-check.ensures.fault
+    (are_ends c.in-Ok.made.0 service service.callers c.args.setup.workers c.args.plans.items ran.plan_jobs runs.plans.items ran.worker_jobs
+    runs.workers.items ran.planned ran.worked fresh ran.plans_are workers)
+    (subst (λ fs. IsFaultOf fs (map (λ run. run.end) runs.workers.items) c.in-Err-check.fault) faults
+    (subst (λ es. IsFaultOf (map fault_of c.as_slice.result.now) es c.in-Err-check.fault) ends c.in-Err-check.ensures.fault))
 
 pub finish-tally-requires : goal.finish-tally-requires
 finish-tally-requires g c =
@@ -57,3 +67,31 @@ returns-clause-served g c =
     subst (λ plans. AreServed 0 plans (map (λ a. a.items) field.answers.items) field.rounds.items (parts_of field.passes.items)) ran.plans_are
     (subst (λ (ps : List _). AreServed 0 (map (λ job. job.plan) ran.plan_jobs) (map (λ a. a.items) field.answers.items) field.rounds.items (parts_of ps))
     (sym all.passes) served)
+
+pub returns-clause-counted : goal.returns-clause-counted
+returns-clause-counted g c =
+    let ran = c.in_ok-runs.ensures.ran in
+    let runs = c.in_ok-runs.runs in
+    let all = c.in_ok-passes.ensures in
+    let field = c.in_ok-passes.field-0 in
+    let service = g.L.LoaderName.service in
+    let callers = service.callers in
+    let plans = length c.args.plans.items in
+    let seats = map (λ job. job.pass) ran.plan_jobs in
+    let worker_seats = map (λ job. job.pass) ran.worker_jobs in
+    let fresh = ap parts_of ran.passes_are ∙ c.requires.passes in
+    let long = length-map ran.plan_jobs (λ job. job.plan) in
+    let long2 = length-map ran.plan_jobs (λ job. job.pass) in
+    let same = ap length ran.plans_are in
+    let after = fresh_after 0 callers seats worker_seats fresh in
+    let none_sent = recursion_from_All (λ job. sent_jobs job.sender ≡ []) ran.plan_jobs ran.none_sent in
+    let none_taken = recursion_from_All (λ job. taken_jobs job.taker ≡ []) ran.worker_jobs ran.none_taken in
+    let done = recursion_from_All IsDone runs.workers.items (All-same IsDone runs.workers.items c.as_slice-2.result.now (sym c.as_slice-2.ensures.value)
+    c.in-Ok-check.ensures.done) in
+    all_counted c.in-Ok.made.0 service plans runs.plans.items runs.workers.items runs.own field.senders.items field.takers.items field.passes.items
+    c.finish-tally.result
+    (plans_count c.in-Ok.made.0 service plans 0 callers ran.plan_jobs runs.plans.items (map (λ a. a.items) field.answers.items) field.rounds.items
+    worker_seats ran.planned all.gave none_sent fresh (omega (arith, long, same)))
+    (workers_count c.in-Ok.made.0 service plans (0 + length seats) after.0 ran.worker_jobs runs.workers.items ran.worked done none_taken after.1
+    (omega (arith, long, long2, same)))
+    ran.own_unused all.senders all.takers all.passes c.finish-tally.ensures.balance c.finish-tally.ensures.sum

@@ -1,7 +1,7 @@
 use Rattle.std.proofs.Common.{subst}
 use Rattle.std.specs.List.{AllZip}
-use Rattle.dl_workers.specs.Seats.{IsSenderOf, IsTakerOf}
-use Rattle.dl_scope.specs.Inside.Kept.{PlanKept, WorkerKept}
+use Rattle.dl_workers.specs.Seats.{IsTakerOf}
+use Rattle.dl_scope.specs.Inside.Kept.{OwnKept, PlanKept, WorkerKept}
 use Rattle.dl_scope.specs.declared.jobs.WorkerJob.{WorkerJob}
 use Rattle.dl_scope.proofs.Joined.{all_joined, others_stay}
 use Rattle.dl_scope.proofs.SeatsBack.{all_front, all_last}
@@ -30,7 +30,7 @@ returns g t c =
     record {
       workers = rw c.in-Some.ensures.items (all_joined (WorkerKept queue service) (λ runs. runs.workers.items) rest.result c.with_worker.result
           c.pop.new.self.items c.in-Some.job run rest.ensures.workers kept c.with_worker.ensures.workers);
-      plans = others_stay (λ plans. AllZip (PlanKept queue) c.args.plans.items plans.items) (λ runs. runs.plans) rest.result c.with_worker.result
+      plans = others_stay (λ plans. AllZip (PlanKept queue service) c.args.plans.items plans.items) (λ runs. runs.plans) rest.result c.with_worker.result
           rest.ensures.plans c.with_worker.ensures.plans;
-      own = others_stay (IsSenderOf queue) (λ runs. runs.own) rest.result c.with_worker.result rest.ensures.own c.with_worker.ensures.own;
+      own = others_stay (OwnKept queue c.args.own) (λ runs. runs.own) rest.result c.with_worker.result rest.ensures.own c.with_worker.ensures.own;
     }
