@@ -1,5 +1,6 @@
 //! Plans that are served at once: worked rows of their answers, rounds and batches by one, two and three workers, of plans that
-//! are refused, of workers that fetch at once, and of many plans over a queue with room for one job.
+//! are refused, of plans that are stopped by the fault of another, of workers that fetch at once, and of many plans over a queue
+//! with room for one job.
 
 mod held;
 mod many;
@@ -7,5 +8,6 @@ mod plans;
 mod refusals;
 mod reports;
 mod rows;
+mod stops;
 mod users;
 mod using;

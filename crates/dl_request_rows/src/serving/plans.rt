@@ -3,6 +3,7 @@
 use dl_desk::{FetchKey, Outcome};
 use dl_fixtures::{Shape, json, term};
 use dl_scope::{Plan, Step};
+use dl_terms::Term;
 use std::alloc::Global;
 
 /// A step, as rows write it. Its keys are users.
@@ -16,6 +17,8 @@ pub(crate) enum StepShape {
     ClearAll,
     /// Evaluates a term.
     Eval(Shape),
+    /// Evaluates a term of so many users: u1, u2 and so on.
+    Users(u32),
 }
 
 /// The steps of a plan, as rows write them.
@@ -46,6 +49,7 @@ fn step(alloc: Global, shape: &StepShape) -> Option<Step> {
         StepShape::Clear(id) => Some(Step::Clear(user(alloc, id)?)),
         StepShape::ClearAll => Some(Step::ClearAll),
         StepShape::Eval(shape) => Some(Step::Eval(term(alloc, shape)?)),
+        StepShape::Users(count) => Some(Step::Eval(users(alloc, *count)?)),
     }
 }
 
@@ -53,6 +57,17 @@ fn prime(alloc: Global, id: &str, text: &str) -> Option<Step> {
     let key = user(alloc, id)?;
     let value = json(alloc, text)?;
     Some(Step::Prime(key, Outcome::Value(value)))
+}
+
+/// The term of users from u1 on.
+fn users(alloc: Global, count: u32) -> Option<Term> {
+    let mut parts = Vec::new(alloc);
+    for number in 1..=count {
+        let id = format!(in alloc; "u{number}").ok()?;
+        let key = user(alloc, id.as_str())?;
+        parts.push(Term::Load(key)).ok()?;
+    }
+    Some(Term::All(parts))
 }
 
 fn user(alloc: Global, id: &str) -> Option<FetchKey> {

@@ -1,7 +1,7 @@
 //! Plans that are refused, at both sides of each limit, batches that are not fetched, and a growth that is refused.
 
 use crate::comparing::assert_is;
-use crate::serving::plans::StepShape::{Clear, Eval};
+use crate::serving::plans::StepShape::{Clear, Eval, Users};
 use crate::serving::plans::{PlanShape, plans};
 use crate::serving::reports::{Answers, assert_batches, assert_report};
 use crate::serving::users::{hashing, users};
@@ -54,7 +54,7 @@ const ROW: Row = Row {
     fault: ScopeFault::OutOfMemory,
 };
 
-static ROWS: [Row; 9] = [
+static ROWS: [Row; 10] = [
     Row {
         about: "no plan",
         plans: &[],
@@ -115,6 +115,15 @@ static ROWS: [Row; 9] = [
         about: "a batch that the log has no room to end",
         plans: &[BOTH],
         max_batch: 1,
+        max_calls: 2,
+        fault: ScopeFault::Stopped,
+        ..ROW
+    },
+    Row {
+        about: "64 jobs behind workers that give up, over a queue with room for one",
+        plans: &[&[Users(64)]],
+        max_batch: 1,
+        max_cells: 64,
         max_calls: 2,
         fault: ScopeFault::Stopped,
         ..ROW

@@ -14,7 +14,7 @@ pub(crate) type Answers = &'static [(usize, &'static str)];
 /// The tables and ids of a batch's keys, with `true` where the batch was settled.
 pub(crate) type Batch = (&'static [(&'static str, &'static str)], bool);
 
-/// The report has these answers and rounds for each plan, and no job was left.
+/// The report has these answers and rounds for each plan, and the job of each batch was sent and taken.
 pub(crate) fn assert_report(
     rt: &impl Abort,
     alloc: Global,
@@ -27,7 +27,30 @@ pub(crate) fn assert_report(
         assert_answers(rt, alloc, given.as_slice(), want);
     }
     assert_is(rt, &report.rounds(), &rounds, "rounds");
-    assert_is(rt, &report.tally().left, &0, "jobs left");
+    assert_tally(rt, report);
+}
+
+/// As many jobs were sent and taken as the history has batches, and none was left.
+fn assert_tally(rt: &impl Abort, report: &Report) {
+    let batches = report.history().batches();
+    let Tally { sent, taken, left } = report.tally();
+    let count = u32::try_from(sent).expect(rt, "too many jobs");
+    assert_is(
+        rt,
+        &batches.get(count).is_none(),
+        &true,
+        "no batch past the jobs that were sent",
+    );
+    if let Some(last) = count.checked_sub(1) {
+        assert_is(
+            rt,
+            &batches.get(last).is_some(),
+            &true,
+            "a batch of each job that was sent",
+        );
+    }
+    assert_is(rt, &taken, &sent, "jobs taken");
+    assert_is(rt, &left, &0, "jobs left");
 }
 
 /// A plan gave these answers.
@@ -40,7 +63,7 @@ fn assert_answers(rt: &impl Abort, alloc: Global, given: &[StepAnswer], want: An
     }
 }
 
-/// The history has these batches and no others, the job of each of which was taken.
+/// The history has these batches and no others, and so many jobs were sent.
 pub(crate) fn assert_batches(rt: &impl Abort, report: &Report, want: &[Batch]) {
     let batches = report.history().batches();
     for (number, (keys, is_settled)) in want.iter().enumerate() {
@@ -51,13 +74,7 @@ pub(crate) fn assert_batches(rt: &impl Abort, report: &Report, want: &[Batch]) {
     }
     let count = u32::try_from(want.len()).expect(rt, "too many batches");
     assert_is(rt, &batches.get(count).is_none(), &true, "no more batches");
-    let sent = u64::from(count);
-    let tally = Tally {
-        sent,
-        taken: sent,
-        left: 0,
-    };
-    assert_is(rt, &report.tally(), &tally, "tally");
+    assert_is(rt, &report.tally().sent, &u64::from(count), "jobs sent");
 }
 
 /// The keys have these tables and ids.

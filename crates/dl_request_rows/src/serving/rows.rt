@@ -5,7 +5,7 @@ use crate::serving::plans::{PlanShape, plans};
 use crate::serving::reports::{Answers, Batch, assert_batches, assert_report};
 use crate::serving::users::{hashing, users};
 use dl_desk::Limits;
-use dl_fixtures::{ADA, BEST, FRIENDS, Shape, U1, U2};
+use dl_fixtures::{ADA, BEST, BOB, FRIENDS, Shape, U1, U2};
 use dl_scope::{Setup, serve};
 use dl_source::Tables;
 use dl_workers::NoGate;
@@ -61,7 +61,7 @@ const FOUR: Row = Row {
     ..ROW
 };
 
-static ROWS: [Row; 10] = [
+static ROWS: [Row; 11] = [
     Row {
         about: "two users, one of them twice",
         plans: &[&[Eval(Shape::All(&[U1, U2, U1]))]],
@@ -129,6 +129,21 @@ static ROWS: [Row; 10] = [
         answers: &[&[(1, "5"), (3, ADA)]],
         rounds: &[2],
         batches: Some(&[(&[("user", "u1")], true)]),
+        ..ROW
+    },
+    Row {
+        about: "keys that are held and primed again, which keep what they have",
+        plans: &[&[
+            Prime("u1", "5"),
+            Prime("u1", "6"),
+            Eval(U1),
+            Eval(U2),
+            Prime("u2", "7"),
+            Eval(U2),
+        ]],
+        answers: &[&[(2, "5"), (3, BOB), (5, BOB)]],
+        rounds: &[3],
+        batches: Some(&[(&[("user", "u2")], true)]),
         ..ROW
     },
     Row {
