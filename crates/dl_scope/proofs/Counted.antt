@@ -63,7 +63,7 @@ module _ {L : Type 0} (queue : JobQueue) (service : Service) (plans : ℕ) where
   -- ---- plans
 
   plan_counts : (n : ℕ) (job : PlanJob L) (run : PlanRun L) (a : List StepAnswer) (r : ℕ) → sent_jobs job.sender ≡ [] → job.pass.part ≡ part n [] []
-      → PlanKept queue job run → Gave run a r → (run.pass.part.caller ≡ n) × EachSent run.pass.part.entries (sent_jobs run.sender)
+      → PlanKept queue service job run → Gave run a r → (run.pass.part.caller ≡ n) × EachSent run.pass.part.entries (sent_jobs run.sender)
   plan_counts n job run a r none is kept (given, gave, answers, rounds) =
       let own : AddsAndSends job.pass.part run.pass.part (sent_jobs job.sender) (sent_jobs run.sender)
       (λ lines sent. FollowsAndSends job.pass.part.caller job.plan.steps.items lines given.answers.items given.rounds sent) =
@@ -83,7 +83,7 @@ module _ {L : Type 0} (queue : JobQueue) (service : Service) (plans : ℕ) where
     pub taken : total (λ run. taken_in plans run.pass.part) runs ≡ 0
 
   pub plans_count : (n k : ℕ) (jobs : List (PlanJob L)) (runs : List (PlanRun L)) (answers : List (List StepAnswer)) (rounds : List ℕ) (others : List Pass)
-      → AllZip (PlanKept queue) jobs runs → AllGave runs answers rounds → AllByRecursion (λ job. sent_jobs job.sender ≡ []) jobs
+      → AllZip (PlanKept queue service) jobs runs → AllGave runs answers rounds → AllByRecursion (λ job. sent_jobs job.sender ≡ []) jobs
       → parts_of (map (λ job. job.pass) jobs ++ others) ≡ fresh n k → n + length jobs ≤ plans → PlansCount runs
   plans_count n k [] [] [] [] others kept gave none is low = record { sent = refl; taken = refl }
   plans_count n k (job ∷ jobs) (run ∷ runs) (a ∷ answers) (r ∷ rounds) others (one, kept) (given, gave) (none, unused) is low =

@@ -47,7 +47,7 @@ added_to_fresh n old new P is (caller, lines, entries, holds) =
     (caller ∙ ap (λ (p : Part). p.caller) is, subst P (sym all) holds)
 
 module _ {L : Type 0} (queue : JobQueue) (service : Service) where
-  one_plan : (n : ℕ) (job : PlanJob L) (run : PlanRun L) (a : List StepAnswer) (r : ℕ) → job.pass.part ≡ part n [] [] → PlanKept queue job run
+  one_plan : (n : ℕ) (job : PlanJob L) (run : PlanRun L) (a : List StepAnswer) (r : ℕ) → job.pass.part ≡ part n [] [] → PlanKept queue service job run
       → Gave run a r → (run.pass.part.caller ≡ n) × Follows n job.plan.steps.items run.pass.part.entries a r
   one_plan n job run a r is kept (given, gave, answers, rounds) =
       let own : AddsAndSends job.pass.part run.pass.part (sent_jobs job.sender) (sent_jobs run.sender)
@@ -86,7 +86,7 @@ module _ {L : Type 0} (queue : JobQueue) (service : Service) where
   -- plans and workers that were given fresh passes
   pub all_served : (n k : ℕ) (jobs : List (PlanJob L)) (runs : List (PlanRun L)) (answers : List (List StepAnswer)) (rounds : List ℕ)
       (worker_jobs : List (WorkerJob L)) (worker_runs : List (WorkerRun L))
-      → AllZip (PlanKept queue) jobs runs → AllGave runs answers rounds → AllZip (WorkerKept queue service) worker_jobs worker_runs
+      → AllZip (PlanKept queue service) jobs runs → AllGave runs answers rounds → AllZip (WorkerKept queue service) worker_jobs worker_runs
       → parts_of (map (λ job. job.pass) jobs ++ map (λ job. job.pass) worker_jobs) ≡ fresh n k
       → AreServed n (map (λ job. job.plan) jobs) answers rounds (parts_of (map (λ run. run.pass) runs ++ map (λ run. run.pass) worker_runs))
   all_served n k [] [] [] [] worker_jobs worker_runs kept gave worked is = workers_served n k worker_jobs worker_runs worked is

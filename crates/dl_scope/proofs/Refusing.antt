@@ -8,10 +8,13 @@ use Rattle.dl_history.specs.Agrees.{Account}
 use Rattle.dl_history.specs.Service.{Service}
 use Rattle.dl_loader.specs.Book.{Keeps, Locked}
 use Rattle.dl_loader.specs.Closing.{RefusesClose}
+use Rattle.dl_loader.specs.Pass.{Part, Pass, fresh}
 use Rattle.dl_loader.specs.declared.fault.CloseFault.{CloseFault}
 use Rattle.dl_workers.specs.declared.queue.JobQueue.{JobQueue}
 use Rattle.dl_workers.specs.declared.worker.WorkerEnd.{WorkerEnd}
+use Rattle.dl_haxl.specs.RunFaults.{IsRunFault}
 use Rattle.dl_haxl.specs.declared.fault.RunFault.{RunFault}
+use Rattle.dl_haxl.specs.declared.step_answer.StepAnswers.{StepAnswers}
 use Rattle.dl_scope.specs.Faults.{AreEnds, MayServe, Met, RefusedAs}
 use Rattle.dl_scope.specs.Inside.Gathered.{IsFaultOf, fault_of, met}
 use Rattle.dl_scope.specs.Inside.Kept.{PlanKept, WorkerKept}
@@ -22,17 +25,42 @@ use Rattle.dl_scope.specs.declared.jobs.PlanRun.{PlanRun}
 use Rattle.dl_scope.specs.declared.jobs.WorkerJob.{WorkerJob}
 use Rattle.dl_scope.specs.declared.jobs.WorkerRun.{WorkerRun}
 use Rattle.dl_scope.specs.declared.setup.Setup.{Setup}
+use Rattle.dl_scope.proofs.MetFaults.{met_given}
+use Rattle.dl_scope.proofs.Placed.{fresh_first, parts_of}
 use Rattle.dl_terms.specs.declared.plan.Plan.{Plan}
+
+none_before : (n : ℕ) → 0 + n ≡ n
+none_before n = omega arith
 
 -- ---- how plans and workers ended
 
 module _ {L : Type 0} (queue : JobQueue) (service : Service) where
+  -- a fault that a plan's run met is one that evaluations of its caller may meet
+  faults_may_be : (n k : ℕ) (jobs : List (PlanJob L)) (runs : List (PlanRun L)) (others : List Pass) → AllZip (PlanKept queue service) jobs runs
+      → parts_of (map (λ job. job.pass) jobs ++ others) ≡ fresh n k → (m : ℕ) (fault : RunFault) → Met (map fault_of runs) m fault
+      → IsRunFault service (n + m) fault
+  faults_may_be n k [] [] others kept is m fault at = absurd (let bad : ◌≡◌ {A = Option (Option RunFault)} None (Some (Some fault)) = at in cc)
+  faults_may_be n k [] (run ∷ runs) others kept is m fault at = absurd kept
+  faults_may_be n k (job ∷ jobs) [] others kept is m fault at = absurd kept
+  faults_may_be n k (job ∷ jobs) (run ∷ runs) others (one, kept) is zero fault at =
+      let first = fresh_first n k job.pass.part (parts_of (map (λ (j : PlanJob L). j.pass) jobs ++ others)) is in
+      let here : met run.given ≡ Some fault = cc in
+      let may : IsRunFault service job.pass.part.caller fault =
+      subst (λ (g : Result StepAnswers RunFault). IfErr g (IsRunFault service job.pass.part.caller)) (met_given run.given fault here) one.2 in
+      let number : n ≡ n + 0 = omega arith in
+      subst (λ c. IsRunFault service c fault) (ap (λ (p : Part). p.caller) first.1 ∙ number) may
+  faults_may_be n k (job ∷ jobs) (run ∷ runs) others (one, kept) is (suc m) fault at =
+      let first = fresh_first n k job.pass.part (parts_of (map (λ (j : PlanJob L). j.pass) jobs ++ others)) is in
+      let number : suc n + m ≡ n + suc m = omega arith in
+      subst (λ c. IsRunFault service c fault) number (faults_may_be (suc n) first.0 jobs runs others kept first.2 m fault at)
+
   -- the runs of all plans and workers are their ends
-  pub are_ends : (workers : ℕ) (plans : List Plan) (jobs : List (PlanJob L)) (runs : List (PlanRun L)) (worker_jobs : List (WorkerJob L))
-      (worker_runs : List (WorkerRun L)) → AllZip (PlanKept queue) jobs runs → AllZip (WorkerKept queue service) worker_jobs worker_runs
-      → map (λ job. job.plan) jobs ≡ plans → length worker_jobs ≡ workers → AreEnds (length plans) workers (map fault_of runs) (map (λ run. run.end) worker_runs)
-  are_ends workers plans jobs runs worker_jobs worker_runs kept worked plans_are count =
-      let long = AllZip-long (PlanKept queue) jobs runs kept in
+  pub are_ends : (k workers : ℕ) (plans : List Plan) (jobs : List (PlanJob L)) (runs : List (PlanRun L)) (worker_jobs : List (WorkerJob L))
+      (worker_runs : List (WorkerRun L)) → AllZip (PlanKept queue service) jobs runs → AllZip (WorkerKept queue service) worker_jobs worker_runs
+      → parts_of (map (λ job. job.pass) jobs ++ map (λ job. job.pass) worker_jobs) ≡ fresh 0 k → map (λ job. job.plan) jobs ≡ plans
+      → length worker_jobs ≡ workers → AreEnds service (length plans) workers (map fault_of runs) (map (λ run. run.end) worker_runs)
+  are_ends k workers plans jobs runs worker_jobs worker_runs kept worked is plans_are count =
+      let long = AllZip-long (PlanKept queue service) jobs runs kept in
       let long2 = AllZip-long (WorkerKept queue service) worker_jobs worker_runs worked in
       let each = length-map runs (fault_of {L = L}) in
       let each2 = length-map worker_runs (λ (run : WorkerRun L). run.end) in
@@ -41,11 +69,13 @@ module _ {L : Type 0} (queue : JobQueue) (service : Service) where
       record {
         each_plan = omega (arith, long, each, all, same);
         each_worker = omega (arith, long2, each2, count);
+        may_be = λ n fault at. subst (λ m. IsRunFault service m fault) (none_before n)
+            (faults_may_be 0 k jobs runs (map (λ (job : WorkerJob L). job.pass) worker_jobs) kept is n fault at);
       }
 
 -- a fault of the runs
 pub run_refused : (service : Service) (setup : Setup) (plans : List Plan) (faults : List (Option RunFault)) (ends : List WorkerEnd) (fault : ScopeFault)
-    → MayServe setup (length plans) → AreEnds (length plans) setup.workers faults ends → IsFaultOf faults ends fault
+    → MayServe setup (length plans) → AreEnds service (length plans) setup.workers faults ends → IsFaultOf faults ends fault
     → RefusedAs service setup plans fault
 run_refused service setup plans faults ends (Run plan fault) may are least = (may, (faults, ends, are, least))
 run_refused service setup plans faults ends Stopped may are stopped = (may, (faults, ends, are, stopped))

@@ -45,7 +45,7 @@ pub all_last : {X : Type 0} (P : X → Type 0) (xs all : List X) (y : X) → all
 all_last P xs all y is each = last_by P xs y (recursion_from_All P (xs ++ y ∷ []) (All-same P (xs ++ y ∷ []) all (sym is) each))
 
 module _ {L : Type 0} (queue : JobQueue) (service : Service) where
-  senders_by : (jobs : List (PlanJob L)) (runs : List (PlanRun L)) → AllZip (PlanKept queue) jobs runs
+  senders_by : (jobs : List (PlanJob L)) (runs : List (PlanRun L)) → AllZip (PlanKept queue service) jobs runs
       → AllByRecursion (IsSenderOf queue) (map (λ (run : PlanRun L). run.sender) runs)
   senders_by [] [] kept = tt
   senders_by [] (run ∷ runs) kept = absurd kept
@@ -62,14 +62,14 @@ module _ {L : Type 0} (queue : JobQueue) (service : Service) where
   -- all seats are given back
   pub seats_back : (jobs : List (PlanJob L)) (runs : List (PlanRun L)) (worker_jobs : List (WorkerJob L)) (worker_runs : List (WorkerRun L))
       (own : Sender) (senders : List Sender) (takers : List Taker)
-      → AllZip (PlanKept queue) jobs runs → AllZip (WorkerKept queue service) worker_jobs worker_runs → IsSenderOf queue own
+      → AllZip (PlanKept queue service) jobs runs → AllZip (WorkerKept queue service) worker_jobs worker_runs → IsSenderOf queue own
       → length jobs + 1 ≡ queue.senders → length worker_jobs ≡ queue.takers
       → senders ≡ map (λ (run : PlanRun L). run.sender) runs ++ own ∷ [] → takers ≡ map (λ (run : WorkerRun L). run.taker) worker_runs
       → AreSeatsOf queue senders takers
   seats_back jobs runs worker_jobs worker_runs own senders takers kept worked is_own count count2 are are2 =
       let sent = map (λ (run : PlanRun L). run.sender) runs in
       let took = map (λ (run : WorkerRun L). run.taker) worker_runs in
-      let long = AllZip-long (PlanKept queue) jobs runs kept in
+      let long = AllZip-long (PlanKept queue service) jobs runs kept in
       let long2 = AllZip-long (WorkerKept queue service) worker_jobs worker_runs worked in
       let mapped = length-map runs (λ (run : PlanRun L). run.sender) in
       let mapped2 = length-map worker_runs (λ (run : WorkerRun L). run.taker) in
@@ -100,7 +100,7 @@ module _ {L : Type 0} (queue : JobQueue) (service : Service) (passes : List Pass
       → map (λ (job : PlanJob L). job.pass) jobs ++ map (λ (job : WorkerJob L). job.pass) workers ≡ passes
       → map (λ (job : PlanJob L). job.plan) jobs ≡ plans → length jobs + 1 ≡ queue.senders → length workers ≡ queue.takers
       → All (λ job. sent_jobs job.sender ≡ []) jobs → All (λ job. taken_jobs job.taker ≡ []) workers → sent_jobs own ≡ []
-      → IfOk result (λ runs. AllZip (PlanKept queue) jobs runs.plans.items)
+      → IfOk result (λ runs. AllZip (PlanKept queue service) jobs runs.plans.items)
       → IfOk result (λ runs. AllZip (WorkerKept queue service) workers runs.workers.items)
       → IfOk result (λ runs. OwnKept queue own runs.own)
       → IfOk result (Ran queue service passes plans)

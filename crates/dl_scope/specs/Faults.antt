@@ -2,6 +2,7 @@
 use Rattle.std.specs.Prelude.{◌≡◌, ℕ, ◌+◌, ◌<◌, ◌≤◌, ◌⊎◌, List, length, Option, Some, slice_get}
 use Rattle.dl_history.specs.Agrees.{Account}
 use Rattle.dl_history.specs.Service.{Service}
+use Rattle.dl_haxl.specs.RunFaults.{IsRunFault}
 use Rattle.dl_haxl.specs.declared.fault.RunFault.{RunFault}
 use Rattle.dl_haxl.specs.declared.fault.RunFault.TheVariants as run
 use Rattle.dl_loader.specs.Book.{Keeps, Locked}
@@ -62,14 +63,15 @@ pub record WereStopped (faults : List (Option RunFault)) (ends : List WorkerEnd)
   pub none_own : (n : ℕ) (fault : RunFault) → Met faults n fault → IsStop fault
   pub some : AnyMet faults ⊎ AnyGaveUp ends
 
--- so many plans and workers ended so
-pub record AreEnds (plans workers : ℕ) (faults : List (Option RunFault)) (ends : List WorkerEnd) : Type 0 where
+-- so many plans and workers ended so, each plan with a fault that a caller's evaluations may meet, if with any
+pub record AreEnds (service : Service) (plans workers : ℕ) (faults : List (Option RunFault)) (ends : List WorkerEnd) : Type 0 where
   pub each_plan : length faults ≡ plans
   pub each_worker : length ends ≡ workers
+  pub may_be : (n : ℕ) (fault : RunFault) → Met faults n fault → IsRunFault service n fault
 
 -- there are such ends, of which this holds
-abbrev pub EndedSo : ℕ → ℕ → (List (Option RunFault) → List WorkerEnd → Type 0) → Type 0
-EndedSo plans workers P = (faults : List (Option RunFault)) × (ends : List WorkerEnd) × AreEnds plans workers faults ends × P faults ends
+abbrev pub EndedSo : Service → ℕ → ℕ → (List (Option RunFault) → List WorkerEnd → Type 0) → Type 0
+EndedSo service plans workers P = (faults : List (Option RunFault)) × (ends : List WorkerEnd) × AreEnds service plans workers faults ends × P faults ends
 
 -- ---- refusals
 
@@ -91,8 +93,8 @@ RefusedAs service setup plans (Start fault) = ArePlans (length plans) × AreWork
 RefusedAs service setup plans (Queue fault) =
     ArePlans (length plans) × AreWorkers setup.workers × queue.RefusedAs setup.queue (length plans + 1) setup.workers fault
 RefusedAs service setup plans (Run plan fault) =
-    MayServe setup (length plans) × EndedSo (length plans) setup.workers (λ faults ends. IsLeastFault faults plan fault)
-RefusedAs service setup plans Stopped = MayServe setup (length plans) × EndedSo (length plans) setup.workers WereStopped
+    MayServe setup (length plans) × EndedSo service (length plans) setup.workers (λ faults ends. IsLeastFault faults plan fault)
+RefusedAs service setup plans Stopped = MayServe setup (length plans) × EndedSo service (length plans) setup.workers WereStopped
 RefusedAs service setup plans (Close fault) = MayServe setup (length plans) × RefusesItsClose service fault
 RefusedAs service setup plans (Unfetched batch) = MayServe setup (length plans) × LeastGivenUp service plans batch
 RefusedAs service setup plans OutOfMemory = MayServe setup (length plans)

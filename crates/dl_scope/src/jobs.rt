@@ -34,7 +34,7 @@ impl<L: LoaderName> PlanJob<L> {
     /// Takes the steps of the plan. Where one meets a fault, the loader is stopped.
     pub(crate) fn run<R: Wait>(self, rt: &R, stage: &Stage<'_, L>) -> PlanRun<L>
         requires seat { IsSenderOf stage.now.queue.now self.sender }
-        ensures kept { PlanKept stage.now.queue.now self result }
+        ensures kept { PlanKept stage.now.queue.now L.service self result }
     {
         let PlanJob {
             mut pass,
@@ -113,7 +113,7 @@ pub(crate) struct PlanPromise<'a, L: LoaderName> {
 }
 
 impl<'a, L: LoaderName> Promise<PlanRun<L>> for PlanPromise<'a, L> {
-    ghost kept_by = { λ p r. PlanKept p.queue.now p.job.value r };
+    ghost kept_by = { λ p r. PlanKept p.queue.now L.service p.job.value r };
 }
 
 /// What is known of what a worker's thread gives back.

@@ -180,7 +180,10 @@ fn serve_by<
         queue: &queue,
     };
     let runs = run_jobs(rt, &stage, source, gate, passes, senders, takers, plans)?;
-    check(runs.plans.as_slice(), runs.workers.as_slice())?;
+    match check(runs.plans.as_slice(), runs.workers.as_slice()) {
+        Ok(()) => {}
+        Err(fault) => return Err(fault),
+    }
     let Gathered {
         passes,
         senders,

@@ -49,7 +49,7 @@ pub(crate) fn run_all<
     requires plans { All (λ job. IsSenderOf stage.now.queue.now job.sender) plans.items }
     requires own { IsSenderOf stage.now.queue.now own }
     ensures workers { IfOk result (λ runs. AllZip (WorkerKept stage.now.queue.now L.service) workers.items runs.workers.items) }
-    ensures plans { IfOk result (λ runs. AllZip (PlanKept stage.now.queue.now) plans.items runs.plans.items) }
+    ensures plans { IfOk result (λ runs. AllZip (PlanKept stage.now.queue.now L.service) plans.items runs.plans.items) }
     ensures own { IfOk result (λ runs. OwnKept stage.now.queue.now own runs.own) }
 {
     thread::scope(
@@ -60,7 +60,7 @@ pub(crate) fn run_all<
                 × All (λ job. IsTakerOf stage.now.queue.now job.taker) workers.items
                 × All (λ job. IsSenderOf stage.now.queue.now job.sender) plans.items × IsSenderOf stage.now.queue.now own }
             ensures workers { IfOk result (λ runs. AllZip (WorkerKept stage.entry.now.queue.now L.service) workers.items runs.workers.items) }
-            ensures plans { IfOk result (λ runs. AllZip (PlanKept stage.entry.now.queue.now) plans.items runs.plans.items) }
+            ensures plans { IfOk result (λ runs. AllZip (PlanKept stage.entry.now.queue.now L.service) plans.items runs.plans.items) }
             ensures own { IfOk result (λ runs. OwnKept stage.entry.now.queue.now own runs.own) }
         { run_workers(scope, rt, stage, source, gate, workers, plans, own) },
     )
@@ -89,7 +89,7 @@ fn run_workers<
     requires plans { All (λ job. IsSenderOf stage.now.queue.now job.sender) plans.items }
     requires own { IsSenderOf stage.now.queue.now own }
     ensures workers { IfOk result (λ runs. AllZip (WorkerKept stage.now.queue.now L.service) workers.items runs.workers.items) }
-    ensures plans { IfOk result (λ runs. AllZip (PlanKept stage.now.queue.now) plans.items runs.plans.items) }
+    ensures plans { IfOk result (λ runs. AllZip (PlanKept stage.now.queue.now L.service) plans.items runs.plans.items) }
     ensures own { IfOk result (λ runs. OwnKept stage.now.queue.now own runs.own) }
 {
     let Some(job) = workers.pop() else {
@@ -171,7 +171,7 @@ fn run_plans_alone<'s, E, L: LoaderName + Send + Sync + 's, R: Threads + Wait + 
     requires plans { All (λ job. IsSenderOf stage.now.queue.now job.sender) plans.items }
     requires own { IsSenderOf stage.now.queue.now own }
     ensures workers { IfOk result (λ runs. runs.workers.items ≡ []) }
-    ensures plans { IfOk result (λ runs. AllZip (PlanKept stage.now.queue.now) plans.items runs.plans.items) }
+    ensures plans { IfOk result (λ runs. AllZip (PlanKept stage.now.queue.now L.service) plans.items runs.plans.items) }
     ensures own { IfOk result (λ runs. OwnKept stage.now.queue.now own runs.own) }
 {
     let plans = run_plans(scope, rt, stage, plans);
@@ -191,7 +191,7 @@ fn run_plans<'s, E, L: LoaderName + Send + Sync + 's, R: Threads + Wait + Sync +
     mut plans: Vec<PlanJob<L>>,
 ) -> Result<Vec<PlanRun<L>>, AllocError>
     requires plans { All (λ job. IsSenderOf stage.now.queue.now job.sender) plans.items }
-    ensures plans { IfOk result (λ runs. AllZip (PlanKept stage.now.queue.now) plans.items runs.items) }
+    ensures plans { IfOk result (λ runs. AllZip (PlanKept stage.now.queue.now L.service) plans.items runs.items) }
 {
     let Some(job) = plans.pop() else {
         return Ok(Vec::new(stage.alloc));
@@ -223,7 +223,7 @@ fn start_plan<'s, E, L: LoaderName + Send + Sync + 's, R: Wait + Sync + 's>(
             promise,
             move || -> PlanRun<L>
                 requires { IsSenderOf stage.now.queue.now job.sender }
-                ensures { PlanKept stage.entry.now.queue.now job result }
+                ensures { PlanKept stage.entry.now.queue.now L.service job result }
             { job.run(rt, stage) },
         )
         .ok()

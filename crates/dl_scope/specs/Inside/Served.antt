@@ -56,7 +56,7 @@ module _ {L : Type 0} where
     pub plans_are : map (λ job. job.plan) plan_jobs ≡ plans
     pub none_sent : All (λ job. sent_jobs job.sender ≡ []) plan_jobs
     pub none_taken : All (λ job. taken_jobs job.taker ≡ []) worker_jobs
-    pub planned : AllZip (PlanKept queue) plan_jobs runs.plans.items
+    pub planned : AllZip (PlanKept queue service) plan_jobs runs.plans.items
     pub worked : AllZip (WorkerKept queue service) worker_jobs runs.workers.items
     pub own_is : IsSenderOf queue runs.own
     pub own_unused : sent_jobs runs.own ≡ []

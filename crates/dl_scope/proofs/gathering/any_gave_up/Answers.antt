@@ -1,9 +1,7 @@
-use Rattle.std.proofs.Common.{sym, subst, take, length, arith}
+use Rattle.std.proofs.Common.{sym, subst, take, arith}
 use Rattle.std.proofs.lemmas.List.{take_all}
 use Rattle.std.proofs.lemmas.List.Elements.{All-more, All-same}
-use Rattle.std.proofs.lemmas.Option.{slice_get_read}
 use Rattle.dl_scope.specs.Inside.Gathered.{IsDone}
-use Rattle.dl_scope.proofs.MetFaults.{gave_up_at}
 use Rattle.dl_scope.proofs.gathering.any_gave_up.Goals as goal
 
 pub loop-run-preserved : goal.loop-run-preserved

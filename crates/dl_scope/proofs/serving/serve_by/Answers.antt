@@ -22,26 +22,28 @@ run_jobs-requires-clause-passes g c =
 pub check-requires : goal.check-requires
 check-requires g c =
     let ran = c.in_ok-runs.ensures.ran in
-    let kept = AllZip-long (PlanKept c.in-Ok.made.0) ran.plan_jobs c.in_ok-runs.runs.plans.items ran.planned in
+    let kept = AllZip-long (PlanKept c.in-Ok.made.0 g.L.LoaderName.service) ran.plan_jobs c.in_ok-runs.runs.plans.items ran.planned in
     let jobs = length-map ran.plan_jobs (λ job. job.plan) in
     let plans = ap length ran.plans_are in
     let same = ap length c.as_slice.ensures.value in
     record { few = omega (arith, kept, jobs, plans, same, c.requires.plans.most) }
 
-pub returns-in_err-check-clause-refused : goal.returns-in_err-check-clause-refused
-returns-in_err-check-clause-refused g c =
+pub returns-in-Err-check-clause-refused : goal.returns-in-Err-check-clause-refused
+returns-in-Err-check-clause-refused g c =
     let ran = c.in_ok-runs.ensures.ran in
     let runs = c.in_ok-runs.runs in
     let service = g.L.LoaderName.service in
-    let workers = ran.all_takers ∙ (sym c.in-Ok.ensures.seats.all_takers ∙ c.in-Ok.ensures.takers) in
+    let fresh = ap parts_of ran.passes_are ∙ c.requires.passes in
+    let workers : length ran.worker_jobs ≡ c.args.setup.workers =
+    omega (arith, ran.all_takers, c.in-Ok.ensures.seats.all_takers, c.in-Ok.ensures.takers) in
     let faults = ap (map fault_of) c.as_slice.ensures.value in
     let ends = ap (map (λ run. run.end)) c.as_slice-2.ensures.value in
-    run_refused service c.args.setup c.args.plans.items (map fault_of runs.plans.items) (map (λ run. run.end) runs.workers.items) c.in_err-check.fault
+    run_refused service c.args.setup c.args.plans.items (map fault_of runs.plans.items) (map (λ run. run.end) runs.workers.items) c.in-Err-check.fault
     (record { plans_are = c.requires.plans; workers_are = c.requires.workers; capacity = c.in-Ok.ensures.accepted.0 })
-    (are_ends c.in-Ok.made.0 service c.args.setup.workers c.args.plans.items ran.plan_jobs runs.plans.items ran.worker_jobs
-    runs.workers.items ran.planned ran.worked ran.plans_are workers)
-    (subst (λ fs. IsFaultOf fs (map (λ run. run.end) runs.workers.items) c.in_err-check.fault) faults
-    (subst (λ es. IsFaultOf (map fault_of c.as_slice.result.now) es c.in_err-check.fault) ends c.in_err-check.ensures.fault))
+    (are_ends c.in-Ok.made.0 service service.callers c.args.setup.workers c.args.plans.items ran.plan_jobs runs.plans.items ran.worker_jobs
+    runs.workers.items ran.planned ran.worked fresh ran.plans_are workers)
+    (subst (λ fs. IsFaultOf fs (map (λ run. run.end) runs.workers.items) c.in-Err-check.fault) faults
+    (subst (λ es. IsFaultOf (map fault_of c.as_slice.result.now) es c.in-Err-check.fault) ends c.in-Err-check.ensures.fault))
 
 pub finish-tally-requires : goal.finish-tally-requires
 finish-tally-requires g c =
@@ -85,7 +87,7 @@ returns-clause-counted g c =
     let none_sent = recursion_from_All (λ job. sent_jobs job.sender ≡ []) ran.plan_jobs ran.none_sent in
     let none_taken = recursion_from_All (λ job. taken_jobs job.taker ≡ []) ran.worker_jobs ran.none_taken in
     let done = recursion_from_All IsDone runs.workers.items (All-same IsDone runs.workers.items c.as_slice-2.result.now (sym c.as_slice-2.ensures.value)
-    c.in_ok-check.ensures.done) in
+    c.in-Ok-check.ensures.done) in
     all_counted c.in-Ok.made.0 service plans runs.plans.items runs.workers.items runs.own field.senders.items field.takers.items field.passes.items
     c.finish-tally.result
     (plans_count c.in-Ok.made.0 service plans 0 callers ran.plan_jobs runs.plans.items (map (λ a. a.items) field.answers.items) field.rounds.items

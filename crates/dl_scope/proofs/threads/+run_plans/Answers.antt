@@ -20,12 +20,13 @@ run_plans-rest-requires-clause-plans g t c = λ κs live.
 pub returns : goal.returns
 returns g t c =
     let queue = c.args.stage.now.queue.now in
+    let service = g.L.LoaderName.service in
     let child = c.in-Some-start_plan in
     let rest = c.run_plans-rest in
     let run = c.join.result in
-    let kept = subst (λ job. PlanKept queue job run) child.ensures.job
-    (subst (λ q. PlanKept q child.child.promise.job.value run) child.ensures.queue c.join.ensures) in
+    let kept = subst (λ job. PlanKept queue service job run) child.ensures.job
+    (subst (λ q. PlanKept q service child.child.promise.job.value run) child.ensures.queue c.join.ensures) in
     record {
-      plans = rw c.in-Some.ensures.items (all_joined (PlanKept queue) (λ runs. runs.items) rest.result c.with_plan.result c.pop.new.self.items
+      plans = rw c.in-Some.ensures.items (all_joined (PlanKept queue service) (λ runs. runs.items) rest.result c.with_plan.result c.pop.new.self.items
           c.in-Some.job run rest.ensures.plans kept c.with_plan.ensures);
     }

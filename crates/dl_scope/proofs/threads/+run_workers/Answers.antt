@@ -30,7 +30,7 @@ returns g t c =
     record {
       workers = rw c.in-Some.ensures.items (all_joined (WorkerKept queue service) (λ runs. runs.workers.items) rest.result c.with_worker.result
           c.pop.new.self.items c.in-Some.job run rest.ensures.workers kept c.with_worker.ensures.workers);
-      plans = others_stay (λ plans. AllZip (PlanKept queue) c.args.plans.items plans.items) (λ runs. runs.plans) rest.result c.with_worker.result
+      plans = others_stay (λ plans. AllZip (PlanKept queue service) c.args.plans.items plans.items) (λ runs. runs.plans) rest.result c.with_worker.result
           rest.ensures.plans c.with_worker.ensures.plans;
       own = others_stay (OwnKept queue c.args.own) (λ runs. runs.own) rest.result c.with_worker.result rest.ensures.own c.with_worker.ensures.own;
     }
