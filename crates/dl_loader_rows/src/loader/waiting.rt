@@ -10,6 +10,7 @@ ghost use Rattle.dl_loader.specs.Pass.{GaveTicket};
 use super::closed::close_fault;
 use super::keys::{assert_same, assert_shows, user};
 use dl_desk::Job;
+use dl_fixtures::Starved;
 use dl_loader::{
     Ask, CloseFault, GiveUp, Loader, LoaderName, MOST_CALLERS, Opening, Pass, Ticket, laws,
 };
@@ -237,7 +238,7 @@ fn lead<L: LoaderName, S: Source, R: Abort + Wait>(
             end_jobs(rt, alloc, loader, source, pass, jobs).expect(rt, "no end");
         }
         Release::EndsByLaw => settle_by_law(rt, alloc, source, loader, pass),
-        Release::GivesUpByLaw => fail_by_law::<L, S, R>(rt, alloc, loader, pass),
+        Release::GivesUpByLaw => fail_by_law(rt, alloc, loader, pass),
         Release::GivesUp => give_up(rt, alloc, loader, pass),
         Release::Stops => loader.stop(rt),
     }
@@ -260,14 +261,14 @@ fn settle_by_law<L: LoaderName, S: Source, R: Abort + Wait>(
 }
 
 /// Sends the only batch, and fails it by the law.
-fn fail_by_law<L: LoaderName, S: Source, R: Abort + Wait>(
+fn fail_by_law<L: LoaderName, R: Abort + Wait>(
     rt: &R,
     alloc: Global,
     loader: &Loader<L>,
     pass: &mut Pass<L>,
 ) {
     let job = send(rt, alloc, loader, pass);
-    let ask: Ask<'_, S> = Ask::Fail(job, GiveUp::Memory);
+    let ask: Ask<'static, Starved> = Ask::Fail(job, GiveUp::Memory);
     make_by_law(rt, alloc, loader, pass, ask);
 }
 

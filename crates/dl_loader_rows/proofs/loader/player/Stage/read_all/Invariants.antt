@@ -1,6 +1,6 @@
 use Rattle.std.proofs.Common.{◌≡◌}
 use Rattle.dl_loader.proofs.StillGiven.{cells}
-use Rattle.dl_loader_rows.proofs.loader.largest.Stage.read_all.Given as goal
+use Rattle.dl_loader_rows.proofs.loader.player.Stage.read_all.Given as goal
 
 abbrev pub invariant-loop-ticket : goal.invariant-loop-ticket
 invariant-loop-ticket g l = record {

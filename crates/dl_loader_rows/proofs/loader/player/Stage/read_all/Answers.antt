@@ -4,7 +4,7 @@ use Rattle.std.proofs.lemmas.Iterator.Consumers.{YieldsList-turn}
 use Rattle.std.proofs.lemmas.Option.{slice_get_read}
 use Rattle.dl_loader.specs.Pass.{GaveTicket}
 use Rattle.dl_loader.proofs.StillGiven.{cells, read_cells, still_gave}
-use Rattle.dl_loader_rows.proofs.loader.largest.Stage.read_all.Goals as goal
+use Rattle.dl_loader_rows.proofs.loader.player.Stage.read_all.Goals as goal
 
 pub wait-requires : goal.wait-requires
 wait-requires g c =
