@@ -1,9 +1,9 @@
 -- What is added up over the calls of all accounts is what is added up over the events.
-use Rattle.std.proofs.Common.{◌≡◌, ◌∙◌, sym, ap, subst, refl, ℕ, ◌+◌, ◌<◌, Bool, true, false, cond, List, [], ◌∷◌, ◌++◌, length, map, flat_map, Option, Some, None}
+use Rattle.std.proofs.Common.{◌≡◌, ◌∙◌, sym, ap, subst, refl, ℕ, ◌+◌, Bool, true, false, cond, List, [], ◌∷◌, ◌++◌, length, map, flat_map, Option, Some}
 use Rattle.std.proofs.Common.{slice_get, nat_eq, arith, append_assoc, length-append}
 use Rattle.std.proofs.lemmas.Bool.{eqb-true}
 use Rattle.std.proofs.lemmas.List.Sums.{sum_by-cons}
-use Rattle.dl_history.specs.Agrees.{Account, accounts_by, HasEach, places_of, Tells, Agrees}
+use Rattle.dl_history.specs.Agrees.{Account, accounts_by, HasEach, Tells, Agrees}
 use Rattle.dl_history.specs.Entries.{Told, Line, Called, Saw, calls_of}
 use Rattle.dl_history.specs.History.{IsLegal}
 use Rattle.dl_history.specs.Lists.{Every, total, one_if, places}

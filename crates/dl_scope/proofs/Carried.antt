@@ -1,23 +1,20 @@
 -- The queue of a report carried one job for each batch.
-use Rattle.std.proofs.Common.{◌≡◌, ◌∙◌, ap, sym, subst, refl, ℕ, zero, suc, ◌+◌, ◌<◌, ◌≤◌, Bool, true, false, cond, List, [], ◌∷◌, ◌++◌, length, nat_le, arith}
+use Rattle.std.proofs.Common.{◌≡◌, ◌∙◌, ap, sym, refl, ℕ, zero, suc, ◌<◌, ◌≤◌, Bool, true, false, cond, List, [], ◌∷◌, ◌++◌, length, nat_le, arith}
 use Rattle.std.proofs.Common.{Option, Some, None, slice_get}
 use Rattle.std.proofs.lemmas.Bool.Decides.{nat_tests}
 use Rattle.dl_values.specs.declared.outcome.BatchFault.{BatchFault}
 use Rattle.dl_values.specs.declared.outcome.BatchFault.TheVariants.{Memory, Unsent, Source}
 use Rattle.dl_history.specs.Lists.{Every, total}
-use Rattle.dl_history.specs.Service.{Service}
 use Rattle.dl_history.specs.declared.event.Call.{Call}
 use Rattle.dl_history.specs.declared.event.Call.TheVariants.{Load, LoadMany, Prime, Clear, ClearAll, Dispatch, Settle, Fail}
 use Rattle.dl_history.specs.declared.event.Event.{Event}
 use Rattle.dl_history.proofs.ListLemmas.{every_from}
-use Rattle.dl_terms.specs.declared.plan.Plan.{Plan}
 use Rattle.dl_terms.specs.declared.plan.Step.{Step}
 use Rattle.dl_terms.specs.declared.plan.Step.TheVariants as step
 use Rattle.dl_workers.specs.GivenUp.{given_up, given_up_by}
 use Rattle.dl_workers.specs.Sent.{unsent, unsent_by}
-use Rattle.dl_scope.specs.Carried.{CarriesEach, EachIsCarried, JobsAreBatches}
-use Rattle.dl_scope.specs.Headline.{Ends, Headline, calls_after}
-use Rattle.dl_scope.specs.Report.{Report}
+use Rattle.dl_scope.specs.Carried.{EachIsCarried, JobsAreBatches}
+use Rattle.dl_scope.specs.Headline.{Ends, calls_after}
 use Rattle.dl_scope.proofs.CallersCalls.{OfRounds, OfStep, event_holds, some_low}
 use Rattle.dl_scope.proofs.EndCounts.{ends_begun, ends_one}
 use Rattle.dl_scope.proofs.SentCounts.{jobs_begun}

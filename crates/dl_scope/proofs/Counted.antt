@@ -1,14 +1,11 @@
 -- What the tally of the queue counts, by what the passes tell: jobs of the plans' dispatches, and ends by the workers.
-use Rattle.std.proofs.Common.{◌≡◌, ◌∙◌, ap, sym, subst, refl, ℕ, zero, suc, ◌+◌, ◌<◌, ◌≤◌, Bool, true, false, List, [], ◌∷◌, ◌++◌, length, map, flat_map, arith, length-append}
-use Rattle.std.proofs.Common.{nat_le, if◌then◌else◌, Ok}
-use Rattle.std.specs.Prelude.{All, IfOk, Result}
+use Rattle.std.proofs.Common.{◌≡◌, ◌∙◌, ap, sym, subst, refl, ℕ, suc, ◌+◌, ◌≤◌, Bool, true, false, List, [], ◌∷◌, ◌++◌, length, map, flat_map, arith, length-append}
+use Rattle.std.proofs.Common.{nat_le, if◌then◌else◌}
+use Rattle.std.specs.Prelude.{IfOk, Result}
 use Rattle.std.specs.List.{AllByRecursion, AllZip}
 use Rattle.std.proofs.lemmas.Bool.Decides.{nat_tests}
-use Rattle.std.proofs.lemmas.List.Elements.{recursion_from_All}
-use Rattle.dl_values.specs.declared.job.Job.{Job}
 use Rattle.dl_history.specs.Lists.{total}
 use Rattle.dl_history.specs.Service.{Service}
-use Rattle.dl_history.proofs.ListLemmas.{total-append}
 use Rattle.dl_loader.specs.Pass.{Part, part, Pass, fresh}
 use Rattle.dl_workers.specs.Balance.{Balances}
 use Rattle.dl_workers.specs.Seats.{sent_jobs, taken_jobs}
@@ -19,7 +16,6 @@ use Rattle.dl_workers.specs.declared.queue.Tally.{Tally}
 use Rattle.dl_workers.specs.declared.seats.Sender.{Sender}
 use Rattle.dl_workers.specs.declared.seats.Taker.{Taker}
 use Rattle.dl_workers.specs.declared.worker.WorkerEnd.{WorkerEnd}
-use Rattle.dl_workers.specs.declared.worker.WorkerEnd.TheVariants.{Done}
 use Rattle.dl_workers.proofs.EndsTold.{TellEnds, ended_adds, tell_ends}
 use Rattle.dl_haxl.specs.Follows.{FollowsAndSends}
 use Rattle.dl_haxl.specs.Rounds.{AddsAndSends}

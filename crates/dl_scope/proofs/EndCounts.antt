@@ -13,7 +13,7 @@ use Rattle.dl_desk.specs.Calls.{after}
 use Rattle.dl_desk.specs.declared.reply.End.{End}
 use Rattle.dl_desk.specs.declared.reply.End.TheVariants.{Settled, Failed}
 use Rattle.dl_desk.proofs.Facts.{sent-le}
-use Rattle.dl_history.specs.History.{log, call_of, reply_to, MayBeMade, IsNext, IsLegal, AllEnded}
+use Rattle.dl_history.specs.History.{log, call_of, MayBeMade, IsNext, IsLegal, AllEnded}
 use Rattle.dl_history.specs.Lists.{one_if, total}
 use Rattle.dl_history.specs.Service.{Service}
 use Rattle.dl_history.specs.declared.event.Event.{Event}

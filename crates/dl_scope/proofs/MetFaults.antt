@@ -1,5 +1,5 @@
 -- The faults that runs of plans met, by their places.
-use Rattle.std.proofs.Common.{◌≡◌, ◌∙◌, ap, sym, subst, refl, ℕ, zero, suc, ◌<◌, ◌⊎◌, true, false, List, [], ◌∷◌, map, take, Option, Some, None, Ok, Err, arith}
+use Rattle.std.proofs.Common.{◌≡◌, ◌∙◌, ap, sym, subst, refl, ℕ, zero, suc, ◌<◌, ◌⊎◌, List, [], ◌∷◌, map, take, Option, Some, None, Ok, Err, arith}
 use Rattle.std.specs.Prelude.{All, IfErr, IsOk, Result, slice_get}
 use Rattle.std.specs.List.{AllByRecursion}
 use Rattle.std.proofs.lemmas.List.Elements.{recursion_from_All}

@@ -1,34 +1,24 @@
 -- Answers by the tables alone, from the headline.
-use Rattle.std.proofs.Common.{◌≡◌, ◌∙◌, ap, sym, subst, refl, ℕ, zero, suc, ◌+◌, ◌<◌, Bool, true, false, cond, List, [], ◌∷◌, ◌++◌, length}
-use Rattle.std.proofs.Common.{Option, Some, None, slice_get, nat_eq, arith, inl, inr}
-use Rattle.std.proofs.lemmas.Bool.{cases_lt}
-use Rattle.std.proofs.lemmas.Bool.Decides.{nat_tests}
+use Rattle.std.proofs.Common.{◌≡◌, ◌∙◌, ap, sym, subst, refl, ℕ, ◌<◌, Bool, true, false, cond, List, [], ◌∷◌, ◌++◌, length}
+use Rattle.std.proofs.Common.{Option, Some, None, slice_get, arith}
 use Rattle.dl_values.specs.Key.{Key, key_eq}
 use Rattle.dl_values.specs.declared.outcome.Outcome.{Outcome}
-use Rattle.dl_values.specs.declared.job.Job.{Job}
 use Rattle.dl_values.proofs.KeyLemmas.{key_eq-same}
-use Rattle.dl_history.specs.Agrees.{account, Agrees, Tells, entries_of, places_of}
-use Rattle.dl_history.specs.Entries.{Line, Called, Saw, Told}
-use Rattle.dl_history.specs.Lists.{Every, Among, places}
+use Rattle.dl_history.specs.Agrees.{account, Agrees, entries_of}
+use Rattle.dl_history.specs.Lists.{Every}
 use Rattle.dl_history.specs.Service.{Service}
 use Rattle.dl_history.specs.declared.event.Call.{Call}
 use Rattle.dl_history.specs.declared.event.Call.TheVariants.{Load, LoadMany, Dispatch, Settle, Fail}
 use Rattle.dl_history.specs.declared.event.Call.TheVariants as call
 use Rattle.dl_history.specs.declared.event.Event.{Event}
 use Rattle.dl_history.proofs.HistoryLemmas.{entries_agree}
-use Rattle.dl_history.proofs.ListLemmas.{every_among, every_at, every_from}
-use Rattle.dl_loader.specs.Added.{saws}
-use Rattle.dl_desk.specs.declared.reply.LoadReply.{LoadReply}
-use Rattle.dl_history.specs.declared.event.Ending.{Ending}
+use Rattle.dl_history.proofs.ListLemmas.{every_at, every_from}
 use Rattle.dl_source.specs.Answer.{answer_of}
 use Rattle.dl_terms.specs.Gives.{Pairs, outcome_in, gives}
 use Rattle.dl_terms.specs.Laws.{GivesOnce, GivesForEver}
 use Rattle.dl_terms.specs.Rounds.{Gains}
-use Rattle.dl_terms.specs.Tree.{Tree}
-use Rattle.dl_terms.specs.View.{term_view}
-use Rattle.dl_haxl.specs.Rounds.{HandedOver, Rounds}
-use Rattle.dl_haxl.specs.Follows.{Stretch, stretch, IsStep, AreSteps}
-use Rattle.dl_scope.specs.Headline.{Headline, service_of, Ends, TellsEnd}
+use Rattle.dl_haxl.specs.Follows.{stretch}
+use Rattle.dl_scope.specs.Headline.{Headline, service_of, Ends}
 use Rattle.dl_scope.specs.OwnAnswers.{IsNoPrime, NonePrimed, AreOwn, listed, PrimesNoKey}
 use Rattle.dl_scope.specs.OwnAnswers.{AnswersByTables, AnswersAreOwn, OwnAnswersAreOne}
 use Rattle.dl_scope.specs.Report.{Report}

@@ -1,10 +1,9 @@
 -- How many jobs the dispatches of a legal history hand out: one for each batch that was sent.
-use Rattle.std.proofs.Common.{◌≡◌, ◌∙◌, sym, ap, refl, ℕ, zero, suc, ◌+◌, ◌-◌, ◌<◌, ◌≤◌, ◌⊎◌, inl, inr, List, [], ◌∷◌, ◌++◌, length, Option, Some, None, IsSome}
+use Rattle.std.proofs.Common.{◌≡◌, ◌∙◌, ap, refl, ℕ, zero, suc, ◌+◌, ◌-◌, ◌<◌, ◌≤◌, ◌⊎◌, inl, inr, List, [], ◌∷◌, ◌++◌, length, Option, IsSome}
 use Rattle.std.proofs.Common.{subst, arith, length-append, true, false}
 use Rattle.std.proofs.lemmas.Bool.{cases_lt}
 use Rattle.dl_values.specs.Key.{Key}
 use Rattle.dl_values.specs.Limits.{Rules}
-use Rattle.dl_values.specs.declared.job.Job.{Job}
 use Rattle.dl_desk.specs.History.{Atom, begun, sent, end_of, load_reply, loaded, job, jobs_from, jobs}
 use Rattle.dl_desk.specs.History as atom
 use Rattle.dl_desk.specs.Events.{atoms}
