@@ -6,9 +6,6 @@
  * alone, and of writes those of standard output. REFUSE_IN counts the growths alone that are asked for by a library whose file has
  * this in its name. YIELD=s has threads yield or sleep for an instant at growths, as s draws it.
  *
- * REFUSE_BY_SIZE has a test in Rattle ask by growths of sizes that nothing else has (`Refusal` in crates/dl_fixtures): with n bytes
- * more than some, to have the n-th growth or thread refused from there on, and whether one was.
- *
  * REFUSE_TOLD is the number of an open file, whose first eight bytes become how many were refused. */
 #define _GNU_SOURCE
 #include "refuse.h"
@@ -30,9 +27,6 @@
 /* The C library's own, which it keeps under these names too. */
 extern void *__libc_malloc(size_t), *__libc_realloc(void *, size_t), *__libc_calloc(size_t, size_t);
 
-/* The sizes by which tests ask: of a growth and of a thread with as many bytes more as its number is, at most MOST. */
-enum { REFUSES_GROWTH = 5000011, REFUSES_THREAD = 5020011, ASKS = 5040011, MOST = 10000 };
-
 typedef enum { GROWTH, THREAD, RANDOM, READ, WRITE, KINDS } kind;
 
 /* Of each kind: how many were asked for, which are refused, from the first to the last (0: none), and by which error. */
@@ -41,12 +35,11 @@ static struct {
     int error;
 } rules[KINDS];
 
-/* How many were refused since something was asked for, and in all. */
-static atomic_long refused_since, own_count, *refused_count = &own_count;
+static atomic_long own_count, *refused_count = &own_count;
 static size_t most_read = SIZE_MAX, most_write = SIZE_MAX;
 static const char *counted_object;
 static uint64_t yield_seed;
-static bool asks_by_size, yields;
+static bool yields;
 
 static size_t number_of(const char *name, size_t without)
 {
@@ -83,7 +76,6 @@ __attribute__((constructor)) static void read_environment(void)
     most_read = number_of("MOST_READ", SIZE_MAX);
     most_write = number_of("MOST_WRITE", SIZE_MAX);
     counted_object = getenv("REFUSE_IN");
-    asks_by_size = getenv("REFUSE_BY_SIZE") != NULL;
     yields = getenv("YIELD") != NULL;
     yield_seed = number_of("YIELD", 0);
     for (int kind = 0; kind < KINDS; kind++) {
@@ -106,45 +98,22 @@ static bool is_refused(kind kind)
     if (n < rules[kind].first || n > rules[kind].last) {
         return false;
     }
-    atomic_fetch_add(&refused_since, 1);
     atomic_fetch_add(refused_count, 1);
     errno = rules[kind].error;
     return true;
 }
 
-/* From now on the n-th is refused, and no other. */
-static void refuse(kind kind, long n)
-{
-    refused_since = 0;
-    rules[kind].asked = 0;
-    rules[kind].first = rules[kind].last = n;
-}
-
 void refuse_growth(long n)
 {
-    refuse(GROWTH, n);
+    *refused_count = 0;
+    rules[GROWTH].asked = 0;
+    rules[GROWTH].first = rules[GROWTH].last = n;
 }
 
 long growths_refused(void)
 {
-    rules[GROWTH].first = rules[THREAD].first = 0;
-    return refused_since;
-}
-
-/* Whether a growth of this size asks for something, and what it is answered: whether it is refused. */
-static bool is_asking(size_t size, bool *answer)
-{
-    *answer = false;
-    if (size > REFUSES_GROWTH && size <= REFUSES_GROWTH + MOST) {
-        refuse(GROWTH, (long)(size - REFUSES_GROWTH));
-    } else if (size > REFUSES_THREAD && size <= REFUSES_THREAD + MOST) {
-        refuse(THREAD, (long)(size - REFUSES_THREAD));
-    } else if (size == ASKS) {
-        *answer = growths_refused() > 0;
-    } else {
-        return false;
-    }
-    return true;
+    rules[GROWTH].first = 0;
+    return *refused_count;
 }
 
 /* Every other growth goes on, one of four yields, and one of four sleeps for some microseconds. */
@@ -166,16 +135,12 @@ static void yield_at_random(void)
     }
 }
 
-/* Whether a growth of this size is refused that is asked for by the code at this place. */
-static bool is_growth_refused(size_t size, void *caller)
+/* Whether a growth is refused that is asked for by the code at this place. */
+static bool is_growth_refused(void *caller)
 {
     Dl_info object;
-    bool answer;
 
     yield_at_random();
-    if (asks_by_size && is_asking(size, &answer)) {
-        return answer;
-    }
     if (rules[GROWTH].first == 0) {
         return false;
     }
@@ -185,22 +150,22 @@ static bool is_growth_refused(size_t size, void *caller)
     return is_refused(GROWTH);
 }
 
-#define IS_REFUSED(size) is_growth_refused((size), __builtin_return_address(0))
+#define IS_REFUSED is_growth_refused(__builtin_return_address(0))
 
 void *malloc(size_t size)
 {
-    return IS_REFUSED(size) ? NULL : __libc_malloc(size);
+    return IS_REFUSED ? NULL : __libc_malloc(size);
 }
 
 void *calloc(size_t count, size_t size)
 {
-    return IS_REFUSED(0) ? NULL : __libc_calloc(count, size);
+    return IS_REFUSED ? NULL : __libc_calloc(count, size);
 }
 
 void *realloc(void *block, size_t size)
 {
     bool frees = block != NULL && size == 0;
-    return !frees && IS_REFUSED(size) ? NULL : __libc_realloc(block, size);
+    return !frees && IS_REFUSED ? NULL : __libc_realloc(block, size);
 }
 
 int pthread_create(pthread_t *thread, const pthread_attr_t *attributes, void *(*start)(void *), void *argument)
