@@ -10,12 +10,14 @@ mod desk;
 mod ids;
 mod keys;
 mod plans;
+mod scene;
 mod shared;
 mod tables;
 mod terms;
 
 use crate::command::{Command, Evaluated, Workload};
 use crate::counts::Counts;
+use crate::scene::Scene;
 use crate::terms::Terms;
 use anyhow::Result;
 use std::alloc::Global;
@@ -45,10 +47,12 @@ fn run<R: RandomSource + Threads + Wait + Sync>(
         Workload::Clears => desk::clears(alloc, hashing, counts, keys, most),
         Workload::Tables(ids) => tables::tables(alloc, hashing, counts, ids, keys, most),
         Workload::Shared(callers) => {
-            shared::on_loader(rt, alloc, hashing, counts, callers, keys, most)
+            let scene = Scene { rt, alloc, hashing };
+            shared::on_loader(&scene, counts, callers, keys, most)
         }
         Workload::Terms(evaluated) => {
-            evaluate(rt, alloc, hashing, counts, evaluated, keys, most)
+            let scene = Scene { rt, alloc, hashing };
+            evaluate(&scene, counts, evaluated, keys, most)
         }
     }
 }
@@ -61,9 +65,7 @@ const ROUNDS: u32 = 16;
 
 /// Evaluates terms, of which one has so many parts, or each of several takes so many rounds.
 fn evaluate<R: Threads + Wait + Sync>(
-    rt: &R,
-    alloc: Global,
-    hashing: RandomState,
+    scene: &Scene<'_, R>,
     counts: &mut Counts,
     evaluated: Evaluated,
     keys: u32,
@@ -77,7 +79,7 @@ fn evaluate<R: Threads + Wait + Sync>(
                 parts: keys,
                 rounds: ROUNDS,
             };
-            terms::evaluated(rt, alloc, hashing, counts, terms, batch)
+            terms::evaluated(scene, counts, terms, batch)
         }
         Evaluated::InTurn { count } => {
             let terms = Terms {
@@ -85,7 +87,7 @@ fn evaluate<R: Threads + Wait + Sync>(
                 parts,
                 rounds,
             };
-            terms::evaluated(rt, alloc, hashing, counts, terms, batch)
+            terms::evaluated(scene, counts, terms, batch)
         }
         Evaluated::Served { count, workers } => {
             let terms = Terms {
@@ -93,7 +95,7 @@ fn evaluate<R: Threads + Wait + Sync>(
                 parts,
                 rounds,
             };
-            plans::served(rt, alloc, hashing, counts, terms, workers, batch)
+            plans::served(scene, counts, terms, workers, batch)
         }
     }
 }

@@ -3,12 +3,12 @@
 use crate::alike::Alike;
 use crate::counts::Counts;
 use crate::keys::limits;
+use crate::scene::Scene;
 use crate::terms::{Terms, term_of};
 use anyhow::Result;
 use dl_scope::{Plan, Setup, Step, serve};
 use dl_workers::NoGate;
 use std::alloc::Global;
-use std::hash::RandomState;
 use std::sync::Wait;
 use std::thread::Threads;
 
@@ -17,9 +17,7 @@ const QUEUE: u32 = 16;
 
 /// Serves a plan for each term by so many workers, over a source that answers each key with one row.
 pub(crate) fn served<R: Threads + Wait + Sync>(
-    rt: &R,
-    alloc: Global,
-    hashing: RandomState,
+    scene: &Scene<'_, R>,
     counts: &mut Counts,
     terms: Terms,
     workers: u32,
@@ -30,9 +28,18 @@ pub(crate) fn served<R: Threads + Wait + Sync>(
         workers,
         queue: QUEUE,
     };
+    let alloc = scene.alloc;
     let source = Alike::row(alloc)?;
     let plans = plans_of(alloc, terms)?;
-    let report = serve(rt, alloc, hashing, &source, setup, plans, &NoGate)?;
+    let report = serve(
+        scene.rt,
+        alloc,
+        scene.hashing,
+        &source,
+        setup,
+        plans,
+        &NoGate,
+    )?;
     counts.history(report.history());
     Ok(())
 }

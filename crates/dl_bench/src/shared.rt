@@ -8,13 +8,13 @@ use crate::alike::Alike;
 use crate::command::Callers;
 use crate::counts::Counts;
 use crate::keys::{keys_of, limits};
+use crate::scene::Scene;
 use anyhow::{Result, bail};
 use dl_desk::{FetchKey, Limits};
-use dl_loader::{Loader, LoaderName, MOST_CALLERS, Opening, Pass};
+use dl_loader::{History, Loader, LoaderName, MOST_CALLERS, Opening, Pass};
 use dl_source::Source;
 use dl_workers::end_jobs;
 use std::alloc::Global;
-use std::hash::RandomState;
 use std::marker::Brand;
 use std::sync::Wait;
 use std::thread;
@@ -28,9 +28,7 @@ const BATCH: u32 = 64;
 /// One caller makes a round for each batch of keys, of at most so many. As many callers as that, each on a thread of
 /// its own, load the same keys, one by one, and when all have, the first of them ends what was begun.
 pub(crate) fn on_loader<R: Threads + Wait + Sync>(
-    rt: &R,
-    alloc: Global,
-    hashing: RandomState,
+    scene: &Scene<'_, R>,
     counts: &mut Counts,
     callers: Callers,
     keys: u32,
@@ -41,58 +39,53 @@ pub(crate) fn on_loader<R: Threads + Wait + Sync>(
         Callers::Threads => (BATCH, most),
     };
     let limits = limits(batch)?;
-    let source = Alike::null(alloc)?;
-    let keys = keys_of(alloc, keys)?;
-    let opening = Opening::new(alloc, hashing, &source, limits, passes)?;
-    each_call::<Brand, _, _>(rt, alloc, &source, opening, counts, callers, &keys, limits)?;
+    let source = Alike::null(scene.alloc)?;
+    let keys = keys_of(scene.alloc, keys)?;
+    let opening = Opening::new(scene.alloc, scene.hashing, &source, limits, passes)?;
+    counts.history(&each_call::<Brand, _, _>(scene, &source, opening, callers, &keys, limits)?);
     let loads = (keys.len() as u64).saturating_mul(u64::from(passes));
     counts.hits = loads.saturating_sub(counts.cells);
     Ok(())
 }
 
-/// The calls on the loader of an opening, which `L` stands for, and what they count.
+/// The calls on the loader of an opening, which `L` stands for: its history.
 fn each_call<L: LoaderName + Send + Sync, S: Source, R: Threads + Wait + Sync>(
-    rt: &R,
-    alloc: Global,
+    scene: &Scene<'_, R>,
     source: &S,
     opening: Opening<'_, S>,
-    counts: &mut Counts,
     callers: Callers,
     keys: &[FetchKey],
     limits: Limits,
-) -> Result<()>
+) -> Result<History>
     requires source { opening.source ≡ source.now }
     requires names { Names S.answer opening L.service L.parts L.log L.outcomes L.name }
 {
-    let (loader, mut passes) = Loader::<L>::start(alloc, opening)?;
+    let (loader, mut passes) = Loader::<L>::start(scene.alloc, opening)?;
     match callers {
-        Callers::One => rounds(rt, alloc, source, &loader, &mut passes, keys, limits)?,
+        Callers::One => rounds(scene, source, &loader, &mut passes, keys, limits)?,
         Callers::Threads => {
-            load_by_each(rt, alloc, &loader, &mut passes, keys);
-            end_all(rt, alloc, source, &loader, &mut passes)?;
+            load_by_each(scene.rt, scene.alloc, &loader, &mut passes, keys);
+            end_all(scene, source, &loader, &mut passes)?;
         }
     }
-    close(alloc, loader, passes, counts)
+    close(scene.alloc, loader, passes)
 }
 
-/// Closes a loader, and counts what its callers did, and what the first of them read.
+/// Closes a loader: its history.
 pub(crate) fn close<L: LoaderName>(
     alloc: Global,
     loader: Loader<L>,
     passes: Vec<Pass<L>>,
-    counts: &mut Counts,
-) -> Result<()> {
+) -> Result<History> {
     match loader.close(alloc, passes) {
-        Ok(history) => counts.history(&history),
-        Err((fault, _, _)) => return Err(fault.into()),
+        Ok(history) => Ok(history),
+        Err((fault, _, _)) => Err(fault.into()),
     }
-    Ok(())
 }
 
 /// A round of the first caller for each batch of keys.
 fn rounds<L: LoaderName, S: Source, R: Wait>(
-    rt: &R,
-    alloc: Global,
+    scene: &Scene<'_, R>,
     source: &S,
     loader: &Loader<L>,
     passes: &mut [Pass<L>],
@@ -105,15 +98,14 @@ fn rounds<L: LoaderName, S: Source, R: Wait>(
         bail!("a loader without a caller");
     };
     for part in keys.chunks(limits.max_batch() as usize) {
-        round(rt, alloc, source, loader, pass, part)?;
+        round(scene, source, loader, pass, part)?;
     }
     Ok(())
 }
 
 /// Loads keys in one call, dispatches, settles what was sent, and reads each outcome.
 fn round<L: LoaderName, S: Source, R: Wait>(
-    rt: &R,
-    alloc: Global,
+    scene: &Scene<'_, R>,
     source: &S,
     loader: &Loader<L>,
     pass: &mut Pass<L>,
@@ -121,6 +113,7 @@ fn round<L: LoaderName, S: Source, R: Wait>(
 ) -> Result<()>
     requires { Answers (S.answer source.now) L.service }
 {
+    let (rt, alloc) = (scene.rt, scene.alloc);
     let tickets = loader.load_many(rt, alloc, pass, keys)?;
     let jobs = loader.dispatch(rt, alloc, pass)?;
     end_jobs(rt, alloc, loader, source, pass, jobs)?;
@@ -133,8 +126,7 @@ fn round<L: LoaderName, S: Source, R: Wait>(
 
 /// The first caller dispatches, and settles what was sent.
 fn end_all<L: LoaderName, S: Source, R: Wait>(
-    rt: &R,
-    alloc: Global,
+    scene: &Scene<'_, R>,
     source: &S,
     loader: &Loader<L>,
     passes: &mut [Pass<L>],
@@ -144,6 +136,7 @@ fn end_all<L: LoaderName, S: Source, R: Wait>(
     let Some(pass) = passes.first_mut() else {
         bail!("a loader without a caller");
     };
+    let (rt, alloc) = (scene.rt, scene.alloc);
     let jobs = loader.dispatch(rt, alloc, pass)?;
     Ok(end_jobs(rt, alloc, loader, source, pass, jobs)?)
 }

@@ -7,16 +7,16 @@ ghost use Rattle.dl_loader.specs.Opening.{Names};
 use crate::alike::Alike;
 use crate::counts::Counts;
 use crate::keys::limits;
+use crate::scene::Scene;
 use crate::shared::close;
 use anyhow::{Result, bail};
 use dl_desk::{FetchKey, Text};
 use dl_haxl::run_inline;
-use dl_loader::{Loader, LoaderName, Opening, Pass};
+use dl_loader::{History, Loader, LoaderName, Opening, Pass};
 use dl_source::Source;
 use dl_terms::{Answer, Term};
 use itoa::Buffer;
 use std::alloc::Global;
-use std::hash::RandomState;
 use std::marker::Brand;
 use std::sync::Wait;
 
@@ -34,42 +34,36 @@ pub(crate) struct Terms {
 /// each further round the key that the row names in another table, so no key is loaded twice. At the end the loader is
 /// closed.
 pub(crate) fn evaluated<R: Wait>(
-    rt: &R,
-    alloc: Global,
-    hashing: RandomState,
+    scene: &Scene<'_, R>,
     counts: &mut Counts,
     terms: Terms,
     batch: u32,
 ) -> Result<()> {
     let limits = limits(batch)?;
-    let source = Alike::row(alloc)?;
-    let opening = Opening::new(alloc, hashing, &source, limits, 1)?;
-    on_loader::<Brand, _, _>(rt, alloc, hashing, &source, opening, counts, terms)
+    let source = Alike::row(scene.alloc)?;
+    let opening = Opening::new(scene.alloc, scene.hashing, &source, limits, 1)?;
+    counts.history(&on_loader::<Brand, _, _>(scene, &source, opening, terms)?);
+    Ok(())
 }
 
-/// The evaluations on the loader of an opening, which `L` stands for, and what they count.
+/// The evaluations on the loader of an opening, which `L` stands for: its history.
 fn on_loader<L: LoaderName, S: Source, R: Wait>(
-    rt: &R,
-    alloc: Global,
-    hashing: RandomState,
+    scene: &Scene<'_, R>,
     source: &S,
     opening: Opening<'_, S>,
-    counts: &mut Counts,
     terms: Terms,
-) -> Result<()>
+) -> Result<History>
     requires source { opening.source ≡ source.now }
     requires names { Names S.answer opening L.service L.parts L.log L.outcomes L.name }
 {
-    let (loader, mut passes) = Loader::<L>::start(alloc, opening)?;
-    evaluate(rt, alloc, hashing, source, &loader, &mut passes, terms)?;
-    close(alloc, loader, passes, counts)
+    let (loader, mut passes) = Loader::<L>::start(scene.alloc, opening)?;
+    evaluate(scene, source, &loader, &mut passes, terms)?;
+    close(scene.alloc, loader, passes)
 }
 
 /// The first caller evaluates the terms.
 fn evaluate<L: LoaderName, S: Source, R: Wait>(
-    rt: &R,
-    alloc: Global,
-    hashing: RandomState,
+    scene: &Scene<'_, R>,
     source: &S,
     loader: &Loader<L>,
     passes: &mut [Pass<L>],
@@ -81,16 +75,14 @@ fn evaluate<L: LoaderName, S: Source, R: Wait>(
         bail!("a loader without a caller");
     };
     for number in 0..terms.count {
-        evaluate_one(rt, alloc, hashing, source, loader, pass, terms, number)?;
+        evaluate_one(scene, source, loader, pass, terms, number)?;
     }
     Ok(())
 }
 
 /// The caller of a pass evaluates the term of a number.
 fn evaluate_one<L: LoaderName, S: Source, R: Wait>(
-    rt: &R,
-    alloc: Global,
-    hashing: RandomState,
+    scene: &Scene<'_, R>,
     source: &S,
     loader: &Loader<L>,
     pass: &mut Pass<L>,
@@ -99,8 +91,9 @@ fn evaluate_one<L: LoaderName, S: Source, R: Wait>(
 ) -> Result<()>
     requires { Answers (S.answer source.now) L.service }
 {
+    let (alloc, hashing) = (scene.alloc, scene.hashing);
     let term = term_of(alloc, terms, number)?;
-    let (answer, _rounds) = run_inline(rt, alloc, hashing, loader, source, pass, term)?;
+    let (answer, _rounds) = run_inline(scene.rt, alloc, hashing, loader, source, pass, term)?;
     match answer {
         Answer::Value(_) => Ok(()),
         Answer::Fault(_) => bail!("a term without a value"),

@@ -1,2 +1,2 @@
-mod Sent
+mod ThreadSafety
 mod Values

@@ -25,7 +25,7 @@ unfoldable pub cell_of : RowName → ℕ → CellName
 cell_of row i = record { segment = slice_index row.segments (i / 64); place = i % 64 }
 
 -- what a reader is: the cell that it reads, and that cell's value once the reader knows it
-pub record Reading (X : Type 0) : Type 0 where
+pub record Reader (X : Type 0) : Type 0 where
   pub cell : CellName
   pub known : Option X
 

@@ -10,7 +10,7 @@ use std::marker::Model;
 
 /// What one holder knows of one cell of a `CellRow`: nothing yet, or the cell's value for good.
 ///
-/// In clauses it is a `Reading`: `cell` says which cell it is of, and `known` is the value, once it
+/// In clauses it is a `Reader`: `cell` says which cell it is of, and `known` is the value, once it
 /// was seen. A reader borrows nothing, and may lie in a struct or go to another thread. It takes the
 /// four bytes of its place.
 #[derive(Drop)]
@@ -22,9 +22,9 @@ pub struct Reader<T> {
 
 impl<T> Model for Reader<T> {
     ghost use Rattle.std.specs.Prelude.{◌≡◌, IsSomeAnd, slice_index};
-    ghost use Rattle.dl_cells.specs.Cells.{Reading};
+    ghost use Rattle.dl_cells.specs.Cells.{Reader};
 
-    ghost Value = { Reading T };
+    ghost Value = { Reader T };
 
     ghost view = { λ r. record { cell = record { segment = r.segment.cell; place = r.place }; known = r.value.known } };
 
@@ -32,7 +32,7 @@ impl<T> Model for Reader<T> {
 }
 
 impl<T> Reader<T> {
-    /// A second reader of the same cell that knows the same, as for another thread. It does not allocate.
+    /// A second reader of the same cell that knows the same, as for another thread.
     pub fn again(&self) -> Reader<T>
         ensures { result ≡ self.now }
     {

@@ -92,7 +92,6 @@ impl<T: Drop> CellRow<T> {
 
     /// Sets cell `i` to `value`: the reader then knows that value, and knew nothing before. Where the
     /// cell was set before, hands `value` back: the reader then knows the value that is there.
-    /// It does not allocate.
     pub fn show(&self, i: u32, reader: &mut Reader<T>, value: Box<T>) -> Result<(), Box<T>>
         requires in_row { i < row_len self.now }
         requires of_cell { reader.old.cell ≡ cell_of self.now i }

@@ -12,7 +12,7 @@ use Rattle.dl_desk.specs.declared.fault.DeskFault.{DeskFault}
 use Rattle.dl_desk.specs.declared.fault.DeskFault.TheVariants.{NoBatch, NotSent, SettledBefore, CellsFull, OutOfMemory}
 use Rattle.dl_desk.specs.Calls.{new_count, full, IsRefusal, Loads}
 use Rattle.dl_desk.specs.BatchBook.{BatchBook, StandsFor}
-use Rattle.dl_desk.specs.Prepared.{RefusesStep}
+use Rattle.dl_desk.specs.Preparation.{RefusesStep}
 use Rattle.dl_values.proofs.KeyLemmas.{key_eq-same}
 use Rattle.dl_desk.proofs.HeldLemmas.{held-same, held-begun}
 

@@ -10,11 +10,11 @@ use Rattle.dl_desk.specs.History.{begun, end_of, MayEnd, IsAnswered, IsLegal}
 use Rattle.dl_desk.specs.declared.reply.End.{End}
 use Rattle.dl_desk.specs.declared.reply.End.TheVariants.{Settled, Failed}
 use Rattle.dl_desk.specs.BatchBook.{Batch, BatchBook, batch_at, StandsFor}
-use Rattle.dl_desk.specs.Prepared.{has_pair, without, set_end, MayEndIn, Forgets}
+use Rattle.dl_desk.specs.Preparation.{has_pair, without, set_end, MayEndIn, Forgets}
 use Rattle.dl_values.proofs.KeyLemmas.{key_eq-sym}
 use Rattle.dl_desk.proofs.Facts.{fresh_cell}
 use Rattle.dl_desk.proofs.HeldLemmas.{held-same}
-use Rattle.dl_desk.proofs.Rooms.{members_at-are}
+use Rattle.dl_desk.proofs.OpenBatch.{members_at-are}
 
 -- ---- the cells of members
 

@@ -7,7 +7,7 @@ use Rattle.std.proofs.lemmas.Bool.Decides.{nat_tests}
 use Rattle.dl_values.specs.Key.{Key}
 use Rattle.dl_values.specs.Limits.{Rules}
 use Rattle.dl_desk.specs.Laws.{EndsStay}
-use Rattle.dl_desk.specs.Events.{Made, One, Many, Event, with_loads, with_made, atoms, IsReplied, IsLegalLog, last_of, is_primed, primes, ends_batch, ends}
+use Rattle.dl_desk.specs.Events.{Made, One, Many, Event, with_loads, with_made, atoms, IsReplied, IsLegalPast, last_of, is_primed, primes, ends_batch, ends}
 use Rattle.dl_desk.specs.Events.{batch_at, cell_batch, Placed, newest, ending, ended}
 use Rattle.dl_desk.specs.History.{Atom, Load, Prime, Clear, ClearAll, Dispatch, Settle, Fail, Begun, begins, count_cell, cells, end_of, load_reply}
 use Rattle.dl_desk.specs.History.{load_replies, IsAnswered, IsLegal}
@@ -16,7 +16,7 @@ use Rattle.dl_desk.specs.declared.reply.End.{End}
 use Rattle.dl_desk.specs.declared.reply.End.TheVariants.{Settled, Failed}
 use Rattle.dl_desk.proofs.Facts.{fresh_cell}
 
--- ---- the history of a legal log
+-- ---- the history of a legal past
 
 loads_legal : (rules : Rules) (history : List Atom) (ks : List Key) → IsLegal rules history
     → IsLegal rules (with_loads ks (load_replies rules history ks) history)
@@ -28,8 +28,8 @@ made_legal rules history (One a) replied legal = (replied, legal)
 made_legal rules history (Many ks rs) replied legal = subst (λ (replies : List LoadReply). IsLegal rules (with_loads ks replies history)) (sym replied)
     (loads_legal rules history ks legal)
 
--- the history that a legal log tells is legal
-pub atoms_legal : (rules : Rules) (log : List Event) → IsLegalLog rules log → IsLegal rules (atoms log)
+-- the history that a legal past tells is legal
+pub atoms_legal : (rules : Rules) (past : List Event) → IsLegalPast rules past → IsLegal rules (atoms past)
 atoms_legal rules [] legal = tt
 atoms_legal rules (e ∷ before) legal = made_legal rules (atoms before) e.made legal.0 (atoms_legal rules before legal.1)
 
@@ -116,19 +116,19 @@ primed_step rules e before c p replied false other low is =
     let more = made-le e.made (atoms before) in
     omega arith
 
-pub primed-low : (rules : Rules) (log : List Event) (c : ℕ) (p : Placed) → IsLegalLog rules log → last_of (primes c) log ≡ Some p → c < cells (atoms log)
+pub primed-low : (rules : Rules) (past : List Event) (c : ℕ) (p : Placed) → IsLegalPast rules past → last_of (primes c) past ≡ Some p → c < cells (atoms past)
 primed-low rules [] c p legal e = absurd (let bad : ◌≡◌ {A = Option Placed} None (Some p) = e in cc)
 primed-low rules (e ∷ before) c p legal is = primed_step rules e before c p legal.0 (primes c e.made) refl (primed-low rules before c p legal.1) is
 
-ended_low : (rules : Rules) (log : List Event) (c : ℕ) (p : Placed) → IsLegalLog rules log → (prime : Option Placed) → last_of (primes c) log ≡ prime
-    → (batch : Option ℕ) → cell_batch (atoms log) c ≡ batch → option_or prime (option_and_then (λ b. last_of (ends b) log) batch) ≡ Some p
-    → c < cells (atoms log)
-ended_low rules log c p legal (Some q) prime batch is e = primed-low rules log c q legal prime
-ended_low rules log c p legal None prime (Some b) is e = cell_batch-low rules (atoms log) c b (atoms_legal rules log legal) is
-ended_low rules log c p legal None prime None is e = absurd (let bad : ◌≡◌ {A = Option Placed} None (Some p) = e in cc)
+ended_low : (rules : Rules) (past : List Event) (c : ℕ) (p : Placed) → IsLegalPast rules past → (prime : Option Placed) → last_of (primes c) past ≡ prime
+    → (batch : Option ℕ) → cell_batch (atoms past) c ≡ batch → option_or prime (option_and_then (λ b. last_of (ends b) past) batch) ≡ Some p
+    → c < cells (atoms past)
+ended_low rules past c p legal (Some q) prime batch is e = primed-low rules past c q legal prime
+ended_low rules past c p legal None prime (Some b) is e = cell_batch-low rules (atoms past) c b (atoms_legal rules past legal) is
+ended_low rules past c p legal None prime None is e = absurd (let bad : ◌≡◌ {A = Option Placed} None (Some p) = e in cc)
 
-pub ended-low : (rules : Rules) (log : List Event) (c : ℕ) (p : Placed) → IsLegalLog rules log → ending log c ≡ Some p → c < cells (atoms log)
-ended-low rules log c p legal e = ended_low rules log c p legal (last_of (primes c) log) refl (cell_batch (atoms log) c) refl e
+pub ended-low : (rules : Rules) (past : List Event) (c : ℕ) (p : Placed) → IsLegalPast rules past → ending past c ≡ Some p → c < cells (atoms past)
+ended-low rules past c p legal e = ended_low rules past c p legal (last_of (primes c) past) refl (cell_batch (atoms past) c) refl e
 
 -- ---- a batch ends once
 
@@ -158,7 +158,7 @@ made_unended (One a) history b none = atom_unended a history b none
 made_unended (Many ks rs) history b none = (refl, sym (loads_unended ks rs history b) ∙ none)
 
 -- where no atom ends the batch, no event does
-pub last-unended : (log : List Event) (b : ℕ) → end_of (atoms log) b ≡ None → last_of (ends b) log ≡ None
+pub last-unended : (past : List Event) (b : ℕ) → end_of (atoms past) b ≡ None → last_of (ends b) past ≡ None
 last-unended [] b none = refl
 last-unended (e ∷ before) b none =
     let parts = made_unended e.made (atoms before) b none in
@@ -206,7 +206,7 @@ end_step rules e before p replied (Some q) batch is = is
 end_step rules e before p replied None None is = is
 end_step rules e before p replied None (Some b) is = end_stays rules e before b p replied is
 
-ending_step : (rules : Rules) (e : Event) (before : List Event) (c : ℕ) (p : Placed) → IsLegalLog rules (e ∷ before) → ending before c ≡ Some p
+ending_step : (rules : Rules) (e : Event) (before : List Event) (c : ℕ) (p : Placed) → IsLegalPast rules (e ∷ before) → ending before c ≡ Some p
     → ending (e ∷ before) c ≡ Some p
 ending_step rules e before c p legal is =
     let low = ended-low rules before c p legal.1 is in
@@ -216,12 +216,12 @@ ending_step rules e before c p legal is =
     rw (prime, batch) stays
 
 -- the event that ended a cell stays the same
-pub ending_stays : (rules : Rules) (later before : List Event) (c : ℕ) (p : Placed) → IsLegalLog rules (later ++ before) → ending before c ≡ Some p
+pub ending_stays : (rules : Rules) (later before : List Event) (c : ℕ) (p : Placed) → IsLegalPast rules (later ++ before) → ending before c ≡ Some p
     → ending (later ++ before) c ≡ Some p
 ending_stays rules [] before c p legal is = is
 ending_stays rules (e ∷ later) before c p legal is = ending_step rules e (later ++ before) c p legal (ending_stays rules later before c p legal.1 is)
 
-place_stays : (rules : Rules) (later before : List Event) (c place : ℕ) → IsLegalLog rules (later ++ before) → (o : Option Placed) → ending before c ≡ o
+place_stays : (rules : Rules) (later before : List Event) (c place : ℕ) → IsLegalPast rules (later ++ before) → (o : Option Placed) → ending before c ≡ o
     → option_map (λ (p : Placed). p.place) o ≡ Some place → ended (later ++ before) c ≡ Some place
 place_stays rules later before c place legal None is e = absurd (let bad : ◌≡◌ {A = Option ℕ} None (Some place) = e in cc)
 place_stays rules later before c place legal (Some p) is e = ap (option_map (λ (q : Placed). q.place)) (ending_stays rules later before c p legal is) ∙ e

@@ -9,7 +9,7 @@ use Rattle.dl_values.specs.Key.{Key}
 use Rattle.dl_values.specs.Limits.{Rules}
 use Rattle.dl_desk.specs.Laws.{OutcomesStay}
 use Rattle.dl_desk.specs.History.{Atom, Load, Begun, begins, cells, is_number, add_member, members}
-use Rattle.dl_desk.specs.Events.{Made, One, Many, Gave, Nothing, Given, Each, Broke, Event, with_loads, with_made, atoms, IsLegalLog, cell_batch, Placed}
+use Rattle.dl_desk.specs.Events.{Made, One, Many, Gave, Nothing, Given, Each, Broke, Event, with_loads, with_made, atoms, IsLegalPast, cell_batch, Placed}
 use Rattle.dl_desk.specs.Events.{ending, batch_cells, outcome_given, outcome}
 use Rattle.dl_desk.specs.declared.reply.LoadReply.{LoadReply}
 use Rattle.dl_values.specs.declared.outcome.Outcome.{Outcome}
@@ -46,27 +46,27 @@ extends_made : (m : Made) (history : List Atom) (b : ℕ) → Extends (members h
 extends_made (One a) history b = extends_atom b (begins a) (members history b)
 extends_made (Many ks rs) history b = extends_loads ks rs history b
 
-extends_log : (later before : List Event) (b : ℕ) → Extends (members (atoms before) b) (members (atoms (later ++ before)) b)
-extends_log [] before b = extends_same (members (atoms before) b)
-extends_log (e ∷ later) before b = extends_on (members (atoms before) b) (members (atoms (later ++ before)) b)
-    (members (with_made e.made (atoms (later ++ before))) b) (extends_log later before b) (extends_made e.made (atoms (later ++ before)) b)
+extends_past : (later before : List Event) (b : ℕ) → Extends (members (atoms before) b) (members (atoms (later ++ before)) b)
+extends_past [] before b = extends_same (members (atoms before) b)
+extends_past (e ∷ later) before b = extends_on (members (atoms before) b) (members (atoms (later ++ before)) b)
+    (members (with_made e.made (atoms (later ++ before))) b) (extends_past later before b) (extends_made e.made (atoms (later ++ before)) b)
 
 -- ---- the batch of a cell stays
 
-cells-log : (later before : List Event) → cells (atoms before) ≤ cells (atoms (later ++ before))
-cells-log [] before = omega arith
-cells-log (e ∷ later) before =
-    let rest = cells-log later before in
+cells-past : (later before : List Event) → cells (atoms before) ≤ cells (atoms (later ++ before))
+cells-past [] before = omega arith
+cells-past (e ∷ later) before =
+    let rest = cells-past later before in
     let one = made-le e.made (atoms (later ++ before)) in
     omega arith
 
-batch_log : (rules : Rules) (later before : List Event) (c : ℕ) → IsLegalLog rules (later ++ before) → c < cells (atoms before)
+batch_past : (rules : Rules) (later before : List Event) (c : ℕ) → IsLegalPast rules (later ++ before) → c < cells (atoms before)
     → cell_batch (atoms (later ++ before)) c ≡ cell_batch (atoms before) c
-batch_log rules [] before c legal low = refl
-batch_log rules (e ∷ later) before c legal low =
-    let more = cells-log later before in
+batch_past rules [] before c legal low = refl
+batch_past rules (e ∷ later) before c legal low =
+    let more = cells-past later before in
     let still : c < cells (atoms (later ++ before)) = omega arith in
-    made_kept rules (atoms (later ++ before)) e.made c legal.0 still ∙ batch_log rules later before c legal.1 low
+    made_kept rules (atoms (later ++ before)) e.made c legal.0 still ∙ batch_past rules later before c legal.1 low
 
 -- ---- the outcome beside a cell
 
@@ -86,24 +86,24 @@ each_stays : (later before : List Event) (c : ℕ) (found : Outcome) (os : List 
     → lookup (nat_eq c) (zip (batch_cells (atoms before) o) os) ≡ Some found → lookup (nat_eq c) (zip (batch_cells (atoms (later ++ before)) o) os) ≡ Some found
 each_stays later before c found os None is = is
 each_stays later before c found os (Some b) is =
-    let e = extends_log later before b in
+    let e = extends_past later before b in
     rw (e.is, map-append) (beside c found (map (λ (m : Key × ℕ). m.1) (members (atoms before) b)) (map (λ (m : Key × ℕ). m.1) e.more) os is)
 
-given_stays : (rules : Rules) (later before : List Event) (c : ℕ) (found : Outcome) → IsLegalLog rules (later ++ before) → c < cells (atoms before)
+given_stays : (rules : Rules) (later before : List Event) (c : ℕ) (found : Outcome) → IsLegalPast rules (later ++ before) → c < cells (atoms before)
     → (g : Gave) → outcome_given (atoms before) c g ≡ Some found → outcome_given (atoms (later ++ before)) c g ≡ Some found
 given_stays rules later before c found legal low Nothing is = is
 given_stays rules later before c found legal low (Given o) is = is
-given_stays rules later before c found legal low (Each os) is = rw (batch_log rules later before c legal low)
+given_stays rules later before c found legal low (Each os) is = rw (batch_past rules later before c legal low)
     (each_stays later before c found os (cell_batch (atoms before) c) is)
 given_stays rules later before c found legal low (Broke fault) is = is
 
 -- ---- the law
 
-legal_before : (rules : Rules) (later before : List Event) → IsLegalLog rules (later ++ before) → IsLegalLog rules before
+legal_before : (rules : Rules) (later before : List Event) → IsLegalPast rules (later ++ before) → IsLegalPast rules before
 legal_before rules [] before legal = legal
 legal_before rules (e ∷ later) before legal = legal_before rules later before legal.1
 
-outcome_stays : (rules : Rules) (later before : List Event) (c : ℕ) (found : Outcome) → IsLegalLog rules (later ++ before) → (o : Option Placed)
+outcome_stays : (rules : Rules) (later before : List Event) (c : ℕ) (found : Outcome) → IsLegalPast rules (later ++ before) → (o : Option Placed)
     → ending before c ≡ o → option_and_then (λ (p : Placed). outcome_given (atoms before) c p.event.gave) o ≡ Some found
     → outcome (later ++ before) c ≡ Some found
 outcome_stays rules later before c found legal None is e = absurd (let bad : ◌≡◌ {A = Option Outcome} None (Some found) = e in cc)

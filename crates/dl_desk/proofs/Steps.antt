@@ -7,10 +7,10 @@ use Rattle.dl_desk.specs.History.{Atom, Load, Clear, Begun, Latest, later, lates
 use Rattle.dl_desk.specs.declared.reply.LoadReply.{LoadReply}
 use Rattle.dl_desk.specs.declared.reply.LoadReply.TheVariants.{Hit, Fresh}
 use Rattle.dl_desk.specs.BatchBook.{BatchBook, StandsFor}
-use Rattle.dl_desk.specs.Prepared.{book_room, Begins, Puts}
+use Rattle.dl_desk.specs.Preparation.{book_room, Begins, Puts}
 use Rattle.dl_desk.proofs.HeldLemmas.{held-same}
-use Rattle.dl_desk.proofs.Begun.{stands_begun}
-use Rattle.dl_desk.proofs.Rooms.{book_room-is}
+use Rattle.dl_desk.proofs.NewCell.{stands_begun}
+use Rattle.dl_desk.proofs.OpenBatch.{book_room-is}
 
 pub fresh_reply : (book : BatchBook) (history : List Atom) (k : Key) → StandsFor book history → lookup (key_eq k) book.memo ≡ None
     → Fresh book.cells (book_room book k) ≡ load_reply book.rules history k

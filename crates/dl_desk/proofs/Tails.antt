@@ -4,9 +4,9 @@ use Rattle.std.proofs.Common.{refl, arith}
 use Rattle.std.proofs.lemmas.Bool.{cases_lt, cases_eq}
 use Rattle.std.proofs.lemmas.List.{length-map}
 use Rattle.std.proofs.lemmas.Option.{slice_get_read}
-use Rattle.dl_desk.specs.Stored.{Stored}
+use Rattle.dl_desk.specs.StoredBatch.{StoredBatch}
 use Rattle.dl_desk.specs.BatchBook.{Batch}
-use Rattle.dl_desk.specs.Prepared.{whole, front, Same}
+use Rattle.dl_desk.specs.Preparation.{prepared_batch, shown_batch, Same}
 
 -- ---- one place of a list
 
@@ -30,30 +30,30 @@ map-set_unseen f (z ∷ xs) (suc n) x y at same = rw (map-set_unseen f xs n x y 
 
 -- ---- ranges
 
-same_each : (xs : List Stored) → ((b : ℕ) (x : Stored) → slice_get xs b ≡ Some x → front x ≡ whole x) → map front xs ≡ map whole xs
+same_each : (xs : List StoredBatch) → ((b : ℕ) (x : StoredBatch) → slice_get xs b ≡ Some x → shown_batch x ≡ prepared_batch x) → map shown_batch xs ≡ map prepared_batch xs
 same_each [] each = refl
 same_each (x ∷ xs) each = rw (each 0 x refl, same_each xs (λ b. each (suc b))) refl
 
 -- where the range has run out, nothing is prepared anywhere
-pub same_all : (from to : ℕ) (xs : List Stored) → to ≤ from → Same from to xs → map front xs ≡ map whole xs
+pub same_all : (from to : ℕ) (xs : List StoredBatch) → to ≤ from → Same from to xs → map shown_batch xs ≡ map prepared_batch xs
 same_all from to xs done same = same_each xs (λ b x at. elim (cases_lt b from)
     [ inl below ↦ same b (inl below) x at | inr above ↦ same b (inr (omega arith)) x at ])
 
 -- one more batch of the range was cut or shown
-pub same_step : (n to : ℕ) (xs : List Stored) (y : Stored) → n < length xs → front y ≡ whole y → Same n to xs → Same (n + 1) to (set xs n y)
+pub same_step : (n to : ℕ) (xs : List StoredBatch) (y : StoredBatch) → n < length xs → shown_batch y ≡ prepared_batch y → Same n to xs → Same (n + 1) to (set xs n y)
 same_step n to xs y low done same b outside x at = elim (cases_eq b n) [
-  | inl e ↦ let is : slice_get (set xs n y) b ≡ Some y = rw e (get-set_same xs n y low) in let s : ◌≡◌ {A = Option Stored} (Some y) (Some x) =
+  | inl e ↦ let is : slice_get (set xs n y) b ≡ Some y = rw e (get-set_same xs n y low) in let s : ◌≡◌ {A = Option StoredBatch} (Some y) (Some x) =
       sym is ∙ at in let f : y ≡ x = cc in rw (← f) done
   | inr ne ↦ same b (elim outside [ inl below ↦ inl (omega arith) | inr above ↦ inr above ]) x (sym (get-set_other xs n b y ne) ∙ at)
 ]
 
 -- two lists with the same batches are equally long
-pub same_length : (f g : Stored → Batch) (xs ys : List Stored) → map f xs ≡ map g ys → length xs ≡ length ys
+pub same_length : (f g : StoredBatch → Batch) (xs ys : List StoredBatch) → map f xs ≡ map g ys → length xs ≡ length ys
 same_length f g xs ys same = sym (length-map xs f) ∙ (ap length same ∙ length-map ys g)
 
 -- a turn of the loop that cuts or shows: the batch at n was x and is y
-pub cut_turn : (f : Stored → Batch) (n to len : ℕ) (xs first : List Stored) (x y : Stored) → to ≤ len → len ≡ length first → n < to → x ≡ get_or xs n x
-    → front y ≡ whole y → f y ≡ f x
+pub cut_turn : (f : StoredBatch → Batch) (n to len : ℕ) (xs first : List StoredBatch) (x y : StoredBatch) → to ≤ len → len ≡ length first → n < to → x ≡ get_or xs n x
+    → shown_batch y ≡ prepared_batch y → f y ≡ f x
     → Same n to xs × (map f xs ≡ map f first) → Same (n + 1) to (set xs n y) × (map f (set xs n y) ≡ map f first)
 cut_turn f n to len xs first x y within len_is below read done unseen inv =
     let low : n < length xs = let e = same_length f f xs first inv.1 in omega arith in

@@ -8,9 +8,9 @@ use Rattle.indexmap.specs.IndexSet.{insert_key}
 use Rattle.dl_values.specs.Key.{Key, key_eq}
 use Rattle.dl_desk.specs.History.{has_member}
 use Rattle.dl_desk.specs.declared.reply.End.{End}
-use Rattle.dl_desk.specs.Stored.{Stored}
+use Rattle.dl_desk.specs.StoredBatch.{StoredBatch}
 use Rattle.dl_desk.specs.BatchBook.{Batch}
-use Rattle.dl_desk.specs.Prepared.{whole, front}
+use Rattle.dl_desk.specs.Preparation.{prepared_batch, shown_batch}
 
 -- there are as many members as cells
 pub length-zip_same : (ks : List Key) (cs : List ℕ) → length ks ≡ length cs → length (zip ks cs) ≡ length cs
@@ -32,7 +32,7 @@ pub insert_key-new : (ks : List Key) (k : Key) → list_any (key_eq k) ks ≡ fa
 insert_key-new ks k none = rw none refl
 
 -- the stored batch of these fields
-abbrev pub stored : List Key → List ℕ → ℕ → Option End → Stored
+abbrev pub stored : List Key → List ℕ → ℕ → Option End → StoredBatch
 stored ks cs seen end = record { members = zip ks cs; seen = seen; end = end }
 
 -- What a push leaves: the fields of the batch before and after it.
@@ -56,10 +56,10 @@ module _ {ks : List Key} {cs : List ℕ} {seen : ℕ} {k : Key} {c : ℕ} {ks' :
   pub pushed_members : zip ks' cs' ≡ zip ks cs ++ (k, c) ∷ []
   pushed_members = rw (pushed_keys, p.cells) (zip_push ks cs k c (sym p.same))
 
-  pub pushed_whole : (end : Option End) → whole (stored ks' cs' seen end) ≡ record { members = zip ks cs ++ (k, c) ∷ []; end = end }
+  pub pushed_whole : (end : Option End) → prepared_batch (stored ks' cs' seen end) ≡ record { members = zip ks cs ++ (k, c) ∷ []; end = end }
   pushed_whole end = ap (λ (ms : List (Key × ℕ)). let b : Batch = record { members = ms; end = end } in b) pushed_members
 
-  pub pushed_front : (end : Option End) → front (stored ks' cs' seen end) ≡ front (stored ks cs seen end)
+  pub pushed_front : (end : Option End) → shown_batch (stored ks' cs' seen end) ≡ shown_batch (stored ks cs seen end)
   pushed_front end =
       let low : seen ≤ length (zip ks cs) = rw (length-zip_same ks cs p.same) p.within in
       let shown : take seen (zip ks' cs') ≡ take seen (zip ks cs) = rw pushed_members (take-append-le seen (zip ks cs) ((k, c) ∷ []) low) in
@@ -67,17 +67,17 @@ module _ {ks : List Key} {cs : List ℕ} {seen : ℕ} {k : Key} {c : ℕ} {ks' :
 
 -- cutting both at what is shown leaves the front
 pub cut_whole : (ks : List Key) (cs : List ℕ) (seen : ℕ) (end : Option End)
-    → whole (stored (take seen ks) (take seen cs) seen end) ≡ front (stored ks cs seen end)
+    → prepared_batch (stored (take seen ks) (take seen cs) seen end) ≡ shown_batch (stored ks cs seen end)
 cut_whole ks cs seen end = ap (λ (ms : List (Key × ℕ)). let b : Batch = record { members = ms; end = end } in b) (zip-take seen ks cs)
 
 pub cut_front : (ks : List Key) (cs : List ℕ) (seen : ℕ) (end : Option End)
-    → front (stored (take seen ks) (take seen cs) seen end) ≡ front (stored ks cs seen end)
+    → shown_batch (stored (take seen ks) (take seen cs) seen end) ≡ shown_batch (stored ks cs seen end)
 cut_front ks cs seen end = ap (λ (ms : List (Key × ℕ)). let b : Batch = record { members = ms; end = end } in b)
     (ap (take seen) (zip-take seen ks cs) ∙ take-take seen seen (zip ks cs) (omega arith))
 
 -- seeing all members shows the whole batch
 pub show_front : (ks : List Key) (cs : List ℕ) (seen : ℕ) (end : Option End) → length ks ≡ length cs
-    → front (stored ks cs (length cs) end) ≡ whole (stored ks cs seen end)
+    → shown_batch (stored ks cs (length cs) end) ≡ prepared_batch (stored ks cs seen end)
 show_front ks cs seen end same =
     let all : take (length cs) (zip ks cs) ≡ zip ks cs = take_all (length cs) (zip ks cs) (let e = length-zip_same ks cs same in omega arith) in
     ap (λ (ms : List (Key × ℕ)). let b : Batch = record { members = ms; end = end } in b) all

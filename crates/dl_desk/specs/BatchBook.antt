@@ -45,7 +45,7 @@ pub record Desk : Type 0 where
 -- ---- what a desk shows of a batch
 
 -- a batch as it is shown: its members in order, and how far it has come
-pub record BatchShown : Type 0 where
+pub record BatchView : Type 0 where
   pub members : List (Key × ℕ)
   pub state : BatchState
 
@@ -56,5 +56,5 @@ state_by is_sent (Some end.Failed) = Failed
 state_by is_sent None = if is_sent then Sent else Collecting
 
 -- the batch as the history shows it
-abbrev pub batch_shown : List Atom → ℕ → BatchShown
-batch_shown history b = record { members = members history b; state = state_by (nat_lt b (sent history)) (end_of history b) }
+abbrev pub batch_view : List Atom → ℕ → BatchView
+batch_view history b = record { members = members history b; state = state_by (nat_lt b (sent history)) (end_of history b) }

@@ -33,7 +33,7 @@ abbrev pub unfit : List Atom → ℕ → Option DeskFault
 unfit history b = if nat_le (begun history) b then Some NoBatch else if nat_le (sent history) b then Some NotSent else if is_some (end_of history b) then Some
     SettledBefore else None
 
--- the refusal of a call at a history, but for want of memory
+-- the refusal of a call at a history, unless memory ran out
 abbrev pub refusal : Rules → List Atom → DeskCall → Option DeskFault
 refusal rules history (Loads ks) = full rules history ks
 refusal rules history (Primes k) = full rules history (k ∷ [])
@@ -43,7 +43,7 @@ refusal rules history Sends = None
 refusal rules history (Settles b) = unfit history b
 refusal rules history (Fails b) = unfit history b
 
--- the call is refused so: for its cause, or for want of memory
+-- the call is refused so: for its cause, or because memory ran out
 abbrev pub IsRefusal : Rules → List Atom → DeskCall → DeskFault → Type 0
 IsRefusal rules history call fault = (fault ≡ OutOfMemory) ⊎ (refusal rules history call ≡ Some fault)
 

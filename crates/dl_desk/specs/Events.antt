@@ -30,10 +30,10 @@ pub record Event : Type 0 where
   pub made : Made
   pub gave : Gave
 
--- A log is a list of events, the newest first. The place of an event is how many stand before it, so
+-- A past is a list of events, the newest first. The place of an event is how many stand before it, so
 -- that of the newest is the length of the rest.
 
--- ---- the history of a log
+-- ---- the history of a past
 
 -- the history with the loads of the keys and their replies, in order
 abbrev pub with_loads : List Key → List LoadReply → List Atom → List Atom
@@ -56,14 +56,14 @@ abbrev pub IsReplied : Rules → List Atom → Made → Type 0
 IsReplied rules history (One a) = IsAnswered rules history a
 IsReplied rules history (Many ks rs) = rs ≡ load_replies rules history ks
 
--- each event of the log is replied to so
-abbrev pub IsLegalLog : Rules → List Event → Type 0
-IsLegalLog rules [] = Unit {0}
-IsLegalLog rules (e ∷ before) = IsReplied rules (atoms before) e.made × IsLegalLog rules before
+-- each event of the past is replied to so
+abbrev pub IsLegalPast : Rules → List Event → Type 0
+IsLegalPast rules [] = Unit {0}
+IsLegalPast rules (e ∷ before) = IsReplied rules (atoms before) e.made × IsLegalPast rules before
 
 -- ---- the end of a cell
 
--- an event of a log, and its place there
+-- an event of a past, and its place there
 pub record Placed : Type 0 where
   pub place : ℕ
   pub event : Event
@@ -110,11 +110,11 @@ cell_batch (a ∷ before) c = batch_at c (begins a) (cell_batch before c)
 
 -- the event that ended the cell: the prime that began it, or the settle or fail of its batch
 abbrev pub ending : List Event → ℕ → Option Placed
-ending log c = option_or (last_of (primes c) log) (option_and_then (λ b. last_of (ends b) log) (cell_batch (atoms log) c))
+ending past c = option_or (last_of (primes c) past) (option_and_then (λ b. last_of (ends b) past) (cell_batch (atoms past) c))
 
 -- the place of that event
 abbrev pub ended : List Event → ℕ → Option ℕ
-ended log c = option_map (λ p. p.place) (ending log c)
+ended past c = option_map (λ p. p.place) (ending past c)
 
 -- ---- the outcome of a cell
 
@@ -132,4 +132,4 @@ outcome_given history c (Broke fault) = Some (BatchFailed fault)
 
 -- the outcome that the event which ended the cell gave it
 abbrev pub outcome : List Event → ℕ → Option Outcome
-outcome log c = option_and_then (λ p. outcome_given (atoms log) c p.event.gave) (ending log c)
+outcome past c = option_and_then (λ p. outcome_given (atoms past) c p.event.gave) (ending past c)

@@ -4,7 +4,7 @@ use Rattle.std.specs.List.{list_any}
 use Rattle.dl_values.specs.Key.{Key}
 use Rattle.dl_values.specs.Limits.{Rules, limit_of}
 use Rattle.dl_desk.specs.History.{Atom, Load, IsLegal, members, forgets}
-use Rattle.dl_desk.specs.Events.{Event, IsLegalLog, ended, outcome}
+use Rattle.dl_desk.specs.Events.{Event, IsLegalPast, ended, outcome}
 use Rattle.dl_desk.specs.declared.reply.LoadReply.TheVariants.{Fresh}
 use Rattle.dl_values.specs.declared.outcome.Outcome.{Outcome}
 
@@ -36,12 +36,12 @@ abbrev pub BatchesAreWithinLimits : Type 0
 BatchesAreWithinLimits = (rules : Rules) → HaveLimits rules → (history : List Atom) → IsLegal rules history → (batch : ℕ)
     → IsBatch rules (members history batch)
 
--- a cell that was ended keeps the place of its end in every longer log
+-- a cell that was ended keeps the place of its end in every longer past
 abbrev pub EndsStay : Type 0
-EndsStay = (rules : Rules) (later before : List Event) (cell place : ℕ) → IsLegalLog rules (later ++ before) → ended before cell ≡ Some place
+EndsStay = (rules : Rules) (later before : List Event) (cell place : ℕ) → IsLegalPast rules (later ++ before) → ended before cell ≡ Some place
     → ended (later ++ before) cell ≡ Some place
 
 -- and it keeps the outcome that it was given
 abbrev pub OutcomesStay : Type 0
-OutcomesStay = (rules : Rules) (later before : List Event) (cell : ℕ) (given : Outcome) → IsLegalLog rules (later ++ before)
+OutcomesStay = (rules : Rules) (later before : List Event) (cell : ℕ) (given : Outcome) → IsLegalPast rules (later ++ before)
     → outcome before cell ≡ Some given → outcome (later ++ before) cell ≡ Some given

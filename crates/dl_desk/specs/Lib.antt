@@ -1,8 +1,8 @@
 pub mod History
 pub mod Calls
-pub mod Stored
+pub mod StoredBatch
 pub mod BatchBook
-pub mod Prepared
+pub mod Preparation
 pub mod Marks
 pub mod Ready
 pub mod Events

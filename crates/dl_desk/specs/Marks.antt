@@ -1,28 +1,47 @@
 -- What holds of the fields of a desk: of what is shown, of what is prepared, and of both.
 use Rattle.std.specs.Prelude.{◌≡◌, ℕ, Bool, false, ◌<◌, ◌≤◌, List, [], ◌∷◌, ◌++◌, ◌⊎◌, length, map, set, slice_get, Some}
 use Rattle.dl_values.specs.Key.{Key}
-use Rattle.dl_desk.specs.Stored.{Stored, blank}
+use Rattle.dl_desk.specs.StoredBatch.{StoredBatch, blank}
 use Rattle.dl_desk.specs.BatchBook.{Batch}
-use Rattle.dl_desk.specs.Prepared.{whole, front, IsStored, Same}
+use Rattle.dl_desk.specs.Preparation.{prepared_batch, shown_batch, empty, Same}
 use Rattle.dl_desk.specs.declared.desk.Extent.{Extent}
 
+-- the fields of a desk that its two books are read from
+pub record DeskFields : Type 0 where
+  pub max_cells : ℕ
+  pub memo : List (Key × ℕ)
+  pub batches : List StoredBatch
+  pub prepared : Extent
+  pub shown : Extent
+  pub shown_memo : ℕ
+  pub is_prepared : Bool
+  pub touched : ℕ
+
+-- Of the stored batches those that were begun are the book's. The others are empty, and wait to be begun.
+pub record IsStored (extent : Extent) (max_cells : ℕ) (stored : List Batch) : Type 0 where
+  pub all_sent : extent.sent ≤ extent.begun
+  pub all_stored : extent.begun ≤ length stored
+  pub few : extent.begun ≤ extent.cells
+  pub within : extent.cells ≤ max_cells
+  pub spare : (b : ℕ) → extent.begun ≤ b → b < length stored → slice_get stored b ≡ Some empty
+
 -- nothing is prepared that isn't shown
-pub record IsShown (prepared shown : Extent) (memo_len shown_memo touched : ℕ) : Type 0 where
-  pub extent : prepared ≡ shown
-  pub all_memo : memo_len ≡ shown_memo
-  pub none_touched : touched ≡ prepared.begun
+pub record IsShown (d : DeskFields) : Type 0 where
+  pub extent : d.prepared ≡ d.shown
+  pub all_memo : length d.memo ≡ d.shown_memo
+  pub none_touched : d.touched ≡ d.prepared.begun
 
 -- Both books are stored rightly, what is shown of the memo is there, nothing is prepared in batches that are not
 -- touched, and without the mark nothing is prepared at all.
-pub record IsDesk (is_prepared : Bool) (max_cells : ℕ) (prepared shown : Extent) (memo_len shown_memo touched : ℕ) (stored : List Stored) : Type 0 where
-  pub prepared_book : IsStored prepared.begun prepared.sent prepared.cells max_cells (map whole stored)
-  pub shown_book : IsStored shown.begun shown.sent shown.cells max_cells (map front stored)
-  pub memo : shown_memo ≤ memo_len
-  pub same : Same touched prepared.begun stored
-  pub unmarked : is_prepared ≡ false → IsShown prepared shown memo_len shown_memo touched
+pub record IsDesk (d : DeskFields) : Type 0 where
+  pub prepared_book : IsStored d.prepared d.max_cells (map prepared_batch d.batches)
+  pub shown_book : IsStored d.shown d.max_cells (map shown_batch d.batches)
+  pub memo : d.shown_memo ≤ length d.memo
+  pub same : Same d.touched d.prepared.begun d.batches
+  pub unmarked : d.is_prepared ≡ false → IsShown d
 
 -- the batches stay, or an empty one is added
-abbrev pub MakesRoom : List Stored → List Stored → Type 0
+abbrev pub MakesRoom : List StoredBatch → List StoredBatch → Type 0
 MakesRoom old new = (new ≡ old) ⊎ (new ≡ old ++ blank ∷ [])
 
 -- a batch with one more member
@@ -30,13 +49,13 @@ abbrev pub more : Batch → Key × ℕ → Batch
 more y m = record { members = y.members ++ m ∷ []; end = y.end }
 
 -- a member was prepared in a batch of the list, which may be one that was added
-pub record IsAdded (old : List Stored) (number : ℕ) (m : Key × ℕ) (new : List Stored) : Type 0 where
-  pub grown : List Stored
+pub record IsAdded (old : List StoredBatch) (number : ℕ) (m : Key × ℕ) (new : List StoredBatch) : Type 0 where
+  pub grown : List StoredBatch
   pub grows : MakesRoom old grown
-  pub before : Stored
-  pub then : Stored
+  pub before : StoredBatch
+  pub then : StoredBatch
   pub low : number < length grown
   pub at : slice_get grown number ≡ Some before
-  pub shown : front then ≡ front before
-  pub added : whole then ≡ more (whole before) m
+  pub shown : shown_batch then ≡ shown_batch before
+  pub added : prepared_batch then ≡ more (prepared_batch before) m
   pub is : new ≡ set grown number then

@@ -3,8 +3,8 @@
 ghost use Rattle.std.specs.Prelude.{◌≡◌, Some, Ok, true, false, not, ◌<◌, slice_get, [], ◌∷◌, ◌++◌, length, take, map, OnErr, IfOk};
 ghost use Rattle.std.specs.List.{zip};
 ghost use Rattle.dl_desk.specs.History.{has_member};
-ghost use Rattle.dl_desk.specs.Stored.{Stored, blank};
-ghost use Rattle.dl_desk.specs.Prepared.{whole, front};
+ghost use Rattle.dl_desk.specs.StoredBatch.{StoredBatch, blank};
+ghost use Rattle.dl_desk.specs.Preparation.{prepared_batch, shown_batch};
 
 use crate::reply::End;
 use dl_values::{FetchKey, Keys};
@@ -26,9 +26,9 @@ pub(crate) struct StoredBatch {
 impl Model for StoredBatch {
     ghost use Rattle.std.specs.Prelude.{◌≡◌, ◌≤◌, length};
     ghost use Rattle.std.specs.List.{zip};
-    ghost use Rattle.dl_desk.specs.Stored.{Stored};
+    ghost use Rattle.dl_desk.specs.StoredBatch.{StoredBatch};
 
-    ghost Value = { Stored };
+    ghost Value = { StoredBatch };
 
     ghost view = { λ b. record { members = zip b.keys.keys b.cells.items; seen = b.seen; end = b.end } };
 
@@ -36,7 +36,7 @@ impl Model for StoredBatch {
 }
 
 impl StoredBatch {
-    /// A batch with no members. It does not allocate.
+    /// A batch with no members.
     pub(crate) fn new(alloc: Global, hashing: RandomState) -> StoredBatch
         ensures { result ≡ blank }
     {
@@ -82,8 +82,8 @@ impl StoredBatch {
     /// allocation, and leaves the batch as it was.
     pub(crate) fn push(&mut self, key: FetchKey, cell: u32) -> Result<bool, AllocError>
         ensures is_new { IfOk result (λ is_new. is_new ≡ not (has_member self.old.members key)) }
-        ensures shown { front self.new ≡ front self.old }
-        ensures added { result ≡ Ok true → whole self.new ≡ record { members = self.old.members ++ (key, cell) ∷ []; end = self.old.end } }
+        ensures shown { shown_batch self.new ≡ shown_batch self.old }
+        ensures added { result ≡ Ok true → prepared_batch self.new ≡ record { members = self.old.members ++ (key, cell) ∷ []; end = self.old.end } }
         ensures kept { result ≡ Ok false → self.new ≡ self.old }
         ensures err { OnErr result (self.new ≡ self.old) }
     {
@@ -97,8 +97,8 @@ impl StoredBatch {
 
     /// Takes back what is prepared.
     pub(crate) fn cut(&mut self)
-        ensures whole { whole self.new ≡ front self.old }
-        ensures front { front self.new ≡ front self.old }
+        ensures prepared { prepared_batch self.new ≡ shown_batch self.old }
+        ensures shown { shown_batch self.new ≡ shown_batch self.old }
     {
         self.keys.truncate(self.seen);
         self.cells.truncate(self.seen);
@@ -106,23 +106,23 @@ impl StoredBatch {
 
     /// Shows what is prepared.
     pub(crate) fn show(&mut self)
-        ensures whole { whole self.new ≡ whole self.old }
-        ensures front { front self.new ≡ whole self.old }
+        ensures prepared { prepared_batch self.new ≡ prepared_batch self.old }
+        ensures shown { shown_batch self.new ≡ prepared_batch self.old }
     {
         self.seen = self.cells.len();
     }
 
     /// Ends the batch.
     pub(crate) fn finish(&mut self, end: End)
-        ensures whole { whole self.new ≡ record { members = self.old.members; end = Some end } }
-        ensures front { front self.new ≡ record { members = take self.old.seen self.old.members; end = Some end } }
+        ensures prepared { prepared_batch self.new ≡ record { members = self.old.members; end = Some end } }
+        ensures shown { shown_batch self.new ≡ record { members = take self.old.seen self.old.members; end = Some end } }
     {
         self.end = Some(end);
     }
 
     /// The members that are shown: their keys and their cells, in order.
     pub(crate) fn shown(&self) -> (&[FetchKey], &[u32])
-        ensures members { zip result.0.now result.1.now ≡ (front self.now).members }
+        ensures members { zip result.0.now result.1.now ≡ (shown_batch self.now).members }
         ensures as_many { length result.0.now ≡ length result.1.now }
     {
         let keys = self.keys.as_slice();

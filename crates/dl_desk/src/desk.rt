@@ -8,7 +8,7 @@ ghost use Rattle.dl_values.specs.Key.{Key, key_eq};
 ghost use Rattle.dl_values.specs.Limits.{mixed};
 ghost use Rattle.dl_desk.specs.History.{Atom, Load, Prime, has_member, load_reply, prime_reply};
 ghost use Rattle.dl_desk.specs.BatchBook.{StandsFor};
-ghost use Rattle.dl_desk.specs.Prepared.{members_at, has_room_in, book_room, book_jobs, Puts, PutsAlone, RefusesStep};
+ghost use Rattle.dl_desk.specs.Preparation.{members_at, has_room_in, book_room, book_jobs, Puts, PutsAlone, RefusesStep};
 
 mod batch_view;
 mod calls;
@@ -17,7 +17,7 @@ mod prepare;
 
 use crate::batch::StoredBatch;
 use crate::fault::DeskFault;
-use crate::memo_and_batches;
+use crate::memo_and_batches::{self, BatchChoice};
 use crate::reply::{DeskPrime, LoadReply};
 pub use batch_view::BatchView;
 use dl_values::{FetchKey, Job, Keys, Limits};
@@ -54,7 +54,6 @@ pub struct Desk {
     touched: u32,
 }
 
-// Written out: a derived drop is proved anew in each function that lets a desk go.
 impl Drop for Desk {
     fn drop(self) {
         let Desk {
@@ -73,10 +72,10 @@ impl Drop for Desk {
 }
 
 impl Model for Desk {
-    ghost use Rattle.std.specs.Prelude.{take, map, length};
+    ghost use Rattle.std.specs.Prelude.{take, map};
     ghost use Rattle.dl_values.specs.Limits.{mixed};
     ghost use Rattle.dl_desk.specs.BatchBook.{Desk};
-    ghost use Rattle.dl_desk.specs.Prepared.{whole, front};
+    ghost use Rattle.dl_desk.specs.Preparation.{prepared_batch, shown_batch};
     ghost use Rattle.dl_desk.specs.Marks.{IsDesk};
 
     ghost Value = { Desk };
@@ -87,22 +86,31 @@ impl Model for Desk {
         cells = d.shown.cells;
         sent = d.shown.sent;
         memo = take d.shown_memo d.memo.entries;
-        batches = take d.shown.begun (map front d.batches.items);
+        batches = take d.shown.begun (map shown_batch d.batches.items);
       };
       prepared = record {
         rules = mixed d.limits;
         cells = d.prepared.cells;
         sent = d.prepared.sent;
         memo = d.memo.entries;
-        batches = take d.prepared.begun (map whole d.batches.items);
+        batches = take d.prepared.begun (map prepared_batch d.batches.items);
       };
     } };
 
-    ghost invariant = { λ d. IsDesk d.is_prepared d.limits.max_cells d.prepared d.shown (length d.memo.entries) d.shown_memo d.touched d.batches.items };
+    ghost invariant = { λ d. IsDesk (record {
+      max_cells = d.limits.max_cells;
+      memo = d.memo.entries;
+      batches = d.batches.items;
+      prepared = d.prepared;
+      shown = d.shown;
+      shown_memo = d.shown_memo;
+      is_prepared = d.is_prepared;
+      touched = d.touched;
+    }) };
 }
 
 impl Desk {
-    /// A desk with an empty history, whose batches may mix tables. It does not allocate yet. It hashes keys by
+    /// A desk with an empty history, whose batches may mix tables. It hashes keys by
     /// `hashing`, of which nothing is seen: what a desk answers is the same whatever it is.
     pub fn new(alloc: Global, hashing: RandomState, limits: Limits) -> Desk
         ensures rules { result.book.rules ≡ mixed limits }
@@ -162,7 +170,7 @@ impl Desk {
         !self.is_prepared
     }
 
-    /// Makes the call that was prepared last, if one was: shows what is prepared. It does not allocate.
+    /// Makes the call that was prepared last, if one was: shows what is prepared.
     pub fn make_prepared(&mut self)
         ensures rules { self.new.book.rules ≡ self.old.book.rules }
         ensures book { self.new.book ≡ self.old.prepared }
@@ -249,8 +257,10 @@ impl Desk {
             &mut self.batches,
             alloc,
             *self.memo.hasher(),
-            newest,
-            self.prepared.begun,
+            BatchChoice {
+                newest,
+                next: self.prepared.begun,
+            },
             key,
             cell,
         )?;

@@ -16,7 +16,7 @@ mod reply;
 pub use desk::{BatchView, Desk};
 pub use dl_values::{
     BatchAnswer, BatchFault, FetchKey, ID_BYTES, Job, Json, KeyFault, Keys, LARGEST_LIMIT,
-    LimitFault, Limits, Message, Outcome, Outcomes, TABLE_BYTES, Text, has_float,
+    LimitFault, Limits, List, Message, Outcome, Outcomes, TABLE_BYTES, Text, has_float,
 };
 pub use fault::DeskFault;
 pub use ready::Ready;

@@ -4,7 +4,7 @@ ghost use Rattle.std.specs.Prelude.{◌≡◌, ◌≤◌, Ok, None, true, false,
 ghost use Rattle.std.specs.Map.{lookup};
 ghost use Rattle.dl_values.specs.Key.{Key, key_eq};
 ghost use Rattle.dl_desk.specs.History.{has_member};
-ghost use Rattle.dl_desk.specs.Prepared.{whole, front, Same, members_of, without};
+ghost use Rattle.dl_desk.specs.Preparation.{prepared_batch, shown_batch, Same, members_of, without};
 ghost use Rattle.dl_desk.specs.Marks.{IsAdded, MakesRoom};
 
 use crate::batch::StoredBatch;
@@ -18,8 +18,8 @@ use std::hash::RandomState;
 pub(crate) fn cut(batches: &mut Vec<StoredBatch>, from: usize, to: usize)
     requires within { to ≤ vec_len batches.old }
     requires same { Same from to batches.old.items }
-    ensures whole { map whole batches.new.items ≡ map front batches.old.items }
-    ensures front { map front batches.new.items ≡ map front batches.old.items }
+    ensures prepared { map prepared_batch batches.new.items ≡ map shown_batch batches.old.items }
+    ensures shown { map shown_batch batches.new.items ≡ map shown_batch batches.old.items }
 {
     for number in from..to {
         batches[number].cut();
@@ -30,16 +30,16 @@ pub(crate) fn cut(batches: &mut Vec<StoredBatch>, from: usize, to: usize)
 pub(crate) fn show(batches: &mut Vec<StoredBatch>, from: usize, to: usize)
     requires within { to ≤ vec_len batches.old }
     requires same { Same from to batches.old.items }
-    ensures whole { map whole batches.new.items ≡ map whole batches.old.items }
-    ensures front { map front batches.new.items ≡ map whole batches.old.items }
+    ensures prepared { map prepared_batch batches.new.items ≡ map prepared_batch batches.old.items }
+    ensures shown { map shown_batch batches.new.items ≡ map prepared_batch batches.old.items }
 {
     for number in from..to {
         batches[number].show();
     }
 }
 
-/// The cell that is held for the key; where none is, the new cell is held from now on. The error is want of
-/// memory, and leaves the memo.
+/// The cell that is held for the key; where none is, the new cell is held from now on. The error is a failed
+/// allocation, and leaves the memo.
 #[inline(always)]
 pub(crate) fn hold(
     memo: &mut IndexMap<FetchKey, u32, RandomState>,
@@ -71,7 +71,7 @@ fn add(
     cell: u32,
 ) -> Result<bool, AllocError>
     requires number { number ≤ vec_len batches.old }
-    ensures is_new { IfOk result (λ is_new. is_new ≡ not (has_member (members_of (slice_get (map whole batches.old.items) number)) key)) }
+    ensures is_new { IfOk result (λ is_new. is_new ≡ not (has_member (members_of (slice_get (map prepared_batch batches.old.items) number)) key)) }
     ensures added { result ≡ Ok true → IsAdded batches.old.items number (key, cell) batches.new.items }
     ensures kept { result ≡ Ok false → batches.new.items ≡ batches.old.items }
     ensures err { OnErr result (MakesRoom batches.old.items batches.new.items) }
@@ -82,25 +82,32 @@ fn add(
     batches[number].push(key, cell)
 }
 
+/// The batches that one more member may go into: the newest one, and the next one.
+#[derive(Clone, Copy)]
+pub(crate) struct BatchChoice {
+    pub(crate) newest: u32,
+    pub(crate) next: u32,
+}
+
 /// Prepares a member of the key in the newest batch, or in the next one where a member of the newest has the
 /// key, and answers which. The error is a failed allocation, and then an empty batch may have been added.
 pub(crate) fn join(
     batches: &mut Vec<StoredBatch>,
     alloc: Global,
     hashing: RandomState,
-    newest: u32,
-    next: u32,
+    choice: BatchChoice,
     key: &FetchKey,
     cell: u32,
 ) -> Result<u32, AllocError>
-    requires newest { newest ≤ vec_len batches.old }
-    requires next { next ≤ vec_len batches.old }
-    requires next_is_empty { members_of (slice_get (map whole batches.old.items) next) ≡ [] }
+    requires newest { choice.newest ≤ vec_len batches.old }
+    requires next { choice.next ≤ vec_len batches.old }
+    requires next_is_empty { members_of (slice_get (map prepared_batch batches.old.items) choice.next) ≡ [] }
     ensures number { IfOk result (λ number. number
-        ≡ (if has_member (members_of (slice_get (map whole batches.old.items) newest)) key.now then next else newest)) }
+        ≡ (if has_member (members_of (slice_get (map prepared_batch batches.old.items) choice.newest)) key.now then choice.next else choice.newest)) }
     ensures added { IfOk result (λ number. IsAdded batches.old.items number (key.now, cell) batches.new.items) }
     ensures err { OnErr result (MakesRoom batches.old.items batches.new.items) }
 {
+    let BatchChoice { newest, next } = choice;
     if add(
         batches,
         alloc,

@@ -5,7 +5,7 @@ use Rattle.std.proofs.lemmas.Option.{none-some}
 use Rattle.std.specs.List.{AllByRecursion}
 use Rattle.serde_json.specs.Data.{Data, unsigned, number, object, no_members, member}
 use Rattle.dl_values.specs.Key.{IsKey}
-use Rattle.dl_documents.proofs.Found.{Spelled, kept, Finds, none_found, found_if, argued, flagged}
+use Rattle.dl_documents.proofs.Findings.{Spelled, kept, Finds, none_found, found_if, argued, flagged}
 use Rattle.dl_documents.proofs.KeyLaws.{key_is, key_again, keys_tree, keys_is, keys_again}
 use Rattle.dl_documents.specs.Script.{key_tree, one, call_tree, IsScriptCall}
 use Rattle.dl_documents.specs.Reading.{key_in, keys_in, number_in, call_named, call_in}

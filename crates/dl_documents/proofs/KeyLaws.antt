@@ -5,10 +5,10 @@ use Rattle.serde_json.specs.Data.{Data, string, array, Items, no_items, item}
 use Rattle.serde_json.specs.Find.{as_str, as_array}
 use Rattle.serde_json.specs.View.{items_of}
 use Rattle.dl_values.specs.Key.{Key, IsKey, table_bytes, id_bytes}
-use Rattle.dl_source.proofs.Spelled.{array_of, string_of}
+use Rattle.dl_source.proofs.Spelling.{array_of, string_of}
 use Rattle.dl_source.specs.Faults.{is_sized}
 use Rattle.dl_terms.proofs.Options.{from_and_then, from_both}
-use Rattle.dl_documents.proofs.Found.{Spelled, both_true, sized, sized_again, kept, from_zip, two_found}
+use Rattle.dl_documents.proofs.Findings.{Spelled, both_true, sized, sized_again, kept, from_zip, two_found}
 use Rattle.dl_documents.specs.Script.{key_tree}
 use Rattle.dl_documents.specs.Terms.{two}
 use Rattle.dl_documents.specs.Reading.{two_in, texts_of, texts_in, keyed, key_in, keys_listed, keys_in}

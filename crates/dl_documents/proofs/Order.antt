@@ -74,8 +74,5 @@ not_earlier : (p : ℕ × ℕ) → IsEarlier p (0, 0) → ⊥
 not_earlier p (inl h) = omega arith
 not_earlier p (inr h) = let k : p.1 < 0 = h.1 in omega arith
 
-pub least_version : (d : Data) → (IsFirstVersion d → ⊥) → IsLeast (Causes d) Version
-least_version d h = least_of d Version h (clear_bytes d) (λ g same early c. not_earlier (place g) early)
-
 pub least_top : (d : Data) → IsFirstVersion d → IsBadTop d → IsLeast (Causes d) Top
 least_top d first h = least_of d Top h (clear_version d first) (λ g same early c. not_earlier (place g) early)

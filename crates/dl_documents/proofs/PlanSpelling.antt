@@ -5,7 +5,7 @@ use Rattle.std.specs.List.{AllByRecursion}
 use Rattle.serde_json.specs.Data.{Data, Items, item}
 use Rattle.dl_documents.specs.Document.{SpellsPlans, is_script}
 use Rattle.dl_documents.specs.Faults.{Causes}
-use Rattle.dl_documents.specs.Inside.Read.{HasHead}
+use Rattle.dl_documents.specs.Inside.Results.{HasHead}
 use Rattle.dl_documents.specs.Inside.PlanFiles.{rows_tree, HasPlans, AreRead, AreLow, AreFew, AreRest}
 use Rattle.dl_documents.specs.Steps.{StepTree, step_tree, plans_tree, plan_tree, plan_view, IsPlanStep, IsPlan}
 use Rattle.dl_documents.specs.declared.fault.PlanFault.{PlanFault}

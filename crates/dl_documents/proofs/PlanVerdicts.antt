@@ -16,7 +16,7 @@ use Rattle.dl_documents.specs.Faults.{IsBadTop, HasStrange, LacksList, LacksTabl
 use Rattle.dl_documents.specs.Faults.{HasNoPlan, HasNoNumber, IsNoStep, IsBadCall, IsPlanAt, IsStepAt}
 use Rattle.dl_documents.specs.Faults.{IsBadStep, IsDeepStep, IsLongPlan, IsBadTable, Causes, number, place, IsEarlier, IsLeast}
 use Rattle.dl_documents.specs.Inside.Places.{IsFirst, IsFirstIn}
-use Rattle.dl_documents.specs.Inside.Read.{HasHead}
+use Rattle.dl_documents.specs.Inside.Results.{HasHead}
 use Rattle.dl_documents.specs.Inside.PlanFiles.{row_tree, rows_tree, HasPlans, AreRead, IsHigh, AreLow, AreFew, AreMany, Fit, IsFirstBadStep}
 use Rattle.dl_documents.specs.Inside.PlanFiles.{IsRefusal}
 use Rattle.dl_documents.specs.Steps.{StepTree, eval, step_tree, IsPlanStep, IsLow, most_steps}
@@ -24,8 +24,8 @@ use Rattle.dl_documents.specs.declared.fault.PlanFault.{PlanFault}
 use Rattle.dl_documents.specs.declared.fault.PlanFault.TheVariants.{Shape, TooDeep, TooManySteps, Table}
 use Rattle.dl_documents.specs.declared.limits.Numbers.{Numbers}
 use Rattle.dl_documents.specs.StepReading.{step_in}
-use Rattle.dl_documents.proofs.Known.{no_list}
-use Rattle.dl_documents.proofs.Listed.{get_item-items_of, items_len-items_of, all_at, from_item, item_made}
+use Rattle.dl_documents.proofs.KnownMembers.{no_list}
+use Rattle.dl_documents.proofs.ListSpelling.{get_item-items_of, items_len-items_of, all_at, from_item, item_made}
 use Rattle.dl_documents.proofs.Order.{Clear, clear_version, clear_top, clear_calls, clear_steps, clear_heights, clear_counts, clear_tables, least_of}
 use Rattle.dl_documents.proofs.LimitVerdicts.{least_limit}
 use Rattle.dl_documents.proofs.StepLaws.{step_again}

@@ -8,7 +8,7 @@ use Rattle.std.proofs.lemmas.List.Sums.{fails_before_first}
 use Rattle.std.proofs.lemmas.Option.{none-some, slice_get-get_or, slice_get_within, get_or_from_slice_get}
 use Rattle.std.specs.List.{AllByRecursion, slice_get, position, position_or_len}
 use Rattle.dl_documents.specs.Inside.Places.{IsFirst, IsFirstIn}
-use Rattle.dl_documents.proofs.Listed.{all_at, all_more, from_item, item_made, in_front, item_now}
+use Rattle.dl_documents.proofs.ListSpelling.{all_at, all_more, from_item, item_made, in_front, item_now}
 
 past : {A : Type 0} (p : A → Bool) (xs : List A) → position p xs ≡ None → length xs ≤ position_or_len p xs
 past p xs e =

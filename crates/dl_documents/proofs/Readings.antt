@@ -8,12 +8,12 @@ use Rattle.serde_json.specs.Data.{Data}
 use Rattle.serde_json.specs.Find.{as_array}
 use Rattle.serde_json.specs.View.{view, items_view}
 use Rattle.serde_json.specs.declared.value.Value.{Value}
-use Rattle.dl_source.proofs.Spelled.{array_of}
+use Rattle.dl_source.proofs.Spelling.{array_of}
 use Rattle.dl_terms.specs.declared.plan.Plan.{Plan}
 use Rattle.dl_terms.specs.declared.plan.Step.{Step}
 use Rattle.dl_documents.proofs.CallLaws.{call_is, call_again}
 use Rattle.dl_documents.proofs.StepLaws.{step_is, step_again}
-use Rattle.dl_documents.proofs.Listed.{Spell, IsAny, spell_more, spell_stops, spelled_before, item_now, all_at, from_item}
+use Rattle.dl_documents.proofs.ListSpelling.{Spell, IsAny, spell_more, spell_stops, spelled_before, item_now, all_at, from_item}
 use Rattle.dl_documents.specs.Faults.{IsNoCall, IsNoStep}
 use Rattle.dl_documents.specs.Inside.Places.{HasOne}
 use Rattle.dl_documents.specs.Inside.Scripts.{IsFirstBadCall}

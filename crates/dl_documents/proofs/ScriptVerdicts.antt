@@ -12,7 +12,7 @@ use Rattle.dl_documents.specs.Document.{SpellsScript, is_script, items_at, list_
 use Rattle.dl_documents.specs.Faults.{IsBadTop, HasStrange, LacksList, LacksTables, HasOtherCount, HasNoPlan, HasNoNumber, IsNoCall, IsBadCall, IsPlanAt}
 use Rattle.dl_documents.specs.Faults.{IsBadTable, Causes, number, place, IsEarlier, IsLeast}
 use Rattle.dl_documents.specs.Inside.Places.{IsFirst}
-use Rattle.dl_documents.specs.Inside.Read.{HasHead}
+use Rattle.dl_documents.specs.Inside.Results.{HasHead}
 use Rattle.dl_documents.specs.Inside.Scripts.{AreCalls, IsFirstBadCall}
 use Rattle.dl_documents.specs.Numbers.{AreLimitsOf, IsFirstOutside}
 use Rattle.dl_documents.specs.Script.{call_tree, IsScriptCall}
@@ -21,8 +21,8 @@ use Rattle.dl_documents.specs.declared.fault.PlanFault.TheVariants.{BadCall, Lim
 use Rattle.dl_documents.specs.declared.limits.Numbers.{Numbers}
 use Rattle.dl_documents.specs.declared.input.Script.{Script}
 use Rattle.dl_documents.specs.declared.input.ScriptCall.{ScriptCall}
-use Rattle.dl_documents.proofs.Known.{unknown, no_list}
-use Rattle.dl_documents.proofs.Listed.{get_item-items_of, all_at, from_item}
+use Rattle.dl_documents.proofs.KnownMembers.{unknown, no_list}
+use Rattle.dl_documents.proofs.ListSpelling.{get_item-items_of, all_at, from_item}
 use Rattle.dl_documents.proofs.Order.{Clear, clear_version, clear_top, clear_calls, clear_steps, clear_heights, clear_counts, clear_tables, no_cause, least_of}
 use Rattle.dl_documents.proofs.LimitVerdicts.{least_limit, gives_limits, numbers_of, are_given, clear_given}
 

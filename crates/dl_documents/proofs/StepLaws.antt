@@ -8,10 +8,10 @@ use Rattle.serde_json.specs.Find.{as_str}
 use Rattle.dl_values.specs.Key.{IsKey}
 use Rattle.dl_values.specs.declared.outcome.Outcome.{Outcome}
 use Rattle.dl_values.specs.declared.outcome.Outcome.TheVariants.{Value, KeyError, BatchFailed}
-use Rattle.dl_source.proofs.Spelled.{string_of}
+use Rattle.dl_source.proofs.Spelling.{string_of}
 use Rattle.dl_source.specs.Faults.{text_bytes}
 use Rattle.dl_terms.proofs.Options.{from_map, from_and_then}
-use Rattle.dl_documents.proofs.Found.{Spelled, kept, from_zip, two_found, Finds, none_found, found_if, under, argued, flagged}
+use Rattle.dl_documents.proofs.Findings.{Spelled, kept, from_zip, two_found, Finds, none_found, found_if, under, argued, flagged}
 use Rattle.dl_documents.proofs.KeyLaws.{key_is, key_again}
 use Rattle.dl_documents.proofs.TermLaws.{value_is, term_is, term_again}
 use Rattle.dl_documents.specs.Script.{key_tree, one}

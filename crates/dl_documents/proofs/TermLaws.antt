@@ -6,14 +6,14 @@ use Rattle.serde_json.specs.Data.{Data, string, array, object, Items, no_items, 
 use Rattle.serde_json.specs.Find.{as_str, as_array}
 use Rattle.serde_json.specs.Written.{has_float}
 use Rattle.dl_values.specs.Key.{IsKey, table_bytes}
-use Rattle.dl_source.proofs.Spelled.{array_of, string_of}
+use Rattle.dl_source.proofs.Spelling.{array_of, string_of}
 use Rattle.dl_source.specs.Faults.{is_sized}
 use Rattle.dl_terms.proofs.Options.{from_map, from_and_then, from_both}
 use Rattle.dl_terms.specs.Tree.{Name, Tree, ended, load, pick, follow, each, all, Trees, no_trees, tree}
 use Rattle.dl_terms.specs.View.{trees_of}
 use Rattle.dl_terms.specs.declared.answer.Answer.TheVariants.{Value, Fault}
-use Rattle.dl_documents.proofs.Found.{Spelled, sized, sized_again, kept, passed, from_zip, two_found, three_found}
-use Rattle.dl_documents.proofs.Found.{Finds, none_found, found_if, under, argued}
+use Rattle.dl_documents.proofs.Findings.{Spelled, sized, sized_again, kept, passed, from_zip, two_found, three_found}
+use Rattle.dl_documents.proofs.Findings.{Finds, none_found, found_if, under, argued}
 use Rattle.dl_documents.proofs.KeyLaws.{key_is, key_again}
 use Rattle.dl_documents.specs.Script.{key_tree, one}
 use Rattle.dl_documents.specs.Terms.{two, three, term_tree, terms_tree, IsWhole, IsTableName, IsTerm, AreTerms}

@@ -4,7 +4,7 @@ use Rattle.std.proofs.lemmas.Option.{same_Some}
 use Rattle.serde_json.specs.Data.{Data}
 use Rattle.dl_documents.specs.Document.{IsTextOf, Spells}
 use Rattle.dl_documents.specs.Faults.{Causes, CausesIn, Applies, IsLeast, most_bytes}
-use Rattle.dl_documents.specs.Inside.Read.{RefusedFor}
+use Rattle.dl_documents.specs.Inside.Results.{RefusedFor}
 use Rattle.dl_documents.specs.declared.fault.PlanFault.{PlanFault}
 use Rattle.dl_documents.specs.declared.fault.PlanFault.TheVariants.{TooLarge, NotJson, OutOfMemory}
 use Rattle.dl_documents.specs.declared.input.Input.{Input}

@@ -9,12 +9,12 @@ use Rattle.serde_json.specs.Data.{Data, object, Members, no_members, member, dep
 use Rattle.serde_json.specs.Find.{as_array, as_object}
 use Rattle.serde_json.specs.View.{view, items_view, members_view}
 use Rattle.serde_json.specs.declared.value.Value.{Value}
-use Rattle.dl_source.proofs.Spelled.{array_of}
+use Rattle.dl_source.proofs.Spelling.{array_of}
 use Rattle.dl_terms.specs.Tree.{all}
 use Rattle.dl_terms.specs.View.{trees_of, term_view, terms_view}
 use Rattle.dl_terms.specs.declared.term.Term.{Term, the_lemmas}
 use Rattle.dl_terms.specs.declared.term.Term.TheVariants.{All}
-use Rattle.dl_documents.proofs.Found.{one_found}
+use Rattle.dl_documents.proofs.Findings.{one_found}
 use Rattle.dl_documents.specs.TermReading.{together, gathers, term_named, term_in, term_of, parts_in, parts_of}
 use Rattle.dl_documents.specs.Reading.{one_of, one_in, two_of, two_in, three_of, three_in}
 

@@ -7,7 +7,7 @@ use Rattle.serde_json.specs.Find.{get, as_number, as_integer, as_array}
 use Rattle.serde_json.specs.Read.{read}
 use Rattle.dl_values.specs.Limits.{Limits, IsLimit, largest_limit}
 use Rattle.dl_source.specs.Faults.{Causes}
-use Rattle.dl_source.specs.Listing.{NamedTables}
+use Rattle.dl_source.specs.Tables.{Tables}
 use Rattle.dl_source.specs.Spelling.{Spells as SpellsTables, has_only}
 use Rattle.dl_source.specs.declared.fault.TableFault.{TableFault}
 use Rattle.dl_terms.specs.Plans.{ArePlans}
@@ -86,7 +86,7 @@ pub record GivesLimits (d : Data) (l : Limits) : Type 0 where
   pub calls : GivesLimit (codes "maxCalls") d l.max_calls
 
 -- the member `tables` gives the tables, of which nothing is refused
-pub record GivesTables (d : Data) (tables : NamedTables) : Type 0 where
+pub record GivesTables (d : Data) (tables : Tables) : Type 0 where
   pub tree : Data
   pub member : get (codes "tables") d ≡ Some tree
   pub spelled : SpellsTables tree tables

@@ -1,4 +1,4 @@
-pub mod Read
+pub mod Results
 pub mod Places
 pub mod Scripts
 pub mod PlanFiles

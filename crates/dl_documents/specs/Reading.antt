@@ -6,7 +6,7 @@ use Rattle.serde_json.specs.Data.{Data, Items, no_items, item, Members, no_membe
 use Rattle.serde_json.specs.Find.{as_array, as_str, as_object, as_bool, as_number, as_u64}
 use Rattle.dl_values.specs.Key.{Key, table_bytes, id_bytes}
 use Rattle.dl_source.specs.Faults.{is_sized}
-use Rattle.dl_terms.specs.Gives.{both}
+use Rattle.dl_terms.specs.TermAnswers.{both}
 use Rattle.dl_documents.specs.declared.input.ScriptCall.{ScriptCall}
 use Rattle.dl_documents.specs.declared.input.ScriptCall.TheVariants.{Load, LoadMany, Prime, Clear, ClearAll, Dispatch, Settle, Fail}
 

@@ -6,7 +6,7 @@ use Rattle.serde_json.specs.Find.{as_array, as_str}
 use Rattle.serde_json.specs.Written.{has_float}
 use Rattle.dl_values.specs.Key.{table_bytes}
 use Rattle.dl_source.specs.Faults.{is_sized}
-use Rattle.dl_terms.specs.Gives.{both}
+use Rattle.dl_terms.specs.TermAnswers.{both}
 use Rattle.dl_terms.specs.Tree.{Name, Tree, ended, load, pick, follow, each, all}
 use Rattle.dl_terms.specs.View.{trees_of}
 use Rattle.dl_terms.specs.declared.answer.Answer.TheVariants.{Value}

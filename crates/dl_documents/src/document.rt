@@ -7,7 +7,7 @@ ghost use Rattle.std.specs.List.{list_all};
 ghost use Rattle.serde_json.specs.View.{view};
 ghost use Rattle.dl_documents.specs.Document.{IsTextOf, IsFirstVersion, Spells, has_only_known, is_known, is_script};
 ghost use Rattle.dl_documents.specs.Faults.{Applies, Causes, IsLeast};
-ghost use Rattle.dl_documents.specs.Inside.Read.{HasHead, RefusedFor};
+ghost use Rattle.dl_documents.specs.Inside.Results.{HasHead, RefusedFor};
 
 use crate::fault::PlanFault;
 use crate::input::Input;

@@ -1,11 +1,8 @@
 //! What a document says.
 
-ghost use Rattle.std.specs.Prelude.{◌≡◌};
-
 use dl_source::Tables;
 use dl_terms::Plan;
-use dl_values::{FetchKey, Keys, Limits};
-use std::marker::Model;
+use dl_values::{FetchKey, Keys, Limits, List};
 
 /// A document that was read.
 #[derive(Drop)]
@@ -38,36 +35,8 @@ pub enum ScriptCall {
     Fail(u32),
 }
 
-/// The calls of a script. Contracts see the list.
-#[derive(Debug, Drop)]
-pub struct Calls {
-    calls: Vec<ScriptCall>,
-}
-
-impl Model for Calls {
-    ghost use Rattle.std.specs.Prelude.{List};
-    ghost use Rattle.dl_documents.specs.declared.input.ScriptCall.{ScriptCall};
-
-    ghost Value = { List ScriptCall };
-
-    ghost view = { λ c. c.calls.items };
-}
-
-impl Calls {
-    /// These calls.
-    pub fn new(calls: Vec<ScriptCall>) -> Calls
-        ensures { result ≡ calls.items }
-    {
-        Calls { calls }
-    }
-
-    /// The calls, in order.
-    pub fn as_slice(&self) -> &[ScriptCall]
-        ensures { result.now ≡ self.now }
-    {
-        self.calls.as_slice()
-    }
-}
+/// The calls of a script.
+pub type Calls = List<ScriptCall>;
 
 /// Plans that are served at once over tables.
 #[derive(Drop)]

@@ -6,7 +6,7 @@ ghost use Rattle.serde_json.specs.View.{view};
 ghost use Rattle.dl_documents.specs.Document.{SpellsPlans, is_script};
 ghost use Rattle.dl_documents.specs.Faults.{IsBadTop};
 ghost use Rattle.dl_documents.specs.Steps.{plan_view, step_view};
-ghost use Rattle.dl_documents.specs.Inside.Read.{HasHead, RefusedFor};
+ghost use Rattle.dl_documents.specs.Inside.Results.{HasHead, RefusedFor};
 ghost use Rattle.dl_documents.specs.Inside.PlanFiles.{rows_view, HasPlans, AreRows, HasOther, IsPlanOf, IsFirstBadIn, AreRead, IsFirstBadStep};
 ghost use Rattle.dl_documents.specs.Inside.PlanFiles.{is_high, is_long, AreLow, IsFirstHigh, Fit, IsMisfit, AreTables, IsTableRefusal, AreRest, IsRefusal};
 

@@ -3,7 +3,7 @@
 ghost use Rattle.std.specs.Prelude.{◌≡◌, ◌⊎◌, true, map, codes, IfOk, IfErr};
 ghost use Rattle.serde_json.specs.View.{view};
 ghost use Rattle.dl_documents.specs.Document.{SpellsScript, is_script};
-ghost use Rattle.dl_documents.specs.Inside.Read.{HasHead, RefusedFor};
+ghost use Rattle.dl_documents.specs.Inside.Results.{HasHead, RefusedFor};
 ghost use Rattle.dl_documents.specs.Inside.Scripts.{AreCalls, IsFirstBadCall};
 
 use crate::fault::PlanFault;

@@ -1,11 +1,11 @@
-pub mod Shown
-pub mod Paired
-pub mod Explored
-pub mod Reading
-pub mod Ended
-pub mod HandedOver
-pub mod RoundMade
-pub mod EvaluationMade
+pub mod TicketLooks
+pub mod KeyPairs
+pub mod Exploration
+pub mod TicketReads
+pub mod BatchEnds
+pub mod HandoverLemmas
+pub mod RoundSteps
+pub mod EvaluationLemmas
 mod Stretches
 mod Faults
-pub mod JobsCounted
+pub mod JobCounts

@@ -1,30 +1,30 @@
 -- What steps leave, one after another.
 use Rattle.std.proofs.Common.{◌≡◌, ◌∙◌, ap, sym, subst, refl, ℕ, suc, ◌+◌, List, [], ◌∷◌, ◌++◌, length, append_assoc, append-nil, arith, zero, ◌≤◌}
 use Rattle.std.proofs.Common.{length-append}
-use Rattle.dl_history.specs.Entries.{Line, calls_of}
+use Rattle.dl_history.specs.Entries.{Entry, calls_of}
 use Rattle.dl_history.specs.Service.{Service}
 use Rattle.dl_history.specs.declared.event.Call.{Call}
 use Rattle.dl_history.specs.declared.event.Reply.{Reply}
-use Rattle.dl_loader.specs.Made.{WasMade}
-use Rattle.dl_loader.proofs.AddedLemmas.{made_adds}
+use Rattle.dl_loader.specs.EventEffect.{WasMade}
+use Rattle.dl_loader.proofs.AdditionLemmas.{made_adds}
 use Rattle.dl_history.proofs.EntryLists.{calls_of-append}
-use Rattle.dl_loader.specs.Added.{Adds}
-use Rattle.dl_loader.specs.Pass.{Part}
+use Rattle.dl_loader.specs.Additions.{Adds}
+use Rattle.dl_loader.specs.Pass.{Trace}
 use Rattle.dl_values.specs.declared.job.Job.{Job}
 use Rattle.dl_history.specs.declared.event.Call.TheVariants.{LoadMany, Dispatch}
 use Rattle.dl_history.specs.declared.event.Reply.TheVariants.{Many, Sent}
-use Rattle.dl_loader.specs.Added.{line, saws}
-use Rattle.dl_terms.specs.Gives.{Pairs, frontier}
+use Rattle.dl_loader.specs.Additions.{call_entry, saws}
+use Rattle.dl_terms.specs.TermAnswers.{Pairs, frontier}
 use Rattle.dl_terms.specs.Tree.{Tree}
 use Rattle.dl_terms.specs.View.{term_view}
 use Rattle.dl_haxl.specs.Rounds.{AddsAndSends, Rounds, HandedOver}
 use Rattle.dl_terms.specs.declared.plan.Step.TheVariants.{Prime, Clear, ClearAll, Eval}
-use Rattle.dl_haxl.specs.Follows.{Stretch, stretch, then, IsCall, IsStep, AreSteps, FollowsAndSends}
+use Rattle.dl_haxl.specs.PlanEntries.{Stretch, stretch, then, IsCall, IsStep, AreSteps, FollowsAndSends}
 use Rattle.dl_terms.specs.declared.plan.Step.{Step}
 use Rattle.dl_haxl.specs.declared.step_answer.StepAnswer.{StepAnswer}
 
 -- stretches of the same entries, answers, rounds and jobs
-same_stretch : (ls ms : List Line) (given bs : List StepAnswer) (m n : ℕ) (js ks : List Job) → ls ≡ ms → given ≡ bs → m ≡ n → js ≡ ks
+same_stretch : (ls ms : List Entry) (given bs : List StepAnswer) (m n : ℕ) (js ks : List Job) → ls ≡ ms → given ≡ bs → m ≡ n → js ≡ ks
     → stretch ls given m js ≡ stretch ms bs n ks
 same_stretch ls ms given bs m n js ks lines answers rounds sent =
     ap (λ xs. stretch xs given m js) lines ∙ (ap (λ xs. stretch ms xs m js) answers
@@ -63,21 +63,21 @@ steps_more caller first number (x ∷ steps) step s own is (before, rest, split,
     )
 
 -- what steps leave in a pass and in what its sender sent
-abbrev pub Leaves : Part → Part → List Job → List Job → List Step → List StepAnswer → ℕ → Type 0
+abbrev pub Leaves : Trace → Trace → List Job → List Job → List Step → List StepAnswer → ℕ → Type 0
 Leaves old new before after steps answers r =
     AddsAndSends old new before after (λ lines sent. FollowsAndSends old.caller steps lines answers r sent)
 
 -- what one step leaves there
-abbrev pub LeavesOne : Part → Part → List Job → List Job → ℕ → Step → List StepAnswer → ℕ → Type 0
+abbrev pub LeavesOne : Trace → Trace → List Job → List Job → ℕ → Step → List StepAnswer → ℕ → Type 0
 LeavesOne old new before after number step answers r =
     AddsAndSends old new before after (λ lines sent. IsStep old.caller number step (stretch lines answers r sent))
 
 -- nothing was taken yet
-pub leaves_none : (p : Part) (before : List Job) → Leaves p p before before [] [] 0
+pub leaves_none : (p : Trace) (before : List Job) → Leaves p p before before [] [] 0
 leaves_none p before = ([], sym (append-nil before), (refl, [], sym (append-nil p.entries), refl))
 
 -- one step more
-pub leaves_more : (old now new : Part) (before next after : List Job) (steps : List Step) (step : Step) (number : ℕ) (given more : List StepAnswer)
+pub leaves_more : (old now new : Trace) (before next after : List Job) (steps : List Step) (step : Step) (number : ℕ) (given more : List StepAnswer)
     (r q : ℕ) → number ≡ length steps → Leaves old now before next steps given r → LeavesOne now new next after number step more q
     → Leaves old new before after (steps ++ step ∷ []) (given ++ more) (r + q)
 leaves_more old now new before next after steps step number given more r q is (sent, jobs, (caller, lines, entries, so_far))
@@ -95,15 +95,15 @@ leaves_more old now new before next after steps step number given more r q is (s
 
 -- ---- how many rounds there are
 
-module _ (JobsEnd : List Job → List Job → List Line → Type 0) (caller : ℕ) (t : Tree) where
+module _ (JobsEnd : List Job → List Job → List Entry → Type 0) (caller : ℕ) (t : Tree) where
   -- each round is told by a call at least
-  rounds_called : (n : ℕ) (lines : List Line) (known : Pairs) (sent : List Job) → Rounds JobsEnd caller t n lines known sent → n ≤ length (calls_of lines)
+  rounds_called : (n : ℕ) (lines : List Entry) (known : Pairs) (sent : List Job) → Rounds JobsEnd caller t n lines known sent → n ≤ length (calls_of lines)
   rounds_called zero lines known sent rounds = omega arith
   rounds_called (suc n) lines known sent (before, last, past, earlier, later, split, parted, rounds, round) =
       let first = rounds_called n before past earlier rounds in
-      let own : List Line = round.round.ends ++ saws round.round.replies round.round.endings in
-      let load : Line = line caller round.round.load_at (LoadMany (frontier t past)) (Many round.round.replies) in
-      let dispatch : Line = line caller round.round.dispatch_at Dispatch (Sent round.round.jobs) in
+      let own : List Entry = round.round.ends ++ saws round.round.replies round.round.endings in
+      let load : Entry = call_entry caller round.round.load_at (LoadMany (frontier t past)) (Many round.round.replies) in
+      let dispatch : Entry = call_entry caller round.round.dispatch_at Dispatch (Sent round.round.jobs) in
       let tells : calls_of last ≡ calls_of (load ∷ dispatch ∷ own) = ap calls_of round.round.tells in
       let some : 1 ≤ length (calls_of last) = rw tells (omega arith) in
       let whole : calls_of lines ≡ calls_of before ++ calls_of last = ap calls_of split ∙ calls_of-append before last in
@@ -131,7 +131,7 @@ steps_called caller number (step ∷ steps) s (own, rest, is, one, others) =
     omega (arith, first, next, rounds, long)
 
 -- at most as many as the pass has calls
-pub rounds_few : (old new : Part) (before after : List Job) (steps : List Step) (answers : List StepAnswer) (r : ℕ)
+pub rounds_few : (old new : Trace) (before after : List Job) (steps : List Step) (answers : List StepAnswer) (r : ℕ)
     → Leaves old new before after steps answers r → r ≤ length (calls_of new.entries)
 rounds_few old new before after steps answers r (sent, jobs, (caller, lines, entries, follows)) =
     let few = steps_called old.caller 0 steps (stretch lines answers r sent) follows in
@@ -141,7 +141,7 @@ rounds_few old new before after steps answers r (sent, jobs, (caller, lines, ent
     omega (arith, few, long)
 
 -- what steps gave is the same, told otherwise
-pub leaves_same : (old new : Part) (before after : List Job) (steps : List Step) (answers answers2 : List StepAnswer) (r q : ℕ) → answers2 ≡ answers
+pub leaves_same : (old new : Trace) (before after : List Job) (steps : List Step) (answers answers2 : List StepAnswer) (r q : ℕ) → answers2 ≡ answers
     → q ≡ r → Leaves old new before after steps answers r → Leaves old new before after steps answers2 q
 leaves_same old new before after steps answers answers2 r q same rounds leaves =
     subst (λ n. Leaves old new before after steps answers2 n) (sym rounds)
@@ -150,9 +150,9 @@ leaves_same old new before after steps answers answers2 r q same rounds leaves =
 -- ---- a step that is a call
 
 -- a call of the caller's, and no job sent
-pub call_step : (p q r : Part) (before : List Job) (number : ℕ) (taken step : Step) (call : Call) → taken ≡ step → r ≡ q
+pub call_step : (p q r : Trace) (before : List Job) (number : ℕ) (taken step : Step) (call : Call) → taken ≡ step → r ≡ q
     → ((s : Stretch) → IsCall p.caller call s → IsStep p.caller number step s)
-    → Adds p q (λ lines. (at : ℕ) × (reply : Reply) × (lines ≡ line p.caller at call reply ∷ []))
+    → Adds p q (λ lines. (at : ℕ) × (reply : Reply) × (lines ≡ call_entry p.caller at call reply ∷ []))
     → AddsAndSends p r before before (λ lines sent. IsStep p.caller number taken (stretch lines [] 0 sent))
 call_step p q r before number taken step call same now is_step (caller, lines, entries, (at, reply, is)) =
     let one : IsStep p.caller number step (stretch lines [] 0 []) =
@@ -160,18 +160,18 @@ call_step p q r before number taken step call same now is_step (caller, lines, e
       [],
       sym (append-nil before),
       (
-        ap (λ (x : Part). x.caller) now ∙ caller,
+        ap (λ (x : Trace). x.caller) now ∙ caller,
         lines,
-        ap (λ (x : Part). x.entries) now ∙ entries,
+        ap (λ (x : Trace). x.entries) now ∙ entries,
         subst (λ st. IsStep p.caller number st (stretch lines [] 0 [])) (sym same) one,
       ),
     )
 
 -- one that was made
-pub made_step : (service : Service) (p q r : Part) (before : List Job) (number : ℕ) (taken step : Step) (call : Call) (reply : Reply) → taken ≡ step
+pub made_step : (service : Service) (p q r : Trace) (before : List Job) (number : ℕ) (taken step : Step) (call : Call) (reply : Reply) → taken ≡ step
     → r ≡ q → ((s : Stretch) → IsCall p.caller call s → IsStep p.caller number step s) → WasMade service p call reply q
     → AddsAndSends p r before before (λ lines sent. IsStep p.caller number taken (stretch lines [] 0 sent))
 made_step service p q r before number taken step call reply same now is_step made =
     let one = made_adds service p q call reply made in
     call_step p q r before number taken step call same now is_step
-    (one.1, line p.caller one.0 call reply ∷ [], one.2, (one.0, reply, refl))
+    (one.1, call_entry p.caller one.0 call reply ∷ [], one.2, (one.0, reply, refl))

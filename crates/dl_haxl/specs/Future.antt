@@ -10,7 +10,7 @@ abbrev pub end_after : {A : Type 0} → Result A PollFault → PollFault
 end_after (Ok a) = Finished
 end_after (Err fault) = fault
 
--- it has not ended: the outcome that its ticket shows, if it shows one, or want of memory; once it has, its end
+-- it has not ended: the outcome that its ticket shows, if it shows one, or out of memory; once it has, its end
 abbrev pub MayGive : Option PollFault → Option Ending → Result Outcome PollFault → Type 0
 MayGive None known (Ok outcome) = IfSome known (λ ending. ending.outcome ≡ outcome)
 MayGive None known (Err fault) = fault ≡ OutOfMemory

@@ -1,2 +1,2 @@
 -- The words of private functions, which no public clause reaches.
-pub mod Taken
+pub mod StepsSoFar

@@ -1,4 +1,4 @@
-pub mod Follows
+pub mod PlanEntries
 pub mod Future
 pub mod Inside
 pub mod Pairs
@@ -6,4 +6,4 @@ pub mod Reads
 pub mod Rounds
 pub mod Run
 pub mod RunFaults
-pub mod Seen
+pub mod RunView

@@ -4,8 +4,8 @@ use Rattle.std.specs.List.{list_all, AllZip}
 use Rattle.dl_values.specs.Key.{Key}
 use Rattle.dl_values.specs.declared.outcome.Outcome.{Outcome}
 use Rattle.dl_history.specs.declared.event.Ending.{Ending}
-use Rattle.dl_loader.specs.Pass.{Hold}
-use Rattle.dl_terms.specs.Gives.{Pairs}
+use Rattle.dl_loader.specs.Pass.{Ticket}
+use Rattle.dl_terms.specs.TermAnswers.{Pairs}
 
 -- each key with the outcome in its place
 abbrev pub paired : List Key → List Outcome → Pairs
@@ -14,24 +14,24 @@ paired (k ∷ ks) [] = []
 paired (k ∷ ks) (o ∷ os) = (k, o) ∷ paired ks os
 
 -- the ticket later: the same load, and what it showed it shows
-pub record Later (t u : Hold) : Type 0 where
+pub record Later (t u : Ticket) : Type 0 where
   pub number : u.number ≡ t.number
   pub reply : u.reply ≡ t.reply
   pub known : IfSome t.known (λ ending. u.known ≡ Some ending)
 
 -- the same tickets, later
-abbrev pub AllLater : List Hold → List Hold → Type 0
+abbrev pub AllLater : List Ticket → List Ticket → Type 0
 AllLater ts us = AllZip Later ts us
 
 -- each of the tickets shows an outcome
-abbrev pub all_show : List Hold → Bool
-all_show ts = list_all (λ (t : Hold). is_some t.known) ts
+abbrev pub all_show : List Ticket → Bool
+all_show ts = list_all (λ (t : Ticket). is_some t.known) ts
 
 abbrev pub with_shown : Option Ending → List Outcome → List Outcome
 with_shown None os = os
 with_shown (Some ending) os = ending.outcome ∷ os
 
 -- the outcomes that tickets show, in order
-abbrev pub outcomes_shown : List Hold → List Outcome
+abbrev pub outcomes_shown : List Ticket → List Outcome
 outcomes_shown [] = []
 outcomes_shown (t ∷ ts) = with_shown t.known (outcomes_shown ts)

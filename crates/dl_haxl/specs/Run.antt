@@ -2,10 +2,10 @@
 use Rattle.std.specs.Prelude.{◌≡◌, ◌≢◌, ◌⊎◌, true, false, List, [], ◌++◌, length, Option, Some, None, Result, IfOk, All}
 use Rattle.dl_values.specs.Key.{Key}
 use Rattle.dl_values.specs.declared.outcome.Outcome.{Outcome}
-use Rattle.dl_loader.specs.Pass.{Hold}
+use Rattle.dl_loader.specs.Pass.{Ticket}
 use Rattle.dl_terms.specs.declared.answer.Answer.{Answer}
 use Rattle.dl_terms.specs.Tree.{Tree}
-use Rattle.dl_terms.specs.Gives.{Pairs, outcome_in, answer, waits, gives, frontier}
+use Rattle.dl_terms.specs.TermAnswers.{Pairs, outcome_in, answer, waits, gives, frontier}
 use Rattle.dl_terms.specs.Rounds.{KnowsMore}
 use Rattle.dl_haxl.specs.Pairs.{paired, all_show, outcomes_shown}
 use Rattle.dl_haxl.specs.declared.fault.PollFault.{PollFault}
@@ -19,7 +19,7 @@ pub record Run : Type 0 where
   pub left : Tree
   pub learned : Pairs
   pub keys : List Key
-  pub tickets : List Hold
+  pub tickets : List Ticket
 
 abbrev pub wanted_at : Stage → List Key → List Key
 wanted_at Learning ks = []
@@ -44,7 +44,7 @@ wanted_by r = wanted_at r.stage r.keys
 abbrev pub asked_by : Run → List Key
 asked_by r = asked_at r.stage r.keys
 
--- what each poll answers, once the answer was given or a growth was refused
+-- what each poll answers, once the answer was given or an allocation failed
 abbrev pub ended_by : Run → Option PollFault
 ended_by r = ended_at r.stage
 
@@ -93,7 +93,7 @@ pub record Waiting (r : Run) : Type 0 where
   pub some : r.keys ≢ []
   pub shown : all_show r.tickets ≡ true
 
-abbrev pub run_at : Stage → Tree → Pairs → List Key → List Hold → Run
+abbrev pub run_at : Stage → Tree → Pairs → List Key → List Ticket → Run
 run_at stage left learned keys tickets = record { stage = stage; left = left; learned = learned; keys = keys; tickets = tickets }
 
 -- ---- what a poll does

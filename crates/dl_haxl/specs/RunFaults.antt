@@ -4,8 +4,8 @@ use Rattle.dl_values.specs.declared.job.Job.{Job}
 use Rattle.dl_history.specs.Service.{Service}
 use Rattle.dl_history.specs.declared.event.Call as event
 use Rattle.dl_loader.specs.Book.{SomeCellRefused, SomeStopped}
-use Rattle.dl_loader.specs.Made.{WasRefused}
-use Rattle.dl_loader.specs.Pass.{Part}
+use Rattle.dl_loader.specs.EventEffect.{WasRefused}
+use Rattle.dl_loader.specs.Pass.{Trace}
 use Rattle.dl_loader.specs.declared.fault.CallFault.{CallFault}
 use Rattle.dl_haxl.specs.declared.fault.RunFault.{RunFault}
 use Rattle.dl_haxl.specs.declared.fault.RunFault.TheVariants.{Call, Stopped, OutOfMemory}
@@ -13,7 +13,7 @@ use Rattle.dl_haxl.specs.declared.fault.RunFault.TheVariants.{Call, Stopped, Out
 -- some call of the caller's was refused so, with the job that it would have ended, if it is an end
 abbrev pub SomeCallRefused : Service → ℕ → CallFault → Type 0
 SomeCallRefused service caller fault =
-    (p : Part) × (call : event.Call) × (job : Option Job) × (p.caller ≡ caller) × WasRefused service p call job fault
+    (p : Trace) × (call : event.Call) × (job : Option Job) × (p.caller ≡ caller) × WasRefused service p call job fault
 
 -- A call of the caller's was refused; some book that keeps what the loader's does is stopped, or has a cell that refused its
 -- outcome; or an allocation failed.

@@ -23,7 +23,7 @@ pub struct LoadFuture<'a, L: LoaderName> {
 }
 
 impl<'a, L: LoaderName> LoadFuture<'a, L> {
-    /// The future of the outcome that the ticket will show. It does not allocate.
+    /// The future of the outcome that the ticket will show.
     pub fn new(ticket: Ticket<'a, L>) -> LoadFuture<'a, L>
         ensures ticket { result.ticket ≡ ticket.entry }
         ensures ended { result.ended ≡ None }

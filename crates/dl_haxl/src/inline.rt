@@ -3,14 +3,14 @@
 ghost use Rattle.std.specs.Prelude.{◌≡◌, ◌≤◌, ℕ, List, [], IfErr, IfOk, OnErr, OnOk};
 ghost use Rattle.dl_values.specs.declared.job.Job.{Job};
 ghost use Rattle.dl_history.specs.Service.{Answers};
-ghost use Rattle.dl_loader.specs.Added.{Adds, Grows, KeepsTickets};
+ghost use Rattle.dl_loader.specs.Additions.{Adds, Grows, KeepsTickets};
 ghost use Rattle.dl_terms.specs.Tree.{depth_of};
 ghost use Rattle.dl_terms.specs.View.{term_view};
 ghost use Rattle.dl_workers.specs.Ending.{WasEnded};
 ghost use Rattle.dl_haxl.specs.Rounds.{EndedInline, EvaluatesInline};
 ghost use Rattle.dl_haxl.specs.RunFaults.{IsRunFault};
 
-use crate::evaluation::evaluate;
+use crate::evaluator::Evaluator;
 use crate::fault::RunFault;
 use crate::outlet::Outlet;
 use dl_desk::Job;
@@ -24,7 +24,7 @@ use std::sync::Wait;
 
 /// Evaluates a term on the caller's own thread, and answers how many rounds of loads that took. Each round
 /// loads the keys that the term waits for, dispatches, and ends each job by what the loader's source answers to
-/// its keys, or, where an allocation fails, as one that failed for want of memory. Keys are hashed by
+/// its keys, or, where an allocation fails, as one that failed since memory ran out. Keys are hashed by
 /// `hashing`, of which nothing is seen.
 ///
 /// # Errors
@@ -41,15 +41,21 @@ pub fn run_inline<L: LoaderName, S: Source>(
     term: Term,
 ) -> Result<(Answer, u32), RunFault>
     requires source { Answers (S.answer source.now) L.service }
-    ensures evaluates { IfOk result (λ r. Adds pass.old.part pass.new.part
-        (λ lines. EvaluatesInline L.service pass.old.part.caller (term_view term) lines r.0 r.1)) }
+    ensures evaluates { IfOk result (λ r. Adds pass.old.trace pass.new.trace
+        (λ lines. EvaluatesInline L.service pass.old.trace.caller (term_view term) lines r.0 r.1)) }
     ensures rounds { IfOk result (λ r. r.1 ≤ depth_of (term_view term)) }
-    ensures older { KeepsTickets pass.old.part pass.new.part }
-    ensures fault { IfErr result (IsRunFault L.service pass.old.part.caller) }
-    ensures grows { OnErr result (Grows pass.old.part pass.new.part) }
+    ensures older { KeepsTickets pass.old.trace pass.new.trace }
+    ensures fault { IfErr result (IsRunFault L.service pass.old.trace.caller) }
+    ensures grows { OnErr result (Grows pass.old.trace pass.new.trace) }
 {
     let outlet = OwnThread { source };
-    evaluate(rt, alloc, hashing, loader, &outlet, &mut (), pass, term)
+    let evaluator = Evaluator {
+        alloc,
+        hashing,
+        loader,
+        outlet: &outlet,
+    };
+    evaluator.evaluate(rt, &mut (), pass, term)
 }
 
 /// The evaluating thread, which fetches from its source.
@@ -69,17 +75,15 @@ impl<L: LoaderName, S: Source> Outlet<L> for OwnThread<'_, S> {
 
     /// Ends the batch of each job by what the loader's source answers.
     fn give_out<R: Wait>(
-        &self,
+        evaluator: &Evaluator<'_, L, Self>,
         rt: &R,
-        alloc: Global,
-        loader: &Loader<L>,
         _seat: &mut (),
         pass: &mut Pass<L>,
         jobs: Vec<Job>,
     ) -> Result<(), RunFault> {
         for job in jobs {
-            if let Err(fault) = end_shown(rt, alloc, loader, self.source, pass, job) {
-                loader.stop(rt);
+            if let Err(fault) = evaluator.end_shown(rt, pass, job) {
+                evaluator.loader.stop(rt);
                 return Err(fault);
             }
         }
@@ -87,24 +91,19 @@ impl<L: LoaderName, S: Source> Outlet<L> for OwnThread<'_, S> {
     }
 }
 
-/// Ends the batch of a job, whose cells all show their outcomes then.
-fn end_shown<L: LoaderName, S: Source>(
-    rt: &impl Wait,
-    alloc: Global,
-    loader: &Loader<L>,
-    source: &S,
-    pass: &mut Pass<L>,
-    job: Job,
-) -> Result<(), RunFault>
-    requires source { Answers (S.answer source.now) L.service }
-    ensures ended { OnOk result (WasEnded L.service pass.old.part job pass.new.part) }
-    ensures tickets { pass.new.part.tickets ≡ pass.old.part.tickets }
-    ensures fault { IfErr result (IsRunFault L.service pass.old.part.caller) }
-    ensures grows { OnErr result (Grows pass.old.part pass.new.part) }
-{
-    let settled = end_job(rt, alloc, loader, source, pass, job)?;
-    if settled.refused > 0 {
-        return Err(RunFault::Stopped);
+impl<L: LoaderName, S: Source> Evaluator<'_, L, OwnThread<'_, S>> {
+    /// Ends the batch of a job, whose cells all show their outcomes then.
+    fn end_shown(&self, rt: &impl Wait, pass: &mut Pass<L>, job: Job) -> Result<(), RunFault>
+        requires source { Answers (S.answer self.now.outlet.now.source.now) L.service }
+        ensures ended { OnOk result (WasEnded L.service pass.old.trace job pass.new.trace) }
+        ensures tickets { pass.new.trace.tickets ≡ pass.old.trace.tickets }
+        ensures fault { IfErr result (IsRunFault L.service pass.old.trace.caller) }
+        ensures grows { OnErr result (Grows pass.old.trace pass.new.trace) }
+    {
+        let settled = end_job(rt, self.alloc, self.loader, self.outlet.source, pass, job)?;
+        if settled.refused > 0 {
+            return Err(RunFault::Stopped);
+        }
+        Ok(())
     }
-    Ok(())
 }

@@ -9,24 +9,23 @@
 //! thread, and `run_term` hands them over to fetch workers by a queue. [`take_steps`] takes the steps of a whole plan so.
 #![tactic(auto)]
 
-mod evaluation;
+mod evaluator;
 mod fault;
 mod future;
+mod handover;
 mod inline;
-mod learning;
 mod outlet;
-mod queued;
-mod rounds;
 mod run;
 mod stage;
 mod step_answer;
 mod steps;
+mod ticket_outcomes;
 
 pub use dl_terms::{Answer, EvalFault, Step, Term, laws};
 pub use fault::{PollFault, RunFault};
 pub use future::LoadFuture;
+pub use handover::run_term;
 pub use inline::run_inline;
-pub use queued::run_term;
 pub use run::TermRun;
 pub use step_answer::{StepAnswer, StepAnswers};
 pub use steps::take_steps;

@@ -2,15 +2,15 @@
 
 ghost use Rattle.std.specs.Prelude.{◌≡◌, ℕ, List, IfErr, OnErr, OnOk};
 ghost use Rattle.dl_values.specs.declared.job.Job.{Job};
-ghost use Rattle.dl_history.specs.Entries.{Line};
-ghost use Rattle.dl_loader.specs.Added.{Grows};
+ghost use Rattle.dl_history.specs.Entries.{Entry};
+ghost use Rattle.dl_loader.specs.Additions.{Grows};
 ghost use Rattle.dl_haxl.specs.Rounds.{AddsAndSends, SentMore};
 ghost use Rattle.dl_haxl.specs.RunFaults.{IsRunFault};
 
+use crate::evaluator::Evaluator;
 use crate::fault::RunFault;
 use dl_desk::Job;
-use dl_loader::{Loader, LoaderName, Pass};
-use std::alloc::Global;
+use dl_loader::{LoaderName, Pass};
 use std::sync::Wait;
 
 /// Where the jobs of a round go: to the source of the evaluating thread, or to fetch workers.
@@ -25,7 +25,7 @@ pub(crate) trait Outlet<L: LoaderName> {
     ghost sent_by: { Self.Seat → List Job };
 
     // Of the jobs of a caller's dispatch, which are sent to fetch workers, and the entries of the ends of the others.
-    ghost jobs_end: { ℕ → List Job → List Job → List Line → Type 0 };
+    ghost jobs_end: { ℕ → List Job → List Job → List Entry → Type 0 };
 
     /// Gives out the jobs of a dispatch, in order. Where a batch can't be ended or a cell refuses its outcome, the loader
     /// is stopped.
@@ -33,20 +33,18 @@ pub(crate) trait Outlet<L: LoaderName> {
     /// # Errors
     /// `Call` where a batch can't be ended, and `Stopped` where a cell refuses its outcome.
     fn give_out<R: Wait>(
-        &self,
+        evaluator: &Evaluator<'_, L, Self>,
         rt: &R,
-        alloc: Global,
-        loader: &Loader<L>,
         seat: &mut Self::Seat,
         pass: &mut Pass<L>,
         jobs: Vec<Job>,
     ) -> Result<(), RunFault>
-        requires fits { fits self.now seat.old }
-        ensures fits { fits self.now seat.new }
-        ensures gives_out { OnOk result (AddsAndSends pass.old.part pass.new.part (sent_by seat.old) (sent_by seat.new)
-            (λ ends sent. jobs_end pass.old.part.caller jobs.items sent ends)) }
+        requires fits { fits evaluator.now.outlet.now seat.old }
+        ensures fits { fits evaluator.now.outlet.now seat.new }
+        ensures gives_out { OnOk result (AddsAndSends pass.old.trace pass.new.trace (sent_by seat.old) (sent_by seat.new)
+            (λ ends sent. jobs_end pass.old.trace.caller jobs.items sent ends)) }
         ensures sent { SentMore (sent_by seat.old) (sent_by seat.new) }
-        ensures tickets { pass.new.part.tickets ≡ pass.old.part.tickets }
-        ensures fault { IfErr result (IsRunFault L.service pass.old.part.caller) }
-        ensures grows { OnErr result (Grows pass.old.part pass.new.part) };
+        ensures tickets { pass.new.trace.tickets ≡ pass.old.trace.tickets }
+        ensures fault { IfErr result (IsRunFault L.service pass.old.trace.caller) }
+        ensures grows { OnErr result (Grows pass.old.trace pass.new.trace) };
 }

@@ -2,13 +2,13 @@
 
 ghost use Rattle.std.specs.Prelude.{◌≡◌};
 ghost use Rattle.dl_terms.specs.Node.{node_view};
-ghost use Rattle.dl_terms.specs.Reduces.{pairs_of};
+ghost use Rattle.dl_terms.specs.Reduction.{pairs_of};
 ghost use Rattle.dl_haxl.specs.Run.{Supplied, Waiting, run_at};
 ghost use Rattle.dl_haxl.specs.declared.stage.Stage.TheVariants.{Learning, Wanting};
 
 use crate::fault::PollFault;
-use crate::learning::{all_shown, learn};
 use crate::stage::Stage;
+use crate::ticket_outcomes::{all_shown, learn};
 use dl_desk::FetchKey;
 use dl_loader::{LoaderName, Ticket};
 use dl_terms::{Answer, Known, Node, Term, Wanted, explore, unexplored};
@@ -47,7 +47,7 @@ impl<'l, L: LoaderName> TermRun<'l, L> {
     ghost use Rattle.dl_haxl.specs.Future.{end_after};
     ghost use Rattle.dl_haxl.specs.Pairs.{AllLater};
     ghost use Rattle.dl_haxl.specs.Run.{Finishes, IsRunOf, Pends, asked_by, ended_by, wanted_by};
-    ghost use Rattle.dl_haxl.specs.Seen.{seen};
+    ghost use Rattle.dl_haxl.specs.RunView.{seen};
     ghost use Rattle.dl_haxl.specs.declared.fault.PollFault.TheVariants.{Finished, OutOfMemory};
     ghost use Rattle.dl_haxl.specs.declared.stage.Stage.TheVariants.{Ended};
 
@@ -77,7 +77,7 @@ impl<'l, L: LoaderName> TermRun<'l, L> {
 
     /// The keys that the term waits for, after a pending poll that found all tickets to show their outcomes:
     /// left to right, each once. There are none before the first poll, from a supply of tickets to the poll
-    /// that finds them all shown, and after an answer or a refusal. It does not allocate.
+    /// that finds them all shown, and after an answer or a failed allocation.
     pub fn wanted(&self) -> &[FetchKey]
         ensures { result.now ≡ wanted_by (seen self.now) }
     {
@@ -88,7 +88,7 @@ impl<'l, L: LoaderName> TermRun<'l, L> {
     }
 
     /// Takes a ticket for each wanted key, in order, all of one call of
-    /// [`load_many`](dl_loader::Loader::load_many). With nothing wanted nothing changes. It does not allocate.
+    /// [`load_many`](dl_loader::Loader::load_many). With nothing wanted nothing changes.
     pub fn supply(&mut self, tickets: Vec<Ticket<'l, L>>)
         requires each { length tickets.items ≡ length (wanted_by (seen self.old)) }
         ensures run { (t : Tree) → IsRunOf t (seen self.old) → IsRunOf t (seen self.new) }
@@ -154,7 +154,6 @@ impl<'l, L: LoaderName> TermRun<'l, L> {
     }
 }
 
-// Written out: a derived drop is proved anew in each function that lets a run go.
 impl<L: LoaderName> Drop for TermRun<'_, L> {
     fn drop(self) {
         let TermRun {
@@ -180,7 +179,7 @@ impl<L: LoaderName> Future for TermRun<'_, L> {
     ghost use Rattle.dl_haxl.specs.Future.{end_after};
     ghost use Rattle.dl_haxl.specs.Pairs.{AllLater};
     ghost use Rattle.dl_haxl.specs.Run.{Finishes, MayAnswer, Pends, ended_by};
-    ghost use Rattle.dl_haxl.specs.Seen.{seen};
+    ghost use Rattle.dl_haxl.specs.RunView.{seen};
     ghost use Rattle.dl_haxl.specs.declared.fault.PollFault.TheVariants.{OutOfMemory};
 
     type Output = Result<Answer, PollFault>;

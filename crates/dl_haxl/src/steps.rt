@@ -3,15 +3,15 @@
 ghost use Rattle.std.specs.Prelude.{◌≡◌, ◌+◌, ◌^◌, ◌<◌, ◌∷◌, ◌++◌, [], ℕ, IfErr, IfOk, OnErr, OnOk};
 ghost use Rattle.dl_history.specs.declared.event.Call.TheVariants.{Prime};
 ghost use Rattle.dl_history.specs.declared.event.Reply.{Reply};
-ghost use Rattle.dl_loader.specs.Added.{Adds, Grows, KeepsTickets, line};
+ghost use Rattle.dl_loader.specs.Additions.{Adds, Grows, KeepsTickets, call_entry};
 ghost use Rattle.dl_workers.specs.Seats.{IsSenderOf, sent_jobs};
-ghost use Rattle.dl_haxl.specs.Follows.{FollowsAndSends, IsStep, stretch};
-ghost use Rattle.dl_haxl.specs.Inside.Taken.{answers_of, rounds_of};
+ghost use Rattle.dl_haxl.specs.PlanEntries.{FollowsAndSends, IsStep, stretch};
+ghost use Rattle.dl_haxl.specs.Inside.StepsSoFar.{answers_of, rounds_of};
 ghost use Rattle.dl_haxl.specs.Rounds.{AddsAndSends, SentMore};
 ghost use Rattle.dl_haxl.specs.RunFaults.{IsRunFault};
 
+use crate::evaluator::Evaluator;
 use crate::fault::RunFault;
-use crate::queued::run_term;
 use crate::step_answer::{StepAnswer, StepAnswers};
 use dl_desk::{FetchKey, Outcome};
 use dl_loader::{Loader, LoaderName, Pass, PrimeReply};
@@ -57,20 +57,26 @@ pub fn take_steps<L: LoaderName, R: Wait>(
 ) -> Result<StepAnswers, RunFault>
     requires seat { IsSenderOf queue.now sender.old }
     ensures seat { IsSenderOf queue.now sender.new }
-    ensures follows { IfOk result (λ given. AddsAndSends pass.old.part pass.new.part (sent_jobs sender.old) (sent_jobs sender.new)
-        (λ lines sent. FollowsAndSends pass.old.part.caller steps.items lines given.answers.items given.rounds sent)) }
+    ensures follows { IfOk result (λ given. AddsAndSends pass.old.trace pass.new.trace (sent_jobs sender.old) (sent_jobs sender.new)
+        (λ lines sent. FollowsAndSends pass.old.trace.caller steps.items lines given.answers.items given.rounds sent)) }
     ensures sent { OnErr result (SentMore (sent_jobs sender.old) (sent_jobs sender.new)) }
-    ensures older { KeepsTickets pass.old.part pass.new.part }
-    ensures fault { IfErr result (IsRunFault L.service pass.old.part.caller) }
-    ensures grows { OnErr result (Grows pass.old.part pass.new.part) }
+    ensures older { KeepsTickets pass.old.trace pass.new.trace }
+    ensures fault { IfErr result (IsRunFault L.service pass.old.trace.caller) }
+    ensures grows { OnErr result (Grows pass.old.trace pass.new.trace) }
 {
+    let evaluator = Evaluator {
+        alloc,
+        hashing,
+        loader,
+        outlet: queue,
+    };
     let mut given = StepAnswers {
         answers: Vec::new(alloc),
         rounds: 0,
     };
     let mut number: usize = 0;
     for step in steps {
-        let taken = take_step(rt, alloc, hashing, loader, pass, queue, sender, step)?;
+        let taken = evaluator.take_step(rt, sender, pass, step)?;
         let _calls = pass.calls();
         given.add(number, taken)?;
         number += 1;
@@ -78,55 +84,53 @@ pub fn take_steps<L: LoaderName, R: Wait>(
     Ok(given)
 }
 
-/// Takes a step: the answer of its term, and how many rounds of loads that took, if it has a term.
-fn take_step<L: LoaderName, R: Wait>(
-    rt: &R,
-    alloc: Global,
-    hashing: RandomState,
-    loader: &Loader<L>,
-    pass: &mut Pass<L>,
-    queue: &JobQueue,
-    sender: &mut Sender,
-    step: Step,
-) -> Result<Option<(Answer, u32)>, RunFault>
-    requires seat { IsSenderOf queue.now sender.old }
-    ensures seat { IsSenderOf queue.now sender.new }
-    ensures step { IfOk result (λ given. (number : ℕ) → AddsAndSends pass.old.part pass.new.part (sent_jobs sender.old) (sent_jobs sender.new)
-        (λ lines sent. IsStep pass.old.part.caller number step (stretch lines (answers_of number given) (rounds_of given) sent))) }
-    ensures sent { OnErr result (SentMore (sent_jobs sender.old) (sent_jobs sender.new)) }
-    ensures older { KeepsTickets pass.old.part pass.new.part }
-    ensures fault { IfErr result (IsRunFault L.service pass.old.part.caller) }
-    ensures grows { OnErr result (Grows pass.old.part pass.new.part) }
-{
-    match step {
-        Step::Prime(key, outcome) => prime(rt, alloc, loader, pass, &key, outcome)?,
-        Step::Clear(key) => loader.clear(rt, alloc, pass, &key)?,
-        Step::ClearAll => loader.clear_all(rt, alloc, pass)?,
-        Step::Eval(term) => {
-            let given = run_term(rt, alloc, hashing, loader, pass, queue, sender, term)?;
-            return Ok(Some(given));
+impl<L: LoaderName> Evaluator<'_, L, JobQueue> {
+    /// Takes a step: the answer of its term, and how many rounds of loads that took, if it has a term.
+    fn take_step<R: Wait>(
+        &self,
+        rt: &R,
+        sender: &mut Sender,
+        pass: &mut Pass<L>,
+        step: Step,
+    ) -> Result<Option<(Answer, u32)>, RunFault>
+        requires seat { IsSenderOf self.now.outlet.now sender.old }
+        ensures seat { IsSenderOf self.now.outlet.now sender.new }
+        ensures step { IfOk result (λ given. (number : ℕ) → AddsAndSends pass.old.trace pass.new.trace (sent_jobs sender.old) (sent_jobs sender.new)
+            (λ lines sent. IsStep pass.old.trace.caller number step (stretch lines (answers_of number given) (rounds_of given) sent))) }
+        ensures sent { OnErr result (SentMore (sent_jobs sender.old) (sent_jobs sender.new)) }
+        ensures older { KeepsTickets pass.old.trace pass.new.trace }
+        ensures fault { IfErr result (IsRunFault L.service pass.old.trace.caller) }
+        ensures grows { OnErr result (Grows pass.old.trace pass.new.trace) }
+    {
+        match step {
+            Step::Prime(key, outcome) => self.prime(rt, pass, &key, outcome)?,
+            Step::Clear(key) => self.loader.clear(rt, self.alloc, pass, &key)?,
+            Step::ClearAll => self.loader.clear_all(rt, self.alloc, pass)?,
+            Step::Eval(term) => {
+                let given = self.evaluate(rt, sender, pass, term)?;
+                return Ok(Some(given));
+            }
         }
+        Ok(None)
     }
-    Ok(None)
-}
 
-/// Primes a key. The error is also for a cell that refuses its outcome.
-fn prime<L: LoaderName>(
-    rt: &impl Wait,
-    alloc: Global,
-    loader: &Loader<L>,
-    pass: &mut Pass<L>,
-    key: &FetchKey,
-    outcome: Outcome,
-) -> Result<(), RunFault>
-    ensures primed { OnOk result (Adds pass.old.part pass.new.part
-        (λ lines. (at : ℕ) × (reply : Reply) × (lines ≡ line pass.old.part.caller at (Prime key.now outcome) reply ∷ []))) }
-    ensures tickets { pass.new.part.tickets ≡ pass.old.part.tickets }
-    ensures fault { IfErr result (IsRunFault L.service pass.old.part.caller) }
-    ensures grows { OnErr result (Grows pass.old.part pass.new.part) }
-{
-    match loader.prime(rt, alloc, pass, key, outcome)? {
-        PrimeReply::Primed { shown: false, .. } => Err(RunFault::Stopped),
-        PrimeReply::Primed { .. } | PrimeReply::Kept => Ok(()),
+    /// Primes a key. The error is also for a cell that refuses its outcome.
+    fn prime(
+        &self,
+        rt: &impl Wait,
+        pass: &mut Pass<L>,
+        key: &FetchKey,
+        outcome: Outcome,
+    ) -> Result<(), RunFault>
+        ensures primed { OnOk result (Adds pass.old.trace pass.new.trace
+            (λ lines. (at : ℕ) × (reply : Reply) × (lines ≡ call_entry pass.old.trace.caller at (Prime key.now outcome) reply ∷ []))) }
+        ensures tickets { pass.new.trace.tickets ≡ pass.old.trace.tickets }
+        ensures fault { IfErr result (IsRunFault L.service pass.old.trace.caller) }
+        ensures grows { OnErr result (Grows pass.old.trace pass.new.trace) }
+    {
+        match self.loader.prime(rt, self.alloc, pass, key, outcome)? {
+            PrimeReply::Primed { shown: false, .. } => Err(RunFault::Stopped),
+            PrimeReply::Primed { .. } | PrimeReply::Kept => Ok(()),
+        }
     }
 }

@@ -3,7 +3,7 @@ use Rattle.std.proofs.Common.{◌≡◌, ◌∙◌, sym, ℕ, zero, suc, ◌+◌
 use Rattle.std.proofs.lemmas.Bool.{cases_lt, cases_eq}
 use Rattle.std.proofs.lemmas.Bool.Decides.{nat_tests}
 use Rattle.std.proofs.lemmas.List.Sums.{sum_by-cons}
-use Rattle.dl_history.specs.Agrees.{Account, accounts_by, HasEach}
+use Rattle.dl_history.specs.Agreement.{Account, accounts_by, HasEach}
 use Rattle.dl_history.specs.Lists.{Every, one_if}
 
 -- how many of the accounts are of callers below a number

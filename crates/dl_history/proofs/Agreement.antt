@@ -8,26 +8,26 @@ use Rattle.dl_history.specs.declared.event.Event.{Event}
 use Rattle.dl_history.specs.declared.event.Ending.{Ending}
 use Rattle.dl_history.specs.declared.cell_state.Mark.{Mark}
 use Rattle.dl_history.specs.declared.cell_state.Mark.TheVariants.{Waiting, Ended, Refused}
-use Rattle.dl_history.specs.Agrees.{Account, accounts_by, HasEach, HasCalls, places_of, Tells, Agrees, Meets, Fits}
-use Rattle.dl_history.specs.Kept.{Kept, IsKept, ShowsEnd}
-use Rattle.dl_history.specs.Agrees.{NoneBehind, read_in, reads_of, unshown}
+use Rattle.dl_history.specs.Agreement.{Account, accounts_by, HasEach, HasCalls, places_of, Tells, Agrees, Meets, Fits}
+use Rattle.dl_history.specs.LoaderState.{LoaderState, IsLoaderState, ShowsEnd}
+use Rattle.dl_history.specs.Agreement.{NoneBehind, read_in, reads_of, unshown}
 use Rattle.dl_history.specs.Journal.{cell_refused}
 use Rattle.dl_history.specs.History.{AllEnded}
-use Rattle.dl_history.specs.Entries.{Told, Read, Line, Called, Saw, calls_of, IsOwn, front_of, Ordered, answered, cells_in, Answered}
-use Rattle.dl_history.specs.History.{log, IsLegal, ending_of}
+use Rattle.dl_history.specs.Entries.{PlacedEvent, Read, Entry, Called, Saw, calls_of, IsOwn, front_of, Ordered, answered, cells_in, Answered}
+use Rattle.dl_history.specs.History.{past, IsLegal, ending_of}
 use Rattle.dl_history.specs.Journal.{Cell, is_refused}
 use Rattle.dl_history.specs.Lists.{Every, places}
 use Rattle.dl_history.specs.Service.{Service, AnswersEach}
-use Rattle.dl_history.proofs.CellsEnded.{shows_end}
-use Rattle.dl_history.proofs.Counting.{Rises, StandsAt, Stand, AreOwn, each_is_its_part}
-use Rattle.dl_history.proofs.Logs.{get-inside}
+use Rattle.dl_history.proofs.AllCellsEnd.{shows_end}
+use Rattle.dl_history.proofs.PlaceCounts.{Rises, StandsAt, Stand, AreOwn, each_is_its_part}
+use Rattle.dl_history.proofs.Pasts.{get-inside}
 use Rattle.dl_history.proofs.ListLemmas.{every_among, every_append_both, every_from}
-use Rattle.dl_history.proofs.CellsBegun.{AllBelow, answered_low}
+use Rattle.dl_history.proofs.CellsOfCalls.{AllBelow, answered_low}
 
 -- ---- one entry
 
 -- a call within the history tells its event
-call_tells : (es : List Event) (t : Told) → t.at < length es → IfSome (slice_get es t.at) (λ e. e ≡ t.event) → slice_get es t.at ≡ Some t.event
+call_tells : (es : List Event) (t : PlacedEvent) → t.at < length es → IfSome (slice_get es t.at) (λ e. e ≡ t.event) → slice_get es t.at ≡ Some t.event
 call_tells es t low meets = by (slice_get es t.at) refl meets
   where
     by : (o : Option Event) → slice_get es t.at ≡ o → IfSome o (λ e. e ≡ t.event) → o ≡ Some t.event
@@ -45,12 +45,12 @@ read_is (Some x) Ended shows read stands some refused meets =
     ap (λ (y : Ending). Some y) found
 read_is (Some x) (Refused kept) shows read stands some refused meets = absurd (let bad : true ≡ false = refused in cc)
 
-read_tells : (s : Service) (b : Kept) (r : Read) → IsKept s b → AnswersEach s.answer → AllEnded b.history → r.cell < cells (atoms (log b.history))
+read_tells : (s : Service) (b : LoaderState) (r : Read) → IsLoaderState s b → AnswersEach s.answer → AllEnded b.history → r.cell < cells (atoms (past b.history))
     → cell_refused (slice_get b.cells r.cell) ≡ false
     → IfSome (slice_get b.cells r.cell) (λ x. IfSome x.shows (λ e. e ≡ r.ending)) → ending_of b.history r.cell ≡ Some r.ending
 read_tells s b r kept each all low shown meets = by (slice_get b.cells r.cell) refl shown meets
   where
-    many : length b.cells ≡ cells (atoms (log b.history))
+    many : length b.cells ≡ cells (atoms (past b.history))
     many = kept.all_cells ∙ kept.desk.cells
 
     by : (o : Option Cell) → slice_get b.cells r.cell ≡ o → cell_refused o ≡ false → IfSome o (λ x. IfSome x.shows (λ e. e ≡ r.ending))
@@ -82,25 +82,25 @@ one_shown states c none = by (cell_refused (slice_get states c)) refl none
     by false is f = refl
 
 -- each entry tells what the history has
-entries_tell : (s : Service) (b : Kept) (cs : List ℕ) (entries : List Line) → IsKept s b → AnswersEach s.answer → AllEnded b.history
-    → AllBelow (cells (atoms (log b.history))) cs
+entries_tell : (s : Service) (b : LoaderState) (cs : List ℕ) (entries : List Entry) → IsLoaderState s b → AnswersEach s.answer → AllEnded b.history
+    → AllBelow (cells (atoms (past b.history))) cs
     → front_of entries ≤ length b.history → NoneRefused b.cells (flat_map read_in entries) → Answered cs entries → Every (Meets b.history b.cells) entries
     → Every (Tells b.history) entries
 entries_tell s b cs [] kept each all low front shown answered meets = tt
-entries_tell s b cs (Called t ∷ ls) kept each all low front shown answered meets =
+entries_tell s b cs (Called t ∷ entries) kept each all low front shown answered meets =
     let tells = call_tells b.history t (omega arith) meets.0 in
     let begun = answered_low s b.history t.at t.event kept.legal tells in
-    let more = every_append_both (λ c. c < cells (atoms (log b.history))) cs (answered_by t) low begun in
-    (tells, entries_tell s b (cs ++ answered_by t) ls kept each all more (omega arith) shown answered.1 meets.1)
+    let more = every_append_both (λ c. c < cells (atoms (past b.history))) cs (answered_by t) low begun in
+    (tells, entries_tell s b (cs ++ answered_by t) entries kept each all more (omega arith) shown answered.1 meets.1)
   where
-    answered_by : Told → List ℕ
+    answered_by : PlacedEvent → List ℕ
     answered_by u = cells_in (Called u)
-entries_tell s b cs (Saw r ∷ ls) kept each all low front shown answered meets =
-    let parts = none_refused_parts b.cells (r.cell ∷ []) (flat_map read_in ls) shown in
-    let own = every_among (λ c. c < cells (atoms (log b.history))) cs r.cell answered.0 low in
-    let more = every_append_both (λ c. c < cells (atoms (log b.history))) cs [] low tt in (
+entries_tell s b cs (Saw r ∷ entries) kept each all low front shown answered meets =
+    let parts = none_refused_parts b.cells (r.cell ∷ []) (flat_map read_in entries) shown in
+    let own = every_among (λ c. c < cells (atoms (past b.history))) cs r.cell answered.0 low in
+    let more = every_append_both (λ c. c < cells (atoms (past b.history))) cs [] low tt in (
       read_tells s b r kept each all own (one_shown b.cells r.cell parts.0) meets.0,
-      entries_tell s b (cs ++ []) ls kept each all more (omega arith) parts.1
+      entries_tell s b (cs ++ []) entries kept each all more (omega arith) parts.1
           answered.1 meets.1,
     )
 
@@ -110,28 +110,28 @@ rises_from : (j k : ℕ) (ps : List ℕ) → j ≤ k → Rises k ps → Rises j 
 rises_from j k [] low rises = tt
 rises_from j k (p ∷ ps) low rises = (let above = rises.0 in omega arith, rises.1)
 
-places_rise : (k : ℕ) (entries : List Line) → Ordered k entries → Rises k (places_of entries)
+places_rise : (k : ℕ) (entries : List Entry) → Ordered k entries → Rises k (places_of entries)
 places_rise k [] ordered = tt
-places_rise k (Called t ∷ ls) ordered =
-    (ordered.0, rises_from (t.at + 1) (max k (t.at + 1)) (places_of ls) (omega arith) (places_rise (max k (t.at + 1)) ls ordered.1))
-places_rise k (Saw r ∷ ls) ordered = rises_from k (max k (r.ending.at + 1)) (places_of ls) (omega arith) (places_rise (max k (r.ending.at + 1)) ls ordered.1)
+places_rise k (Called t ∷ entries) ordered =
+    (ordered.0, rises_from (t.at + 1) (max k (t.at + 1)) (places_of entries) (omega arith) (places_rise (max k (t.at + 1)) entries ordered.1))
+places_rise k (Saw r ∷ entries) ordered = rises_from k (max k (r.ending.at + 1)) (places_of entries) (omega arith) (places_rise (max k (r.ending.at + 1)) entries ordered.1)
 
-stands_there : (es : List Event) (n : ℕ) (t : Told) → slice_get es t.at ≡ Some t.event → t.event.caller ≡ n → StandsAt (λ (e : Event). e.caller) n es (t.at - 0)
+stands_there : (es : List Event) (n : ℕ) (t : PlacedEvent) → slice_get es t.at ≡ Some t.event → t.event.caller ≡ n → StandsAt (λ (e : Event). e.caller) n es (t.at - 0)
 stands_there es n t tells own = let same : t.at - 0 ≡ t.at = omega arith in record { element = t.event; there = rw same tells; own = own }
 
-places_stand : (es : List Event) (n : ℕ) (entries : List Line) → Every (λ t. slice_get es t.at ≡ Some t.event) (calls_of entries)
+places_stand : (es : List Event) (n : ℕ) (entries : List Entry) → Every (λ t. slice_get es t.at ≡ Some t.event) (calls_of entries)
     → Every (IsOwn n) (calls_of entries) → Stand (λ (e : Event). e.caller) n 0 es (places_of entries)
 places_stand es n [] tell own = tt
-places_stand es n (Called t ∷ ls) tell own = (stands_there es n t tell.0 own.0, places_stand es n ls tell.1 own.1)
-places_stand es n (Saw r ∷ ls) tell own = places_stand es n ls tell own
+places_stand es n (Called t ∷ entries) tell own = (stands_there es n t tell.0 own.0, places_stand es n entries tell.1 own.1)
+places_stand es n (Saw r ∷ entries) tell own = places_stand es n entries tell own
 
 -- ---- the calls of an account
 
-calls_tell : (es : List Event) (states : List Cell) (entries : List Line) → front_of entries ≤ length es → Every (Meets es states) entries
+calls_tell : (es : List Event) (states : List Cell) (entries : List Entry) → front_of entries ≤ length es → Every (Meets es states) entries
     → Every (λ t. slice_get es t.at ≡ Some t.event) (calls_of entries)
 calls_tell es states [] front meets = tt
-calls_tell es states (Called t ∷ ls) front meets = (call_tells es t (omega arith) meets.0, calls_tell es states ls (omega arith) meets.1)
-calls_tell es states (Saw r ∷ ls) front meets = calls_tell es states ls (omega arith) meets.1
+calls_tell es states (Called t ∷ entries) front meets = (call_tells es t (omega arith) meets.0, calls_tell es states entries (omega arith) meets.1)
+calls_tell es states (Saw r ∷ entries) front meets = calls_tell es states entries (omega arith) meets.1
 
 -- ---- the calls of all accounts
 
@@ -176,7 +176,7 @@ accounts_have s es states accounts legal each seen fits count =
 
 -- ---- all accounts
 
-all_agree : (s : Service) (b : Kept) (accounts : List Account) → IsKept s b → AnswersEach s.answer → AllEnded b.history
+all_agree : (s : Service) (b : LoaderState) (accounts : List Account) → IsLoaderState s b → AnswersEach s.answer → AllEnded b.history
     → Every (λ a. front_of a.entries ≤ length b.history) accounts → NoneRefused b.cells (reads_of accounts)
     → Every (Fits s.callers b.history b.cells) accounts → Every (HasCalls b.history) accounts → Every (Agrees b.history) accounts
 all_agree s b [] kept each all front shown fits calls = tt
@@ -194,7 +194,7 @@ all_agree s b (a ∷ accounts) kept each all front shown fits calls =
 
 -- Where accounts fit and have their calls, none has an outcome of a cell that refused it, and each batch has ended, each
 -- account agrees with the history.
-pub accounts_agree : (s : Service) (b : Kept) (accounts : List Account) → IsKept s b → AnswersEach s.answer → NoneBehind (length b.history) accounts
+pub accounts_agree : (s : Service) (b : LoaderState) (accounts : List Account) → IsLoaderState s b → AnswersEach s.answer → NoneBehind (length b.history) accounts
     → unshown b.cells accounts ≡ [] → AllEnded b.history → Every (Fits s.callers b.history b.cells) accounts → Every (HasCalls b.history) accounts
     → Every (Agrees b.history) accounts
 accounts_agree s b accounts kept answers seen shown all fits calls =

@@ -14,10 +14,10 @@ use Rattle.dl_values.specs.declared.outcome.BatchFault.{BatchFault}
 use Rattle.dl_history.specs.declared.event.Event.{Event}
 use Rattle.dl_history.specs.declared.event.Call.TheVariants.{Settle, Fail}
 use Rattle.dl_history.specs.Service.{Service, AnswersEach}
-use Rattle.dl_history.specs.History.{made, as_made, log, keys_of, MayBeMade, IsNext, IsLegal, ending_of}
-use Rattle.dl_history.proofs.Logs.{legal_atoms, legal_next}
+use Rattle.dl_history.specs.History.{made, as_made, past, keys_of, MayBeMade, IsNext, IsLegal, ending_of}
+use Rattle.dl_history.proofs.Pasts.{legal_atoms, legal_next}
 use Rattle.dl_history.proofs.CellBatches.{NoCell, Rising, cell_member, member_cell, members-rise}
-use Rattle.dl_history.proofs.LogEnds.{Spares, ending_batch}
+use Rattle.dl_history.proofs.PastEnds.{Spares, ending_batch}
 use Rattle.dl_history.proofs.Endings.{spared_stays, shows_newest}
 
 -- ---- the outcome beside a member
@@ -46,34 +46,34 @@ other_batch history b c n none is = ne_eqb n b (λ e. let h = cell_member histor
 
 -- each member's cell shows the outcome at the member's place
 pub settled_end : (s : Service) (es : List Event) (e : Event) (b : ℕ) (os : List Outcome) (i : ℕ) (m : Key × ℕ) (o : Outcome) → IsLegal s es → IsNext s es e
-    → e.call ≡ Settle b os → slice_get (members (atoms (log es)) b) i ≡ Some m → slice_get os i ≡ Some o
+    → e.call ≡ Settle b os → slice_get (members (atoms (past es)) b) i ≡ Some m → slice_get os i ≡ Some o
     → ending_of (es ++ e ∷ []) m.1 ≡ Some (record { at = length es; outcome = o })
 settled_end s es e b os i m o legal next is got given =
-    let H = atoms (log es) in
+    let H = atoms (past es) in
     let batch : cell_batch H m.1 ≡ Some b = member_cell s.rules H b i m (legal_atoms s es legal) got in
     let now : ends b (made e.call e.reply) ≡ true = rw (next.reply, is) (eq-eqb b b refl) in
-    let newest_is = ending_batch s.rules (as_made e) (log es) m.1 b (legal_next s es e legal next) batch now in
+    let newest_is = ending_batch s.rules (as_made e) (past es) m.1 b (legal_next s es e legal next) batch now in
     shows_newest es e m.1 o newest_is
     (rw (next.reply, is, batch) (beside_member (members H b) os i m o (members-rise s.rules H b (legal_atoms s es legal)) got given))
 
 -- the settle spares each cell that is no member's
 pub settled_spares : (s : Service) (es : List Event) (e : Event) (b : ℕ) (os : List Outcome) (c : ℕ) → IsNext s es e → e.call ≡ Settle b os
-    → NoCell (members (atoms (log es)) b) c → Spares (atoms (log es)) (made e.call e.reply) c
+    → NoCell (members (atoms (past es)) b) c → Spares (atoms (past es)) (made e.call e.reply) c
 settled_spares s es e b os c next is none = record {
   not_primed = rw (next.reply, is) refl;
-  not_ended = λ n batch. rw (next.reply, is) (other_batch (atoms (log es)) b c n none batch);
+  not_ended = λ n batch. rw (next.reply, is) (other_batch (atoms (past es)) b c n none batch);
 }
 
 -- each other cell shows what it showed
 pub settled_others : (s : Service) (es : List Event) (e : Event) (b : ℕ) (os : List Outcome) (c : ℕ) → IsLegal s es → IsNext s es e → e.call ≡ Settle b os
-    → NoCell (members (atoms (log es)) b) c → ending_of (es ++ e ∷ []) c ≡ ending_of es c
+    → NoCell (members (atoms (past es)) b) c → ending_of (es ++ e ∷ []) c ≡ ending_of es c
 settled_others s es e b os c legal next is none = spared_stays s es e c legal next (settled_spares s es e b os c next is none)
 
 -- where the source answers each key, a settle has as many outcomes as its batch has members
 pub settled_length : (s : Service) (es : List Event) (e : Event) (b : ℕ) (os : List Outcome) → AnswersEach s.answer → IsNext s es e → e.call ≡ Settle b os
-    → length os ≡ length (members (atoms (log es)) b)
+    → length os ≡ length (members (atoms (past es)) b)
 settled_length s es e b os each next is =
-    let H = atoms (log es) in
+    let H = atoms (past es) in
     let may : MayBeMade s.answer H (Settle b os) = rw is at next.made in
     let same : length os ≡ length (keys_of H b) = each (keys_of H b) os may.1 in
     let keys : length (keys_of H b) ≡ length (members H b) = length-map (members H b) (λ (m : Key × ℕ). m.0) in
@@ -83,24 +83,24 @@ settled_length s es e b os each next is =
 
 -- each member's cell shows the batch's fault
 pub failed_end : (s : Service) (es : List Event) (e : Event) (b : ℕ) (fault : BatchFault) (i : ℕ) (m : Key × ℕ) → IsLegal s es → IsNext s es e
-    → e.call ≡ Fail b fault → slice_get (members (atoms (log es)) b) i ≡ Some m
+    → e.call ≡ Fail b fault → slice_get (members (atoms (past es)) b) i ≡ Some m
     → ending_of (es ++ e ∷ []) m.1 ≡ Some (record { at = length es; outcome = BatchFailed fault })
 failed_end s es e b fault i m legal next is got =
-    let H = atoms (log es) in
+    let H = atoms (past es) in
     let batch : cell_batch H m.1 ≡ Some b = member_cell s.rules H b i m (legal_atoms s es legal) got in
     let now : ends b (made e.call e.reply) ≡ true = rw (next.reply, is) (eq-eqb b b refl) in
-    let newest_is = ending_batch s.rules (as_made e) (log es) m.1 b (legal_next s es e legal next) batch now in
+    let newest_is = ending_batch s.rules (as_made e) (past es) m.1 b (legal_next s es e legal next) batch now in
     shows_newest es e m.1 (BatchFailed fault) newest_is (rw (next.reply, is) refl)
 
 -- the fail spares each cell that is no member's
 pub failed_spares : (s : Service) (es : List Event) (e : Event) (b : ℕ) (fault : BatchFault) (c : ℕ) → IsNext s es e → e.call ≡ Fail b fault
-    → NoCell (members (atoms (log es)) b) c → Spares (atoms (log es)) (made e.call e.reply) c
+    → NoCell (members (atoms (past es)) b) c → Spares (atoms (past es)) (made e.call e.reply) c
 failed_spares s es e b fault c next is none = record {
   not_primed = rw (next.reply, is) refl;
-  not_ended = λ n batch. rw (next.reply, is) (other_batch (atoms (log es)) b c n none batch);
+  not_ended = λ n batch. rw (next.reply, is) (other_batch (atoms (past es)) b c n none batch);
 }
 
 -- each other cell shows what it showed
 pub failed_others : (s : Service) (es : List Event) (e : Event) (b : ℕ) (fault : BatchFault) (c : ℕ) → IsLegal s es → IsNext s es e → e.call ≡ Fail b fault
-    → NoCell (members (atoms (log es)) b) c → ending_of (es ++ e ∷ []) c ≡ ending_of es c
+    → NoCell (members (atoms (past es)) b) c → ending_of (es ++ e ∷ []) c ≡ ending_of es c
 failed_others s es e b fault c legal next is none = spared_stays s es e c legal next (failed_spares s es e b fault c next is none)

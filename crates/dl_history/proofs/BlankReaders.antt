@@ -2,7 +2,7 @@
 use Rattle.std.proofs.Common.{◌≡◌, ◌∙◌, sym, ap, ℕ, zero, suc, ◌+◌, ◌<◌, List, [], ◌∷◌, ◌++◌, length, None, get_or, refl, arith, append_assoc, length-append}
 use Rattle.std.proofs.lemmas.Option.{slice_get_read}
 use Rattle.std.specs.List.{repeat}
-use Rattle.dl_cells.specs.Cells.{RowName, Reading, cell_of}
+use Rattle.dl_cells.specs.Cells.{RowName, Reader, cell_of}
 use Rattle.dl_history.specs.declared.event.Ending.{Ending}
 use Rattle.dl_history.specs.Journal.{AreBlank}
 
@@ -17,7 +17,7 @@ length-repeat zero x = refl
 length-repeat (suc n) x = ap suc (length-repeat n x)
 
 -- the reader of a turn
-pub blank_turn : (row : RowName) (from n : ℕ) (readers : List (Reading Ending)) (r : Reading Ending) → AreBlank row from readers → n < length readers
+pub blank_turn : (row : RowName) (from n : ℕ) (readers : List (Reader Ending)) (r : Reader Ending) → AreBlank row from readers → n < length readers
     → r ≡ get_or readers n r → (r.cell ≡ cell_of row (from + n)) × (r.known ≡ None)
 blank_turn row from n readers r blank within is = blank.at n r (slice_get_read readers (length readers) n r refl within is)
 

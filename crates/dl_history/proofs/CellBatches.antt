@@ -11,7 +11,7 @@ use Rattle.dl_desk.specs.Events.{Made, One, Many, with_loads, with_made, IsRepli
 use Rattle.dl_desk.specs.declared.reply.LoadReply.{LoadReply}
 use Rattle.dl_desk.proofs.Facts.{fresh_cell, sent-le}
 use Rattle.dl_desk.proofs.EndLemmas.{Below, members-below}
-use Rattle.dl_history.proofs.Logs.{get-append, get-append_at, get-snoc}
+use Rattle.dl_history.proofs.Pasts.{get-append, get-append_at, get-snoc}
 
 -- ---- a cell among members
 

@@ -7,7 +7,7 @@ use Rattle.dl_history.specs.declared.event.Ending.{Ending}
 use Rattle.dl_history.specs.declared.cell_state.Mark.{Mark}
 use Rattle.dl_history.specs.declared.cell_state.Mark.TheVariants.{Waiting, Ended, Refused}
 use Rattle.dl_history.specs.Journal.{Cell, waiting, showing, refused, Refuses}
-use Rattle.dl_history.specs.Kept.{ShowsEnd}
+use Rattle.dl_history.specs.LoaderState.{ShowsEnd}
 
 -- ---- more elements
 

@@ -16,46 +16,46 @@ use Rattle.dl_history.specs.declared.event.Call.{Call}
 use Rattle.dl_history.specs.declared.event.Call.TheVariants.{Load, LoadMany, Prime, Clear, ClearAll, Dispatch, Settle, Fail}
 use Rattle.dl_history.specs.declared.event.Reply.TheVariants.{Primed, Kept}
 use Rattle.dl_history.specs.Service.{Service}
-use Rattle.dl_history.specs.History.{made, gave, as_made, log, primed, reply_to, IsNext, IsLegal, ending_of}
-use Rattle.dl_history.proofs.Logs.{log-snoc, length-log, legal_log, legal_atoms, legal_next}
+use Rattle.dl_history.specs.History.{made, gave, as_made, past, primed, reply_to, IsNext, IsLegal, ending_of}
+use Rattle.dl_history.proofs.Pasts.{past-snoc, length-past, legal_past, legal_atoms, legal_next}
 use Rattle.dl_history.proofs.CellBatches.{member_cell, member_low, members-apart}
-use Rattle.dl_history.proofs.LogEnds.{high_unended, open_unended, Spares, ending_spared, outcome_spared, ending_primed}
+use Rattle.dl_history.proofs.PastEnds.{high_unended, open_unended, Spares, ending_spared, outcome_spared, ending_primed}
 
 -- ---- no end
 
 -- a cell that has no ending event shows none
-shows_none : (es : List Event) (c : ℕ) → ending (log es) c ≡ None → ending_of es c ≡ None
+shows_none : (es : List Event) (c : ℕ) → ending (past es) c ≡ None → ending_of es c ≡ None
 shows_none es c none = rw none refl
 
 -- a cell that was not begun shows no end
-pub none_unbegun : (s : Service) (es : List Event) (c : ℕ) → IsLegal s es → cells (atoms (log es)) ≤ c → ending_of es c ≡ None
-none_unbegun s es c legal high = shows_none es c (high_unended s.rules (log es) c (legal_log s es legal) high)
+pub none_unbegun : (s : Service) (es : List Event) (c : ℕ) → IsLegal s es → cells (atoms (past es)) ≤ c → ending_of es c ≡ None
+none_unbegun s es c legal high = shows_none es c (high_unended s.rules (past es) c (legal_past s es legal) high)
 
 -- the cell of a member of a batch that may end shows no end
-pub member_open : (s : Service) (es : List Event) (b i : ℕ) (m : Key × ℕ) → IsLegal s es → MayEnd (atoms (log es)) b
-    → slice_get (members (atoms (log es)) b) i ≡ Some m → ending_of es m.1 ≡ None
+pub member_open : (s : Service) (es : List Event) (b i : ℕ) (m : Key × ℕ) → IsLegal s es → MayEnd (atoms (past es)) b
+    → slice_get (members (atoms (past es)) b) i ≡ Some m → ending_of es m.1 ≡ None
 member_open s es b i m legal may got =
-    let batch : cell_batch (atoms (log es)) m.1 ≡ Some b = member_cell s.rules (atoms (log es)) b i m (legal_atoms s es legal) got in
-    shows_none es m.1 (open_unended s.rules (log es) m.1 b (legal_log s es legal) batch may.no_end)
+    let batch : cell_batch (atoms (past es)) m.1 ≡ Some b = member_cell s.rules (atoms (past es)) b i m (legal_atoms s es legal) got in
+    shows_none es m.1 (open_unended s.rules (past es) m.1 b (legal_past s es legal) batch may.no_end)
 
 -- the cell of a member was begun
-pub member_begun : (s : Service) (es : List Event) (b i : ℕ) (m : Key × ℕ) → IsLegal s es → slice_get (members (atoms (log es)) b) i ≡ Some m
-    → m.1 < cells (atoms (log es))
-member_begun s es b i m legal got = member_low s.rules (atoms (log es)) b i m (legal_atoms s es legal) got
+pub member_begun : (s : Service) (es : List Event) (b i : ℕ) (m : Key × ℕ) → IsLegal s es → slice_get (members (atoms (past es)) b) i ≡ Some m
+    → m.1 < cells (atoms (past es))
+member_begun s es b i m legal got = member_low s.rules (atoms (past es)) b i m (legal_atoms s es legal) got
 
 -- no two members of a batch have one cell
-pub members_distinct : (s : Service) (es : List Event) (b i j : ℕ) (m n : Key × ℕ) → IsLegal s es → slice_get (members (atoms (log es)) b) i ≡ Some m
-    → slice_get (members (atoms (log es)) b) j ≡ Some n → m.1 ≡ n.1 → i ≡ j
-members_distinct s es b i j m n legal first second same = members-apart s.rules (atoms (log es)) b i j m n (legal_atoms s es legal) first second same
+pub members_distinct : (s : Service) (es : List Event) (b i j : ℕ) (m n : Key × ℕ) → IsLegal s es → slice_get (members (atoms (past es)) b) i ≡ Some m
+    → slice_get (members (atoms (past es)) b) j ≡ Some n → m.1 ≡ n.1 → i ≡ j
+members_distinct s es b i j m n legal first second same = members-apart s.rules (atoms (past es)) b i j m n (legal_atoms s es legal) first second same
 
 -- ---- an end stays
 
 -- a cell that the event spares shows what it showed
-pub spared_stays : (s : Service) (es : List Event) (e : Event) (c : ℕ) → IsLegal s es → IsNext s es e → Spares (atoms (log es)) (made e.call e.reply) c
+pub spared_stays : (s : Service) (es : List Event) (e : Event) (c : ℕ) → IsLegal s es → IsNext s es e → Spares (atoms (past es)) (made e.call e.reply) c
     → ending_of (es ++ e ∷ []) c ≡ ending_of es c
 spared_stays s es e c legal next spares =
     let whole = legal_next s es e legal next in
-    rw (log-snoc es e, outcome_spared s.rules (as_made e) (log es) c whole spares, ending_spared s.rules (as_made e) (log es) c whole spares) refl
+    rw (past-snoc es e, outcome_spared s.rules (as_made e) (past es) c whole spares, ending_spared s.rules (as_made e) (past es) c whole spares) refl
 
 -- ---- an event that gives nothing to cells
 
@@ -85,10 +85,10 @@ spares_none rules history c (Fail b fault) none = absurd (let bad : Broke fault 
 
 -- an event that gives nothing to cells spares each
 pub nothing_spares : (s : Service) (es : List Event) (e : Event) (c : ℕ) → IsNext s es e → gave e.call e.reply ≡ Nothing
-    → Spares (atoms (log es)) (made e.call e.reply) c
+    → Spares (atoms (past es)) (made e.call e.reply) c
 nothing_spares s es e c next none =
-    let nothing : gave e.call (reply_to s.rules (atoms (log es)) e.call) ≡ Nothing = rw next.reply at none in
-    rw next.reply (spares_none s.rules (atoms (log es)) c e.call nothing)
+    let nothing : gave e.call (reply_to s.rules (atoms (past es)) e.call) ≡ Nothing = rw next.reply at none in
+    rw next.reply (spares_none s.rules (atoms (past es)) c e.call nothing)
 
 -- where an event gives nothing to cells, each shows what it showed
 pub others_stay : (s : Service) (es : List Event) (e : Event) (c : ℕ) → IsLegal s es → IsNext s es e → gave e.call e.reply ≡ Nothing
@@ -98,9 +98,9 @@ others_stay s es e c legal next none = spared_stays s es e c legal next (nothing
 -- ---- an event that ends a cell
 
 -- what a cell shows that the newest event ended
-pub shows_newest : (es : List Event) (e : Event) (c : ℕ) (o : Outcome) → ending (as_made e ∷ log es) c ≡ Some (newest (log es) (as_made e))
-    → outcome_given (atoms (as_made e ∷ log es)) c (gave e.call e.reply) ≡ Some o → ending_of (es ++ e ∷ []) c ≡ Some (record { at = length es; outcome = o })
-shows_newest es e c o is given = rw (log-snoc es e, is, given, length-log es) refl
+pub shows_newest : (es : List Event) (e : Event) (c : ℕ) (o : Outcome) → ending (as_made e ∷ past es) c ≡ Some (newest (past es) (as_made e))
+    → outcome_given (atoms (as_made e ∷ past es)) c (gave e.call e.reply) ≡ Some o → ending_of (es ++ e ∷ []) c ≡ Some (record { at = length es; outcome = o })
+shows_newest es e c o is given = rw (past-snoc es e, is, given, length-past es) refl
 
 -- ---- a prime of a key that is not held
 
@@ -110,9 +110,9 @@ prime_answer history k c (Some d) is = absurd (let bad : Primed c ≡ Kept = is 
 
 -- the cell that a prime begins is the next one
 pub primed_cell : (s : Service) (es : List Event) (e : Event) (k : Key) (o : Outcome) (c : ℕ) → IsNext s es e → e.call ≡ Prime k o → e.reply ≡ Primed c
-    → c ≡ cells (atoms (log es))
+    → c ≡ cells (atoms (past es))
 primed_cell s es e k o c next is reply =
-    let H = atoms (log es) in
+    let H = atoms (past es) in
     let given : Primed c ≡ reply_to s.rules H (Prime k o) = sym reply ∙ (next.reply ∙ ap (reply_to s.rules H) is) in
     prime_answer H k c (atom.held H k) given
 
@@ -121,15 +121,15 @@ pub primed_end : (s : Service) (es : List Event) (e : Event) (k : Key) (o : Outc
     → e.reply ≡ Primed c → ending_of (es ++ e ∷ []) c ≡ Some (record { at = length es; outcome = o })
 primed_end s es e k o c legal next is reply =
     let now : primes c (made e.call e.reply) ≡ true = rw (is, reply) (rw (eq-eqb c c refl) refl) in
-    shows_newest es e c o (ending_primed (as_made e) (log es) c now) (rw (is, reply) refl)
+    shows_newest es e c o (ending_primed (as_made e) (past es) c now) (rw (is, reply) refl)
 
 -- the prime spares each other cell
 pub primed_spares : (s : Service) (es : List Event) (e : Event) (k : Key) (o : Outcome) (c d : ℕ) → e.call ≡ Prime k o → e.reply ≡ Primed c → (d ≡ c → ⊥)
-    → Spares (atoms (log es)) (made e.call e.reply) d
+    → Spares (atoms (past es)) (made e.call e.reply) d
 primed_spares s es e k o c d is reply other =
     let not_primed : primes d (made e.call e.reply) ≡ false = rw (is, reply) (rw (ne_eqb d c other) refl) in
     let not_ended : (b : ℕ) → ends b (made e.call e.reply) ≡ false = λ b. rw (is, reply) refl in
-    spares_all (atoms (log es)) d (made e.call e.reply) not_primed not_ended
+    spares_all (atoms (past es)) d (made e.call e.reply) not_primed not_ended
 
 -- each other cell shows what it showed
 pub primed_others : (s : Service) (es : List Event) (e : Event) (k : Key) (o : Outcome) (c d : ℕ) → IsLegal s es → IsNext s es e → e.call ≡ Prime k o

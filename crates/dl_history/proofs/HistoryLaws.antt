@@ -1,4 +1,4 @@
--- The laws of histories: they follow from those of the desk's, over what the log tells.
+-- The laws of histories: they follow from those of the desk's, over what the past tells.
 use Rattle.std.proofs.Common.{◌≡◌, ◌∙◌, sym, ap, subst, ℕ, zero, suc, ◌+◌, ◌-◌, ◌<◌, ◌≤◌, ◌⊎◌, inl, inr, Bool, true, false, ◌||◌, List, [], ◌∷◌, ◌++◌}
 use Rattle.std.proofs.Common.{length, map, take, cond, Option, Some, None, slice_get, nat_eq, refl, arith, append_assoc, append-nil}
 use Rattle.std.specs.List.{list_any}
@@ -11,7 +11,7 @@ use Rattle.dl_values.specs.Limits.{Rules}
 use Rattle.dl_values.specs.declared.outcome.Outcome.{Outcome}
 use Rattle.dl_desk.specs.History.{Atom, forgets, members, prime_reply, load_reply}
 use Rattle.dl_desk.specs.History as atom
-use Rattle.dl_desk.specs.Events.{One, Many, with_loads, with_made, atoms, ended, outcome, IsLegalLog}
+use Rattle.dl_desk.specs.Events.{One, Many, with_loads, with_made, atoms, ended, outcome, IsLegalPast}
 use Rattle.dl_desk.specs.Events as desk
 use Rattle.dl_desk.specs.declared.reply.DeskPrime.{DeskPrime}
 use Rattle.dl_desk.specs.declared.reply.DeskPrime.TheVariants as prime
@@ -26,22 +26,22 @@ use Rattle.dl_history.specs.declared.event.Ending.{Ending}
 use Rattle.dl_history.specs.declared.event.Call.{Call}
 use Rattle.dl_history.specs.declared.event.Call.TheVariants.{Load, LoadMany, Prime, Clear, ClearAll, Dispatch, Settle, Fail}
 use Rattle.dl_history.specs.Service.{Service}
-use Rattle.dl_history.specs.History.{IsLegal, end_with, log, made, primed, reply_to}
+use Rattle.dl_history.specs.History.{IsLegal, end_with, past, made, primed, reply_to}
 use Rattle.dl_history.specs.Laws.{loads_in, LoadsFresh, Forgets, ForgetsBetween, FreshLoadsAreApart, BatchesAreWithinLimits, EndsStay, EventsAreCalls}
 use Rattle.dl_history.specs.Laws.{HistoriesBeginEmpty}
-use Rattle.dl_history.specs.Agrees.{Account, Tells, entries_of}
-use Rattle.dl_history.specs.Entries.{Line, Called, Saw, Told, told, calls_of}
+use Rattle.dl_history.specs.Agreement.{Account, Tells, entries_of}
+use Rattle.dl_history.specs.Entries.{Entry, Called, Saw, PlacedEvent, event_at, calls_of}
 use Rattle.dl_history.specs.Lists.{Among, Every}
 use Rattle.dl_history.proofs.CellLists.{get-append_cases}
 use Rattle.dl_history.proofs.HistoryLemmas.{caller_agrees}
-use Rattle.dl_history.proofs.LoadsTold.{CutAt, atoms_log-append, atoms_log-cons, CutTwice, cut_loads, cut_two, loads_forget, log-append}
-use Rattle.dl_history.proofs.Logs.{get-append, legal_atoms, legal_log}
+use Rattle.dl_history.proofs.LoadCuts.{CutAt, atoms_past-append, atoms_past-cons, CutTwice, cut_loads, cut_two, loads_forget, past-append}
+use Rattle.dl_history.proofs.Pasts.{get-append, legal_atoms, legal_past}
 use Rattle.dl_history.proofs.OneHistory.{place_among}
 
 -- ---- batches
 
 pub batches_are_within_limits : BatchesAreWithinLimits
-batches_are_within_limits s limits events legal batch = batches.batches_are_within_limits s.rules limits (atoms (log events)) (legal_atoms s events legal) batch
+batches_are_within_limits s limits events legal batch = batches.batches_are_within_limits s.rules limits (atoms (past events)) (legal_atoms s events legal) batch
 
 -- ---- ends
 
@@ -60,12 +60,12 @@ has_both (Some at) (Some o) end is =
 
 pub ends_stay : EndsStay
 ends_stay s events later cell end legal is =
-    let both = has_both (ended (log events) cell) (outcome (log events) cell) end is in
-    let whole : IsLegalLog s.rules (log later ++ log events) =
-    subst (λ (l : List desk.Event). IsLegalLog s.rules l) (log-append events later) (legal_log s (events ++ later) legal) in
-    let at = ends.ends_stay s.rules (log later) (log events) cell end.at whole both.placed in
-    let o = outcomes.outcomes_stay s.rules (log later) (log events) cell end.outcome whole both.given in
-    rw (log-append events later, at, o) refl
+    let both = has_both (ended (past events) cell) (outcome (past events) cell) end is in
+    let whole : IsLegalPast s.rules (past later ++ past events) =
+    subst (λ (l : List desk.Event). IsLegalPast s.rules l) (past-append events later) (legal_past s (events ++ later) legal) in
+    let at = ends.ends_stay s.rules (past later) (past events) cell end.at whole both.placed in
+    let o = outcomes.outcomes_stay s.rules (past later) (past events) cell end.outcome whole both.given in
+    rw (past-append events later, at, o) refl
 
 -- ---- fresh loads
 
@@ -110,15 +110,15 @@ record Forgotten (events : List Event) (key : Key) (b : ℕ) : Type 0 where
 
 -- where what the events tell makes a key forgotten, one of them does
 forgotten : (key : Key) (b : ℕ) (events : List Event) → ((k : ℕ) (e : Event) → slice_get events k ≡ Some e → IsTold e)
-    → list_any (forgets key (Some b)) (atoms (log events)) ≡ true → Forgotten events key b
+    → list_any (forgets key (Some b)) (atoms (past events)) ≡ true → Forgotten events key b
 forgotten key b [] told holds = absurd (let bad : false ≡ true = holds in cc)
-forgotten key b (e ∷ events) told holds = by (list_any (forgets key (Some b)) (atoms (log events))) refl
-    (sym (ap (list_any (forgets key (Some b))) (atoms_log-cons e events) ∙ list_any-append (forgets key (Some b)) (atoms (log events)) (told_of e)) ∙ holds)
+forgotten key b (e ∷ events) told holds = by (list_any (forgets key (Some b)) (atoms (past events))) refl
+    (sym (ap (list_any (forgets key (Some b))) (atoms_past-cons e events) ∙ list_any-append (forgets key (Some b)) (atoms (past events)) (told_of e)) ∙ holds)
     (forgotten key b events (λ k x got. told (suc k) x got))
   where
-    by : (t : Bool) → list_any (forgets key (Some b)) (atoms (log events)) ≡ t
-        → (list_any (forgets key (Some b)) (atoms (log events)) || list_any (forgets key (Some b)) (told_of e)) ≡ true
-        → (list_any (forgets key (Some b)) (atoms (log events)) ≡ true → Forgotten events key b) → Forgotten (e ∷ events) key b
+    by : (t : Bool) → list_any (forgets key (Some b)) (atoms (past events)) ≡ t
+        → (list_any (forgets key (Some b)) (atoms (past events)) || list_any (forgets key (Some b)) (told_of e)) ≡ true
+        → (list_any (forgets key (Some b)) (atoms (past events)) ≡ true → Forgotten events key b) → Forgotten (e ∷ events) key b
     by true is holds rest = let r = rest is in record { place = suc r.place; event = r.event; there = r.there; forgets = r.forgets }
     by false is holds rest =
         let own = told 0 e refl in
@@ -173,7 +173,7 @@ get-past [] ys n = ap (slice_get ys) (let same : 0 + n ≡ n = omega arith in sa
 get-past (x ∷ xs) ys n = ap (slice_get (x ∷ (xs ++ ys))) (let same : length (x ∷ xs) + n ≡ suc (length xs + n) = omega arith in same) ∙ get-past xs ys n
 
 each_told : (s : Service) (events : List Event) → IsLegal s events → (k : ℕ) (e : Event) → slice_get events k ≡ Some e → IsTold e
-each_told s events legal k e got = let next = legal.at k e got in (s.rules, atoms (log (take k events)), next.reply)
+each_told s events legal k e got = let next = legal.at k e got in (s.rules, atoms (past (take k events)), next.reply)
 
 regroup : {X : Type 0} (post later : List X) (x : X) (before mid first : List X) (y : X) (earlier front : List X)
     → (((post ++ (later ++ x ∷ (before ++ []))) ++ mid) ++ (first ++ y ∷ (earlier ++ []))) ++ front
@@ -181,16 +181,16 @@ regroup : {X : Type 0} (post later : List X) (x : X) (before mid first : List X)
 regroup post later x before mid first y earlier front = simp (append_assoc, append-nil)
 
 abbrev told_in : List Event → List Atom
-told_in events = atoms (log events)
+told_in events = atoms (past events)
 
 -- what a history tells that is cut at two of its events
 told_cut : (front : List Event) (e : Event) (mid : List Event) (f : Event) (post : List Event)
     → told_in (front ++ e ∷ (mid ++ f ∷ post)) ≡ (((told_in post ++ told_of f) ++ told_in mid) ++ told_of e) ++ told_in front
 told_cut front e mid f post =
-    atoms_log-append front (e ∷ (mid ++ f ∷ post))
-    ∙ ap (λ (xs : List Atom). xs ++ told_in front) (atoms_log-cons e (mid ++ f ∷ post)
-    ∙ ap (λ (xs : List Atom). xs ++ told_of e) (atoms_log-append mid (f ∷ post)
-    ∙ ap (λ (xs : List Atom). xs ++ told_in mid) (atoms_log-cons f post)))
+    atoms_past-append front (e ∷ (mid ++ f ∷ post))
+    ∙ ap (λ (xs : List Atom). xs ++ told_in front) (atoms_past-cons e (mid ++ f ∷ post)
+    ∙ ap (λ (xs : List Atom). xs ++ told_of e) (atoms_past-append mid (f ∷ post)
+    ∙ ap (λ (xs : List Atom). xs ++ told_in mid) (atoms_past-cons f post)))
 
 -- two fresh loads in a legal history, one after the other, have an atom between them that makes the key forgotten
 between_forget : (s : Service) (events : List Event) (key : Key) (c b later_c later_b : ℕ) (later between before : List Atom) → IsLegal s events
@@ -308,8 +308,8 @@ once s events legal key batch later_batch i m n e there load later_load low =
     let cut = both_at (Some batch) e m n key batch later_batch (each_told s events legal i e there) load later_load low in
     let all : told_in events ≡ (told_in split.back ++ cut.later) ++ atom.Load key (Fresh later_load.cell later_batch)
     ∷ (cut.between ++ atom.Load key (Fresh load.cell batch) ∷ (cut.before ++ told_in split.front)) =
-    ap told_in split.is ∙ (atoms_log-append split.front (e ∷ split.back)
-    ∙ (ap (λ (xs : List Atom). xs ++ told_in split.front) (atoms_log-cons e split.back ∙ ap (λ (xs : List Atom). told_in split.back ++ xs) cut.is)
+    ap told_in split.is ∙ (atoms_past-append split.front (e ∷ split.back)
+    ∙ (ap (λ (xs : List Atom). xs ++ told_in split.front) (atoms_past-cons e split.back ∙ ap (λ (xs : List Atom). told_in split.back ++ xs) cut.is)
     ∙ regroup_two (told_in split.back) cut.later (atom.Load key (Fresh later_load.cell later_batch)) cut.between (atom.Load key (Fresh load.cell batch)) cut.before
     (told_in split.front))) in
     let holds = between_forget s events key load.cell batch later_load.cell later_batch (told_in split.back ++ cut.later) cut.between
@@ -329,32 +329,32 @@ mapped_from f (x ∷ xs) zero n got = let two : ◌≡◌ {A = Option ℕ} (Some
 mapped_from f (x ∷ xs) (suc i) n got = mapped_from f xs i n got
 
 -- a call among entries that tell what the history has tells the event at its place
-call_tells : (events : List Event) (ls : List Line) (i : ℕ) (t : Told) → Every (Tells events) ls → slice_get (calls_of ls) i ≡ Some t
+call_tells : (events : List Event) (entries : List Entry) (i : ℕ) (t : PlacedEvent) → Every (Tells events) entries → slice_get (calls_of entries) i ≡ Some t
     → slice_get events t.at ≡ Some t.event
-call_tells events [] i t tells got = absurd (let bad : ◌≡◌ {A = Option Told} None (Some t) = got in cc)
-call_tells events (Called u ∷ ls) zero t tells got =
-    let two : ◌≡◌ {A = Option Told} (Some u) (Some t) = got in
+call_tells events [] i t tells got = absurd (let bad : ◌≡◌ {A = Option PlacedEvent} None (Some t) = got in cc)
+call_tells events (Called u ∷ entries) zero t tells got =
+    let two : ◌≡◌ {A = Option PlacedEvent} (Some u) (Some t) = got in
     let same : u ≡ t = cc in
-    subst (λ (x : Told). slice_get events x.at ≡ Some x.event) same tells.0
-call_tells events (Called u ∷ ls) (suc i) t tells got = call_tells events ls i t tells.1 got
-call_tells events (Saw r ∷ ls) i t tells got = call_tells events ls i t tells.1 got
+    subst (λ (x : PlacedEvent). slice_get events x.at ≡ Some x.event) same tells.0
+call_tells events (Called u ∷ entries) (suc i) t tells got = call_tells events entries i t tells.1 got
+call_tells events (Saw r ∷ entries) i t tells got = call_tells events entries i t tells.1 got
 
 pub events_are_calls : EventsAreCalls
 events_are_calls s h closed k e there =
     let next = closed.legal.at k e there in
     let count = closed.count in
     let below = next.caller in
-    let entries : List Line = entries_of e.caller h.accounts in
+    let entries : List Entry = entries_of e.caller h.accounts in
     let agrees = caller_agrees s e.caller h closed (omega arith) in
     let among = place_among (λ (x : Event). x.caller) e.caller 0 k k h.events e there refl (omega arith) in
     let listed = subst (λ (ps : List ℕ). Among k ps) (sym agrees.places_are) among in
-    let call = mapped_from (λ (t : Told). t.at) (calls_of entries) listed.0 k listed.1 in
+    let call = mapped_from (λ (t : PlacedEvent). t.at) (calls_of entries) listed.0 k listed.1 in
     let tells = call_tells h.events entries listed.0 call.0 agrees.tells call.1 in
     let two : ◌≡◌ {A = Option Event} (Some call.0.event) (Some e) = sym tells ∙ (ap (slice_get h.events) call.2 ∙ there) in
     let same : call.0.event ≡ e = cc in
     (listed.0, call.1 ∙ ap Some (told_is call.0 k e call.2 same))
   where
-    told_is : (t : Told) (k : ℕ) (e : Event) → t.at ≡ k → t.event ≡ e → t ≡ told k e
+    told_is : (t : PlacedEvent) (k : ℕ) (e : Event) → t.at ≡ k → t.event ≡ e → t ≡ event_at k e
     told_is t k e at is = rw (← at, ← is) refl
 
 no_calls : (n : ℕ) (accounts : List Account) → Every (λ a. calls_of a.entries ≡ []) accounts → calls_of (entries_of n accounts) ≡ []
@@ -368,8 +368,8 @@ no_calls n (a ∷ accounts) none = by (nat_eq n a.caller) (no_calls n accounts n
 pub histories_begin_empty : HistoriesBeginEmpty
 histories_begin_empty s h closed none = by h.events (λ k e there. events_are_calls s h closed k e there)
   where
-    by : (es : List Event) → ((k : ℕ) (e : Event) → slice_get es k ≡ Some e → Among (told k e) (calls_of (entries_of e.caller h.accounts))) → es ≡ []
+    by : (es : List Event) → ((k : ℕ) (e : Event) → slice_get es k ≡ Some e → Among (event_at k e) (calls_of (entries_of e.caller h.accounts))) → es ≡ []
     by [] each = refl
     by (e ∷ es) each =
         let call = each 0 e refl in
-        absurd (let bad : ◌≡◌ {A = Option Told} None (Some (told 0 e)) = rw (no_calls e.caller h.accounts none) at call.1 in cc)
+        absurd (let bad : ◌≡◌ {A = Option PlacedEvent} None (Some (event_at 0 e)) = rw (no_calls e.caller h.accounts none) at call.1 in cc)

@@ -4,9 +4,9 @@ use Rattle.std.proofs.Common.{Some}
 use Rattle.std.proofs.Common.{slice_get, nat_eq, refl, arith}
 use Rattle.std.proofs.lemmas.Bool.{cases_lt, eqb-true, ne_eqb}
 use Rattle.std.proofs.lemmas.List.Sums.{sum_by-cons}
-use Rattle.dl_history.specs.Agrees.{Account, account, accounts_by, Agrees, Tells, entries_of, places_of}
-use Rattle.dl_history.specs.Closed.{Closed, IsClosed, Outline, outline_of, line_at, accounts_at, kinds_of, place_of}
-use Rattle.dl_history.specs.Entries.{Line, Called, Saw, kind_of}
+use Rattle.dl_history.specs.Agreement.{Account, account, accounts_by, Agrees, Tells, entries_of, places_of}
+use Rattle.dl_history.specs.ClosedHistory.{History, IsHistory, Outline, outline_of, entry_at, accounts_at, kinds_of, place_of}
+use Rattle.dl_history.specs.Entries.{Entry, Called, Saw, kind_of}
 use Rattle.dl_history.specs.History.{IsLegal}
 use Rattle.dl_history.specs.declared.entry.EntryKind.{EntryKind}
 use Rattle.dl_history.specs.declared.entry.EntryKind.TheVariants as kind
@@ -59,7 +59,7 @@ places_none s es n legal high = places_by n s.callers 0 es (callers_low s es (λ
 
 -- ---- accounts as the events tell them
 
-kinds_same : (es : List Event) (ks : List EntryKind) → map kind_of (map (line_at es) ks) ≡ ks
+kinds_same : (es : List Event) (ks : List EntryKind) → map kind_of (map (entry_at es) ks) ≡ ks
 kinds_same es [] = refl
 kinds_same es (kind.Call at ∷ ks) = ap (λ (rest : List EntryKind). kind.Call at ∷ rest) (kinds_same es ks)
 kinds_same es (kind.Saw cell at ∷ ks) = ap (λ (rest : List EntryKind). kind.Saw cell at ∷ rest) (kinds_same es ks)
@@ -70,49 +70,49 @@ kinds_told es n [] = refl
 kinds_told es n (o ∷ os) = by (nat_eq n o.caller) (kinds_told es n os)
   where
     by : (t : Bool) → kinds_of n os ≡ map kind_of (entries_of n (accounts_at es os))
-        → cond t o.kinds (kinds_of n os) ≡ map kind_of (cond t (map (line_at es) o.kinds) (entries_of n (accounts_at es os)))
+        → cond t o.kinds (kinds_of n os) ≡ map kind_of (cond t (map (entry_at es) o.kinds) (entries_of n (accounts_at es os)))
     by true rest = sym (kinds_same es o.kinds)
     by false rest = rest
 
 -- an entry that tells what the history has is told so by its kind
-line_told : (es : List Event) (l : Line) → Tells es l → line_at es (kind_of l) ≡ l
-line_told es (Called t) tells = rw tells refl
-line_told es (Saw r) tells = rw tells refl
+entry_told : (es : List Event) (entry : Entry) → Tells es entry → entry_at es (kind_of entry) ≡ entry
+entry_told es (Called t) tells = rw tells refl
+entry_told es (Saw r) tells = rw tells refl
 
-lines_told : (es : List Event) (ls : List Line) → Every (Tells es) ls → map (line_at es) (map kind_of ls) ≡ ls
-lines_told es [] tells = refl
-lines_told es (l ∷ ls) tells = rw (line_told es l tells.0, lines_told es ls tells.1) refl
+entries_told : (es : List Event) (entries : List Entry) → Every (Tells es) entries → map (entry_at es) (map kind_of entries) ≡ entries
+entries_told es [] tells = refl
+entries_told es (entry ∷ entries) tells = rw (entry_told es entry tells.0, entries_told es entries tells.1) refl
 
 -- accounts that agree with the events are told by what is kept of them
 pub accounts_told : (es : List Event) (accounts : List Account) → Every (Agrees es) accounts → accounts_at es (map outline_of accounts) ≡ accounts
 accounts_told es [] agree = refl
 accounts_told es (a ∷ accounts) agree =
     let own = agree.0 in
-    rw (lines_told es a.entries own.tells, accounts_told es accounts agree.1) refl
+    rw (entries_told es a.entries own.tells, accounts_told es accounts agree.1) refl
 
 -- the places of the calls, by what is kept of the entries
-pub places_kept : (ls : List Line) → flat_map place_of (map kind_of ls) ≡ places_of ls
+pub places_kept : (entries : List Entry) → flat_map place_of (map kind_of entries) ≡ places_of entries
 places_kept [] = refl
-places_kept (Called t ∷ ls) = ap (λ (rest : List ℕ). t.at ∷ rest) (places_kept ls)
-places_kept (Saw r ∷ ls) = places_kept ls
+places_kept (Called t ∷ entries) = ap (λ (rest : List ℕ). t.at ∷ rest) (places_kept entries)
+places_kept (Saw r ∷ entries) = places_kept entries
 
 -- ---- as a history has them
 
 -- the entries of a caller agree with the events
-pub caller_agrees : (service : Service) (n : ℕ) (h : Closed) → IsClosed service h → n < length h.accounts
+pub caller_agrees : (service : Service) (n : ℕ) (h : History) → IsHistory service h → n < length h.accounts
     → Agrees h.events (account n (entries_of n h.accounts))
 caller_agrees service n h is low =
     let count = is.count in
     entries_agree h.events n h.accounts (is.each n (omega arith)) is.agree
 
 -- what is no caller has none
-pub caller_none : (service : Service) (n : ℕ) (h : Closed) → IsClosed service h → length h.accounts ≤ n → entries_of n h.accounts ≡ []
+pub caller_none : (service : Service) (n : ℕ) (h : History) → IsHistory service h → length h.accounts ≤ n → entries_of n h.accounts ≡ []
 caller_none service n h is high =
     let count = is.count in
     entries_none n service.callers h.accounts is.callers (omega arith)
 
 -- so the places of the calls among the entries are those of the caller's events
-pub caller_places : (service : Service) (n : ℕ) (h : Closed) → IsClosed service h
+pub caller_places : (service : Service) (n : ℕ) (h : History) → IsHistory service h
     → flat_map place_of (map kind_of (entries_of n h.accounts)) ≡ places (λ (e : Event). e.caller) n 0 h.events
 caller_places service n h is = places_kept (entries_of n h.accounts) ∙ by (cases_lt n (length h.accounts))
   where

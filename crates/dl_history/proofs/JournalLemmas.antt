@@ -6,33 +6,33 @@ use Rattle.std.specs.Global.{Box}
 use Rattle.std.proofs.lemmas.List.{map-set}
 use Rattle.std.proofs.lemmas.Bool.{ltb-false}
 use Rattle.std.proofs.lemmas.Option.{slice_get-map, slice_get_past}
-use Rattle.dl_cells.specs.Cells.{RowName, Reading, Agrees}
+use Rattle.dl_cells.specs.Cells.{RowName, Reader, Agrees}
 use Rattle.dl_history.specs.declared.event.Ending.{Ending}
 use Rattle.dl_history.specs.declared.cell_state.Mark.TheVariants.{Ended, Refused}
 use Rattle.dl_history.specs.declared.cell_state.CellState.{CellState}
 use Rattle.dl_history.specs.declared.event.Event.{Event}
-use Rattle.dl_history.specs.Journal.{Cell, showing, refused, Refuses, AreKnown, IsKnown, IsJournal, cell_by, cells_by, events_known}
+use Rattle.dl_history.specs.Journal.{Cell, showing, refused, Refuses, AreKnown, IsKnown, JournalFields, IsJournal, cell_by, cells_by, events_known}
 use Rattle.dl_history.specs.Entries.{event_known}
-use Rattle.dl_history.proofs.Logs.{get-snoc}
+use Rattle.dl_history.proofs.Pasts.{get-snoc}
 
 -- readers of a log that know its events, with one more
-known_more : (log : RowName) (readers : List (Reading Event)) (r : Reading Event) → AreKnown log readers → IsKnown log (length readers) r → (k : ℕ)
-    (u : Reading Event) → ((k < length readers) × (slice_get readers k ≡ Some u)) ⊎ ((k ≡ length readers) × (u ≡ r)) → IsKnown log k u
+known_more : (log : RowName) (readers : List (Reader Event)) (r : Reader Event) → AreKnown log readers → IsKnown log (length readers) r → (k : ℕ)
+    (u : Reader Event) → ((k < length readers) × (slice_get readers k ≡ Some u)) ⊎ ((k ≡ length readers) × (u ≡ r)) → IsKnown log k u
 known_more log readers r known new k u (inl there) = known.at k u there.1
 known_more log readers r known new k u (inr last) = rw (last.0, last.1) new
 
 -- ---- what readers of a log know
 
 -- the event that a reader knows stands at its place
-event_at : (readers : List (Reading Event)) (k : ℕ) (r : Reading Event) → slice_get readers k ≡ Some r
+event_at : (readers : List (Reader Event)) (k : ℕ) (r : Reader Event) → slice_get readers k ≡ Some r
     → slice_get (events_known readers) k ≡ Some (event_known r.known)
-event_at readers k r there = rw (slice_get-map (λ (x : Reading Event). event_known x.known) readers k, there) refl
+event_at readers k r there = rw (slice_get-map (λ (x : Reader Event). event_known x.known) readers k, there) refl
 
 -- where no reader is, there is no event
-event_past : (readers : List (Reading Event)) (k : ℕ) → false ≡ nat_lt k (length readers) → slice_get (events_known readers) k ≡ None
+event_past : (readers : List (Reader Event)) (k : ℕ) → false ≡ nat_lt k (length readers) → slice_get (events_known readers) k ≡ None
 event_past readers k outside =
     let none : slice_get readers k ≡ None = slice_get_past readers k (ltb-false k (length readers) (sym outside)) in
-    rw (slice_get-map (λ (x : Reading Event). event_known x.known) readers k, none) refl
+    rw (slice_get-map (λ (x : Reader Event). event_known x.known) readers k, none) refl
 
 -- what a reader that knows something knows, its event is
 known_is : (r : Option Event) (e : Event) → r ≡ Some (event_known r) → IfSome r (λ x. x ≡ e) → event_known r ≡ e
@@ -40,7 +40,7 @@ known_is None e knows same = absurd (let bad : ◌≡◌ {A = Option Event} None
 known_is (Some x) e knows same = same
 
 -- so where a reader agrees with an event, the event stands at its place
-pub event_met : (log : RowName) (readers got : List (Reading Event)) (k at : ℕ) (r : Reading Event) (e : Event) → AreKnown log readers → got ≡ readers
+pub event_met : (log : RowName) (readers got : List (Reader Event)) (k at : ℕ) (r : Reader Event) (e : Event) → AreKnown log readers → got ≡ readers
     → k ≡ at → slice_get got k ≡ Some r → IfSome r.known (λ x. x ≡ e) → IfSome (slice_get (events_known readers) at) (λ x. x ≡ e)
 event_met log readers got k at r e known same place there agrees =
     let own : slice_get readers at ≡ Some r = rw (← same, ← place) there in
@@ -48,14 +48,14 @@ event_met log readers got k at r e known same place there agrees =
     rw (event_at readers at r own) (known_is r.known e is.knows agrees)
 
 -- and where no reader is, nothing disagrees
-pub event_unmet : (readers got : List (Reading Event)) (k at : ℕ) (e : Event) → got ≡ readers → k ≡ at → false ≡ nat_lt k (length got)
+pub event_unmet : (readers got : List (Reader Event)) (k at : ℕ) (e : Event) → got ≡ readers → k ≡ at → false ≡ nat_lt k (length got)
     → IfSome (slice_get (events_known readers) at) (λ x. x ≡ e)
 event_unmet readers got k at e same place outside =
     let past : false ≡ nat_lt at (length readers) = rw (← same, ← place) outside in
     rw (event_past readers at past) tt
 
 -- the event that a look answers for a place stands there
-pub event_seen : {A : Type 0} (now : A → Event) (log : RowName) (readers : List (Reading Event)) (k : ℕ) (r : Reading Event) (seen : Option A)
+pub event_seen : {A : Type 0} (now : A → Event) (log : RowName) (readers : List (Reader Event)) (k : ℕ) (r : Reader Event) (seen : Option A)
     (after : Option Event)
     → AreKnown log readers → slice_get readers k ≡ Some r → IfSome seen (λ x. (after ≡ Some (now x)) × Agrees r.known (now x))
     → IfNone seen ((r.known ≡ None) × (after ≡ None)) → option_map now seen ≡ slice_get (events_known readers) k
@@ -70,13 +70,15 @@ event_seen now log readers k r (Some x) after known there shown empty =
 -- ---- one event more
 
 -- a journal with one event more
-pub journal_event : {log outcomes : RowName} {counted : ℕ} {readers : List (Reading Event)} {states : List CellState} (more : ℕ)
-    (longer : List (Reading Event)) (r : Reading Event)
-    → IsJournal log outcomes counted readers states → longer ≡ readers ++ r ∷ [] → more ≡ counted + 1 → IsKnown log (length readers) r
-    → IsJournal log outcomes more longer states
-journal_event {log} {outcomes} {counted} {readers} {states} more longer r old grown count new = record {
-  counted_is = let was = old.counted_is in let now : length longer ≡ length readers + 1 = ap length grown ∙ length-append readers (r ∷ []) in omega arith;
-  known = record { at = λ k u got. known_more log readers r old.known new k u (get-snoc readers r u k (rw grown at got)) };
+pub journal_event : {log outcomes : RowName} {fields : JournalFields} (counted : ℕ) (readers : List (Reader Event)) (r : Reader Event)
+    → IsJournal log outcomes fields → readers ≡ fields.readers ++ r ∷ [] → counted ≡ fields.counted + 1 → IsKnown log (length fields.readers) r
+    → IsJournal log outcomes (record fields { counted = counted; readers = readers })
+journal_event {log} {outcomes} {fields} counted readers r old grown count new = record {
+  counted_is =
+      let was = old.counted_is in
+      let now : length readers ≡ length fields.readers + 1 = ap length grown ∙ length-append fields.readers (r ∷ []) in
+      omega arith;
+  known = record { at = λ k u got. known_more log fields.readers r old.known new k u (get-snoc fields.readers r u k (rw grown at got)) };
   own = old.own;
 }
 

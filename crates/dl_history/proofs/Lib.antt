@@ -1,22 +1,22 @@
 pub mod ListLemmas
 pub mod EntryLists
-pub mod Logs
+pub mod Pasts
 pub mod CellBatches
-pub mod LogEnds
+pub mod PastEnds
 pub mod Endings
 pub mod BatchEndings
 pub mod Outcomes
 mod JournalLemmas
 pub mod CellLists
 pub mod BlankReaders
-pub mod CellsBegun
-pub mod CellsEnded
+pub mod CellsOfCalls
+pub mod AllCellsEnd
 mod CellOutcomes
-pub mod Counting
+pub mod PlaceCounts
 pub mod AccountCounts
 pub mod Agreement
 pub mod OneHistory
-pub mod LoadsTold
+pub mod LoadCuts
 pub mod HistoryLemmas
 pub mod HistoryLaws
-pub mod Crossing
+pub mod ThreadSafety

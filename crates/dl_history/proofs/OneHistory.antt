@@ -3,8 +3,8 @@ use Rattle.std.proofs.Common.{◌≡◌, ◌∙◌, sym, ap, subst, ℕ, zero, s
 use Rattle.std.proofs.Common.{refl, arith}
 use Rattle.std.proofs.lemmas.Bool.{eq-eqb, eqb-true}
 use Rattle.std.proofs.lemmas.List.Sums.{sum_by-cons}
-use Rattle.dl_history.specs.Agrees.{Account, accounts_by, HasCalls, HasEach}
-use Rattle.dl_history.specs.Entries.{Told, calls_of}
+use Rattle.dl_history.specs.Agreement.{Account, accounts_by, HasCalls, HasEach}
+use Rattle.dl_history.specs.Entries.{PlacedEvent, calls_of}
 use Rattle.dl_history.specs.History.{IsLegal}
 use Rattle.dl_history.specs.Lists.{Among, Every, one_if, places}
 use Rattle.dl_history.specs.Service.{Service}
@@ -35,7 +35,7 @@ place_among who n k (suc i) j (y ∷ xs) x there own at = by (nat_eq (who y) n) 
     by false rest = rest
 
 -- where the call at a place tells the event of both histories there, they have the same
-same_told : (g h : List Event) (calls : List Told) (i j : ℕ) → slice_get (map (λ t. t.at) calls) j ≡ Some i
+same_told : (g h : List Event) (calls : List PlacedEvent) (i j : ℕ) → slice_get (map (λ t. t.at) calls) j ≡ Some i
     → Every (λ t. slice_get g t.at ≡ Some t.event) calls → Every (λ t. slice_get h t.at ≡ Some t.event) calls → slice_get g i ≡ slice_get h i
 same_told g h [] i j there in_g in_h = absurd (let bad : ◌≡◌ {A = Option ℕ} None (Some i) = there in cc)
 same_told g h (t ∷ calls) i zero there in_g in_h =

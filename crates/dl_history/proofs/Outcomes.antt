@@ -15,10 +15,10 @@ use Rattle.dl_history.specs.declared.event.Ending.{Ending}
 use Rattle.dl_history.specs.declared.event.Call.{Call}
 use Rattle.dl_history.specs.declared.event.Call.TheVariants.{Load, LoadMany, Prime, Clear, ClearAll, Dispatch, Settle, Fail}
 use Rattle.dl_history.specs.Service.{Service, AnswersEach}
-use Rattle.dl_history.specs.History.{made, as_made, log, primed, reply_to, IsNext, IsLegal, end_with, ending_of}
-use Rattle.dl_history.proofs.Logs.{get-inside, by_events, log-snoc, legal_next}
+use Rattle.dl_history.specs.History.{made, as_made, past, primed, reply_to, IsNext, IsLegal, end_with, ending_of}
+use Rattle.dl_history.proofs.Pasts.{get-inside, by_events, past-snoc, legal_next}
 use Rattle.dl_history.proofs.CellBatches.{HasCell, NoCell, has_cell}
-use Rattle.dl_history.proofs.LogEnds.{Spares, ending_spared, outcome_spared}
+use Rattle.dl_history.proofs.PastEnds.{Spares, ending_spared, outcome_spared}
 use Rattle.dl_history.proofs.Endings.{nothing_spares, primed_end, primed_spares}
 use Rattle.dl_history.proofs.BatchEndings.{settled_end, settled_spares, settled_length, failed_end, failed_spares}
 
@@ -34,15 +34,15 @@ end_parts (Some p) (Some o) x is =
     (ap (λ (y : Ending). Some y.at) same, ap (λ (y : Ending). Some y.outcome) same)
 
 -- a cell that shows an end has ended there, with that outcome
-pub shown_parts : (es : List Event) (c : ℕ) (x : Ending) → ending_of es c ≡ Some x → (ended (log es) c ≡ Some x.at) × (outcome (log es) c ≡ Some x.outcome)
-shown_parts es c x is = end_parts (ended (log es) c) (outcome (log es) c) x is
+pub shown_parts : (es : List Event) (c : ℕ) (x : Ending) → ending_of es c ≡ Some x → (ended (past es) c ≡ Some x.at) × (outcome (past es) c ≡ Some x.outcome)
+shown_parts es c x is = end_parts (ended (past es) c) (outcome (past es) c) x is
 
 -- ---- each end gives an outcome
 
 -- The event ends the cell, which then shows an end at the event's place, or spares it.
 abbrev pub EndsOrSpares : List Event → Event → ℕ → Type 0
 EndsOrSpares es e c =
-    ((o : Outcome) × (ending_of (es ++ e ∷ []) c ≡ Some (record { at = length es; outcome = o }))) ⊎ Spares (atoms (log es)) (made e.call e.reply) c
+    ((o : Outcome) × (ending_of (es ++ e ∷ []) c ≡ Some (record { at = length es; outcome = o }))) ⊎ Spares (atoms (past es)) (made e.call e.reply) c
 
 ends_or_spares_prime : (s : Service) (es : List Event) (e : Event) (c : ℕ) (k : Key) (o : Outcome) → IsLegal s es → IsNext s es e → e.call ≡ Prime k o
     → (r : DeskPrime) → e.reply ≡ primed r → EndsOrSpares es e c
@@ -55,24 +55,24 @@ ends_or_spares_prime s es e c k o legal next is (prime.Primed d) reply = by (cas
 
 ends_or_spares_settle : (s : Service) (es : List Event) (e : Event) (c b : ℕ) (os : List Outcome) → AnswersEach s.answer → IsLegal s es → IsNext s es e
     → e.call ≡ Settle b os → EndsOrSpares es e c
-ends_or_spares_settle s es e c b os each legal next is = by (has_cell (members (atoms (log es)) b) c)
+ends_or_spares_settle s es e c b os each legal next is = by (has_cell (members (atoms (past es)) b) c)
   where
-    of_member : (h : HasCell (members (atoms (log es)) b) c) (o : Option Outcome) → slice_get os h.place ≡ o → EndsOrSpares es e c
+    of_member : (h : HasCell (members (atoms (past es)) b) c) (o : Option Outcome) → slice_get os h.place ≡ o → EndsOrSpares es e c
     of_member h None none =
-        let low : h.place < length (members (atoms (log es)) b) = slice_get_within (members (atoms (log es)) b) h.place h.member h.at in
-        let many : length os ≡ length (members (atoms (log es)) b) = settled_length s es e b os each next is in
+        let low : h.place < length (members (atoms (past es)) b) = slice_get_within (members (atoms (past es)) b) h.place h.member h.at in
+        let many : length os ≡ length (members (atoms (past es)) b) = settled_length s es e b os each next is in
         absurd (get-inside os h.place (omega arith) none)
     of_member h (Some o) got = inl (o, rw h.is at (settled_end s es e b os h.place h.member o legal next is h.at got))
 
-    by : HasCell (members (atoms (log es)) b) c ⊎ NoCell (members (atoms (log es)) b) c → EndsOrSpares es e c
+    by : HasCell (members (atoms (past es)) b) c ⊎ NoCell (members (atoms (past es)) b) c → EndsOrSpares es e c
     by (inl h) = of_member h (slice_get os h.place) refl
     by (inr none) = inr (settled_spares s es e b os c next is none)
 
 ends_or_spares_fail : (s : Service) (es : List Event) (e : Event) (c b : ℕ) (fault : BatchFault) → IsLegal s es → IsNext s es e → e.call ≡ Fail b fault
     → EndsOrSpares es e c
-ends_or_spares_fail s es e c b fault legal next is = by (has_cell (members (atoms (log es)) b) c)
+ends_or_spares_fail s es e c b fault legal next is = by (has_cell (members (atoms (past es)) b) c)
   where
-    by : HasCell (members (atoms (log es)) b) c ⊎ NoCell (members (atoms (log es)) b) c → EndsOrSpares es e c
+    by : HasCell (members (atoms (past es)) b) c ⊎ NoCell (members (atoms (past es)) b) c → EndsOrSpares es e c
     by (inl h) = inl (BatchFailed fault, rw h.is at (failed_end s es e b fault h.place h.member legal next is h.at))
     by (inr none) = inr (failed_spares s es e b fault c next is none)
 
@@ -81,7 +81,7 @@ ends_or_spares_call : (s : Service) (es : List Event) (e : Event) (c : ℕ) → 
 ends_or_spares_call s es e c each legal next (Load k) is = inr (nothing_spares s es e c next (rw is refl))
 ends_or_spares_call s es e c each legal next (LoadMany ks) is = inr (nothing_spares s es e c next (rw is refl))
 ends_or_spares_call s es e c each legal next (Prime k o) is =
-    ends_or_spares_prime s es e c k o legal next is (prime_reply (atoms (log es)) k) (next.reply ∙ ap (reply_to s.rules (atoms (log es))) is)
+    ends_or_spares_prime s es e c k o legal next is (prime_reply (atoms (past es)) k) (next.reply ∙ ap (reply_to s.rules (atoms (past es))) is)
 ends_or_spares_call s es e c each legal next (Clear k) is = inr (nothing_spares s es e c next (rw is refl))
 ends_or_spares_call s es e c each legal next ClearAll is = inr (nothing_spares s es e c next (rw is refl))
 ends_or_spares_call s es e c each legal next Dispatch is = inr (nothing_spares s es e c next (rw is refl))
@@ -95,7 +95,7 @@ ends_or_spares s es e c each legal next = ends_or_spares_call s es e c each lega
 -- ---- each cell that has ended has an outcome
 
 abbrev HaveOutcomes : List Event → Type 0
-HaveOutcomes es = (c p : ℕ) → ended (log es) c ≡ Some p → (o : Outcome) × (outcome (log es) c ≡ Some o)
+HaveOutcomes es = (c p : ℕ) → ended (past es) c ≡ Some p → (o : Outcome) × (outcome (past es) c ≡ Some o)
 
 outcomes_none : HaveOutcomes []
 outcomes_none c p is = absurd (let bad : ◌≡◌ {A = Option ℕ} None (Some p) = is in cc)
@@ -104,18 +104,18 @@ outcomes_more : (s : Service) → AnswersEach s.answer → (es : List Event) (e 
     → HaveOutcomes (es ++ e ∷ [])
 outcomes_more s each es e legal next rest c p is = by (ends_or_spares s es e c each legal next)
   where
-    by : EndsOrSpares es e c → (o : Outcome) × (outcome (log (es ++ e ∷ [])) c ≡ Some o)
+    by : EndsOrSpares es e c → (o : Outcome) × (outcome (past (es ++ e ∷ [])) c ≡ Some o)
     by (inl ends) = let x : Ending = record { at = length es; outcome = ends.0 } in (ends.0, (shown_parts (es ++ e ∷ []) c x ends.1).1)
     by (inr spares) =
         let whole = legal_next s es e legal next in
-        let same : ended (as_made e ∷ log es) c ≡ ended (log es) c =
-        ap (option_map (λ (q : Placed). q.place)) (ending_spared s.rules (as_made e) (log es) c whole spares) in
-        let before : ended (log es) c ≡ Some p = sym same ∙ (rw (log-snoc es e) at is) in
-        let found : (o : Outcome) × (outcome (log es) c ≡ Some o) = rest c p before in
-        (found.0, rw (log-snoc es e) (outcome_spared s.rules (as_made e) (log es) c whole spares ∙ found.1))
+        let same : ended (as_made e ∷ past es) c ≡ ended (past es) c =
+        ap (option_map (λ (q : Placed). q.place)) (ending_spared s.rules (as_made e) (past es) c whole spares) in
+        let before : ended (past es) c ≡ Some p = sym same ∙ (rw (past-snoc es e) at is) in
+        let found : (o : Outcome) × (outcome (past es) c ≡ Some o) = rest c p before in
+        (found.0, rw (past-snoc es e) (outcome_spared s.rules (as_made e) (past es) c whole spares ∙ found.1))
 
 -- where the source answers each key, a cell that has ended was given an outcome
-pub has_outcome : (s : Service) (es : List Event) (c p : ℕ) → AnswersEach s.answer → IsLegal s es → ended (log es) c ≡ Some p
-    → (o : Outcome) × (outcome (log es) c ≡ Some o)
+pub has_outcome : (s : Service) (es : List Event) (c p : ℕ) → AnswersEach s.answer → IsLegal s es → ended (past es) c ≡ Some p
+    → (o : Outcome) × (outcome (past es) c ≡ Some o)
 has_outcome s es c p each legal is =
     by_events s HaveOutcomes outcomes_none (λ xs e before next rest. outcomes_more s each xs e before next rest) es legal c p is

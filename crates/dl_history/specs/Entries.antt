@@ -16,12 +16,12 @@ use Rattle.dl_history.specs.Lists.{Among}
 -- ---- entries
 
 -- an event, and its place in the history
-pub record Told : Type 0 where
+pub record PlacedEvent : Type 0 where
   pub at : ℕ
   pub event : Event
 
-abbrev pub told : ℕ → Event → Told
-told at event = record { at = at; event = event }
+abbrev pub event_at : ℕ → Event → PlacedEvent
+event_at at event = record { at = at; event = event }
 
 -- what was read of a cell: its outcome, and the place of the event that gave it
 pub record Read : Type 0 where
@@ -32,12 +32,12 @@ abbrev pub read : ℕ → Ending → Read
 read cell ending = record { cell = cell; ending = ending }
 
 -- an entry: a call that was made, or an outcome that was read
-pub data Line : Type 0 where
-  Called : Told → Line
-  Saw : Read → Line
+pub data Entry : Type 0 where
+  Called : PlacedEvent → Entry
+  Saw : Read → Entry
 
 -- an entry without what was told
-abbrev pub kind_of : Line → EntryKind
+abbrev pub kind_of : Entry → EntryKind
 kind_of (Called t) = kind.Call t.at
 kind_of (Saw r) = kind.Saw r.cell r.ending.at
 
@@ -53,38 +53,38 @@ ending_known (Some e) = e
 
 -- ---- the calls among the entries
 
-abbrev pub calls_in : Line → List Told
+abbrev pub calls_in : Entry → List PlacedEvent
 calls_in (Called t) = t ∷ []
 calls_in (Saw r) = []
 
 -- the calls, in order
-abbrev pub calls_of : List Line → List Told
+abbrev pub calls_of : List Entry → List PlacedEvent
 calls_of [] = []
-calls_of (l ∷ ls) = calls_in l ++ calls_of ls
+calls_of (entry ∷ entries) = calls_in entry ++ calls_of entries
 
 -- the event is one of the caller's
-abbrev pub IsOwn : ℕ → Told → Type 0
+abbrev pub IsOwn : ℕ → PlacedEvent → Type 0
 IsOwn caller t = t.event.caller ≡ caller
 
 -- ---- places
 
-abbrev pub line_front : Line → ℕ
-line_front (Called t) = t.at + 1
-line_front (Saw r) = r.ending.at + 1
+abbrev pub entry_front : Entry → ℕ
+entry_front (Called t) = t.at + 1
+entry_front (Saw r) = r.ending.at + 1
 
 -- one more than the greatest place among the entries, and 0 without any
-abbrev pub front_of : List Line → ℕ
+abbrev pub front_of : List Entry → ℕ
 front_of [] = 0
-front_of (l ∷ ls) = max (line_front l) (front_of ls)
+front_of (entry ∷ entries) = max (entry_front entry) (front_of entries)
 
-abbrev pub Begins : ℕ → Line → Type 0
+abbrev pub Begins : ℕ → Entry → Type 0
 Begins k (Called t) = k ≤ t.at
 Begins k (Saw r) = Unit {0}
 
 -- each call has a place that is at least k, and above those of all calls and reads before it
-abbrev pub Ordered : ℕ → List Line → Type 0
+abbrev pub Ordered : ℕ → List Entry → Type 0
 Ordered k [] = Unit {0}
-Ordered k (l ∷ ls) = Begins k l × Ordered (max k (line_front l)) ls
+Ordered k (entry ∷ entries) = Begins k entry × Ordered (max k (entry_front entry)) entries
 
 -- ---- cells
 
@@ -101,20 +101,20 @@ answered Kept = []
 answered Done = []
 answered (Sent js) = []
 
-abbrev pub cells_in : Line → List ℕ
+abbrev pub cells_in : Entry → List ℕ
 cells_in (Called t) = answered t.event.reply
 cells_in (Saw r) = []
 
 -- the cells with which the calls among the entries were answered
-abbrev pub cells_of : List Line → List ℕ
+abbrev pub cells_of : List Entry → List ℕ
 cells_of [] = []
-cells_of (l ∷ ls) = cells_in l ++ cells_of ls
+cells_of (entry ∷ entries) = cells_in entry ++ cells_of entries
 
-abbrev pub IsOf : List ℕ → Line → Type 0
+abbrev pub IsOf : List ℕ → Entry → Type 0
 IsOf cs (Called t) = Unit {0}
 IsOf cs (Saw r) = Among r.cell cs
 
 -- each outcome that was read is of one of these cells, or of one with which a call before it was answered
-abbrev pub Answered : List ℕ → List Line → Type 0
+abbrev pub Answered : List ℕ → List Entry → Type 0
 Answered cs [] = Unit {0}
-Answered cs (l ∷ ls) = IsOf cs l × Answered (cs ++ cells_in l) ls
+Answered cs (entry ∷ entries) = IsOf cs entry × Answered (cs ++ cells_in entry) entries

@@ -49,13 +49,13 @@ abbrev pub as_made : Event → desk.Event
 as_made e = record { caller = e.caller; made = made e.call e.reply; gave = gave e.call e.reply }
 
 -- the events, the newest first, before others
-abbrev pub log_onto : List desk.Event → List Event → List desk.Event
-log_onto before [] = before
-log_onto before (e ∷ es) = log_onto (as_made e ∷ before) es
+abbrev pub past_onto : List desk.Event → List Event → List desk.Event
+past_onto before [] = before
+past_onto before (e ∷ es) = past_onto (as_made e ∷ before) es
 
--- A history is the list of its events in order. This is its log, the newest first.
-abbrev pub log : List Event → List desk.Event
-log events = log_onto [] events
+-- A history is the list of its events in order. This is its past, the newest first.
+abbrev pub past : List Event → List desk.Event
+past events = past_onto [] events
 
 -- ---- legal histories
 
@@ -111,8 +111,8 @@ MayBeMade answer history Dispatch = Unit {0}
 -- loader of one thread gives there
 pub record IsNext (service : Service) (before : List Event) (e : Event) : Type 0 where
   pub caller : e.caller < service.callers
-  pub reply : e.reply ≡ reply_to service.rules (atoms (log before)) e.call
-  pub made : MayBeMade service.answer (atoms (log before)) e.call
+  pub reply : e.reply ≡ reply_to service.rules (atoms (past before)) e.call
+  pub made : MayBeMade service.answer (atoms (past before)) e.call
 
 -- each event of the history is one that may stand after those before it
 pub record IsLegal (service : Service) (events : List Event) : Type 0 where
@@ -127,14 +127,14 @@ end_with (Some at) (Some o) = Some (record { at = at; outcome = o })
 
 -- what a cell shows once it has ended: the place of the event that ended it, and the outcome that it was given
 abbrev pub ending_of : List Event → ℕ → Option Ending
-ending_of events c = end_with (ended (log events) c) (outcome (log events) c)
+ending_of events c = end_with (ended (past events) c) (outcome (past events) c)
 
 -- ---- the ends of batches
 
 -- the batch has ended
 abbrev pub HasEnd : List Event → ℕ → Type 0
-HasEnd history b = IsSome (end_of (atoms (log history)) b)
+HasEnd history b = IsSome (end_of (atoms (past history)) b)
 
 -- each batch has ended
 abbrev pub AllEnded : List Event → Type 0
-AllEnded history = (b : ℕ) → b < begun (atoms (log history)) → HasEnd history b
+AllEnded history = (b : ℕ) → b < begun (atoms (past history)) → HasEnd history b

@@ -1,3 +1,3 @@
-pub mod Lines
-pub mod Rows
+pub mod Entries
+pub mod CellRows
 pub mod Codes

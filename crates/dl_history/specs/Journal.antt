@@ -1,7 +1,7 @@
 -- What contracts see of the events and the cells of a loader, and what holds of the fields behind them.
 use Rattle.std.specs.Prelude.{◌≡◌, ℕ, Bool, true, false, count_by, ◌+◌, ◌<◌, List, length, map, set, Option, Some, None, slice_get}
 use Rattle.std.specs.Global.{Box}
-use Rattle.dl_cells.specs.Cells.{RowName, cell_of, row_len, Reading}
+use Rattle.dl_cells.specs.Cells.{RowName, cell_of, row_len, Reader}
 use Rattle.dl_history.specs.Entries.{event_known}
 use Rattle.dl_history.specs.declared.event.Event.{Event}
 use Rattle.dl_history.specs.declared.event.Ending.{Ending}
@@ -51,19 +51,19 @@ pub record Journal : Type 0 where
   pub spare : ℕ
 
 -- the events that readers of a log know, in order
-abbrev pub events_known : List (Reading Event) → List Event
+abbrev pub events_known : List (Reader Event) → List Event
 events_known readers = map (λ r. event_known r.known) readers
 
 -- a reader of the cell at a place of a log, which knows its event; a place has sixteen bits
-pub record IsKnown (log : RowName) (k : ℕ) (r : Reading Event) : Type 0 where
+pub record IsKnown (log : RowName) (k : ℕ) (r : Reader Event) : Type 0 where
   pub few : k < 65536
   pub in_log : k < row_len log
   pub cell_is : r.cell ≡ cell_of log k
   pub knows : r.known ≡ Some (event_known r.known)
 
 -- readers, in order, of the first cells of a log, each of which knows its event
-pub record AreKnown (log : RowName) (readers : List (Reading Event)) : Type 0 where
-  pub at : (k : ℕ) (r : Reading Event) → slice_get readers k ≡ Some r → IsKnown log k r
+pub record AreKnown (log : RowName) (readers : List (Reader Event)) : Type 0 where
+  pub at : (k : ℕ) (r : Reader Event) → slice_get readers k ≡ Some r → IsKnown log k r
 
 abbrev pub cell_by : CellState → Cell
 cell_by s = record { mark = s.mark; shows = s.reader.known }
@@ -76,12 +76,18 @@ cells_by states = map cell_by states
 pub record AreOwn (outcomes : RowName) (states : List CellState) : Type 0 where
   pub at : (c : ℕ) (s : CellState) → slice_get states c ≡ Some s → s.reader.cell ≡ cell_of outcomes c
 
+-- the fields of a journal: how many events were counted, the readers that know them, in order, and how each cell stands
+pub record JournalFields : Type 0 where
+  pub counted : ℕ
+  pub readers : List (Reader Event)
+  pub states : List CellState
+
 -- each event is counted and lies at its place of the log, and each state is of its own cell
-pub record IsJournal (log outcomes : RowName) (counted : ℕ) (readers : List (Reading Event)) (states : List CellState) : Type 0 where
-  pub counted_is : counted ≡ length readers
-  pub known : AreKnown log readers
-  pub own : AreOwn outcomes states
+pub record IsJournal (log outcomes : RowName) (fields : JournalFields) : Type 0 where
+  pub counted_is : fields.counted ≡ length fields.readers
+  pub known : AreKnown log fields.readers
+  pub own : AreOwn outcomes fields.states
 
 -- readers, in order, of the cells from one on, of which they know nothing
-pub record AreBlank (outcomes : RowName) (from : ℕ) (readers : List (Reading Ending)) : Type 0 where
-  pub at : (k : ℕ) (r : Reading Ending) → slice_get readers k ≡ Some r → (r.cell ≡ cell_of outcomes (from + k)) × (r.known ≡ None)
+pub record AreBlank (outcomes : RowName) (from : ℕ) (readers : List (Reader Ending)) : Type 0 where
+  pub at : (k : ℕ) (r : Reader Ending) → slice_get readers k ≡ Some r → (r.cell ≡ cell_of outcomes (from + k)) × (r.known ≡ None)

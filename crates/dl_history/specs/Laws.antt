@@ -7,10 +7,10 @@ use Rattle.dl_desk.specs.History.{members}
 use Rattle.dl_desk.specs.Laws.{HaveLimits, IsBatch}
 use Rattle.dl_desk.specs.declared.reply.LoadReply.{LoadReply}
 use Rattle.dl_desk.specs.declared.reply.LoadReply.TheVariants.{Fresh}
-use Rattle.dl_history.specs.Agrees.{entries_of}
-use Rattle.dl_history.specs.Closed.{Closed, IsClosed}
-use Rattle.dl_history.specs.Entries.{calls_of, told}
-use Rattle.dl_history.specs.History.{IsLegal, ending_of, log}
+use Rattle.dl_history.specs.Agreement.{entries_of}
+use Rattle.dl_history.specs.ClosedHistory.{History, IsHistory}
+use Rattle.dl_history.specs.Entries.{calls_of, event_at}
+use Rattle.dl_history.specs.History.{IsLegal, ending_of, past}
 use Rattle.dl_history.specs.Lists.{Among, Every}
 use Rattle.dl_history.specs.Service.{Service}
 use Rattle.dl_history.specs.declared.event.Event.{Event}
@@ -65,7 +65,7 @@ FreshLoadsAreApart = (service : Service) (events : List Event) → IsLegal servi
 -- a batch has distinct keys, no more than its limit, and of one table where tables have limits
 abbrev pub BatchesAreWithinLimits : Type 0
 BatchesAreWithinLimits = (service : Service) → HaveLimits service.rules → (events : List Event) → IsLegal service events → (batch : ℕ)
-    → IsBatch service.rules (members (atoms (log events)) batch)
+    → IsBatch service.rules (members (atoms (past events)) batch)
 
 -- ---- ends
 
@@ -78,9 +78,9 @@ EndsStay = (service : Service) (events later : List Event) (cell : ℕ) (end : E
 
 -- each event of a closed history is a call among its caller's entries
 abbrev pub EventsAreCalls : Type 0
-EventsAreCalls = (service : Service) (h : Closed) → IsClosed service h → (k : ℕ) (e : Event) → slice_get h.events k ≡ Some e
-    → Among (told k e) (calls_of (entries_of e.caller h.accounts))
+EventsAreCalls = (service : Service) (h : History) → IsHistory service h → (k : ℕ) (e : Event) → slice_get h.events k ≡ Some e
+    → Among (event_at k e) (calls_of (entries_of e.caller h.accounts))
 
 -- so a loader begins with an empty history: where its callers made no call, there is no event
 abbrev pub HistoriesBeginEmpty : Type 0
-HistoriesBeginEmpty = (service : Service) (h : Closed) → IsClosed service h → Every (λ a. calls_of a.entries ≡ []) h.accounts → h.events ≡ []
+HistoriesBeginEmpty = (service : Service) (h : History) → IsHistory service h → Every (λ a. calls_of a.entries ≡ []) h.accounts → h.events ≡ []

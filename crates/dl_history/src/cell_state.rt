@@ -5,7 +5,7 @@ ghost use Rattle.std.specs.Global.{Box};
 ghost use Rattle.dl_cells.specs.Cells.{cell_of, row_len};
 ghost use Rattle.dl_history.specs.declared.event.Ending.{Ending};
 ghost use Rattle.dl_history.specs.declared.cell_state.Mark.TheVariants.{Waiting, Ended, Refused};
-ghost use Rattle.dl_history.specs.Kept.{ShowsEnd};
+ghost use Rattle.dl_history.specs.LoaderState.{ShowsEnd};
 
 use crate::entry::Read;
 use crate::event::Ending;
@@ -44,7 +44,7 @@ impl CellState {
     }
 
     /// Gives the cell its outcome, and tells whether the cell took it. Either way the reader knows from
-    /// then on what the cell has. It does not allocate.
+    /// then on what the cell has.
     pub(crate) fn end(&mut self, row: &CellRow<Ending>, cell: u32, ending: Box<Ending>) -> bool
         requires in_row { cell < row_len row.now }
         requires of_cell { self.old.reader.cell ≡ cell_of row.now cell }
@@ -67,7 +67,6 @@ impl CellState {
     }
 
     /// The outcome that the cell was given, if it was given one: the one that it shows, or that it refused.
-    /// It does not allocate.
     pub(crate) fn outcome<'a>(&'a self, row: &'a CellRow<Ending>, cell: u32) -> Option<&'a Outcome>
         requires in_row { cell < row_len row.now }
         requires of_cell { self.now.reader.cell ≡ cell_of row.now cell }

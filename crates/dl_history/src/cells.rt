@@ -4,7 +4,7 @@ ghost use Rattle.std.specs.Prelude.{◌≡◌, ◌≤◌, Option, length, option
 ghost use Rattle.dl_cells.specs.Cells.{row_len};
 ghost use Rattle.dl_history.specs.declared.event.Ending.{Ending};
 ghost use Rattle.dl_history.specs.Journal.{AreOwn, cells_by};
-ghost use Rattle.dl_history.specs.Kept.{ShownAs};
+ghost use Rattle.dl_history.specs.LoaderState.{ShownAs};
 
 use crate::cell_state::CellState;
 use crate::event::Ending;
@@ -45,7 +45,7 @@ impl Cells {
         Cells { outcomes, states }
     }
 
-    /// The outcome that a cell was given, if it was begun and given one. It does not allocate.
+    /// The outcome that a cell was given, if it was begun and given one.
     pub(crate) fn outcome(&self, cell: u32) -> Option<&Outcome>
         ensures { (end : Option Ending) → ShownAs (slice_get self.now cell) end → option_copied result ≡ option_map (λ e. e.outcome) end }
     {

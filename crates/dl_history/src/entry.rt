@@ -2,8 +2,8 @@
 
 ghost use Rattle.std.specs.Prelude.{◌≡◌, ◌<◌, IfErr, IfOk, IfSome, IsSome, IsSomeAnd};
 ghost use Rattle.dl_cells.specs.Cells.{cell_of, row_len};
-ghost use Rattle.dl_history.specs.Agrees.{Meets};
-ghost use Rattle.dl_history.specs.Entries.{told, read, event_known, ending_known, kind_of, Called, Saw};
+ghost use Rattle.dl_history.specs.Agreement.{Meets};
+ghost use Rattle.dl_history.specs.Entries.{event_at, read, event_known, ending_known, kind_of, Called, Saw};
 ghost use Rattle.dl_history.specs.Journal.{IsKnown};
 
 use crate::event::{Ending, Event};
@@ -23,46 +23,46 @@ pub enum EntryKind {
 
 /// An event that lies in the log, and its place there. Contracts see both.
 #[derive(Drop)]
-pub struct Told<L: LoaderName> {
+pub struct PlacedEvent<L: LoaderName> {
     at: u16,
     reader: Reader<Event>,
     of: PhantomData<L>,
 }
 
-impl<L: LoaderName> Model for Told<L> {
+impl<L: LoaderName> Model for PlacedEvent<L> {
     ghost use Rattle.std.specs.Prelude.{◌≡◌, ◌<◌, Some};
     ghost use Rattle.dl_cells.specs.Cells.{cell_of, row_len};
-    ghost use Rattle.dl_history.specs.Entries.{Told, told, event_known};
-    ghost use Rattle.dl_history.specs.Inside.Codes.{told_code};
+    ghost use Rattle.dl_history.specs.Entries.{PlacedEvent, event_at, event_known};
+    ghost use Rattle.dl_history.specs.Inside.Codes.{placed_event_code};
 
-    ghost Value = { Told };
+    ghost Value = { PlacedEvent };
 
-    ghost coded = { told_code };
+    ghost coded = { placed_event_code };
 
-    ghost view = { λ e. told e.at (event_known e.reader.known) };
+    ghost view = { λ e. event_at e.at (event_known e.reader.known) };
 
     ghost invariant = { λ e. (e.at < row_len L.log) × (e.reader.cell ≡ cell_of L.log e.at) × (e.reader.known ≡ Some (event_known e.reader.known)) };
 }
 
-impl<L: LoaderName> Told<L> {
+impl<L: LoaderName> PlacedEvent<L> {
     /// Puts an event into its cell of the log. Where the log has another event there, hands the event
-    /// back. Either way the reader knows from then on what the cell has. It does not allocate.
+    /// back. Either way the reader knows from then on what the cell has.
     pub(crate) fn store(
         row: &CellRow<Event>,
         at: u16,
         reader: &mut Reader<Event>,
         event: Box<Event>,
-    ) -> Result<Told<L>, Box<Event>>
+    ) -> Result<PlacedEvent<L>, Box<Event>>
         requires row { row.now ≡ L.log }
         requires in_row { at < row_len L.log }
         requires of_cell { reader.old.cell ≡ cell_of L.log at }
         ensures cell { reader.new.cell ≡ reader.old.cell }
         ensures known { IsSome reader.new.known }
-        ensures stored { IfOk result (λ stored. stored ≡ told at event.value) }
+        ensures stored { IfOk result (λ stored. stored ≡ event_at at event.value) }
         ensures back { IfErr result (λ back. back.value ≡ event.value) }
     {
         row.show(u32::from(at), reader, event)?;
-        Ok(Told {
+        Ok(PlacedEvent {
             at,
             reader: reader.again(),
             of: PhantomData,
@@ -76,7 +76,7 @@ impl<L: LoaderName> Told<L> {
         self.at
     }
 
-    /// A reader of the event's cell, which knows the event. It does not allocate.
+    /// A reader of the event's cell, which knows the event.
     pub(crate) fn reader(&self) -> Reader<Event>
         ensures known { IsKnown L.log self.now.at result }
         ensures event { event_known result.known ≡ self.now.event }
@@ -169,27 +169,27 @@ pub struct Entry<L: LoaderName> {
 #[derive(Drop)]
 enum Kind<L: LoaderName> {
     // A call that was made.
-    Call(Told<L>),
+    Call(PlacedEvent<L>),
     // An outcome that was read.
     Saw(Read<L>),
 }
 
 impl<L: LoaderName> Model for Entry<L> {
-    ghost use Rattle.dl_history.specs.Entries.{Line};
-    ghost use Rattle.dl_history.specs.Inside.Codes.{line_code};
+    ghost use Rattle.dl_history.specs.Entries.{Entry};
+    ghost use Rattle.dl_history.specs.Inside.Codes.{entry_code};
 
-    ghost Value = { Line };
+    ghost Value = { Entry };
 
-    ghost coded = { line_code };
+    ghost coded = { entry_code };
 
-    ghost use Rattle.dl_history.specs.Inside.Lines.{line_of};
+    ghost use Rattle.dl_history.specs.Inside.Entries.{entry_of};
 
-    ghost view = { λ e. line_of e.kind };
+    ghost view = { λ e. entry_of e.kind };
 }
 
 impl<L: LoaderName> Entry<L> {
     /// The entry of a call that was made.
-    pub fn call(stored: Told<L>) -> Entry<L>
+    pub fn call(stored: PlacedEvent<L>) -> Entry<L>
         ensures { result ≡ Called stored }
     {
         Entry {

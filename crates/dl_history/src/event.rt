@@ -1,6 +1,6 @@
 //! The events of a shared loader: who called what, and what was replied.
 
-use crate::reply_lists::{Jobs, Replies};
+use crate::replies::{Jobs, Replies};
 use dl_desk::{BatchFault, FetchKey, Keys, LoadReply, Outcome, Outcomes};
 
 /// A call of a shared loader, with its arguments.
@@ -52,8 +52,7 @@ pub struct Event {
     pub reply: Reply,
 }
 
-// Written out: a derived drop is proved anew in each function that lets an event go. Most events are loads, of which only
-// the key is let go.
+// Most events are loads, of which only the key is let go.
 impl Drop for Event {
     #[inline(always)]
     fn drop(self) {

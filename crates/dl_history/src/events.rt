@@ -46,7 +46,7 @@ impl Events {
         self.readers.len()
     }
 
-    /// The event at a place, if there is one. It does not allocate.
+    /// The event at a place, if there is one.
     pub fn get(&self, at: usize) -> Option<&Event>
         ensures { option_copied result ≡ slice_get self.now at }
     {

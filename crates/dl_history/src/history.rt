@@ -3,23 +3,23 @@
 ghost use Rattle.std.specs.Prelude.{◌≡◌, ◌<◌, ◌≤◌, [], IfNone, IfOk, IfSome, MatchOption, Some, flat_map, length, map, option_copied};
 ghost use Rattle.dl_desk.specs.Events.{atoms, outcome};
 ghost use Rattle.dl_desk.specs.History.{begun, cells, end_of};
-ghost use Rattle.dl_history.specs.Agrees.{Agrees, account, entries_of};
-ghost use Rattle.dl_history.specs.Closed.{IsClosed, accounts_at, closed, kinds_of, place_of};
+ghost use Rattle.dl_history.specs.Agreement.{Agrees, account, entries_of};
+ghost use Rattle.dl_history.specs.ClosedHistory.{IsHistory, accounts_at, history_of, kinds_of, place_of};
 ghost use Rattle.dl_history.specs.Entries.{kind_of};
-ghost use Rattle.dl_history.specs.History.{keys_of, log};
-ghost use Rattle.dl_history.specs.Kept.{IsKept, kept};
+ghost use Rattle.dl_history.specs.History.{keys_of, past};
+ghost use Rattle.dl_history.specs.LoaderState.{IsLoaderState, loader_state};
 ghost use Rattle.dl_history.specs.Lists.{places};
 ghost use Rattle.dl_history.specs.Service.{AnswersEach, Service};
 
 mod batches;
 
-use crate::account::Account;
+use crate::cell_rows::CellRows;
 use crate::cells::Cells;
 use crate::entry::EntryKind;
 use crate::events::Events;
 use crate::journal::Journal;
 use crate::name::LoaderName;
-use crate::rows::Rows;
+use crate::outline::Outline;
 pub use batches::{Batches, EndedBatch};
 use dl_desk::{BatchState, Desk, End, Outcome};
 use std::alloc::{AllocError, Global};
@@ -33,22 +33,21 @@ pub struct History {
     events: Events,
     cells: Cells,
     desk: Desk,
-    accounts: Vec<Account>,
+    outlines: Vec<Outline>,
 }
 
-// Written out: a derived drop is proved anew in each function that lets a history go.
 impl Drop for History {
     fn drop(self) {
         let History {
             events,
             cells,
             desk,
-            accounts,
+            outlines,
         } = self;
         drop(events);
         drop(cells);
         drop(desk);
-        drop(accounts);
+        drop(outlines);
     }
 }
 
@@ -56,85 +55,85 @@ impl Model for History {
     ghost use Rattle.std.specs.Coded.{codes};
     ghost use Rattle.dl_history.specs.contracts.event.Event as event;
     ghost use Rattle.dl_history.specs.Inside.Codes.{account_code};
-    ghost use Rattle.dl_history.specs.Closed.{Closed, IsHistory, accounts_at, closed};
-    ghost use Rattle.dl_history.specs.Kept.{kept};
+    ghost use Rattle.dl_history.specs.ClosedHistory.{History, AreHistoryFields, accounts_at, history_of};
+    ghost use Rattle.dl_history.specs.LoaderState.{loader_state};
     ghost use Rattle.dl_history.specs.Service.{Service};
 
-    ghost Value = { Closed };
+    ghost Value = { History };
 
     ghost coded = { Prim.hlevel (codes, event.the_row.coded, account_code) };
 
-    ghost view = { λ h. closed h.events (accounts_at h.events h.accounts.items) };
+    ghost view = { λ h. history_of h.events (accounts_at h.events h.outlines.items) };
 
     ghost invariant = { λ h. (service : Service)
-        × IsHistory service (kept h.events h.desk.book h.cells) (closed h.events (accounts_at h.events h.accounts.items)) };
+        × AreHistoryFields service (loader_state h.events h.desk.book h.cells) (history_of h.events (accounts_at h.events h.outlines.items)) };
 }
 
 impl History {
-    /// The history that a loader leaves: its rows, its desk and its journal, and the accounts of its callers. It
-    /// does not allocate. Whoever calls it closes the loader.
+    /// The history that a loader leaves: its rows, its desk and its journal, and the accounts of its callers.
+    /// Whoever calls it closes the loader.
     pub fn of<L: LoaderName>(
-        rows: Rows<L>,
+        rows: CellRows<L>,
         desk: Desk,
         journal: Journal<L>,
-        accounts: Vec<Account>,
+        outlines: Vec<Outline>,
     ) -> History
-        requires kept { IsKept L.service (kept journal.history desk.book journal.cells) }
+        requires kept { IsLoaderState L.service (loader_state journal.history desk.book journal.cells) }
         requires answers { AnswersEach L.service.answer }
-        requires closed { IsClosed L.service (closed journal.history (accounts_at journal.history accounts.items)) }
-        ensures { result ≡ closed journal.history (accounts_at journal.history accounts.items) }
+        requires closed { IsHistory L.service (history_of journal.history (accounts_at journal.history outlines.items)) }
+        ensures { result ≡ history_of journal.history (accounts_at journal.history outlines.items) }
     {
         let (events, cells) = journal.into_parts(rows);
         History {
             events,
             cells,
             desk,
-            accounts,
+            outlines,
         }
     }
 
     /// What every history is: for what some loader served by, it is legal, each caller has an account that agrees with
     /// it, and each batch has ended.
     pub fn keeps(&self)
-        ensures { (service : Service) × IsClosed service self.now }
+        ensures { (service : Service) × IsHistory service self.now }
     {
         let _ = &self.desk;
     }
 
-    /// The events, in order. It does not allocate.
+    /// The events, in order.
     pub fn events(&self) -> &Events
         ensures { result.now ≡ self.now.events }
     {
         &self.events
     }
 
-    /// The batches, each with its keys and whether it was settled. It does not allocate.
+    /// The batches, each with its keys and whether it was settled.
     pub fn batches(&self) -> Batches<'_>
         ensures { result ≡ self.now.events }
     {
         Batches::new(self)
     }
 
-    /// The outcome of a cell, and none exactly where there is no such cell. It does not allocate.
+    /// The outcome of a cell, and none exactly where there is no such cell.
     pub fn outcome(&self, cell: u32) -> Option<&Outcome>
-        ensures given { option_copied result ≡ outcome (log self.now.events) cell }
-        ensures begun { MatchOption result (cells (atoms (log self.now.events)) ≤ cell) (λ _. cell < cells (atoms (log self.now.events))) }
+        ensures given { option_copied result ≡ outcome (past self.now.events) cell }
+        ensures begun { MatchOption result (cells (atoms (past self.now.events)) ≤ cell) (λ _. cell < cells (atoms (past self.now.events))) }
     {
         self.cells.outcome(cell)
     }
 
     /// What the entries of a caller are, in order, and none where there is no such caller. What they tell stands in the
-    /// history. It does not allocate.
+    /// history.
     pub fn entries(&self, caller: u32) -> &[EntryKind]
         ensures entries { result.now ≡ map kind_of (entries_of caller self.now.accounts) }
         ensures agree { caller < length self.now.accounts → Agrees self.now.events (account caller (entries_of caller self.now.accounts)) }
         ensures none { length self.now.accounts ≤ caller → result.now ≡ [] }
     {
-        kinds_of(self.accounts.as_slice(), caller)
+        kinds_of(self.outlines.as_slice(), caller)
     }
 
-    /// The places of a caller's events, in order, and none where there is no such caller. The error is want of
-    /// memory.
+    /// The places of a caller's events, in order, and none where there is no such caller. The error is a failed
+    /// allocation.
     pub fn of_caller(&self, alloc: Global, caller: u32) -> Result<Vec<u32>, AllocError>
         ensures { IfOk result (λ found. found.items ≡ places (λ e. e.caller) caller 0 self.now.events) }
     {
@@ -144,10 +143,10 @@ impl History {
 
     /// The batch of a number, if it was begun.
     fn batch(&self, batch: u32) -> Option<EndedBatch<'_>>
-        ensures begun { IfSome result (λ b. batch < begun (atoms (log self.now.events))) }
-        ensures keys { IfSome result (λ b. b.keys ≡ keys_of (atoms (log self.now.events)) batch) }
-        ensures end { IfSome result (λ b. end_of (atoms (log self.now.events)) batch ≡ Some b.end) }
-        ensures none { IfNone result (begun (atoms (log self.now.events)) ≤ batch) }
+        ensures begun { IfSome result (λ b. batch < begun (atoms (past self.now.events))) }
+        ensures keys { IfSome result (λ b. b.keys ≡ keys_of (atoms (past self.now.events)) batch) }
+        ensures end { IfSome result (λ b. end_of (atoms (past self.now.events)) batch ≡ Some b.end) }
+        ensures none { IfNone result (begun (atoms (past self.now.events)) ≤ batch) }
     {
         let view = self.desk.batch(batch)?;
         let end = match view.state() {
@@ -159,13 +158,13 @@ impl History {
     }
 }
 
-/// What the entries of a caller's account are, and none where it has none.
-fn kinds_of(accounts: &[Account], caller: u32) -> &[EntryKind]
-    ensures { result.now ≡ kinds_of caller accounts.now }
+/// What the entries of a caller are, and none where it has no outline.
+fn kinds_of(outlines: &[Outline], caller: u32) -> &[EntryKind]
+    ensures { result.now ≡ kinds_of caller outlines.now }
 {
-    for account in accounts {
-        if account.caller() == caller {
-            return account.entries();
+    for outline in outlines {
+        if outline.caller() == caller {
+            return outline.entries();
         }
     }
     &[]

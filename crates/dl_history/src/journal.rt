@@ -6,15 +6,15 @@ ghost use Rattle.dl_cells.specs.Cells.{cell_of};
 ghost use Rattle.dl_history.specs.Journal.{AreBlank, Refuses, waiting, showing};
 
 mod append;
-mod reading;
+mod view;
 
+use crate::cell_rows::CellRows;
 use crate::cell_state::CellState;
 use crate::cells::Cells;
-use crate::entry::Told;
+use crate::entry::PlacedEvent;
 use crate::event::{Ending, Event};
 use crate::events::Events;
 use crate::name::LoaderName;
-use crate::rows::Rows;
 pub use append::AppendFault;
 use dl_cells::Reader;
 use std::alloc::{AllocError, Global};
@@ -48,11 +48,11 @@ impl<L: LoaderName> Model for Journal<L> {
       spare = min (vec_capacity j.log - length j.log.items) (vec_capacity j.states - length j.states.items);
     } };
 
-    ghost invariant = { λ j. IsJournal L.log L.outcomes j.calls.total j.log.items j.states.items };
+    ghost invariant = { λ j. IsJournal L.log L.outcomes (record { counted = j.calls.total; readers = j.log.items; states = j.states.items }) };
 }
 
 impl<L: LoaderName> Journal<L> {
-    /// The journal of a loader that had no call. It does not allocate.
+    /// The journal of a loader that had no call.
     pub fn new(alloc: Global, calls: ledger::Book<L>) -> Journal<L>
         requires { calls.total ≡ 0 }
         ensures history { result.history ≡ [] }
@@ -90,8 +90,8 @@ impl<L: LoaderName> Journal<L> {
         self.states.reserve(more)
     }
 
-    /// Adds the next event, which the share of its caller counts. It does not allocate.
-    fn add(&mut self, stored: &Told<L>, share: &mut Share<L>)
+    /// Adds the next event, which the share of its caller counts.
+    fn add(&mut self, stored: &PlacedEvent<L>, share: &mut Share<L>)
         requires place { stored.now.at ≡ length self.old.history }
         requires room { 0 < self.old.spare }
         requires part { 0 < share.old.parts }
@@ -105,7 +105,7 @@ impl<L: LoaderName> Journal<L> {
         self.calls.add(share, 1);
     }
 
-    /// Adds the next cell, which has no end yet. It does not allocate.
+    /// Adds the next cell, which has no end yet.
     fn add_cell(&mut self, reader: Reader<Ending>)
         requires cell { reader.cell ≡ cell_of L.outcomes (length self.old.cells) }
         requires unknown { reader.known ≡ None }
@@ -117,7 +117,7 @@ impl<L: LoaderName> Journal<L> {
         self.states.push_reserved(CellState::new(reader));
     }
 
-    /// Adds the next cells, which have no end yet. It does not allocate.
+    /// Adds the next cells, which have no end yet.
     fn add_cells(&mut self, readers: Vec<Reader<Ending>>)
         requires blank { AreBlank L.outcomes (length self.old.cells) readers.items }
         requires room { length readers.items ≤ self.old.spare }
@@ -129,8 +129,8 @@ impl<L: LoaderName> Journal<L> {
         }
     }
 
-    /// Gives a cell its outcome, and tells whether the cell took it. It does not allocate.
-    pub fn end(&mut self, rows: &Rows<L>, cell: u32, ending: Box<Ending>) -> bool
+    /// Gives a cell its outcome, and tells whether the cell took it.
+    pub fn end(&mut self, rows: &CellRows<L>, cell: u32, ending: Box<Ending>) -> bool
         requires in_row { cell < L.service.rules.limits.max_cells }
         requires waits { slice_get self.old.cells cell ≡ Some waiting }
         ensures history { self.new.history ≡ self.old.history }
@@ -149,8 +149,8 @@ impl<L: LoaderName> Journal<L> {
         self.states[cell as usize].reader.again()
     }
 
-    /// Takes the journal apart, over the rows that its events and outcomes lie in. It does not allocate.
-    pub(crate) fn into_parts(self, rows: Rows<L>) -> (Events, Cells)
+    /// Takes the journal apart, over the rows that its events and outcomes lie in.
+    pub(crate) fn into_parts(self, rows: CellRows<L>) -> (Events, Cells)
         requires { length self.cells ≤ L.service.rules.limits.max_cells }
         ensures events { result.0 ≡ self.history }
         ensures cells { result.1 ≡ self.cells }

@@ -4,7 +4,7 @@
 //! A loader keeps its history in a [`Journal`] while it is open, and gives it to a [`History`] when it is closed.
 #![tactic(auto)]
 
-mod account;
+mod cell_rows;
 mod cell_state;
 mod cells;
 mod entry;
@@ -14,16 +14,16 @@ mod history;
 mod journal;
 pub mod laws;
 mod name;
-mod reply_lists;
-mod rows;
+mod outline;
+mod replies;
 
-pub use account::Account;
+pub use cell_rows::CellRows;
 pub use cell_state::{CellState, Mark};
-pub use entry::{Entry, EntryKind, Read, Told};
+pub use entry::{Entry, EntryKind, PlacedEvent, Read};
 pub use event::{Call, Ending, Event, Reply};
 pub use events::Events;
 pub use history::{Batches, EndedBatch, History};
 pub use journal::{AppendFault, Journal};
 pub use name::LoaderName;
-pub use reply_lists::{Jobs, Replies};
-pub use rows::Rows;
+pub use outline::Outline;
+pub use replies::{Jobs, Replies};

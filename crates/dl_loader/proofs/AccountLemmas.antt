@@ -3,12 +3,12 @@ use Rattle.std.proofs.Common.{◌≡◌, ℕ, ◌<◌, List, [], ◌∷◌, leng
 use Rattle.std.proofs.lemmas.List.{length-map}
 use Rattle.dl_values.specs.Limits.{AreLimits}
 use Rattle.dl_history.specs.declared.event.Event.{Event}
-use Rattle.dl_history.specs.Agrees.{Account, HasEach, NoneBehind, places_of, Fits}
-use Rattle.dl_history.specs.Closed.{IsClosed, closed, Outline, outline_of}
+use Rattle.dl_history.specs.Agreement.{Account, HasEach, NoneBehind, places_of, Fits}
+use Rattle.dl_history.specs.ClosedHistory.{IsHistory, history_of, Outline, outline_of}
 use Rattle.dl_history.specs.History.{IsLegal}
 use Rattle.dl_loader.specs.Closing.{account_of, accounts_of, TellWhole}
-use Rattle.dl_loader.specs.Book.{Locked, Keeps, kept_of}
-use Rattle.dl_loader.specs.Inside.Closes.{Closes, MayClose}
+use Rattle.dl_loader.specs.Book.{Book, Keeps, state_of}
+use Rattle.dl_loader.specs.Inside.CloseSteps.{Closes, MayClose}
 use Rattle.dl_history.specs.Journal.{Cell}
 use Rattle.dl_history.specs.Lists.{Every}
 use Rattle.dl_loader.specs.Pass.{Pass}
@@ -48,7 +48,7 @@ calls_count s es states [] parts same legal each fits whole =
     omega arith
 calls_count s es states (p ∷ passes) parts same legal each fits whole =
     let count = passes_count s.callers es states (p ∷ passes) each fits in
-    let long = length-map passes (λ (q : Pass). account_of q.part) in
+    let long = length-map passes (λ (q : Pass). account_of q.trace) in
     whole (omega arith) (omega arith)
 
 -- so together they tell the whole history
@@ -60,21 +60,21 @@ passes_tell s es states passes parts same legal each seen fits whole =
     record { each = each; seen = seen; calls = accounts_have s es states (accounts_of passes) legal each seen fits count }
 
 -- the history with the accounts of passes with which a loader may be closed is what every history is
-passes_closed : (s : Service) (b : Locked) (passes : List Pass) → AreLimits s.rules.limits → Keeps s b → AnswersEach s.answer
-    → MayClose s.callers b (accounts_of passes) → IsClosed s (closed b.history (accounts_of passes))
+passes_closed : (s : Service) (b : Book) (passes : List Pass) → AreLimits s.rules.limits → Keeps s b → AnswersEach s.answer
+    → MayClose s.callers b (accounts_of passes) → IsHistory s (history_of b.history (accounts_of passes))
 passes_closed s b passes limits kept answers may = record {
   limits = limits;
   legal = kept.legal;
   count = passes_count s.callers b.history b.cells passes may.whole.each may.fits;
   callers = every_callers s.callers b.history b.cells (accounts_of passes) may.fits;
   each = may.whole.each;
-  agree = accounts_agree s (kept_of b) (accounts_of passes) kept answers may.whole.seen may.shown may.ended may.fits may.whole.calls;
+  agree = accounts_agree s (state_of b) (accounts_of passes) kept answers may.whole.seen may.shown may.ended may.fits may.whole.calls;
   ended = may.ended;
 }
 
 -- so it is closed with what is kept of them
-pub passes_close : (s : Service) (b : Locked) (passes : List Pass) (outlines : List Outline) → AreLimits s.rules.limits → Keeps s b → AnswersEach s.answer
+pub passes_close : (s : Service) (b : Book) (passes : List Pass) (outlines : List Outline) → AreLimits s.rules.limits → Keeps s b → AnswersEach s.answer
     → MayClose s.callers b (accounts_of passes) → outlines ≡ map outline_of (accounts_of passes) → Closes s b.history (accounts_of passes) outlines
 passes_close s b passes outlines limits kept answers may are =
     let is = passes_closed s b passes limits kept answers may in
-    record { accounts_are = rw are (accounts_told b.history (accounts_of passes) is.agree); is_closed = is }
+    record { accounts_are = rw are (accounts_told b.history (accounts_of passes) is.agree); is_history = is }

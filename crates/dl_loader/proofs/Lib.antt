@@ -1,20 +1,20 @@
 pub mod PassLemmas
-mod Fresh
+mod FirstTraces
 pub mod Tickets
-pub mod HandedOut
-pub mod CellsGiven
-pub mod BegunCells
+pub mod NewTickets
+pub mod LoadCells
+pub mod NewCells
 pub mod NextEvent
-pub mod EndedCells
-pub mod GivenDues
-pub mod PreparedCalls
+pub mod CellEnds
+pub mod DueLemmas
+pub mod Preparations
 pub mod RecordedEvent
-mod Called
-pub mod AddedLemmas
-pub mod StillGiven
-pub mod TicketsKept
+mod CallKnowledge
+pub mod AdditionLemmas
+pub mod TicketsAfterReads
+pub mod TicketsStay
 mod AccountLemmas
-mod ClosingLemmas
+mod CloseLemmas
 mod Sources
-pub mod Crossing
-pub mod Captured
+pub mod ThreadSafety
+pub mod Closures

@@ -6,8 +6,8 @@ use Rattle.dl_loader.specs.declared.fault.CallFault.{CallFault}
 use Rattle.dl_loader.specs.declared.fault.CallFault.TheVariants.{Stopped, Behind, LogFull}
 use Rattle.dl_history.specs.Service.{Service}
 use Rattle.dl_history.specs.Entries.{front_of}
-use Rattle.dl_loader.specs.Book.{Locked, Keeps, kept_of}
-use Rattle.dl_loader.specs.Pass.{Part}
+use Rattle.dl_loader.specs.Book.{Book, Keeps, state_of}
+use Rattle.dl_loader.specs.Pass.{Trace}
 use Rattle.dl_loader.specs.Refusals.{unready}
 use Rattle.std.specs.List.{repeat}
 use Rattle.dl_values.specs.Limits.{Rules}
@@ -18,12 +18,12 @@ use Rattle.dl_desk.specs.BatchBook.{BatchBook, StandsFor}
 use Rattle.dl_history.specs.declared.event.Event.{Event}
 use Rattle.dl_history.specs.declared.event.Call.{Call}
 use Rattle.dl_history.specs.declared.event.Reply.{Reply}
-use Rattle.dl_history.specs.History.{log, call_of, reply_to, MayBeMade, IsNext, ending_of}
+use Rattle.dl_history.specs.History.{past, call_of, reply_to, MayBeMade, IsNext, ending_of}
 use Rattle.dl_history.specs.Journal.{Cell, Journal, waiting}
-use Rattle.dl_history.specs.Kept.{Kept, kept, IsKept, ShowsEnd}
-use Rattle.dl_history.proofs.Logs.{atoms_next, legal_more}
-use Rattle.dl_loader.specs.Inside.Recorded.{Recorded}
-use Rattle.dl_loader.specs.Inside.Prepared.{Steps}
+use Rattle.dl_history.specs.LoaderState.{LoaderState, loader_state, IsLoaderState, ShowsEnd}
+use Rattle.dl_history.proofs.Pasts.{atoms_next, legal_more}
+use Rattle.dl_loader.specs.Inside.Record.{Recorded}
+use Rattle.dl_loader.specs.Inside.Preparation.{Steps}
 
 -- ---- a pass that may make an event
 
@@ -35,7 +35,7 @@ ready_at limit front len false false true b f none = absurd (let bad : ◌≡◌
 ready_at limit front len false false false b f none = (ltb-false len front b, leb-false limit len f)
 
 -- a pass that may make an event has seen no more than there is, and the history has room
-pub ready_facts : (s : Service) (b : Locked) (p : Part) → unready s b p ≡ None
+pub ready_facts : (s : Service) (b : Book) (p : Trace) → unready s b p ≡ None
     → (front_of p.entries ≤ length b.history) × (length b.history < s.rules.limits.max_calls)
 ready_facts s b p none =
     ready_at s.rules.limits.max_calls (front_of p.entries) (length b.history) b.stopped (nat_lt (length b.history) (front_of p.entries))
@@ -44,17 +44,17 @@ ready_facts s b p none =
 -- ---- an event more
 
 -- A caller may make an event in a book as it is seen, which keeps what it keeps and has room for the event.
-pub record MayCall (s : Service) (seen : Kept) (caller : ℕ) : Type 0 where
-  pub kept : IsKept s seen
+pub record MayCall (s : Service) (seen : LoaderState) (caller : ℕ) : Type 0 where
+  pub kept : IsLoaderState s seen
   pub room : length seen.history < s.rules.limits.max_calls
   pub below : caller < s.callers
 
 -- so may the caller of a pass that is ready
-pub may_call : {s : Service} {view b : Locked} {caller : ℕ} (p : Part) → view ≡ b → Keeps s view → unready s b p ≡ None → caller ≡ p.caller
-    → p.caller < s.callers → MayCall s (kept_of view) caller
+pub may_call : {s : Service} {view b : Book} {caller : ℕ} (p : Trace) → view ≡ b → Keeps s view → unready s b p ≡ None → caller ≡ p.caller
+    → p.caller < s.callers → MayCall s (state_of view) caller
 may_call {s} {view} p is keeps ready own below = record {
   kept = keeps;
-  room = (ready_facts s view p (subst (λ (x : Locked). unready s x p ≡ None) (sym is) ready)).1;
+  room = (ready_facts s view p (subst (λ (x : Book). unready s x p ≡ None) (sym is) ready)).1;
   below = omega arith;
 }
 
@@ -62,40 +62,40 @@ abbrev pub event : ℕ → Call → Reply → Event
 event caller call reply = record { caller = caller; call = call; reply = reply }
 
 -- The event is in the history of the book that was seen, with as many cells more as it began, which wait.
-pub record Gained (seen : Kept) (e : Event) (n : ℕ) (now : List Event) (ys : List Cell) : Type 0 where
+pub record Gained (seen : LoaderState) (e : Event) (n : ℕ) (now : List Event) (ys : List Cell) : Type 0 where
   pub history : now ≡ seen.history ++ e ∷ []
   pub cells : ys ≡ seen.cells ++ repeat n (waiting ∷ [])
 
 -- so it is once its journal has recorded it
-pub gained : {before now : Journal} {desk : BatchBook} {old new : Part} {e : Event} {n : ℕ} → Recorded before now old new e n
-    → Gained (kept before.history desk before.cells) e n now.history now.cells
+pub gained : {before now : Journal} {desk : BatchBook} {old new : Trace} {e : Event} {n : ℕ} → Recorded before now old new e n
+    → Gained (loader_state before.history desk before.cells) e n now.history now.cells
 gained recorded = record { history = recorded.history; cells = recorded.cells }
 
 -- ---- one that may stand next
 
 -- An event that may stand next in a book, which keeps what it keeps and has room for it.
-pub record MayStand (s : Service) (seen : Kept) (e : Event) : Type 0 where
-  pub kept : IsKept s seen
+pub record MayStand (s : Service) (seen : LoaderState) (e : Event) : Type 0 where
+  pub kept : IsLoaderState s seen
   pub room : length seen.history < s.rules.limits.max_calls
   pub next : IsNext s seen.history e
 
 -- so does a call that a caller may make, with its reply
-pub may_stand : {s : Service} {seen : Kept} (e : Event) → MayCall s seen e.caller → e.reply ≡ reply_to s.rules (atoms (log seen.history)) e.call
-    → MayBeMade s.answer (atoms (log seen.history)) e.call → MayStand s seen e
+pub may_stand : {s : Service} {seen : LoaderState} (e : Event) → MayCall s seen e.caller → e.reply ≡ reply_to s.rules (atoms (past seen.history)) e.call
+    → MayBeMade s.answer (atoms (past seen.history)) e.call → MayStand s seen e
 may_stand e may reply made = record { kept = may.kept; room = may.room; next = record { caller = may.below; reply = reply; made = made } }
 
 -- the book with the event
-abbrev pub grown : Kept → Event → BatchBook → List Cell → Kept
-grown seen e new ys = kept (seen.history ++ e ∷ []) new ys
+abbrev pub grown : LoaderState → Event → BatchBook → List Cell → LoaderState
+grown seen e new ys = loader_state (seen.history ++ e ∷ []) new ys
 
 -- the cells that were begun are those that the history tells
-pub begun_cells : {s : Service} {seen : Kept} → IsKept s seen → length seen.cells ≡ cells (atoms (log seen.history))
+pub begun_cells : {s : Service} {seen : LoaderState} → IsLoaderState s seen → length seen.cells ≡ cells (atoms (past seen.history))
 begun_cells keeps = keeps.all_cells ∙ keeps.desk.cells
 
 -- what the book keeps, where each cell shows the end that it has after one event more
-pub keeps_more : {s : Service} {seen : Kept} {e : Event} {new : BatchBook} {ys : List Cell} → MayStand s seen e → Steps seen.desk new (call_of e.call)
+pub keeps_more : {s : Service} {seen : LoaderState} {e : Event} {new : BatchBook} {ys : List Cell} → MayStand s seen e → Steps seen.desk new (call_of e.call)
     → length ys ≡ new.cells → new.cells ≤ s.rules.limits.max_cells
-    → ((c : ℕ) (x : Cell) → slice_get ys c ≡ Some x → ShowsEnd (ending_of (seen.history ++ e ∷ []) c) x.mark x.shows) → IsKept s (grown seen e new ys)
+    → ((c : ℕ) (x : Cell) → slice_get ys c ≡ Some x → ShowsEnd (ending_of (seen.history ++ e ∷ []) c) x.mark x.shows) → IsLoaderState s (grown seen e new ys)
 keeps_more {s} {seen} {e} {new} g step all fit ends = record {
   legal = legal_more s seen.history e g.kept.legal g.next;
   calls_fit =
@@ -104,7 +104,7 @@ keeps_more {s} {seen} {e} {new} g step all fit ends = record {
       omega arith;
   rules = step.rules ∙ g.kept.rules;
   desk =
-      let H = atoms (log seen.history) in
+      let H = atoms (past seen.history) in
       let stands = subst (λ (r : Rules). StandsFor new (after r H (call_of e.call))) g.kept.rules (step.stands H g.kept.desk) in
       subst (StandsFor new) (sym (atoms_next s seen.history e g.next)) stands;
   all_cells = all;

@@ -5,9 +5,7 @@ use Rattle.std.specs.List.{repeat}
 use Rattle.std.specs.Option.{option_or}
 use Rattle.std.proofs.lemmas.Bool.{cases_eq}
 use Rattle.std.proofs.lemmas.List.{length-map}
-use Rattle.dl_values.specs.Key.{Key}
 use Rattle.dl_values.specs.Limits.{Rules}
-use Rattle.dl_values.specs.declared.job.Job.{Job}
 use Rattle.dl_desk.specs.History.{cells}
 use Rattle.dl_desk.specs.Events.{atoms}
 use Rattle.dl_desk.specs.Calls.{after}
@@ -15,27 +13,25 @@ use Rattle.dl_desk.specs.BatchBook.{BatchBook, StandsFor}
 use Rattle.dl_desk.specs.declared.fault.DeskFault.{DeskFault}
 use Rattle.dl_history.specs.declared.event.Event.{Event}
 use Rattle.dl_history.specs.declared.event.Call.{Call}
-use Rattle.dl_history.specs.declared.event.Reply.{Reply}
-use Rattle.dl_values.specs.declared.outcome.BatchAnswer.{BatchAnswer}
 use Rattle.dl_history.specs.Service.{Service}
-use Rattle.dl_history.specs.History.{log, call_of, reply_to, ending_of}
+use Rattle.dl_history.specs.History.{past, call_of, reply_to, ending_of}
 use Rattle.dl_history.specs.Journal.{Cell, waiting, is_refused, refusals}
-use Rattle.dl_history.specs.Kept.{Kept, kept, IsKept, ShowsEnd}
+use Rattle.dl_history.specs.LoaderState.{LoaderState, loader_state, IsLoaderState, ShowsEnd}
 use Rattle.dl_history.proofs.Endings.{none_unbegun}
 use Rattle.dl_history.proofs.CellLists.{get-append_cases, get-repeat, length-repeat_one, waiting_shows, shows_same}
-use Rattle.dl_loader.specs.declared.due_endings.Due.{Due}
+use Rattle.dl_loader.specs.declared.dues.Due.{Due}
 use Rattle.dl_loader.specs.declared.fault.CallFault.{CallFault}
-use Rattle.dl_loader.specs.Inside.Begun.{begun_in}
+use Rattle.dl_loader.specs.Inside.NewCells.{begun_in}
 use Rattle.dl_loader.specs.Inside.Dues.{AreDue, AreGiven, CanEnd}
-use Rattle.dl_loader.specs.Book.{Locked, Keeps, kept_of}
-use Rattle.dl_loader.specs.Inside.Prepared.{IsPrepared, Steps}
-use Rattle.dl_loader.specs.Pass.{Part}
+use Rattle.dl_loader.specs.Book.{Book, Keeps, state_of}
+use Rattle.dl_loader.specs.Inside.Preparation.{AskedCall, PreparedEvent, IsPrepared, Steps}
+use Rattle.dl_loader.specs.Pass.{Trace}
 use Rattle.dl_loader.specs.Refusals.{call_fault, cause, unready}
-use Rattle.dl_loader.proofs.GivenDues.{get_mapped, unmapped}
+use Rattle.dl_loader.proofs.DueLemmas.{get_mapped, unmapped}
 use Rattle.std.proofs.lemmas.List.Sums.{sum_by-append, sum_by-cons}
 use Rattle.dl_loader.proofs.NextEvent.{Gained, MayStand, begun_cells, event, keeps_more, may_call, may_stand}
-use Rattle.dl_loader.proofs.BegunCells.{begun_by_reply, reply_fits}
-use Rattle.dl_loader.proofs.EndedCells.{ended_in, ending, gives_ends, cells_can, cells_few}
+use Rattle.dl_loader.proofs.NewCells.{begun_by_reply, reply_fits}
+use Rattle.dl_loader.proofs.CellEnds.{ended_in, ending, gives_ends, cells_can, cells_few}
 use Rattle.dl_desk.specs.Calls as desk
 
 -- ---- what a cell shows
@@ -61,7 +57,7 @@ due_or_none (x ∷ dues) c = by (cases_eq x.cell c) (due_or_none dues c)
         not (suc j) d got is = none j d got is
 
 -- a cell shows the end that it has after the event
-shows : {s : Service} {seen : Kept} {e : Event} {dues : List Due} {mids ys : List Cell} (c : ℕ) (x : Cell) → MayStand s seen e
+shows : {s : Service} {seen : LoaderState} {e : Event} {dues : List Due} {mids ys : List Cell} (c : ℕ) (x : Cell) → MayStand s seen e
     → AreDue e.call (length seen.history) (ended_in seen e) dues → mids ≡ seen.cells ++ repeat (begun_in e.reply) (waiting ∷ []) → AreGiven dues mids ys
     → slice_get ys c ≡ Some x → ShowsEnd (ending_of (seen.history ++ e ∷ []) c) x.mark x.shows
 shows {s} {seen} {e} {dues} {mids} {ys} c x g due more given got = by (due_or_none dues c)
@@ -80,8 +76,8 @@ shows {s} {seen} {e} {dues} {mids} {ys} c x g due more given got = by (due_or_no
         or stays (inl old) = shows_same (ending_of seen.history c) (ending_of (seen.history ++ e ∷ []) c) x stays (g.kept.ends c x old.1)
         or stays (inr new) =
             let begun = begun_cells g.kept in
-            let past = new.0 in
-            let high : cells (atoms (log seen.history)) ≤ c = omega arith in
+            let beyond = new.0 in
+            let high : cells (atoms (past seen.history)) ≤ c = omega arith in
             waiting_shows (ending_of (seen.history ++ e ∷ []) c) x (stays ∙ none_unbegun s seen.history c g.kept.legal high)
             (get-repeat (begun_in e.reply) waiting x (c - length seen.cells) new.1)
 
@@ -97,11 +93,11 @@ shows {s} {seen} {e} {dues} {mids} {ys} c x g due more given got = by (due_or_no
     by (inr none) = at_last none (get-append_cases seen.cells (repeat (begun_in e.reply) (waiting ∷ [])) c x (rw more at (sym (given.others c none) ∙ got)))
 
 -- A book still keeps what it keeps after an event, with a cell that waits for each that it began, once its dues are given.
-pub event_kept : {s : Service} {seen : Kept} {e : Event} {dues : List Due} {now : List Event} {new : BatchBook} {mids ys : List Cell} → MayStand s seen e
-    → desk.refusal s.rules (atoms (log seen.history)) (call_of e.call) ≡ None → AreDue e.call (length seen.history) (ended_in seen e) dues
-    → Gained seen e (begun_in e.reply) now mids → AreGiven dues mids ys → Steps seen.desk new (call_of e.call) → IsKept s (kept now new ys)
+pub event_kept : {s : Service} {seen : LoaderState} {e : Event} {dues : List Due} {now : List Event} {new : BatchBook} {mids ys : List Cell} → MayStand s seen e
+    → desk.refusal s.rules (atoms (past seen.history)) (call_of e.call) ≡ None → AreDue e.call (length seen.history) (ended_in seen e) dues
+    → Gained seen e (begun_in e.reply) now mids → AreGiven dues mids ys → Steps seen.desk new (call_of e.call) → IsLoaderState s (loader_state now new ys)
 event_kept {s} {seen} {e} {dues} {now} {new} {mids} {ys} g none due gained given step =
-    let H = atoms (log seen.history) in
+    let H = atoms (past seen.history) in
     let stands : StandsFor new (after s.rules H (call_of e.call)) =
     subst (λ (r : Rules). StandsFor new (after r H (call_of e.call))) g.kept.rules (step.stands H g.kept.desk) in
     let by_reply = begun_by_reply s.rules H e.call seen.desk new g.kept.desk stands in
@@ -113,15 +109,15 @@ event_kept {s} {seen} {e} {dues} {now} {new} {mids} {ys} g none due gained given
     let long : length mids ≡ length seen.cells + length waits = ap length gained.cells ∙ length-append seen.cells waits in
     let as_many : length waits ≡ begun_in e.reply = length-repeat_one (begun_in e.reply) waiting in
     let same = given.long in
-    let all : IsKept s (kept (seen.history ++ e ∷ []) new ys) = keeps_more g step (omega arith) (omega arith) (λ c x got. shows c x g due gained.cells given got) in
-    subst (λ (es : List Event). IsKept s (kept es new ys)) (sym gained.history) all
+    let all : IsLoaderState s (loader_state (seen.history ++ e ∷ []) new ys) = keeps_more g step (omega arith) (omega arith) (λ c x got. shows c x g due gained.cells given got) in
+    subst (λ (es : List Event). IsLoaderState s (loader_state es new ys)) (sym gained.history) all
 
 -- ---- a call that is prepared
 
 -- An event that may stand next in a book, whose desk has accepted its call, and the dues of the cells that it ends.
-pub record IsNextIn (s : Service) (seen : Kept) (e : Event) (dues : List Due) : Type 0 where
+pub record IsNextIn (s : Service) (seen : LoaderState) (e : Event) (dues : List Due) : Type 0 where
   pub stands : MayStand s seen e
-  pub accepted : desk.refusal s.rules (atoms (log seen.history)) (call_of e.call) ≡ None
+  pub accepted : desk.refusal s.rules (atoms (past seen.history)) (call_of e.call) ≡ None
   pub due : AreDue e.call (length seen.history) (ended_in seen e) dues
 
 uncaused : (x : Option DeskFault) (y : Option CallFault) → option_or (option_map call_fault x) y ≡ None → x ≡ None
@@ -129,36 +125,36 @@ uncaused None y none = refl
 uncaused (Some fault) y none = absurd (let bad : ◌≡◌ {A = Option CallFault} (Some (call_fault fault)) None = none in cc)
 
 -- so does the event of a call that is prepared, with a copy of it, where the pass may make one
-pub next_in : {s : Service} {view b : Locked} {caller at : ℕ} {copy call : Call} {job : Option Job} {brings : (List Key → BatchAnswer) → Type 0}
-    {reply : Reply} {dues : List Due} (p : Part) → view ≡ b → Keeps s view → unready s b p ≡ None → caller ≡ p.caller → p.caller < s.callers → copy ≡ call
-    → at ≡ length view.history → brings s.answer → IsPrepared view.desk call job brings at reply dues → IsNextIn s (kept_of view) (event caller copy reply) dues
-next_in {s} {view} {b} {caller} {at} {copy} {call} {job} {reply = reply} {dues = dues} p is keeps ready own below same place answers prepared =
-    let H = atoms (log view.history) in
+pub next_in : {s : Service} {view b : Book} {asked : AskedCall} {made : PreparedEvent} {caller : ℕ} {copy : Call} (p : Trace) → view ≡ b
+    → IsPrepared view.desk asked made → Keeps s view → unready s b p ≡ None → caller ≡ p.caller → p.caller < s.callers → copy ≡ asked.call
+    → made.at ≡ length view.history → asked.brings s.answer → IsNextIn s (state_of view) (event caller copy made.reply) made.dues
+next_in {s} {view} {b} {asked} {made} {caller} {copy} p is prepared keeps ready own below same place answers =
+    let H = atoms (past view.history) in
     let may = may_call p is keeps ready own below in
-    let none = subst (λ (r : Rules). cause r H call job ≡ None) keeps.rules (prepared.accepted H keeps.desk) in
-    let replies = subst (λ (r : Rules). reply ≡ reply_to r H call) keeps.rules (prepared.replies H keeps.desk) in
+    let none = subst (λ (r : Rules). cause r H asked.call asked.job ≡ None) keeps.rules (prepared.accepted H keeps.desk) in
+    let replies = subst (λ (r : Rules). made.reply ≡ reply_to r H asked.call) keeps.rules (prepared.replies H keeps.desk) in
     rw same (record {
-      stands = may_stand (event caller call reply) may replies (prepared.may s.answer answers H keeps.desk);
-      accepted = uncaused (desk.refusal s.rules H (call_of call)) _ none;
+      stands = may_stand (event caller asked.call made.reply) may replies (prepared.may s.answer answers H keeps.desk);
+      accepted = uncaused (desk.refusal s.rules H (call_of asked.call)) _ none;
       due = let gives = prepared.gives H keeps.desk in rw place at gives;
     })
 
 -- there is room for the cells that it begins
-pub next_fits : {s : Service} {seen : Kept} {e : Event} {dues : List Due} → IsNextIn s seen e dues
+pub next_fits : {s : Service} {seen : LoaderState} {e : Event} {dues : List Due} → IsNextIn s seen e dues
     → length seen.cells + begun_in e.reply ≤ s.rules.limits.max_cells
 next_fits {s} {seen} {e} n =
-    let H = atoms (log seen.history) in
+    let H = atoms (past seen.history) in
     let k = n.stands.kept in
     let by_limit = reply_fits s.rules H e.call seen.desk k.desk n.accepted k.cells_fit in
     let fit = rw (← n.stands.next.reply) at by_limit in
     let all = k.all_cells in
     omega arith
 
-pub next_begun : {s : Service} {seen : Kept} {e : Event} {dues : List Due} → IsNextIn s seen e dues → begun_in e.reply ≤ s.rules.limits.max_cells
+pub next_begun : {s : Service} {seen : LoaderState} {e : Event} {dues : List Due} → IsNextIn s seen e dues → begun_in e.reply ≤ s.rules.limits.max_cells
 next_begun n = let fit = next_fits n in omega arith
 
 -- once they are begun
-pub next_cells : {s : Service} {seen : Kept} {e : Event} {dues : List Due} {now : List Event} {mids : List Cell} → IsNextIn s seen e dues
+pub next_cells : {s : Service} {seen : LoaderState} {e : Event} {dues : List Due} {now : List Event} {mids : List Cell} → IsNextIn s seen e dues
     → Gained seen e (begun_in e.reply) now mids → length mids ≤ s.rules.limits.max_cells
 next_cells {seen = seen} {e = e} {mids = mids} n gained =
     let fit = next_fits n in
@@ -167,18 +163,18 @@ next_cells {seen = seen} {e = e} {mids = mids} n gained =
     let as_many : length waits ≡ begun_in e.reply = length-repeat_one (begun_in e.reply) waiting in
     omega arith
 
-pub next_can : {s : Service} {seen : Kept} {e : Event} {dues : List Due} {now : List Event} {mids : List Cell} → IsNextIn s seen e dues
+pub next_can : {s : Service} {seen : LoaderState} {e : Event} {dues : List Due} {now : List Event} {mids : List Cell} → IsNextIn s seen e dues
     → Gained seen e (begun_in e.reply) now mids → CanEnd (map (λ d. d.cell) dues) mids
 next_can {mids = mids} n gained = subst (λ (cs : List ℕ). CanEnd cs mids) (sym n.due.cells_are) (cells_can n.stands gained.cells)
 
-pub next_few : {s : Service} {seen : Kept} {e : Event} {dues : List Due} → IsNextIn s seen e dues → length dues ≤ s.rules.limits.max_cells
+pub next_few : {s : Service} {seen : LoaderState} {e : Event} {dues : List Due} → IsNextIn s seen e dues → length dues ≤ s.rules.limits.max_cells
 next_few {s} {seen} {e} {dues} n =
     let few = cells_few n.stands (next_begun n) in
     let long : length dues ≡ length (ended_in seen e) = sym (length-map dues (λ (d : Due). d.cell)) ∙ ap length n.due.cells_are in
     omega arith
 
-pub next_kept : {s : Service} {seen : Kept} {e : Event} {dues : List Due} {now : List Event} {new : BatchBook} {mids ys : List Cell} → IsNextIn s seen e dues
-    → Gained seen e (begun_in e.reply) now mids → AreGiven dues mids ys → Steps seen.desk new (call_of e.call) → IsKept s (kept now new ys)
+pub next_kept : {s : Service} {seen : LoaderState} {e : Event} {dues : List Due} {now : List Event} {new : BatchBook} {mids ys : List Cell} → IsNextIn s seen e dues
+    → Gained seen e (begun_in e.reply) now mids → AreGiven dues mids ys → Steps seen.desk new (call_of e.call) → IsLoaderState s (loader_state now new ys)
 next_kept n gained given step = event_kept n.stands n.accepted n.due gained given step
 
 -- ---- refusals

@@ -6,9 +6,9 @@ use Rattle.dl_loader.specs.declared.reply.PrimeReply.{PrimeReply}
 use Rattle.dl_loader.specs.declared.reply.PrimeReply.TheVariants as prime
 
 -- the reply that the history tells of a prime
-abbrev pub told_by : PrimeReply → Reply
-told_by (prime.Primed cell shown) = Primed cell
-told_by prime.Kept = Kept
+abbrev pub reply_by : PrimeReply → Reply
+reply_by (prime.Primed cell shown) = Primed cell
+reply_by prime.Kept = Kept
 
 -- how many cells refused the outcome of a prime
 abbrev pub refused_by : PrimeReply → ℕ

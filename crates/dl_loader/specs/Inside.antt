@@ -1,7 +1,8 @@
 -- The words of private functions, which no public clause reaches.
-pub mod Begun
+pub mod NewCells
 pub mod Dues
-pub mod Prepared
-pub mod Recorded
-pub mod Closes
+pub mod PassFields
+pub mod Preparation
+pub mod Record
+pub mod CloseSteps
 pub mod Codes

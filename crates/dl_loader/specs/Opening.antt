@@ -10,7 +10,7 @@ use Rattle.dl_loader.specs.declared.fault.StartFault.TheVariants.{NoCallers, Too
 
 -- what contracts see of an opening: its source, how batches will be made, how many callers there will be,
 -- the loader's two rows, and the name of the ledger that counts its events
-pub record Unstarted (S : Type 0) : Type 0 where
+pub record Opening (S : Type 0) : Type 0 where
   pub source : S
   pub rules : Rules
   pub callers : ℕ
@@ -27,12 +27,21 @@ pub record AreCallers (callers : ℕ) : Type 0 where
   pub least : 1 ≤ callers
   pub most : callers ≤ most_callers
 
+-- the fields of an opening, beside its source: its limits, how many callers there will be, the parts of the ledger, and the
+-- loader's two rows
+pub record OpeningFields : Type 0 where
+  pub limits : Limits
+  pub callers : ℕ
+  pub parts : ℕ
+  pub log : RowName
+  pub outcomes : RowName
+
 -- the rows have room for all calls and cells, and each caller has a part of the ledger
-pub record IsOpening (limits : Limits) (callers parts : ℕ) (log outcomes : RowName) : Type 0 where
-  pub parts_are : parts ≡ callers
-  pub callers_are : AreCallers callers
-  pub calls_fit : row_len log ≡ limits.max_calls
-  pub cells_fit : row_len outcomes ≡ limits.max_cells
+pub record IsOpening (fields : OpeningFields) : Type 0 where
+  pub parts_are : fields.parts ≡ fields.callers
+  pub callers_are : AreCallers fields.callers
+  pub calls_fit : row_len fields.log ≡ fields.limits.max_calls
+  pub cells_fit : row_len fields.outcomes ≡ fields.limits.max_cells
 
 -- the fault names the first cause why there can't be so many callers
 abbrev pub RefusedAs : ℕ → StartFault → Type 0
@@ -41,19 +50,20 @@ RefusedAs callers TooManyCallers = most_callers < callers
 RefusedAs callers OutOfMemory = AreCallers callers
 
 -- what the loader of an opening will serve by, where sources answer so
-abbrev pub service_of : {S : Type 0} → (S → List Key → BatchAnswer) → Unstarted S → Service
+abbrev pub service_of : {S : Type 0} → (S → List Key → BatchAnswer) → Opening S → Service
 service_of answer opening = service opening.rules opening.callers (answer opening.source)
 
--- A type's name stands for the loader of the opening: what it serves by, its rows, and the ledger that counts its events.
-pub record Names {S : Type 0} (answer : S → List Key
-    → BatchAnswer) (opening : Unstarted S) (own : Service) (parts : ℕ) (log outcomes : RowName) (ledger : ℕ) : Type 0 where
-  pub rules : opening.rules ≡ own.rules
-  pub callers : opening.callers ≡ own.callers
-  pub answers : Answers (answer opening.source) own
-  pub parts_are : opening.callers ≡ parts
-  pub log_is : opening.log ≡ log
-  pub outcomes_are : opening.outcomes ≡ outcomes
-  pub ledger_is : opening.ledger ≡ ledger
+-- The loader that a type stands for is the one of the opening: what the type says of it is what it serves by, the number of the
+-- ledger's parts, its two rows, and the ledger.
+pub record Names {S : Type 0} (answer : S → List Key → BatchAnswer) (opening : Opening S) (own : Service) (parts : ℕ) (log outcomes : RowName) (ledger : ℕ) : Type 0
+  where
+    pub rules : opening.rules ≡ own.rules
+    pub callers : opening.callers ≡ own.callers
+    pub answers : Answers (answer opening.source) own
+    pub parts_are : opening.callers ≡ parts
+    pub log_is : opening.log ≡ log
+    pub outcomes_are : opening.outcomes ≡ outcomes
+    pub ledger_is : opening.ledger ≡ ledger
 
 -- what holds of the fields of a loader: it has its number of callers, each with a part of the ledger, and its source
 -- answers each key

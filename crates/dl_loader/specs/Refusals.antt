@@ -11,10 +11,10 @@ use Rattle.dl_desk.specs.declared.fault.DeskFault.{DeskFault}
 use Rattle.dl_desk.specs.declared.fault.DeskFault.TheVariants as desk_fault
 use Rattle.dl_values.specs.declared.job.Job.{Job}
 use Rattle.dl_history.specs.Service.{Service}
-use Rattle.dl_history.specs.History.{log, keys_of, call_of}
+use Rattle.dl_history.specs.History.{past, keys_of, call_of}
 use Rattle.dl_history.specs.Entries.{front_of}
-use Rattle.dl_loader.specs.Pass.{Part}
-use Rattle.dl_loader.specs.Book.{Locked}
+use Rattle.dl_loader.specs.Pass.{Trace}
+use Rattle.dl_loader.specs.Book.{Book}
 use Rattle.dl_history.specs.declared.event.Call.{Call}
 use Rattle.dl_history.specs.declared.journal.append.AppendFault.{AppendFault}
 use Rattle.dl_history.specs.declared.journal.append.AppendFault.TheVariants as append
@@ -37,7 +37,7 @@ append_fault append.LogRefused = LogRefused
 
 -- Why a pass may make no event at all: the loader is stopped, the pass has seen more events than there are, or
 -- the history is full.
-abbrev pub unready : Service → Locked → Part → Option CallFault
+abbrev pub unready : Service → Book → Trace → Option CallFault
 unready service b p =
     if b.stopped then Some Stopped
     else if nat_lt (length b.history) (front_of p.entries) then Some (Behind (front_of p.entries) (length b.history))
@@ -57,12 +57,12 @@ wrong_keys history (Some job) = if same_keys job.keys (keys_of history job.batch
 abbrev pub cause : Rules → List Atom → Call → Option Job → Option CallFault
 cause rules history call job = option_or (option_map call_fault (desk.refusal rules history (call_of call))) (wrong_keys history job)
 
--- The refusal of a call, perhaps with a job that it ends: the first cause that applies, but for want of memory
+-- The refusal of a call, perhaps with a job that it ends: the first cause that applies, unless memory ran out
 -- and a log that refuses.
-abbrev pub refusal : Service → Locked → Part → Call → Option Job → Option CallFault
-refusal service b p call job = option_or (unready service b p) (cause service.rules (atoms (log b.history)) call job)
+abbrev pub refusal : Service → Book → Trace → Call → Option Job → Option CallFault
+refusal service b p call job = option_or (unready service b p) (cause service.rules (atoms (past b.history)) call job)
 
--- The call is refused so: for its cause, for want of memory, or, where it has no cause, because the log refused its event.
-abbrev pub IsRefusal : Service → Locked → Part → Call → Option Job → CallFault → Type 0
+-- The call is refused so: for its cause, because memory ran out, or, where it has no cause, because the log refused its event.
+abbrev pub IsRefusal : Service → Book → Trace → Call → Option Job → CallFault → Type 0
 IsRefusal service b p call job fault =
     (fault ≡ OutOfMemory) ⊎ ((fault ≡ LogRefused) × (refusal service b p call job ≡ None)) ⊎ (refusal service b p call job ≡ Some fault)

@@ -2,7 +2,7 @@
 
 ghost use Rattle.std.specs.Prelude.{◌≡◌, ◌<◌, ◌≤◌, [], false, true, IfErr, None, OnOk, Some, length};
 ghost use Rattle.dl_values.specs.Limits.{mixed};
-ghost use Rattle.dl_loader.specs.Book.{Keeps, locked};
+ghost use Rattle.dl_loader.specs.Book.{Keeps, book};
 ghost use Rattle.dl_history.specs.Entries.{cell_of_load, front_of};
 ghost use Rattle.dl_loader.specs.Refusals.{unready};
 
@@ -13,7 +13,7 @@ use crate::fault::CallFault;
 use crate::pass::Pass;
 use crate::ticket::{Ticket, load_cell};
 use dl_desk::{Desk, Limits, LoadReply};
-use dl_history::{Journal, LoaderName, Rows};
+use dl_history::{CellRows, Journal, LoaderName};
 use std::alloc::Global;
 use std::hash::RandomState;
 use std::marker::Model;
@@ -34,19 +34,19 @@ impl<L: LoaderName> Model for Book<L> {
     ghost use Rattle.std.specs.Coded.{codes};
     ghost use Rattle.dl_history.specs.contracts.event.Event as event;
     ghost use Rattle.dl_history.specs.contracts.event.Ending as ending;
-    ghost use Rattle.dl_loader.specs.Book.{Locked, locked, Keeps};
+    ghost use Rattle.dl_loader.specs.Book.{Book, book, Keeps};
 
-    ghost Value = { Locked };
+    ghost Value = { Book };
 
     ghost coded = { Prim.hlevel (codes, event.the_row.coded, ending.the_row.coded) };
 
-    ghost view = { λ b. locked b.journal.history b.desk.book b.journal.cells b.stopped };
+    ghost view = { λ b. book b.journal.history b.desk.book b.journal.cells b.stopped };
 
-    ghost invariant = { λ b. Keeps L.service (locked b.journal.history b.desk.book b.journal.cells b.stopped) };
+    ghost invariant = { λ b. Keeps L.service (book b.journal.history b.desk.book b.journal.cells b.stopped) };
 }
 
 impl<L: LoaderName> Book<L> {
-    /// The book of a loader that had no call. It does not allocate.
+    /// The book of a loader that had no call.
     pub(crate) fn new(
         alloc: Global,
         hashing: RandomState,
@@ -67,10 +67,10 @@ impl<L: LoaderName> Book<L> {
 
     /// Whether a pass may make an event now. The error is the first of these causes that applies: `Stopped`, `Behind`,
     /// `LogFull`.
-    fn admit(&self, rows: &Rows<L>, pass: &Pass<L>) -> Result<(), CallFault>
-        ensures ok { OnOk result (unready L.service self.now pass.now.part ≡ None) }
-        ensures fault { IfErr result (λ fault. unready L.service self.now pass.now.part ≡ Some fault) }
-        ensures after { OnOk result (front_of pass.now.part.entries ≤ length self.now.history) }
+    fn admit(&self, rows: &CellRows<L>, pass: &Pass<L>) -> Result<(), CallFault>
+        ensures ok { OnOk result (unready L.service self.now pass.now.trace ≡ None) }
+        ensures fault { IfErr result (λ fault. unready L.service self.now pass.now.trace ≡ Some fault) }
+        ensures after { OnOk result (front_of pass.now.trace.entries ≤ length self.now.history) }
         ensures room { OnOk result (length self.now.history < L.service.rules.limits.max_calls) }
     {
         if self.stopped {
@@ -91,10 +91,10 @@ impl<L: LoaderName> Book<L> {
         Ok(())
     }
 
-    /// A ticket of this number for a load that was replied so. It does not allocate.
+    /// A ticket of this number for a load that was replied so.
     pub(crate) fn ticket<'a>(
         &self,
-        rows: &'a Rows<L>,
+        rows: &'a CellRows<L>,
         number: usize,
         reply: LoadReply,
     ) -> Ticket<'a, L>
@@ -108,7 +108,7 @@ impl<L: LoaderName> Book<L> {
 
     /// Stops the loader: no pass may make an event from then on.
     pub(crate) fn stop(&mut self)
-        ensures { self.new ≡ locked self.old.history self.old.desk self.old.cells true }
+        ensures { self.new ≡ book self.old.history self.old.desk self.old.cells true }
     {
         self.stopped = true;
     }

@@ -8,14 +8,14 @@ ghost use Rattle.dl_desk.specs.BatchBook as book;
 ghost use Rattle.dl_history.specs.declared.event.Call.{Call};
 ghost use Rattle.dl_history.specs.declared.event.Reply.{Reply};
 ghost use Rattle.dl_history.specs.History.{call_of};
-ghost use Rattle.dl_loader.specs.Inside.Prepared.{IsPrepared, Refuses, Steps};
-ghost use Rattle.dl_loader.specs.Made.{loads_of};
+ghost use Rattle.dl_loader.specs.Inside.Preparation.{IsPrepared, Refuses, Steps};
+ghost use Rattle.dl_loader.specs.EventEffect.{loads_of};
 
 mod ends;
 mod keys;
 mod loads;
 
-use crate::due_endings::Due;
+use crate::dues::Due;
 use crate::fault::CallFault;
 use dl_desk::{Desk, LoadReply};
 use dl_history::{Call, Reply};
@@ -66,11 +66,13 @@ pub(crate) trait EventCall {
         ensures same { desk.new.book ≡ desk.old.book }
         ensures call { IfOk result (λ p. p.call ≡ call self.now) }
         ensures reply { IfOk result (λ p. p.reply ≡ told p.answer) }
-        ensures prepared { IfOk result (λ p. IsPrepared desk.old.book (call self.now) (job self.now) (brings self.now) at p.reply p.dues.items) }
+        ensures prepared { IfOk result (λ p.
+            IsPrepared desk.old.book (record { call = call self.now; job = job self.now; brings = brings self.now })
+            (record { at = at; reply = p.reply; dues = p.dues.items })) }
         ensures ready { OnOk result (ready self.now desk.new) }
         ensures fault { IfErr result (Refuses desk.old.book (call self.now) (job self.now)) };
 
-    /// Shows it in the desk. It does not allocate.
+    /// Shows it in the desk.
     fn show(&self, desk: &mut Desk)
         requires { ready self.now desk.old }
         ensures { Steps desk.old.book desk.new.book (call_of (call self.now)) };

@@ -7,7 +7,7 @@ ghost use Rattle.dl_loader.specs.Asks.{call_asked, job_asked, source_asked};
 ghost use Rattle.dl_loader.specs.Book.{Keeps};
 ghost use Rattle.dl_history.specs.Entries.{cell_of_load};
 ghost use Rattle.dl_history.specs.Journal.{refusals};
-ghost use Rattle.dl_loader.specs.Made.{Makes};
+ghost use Rattle.dl_loader.specs.EventEffect.{Makes};
 ghost use Rattle.dl_loader.specs.Refusals.{refusal, IsRefusal};
 
 use crate::ask::Ask;
@@ -23,7 +23,7 @@ pub use dl_history::laws::{
     batches_are_within_limits, ends_stay, events_are_calls, fresh_loads_are_apart,
     histories_begin_empty,
 };
-use dl_history::{Jobs, LoaderName, Replies, Reply, Rows};
+use dl_history::{CellRows, Jobs, LoaderName, Replies, Reply};
 use dl_source::Source;
 use std::alloc::Global;
 
@@ -41,12 +41,12 @@ pub fn event<'a, L: LoaderName, S: Source>(
     ask: Ask<'a, S>,
 ) -> Result<(Reply, u32), (CallFault, Ask<'a, S>)>
     requires source { IfSome (source_asked ask) (λ source. Answers (S.answer source) L.service) }
-    ensures made { IfOk result (λ r. Makes book.old pass.old.part (call_asked ask.entry) r.0 book.new pass.new.part) }
-    ensures accepted { OnOk result (refusal L.service book.old pass.old.part (call_asked ask.entry) (job_asked ask.entry) ≡ None) }
+    ensures made { IfOk result (λ r. Makes book.old pass.old.trace (call_asked ask.entry) r.0 book.new pass.new.trace) }
+    ensures accepted { OnOk result (refusal L.service book.old pass.old.trace (call_asked ask.entry) (job_asked ask.entry) ≡ None) }
     ensures refused { IfOk result (λ r. refusals book.new.cells ≡ refusals book.old.cells + r.1) }
-    ensures fault { IfErr result (λ e. IsRefusal L.service book.old pass.old.part (call_asked ask.entry) (job_asked ask.entry) e.0) }
+    ensures fault { IfErr result (λ e. IsRefusal L.service book.old pass.old.trace (call_asked ask.entry) (job_asked ask.entry) e.0) }
     ensures back { IfErr result (λ e. e.1 ≡ ask.entry) }
-    ensures unchanged { OnErr result ((book.new ≡ book.old) × (pass.new.part ≡ pass.old.part)) }
+    ensures unchanged { OnErr result ((book.new ≡ book.old) × (pass.new.trace ≡ pass.old.trace)) }
     ensures keeps { Keeps L.service book.new }
 {
     let made = make(alloc, &loader.rows, book, pass, &ask);
@@ -74,17 +74,17 @@ pub fn looks_agree<L: LoaderName>(one: &Ticket<'_, L>, other: &Ticket<'_, L>)
 /// Makes the event that is asked for.
 fn make<L: LoaderName, S: Source>(
     alloc: Global,
-    rows: &Rows<L>,
+    rows: &CellRows<L>,
     book: &mut Book<L>,
     pass: &mut Pass<L>,
     ask: &Ask<'_, S>,
 ) -> Result<(Reply, u32), CallFault>
     requires source { IfSome (source_asked ask.now) (λ source. Answers (S.answer source) L.service) }
-    ensures made { IfOk result (λ r. Makes book.old pass.old.part (call_asked ask.now) r.0 book.new pass.new.part) }
-    ensures accepted { OnOk result (refusal L.service book.old pass.old.part (call_asked ask.now) (job_asked ask.now) ≡ None) }
+    ensures made { IfOk result (λ r. Makes book.old pass.old.trace (call_asked ask.now) r.0 book.new pass.new.trace) }
+    ensures accepted { OnOk result (refusal L.service book.old pass.old.trace (call_asked ask.now) (job_asked ask.now) ≡ None) }
     ensures refused { IfOk result (λ r. refusals book.new.cells ≡ refusals book.old.cells + r.1) }
-    ensures fault { IfErr result (IsRefusal L.service book.old pass.old.part (call_asked ask.now) (job_asked ask.now)) }
-    ensures unchanged { OnErr result ((book.new ≡ book.old) × (pass.new.part ≡ pass.old.part)) }
+    ensures fault { IfErr result (IsRefusal L.service book.old pass.old.trace (call_asked ask.now) (job_asked ask.now)) }
+    ensures unchanged { OnErr result ((book.new ≡ book.old) × (pass.new.trace ≡ pass.old.trace)) }
 {
     match ask {
         Ask::Load(key) => {

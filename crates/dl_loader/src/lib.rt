@@ -8,7 +8,7 @@
 mod ask;
 mod book;
 mod calls;
-mod due_endings;
+mod dues;
 mod event_call;
 mod fault;
 pub mod laws;

@@ -1,7 +1,7 @@
 //! What the replies to loads bring: cells, and tickets for their caller.
 
 ghost use Rattle.std.specs.Prelude.{◌≡◌, ◌-◌, ◌<◌, ◌≤◌, [], length, vec_capacity};
-ghost use Rattle.dl_loader.specs.Inside.Begun.{begun_by, begun_in, cells_begun};
+ghost use Rattle.dl_loader.specs.Inside.NewCells.{begun_by, begun_in, cells_begun};
 ghost use Rattle.dl_history.specs.Entries.{cell_of_load, cells_of};
 ghost use Rattle.dl_history.specs.Lists.{Among, Every};
 ghost use Rattle.dl_loader.specs.Pass.{AreTickets, with_tickets};
@@ -10,7 +10,7 @@ use crate::book::Book;
 use crate::pass::Pass;
 use crate::ticket::{Ticket, load_cell};
 use dl_desk::LoadReply;
-use dl_history::{LoaderName, Reply, Rows};
+use dl_history::{CellRows, LoaderName, Reply};
 
 /// How many cells a load began.
 pub(crate) fn begun_by(reply: LoadReply) -> u32
@@ -37,7 +37,7 @@ pub(crate) fn cells_begun(replies: &[LoadReply]) -> usize
 }
 
 /// How many cells the loads began, where these are no more than may be begun.
-pub(crate) fn new_cells<L: LoaderName>(rows: &Rows<L>, replies: &[LoadReply]) -> u32
+pub(crate) fn new_cells<L: LoaderName>(rows: &CellRows<L>, replies: &[LoadReply]) -> u32
     requires { cells_begun replies.now ≤ L.service.rules.limits.max_cells }
     ensures { result ≡ cells_begun replies.now }
 {
@@ -49,7 +49,7 @@ pub(crate) fn new_cells<L: LoaderName>(rows: &Rows<L>, replies: &[LoadReply]) ->
 
 /// How many cells a call began that was replied so, where these are no more than may be begun.
 #[inline(always)]
-pub(crate) fn begun_in<L: LoaderName>(rows: &Rows<L>, reply: &Reply) -> u32
+pub(crate) fn begun_in<L: LoaderName>(rows: &CellRows<L>, reply: &Reply) -> u32
     requires { begun_in reply.now ≤ L.service.rules.limits.max_cells }
     ensures { result ≡ begun_in reply.now }
 {
@@ -63,19 +63,19 @@ pub(crate) fn begun_in<L: LoaderName>(rows: &Rows<L>, reply: &Reply) -> u32
 
 impl<L: LoaderName> Book<L> {
     /// A ticket for each of these replies to the last loads of the pass, put into a list that has room for
-    /// them. It does not allocate.
+    /// them.
     pub(crate) fn make_tickets<'a>(
         &self,
-        rows: &'a Rows<L>,
+        rows: &'a CellRows<L>,
         pass: &Pass<L>,
         replies: &[LoadReply],
         tickets: &mut Vec<Ticket<'a, L>>,
     )
         requires none { tickets.old.items ≡ [] }
         requires room { length replies.now ≤ vec_capacity tickets.old }
-        requires last { length replies.now ≤ length pass.now.part.tickets }
+        requires last { length replies.now ≤ length pass.now.trace.tickets }
         requires begun { Every (λ r. cell_of_load r < length self.now.cells) replies.now }
-        ensures { AreTickets (length pass.now.part.tickets - length replies.now) replies.now tickets.new.items }
+        ensures { AreTickets (length pass.now.trace.tickets - length replies.now) replies.now tickets.new.items }
     {
         let first = pass.tickets() - replies.len();
         for reply in replies {
@@ -85,11 +85,11 @@ impl<L: LoaderName> Book<L> {
     }
 }
 
-/// Adds a ticket for each load. It does not allocate.
+/// Adds a ticket for each load.
 pub(crate) fn add_tickets<L: LoaderName>(pass: &mut Pass<L>, replies: &[LoadReply])
     requires room { length replies.now ≤ pass.old.spare }
-    requires answered { Every (λ r. Among (cell_of_load r) (cells_of pass.old.part.entries)) replies.now }
-    ensures { pass.new.part ≡ with_tickets pass.old.part replies.now }
+    requires answered { Every (λ r. Among (cell_of_load r) (cells_of pass.old.trace.entries)) replies.now }
+    ensures { pass.new.trace ≡ with_tickets pass.old.trace replies.now }
 {
     for reply in replies {
         pass.add_ticket(load_cell(*reply));

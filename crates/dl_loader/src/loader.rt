@@ -5,7 +5,7 @@ ghost use Rattle.dl_loader.specs.declared.fault.StartFault.TheVariants.{OutOfMem
 ghost use Rattle.dl_history.specs.Entries.{cell_of_load, ending_known};
 ghost use Rattle.dl_loader.specs.Book.{SomeStopped};
 ghost use Rattle.dl_loader.specs.Opening.{Names};
-ghost use Rattle.dl_loader.specs.Pass.{GaveTicket, fresh, with_saw};
+ghost use Rattle.dl_loader.specs.Pass.{GaveTicket, new_traces, with_saw};
 
 mod close;
 mod unshown;
@@ -15,7 +15,7 @@ use crate::fault::{StartFault, Stopped};
 use crate::opening::Opening;
 use crate::pass::Pass;
 use crate::ticket::Ticket;
-use dl_history::{LoaderName, Rows};
+use dl_history::{CellRows, LoaderName};
 use dl_source::Source;
 use std::alloc::{AllocError, Global};
 use std::marker::Model;
@@ -25,12 +25,11 @@ use std::sync::{Condvar, Mutex, MutexGuard, Wait};
 /// A loader that threads share by reference. Each of its callers has a [`Pass`].
 pub struct Loader<L: LoaderName> {
     callers: u32,
-    pub(crate) rows: Rows<L>,
+    pub(crate) rows: CellRows<L>,
     pub(crate) book: Mutex<Book<L>>,
     pub(crate) changed: Condvar,
 }
 
-// Written out: a derived drop is proved anew in each function that lets a loader go.
 impl<L: LoaderName> Drop for Loader<L> {
     fn drop(self) {
         let Loader {
@@ -64,7 +63,7 @@ impl<L: LoaderName> Loader<L> {
         opening: Opening<'_, S>,
     ) -> Result<(Loader<L>, Vec<Pass<L>>), StartFault>
         requires names { Names S.answer opening L.service L.parts L.log L.outcomes L.name }
-        ensures passes { IfOk result (λ r. map (λ p. p.part) r.1.items ≡ fresh 0 L.service.callers) }
+        ensures passes { IfOk result (λ r. map (λ p. p.trace) r.1.items ≡ new_traces 0 L.service.callers) }
         ensures fault { IfErr result (λ fault. fault ≡ OutOfMemory) }
     {
         let Opening {
@@ -81,7 +80,7 @@ impl<L: LoaderName> Loader<L> {
         let book = Book::new(alloc, hashing, limits, calls);
         let loader = Loader {
             callers,
-            rows: Rows::new(limits, log, outcomes),
+            rows: CellRows::new(limits, log, outcomes),
             book: Mutex::new(book),
             changed: Condvar::new(),
         };
@@ -113,7 +112,6 @@ impl<L: LoaderName> Loader<L> {
 
     /// Waits until the ticket shows its outcome, and adds that to the pass, once: where it is among the
     /// entries already, the pass stays as it is. Where the ticket shows its outcome at once, no lock is taken.
-    /// It does not allocate.
     ///
     /// # Errors
     /// `Stopped` where the loader is stopped and the cell has not ended. The pass then tells what it told
@@ -124,15 +122,15 @@ impl<L: LoaderName> Loader<L> {
         pass: &mut Pass<L>,
         ticket: &mut Ticket<'_, L>,
     ) -> Result<(), Stopped>
-        requires gave { (seen : Bool) × GaveTicket pass.old.part ticket.old seen }
+        requires gave { (seen : Bool) × GaveTicket pass.old.trace ticket.old seen }
         ensures number { ticket.new.number ≡ ticket.old.number }
         ensures reply { ticket.new.reply ≡ ticket.old.reply }
         ensures kept { IfSome ticket.old.known (λ ending. ticket.new.known ≡ Some ending) }
         ensures shown { OnOk result (IsSome ticket.new.known) }
         ensures saw { OnOk result
-            ((seen : Bool) × GaveTicket pass.old.part ticket.old seen
-            × (pass.new.part ≡ with_saw pass.old.part ticket.old.number (cell_of_load ticket.old.reply) (ending_known ticket.new.known) seen)) }
-        ensures unchanged { OnErr result (pass.new.part ≡ pass.old.part) }
+            ((seen : Bool) × GaveTicket pass.old.trace ticket.old seen
+            × (pass.new.trace ≡ with_saw pass.old.trace ticket.old.number (cell_of_load ticket.old.reply) (ending_known ticket.new.known) seen)) }
+        ensures unchanged { OnErr result (pass.new.trace ≡ pass.old.trace) }
         ensures none { OnErr result (ticket.new.known ≡ None) }
         ensures stopped { OnErr result (SomeStopped L.service) }
     {
@@ -176,7 +174,7 @@ fn deal<L: LoaderName>(
     requires callers { callers ≡ L.service.callers }
     requires parts { all.parts ≡ callers }
     requires amount { all.amount ≡ 0 }
-    ensures { IfOk result (λ passes. map (λ p. p.part) passes.items ≡ fresh 0 L.service.callers) }
+    ensures { IfOk result (λ passes. map (λ p. p.trace) passes.items ≡ new_traces 0 L.service.callers) }
 {
     let mut passes = Vec::with_capacity(alloc, callers as usize)?;
     for caller in 0..callers {

@@ -35,9 +35,9 @@ pub struct Opening<'s, S: Source> {
 
 impl<'s, S: Source> Model for Opening<'s, S> {
     ghost use Rattle.dl_values.specs.Limits.{mixed};
-    ghost use Rattle.dl_loader.specs.Opening.{Unstarted, IsOpening};
+    ghost use Rattle.dl_loader.specs.Opening.{Opening, IsOpening};
 
-    ghost Value = { Unstarted S };
+    ghost Value = { Opening S };
 
     ghost view = { λ o. record {
       source = o.source.now;
@@ -48,7 +48,13 @@ impl<'s, S: Source> Model for Opening<'s, S> {
       ledger = o.blank.name;
     } };
 
-    ghost invariant = { λ o. IsOpening o.limits o.callers o.blank.parts o.log o.outcomes };
+    ghost invariant = { λ o. IsOpening (record {
+      limits = o.limits;
+      callers = o.callers;
+      parts = o.blank.parts;
+      log = o.log;
+      outcomes = o.outcomes;
+    }) };
 }
 
 impl<'s, S: Source> Opening<'s, S> {

@@ -1,19 +1,19 @@
 //! Passes: what a caller knows of the history.
 
 ghost use Rattle.std.specs.Prelude.{◌≡◌, ◌+◌, ◌<◌, ◌≤◌, Bool, false, IfOk, IfSome, IsSome, OnErr, OnOk, Some, [], length, slice_get};
-ghost use Rattle.dl_history.specs.Agrees.{IsAccount, places_of};
-ghost use Rattle.dl_history.specs.Closed.{outline_of};
+ghost use Rattle.dl_history.specs.Agreement.{IsAccount, places_of};
+ghost use Rattle.dl_history.specs.ClosedHistory.{outline_of};
 ghost use Rattle.dl_loader.specs.Closing.{account_of};
 ghost use Rattle.dl_history.specs.Entries.{calls_of, cell_of_load, cells_of, ending_known, front_of};
 ghost use Rattle.dl_history.specs.Lists.{Among};
-ghost use Rattle.dl_loader.specs.Pass.{GaveTicket, given, part, with_saw, with_ticket};
+ghost use Rattle.dl_loader.specs.Pass.{GaveTicket, given, trace, with_saw, with_ticket};
 
 mod audit;
 mod events;
 
 use crate::ticket::Ticket;
 pub(crate) use audit::audit;
-use dl_history::{Account, Entry, LoaderName, Read};
+use dl_history::{Entry, LoaderName, Outline, Read};
 use std::alloc::{AllocError, Global};
 use std::marker::Model;
 use std::sync::ledger::Share;
@@ -42,7 +42,6 @@ pub struct Pass<L: LoaderName> {
     share: Share<L>,
 }
 
-// Written out: a derived drop is proved anew in each function that lets a pass go.
 impl<L: LoaderName> Drop for Pass<L> {
     fn drop(self) {
         let Pass {
@@ -61,27 +60,27 @@ impl<L: LoaderName> Drop for Pass<L> {
 }
 
 impl<L: LoaderName> Model for Pass<L> {
-    ghost use Rattle.std.specs.Prelude.{vec_capacity};
-    ghost use Rattle.dl_loader.specs.Pass.{Pass, IsPass, viewed};
+    ghost use Rattle.dl_loader.specs.Pass.{Pass, IsPass, pass_view};
     ghost use Rattle.dl_loader.specs.Inside.Codes.{pass_code};
 
     ghost Value = { Pass };
 
     ghost coded = { pass_code };
 
-    ghost view = { λ p. viewed p.caller p.unseen (vec_capacity p.entries) (vec_capacity p.tickets) p.entries.items p.tickets.items };
+    ghost use Rattle.dl_loader.specs.Inside.PassFields.{fields_of};
 
-    ghost invariant = { λ p. IsPass L.service.callers p.caller p.front p.calls p.share.parts p.share.amount p.unseen
-        (vec_capacity p.entries) (vec_capacity p.tickets) p.entries.items p.tickets.items };
+    ghost view = { λ p. pass_view (fields_of p) };
+
+    ghost invariant = { λ p. IsPass L.service.callers (fields_of p) };
 }
 
 impl<L: LoaderName> Pass<L> {
-    /// The pass of a caller that has made no call. It does not allocate.
+    /// The pass of a caller that has made no call.
     pub(crate) fn fresh(alloc: Global, caller: u32, share: Share<L>) -> Pass<L>
         requires caller { caller < L.service.callers }
         requires part { share.parts ≡ 1 }
         requires amount { share.amount ≡ 0 }
-        ensures { result.part ≡ part caller [] [] }
+        ensures { result.trace ≡ trace caller [] [] }
     {
         Pass {
             caller,
@@ -96,37 +95,37 @@ impl<L: LoaderName> Pass<L> {
 
     /// The caller, counted from 0.
     pub fn caller(&self) -> u32
-        ensures caller { result ≡ self.now.part.caller }
-        ensures below { self.now.part.caller < L.service.callers }
+        ensures caller { result ≡ self.now.trace.caller }
+        ensures below { self.now.trace.caller < L.service.callers }
     {
         self.caller
     }
 
-    /// The account of the pass: its caller, and what its entries are. The error is a failed allocation.
-    pub(crate) fn account(&self, alloc: Global) -> Result<Account, AllocError>
-        ensures { IfOk result (λ account. account ≡ outline_of (account_of self.now.part)) }
+    /// The outline of the pass: its caller, and what its entries are. The error is a failed allocation.
+    pub(crate) fn outline(&self, alloc: Global) -> Result<Outline, AllocError>
+        ensures { IfOk result (λ made. made ≡ outline_of (account_of self.now.trace)) }
     {
         let Pass {
             caller,
             entries,
             ..
         } = self;
-        Account::of(alloc, *caller, entries.as_slice())
+        Outline::of(alloc, *caller, entries.as_slice())
     }
 
     /// The calls that were made and the outcomes that were read, in order. The calls are the caller's own; each has a place above
     /// those of all calls and reads before it; and each outcome that was read is of a cell with which a call before it was
     /// answered.
     pub fn entries(&self) -> &[Entry<L>]
-        ensures entries { result.now ≡ self.now.part.entries }
-        ensures account { IsAccount L.service.callers (account_of self.now.part) }
+        ensures entries { result.now ≡ self.now.trace.entries }
+        ensures account { IsAccount L.service.callers (account_of self.now.trace) }
     {
         self.entries.as_slice()
     }
 
     /// How many calls were made.
     pub fn calls(&self) -> usize
-        ensures { result ≡ length (calls_of self.now.part.entries) }
+        ensures { result ≡ length (calls_of self.now.trace.entries) }
     {
         self.calls
     }
@@ -134,14 +133,14 @@ impl<L: LoaderName> Pass<L> {
     /// The length that the history has at least: one more than the greatest place among the entries,
     /// and 0 without any.
     pub fn front(&self) -> u32
-        ensures { result ≡ front_of self.now.part.entries }
+        ensures { result ≡ front_of self.now.trace.entries }
     {
         self.front
     }
 
     /// How many tickets were given.
     pub(crate) fn tickets(&self) -> usize
-        ensures { result ≡ length self.now.part.tickets }
+        ensures { result ≡ length self.now.trace.tickets }
     {
         self.tickets.len()
     }
@@ -149,7 +148,7 @@ impl<L: LoaderName> Pass<L> {
     /// Makes room for one call more and so many tickets. The error is a failed allocation, and changes
     /// nothing; it comes only where the room was missing.
     pub(crate) fn reserve(&mut self, tickets: usize) -> Result<(), AllocError>
-        ensures part { self.new.part ≡ self.old.part }
+        ensures trace { self.new.trace ≡ self.old.trace }
         ensures room { OnOk result (tickets + 1 ≤ self.new.spare) }
         ensures full { OnErr result (self.old.spare < tickets + 1) }
     {
@@ -160,12 +159,12 @@ impl<L: LoaderName> Pass<L> {
         self.tickets.reserve(more)
     }
 
-    /// Adds a ticket of a cell, and answers its number. It does not allocate.
+    /// Adds a ticket of a cell, and answers its number.
     pub(crate) fn add_ticket(&mut self, cell: u32) -> usize
         requires room { 0 < self.old.spare }
-        requires answered { Among cell (cells_of self.old.part.entries) }
-        ensures part { self.new.part ≡ with_ticket self.old.part cell }
-        ensures number { result ≡ length self.old.part.tickets }
+        requires answered { Among cell (cells_of self.old.trace.entries) }
+        ensures trace { self.new.trace ≡ with_ticket self.old.trace cell }
+        ensures number { result ≡ length self.old.trace.tickets }
         ensures room { self.old.spare ≤ self.new.spare + 1 }
     {
         let number = self.tickets.len();
@@ -176,12 +175,12 @@ impl<L: LoaderName> Pass<L> {
     }
 
     /// Adds the outcome that a ticket of this pass shows, once: where it is among the entries already,
-    /// nothing changes. It never waits, and does not allocate.
+    /// nothing changes. It never waits.
     pub fn saw(&mut self, ticket: &mut Ticket<'_, L>)
-        requires gave { (seen : Bool) × GaveTicket self.old.part ticket.old seen }
+        requires gave { (seen : Bool) × GaveTicket self.old.trace ticket.old seen }
         requires shown { IsSome ticket.old.known }
         ensures ticket { ticket.new ≡ ticket.old }
-        ensures saw { (seen : Bool) × GaveTicket self.old.part ticket.old seen × (self.new.part ≡ with_saw self.old.part ticket.old.number
+        ensures saw { (seen : Bool) × GaveTicket self.old.trace ticket.old seen × (self.new.trace ≡ with_saw self.old.trace ticket.old.number
             (cell_of_load ticket.old.reply) (ending_known ticket.old.known) seen) }
     {
         if !self.has_seen(ticket.number()) {
@@ -191,16 +190,16 @@ impl<L: LoaderName> Pass<L> {
 
     /// Whether the outcome of the ticket of this number is among the entries.
     fn has_seen(&self, number: usize) -> bool
-        requires { number < length self.now.part.tickets }
-        ensures { IfSome (slice_get self.now.part.tickets number) (λ ticket. result ≡ ticket.seen) }
+        requires { number < length self.now.trace.tickets }
+        ensures { IfSome (slice_get self.now.trace.tickets number) (λ ticket. result ≡ ticket.seen) }
     {
         self.tickets[number].seen
     }
 
     /// Adds the outcome of the ticket of this number.
     fn add_saw(&mut self, number: usize, seen: Read<L>)
-        requires { slice_get self.old.part.tickets number ≡ Some (given seen.cell false) }
-        ensures { self.new.part ≡ with_saw self.old.part number seen.cell seen.ending false }
+        requires { slice_get self.old.trace.tickets number ≡ Some (given seen.cell false) }
+        ensures { self.new.trace ≡ with_saw self.old.trace number seen.cell seen.ending false }
     {
         self.front = self.front.max(u32::from(seen.ended_at()) + 1);
         self.unseen -= 1;

@@ -2,7 +2,7 @@
 
 ghost use Rattle.std.specs.Prelude.{◌≡◌, ◌≤◌};
 ghost use Rattle.dl_history.specs.History.{primed};
-ghost use Rattle.dl_loader.specs.EventReplies.{refused_by, told_by};
+ghost use Rattle.dl_loader.specs.EventReplies.{refused_by, reply_by};
 
 use dl_desk::DeskPrime;
 
@@ -19,7 +19,7 @@ pub enum PrimeReply {
 impl PrimeReply {
     /// What a prime answers that the desk replied to so, where its cell took its outcome so.
     pub(crate) fn of(reply: DeskPrime, ended: Settled) -> PrimeReply
-        ensures told { told_by result ≡ primed reply }
+        ensures told { reply_by result ≡ primed reply }
         ensures refused { refused_by result ≤ ended.refused }
     {
         match reply {

@@ -3,7 +3,7 @@
 ghost use Rattle.std.specs.Prelude.{◌≡◌, ◌<◌, IfNone, IfSome, IsSome, None, Some};
 ghost use Rattle.dl_cells.specs.Cells.{Agrees, cell_of, row_len};
 ghost use Rattle.dl_history.specs.Entries.{cell_of_load, ending_known, read};
-ghost use Rattle.dl_loader.specs.Pass.{Shows, hold};
+ghost use Rattle.dl_loader.specs.Pass.{Shows, ticket};
 
 use dl_cells::{CellRow, Reader};
 use dl_desk::{LoadReply, Outcome};
@@ -20,7 +20,6 @@ pub struct Ticket<'a, L: LoaderName> {
     of: PhantomData<L>,
 }
 
-// Written out: a derived drop is proved anew in each function that lets a ticket go.
 impl<L: LoaderName> Drop for Ticket<'_, L> {
     fn drop(self) {
         let Ticket {
@@ -38,14 +37,14 @@ impl<'a, L: LoaderName> Model for Ticket<'a, L> {
     ghost use Rattle.std.specs.Prelude.{◌≡◌, ◌<◌};
     ghost use Rattle.dl_cells.specs.Cells.{cell_of, row_len};
     ghost use Rattle.dl_history.specs.Entries.{cell_of_load};
-    ghost use Rattle.dl_loader.specs.Pass.{Hold, hold};
-    ghost use Rattle.dl_loader.specs.Inside.Codes.{hold_code};
+    ghost use Rattle.dl_loader.specs.Pass.{Ticket, ticket};
+    ghost use Rattle.dl_loader.specs.Inside.Codes.{ticket_code};
 
-    ghost Value = { Hold };
+    ghost Value = { Ticket };
 
-    ghost coded = { hold_code };
+    ghost coded = { ticket_code };
 
-    ghost view = { λ t. hold t.number t.reply t.reader.known };
+    ghost view = { λ t. ticket t.number t.reply t.reader.known };
 
     ghost invariant = { λ t. (t.row.now ≡ L.outcomes) × (cell_of_load t.reply < row_len L.outcomes)
         × (t.reader.cell ≡ cell_of L.outcomes (cell_of_load t.reply)) };
@@ -72,7 +71,7 @@ impl<'a, L: LoaderName> Ticket<'a, L> {
         requires row { row.now ≡ L.outcomes }
         requires in_row { cell_of_load reply < row_len L.outcomes }
         requires of_cell { reader.cell ≡ cell_of L.outcomes (cell_of_load reply) }
-        ensures { result ≡ hold number reply reader.known }
+        ensures { result ≡ ticket number reply reader.known }
     {
         Ticket {
             row,
@@ -97,8 +96,7 @@ impl<'a, L: LoaderName> Ticket<'a, L> {
         self.reply
     }
 
-    /// The outcome, if the cell has ended. From then on it is answered each time. It never waits, and
-    /// does not allocate.
+    /// The outcome, if the cell has ended. From then on it is answered each time. It never waits.
     pub fn look(&mut self) -> Option<&'a Outcome>
         ensures number { self.new.number ≡ self.old.number }
         ensures reply { self.new.reply ≡ self.old.reply }
@@ -125,7 +123,7 @@ impl<'a, L: LoaderName> Ticket<'a, L> {
         self.number
     }
 
-    /// What the ticket knows of its cell, as an entry tells it. It does not allocate.
+    /// What the ticket knows of its cell, as an entry tells it.
     pub(crate) fn seen(&mut self) -> Read<L>
         requires { IsSome self.old.known }
         ensures same { self.new ≡ self.old }

@@ -1,4 +1,4 @@
-pub mod Given
+pub mod CommandMatches
 pub mod Bytes
 pub mod Runs
 pub mod Scripts

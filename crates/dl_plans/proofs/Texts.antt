@@ -1,8 +1,7 @@
 -- Texts of keys and of plans' answers, one more at a time.
-use Rattle.std.proofs.Common.{◌≡◌, ◌∙◌, sym, ap, subst, refl, ℕ, suc, ◌+◌, ◌<◌, false, List, [], ◌∷◌, ◌++◌, length, drop, get_or, map, flat_map}
-use Rattle.std.proofs.Common.{add-one, append_assoc, drop-cons}
-use Rattle.std.specs.Prelude.{Vec, Option, Some, Result, Ok, Err, IfOk}
-use Rattle.std.specs.declared.alloc.Global.{Global}
+use Rattle.std.proofs.Common.{◌≡◌, ◌∙◌, sym, ap, subst, refl, ℕ, ◌+◌, ◌<◌, false, List, [], ◌∷◌, ◌++◌, drop, map}
+use Rattle.std.proofs.Common.{add-one, append_assoc}
+use Rattle.std.specs.Prelude.{Option, Some, Result, Ok, Err, IfOk}
 use Rattle.serde_json.specs.Data.{Data, array}
 use Rattle.serde_json.specs.View.{items_of}
 use Rattle.serde_json.specs.Written.{compact_text, has_float, items_have_float}
@@ -11,9 +10,8 @@ use Rattle.dl_values.specs.Key.{Key}
 use Rattle.dl_desk.specs.declared.reply.End.{End}
 use Rattle.dl_documents.specs.Script.{key_tree}
 use Rattle.dl_history.specs.History.{keys_of}
-use Rattle.dl_haxl.specs.declared.step_answer.StepAnswer.{StepAnswer}
 use Rattle.dl_plans.specs.JsonText.{keys_text}
-use Rattle.dl_plans.specs.ReportText.{answer_line, answers_text, batch_line, batch_lines}
+use Rattle.dl_plans.specs.ReportText.{batch_line, batch_lines}
 
 -- the tree of a list of keys has no float
 keys_whole : (ks : List Key) → items_have_float (items_of (map key_tree ks)) ≡ false
@@ -38,14 +36,3 @@ batch_more history n keys end before out new same ended so_far pushed =
     ∙ (ap (λ (ks : List Key). before ++ (lines ++ batch_line n ks (Some end))) same
     ∙ (ap (λ (e : Option End). before ++ (lines ++ batch_line n (keys_of history n) e)) (sym ended)
     ∙ ap (λ (m : ℕ). before ++ batch_lines history m) (sym (add-one n))))))
-
--- the lines of the answers of one plan go from the front of the rest to the end of what was written
-pub answers_more : (plans : List (Vec StepAnswer Global)) (plan : ℕ) (answers : Vec StepAnswer Global) (out new text : List ℕ)
-    → out ++ answers_text plan (map (λ (a : Vec StepAnswer Global). a.items) (drop plan plans)) ≡ text → plan < length plans
-    → answers ≡ get_or plans plan answers
-    → new ≡ out ++ flat_map (answer_line plan) answers.items
-    → new ++ answers_text (plan + 1) (map (λ (a : Vec StepAnswer Global). a.items) (drop (plan + 1) plans)) ≡ text
-answers_more plans plan answers out new text so_far low at pushed =
-    let rest : List (Vec StepAnswer Global) = drop (suc plan) plans in
-    let cut : drop plan plans ≡ answers ∷ rest = drop-cons plans plan answers low ∙ ap (λ (a : Vec StepAnswer Global). a ∷ rest) (sym at) in
-    rw (pushed, add-one, append_assoc) (rw cut at so_far)

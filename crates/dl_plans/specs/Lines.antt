@@ -39,7 +39,7 @@ job_line j = text_line (codes "job " ++ decimal j.batch ++ flat_map next_key j.k
 abbrev pub sent_lines : List Job → List ℕ
 sent_lines jobs = text_line (codes "sent " ++ decimal (length jobs)) ++ flat_map job_line jobs
 
--- want of memory has no line: it ends the run
+-- out of memory has no line: it ends the run
 abbrev pub refused_line : DeskFault → List ℕ
 refused_line NoBatch = text_line (codes "refused NoBatch")
 refused_line NotSent = text_line (codes "refused NotSent")

@@ -8,7 +8,7 @@ use Rattle.dl_values.specs.declared.outcome.BatchFault.{BatchFault}
 use Rattle.dl_values.specs.declared.outcome.BatchFault.TheVariants.{Source, Memory, Unsent}
 use Rattle.dl_desk.specs.declared.reply.End.{End}
 use Rattle.dl_desk.specs.declared.reply.End.TheVariants.{Settled, Failed}
-use Rattle.dl_history.specs.History.{keys_of, log}
+use Rattle.dl_history.specs.History.{keys_of, past}
 use Rattle.dl_plans.specs.JsonText.{key_text, keys_text, quoted_text}
 use Rattle.dl_plans.specs.Lines.{text_line}
 use Rattle.dl_scope.specs.Report.{Report}
@@ -78,4 +78,4 @@ rounds_text (rounds ∷ rest) history = text_line (codes "rounds " ++ decimal ro
 -- The text of a report: a line for each answer, in the order of plans and steps. Where batches are wanted and there is exactly one
 -- plan, its rounds and all batches follow.
 abbrev pub report_text : Report → Bool → List ℕ
-report_text r batches = answers_text 0 r.answers ++ (if batches && length r.answers == 1 then rounds_text r.rounds (atoms (log r.history.events)) else [])
+report_text r batches = answers_text 0 r.answers ++ (if batches && length r.answers == 1 then rounds_text r.rounds (atoms (past r.history.events)) else [])

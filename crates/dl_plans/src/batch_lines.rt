@@ -2,7 +2,7 @@
 
 ghost use Rattle.std.specs.Prelude.{◌≡◌, ◌++◌, OnOk, Some, string_bytes};
 ghost use Rattle.dl_desk.specs.Events.{atoms};
-ghost use Rattle.dl_history.specs.History.{log};
+ghost use Rattle.dl_history.specs.History.{past};
 ghost use Rattle.dl_plans.specs.ReportText.{batch_line, batches_text, end_text};
 
 use crate::json_text::keys_text;
@@ -16,7 +16,7 @@ pub(crate) fn push_batches(
     out: &mut String,
     batches: &Batches<'_>,
 ) -> Result<(), AllocError>
-    ensures { OnOk result (string_bytes out.new ≡ string_bytes out.old ++ batches_text (atoms (log batches.now))) }
+    ensures { OnOk result (string_bytes out.new ≡ string_bytes out.old ++ batches_text (atoms (past batches.now))) }
 {
     'batches: for number in 0..u32::MAX {
         match batches.get(number) {

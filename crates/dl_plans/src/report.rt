@@ -2,7 +2,7 @@
 
 ghost use Rattle.std.specs.Prelude.{◌≡◌, ◌++◌, IfOk, OnOk, string_bytes};
 ghost use Rattle.dl_desk.specs.Events.{atoms};
-ghost use Rattle.dl_history.specs.History.{log};
+ghost use Rattle.dl_history.specs.History.{past};
 ghost use Rattle.dl_plans.specs.ReportText.{report_text, rounds_text};
 
 use crate::answer_lines::push_answers;
@@ -28,7 +28,7 @@ pub fn report_text(alloc: Global, report: &Report, batches: bool) -> Result<Stri
 
 /// The line of the rounds of the first plan, and those of all batches.
 fn push_rounds(alloc: Global, out: &mut String, report: &Report) -> Result<(), AllocError>
-    ensures { OnOk result (string_bytes out.new ≡ string_bytes out.old ++ rounds_text report.now.rounds (atoms (log report.now.history.events))) }
+    ensures { OnOk result (string_bytes out.new ≡ string_bytes out.old ++ rounds_text report.now.rounds (atoms (past report.now.history.events))) }
 {
     match report.rounds().first() {
         Some(rounds) => {

@@ -7,7 +7,7 @@ use Rattle.dl_reference.specs.declared.atom.Atom.{Atom}
 use Rattle.dl_reference.specs.declared.memo.Latest.{Latest}
 use Rattle.dl_reference.specs.History.{desk_atom, history_of}
 use Rattle.dl_reference.specs.Inside.Latest.{latest_of}
-use Rattle.dl_reference.proofs.Grown.{history_of-push}
+use Rattle.dl_reference.proofs.HistoryGrowth.{history_of-push}
 
 rest_more : (atoms : List Atom) (i n : ℕ) (a : Atom) → i < length atoms → a ≡ get_or atoms i a → n ≤ i
     → history_of (drop n (take (i + 1) atoms)) ≡ desk_atom a ∷ history_of (drop n (take i atoms))

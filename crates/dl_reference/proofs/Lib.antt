@@ -1,3 +1,3 @@
-pub mod Grown
+pub mod HistoryGrowth
 pub mod Latests
-pub mod LeftLegal
+pub mod LegalHistories

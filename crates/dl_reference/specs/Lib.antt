@@ -1,6 +1,6 @@
 pub mod History
-pub mod Begun
+pub mod Beginnings
 pub mod Rules
-pub mod Said
+pub mod Replies
 -- words of private functions, and of what values are made of
 pub mod Inside

@@ -39,7 +39,7 @@ impl Atom {
     ghost use Rattle.std.specs.Prelude.{◌≡◌, option_map};
     ghost use Rattle.dl_desk.specs.History as desk;
     ghost use Rattle.dl_reference.specs.History.{desk_atom, ended_by};
-    ghost use Rattle.dl_reference.specs.Begun.{begun_of};
+    ghost use Rattle.dl_reference.specs.Beginnings.{begun_of};
 
     /// The cell that this atom begins: a fresh load's or a prime's.
     pub fn begins(&self) -> Option<Begun<'_>>

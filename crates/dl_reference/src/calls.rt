@@ -7,7 +7,7 @@ ghost use Rattle.dl_desk.specs.History.{IsLegal, loaded, load_replies};
 ghost use Rattle.dl_desk.specs.Calls as desk;
 ghost use Rattle.dl_reference.specs.History.{desk_atom, history_of};
 ghost use Rattle.dl_reference.specs.Rules.{rules_of};
-ghost use Rattle.dl_reference.specs.Said.{asked, said, answer, reply_at, left};
+ghost use Rattle.dl_reference.specs.Replies.{asked, said, answer, reply_at, left};
 
 use crate::atom::Atom;
 use crate::counts::{begun, cells, end_of, sent};

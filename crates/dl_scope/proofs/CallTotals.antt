@@ -3,14 +3,14 @@ use Rattle.std.proofs.Common.{◌≡◌, ◌∙◌, sym, ap, subst, refl, ℕ, �
 use Rattle.std.proofs.Common.{slice_get, nat_eq, arith, append_assoc, length-append}
 use Rattle.std.proofs.lemmas.Bool.{eqb-true}
 use Rattle.std.proofs.lemmas.List.Sums.{sum_by-cons}
-use Rattle.dl_history.specs.Agrees.{Account, accounts_by, HasEach, Tells, Agrees}
-use Rattle.dl_history.specs.Entries.{Told, Line, Called, Saw, calls_of}
+use Rattle.dl_history.specs.Agreement.{Account, accounts_by, HasEach, Tells, Agrees}
+use Rattle.dl_history.specs.Entries.{PlacedEvent, Entry, Called, Saw, calls_of}
 use Rattle.dl_history.specs.History.{IsLegal}
 use Rattle.dl_history.specs.Lists.{Every, total, one_if, places}
 use Rattle.dl_history.specs.Service.{Service}
 use Rattle.dl_history.specs.declared.event.Event.{Event}
 use Rattle.dl_history.proofs.ListLemmas.{every_from}
-use Rattle.dl_history.proofs.Logs.{get-append_at}
+use Rattle.dl_history.proofs.Pasts.{get-append_at}
 
 -- ---- lists
 
@@ -30,22 +30,22 @@ abbrev pub total_by : (Event → ℕ) → ℕ → List Event → ℕ
 total_by f n events = total (λ e. cond (nat_eq e.caller n) (f e) 0) events
 
 -- f of the events of calls, added up
-abbrev pub total_told : (Event → ℕ) → List Told → ℕ
+abbrev pub total_told : (Event → ℕ) → List PlacedEvent → ℕ
 total_told f ts = total (λ t. f t.event) ts
 
 -- ---- the calls of one caller
 
-abbrev AreTold : List Event → List Told → Type 0
+abbrev AreTold : List Event → List PlacedEvent → Type 0
 AreTold events ts = Every (λ t. slice_get events t.at ≡ Some t.event) ts
 
 -- the calls are at these places
-abbrev at_places : List Told → List ℕ
+abbrev at_places : List PlacedEvent → List ℕ
 at_places ts = map (λ t. t.at) ts
 
 -- where calls are those of the events after one, they are those of the events from it on, with or without it
 told_next : (f : Event → ℕ) (n : ℕ) (before events : List Event) (e : Event) (all : List Event) (k : ℕ) (b : Bool) (later : List ℕ) (rest : ℕ)
-    → slice_get all k ≡ Some e → ((us : List Told) → at_places us ≡ later → AreTold all us → total_told f us ≡ rest)
-    → (ts : List Told) → at_places ts ≡ cond b (k ∷ later) later → AreTold all ts → total_told f ts ≡ cond b (f e) 0 + rest
+    → slice_get all k ≡ Some e → ((us : List PlacedEvent) → at_places us ≡ later → AreTold all us → total_told f us ≡ rest)
+    → (ts : List PlacedEvent) → at_places ts ≡ cond b (k ∷ later) later → AreTold all ts → total_told f ts ≡ cond b (f e) 0 + rest
 told_next f n before events e all k true later rest here others [] are tell = absurd (let bad : ◌≡◌ {A = List ℕ} [] (k ∷ later) = are in cc)
 told_next f n before events e all k true later rest here others (t ∷ ts) are tell =
     let both : t.at ∷ at_places ts ≡ k ∷ later = are in
@@ -59,7 +59,7 @@ told_next f n before events e all k true later rest here others (t ∷ ts) are t
 told_next f n before events e all k false later rest here others ts are tell = let more = others ts are tell in omega (arith, more)
 
 -- calls of the events behind others, in their order, that are a caller's
-told_total : (f : Event → ℕ) (n : ℕ) (before events : List Event) (ts : List Told)
+told_total : (f : Event → ℕ) (n : ℕ) (before events : List Event) (ts : List PlacedEvent)
     → at_places ts ≡ places (λ e. e.caller) n (length before) events → AreTold (before ++ events) ts → total_told f ts ≡ total_by f n events
 told_total f n before [] [] are tell = refl
 told_total f n before [] (t ∷ ts) are tell = absurd (let bad : t.at ∷ at_places ts ≡ [] = are in cc)
@@ -74,7 +74,7 @@ told_total f n before (e ∷ events) ts are tell =
     (are2 ∙ ap (λ i. places (λ (x : Event). x.caller) n i events) next) (subst (λ es. AreTold es us) (sym whole) tell2))
     ts are tell
 
-calls_told : (events : List Event) (lines : List Line) → Every (Tells events) lines → AreTold events (calls_of lines)
+calls_told : (events : List Event) (lines : List Entry) → Every (Tells events) lines → AreTold events (calls_of lines)
 calls_told events [] tell = tt
 calls_told events (Called t ∷ lines) tell = (tell.0, calls_told events lines tell.1)
 calls_told events (Saw r ∷ lines) tell = calls_told events lines tell.1

@@ -6,8 +6,8 @@ use Rattle.std.proofs.lemmas.Bool.Decides.{nat_tests}
 use Rattle.dl_values.specs.Key.{Key}
 use Rattle.dl_values.specs.declared.job.Job.{Job}
 use Rattle.dl_values.specs.declared.outcome.BatchFault.TheVariants.{Unsent}
-use Rattle.dl_history.specs.Agrees.{account, Agrees, Tells, entries_of, places_of}
-use Rattle.dl_history.specs.Entries.{Line, Called, Saw, Told}
+use Rattle.dl_history.specs.Agreement.{account, Agrees, Tells, entries_of, places_of}
+use Rattle.dl_history.specs.Entries.{Entry, Called, Saw, PlacedEvent}
 use Rattle.dl_history.specs.Lists.{Every, Among, places}
 use Rattle.dl_history.specs.Service.{Service}
 use Rattle.dl_history.specs.declared.event.Call.{Call}
@@ -17,16 +17,16 @@ use Rattle.dl_history.specs.declared.event.Ending.{Ending}
 use Rattle.dl_history.specs.declared.event.Event.{Event}
 use Rattle.dl_history.proofs.HistoryLemmas.{entries_agree}
 use Rattle.dl_history.proofs.ListLemmas.{every_append, every_among}
-use Rattle.dl_loader.specs.Added.{saws}
+use Rattle.dl_loader.specs.Additions.{saws}
 use Rattle.dl_desk.specs.declared.reply.LoadReply.{LoadReply}
-use Rattle.dl_terms.specs.Gives.{Pairs}
+use Rattle.dl_terms.specs.TermAnswers.{Pairs}
 use Rattle.dl_terms.specs.Tree.{Tree}
 use Rattle.dl_terms.specs.View.{term_view}
 use Rattle.dl_terms.specs.declared.plan.Plan.{Plan}
 use Rattle.dl_terms.specs.declared.plan.Step.{Step}
 use Rattle.dl_terms.specs.declared.plan.Step.TheVariants.{Prime, Clear, ClearAll, Eval}
 use Rattle.dl_haxl.specs.Rounds.{HandedOver, Rounds}
-use Rattle.dl_haxl.specs.Follows.{Stretch, stretch, IsStep, AreSteps}
+use Rattle.dl_haxl.specs.PlanEntries.{Stretch, stretch, IsStep, AreSteps}
 use Rattle.dl_scope.specs.Headline.{HeadlineBut, Ends, TellsEnd}
 use Rattle.dl_scope.specs.Report.{Report}
 
@@ -34,7 +34,7 @@ use Rattle.dl_scope.specs.Report.{Report}
 
 module _ (P : ℕ → Call → Type 0) where
   -- the entry is of an outcome that was read, or of a call of which the fact holds
-  abbrev pub OfCall : ℕ → Line → Type 0
+  abbrev pub OfCall : ℕ → Entry → Type 0
   OfCall n (Called t) = P n t.event.call
   OfCall n (Saw r) = Unit {0}
 
@@ -57,13 +57,13 @@ module _ (P : ℕ → Call → Type 0) where
   saws_hold n (r ∷ rs) (e ∷ es) = (tt, saws_hold n rs es)
 
   module _ (n : ℕ) (holds : OfRounds n) where
-    handed_hold : (jobs sent : List Job) (ends : List Line) → HandedOver n jobs sent ends → Every (OfCall n) ends
+    handed_hold : (jobs sent : List Job) (ends : List Entry) → HandedOver n jobs sent ends → Every (OfCall n) ends
     handed_hold [] sent ends (unsent, none) = subst (Every (OfCall n)) (sym none) tt
     handed_hold (job ∷ jobs) sent ends (inl (rest, is, over)) = handed_hold jobs rest ends over
     handed_hold (job ∷ jobs) sent ends (inr (at, rest, is, over)) =
         subst (Every (OfCall n)) (sym is) (holds.unsent job.batch, handed_hold jobs sent rest over)
 
-    rounds_hold : (t : Tree) (count : ℕ) (lines : List Line) (known : Pairs) (sent : List Job) → Rounds (HandedOver n) n t count lines known sent
+    rounds_hold : (t : Tree) (count : ℕ) (lines : List Entry) (known : Pairs) (sent : List Job) → Rounds (HandedOver n) n t count lines known sent
         → Every (OfCall n) lines
     rounds_hold t zero lines known sent (none, empty, unsent) = subst (Every (OfCall n)) (sym none) tt
     rounds_hold t (suc count) lines known sent (before, last, past, earlier, later, split, parted, rounds, round) =
@@ -86,7 +86,7 @@ module _ (P : ℕ → Call → Type 0) where
         subst (λ (x : Stretch). Every (OfCall n) x.lines) (sym is)
         (every_append (OfCall n) own.lines rest.lines (step_holds number step own first one) (steps_hold (suc number) steps rest others more))
 
-  ends_hold : (n : ℕ) → ((b : ℕ) (c : Call) → Ends b c → P n c) → (ls : List Line) → Every TellsEnd ls → Every (OfCall n) ls
+  ends_hold : (n : ℕ) → ((b : ℕ) (c : Call) → Ends b c → P n c) → (ls : List Entry) → Every TellsEnd ls → Every (OfCall n) ls
   ends_hold n holds [] ends = tt
   ends_hold n holds (Called t ∷ ls) (one, others) = (holds one.0 t.event.call one.1, ends_hold n holds ls others)
   ends_hold n holds (Saw r ∷ ls) (one, others) = absurd one
@@ -123,7 +123,7 @@ place_among (x ∷ es) n k (suc i) e at own =
     by false found = found
 
 -- and so one of the entries tells it
-call_among : (ls : List Line) (i : ℕ) → Among i (places_of ls) → (t : Told) × Among (Called t) ls × (t.at ≡ i)
+call_among : (ls : List Entry) (i : ℕ) → Among i (places_of ls) → (t : PlacedEvent) × Among (Called t) ls × (t.at ≡ i)
 call_among [] i (j, found) = absurd (let bad : ◌≡◌ {A = Option ℕ} None (Some i) = found in cc)
 call_among (Called t ∷ ls) i (zero, found) = (t, (zero, refl), cc)
 call_among (Called t ∷ ls) i (suc j, found) = let rest = call_among ls i (j, found) in (rest.0, (suc rest.1.0, rest.1.1), rest.2)

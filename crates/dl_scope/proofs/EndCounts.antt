@@ -13,15 +13,15 @@ use Rattle.dl_desk.specs.Calls.{after}
 use Rattle.dl_desk.specs.declared.reply.End.{End}
 use Rattle.dl_desk.specs.declared.reply.End.TheVariants.{Settled, Failed}
 use Rattle.dl_desk.proofs.Facts.{sent-le}
-use Rattle.dl_history.specs.History.{log, call_of, MayBeMade, IsNext, IsLegal, AllEnded}
+use Rattle.dl_history.specs.History.{past, call_of, MayBeMade, IsNext, IsLegal, AllEnded}
 use Rattle.dl_history.specs.Lists.{one_if, total}
 use Rattle.dl_history.specs.Service.{Service}
 use Rattle.dl_history.specs.declared.event.Event.{Event}
 use Rattle.dl_history.specs.declared.event.Call.{Call}
 use Rattle.dl_history.specs.declared.event.Call.TheVariants.{Load, LoadMany, Prime, Clear, ClearAll, Dispatch, Settle, Fail}
 use Rattle.dl_history.proofs.ListLemmas.{total-append}
-use Rattle.dl_history.proofs.Logs.{by_events, atoms_next}
-use Rattle.dl_scope.proofs.EndedOnce.{loads_end_none}
+use Rattle.dl_history.proofs.Pasts.{by_events, atoms_next}
+use Rattle.dl_scope.proofs.OneEnd.{loads_end_none}
 use Rattle.dl_scope.proofs.SentCounts.{call_sends}
 
 -- one for a call that ends a batch
@@ -116,14 +116,14 @@ ends_told events = total (λ e. ends_one e.call) events
 
 -- the events end as many of the first batches as have ended, where these are all that were sent
 abbrev EndsCounted : List Event → Type 0
-EndsCounted events = (n : ℕ) → sent (atoms (log events)) ≤ n → ends_told events ≡ ended_below (atoms (log events)) n
+EndsCounted events = (n : ℕ) → sent (atoms (past events)) ≤ n → ends_told events ≡ ended_below (atoms (past events)) n
 
 ends_counted : (s : Service) (es : List Event) → IsLegal s es → EndsCounted es
 ends_counted s es legal = by_events s EndsCounted (λ n low. sym (none_below n)) more es legal
   where
     more : (xs : List Event) (e : Event) → IsLegal s xs → IsNext s xs e → EndsCounted xs → EndsCounted (xs ++ e ∷ [])
     more xs e before next rest n low =
-        let history = atoms (log xs) in
+        let history = atoms (past xs) in
         let all = total-append (λ (x : Event). ends_one x.call) xs (e ∷ []) in
         let sends = call_sends s.rules history e.call in
         let sent_after = ap sent (atoms_next s xs e next) in
@@ -141,6 +141,6 @@ whole_below history (suc n) each =
     omega (arith, rest, one)
 
 -- in a legal history whose batches have ended, as many events end one as there are batches
-pub ends_begun : (s : Service) (es : List Event) → IsLegal s es → AllEnded es → total (λ e. ends_one e.call) es ≡ begun (atoms (log es))
+pub ends_begun : (s : Service) (es : List Event) → IsLegal s es → AllEnded es → total (λ e. ends_one e.call) es ≡ begun (atoms (past es))
 ends_begun s es legal ended =
-    ends_counted s es legal (begun (atoms (log es))) (sent-le (atoms (log es))) ∙ whole_below (atoms (log es)) (begun (atoms (log es))) ended
+    ends_counted s es legal (begun (atoms (past es))) (sent-le (atoms (past es))) ∙ whole_below (atoms (past es)) (begun (atoms (past es))) ended

@@ -13,7 +13,7 @@ use Rattle.dl_values.proofs.KeyLemmas.{key_eq-same}
 use Rattle.dl_history.specs.Entries.{cell_of_load}
 use Rattle.dl_history.specs.Lists.{Every}
 use Rattle.dl_history.proofs.ListLemmas.{get_longer}
-use Rattle.dl_history.proofs.Logs.{get-append_at}
+use Rattle.dl_history.proofs.Pasts.{get-append_at}
 
 -- ---- the cells that fresh loads began
 

@@ -4,7 +4,7 @@ use Rattle.std.proofs.Common.{Option, Some, None, slice_get, arith}
 use Rattle.dl_values.specs.Key.{Key, key_eq}
 use Rattle.dl_values.specs.declared.outcome.Outcome.{Outcome}
 use Rattle.dl_values.proofs.KeyLemmas.{key_eq-same}
-use Rattle.dl_history.specs.Agrees.{account, Agrees, entries_of}
+use Rattle.dl_history.specs.Agreement.{account, Agrees, entries_of}
 use Rattle.dl_history.specs.Lists.{Every}
 use Rattle.dl_history.specs.Service.{Service}
 use Rattle.dl_history.specs.declared.event.Call.{Call}
@@ -14,10 +14,10 @@ use Rattle.dl_history.specs.declared.event.Event.{Event}
 use Rattle.dl_history.proofs.HistoryLemmas.{entries_agree}
 use Rattle.dl_history.proofs.ListLemmas.{every_at, every_from}
 use Rattle.dl_source.specs.Answer.{answer_of}
-use Rattle.dl_terms.specs.Gives.{Pairs, outcome_in, gives}
+use Rattle.dl_terms.specs.TermAnswers.{Pairs, outcome_in, gives}
 use Rattle.dl_terms.specs.Laws.{GivesOnce, GivesForEver}
 use Rattle.dl_terms.specs.Rounds.{Gains}
-use Rattle.dl_haxl.specs.Follows.{stretch}
+use Rattle.dl_haxl.specs.PlanEntries.{stretch}
 use Rattle.dl_scope.specs.Headline.{Headline, service_of, Ends}
 use Rattle.dl_scope.specs.OwnAnswers.{IsNoPrime, NonePrimed, AreOwn, listed, PrimesNoKey}
 use Rattle.dl_scope.specs.OwnAnswers.{AnswersByTables, AnswersAreOwn, OwnAnswersAreOne}

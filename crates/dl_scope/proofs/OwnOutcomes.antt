@@ -12,22 +12,22 @@ use Rattle.dl_values.specs.declared.outcome.BatchAnswer.{BatchAnswer}
 use Rattle.dl_values.specs.declared.outcome.BatchAnswer.TheVariants as answered
 use Rattle.dl_desk.specs.declared.reply.LoadReply.{LoadReply}
 use Rattle.dl_source.specs.Answer.{answer_of, first_break, outcomes_of, outcome_of, found, unless}
-use Rattle.dl_source.specs.Listing.{NamedTables}
+use Rattle.dl_source.specs.Tables.{Tables}
 use Rattle.dl_history.specs.Entries.{cell_of_load}
-use Rattle.dl_history.specs.History.{log, IsLegal, ending_of}
+use Rattle.dl_history.specs.History.{past, IsLegal, ending_of}
 use Rattle.dl_history.specs.Service.{Service}
 use Rattle.dl_history.specs.declared.event.Event.{Event}
 use Rattle.dl_history.specs.declared.event.Ending.{Ending}
-use Rattle.dl_history.specs.declared.event.Call.TheVariants.{Load, LoadMany}
-use Rattle.dl_history.specs.declared.event.Reply.TheVariants.{Loaded, Many}
+use Rattle.dl_history.specs.declared.event.Call.TheVariants.{LoadMany}
+use Rattle.dl_history.specs.declared.event.Reply.TheVariants.{Many}
 use Rattle.dl_history.proofs.CellBatches.{member_cell, members-apart}
-use Rattle.dl_history.proofs.LogEnds.{batched_unprimed}
-use Rattle.dl_history.proofs.Logs.{legal_log, legal_atoms}
+use Rattle.dl_history.proofs.PastEnds.{batched_unprimed}
+use Rattle.dl_history.proofs.Pasts.{legal_past, legal_atoms}
 use Rattle.dl_history.proofs.Outcomes.{shown_parts}
 use Rattle.dl_scope.specs.OwnAnswers.{AnswersOwn, NonePrimed, NoneFailed}
 use Rattle.dl_scope.proofs.LoadedCells.{LoadBegan}
 use Rattle.dl_scope.proofs.OwnSettles.{own_given, give_own}
-use Rattle.dl_scope.proofs.Unprimed.{loads_began}
+use Rattle.dl_scope.proofs.NoPrimes.{loads_began}
 
 -- ---- the outcome beside a cell
 
@@ -61,32 +61,32 @@ beside_own own c o (x ∷ ms) got = by (nat_eq c x.1) refl (beside_own own c o m
 
 -- a cell that a fresh load began ends with the own outcome of the load's key
 began_own : (s : Service) (own : Key → Outcome) → AnswersOwn s own → (es : List Event) → IsLegal s es → NoneFailed es → (k : Key) (c : ℕ)
-    → LoadBegan (atoms (log es)) k c → (x : Ending) → ending_of es c ≡ Some x → x.outcome ≡ own k
+    → LoadBegan (atoms (past es)) k c → (x : Ending) → ending_of es c ≡ Some x → x.outcome ≡ own k
 began_own s own answers es legal none k c began x shows =
-    by (last_of (ends began.batch) (log es)) refl (rw (unprimed, batch) at ((shown_parts es c x shows).1))
+    by (last_of (ends began.batch) (past es)) refl (rw (unprimed, batch) at ((shown_parts es c x shows).1))
   where
-    batch : cell_batch (atoms (log es)) c ≡ Some began.batch
-    batch = member_cell s.rules (atoms (log es)) began.batch began.place (k, c) (legal_atoms s es legal) began.at
+    batch : cell_batch (atoms (past es)) c ≡ Some began.batch
+    batch = member_cell s.rules (atoms (past es)) began.batch began.place (k, c) (legal_atoms s es legal) began.at
 
-    unprimed : last_of (primes c) (log es) ≡ None
-    unprimed = batched_unprimed s.rules (log es) c began.batch (legal_log s es legal) batch
+    unprimed : last_of (primes c) (past es) ≡ None
+    unprimed = batched_unprimed s.rules (past es) c began.batch (legal_past s es legal) batch
 
-    member_own : IsBeside own (members (atoms (log es)) began.batch) c x.outcome → x.outcome ≡ own k
+    member_own : IsBeside own (members (atoms (past es)) began.batch) c x.outcome → x.outcome ≡ own k
     member_own h =
         let place : h.place ≡ began.place =
-        members-apart s.rules (atoms (log es)) began.batch h.place began.place h.member (k, c) (legal_atoms s es legal) h.at began.at h.cell in
-        let there : slice_get (members (atoms (log es)) began.batch) h.place ≡ Some (k, c) =
-        ap (slice_get (members (atoms (log es)) began.batch)) place ∙ began.at in
+        members-apart s.rules (atoms (past es)) began.batch h.place began.place h.member (k, c) (legal_atoms s es legal) h.at began.at h.cell in
+        let there : slice_get (members (atoms (past es)) began.batch) h.place ≡ Some (k, c) =
+        ap (slice_get (members (atoms (past es)) began.batch)) place ∙ began.at in
         let two : ◌≡◌ {A = Option (Key × ℕ)} (Some h.member) (Some (k, c)) = sym h.at ∙ there in
         let same : h.member ≡ (k, c) = cc in
         sym h.is ∙ ap (λ (m : Key × ℕ). own m.0) same
 
-    by : (o : Option Placed) → last_of (ends began.batch) (log es) ≡ o
-        → option_and_then (λ (p : Placed). outcome_given (atoms (log es)) c p.event.gave) o ≡ Some x.outcome → x.outcome ≡ own k
+    by : (o : Option Placed) → last_of (ends began.batch) (past es) ≡ o
+        → option_and_then (λ (p : Placed). outcome_given (atoms (past es)) c p.event.gave) o ≡ Some x.outcome → x.outcome ≡ own k
     by None is f = absurd (let bad : ◌≡◌ {A = Option Outcome} None (Some x.outcome) = f in cc)
     by (Some p) is f =
-        let given : p.event.gave ≡ own_given own (atoms (log es)) began.batch = give_own s own answers es legal none began.batch p is in
-        member_own (beside_own own c x.outcome (members (atoms (log es)) began.batch) (rw (given, batch) at f))
+        let given : p.event.gave ≡ own_given own (atoms (past es)) began.batch = give_own s own answers es legal none began.batch p is in
+        member_own (beside_own own c x.outcome (members (atoms (past es)) began.batch) (rw (given, batch) at f))
 
 -- ---- the outcomes of loads
 
@@ -98,23 +98,13 @@ pub own_outcome : (service : Service) (own : Key → Outcome) → AnswersOwn ser
     → (e : Ending) → ending_of events (cell_of_load r) ≡ Some e → e.outcome ≡ own k
 own_outcome service own answers events legal unprimed unfailed at caller ks rs got i k r key reply e shows =
     let event : Event = record { caller = caller; call = LoadMany ks; reply = Many rs } in
-    let began : LoadBegan (atoms (log events)) k (cell_of_load r) = loads_began service events legal unprimed at event got i k r key reply in
-    began_own service own answers events legal unfailed k (cell_of_load r) began e shows
-
--- and so is that of a load of one key
-pub own_outcome_of_one : (service : Service) (own : Key → Outcome) → AnswersOwn service own → (events : List Event) → IsLegal service events
-    → NonePrimed events → NoneFailed events → (at caller : ℕ) (k : Key) (r : LoadReply)
-    → slice_get events at ≡ Some (record { caller = caller; call = Load k; reply = Loaded r })
-    → (e : Ending) → ending_of events (cell_of_load r) ≡ Some e → e.outcome ≡ own k
-own_outcome_of_one service own answers events legal unprimed unfailed at caller k r got e shows =
-    let event : Event = record { caller = caller; call = Load k; reply = Loaded r } in
-    let began : LoadBegan (atoms (log events)) k (cell_of_load r) = loads_began service events legal unprimed at event got 0 k r refl refl in
+    let began : LoadBegan (atoms (past events)) k (cell_of_load r) = loads_began service events legal unprimed at event got i k r key reply in
     began_own service own answers events legal unfailed k (cell_of_load r) began e shows
 
 -- ---- tables
 
 -- tables that answer have for each key what they list under it
-pub tables_own : (service : Service) (tables : NamedTables) → ((keys : List Key) → service.answer keys ≡ answer_of tables keys)
+pub tables_own : (service : Service) (tables : Tables) → ((keys : List Key) → service.answer keys ≡ answer_of tables keys)
     → AnswersOwn service (λ (k : Key). outcome_of (found tables k))
 tables_own service tables by_tables keys outcomes is = by (first_break tables keys) (sym (by_tables keys) ∙ is)
   where

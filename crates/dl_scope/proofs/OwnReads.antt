@@ -5,8 +5,8 @@ use Rattle.dl_values.specs.Key.{Key}
 use Rattle.dl_values.specs.declared.outcome.Outcome.{Outcome}
 use Rattle.dl_values.specs.declared.job.Job.{Job}
 use Rattle.dl_desk.specs.declared.reply.LoadReply.{LoadReply}
-use Rattle.dl_history.specs.Agrees.{Tells}
-use Rattle.dl_history.specs.Entries.{Line, cell_of_load}
+use Rattle.dl_history.specs.Agreement.{Tells}
+use Rattle.dl_history.specs.Entries.{Entry, cell_of_load}
 use Rattle.dl_history.specs.History.{ending_of}
 use Rattle.dl_history.specs.Lists.{Every, Among}
 use Rattle.dl_history.specs.declared.event.Call.TheVariants as call
@@ -14,19 +14,19 @@ use Rattle.dl_history.specs.declared.event.Ending.{Ending}
 use Rattle.dl_history.specs.declared.event.Event.{Event}
 use Rattle.dl_history.specs.declared.event.Reply.TheVariants.{Many, Sent}
 use Rattle.dl_history.proofs.ListLemmas.{every_append}
-use Rattle.dl_loader.specs.Added.{line, saws}
-use Rattle.dl_terms.specs.Gives.{Pairs, frontier, gives}
+use Rattle.dl_loader.specs.Additions.{call_entry, saws}
+use Rattle.dl_terms.specs.TermAnswers.{Pairs, frontier, gives}
 use Rattle.dl_terms.specs.Tree.{Tree}
 use Rattle.dl_terms.specs.View.{term_view}
 use Rattle.dl_terms.specs.declared.term.Term.{Term}
 use Rattle.dl_haxl.specs.Pairs.{paired}
 use Rattle.dl_haxl.specs.Rounds.{Round, Rounds, HandedOver}
-use Rattle.dl_haxl.specs.Follows.{Stretch, stretch, step_answer, IsStep, AreSteps}
+use Rattle.dl_haxl.specs.PlanEntries.{Stretch, stretch, step_answer, IsStep, AreSteps}
 use Rattle.dl_scope.specs.OwnAnswers.{AreOwn, IsOwn}
 use Rattle.dl_terms.specs.declared.plan.Step.{Step}
 use Rattle.dl_terms.specs.declared.plan.Step.TheVariants.{Prime, Clear, ClearAll, Eval}
 use Rattle.dl_haxl.specs.declared.step_answer.StepAnswer.{StepAnswer}
-use Rattle.dl_scope.proofs.Unprimed.{every_parts}
+use Rattle.dl_scope.proofs.NoPrimes.{every_parts}
 
 -- each outcome that is read of a loadMany's cell is its key's own
 abbrev pub OwnReads : (Key → Outcome) → List Event → Type 0
@@ -54,11 +54,11 @@ module _ (own : Key → Outcome) (events : List Event) (reads : OwnReads own eve
   saws_own (k ∷ ks) (r ∷ rs) (e ∷ es) each long ends (one, others) =
       (each 0 k r refl refl e one, saws_own ks rs es (λ i j s at also. each (suc i) j s at also) (omega (arith, long)) (omega (arith, ends)) others)
 
-  round_own : (JobsEnd : List Job → List Job → List Line → Type 0) (caller : ℕ) (wanted : List Key) (lines : List Line) (outcomes : List Outcome)
+  round_own : (JobsEnd : List Job → List Job → List Entry → Type 0) (caller : ℕ) (wanted : List Key) (lines : List Entry) (outcomes : List Outcome)
       (sent : List Job) → Every (Tells events) lines → Round JobsEnd caller wanted lines outcomes sent → AreOwn own (paired wanted outcomes)
   round_own JobsEnd caller wanted lines outcomes sent told round =
-      let load = line caller round.load_at (call.LoadMany wanted) (Many round.replies) in
-      let dispatch = line caller round.dispatch_at call.Dispatch (Sent round.jobs) in
+      let load = call_entry caller round.load_at (call.LoadMany wanted) (Many round.replies) in
+      let dispatch = call_entry caller round.dispatch_at call.Dispatch (Sent round.jobs) in
       let whole : Every (Tells events) (load ∷ dispatch ∷ (round.ends ++ saws round.replies round.endings)) =
       subst (Every (Tells events)) round.tells told in
       let seen = every_parts (Tells events) round.ends (saws round.replies round.endings) whole.1.1 in
@@ -66,13 +66,13 @@ module _ (own : Key → Outcome) (events : List Event) (reads : OwnReads own eve
       subst (λ (os : List Outcome). AreOwn own (paired wanted os)) (sym round.outcomes_are)
       (saws_own wanted round.replies round.endings each round.reply_each round.read_each seen.1)
 
-  rounds_own : (JobsEnd : List Job → List Job → List Line → Type 0) (caller : ℕ) (t : Tree) (n : ℕ) (lines : List Line) (known : Pairs) (sent : List Job)
+  rounds_own : (JobsEnd : List Job → List Job → List Entry → Type 0) (caller : ℕ) (t : Tree) (n : ℕ) (lines : List Entry) (known : Pairs) (sent : List Job)
       → Every (Tells events) lines → Rounds JobsEnd caller t n lines known sent → AreOwn own known
   rounds_own JobsEnd caller t zero lines known sent told (none, empty, unsent) = subst (AreOwn own) (sym empty) tt
   rounds_own JobsEnd caller t (suc n) lines known sent told (before, last, past, earlier, later, split, parted, rounds, round) =
-      let parts = every_parts (Tells events) before last (subst (Every (Tells events)) split told) in
-      let first = rounds_own JobsEnd caller t n before past earlier parts.0 rounds in
-      let next = round_own JobsEnd caller (frontier t past) last round.outcomes later parts.1 round.round in
+      let traces = every_parts (Tells events) before last (subst (Every (Tells events)) split told) in
+      let first = rounds_own JobsEnd caller t n before past earlier traces.0 rounds in
+      let next = round_own JobsEnd caller (frontier t past) last round.outcomes later traces.1 round.round in
       subst (AreOwn own) (sym round.gains)
       (every_append (λ (p : Key × Outcome). p.1 ≡ own p.0) past (paired (frontier t past) round.outcomes) first next)
 
@@ -81,7 +81,7 @@ module _ (own : Key → Outcome) (events : List Event) (reads : OwnReads own eve
   Answered number steps given = (i : ℕ) × (term : Term) × (given.step ≡ number + i) × (slice_get steps i ≡ Some (Eval term))
       × IsOwn own (term_view term) given.answer
 
-  no_answer : (number : ℕ) (steps : List Step) (s : Stretch) (lines : List Line) (given : StepAnswer) → s ≡ stretch lines [] 0 [] → Among given s.answers
+  no_answer : (number : ℕ) (steps : List Step) (s : Stretch) (lines : List Entry) (given : StepAnswer) → s ≡ stretch lines [] 0 [] → Among given s.answers
       → Answered number steps given
   no_answer number steps s lines given is among =
       let none : s.answers ≡ [] = ap (λ (x : Stretch). x.answers) is in
@@ -95,11 +95,11 @@ module _ (own : Key → Outcome) (events : List Event) (reads : OwnReads own eve
   step_own : (caller number : ℕ) (step : Step) (steps : List Step) (s : Stretch) → Every (Tells events) s.lines → IsStep caller number step s
       → (given : StepAnswer) → Among given s.answers → Answered number (step ∷ steps) given
   step_own caller number (Prime key outcome) steps s told (at, reply, is) given among =
-      no_answer number (Prime key outcome ∷ steps) s (line caller at (call.Prime key outcome) reply ∷ []) given is among
+      no_answer number (Prime key outcome ∷ steps) s (call_entry caller at (call.Prime key outcome) reply ∷ []) given is among
   step_own caller number (Clear key) steps s told (at, reply, is) given among =
-      no_answer number (Clear key ∷ steps) s (line caller at (call.Clear key) reply ∷ []) given is among
+      no_answer number (Clear key ∷ steps) s (call_entry caller at (call.Clear key) reply ∷ []) given is among
   step_own caller number ClearAll steps s told (at, reply, is) given among =
-      no_answer number (ClearAll ∷ steps) s (line caller at call.ClearAll reply ∷ []) given is among
+      no_answer number (ClearAll ∷ steps) s (call_entry caller at call.ClearAll reply ∷ []) given is among
   step_own caller number (Eval term) steps s told (a, answers, (known, rounds, ended, gives)) given among =
       let here : given ≡ step_answer number a = one_answer given (step_answer number a) (subst (Among given) answers among) in
       let pairs = rounds_own (HandedOver caller) caller (term_view term) s.rounds s.lines known s.sent told rounds in
@@ -114,11 +114,11 @@ module _ (own : Key → Outcome) (events : List Event) (reads : OwnReads own eve
   steps_own caller number (step ∷ steps) s told (own_part, rest, is, one, others) given among =
       let lines : s.lines ≡ own_part.lines ++ rest.lines = ap (λ (x : Stretch). x.lines) is in
       let answers : s.answers ≡ own_part.answers ++ rest.answers = ap (λ (x : Stretch). x.answers) is in
-      let parts = every_parts (Tells events) own_part.lines rest.lines (subst (Every (Tells events)) lines told) in
+      let traces = every_parts (Tells events) own_part.lines rest.lines (subst (Every (Tells events)) lines told) in
       elim (among_parts given own_part.answers rest.answers (subst (Among given) answers among)) [
-        | inl here ↦ step_own caller number step steps own_part parts.0 one given here
+        | inl here ↦ step_own caller number step steps own_part traces.0 one given here
         | inr there ↦ (
-            let found = steps_own caller (suc number) steps rest parts.1 others given there in
+            let found = steps_own caller (suc number) steps rest traces.1 others given there in
             let step_is : given.step ≡ suc number + found.0 = found.2 in
             (suc found.0, found.1, omega (arith, step_is), found.3, found.4))
       ]

@@ -5,22 +5,22 @@ use Rattle.std.proofs.lemmas.Bool.{cases_lt, eqb-true}
 use Rattle.dl_values.specs.Key.{Key}
 use Rattle.dl_values.specs.Limits.{Rules}
 use Rattle.dl_desk.specs.History.{Atom, members, sent, prime_reply}
-use Rattle.dl_desk.specs.Events.{Gave, Each, with_made, atoms, IsLegalLog, Placed, newest, last_of, ends}
+use Rattle.dl_desk.specs.Events.{Gave, Each, with_made, atoms, IsLegalPast, Placed, newest, last_of, ends}
 use Rattle.dl_desk.specs.Events as desk
 use Rattle.dl_values.specs.declared.outcome.Outcome.{Outcome}
 use Rattle.dl_desk.specs.declared.reply.DeskPrime.{DeskPrime}
 use Rattle.dl_desk.specs.declared.reply.DeskPrime.TheVariants as prime
 use Rattle.dl_desk.proofs.Facts.{end_of-unsent}
 use Rattle.dl_desk.proofs.LawEnds.{atoms_legal, last-unended}
-use Rattle.dl_history.specs.History.{made, gave, as_made, log, primed, reply_to, keys_of, MayBeMade, IsNext, IsLegal}
+use Rattle.dl_history.specs.History.{made, gave, as_made, past, primed, reply_to, keys_of, MayBeMade, IsNext, IsLegal}
 use Rattle.dl_history.specs.Service.{Service}
 use Rattle.dl_history.specs.declared.event.Event.{Event}
 use Rattle.dl_history.specs.declared.event.Call.{Call}
 use Rattle.dl_history.specs.declared.event.Call.TheVariants.{Load, LoadMany, Prime, Clear, ClearAll, Dispatch, Settle, Fail}
 use Rattle.dl_history.proofs.CellBatches.{members_stay, ends_may_end}
-use Rattle.dl_history.proofs.Logs.{log-snoc, by_events, next_replied, legal_log}
+use Rattle.dl_history.proofs.Pasts.{past-snoc, by_events, next_replied, legal_past}
 use Rattle.dl_scope.specs.OwnAnswers.{AnswersOwn, IsNoFail, NoneFailed}
-use Rattle.dl_scope.proofs.Unprimed.{every_parts}
+use Rattle.dl_scope.proofs.NoPrimes.{every_parts}
 
 -- the own outcomes of the keys of a batch's members
 abbrev pub own_given : (Key → Outcome) → List Atom → ℕ → Gave
@@ -47,49 +47,49 @@ call_gives s own answers history (Settle n os) b may none now =
 call_gives s own answers history (Fail n fault) b may none now = absurd none
 
 event_gives : (s : Service) (own : Key → Outcome) → AnswersOwn s own → (es : List Event) (e : Event) (b : ℕ) → IsNext s es e → IsNoFail e.call
-    → ends b (made e.call e.reply) ≡ true → gave e.call e.reply ≡ own_given own (atoms (log es)) b
+    → ends b (made e.call e.reply) ≡ true → gave e.call e.reply ≡ own_given own (atoms (past es)) b
 event_gives s own answers es e b next none now =
-    let ending : ends b (made e.call (reply_to s.rules (atoms (log es)) e.call)) ≡ true = rw next.reply at now in
-    rw next.reply (call_gives s own answers (atoms (log es)) e.call b next.made none ending)
+    let ending : ends b (made e.call (reply_to s.rules (atoms (past es)) e.call)) ≡ true = rw next.reply at now in
+    rw next.reply (call_gives s own answers (atoms (past es)) e.call b next.made none ending)
 
 -- ---- the end of a batch
 
 -- a batch that has ended is sent
-last_sent : (rules : Rules) (log : List desk.Event) (b : ℕ) (p : Placed) → IsLegalLog rules log → last_of (ends b) log ≡ Some p → b < sent (atoms log)
-last_sent rules log b p legal got = by (cases_lt b (sent (atoms log)))
+last_sent : (rules : Rules) (past : List desk.Event) (b : ℕ) (p : Placed) → IsLegalPast rules past → last_of (ends b) past ≡ Some p → b < sent (atoms past)
+last_sent rules past b p legal got = by (cases_lt b (sent (atoms past)))
   where
-    by : (b < sent (atoms log)) ⊎ (sent (atoms log) ≤ b) → b < sent (atoms log)
+    by : (b < sent (atoms past)) ⊎ (sent (atoms past) ≤ b) → b < sent (atoms past)
     by (inl low) = low
     by (inr high) =
-        let none : last_of (ends b) log ≡ None = last-unended log b (end_of-unsent rules (atoms log) (atoms_legal rules log legal) b high) in
+        let none : last_of (ends b) past ≡ None = last-unended past b (end_of-unsent rules (atoms past) (atoms_legal rules past legal) b high) in
         let bad : ◌≡◌ {A = Option Placed} None (Some p) = sym none ∙ got in
         absurd (cc)
 
 -- the event that ended a batch gave each member its key's own outcome
 abbrev pub GiveOwn : (Key → Outcome) → List Event → Type 0
-GiveOwn own es = (b : ℕ) (p : Placed) → last_of (ends b) (log es) ≡ Some p → p.event.gave ≡ own_given own (atoms (log es)) b
+GiveOwn own es = (b : ℕ) (p : Placed) → last_of (ends b) (past es) ≡ Some p → p.event.gave ≡ own_given own (atoms (past es)) b
 
 gives_none : (own : Key → Outcome) → GiveOwn own []
 gives_none own b p got = absurd (let bad : ◌≡◌ {A = Option Placed} None (Some p) = got in cc)
 
 gives_more : (s : Service) (own : Key → Outcome) → AnswersOwn s own → (es : List Event) (e : Event) → IsLegal s es → IsNext s es e → IsNoFail e.call
     → GiveOwn own es → GiveOwn own (es ++ e ∷ [])
-gives_more s own answers es e legal next none old b p got = rw (log-snoc es e) (by (ends b (made e.call e.reply)) refl (rw (log-snoc es e) at got))
+gives_more s own answers es e legal next none old b p got = rw (past-snoc es e) (by (ends b (made e.call e.reply)) refl (rw (past-snoc es e) at got))
   where
-    stays : b < sent (atoms (log es)) → own_given own (atoms (log es)) b ≡ own_given own (with_made (made e.call e.reply) (atoms (log es))) b
+    stays : b < sent (atoms (past es)) → own_given own (atoms (past es)) b ≡ own_given own (with_made (made e.call e.reply) (atoms (past es))) b
     stays low =
-        let same : members (with_made (made e.call e.reply) (atoms (log es))) b ≡ members (atoms (log es)) b =
-        members_stay s.rules (atoms (log es)) (made e.call e.reply) b (next_replied s es e next) low in
+        let same : members (with_made (made e.call e.reply) (atoms (past es))) b ≡ members (atoms (past es)) b =
+        members_stay s.rules (atoms (past es)) (made e.call e.reply) b (next_replied s es e next) low in
         ap (λ (ms : List (Key × ℕ)). Each (map own (map (λ (m : Key × ℕ). m.0) ms))) (sym same)
 
-    by : (t : Bool) → ends b (made e.call e.reply) ≡ t → cond t (Some (newest (log es) (as_made e))) (last_of (ends b) (log es)) ≡ Some p
-        → p.event.gave ≡ own_given own (with_made (made e.call e.reply) (atoms (log es))) b
+    by : (t : Bool) → ends b (made e.call e.reply) ≡ t → cond t (Some (newest (past es) (as_made e))) (last_of (ends b) (past es)) ≡ Some p
+        → p.event.gave ≡ own_given own (with_made (made e.call e.reply) (atoms (past es))) b
     by true is f =
-        let may = ends_may_end s.rules (atoms (log es)) (made e.call e.reply) b (next_replied s es e next) is in
-        let same : newest (log es) (as_made e) ≡ p = cc in
-        let given : gave e.call e.reply ≡ own_given own (atoms (log es)) b = event_gives s own answers es e b next none is in
+        let may = ends_may_end s.rules (atoms (past es)) (made e.call e.reply) b (next_replied s es e next) is in
+        let same : newest (past es) (as_made e) ≡ p = cc in
+        let given : gave e.call e.reply ≡ own_given own (atoms (past es)) b = event_gives s own answers es e b next none is in
         ap (λ (q : Placed). q.event.gave) (sym same) ∙ (given ∙ stays may.is_sent)
-    by false is f = old b p f ∙ stays (last_sent s.rules (log es) b p (legal_log s es legal) f)
+    by false is f = old b p f ∙ stays (last_sent s.rules (past es) b p (legal_past s es legal) f)
 
 -- in a legal history with no fail, where the source answers each key with its own outcome
 pub give_own : (s : Service) (own : Key → Outcome) → AnswersOwn s own → (es : List Event) → IsLegal s es → NoneFailed es → GiveOwn own es
@@ -98,5 +98,5 @@ give_own s own answers es legal none = by_events s (λ (xs : List Event). NoneFa
     more : (xs : List Event) (e : Event) → IsLegal s xs → IsNext s xs e → (NoneFailed xs → GiveOwn own xs) → NoneFailed (xs ++ e ∷ [])
         → GiveOwn own (xs ++ e ∷ [])
     more xs e before next rest each =
-        let parts = every_parts (λ (x : Event). IsNoFail x.call) xs (e ∷ []) each in
-        gives_more s own answers xs e before next parts.1.0 (rest parts.0)
+        let traces = every_parts (λ (x : Event). IsNoFail x.call) xs (e ∷ []) each in
+        gives_more s own answers xs e before next traces.1.0 (rest traces.0)

@@ -10,15 +10,15 @@ use Rattle.dl_desk.specs.Events.{atoms}
 use Rattle.dl_desk.specs.Calls.{after}
 use Rattle.dl_desk.specs.declared.reply.End.{End}
 use Rattle.dl_desk.proofs.Facts.{sent-le, end_of-unsent}
-use Rattle.dl_history.specs.History.{log, reply_to, call_of, IsNext, IsLegal, AllEnded}
+use Rattle.dl_history.specs.History.{past, reply_to, call_of, IsNext, IsLegal, AllEnded}
 use Rattle.dl_history.specs.Lists.{total}
 use Rattle.dl_history.specs.Service.{Service}
 use Rattle.dl_history.specs.declared.event.Event.{Event}
 use Rattle.dl_history.specs.declared.event.Call.{Call}
 use Rattle.dl_history.specs.declared.event.Call.TheVariants.{Load, LoadMany, Prime, Clear, ClearAll, Dispatch, Settle, Fail}
 use Rattle.dl_history.proofs.ListLemmas.{total-append}
-use Rattle.dl_history.proofs.Logs.{by_events, atoms_next, legal_atoms}
-use Rattle.dl_workers.specs.Sent.{dispatched, dispatched_by}
+use Rattle.dl_history.proofs.Pasts.{by_events, atoms_next, legal_atoms}
+use Rattle.dl_workers.specs.Dispatches.{dispatched, dispatched_by}
 use Rattle.dl_scope.proofs.CallTotals.{long_each}
 
 -- ---- one call
@@ -55,24 +55,24 @@ abbrev jobs_told : List Event → ℕ
 jobs_told events = total (λ e. length (dispatched_by e.call e.reply)) events
 
 -- the jobs of all dispatches are as many as the batches that were sent
-jobs_sent : (s : Service) (es : List Event) → IsLegal s es → jobs_told es ≡ sent (atoms (log es))
-jobs_sent s es legal = by_events s (λ (xs : List Event). jobs_told xs ≡ sent (atoms (log xs))) refl more es legal
+jobs_sent : (s : Service) (es : List Event) → IsLegal s es → jobs_told es ≡ sent (atoms (past es))
+jobs_sent s es legal = by_events s (λ (xs : List Event). jobs_told xs ≡ sent (atoms (past xs))) refl more es legal
   where
-    more : (xs : List Event) (e : Event) → IsLegal s xs → IsNext s xs e → jobs_told xs ≡ sent (atoms (log xs))
-        → jobs_told (xs ++ e ∷ []) ≡ sent (atoms (log (xs ++ e ∷ [])))
+    more : (xs : List Event) (e : Event) → IsLegal s xs → IsNext s xs e → jobs_told xs ≡ sent (atoms (past xs))
+        → jobs_told (xs ++ e ∷ []) ≡ sent (atoms (past (xs ++ e ∷ [])))
     more xs e before next rest =
         let all = total-append (λ (x : Event). length (dispatched_by x.call x.reply)) xs (e ∷ []) in
-        let one = call_sends s.rules (atoms (log xs)) e.call in
+        let one = call_sends s.rules (atoms (past xs)) e.call in
         let reply = ap (λ r. length (dispatched_by e.call r)) next.reply in
         let after_it = ap sent (atoms_next s xs e next) in
         omega (arith, all, one, reply, after_it, rest)
 
 -- where each batch has ended, each was sent
-all_sent : (s : Service) (es : List Event) → IsLegal s es → AllEnded es → sent (atoms (log es)) ≡ begun (atoms (log es))
+all_sent : (s : Service) (es : List Event) → IsLegal s es → AllEnded es → sent (atoms (past es)) ≡ begun (atoms (past es))
 all_sent s es legal ended = by (cases_lt (sent history) (begun history))
   where
     history : List Atom
-    history = atoms (log es)
+    history = atoms (past es)
 
     by : (sent history < begun history) ⊎ (begun history ≤ sent history) → sent history ≡ begun history
     by (inl more) =
@@ -82,6 +82,6 @@ all_sent s es legal ended = by (cases_lt (sent history) (begun history))
     by (inr high) = let low = sent-le history in omega (arith, low)
 
 -- in a legal history whose batches have ended, dispatches handed out as many jobs as there are batches
-pub jobs_begun : (s : Service) (es : List Event) → IsLegal s es → AllEnded es → length (dispatched es) ≡ begun (atoms (log es))
+pub jobs_begun : (s : Service) (es : List Event) → IsLegal s es → AllEnded es → length (dispatched es) ≡ begun (atoms (past es))
 jobs_begun s es legal ended =
     long_each (λ (e : Event). dispatched_by e.call e.reply) es ∙ (jobs_sent s es legal ∙ all_sent s es legal ended)

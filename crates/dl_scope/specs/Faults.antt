@@ -1,11 +1,11 @@
 -- When plans are refused.
 use Rattle.std.specs.Prelude.{◌≡◌, ℕ, ◌+◌, ◌<◌, ◌≤◌, ◌⊎◌, List, length, Option, Some, slice_get}
-use Rattle.dl_history.specs.Agrees.{Account}
+use Rattle.dl_history.specs.Agreement.{Account}
 use Rattle.dl_history.specs.Service.{Service}
 use Rattle.dl_haxl.specs.RunFaults.{IsRunFault}
 use Rattle.dl_haxl.specs.declared.fault.RunFault.{RunFault}
 use Rattle.dl_haxl.specs.declared.fault.RunFault.TheVariants as run
-use Rattle.dl_loader.specs.Book.{Keeps, Locked}
+use Rattle.dl_loader.specs.Book.{Keeps, Book}
 use Rattle.dl_loader.specs.Closing.{IsLeastOf, RefusesClose}
 use Rattle.dl_loader.specs.declared.fault.CallFault.TheVariants as call
 use Rattle.dl_loader.specs.declared.fault.CloseFault.{CloseFault}
@@ -77,7 +77,7 @@ EndedSo service plans workers P = (faults : List (Option RunFault)) × (ends : L
 
 -- a loader of the service is refused its close for this
 abbrev pub RefusesItsClose : Service → CloseFault → Type 0
-RefusesItsClose service fault = (b : Locked) × (accounts : List Account) × Keeps service b × RefusesClose service.callers b accounts fault
+RefusesItsClose service fault = (b : Book) × (accounts : List Account) × Keeps service b × RefusesClose service.callers b accounts fault
 
 -- the batch is the least that was given up of a report with all else of the headline
 abbrev pub LeastGivenUp : Service → List Plan → ℕ → Type 0

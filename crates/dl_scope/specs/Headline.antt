@@ -3,18 +3,18 @@ use Rattle.std.specs.Prelude.{◌≡◌, ℕ, ◌+◌, ◌<◌, ◌≤◌, List,
 use Rattle.dl_values.specs.Limits.{mixed}
 use Rattle.dl_values.specs.Key.{Key}
 use Rattle.dl_values.specs.declared.outcome.BatchAnswer.{BatchAnswer}
-use Rattle.dl_history.specs.Agrees.{Agrees, HasEach, entries_of}
-use Rattle.dl_history.specs.Entries.{Line, Called, Saw}
+use Rattle.dl_history.specs.Agreement.{Agrees, HasEach, entries_of}
+use Rattle.dl_history.specs.Entries.{Entry, Called, Saw}
 use Rattle.dl_history.specs.History.{IsLegal, AllEnded}
 use Rattle.dl_history.specs.Lists.{Every}
 use Rattle.dl_history.specs.Service.{Service, service}
 use Rattle.dl_history.specs.declared.event.Call.{Call}
 use Rattle.dl_history.specs.declared.event.Call.TheVariants.{Load, LoadMany, Prime, Clear, ClearAll, Dispatch, Settle, Fail}
 use Rattle.dl_history.specs.declared.event.Event.{Event}
-use Rattle.dl_haxl.specs.Follows.{Follows}
+use Rattle.dl_haxl.specs.PlanEntries.{Follows}
 use Rattle.dl_scope.specs.Report.{Report}
-use Rattle.dl_workers.specs.GivenUp.{given_up}
-use Rattle.dl_workers.specs.Sent.{dispatched, unsent}
+use Rattle.dl_workers.specs.GiveUps.{given_up}
+use Rattle.dl_workers.specs.Dispatches.{dispatched, unsent}
 use Rattle.dl_terms.specs.declared.plan.Plan.{Plan}
 use Rattle.dl_scope.specs.declared.setup.Setup.{Setup}
 use Rattle.dl_haxl.specs.declared.step_answer.StepAnswer.{StepAnswer}
@@ -35,7 +35,7 @@ Ends b ClearAll = ⊥
 Ends b Dispatch = ⊥
 
 -- the entry is one of a call that ends a batch
-abbrev pub TellsEnd : Line → Type 0
+abbrev pub TellsEnd : Entry → Type 0
 TellsEnd (Called t) = (b : ℕ) × Ends b t.event.call
 TellsEnd (Saw r) = ⊥
 

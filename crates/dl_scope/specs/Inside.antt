@@ -1,3 +1,3 @@
-pub mod Gathered
-pub mod Kept
-pub mod Served
+pub mod Results
+pub mod ThreadRuns
+pub mod ServedPlans

@@ -1,4 +1,4 @@
-pub mod Carried
+pub mod CarriedJobs
 pub mod Faults
 pub mod Headline
 pub mod Inside

@@ -9,8 +9,8 @@ use Rattle.dl_history.specs.declared.event.Call.{Call}
 use Rattle.dl_history.specs.declared.event.Call.TheVariants as call
 use Rattle.dl_history.specs.declared.event.Event.{Event}
 use Rattle.dl_source.specs.Answer.{answer_of, found, outcome_of}
-use Rattle.dl_source.specs.Listing.{NamedTables}
-use Rattle.dl_terms.specs.Gives.{Pairs, gives}
+use Rattle.dl_source.specs.Tables.{Tables}
+use Rattle.dl_terms.specs.TermAnswers.{Pairs, gives}
 use Rattle.dl_terms.specs.Tree.{Tree}
 use Rattle.dl_terms.specs.View.{term_view}
 use Rattle.dl_terms.specs.declared.answer.Answer.{Answer}
@@ -66,7 +66,7 @@ abbrev pub IsOwn : (Key → Outcome) → Tree → Answer → Type 0
 IsOwn own t a = (pairs : Pairs) × AreOwn own pairs × gives t pairs a
 
 -- a key's own outcome in the tables: its row, its error, or why nothing is listed
-abbrev pub listed : NamedTables → Key → Outcome
+abbrev pub listed : Tables → Key → Outcome
 listed tables k = outcome_of (found tables k)
 
 -- the step primes no key
@@ -77,13 +77,13 @@ PrimesNoKey ClearAll = Unit {0}
 PrimesNoKey (Eval term) = Unit {0}
 
 -- the answer is that of a term of the plan, by the tables alone
-abbrev pub AnswersByTables : NamedTables → Plan → StepAnswer → Type 0
+abbrev pub AnswersByTables : Tables → Plan → StepAnswer → Type 0
 AnswersByTables tables plan given = (term : Term) × (slice_get plan.steps.items given.step ≡ Some (Eval term))
     × IsOwn (listed tables) (term_view term) given.answer
 
 -- Where no batch failed and no plan primes a key, each answer of a report is what its term gives by the tables alone.
 abbrev pub AnswersAreOwn : Type 0
-AnswersAreOwn = (tables : NamedTables) (setup : Setup) (plans : List Plan) (r : Report)
+AnswersAreOwn = (tables : Tables) (setup : Setup) (plans : List Plan) (r : Report)
     → Headline (service_of setup (length plans) (answer_of tables)) plans r → NoneFailed r.history.events
     → Every (λ plan. Every PrimesNoKey plan.steps.items) plans
     → (n : ℕ) (plan : Plan) (answers : List StepAnswer) → slice_get plans n ≡ Some plan → slice_get r.answers n ≡ Some answers
@@ -91,4 +91,4 @@ AnswersAreOwn = (tables : NamedTables) (setup : Setup) (plans : List Plan) (r : 
 
 -- by the tables alone a term has one answer
 abbrev pub OwnAnswersAreOne : Type 0
-OwnAnswersAreOne = (tables : NamedTables) (t : Tree) (a b : Answer) → IsOwn (listed tables) t a → IsOwn (listed tables) t b → a ≡ b
+OwnAnswersAreOne = (tables : Tables) (t : Tree) (a b : Answer) → IsOwn (listed tables) t a → IsOwn (listed tables) t b → a ≡ b

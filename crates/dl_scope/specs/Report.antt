@@ -1,6 +1,6 @@
 -- What contracts see of a report.
 use Rattle.std.specs.Prelude.{ℕ, List}
-use Rattle.dl_history.specs.Closed.{Closed}
+use Rattle.dl_history.specs.ClosedHistory.{History}
 use Rattle.dl_workers.specs.declared.queue.Tally.{Tally}
 use Rattle.dl_haxl.specs.declared.step_answer.StepAnswer.{StepAnswer}
 
@@ -8,8 +8,8 @@ use Rattle.dl_haxl.specs.declared.step_answer.StepAnswer.{StepAnswer}
 pub record Report : Type 0 where
   pub answers : List (List StepAnswer)
   pub rounds : List ℕ
-  pub history : Closed
+  pub history : History
   pub tally : Tally
 
-abbrev pub report : List (List StepAnswer) → List ℕ → Closed → Tally → Report
+abbrev pub report : List (List StepAnswer) → List ℕ → History → Tally → Report
 report answers rounds history tally = record { answers = answers; rounds = rounds; history = history; tally = tally }

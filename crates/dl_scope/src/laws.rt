@@ -1,6 +1,6 @@
 //! Laws of what reports have, for every report. Each function does nothing: its contract is the law.
 
-ghost use Rattle.dl_scope.specs.Carried.{EachIsCarried, JobsAreBatches};
+ghost use Rattle.dl_scope.specs.CarriedJobs.{EachIsCarried, JobsAreBatches};
 ghost use Rattle.dl_scope.specs.OwnAnswers.{AnswersAreOwn, OwnAnswersAreOne};
 
 /// The dispatches of a report's history handed out one job for each batch, also where batches were given up.

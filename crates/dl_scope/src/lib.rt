@@ -5,20 +5,20 @@
 //! history, and its contract says what they are evidence of, whatever the schedule was.
 #![tactic(auto)]
 
-mod dealing;
 mod fault;
-mod gathering;
-mod jobs;
 pub mod laws;
 mod report;
-mod serving;
+mod results;
+mod scope;
+mod server;
 mod setup;
-mod stage;
+mod task_lists;
+mod tasks;
 mod threads;
 
 pub use dl_haxl::StepAnswer;
 pub use dl_terms::{MOST_PLANS, Plan, Step};
 pub use fault::ScopeFault;
 pub use report::Report;
-pub use serving::{MOST_WORKERS, serve};
+pub use scope::{MOST_WORKERS, serve};
 pub use setup::Setup;

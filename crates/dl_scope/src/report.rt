@@ -50,14 +50,14 @@ impl Report {
         }
     }
 
-    /// For each plan, in order, the answers of its terms, each with its step. It does not allocate.
+    /// For each plan, in order, the answers of its terms, each with its step.
     pub fn answers(&self) -> &[Vec<StepAnswer>]
         ensures { map (λ a. a.items) result.now ≡ self.now.answers }
     {
         self.answers.as_slice()
     }
 
-    /// For each plan, in order, how many rounds of loads its terms took. It does not allocate.
+    /// For each plan, in order, how many rounds of loads its terms took.
     pub fn rounds(&self) -> &[u64]
         ensures { result.now ≡ self.now.rounds }
     {
@@ -72,7 +72,7 @@ impl Report {
         &self.history
     }
 
-    /// How many jobs were sent, taken and left. It does not allocate.
+    /// How many jobs were sent, taken and left.
     pub fn tally(&self) -> Tally
         ensures { result ≡ self.now.tally }
     {

@@ -4,10 +4,10 @@ ghost use Rattle.std.specs.Prelude.{◌≡◌, ◌++◌, ◌∷◌, [], All, IfO
 ghost use Rattle.std.specs.List.{AllZip};
 ghost use Rattle.dl_history.specs.Service.{Answers};
 ghost use Rattle.dl_workers.specs.Seats.{IsSenderOf, IsTakerOf};
-ghost use Rattle.dl_scope.specs.Inside.Kept.{OwnKept, PlanKept, WorkerKept};
+ghost use Rattle.dl_scope.specs.Inside.ThreadRuns.{IsPlanRun, IsWorkerRun, SendsNothing};
 
-use crate::jobs::{PlanJob, PlanPromise, PlanRun, WorkerJob, WorkerPromise, WorkerRun};
-use crate::stage::Stage;
+use crate::server::Server;
+use crate::tasks::{PlanPromise, PlanRun, PlanTask, WorkerPromise, WorkerRun, WorkerTask};
 use dl_loader::LoaderName;
 use dl_source::Source;
 use dl_workers::{Gate, JobQueue, Sender};
@@ -37,32 +37,30 @@ pub(crate) fn run_all<
     R: Threads + Wait + Sync,
 >(
     rt: &R,
-    stage: &Stage<'_, L>,
-    source: &S,
-    gate: &G,
-    workers: Vec<WorkerJob<L>>,
-    plans: Vec<PlanJob<L>>,
+    server: &Server<'_, L, S, G>,
+    workers: Vec<WorkerTask<L>>,
+    plans: Vec<PlanTask<L>>,
     own: Sender,
 ) -> Result<Runs<L>, AllocError>
-    requires source { Answers (S.answer source.now) L.service }
-    requires workers { All (λ job. IsTakerOf stage.now.queue.now job.taker) workers.items }
-    requires plans { All (λ job. IsSenderOf stage.now.queue.now job.sender) plans.items }
-    requires own { IsSenderOf stage.now.queue.now own }
-    ensures workers { IfOk result (λ runs. AllZip (WorkerKept stage.now.queue.now L.service) workers.items runs.workers.items) }
-    ensures plans { IfOk result (λ runs. AllZip (PlanKept stage.now.queue.now L.service) plans.items runs.plans.items) }
-    ensures own { IfOk result (λ runs. OwnKept stage.now.queue.now own runs.own) }
+    requires source { Answers (S.answer server.now.resources.now.source.now) L.service }
+    requires workers { All (λ task. IsTakerOf server.now.queue.now task.taker) workers.items }
+    requires plans { All (λ task. IsSenderOf server.now.queue.now task.sender) plans.items }
+    requires own { IsSenderOf server.now.queue.now own }
+    ensures workers { IfOk result (λ runs. AllZip (IsWorkerRun server.now.queue.now L.service) workers.items runs.workers.items) }
+    ensures plans { IfOk result (λ runs. AllZip (IsPlanRun server.now.queue.now L.service) plans.items runs.plans.items) }
+    ensures own { IfOk result (λ runs. SendsNothing server.now.queue.now own runs.own) }
 {
     thread::scope(
         thread::scope_env(),
         rt,
         |scope| -> Result<Runs<L>, AllocError>
-            requires { Answers (S.answer source.now) L.service
-                × All (λ job. IsTakerOf stage.now.queue.now job.taker) workers.items
-                × All (λ job. IsSenderOf stage.now.queue.now job.sender) plans.items × IsSenderOf stage.now.queue.now own }
-            ensures workers { IfOk result (λ runs. AllZip (WorkerKept stage.entry.now.queue.now L.service) workers.items runs.workers.items) }
-            ensures plans { IfOk result (λ runs. AllZip (PlanKept stage.entry.now.queue.now L.service) plans.items runs.plans.items) }
-            ensures own { IfOk result (λ runs. OwnKept stage.entry.now.queue.now own runs.own) }
-        { run_workers(scope, rt, stage, source, gate, workers, plans, own) },
+            requires { Answers (S.answer server.now.resources.now.source.now) L.service
+                × All (λ task. IsTakerOf server.now.queue.now task.taker) workers.items
+                × All (λ task. IsSenderOf server.now.queue.now task.sender) plans.items × IsSenderOf server.now.queue.now own }
+            ensures workers { IfOk result (λ runs. AllZip (IsWorkerRun server.entry.now.queue.now L.service) workers.items runs.workers.items) }
+            ensures plans { IfOk result (λ runs. AllZip (IsPlanRun server.entry.now.queue.now L.service) plans.items runs.plans.items) }
+            ensures own { IfOk result (λ runs. SendsNothing server.entry.now.queue.now own runs.own) }
+        { run_workers(scope, rt, server, workers, plans, own) },
     )
 }
 
@@ -77,28 +75,26 @@ fn run_workers<
 >(
     scope: &Scope<'s, E>,
     rt: &'s R,
-    stage: &'s Stage<'s, L>,
-    source: &'s S,
-    gate: &'s G,
-    mut workers: Vec<WorkerJob<L>>,
-    plans: Vec<PlanJob<L>>,
+    server: &'s Server<'s, L, S, G>,
+    mut workers: Vec<WorkerTask<L>>,
+    plans: Vec<PlanTask<L>>,
     own: Sender,
 ) -> Result<Runs<L>, AllocError>
-    requires source { Answers (S.answer source.now) L.service }
-    requires workers { All (λ job. IsTakerOf stage.now.queue.now job.taker) workers.items }
-    requires plans { All (λ job. IsSenderOf stage.now.queue.now job.sender) plans.items }
-    requires own { IsSenderOf stage.now.queue.now own }
-    ensures workers { IfOk result (λ runs. AllZip (WorkerKept stage.now.queue.now L.service) workers.items runs.workers.items) }
-    ensures plans { IfOk result (λ runs. AllZip (PlanKept stage.now.queue.now L.service) plans.items runs.plans.items) }
-    ensures own { IfOk result (λ runs. OwnKept stage.now.queue.now own runs.own) }
+    requires source { Answers (S.answer server.now.resources.now.source.now) L.service }
+    requires workers { All (λ task. IsTakerOf server.now.queue.now task.taker) workers.items }
+    requires plans { All (λ task. IsSenderOf server.now.queue.now task.sender) plans.items }
+    requires own { IsSenderOf server.now.queue.now own }
+    ensures workers { IfOk result (λ runs. AllZip (IsWorkerRun server.now.queue.now L.service) workers.items runs.workers.items) }
+    ensures plans { IfOk result (λ runs. AllZip (IsPlanRun server.now.queue.now L.service) plans.items runs.plans.items) }
+    ensures own { IfOk result (λ runs. SendsNothing server.now.queue.now own runs.own) }
 {
-    let Some(job) = workers.pop() else {
-        return run_plans_alone(scope, rt, stage, plans, own);
+    let Some(task) = workers.pop() else {
+        return run_plans_alone(scope, rt, server, plans, own);
     };
-    let Some(child) = start_worker(scope, rt, stage, source, gate, job) else {
-        return Err(refused(rt, stage.queue, own));
+    let Some(child) = start_worker(scope, rt, server, task) else {
+        return Err(refused(rt, server.queue, own));
     };
-    let rest = run_workers(scope, rt, stage, source, gate, workers, plans, own);
+    let rest = run_workers(scope, rt, server, workers, plans, own);
     with_worker(rest, child.join(rt))
 }
 
@@ -113,27 +109,25 @@ fn start_worker<
 >(
     scope: &Scope<'s, E>,
     rt: &'s R,
-    stage: &'s Stage<'s, L>,
-    source: &'s S,
-    gate: &'s G,
-    job: WorkerJob<L>,
+    server: &'s Server<'s, L, S, G>,
+    task: WorkerTask<L>,
 ) -> Option<PromisedHandle<WorkerRun<L>, WorkerPromise<'s, L>>>
-    requires source { Answers (S.answer source.now) L.service }
-    requires seat { IsTakerOf stage.now.queue.now job.taker }
-    ensures queue { IfSome result (λ child. child.promise.queue.now ≡ stage.now.queue.now) }
-    ensures job { IfSome result (λ child. child.promise.job.value ≡ job) }
+    requires source { Answers (S.answer server.now.resources.now.source.now) L.service }
+    requires seat { IsTakerOf server.now.queue.now task.taker }
+    ensures queue { IfSome result (λ child. child.promise.queue.now ≡ server.now.queue.now) }
+    ensures task { IfSome result (λ child. child.promise.task.value ≡ task) }
 {
     let promise = WorkerPromise {
-        queue: stage.queue,
-        job: Snapshot::of(&job),
+        queue: server.queue,
+        task: Snapshot::of(&task),
     };
     scope
         .spawn_with(
             promise,
             move || -> WorkerRun<L>
-                requires { Answers (S.answer source.now) L.service × IsTakerOf stage.now.queue.now job.taker }
-                ensures { WorkerKept stage.entry.now.queue.now L.service job result }
-            { job.run(rt, stage, source, gate) },
+                requires { Answers (S.answer server.now.resources.now.source.now) L.service × IsTakerOf server.now.queue.now task.taker }
+                ensures { IsWorkerRun server.entry.now.queue.now L.service task result }
+            { task.run(rt, server) },
         )
         .ok()
 }
@@ -161,70 +155,91 @@ fn refused(rt: &impl Wait, queue: &JobQueue, mut own: Sender) -> AllocError
 }
 
 /// Runs the plans, where each worker was started, and shuts the queue.
-fn run_plans_alone<'s, E, L: LoaderName + Send + Sync + 's, R: Threads + Wait + Sync + 's>(
+fn run_plans_alone<
+    's,
+    E,
+    L: LoaderName + Send + Sync + 's,
+    S: Sync + 's,
+    G: Sync + 's,
+    R: Threads + Wait + Sync + 's,
+>(
     scope: &Scope<'s, E>,
     rt: &'s R,
-    stage: &'s Stage<'s, L>,
-    plans: Vec<PlanJob<L>>,
+    server: &'s Server<'s, L, S, G>,
+    plans: Vec<PlanTask<L>>,
     mut own: Sender,
 ) -> Result<Runs<L>, AllocError>
-    requires plans { All (λ job. IsSenderOf stage.now.queue.now job.sender) plans.items }
-    requires own { IsSenderOf stage.now.queue.now own }
+    requires plans { All (λ task. IsSenderOf server.now.queue.now task.sender) plans.items }
+    requires own { IsSenderOf server.now.queue.now own }
     ensures workers { IfOk result (λ runs. runs.workers.items ≡ []) }
-    ensures plans { IfOk result (λ runs. AllZip (PlanKept stage.now.queue.now L.service) plans.items runs.plans.items) }
-    ensures own { IfOk result (λ runs. OwnKept stage.now.queue.now own runs.own) }
+    ensures plans { IfOk result (λ runs. AllZip (IsPlanRun server.now.queue.now L.service) plans.items runs.plans.items) }
+    ensures own { IfOk result (λ runs. SendsNothing server.now.queue.now own runs.own) }
 {
-    let plans = run_plans(scope, rt, stage, plans);
-    stage.queue.shut(rt, &mut own);
+    let plans = run_plans(scope, rt, server, plans);
+    server.queue.shut(rt, &mut own);
     Ok(Runs {
         plans: plans?,
-        workers: Vec::new(stage.alloc),
+        workers: Vec::new(server.resources.alloc),
         own,
     })
 }
 
 /// Starts a thread for each plan, the last first, and joins them.
-fn run_plans<'s, E, L: LoaderName + Send + Sync + 's, R: Threads + Wait + Sync + 's>(
+fn run_plans<
+    's,
+    E,
+    L: LoaderName + Send + Sync + 's,
+    S: Sync + 's,
+    G: Sync + 's,
+    R: Threads + Wait + Sync + 's,
+>(
     scope: &Scope<'s, E>,
     rt: &'s R,
-    stage: &'s Stage<'s, L>,
-    mut plans: Vec<PlanJob<L>>,
+    server: &'s Server<'s, L, S, G>,
+    mut plans: Vec<PlanTask<L>>,
 ) -> Result<Vec<PlanRun<L>>, AllocError>
-    requires plans { All (λ job. IsSenderOf stage.now.queue.now job.sender) plans.items }
-    ensures plans { IfOk result (λ runs. AllZip (PlanKept stage.now.queue.now L.service) plans.items runs.items) }
+    requires plans { All (λ task. IsSenderOf server.now.queue.now task.sender) plans.items }
+    ensures plans { IfOk result (λ runs. AllZip (IsPlanRun server.now.queue.now L.service) plans.items runs.items) }
 {
-    let Some(job) = plans.pop() else {
-        return Ok(Vec::new(stage.alloc));
+    let Some(task) = plans.pop() else {
+        return Ok(Vec::new(server.resources.alloc));
     };
-    let Some(child) = start_plan(scope, rt, stage, job) else {
+    let Some(child) = start_plan(scope, rt, server, task) else {
         return Err(AllocError);
     };
-    let rest = run_plans(scope, rt, stage, plans);
+    let rest = run_plans(scope, rt, server, plans);
     with_plan(rest, child.join(rt))
 }
 
 /// Starts the thread of a plan. The answer is `None` where the thread was refused.
-fn start_plan<'s, E, L: LoaderName + Send + Sync + 's, R: Wait + Sync + 's>(
+fn start_plan<
+    's,
+    E,
+    L: LoaderName + Send + Sync + 's,
+    S: Sync + 's,
+    G: Sync + 's,
+    R: Wait + Sync + 's,
+>(
     scope: &Scope<'s, E>,
     rt: &'s R,
-    stage: &'s Stage<'s, L>,
-    job: PlanJob<L>,
+    server: &'s Server<'s, L, S, G>,
+    task: PlanTask<L>,
 ) -> Option<PromisedHandle<PlanRun<L>, PlanPromise<'s, L>>>
-    requires seat { IsSenderOf stage.now.queue.now job.sender }
-    ensures queue { IfSome result (λ child. child.promise.queue.now ≡ stage.now.queue.now) }
-    ensures job { IfSome result (λ child. child.promise.job.value ≡ job) }
+    requires seat { IsSenderOf server.now.queue.now task.sender }
+    ensures queue { IfSome result (λ child. child.promise.queue.now ≡ server.now.queue.now) }
+    ensures task { IfSome result (λ child. child.promise.task.value ≡ task) }
 {
     let promise = PlanPromise {
-        queue: stage.queue,
-        job: Snapshot::of(&job),
+        queue: server.queue,
+        task: Snapshot::of(&task),
     };
     scope
         .spawn_with(
             promise,
             move || -> PlanRun<L>
-                requires { IsSenderOf stage.now.queue.now job.sender }
-                ensures { PlanKept stage.entry.now.queue.now L.service job result }
-            { job.run(rt, stage) },
+                requires { IsSenderOf server.now.queue.now task.sender }
+                ensures { IsPlanRun server.entry.now.queue.now L.service task result }
+            { task.run(rt, server) },
         )
         .ok()
 }

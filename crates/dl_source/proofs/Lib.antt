@@ -1,5 +1,5 @@
 pub mod Lookups
 pub mod Members
 pub mod Repeats
-pub mod Spelled
+pub mod Spelling
 pub mod Refusals

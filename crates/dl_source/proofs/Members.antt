@@ -5,7 +5,7 @@ use Rattle.std.specs.List.{list_all}
 use Rattle.serde_json.specs.Data.{Data}
 use Rattle.serde_json.specs.View.{items_view, members_view}
 use Rattle.serde_json.specs.declared.value.Value.{Value}
-use Rattle.dl_source.specs.declared.tables.Entry.{Entry}
+use Rattle.dl_source.specs.declared.tables.Finding.{Finding}
 use Rattle.dl_source.specs.Spelling.{names_all}
 use Rattle.dl_source.specs.Inside.Reading.{pair_in}
 
@@ -16,8 +16,8 @@ names_all-members_view test [] = refl
 names_all-members_view test (e ∷ es) = ap (λ b. test (string_bytes e.0) && b) (names_all-members_view test es)
 
 -- only a list of two is a pair
-pub no_pair : (entry_of : Data → Option Entry) (vs : List Value) → length vs ≢ 2 → pair_in entry_of (items_view vs) ≡ None
-no_pair entry_of [] h = refl
-no_pair entry_of (v ∷ []) h = refl
-no_pair entry_of (v ∷ w ∷ []) h = absurd (h refl)
-no_pair entry_of (v ∷ w ∷ x ∷ vs) h = refl
+pub no_pair : (finding_of : Data → Option Finding) (vs : List Value) → length vs ≢ 2 → pair_in finding_of (items_view vs) ≡ None
+no_pair finding_of [] h = refl
+no_pair finding_of (v ∷ []) h = refl
+no_pair finding_of (v ∷ w ∷ []) h = absurd (h refl)
+no_pair finding_of (v ∷ w ∷ x ∷ vs) h = refl

@@ -4,11 +4,11 @@ use Rattle.std.proofs.Common.{arith}
 use Rattle.serde_json.specs.Data.{Data}
 use Rattle.dl_source.specs.declared.fault.TableFault.{TableFault}
 use Rattle.dl_source.specs.declared.fault.TableFault.TheVariants.{Shape, BadKey, TextTooLong, NotWhole, DuplicateTable, DuplicateKey, OutOfMemory}
-use Rattle.dl_source.specs.Listing.{NamedTables}
+use Rattle.dl_source.specs.Tables.{Tables}
 use Rattle.dl_source.specs.Spelling.{Spells}
 use Rattle.dl_source.specs.Faults.{has_bad_key, has_long_text, has_other_number, repeats, has_repeated_key, Has, Causes, number, IsLeast, RefusedFor}
 use Rattle.dl_source.specs.Inside.Reading.{tables_in, Reads, content_fault}
-use Rattle.dl_source.proofs.Spelled.{tables_reader, same_some}
+use Rattle.dl_source.proofs.Spelling.{tables_reader, same_some}
 
 -- a tree that is read as no tables spells none
 pub no_tables : (d : Data) → tables_in d ≡ None → IsLeast d Shape
@@ -24,19 +24,19 @@ no_tables d h = record { cause = λ ts s. let e = sym h ∙ tables_reader.again 
     before OutOfMemory lt c = omega arith
 
 -- the tests before number n are passed
-pub record Passed (ts : NamedTables) (n : ℕ) : Type 0 where
+pub record Passed (ts : Tables) (n : ℕ) : Type 0 where
   pub keys : 2 < n → has_bad_key ts ≡ false
   pub texts : 3 < n → has_long_text ts ≡ false
   pub numbers : 4 < n → has_other_number ts ≡ false
   pub names : 5 < n → repeats ts ≡ false
   pub ids : 6 < n → has_repeated_key ts ≡ false
 
-module _ (d : Data) (ts : NamedTables) (read : tables_in d ≡ Some ts) where
+module _ (d : Data) (ts : Tables) (read : tables_in d ≡ Some ts) where
   pub spelled : Spells d ts
   spelled = tables_reader.found d ts read
 
   -- a test that the tables pass is passed by whatever the tree spells
-  passed_by : (test : NamedTables → Bool) → test ts ≡ false → Has test d → ⊥
+  passed_by : (test : Tables → Bool) → test ts ≡ false → Has test d → ⊥
   passed_by test p h =
       let same = same_some ts h.0 (sym read ∙ tables_reader.again d h.0 h.1) in
       true≢false (sym h.2 ∙ ap test (sym same) ∙ p)
@@ -115,7 +115,7 @@ module _ (d : Data) (ts : NamedTables) (read : tables_in d ≡ Some ts) where
 -- ---- what the reading functions answer
 
 -- the one fault of the reading
-pub unread : {T : Type 0} (d : Data) (f : TableFault) (seen : T → NamedTables) → Reads (Err f) seen (tables_in d) → RefusedFor d f
+pub unread : {T : Type 0} (d : Data) (f : TableFault) (seen : T → Tables) → Reads (Err f) seen (tables_in d) → RefusedFor d f
 unread d Shape seen h = inr (no_tables d h)
 unread d BadKey seen h = absurd h
 unread d TextTooLong seen h = absurd h
@@ -140,10 +140,10 @@ all_false false false true h = cc
 all_false false false false h = record { keys = refl; texts = refl; numbers = refl }
 
 -- no fault of the content: each test is passed
-pub clean : (ts : NamedTables) → content_fault ts ≡ None → AreFalse (has_bad_key ts) (has_long_text ts) (has_other_number ts)
+pub clean : (ts : Tables) → content_fault ts ≡ None → AreFalse (has_bad_key ts) (has_long_text ts) (has_other_number ts)
 clean ts h = all_false (has_bad_key ts) (has_long_text ts) (has_other_number ts) h
 
-module _ (d : Data) (ts : NamedTables) (read : tables_in d ≡ Some ts) where
+module _ (d : Data) (ts : Tables) (read : tables_in d ≡ Some ts) where
   by_tests : (k t w : Bool) → has_bad_key ts ≡ k → has_long_text ts ≡ t → has_other_number ts ≡ w → (f : TableFault) → first_of k t w ≡ Some f → IsLeast d f
   by_tests true t w ik it iw f h = subst (IsLeast d) (same_some BadKey f h) (bad_key d ts read ik)
   by_tests false true w ik it iw f h = subst (IsLeast d) (same_some TextTooLong f h) (text_too_long d ts read ik it)
@@ -158,7 +158,7 @@ module _ (d : Data) (ts : NamedTables) (read : tables_in d ≡ Some ts) where
   pub name_refused : content_fault ts ≡ None → repeats ts ≡ true → RefusedFor d DuplicateTable
   name_refused h n = let c = clean ts h in inr (duplicate_table d ts read c.keys c.texts c.numbers n)
 
-  -- an id twice, or want of memory
+  -- an id twice, or out of memory
   pub copy_refused : content_fault ts ≡ None → repeats ts ≡ false → (f : TableFault) → (f ≡ OutOfMemory) ⊎ ((f ≡ DuplicateKey) × (has_repeated_key ts ≡ true))
       → RefusedFor d f
   copy_refused h n f (inl memory) = inl memory

@@ -59,18 +59,18 @@ module _ {X : Type 0} where
       or_apart (lists e.0 front) (list_any (λ f. lists f.0 front) rest) (lists e.0 rest) (repeats rest)
       ∙ ap (λ b. lists e.0 front || (b || repeats rest)) (sym (any-last front rest e))
 
-  -- names by themselves are compared like names of entries
+  -- names by themselves are compared like names of findings
   pub lists-names : (name : List ℕ) (ks : List (Bor (List ℕ))) (es : List (List ℕ × X)) → map (λ k. k.now) ks ≡ map (λ e. e.0) es
       → list_any (λ k. bytes_eq name k.now) ks ≡ lists name es
-  lists-names name ks es same = any_name ks ∙ ap (list_any (bytes_eq name)) same ∙ sym (any_entry es)
+  lists-names name ks es same = any_name ks ∙ ap (list_any (bytes_eq name)) same ∙ sym (any_finding es)
     where
       any_name : (ks : List (Bor (List ℕ))) → list_any (λ k. bytes_eq name k.now) ks ≡ list_any (bytes_eq name) (map (λ k. k.now) ks)
       any_name [] = refl
       any_name (k ∷ ks) = ap (λ b. bytes_eq name k.now || b) (any_name ks)
 
-      any_entry : (es : List (List ℕ × X)) → lists name es ≡ list_any (bytes_eq name) (map (λ e. e.0) es)
-      any_entry [] = refl
-      any_entry (e ∷ es) = ap (λ b. bytes_eq name e.0 || b) (any_entry es)
+      any_finding : (es : List (List ℕ × X)) → lists name es ≡ list_any (bytes_eq name) (map (λ e. e.0) es)
+      any_finding [] = refl
+      any_finding (e ∷ es) = ap (λ b. bytes_eq name e.0 || b) (any_finding es)
 
   module _ (es : List (List ℕ × X)) (i : ℕ) (e : List ℕ × X) (lt : i < length es) (is : e ≡ get_or es i e) where
     pub take_next : take (i + 1) es ≡ take i es ++ e ∷ []

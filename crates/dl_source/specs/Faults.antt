@@ -4,14 +4,14 @@ use Rattle.std.specs.List.{list_any}
 use Rattle.serde_json.specs.Data.{Data}
 use Rattle.serde_json.specs.Written.{has_float}
 use Rattle.dl_values.specs.Key.{table_bytes, id_bytes}
-use Rattle.dl_source.specs.declared.tables.Entry.{Entry}
-use Rattle.dl_source.specs.declared.tables.Entry.TheVariants.{Row, Error, Break}
+use Rattle.dl_source.specs.declared.tables.Finding.{Finding}
+use Rattle.dl_source.specs.declared.tables.Finding.TheVariants.{Row, Error, Break}
 use Rattle.dl_source.specs.declared.fault.TableFault.{TableFault}
 use Rattle.dl_source.specs.declared.fault.TableFault.TheVariants.{Shape, BadKey, TextTooLong, NotWhole, DuplicateTable, DuplicateKey, OutOfMemory}
-use Rattle.dl_source.specs.Listing.{Listing, NamedTables}
+use Rattle.dl_source.specs.Tables.{Table, Tables}
 use Rattle.dl_source.specs.Spelling.{Spells}
 
--- ---- what an entry may not have
+-- ---- what a finding may not have
 
 -- the most bytes of the text of an error or a break
 abbrev pub text_bytes : ℕ
@@ -20,15 +20,15 @@ text_bytes = 1024
 abbrev pub is_sized : ℕ → List ℕ → Bool
 is_sized most text = nat_le 1 (length text) && nat_le (length text) most
 
-abbrev pub has_bad_id : List ℕ × Entry → Bool
+abbrev pub has_bad_id : List ℕ × Finding → Bool
 has_bad_id e = not (is_sized id_bytes e.0)
 
-abbrev pub is_long : Entry → Bool
+abbrev pub is_long : Finding → Bool
 is_long (Row v) = false
 is_long (Error t) = nat_lt text_bytes (length t)
 is_long (Break t) = nat_lt text_bytes (length t)
 
-abbrev pub is_not_whole : Entry → Bool
+abbrev pub is_not_whole : Finding → Bool
 is_not_whole (Row v) = has_float v
 is_not_whole (Error t) = false
 is_not_whole (Break t) = false
@@ -44,30 +44,30 @@ abbrev pub repeats : {X : Type 0} → List (List ℕ × X) → Bool
 repeats [] = false
 repeats (e ∷ es) = lists e.0 es || repeats es
 
-abbrev pub has_bad_name : List ℕ × Listing → Bool
+abbrev pub has_bad_name : List ℕ × Table → Bool
 has_bad_name t = not (is_sized table_bytes t.0)
 
-abbrev pub has_bad_key : NamedTables → Bool
+abbrev pub has_bad_key : Tables → Bool
 has_bad_key tables = list_any (λ t. has_bad_name t || list_any has_bad_id t.1) tables
 
-abbrev pub has_long_text : NamedTables → Bool
+abbrev pub has_long_text : Tables → Bool
 has_long_text tables = list_any (λ t. list_any (λ e. is_long e.1) t.1) tables
 
-abbrev pub has_other_number : NamedTables → Bool
+abbrev pub has_other_number : Tables → Bool
 has_other_number tables = list_any (λ t. list_any (λ e. is_not_whole e.1) t.1) tables
 
-abbrev pub has_repeated_key : NamedTables → Bool
+abbrev pub has_repeated_key : Tables → Bool
 has_repeated_key tables = list_any (λ t. repeats t.1) tables
 
 -- ---- refusals
 
 -- the tree spells tables of which the test is true
-abbrev pub Has : (NamedTables → Bool) → Data → Type 0
-Has test d = (tables : NamedTables) × Spells d tables × (test tables ≡ true)
+abbrev pub Has : (Tables → Bool) → Data → Type 0
+Has test d = (tables : Tables) × Spells d tables × (test tables ≡ true)
 
 -- what each refusal comes from
 abbrev pub Causes : Data → TableFault → Type 0
-Causes d Shape = (tables : NamedTables) → Spells d tables → ⊥
+Causes d Shape = (tables : Tables) → Spells d tables → ⊥
 Causes d BadKey = Has has_bad_key d
 Causes d TextTooLong = Has has_long_text d
 Causes d NotWhole = Has has_other_number d

@@ -1,5 +1,5 @@
 pub mod Source
-pub mod Listing
+pub mod Tables
 pub mod Answer
 pub mod AnswerFits
 pub mod Spelling

@@ -3,9 +3,9 @@ use Rattle.std.specs.Prelude.{◌≡◌, ◌⊎◌, ℕ, List, [], ◌∷◌, �
 use Rattle.std.specs.Option.{option_map_or}
 use Rattle.serde_json.specs.Data.{Data, string, array, Items, no_items, item, Members, no_members, member}
 use Rattle.serde_json.specs.Find.{get, as_str, as_object}
-use Rattle.dl_source.specs.declared.tables.Entry.{Entry}
-use Rattle.dl_source.specs.declared.tables.Entry.TheVariants.{Row, Error, Break}
-use Rattle.dl_source.specs.Listing.{Listing, NamedTables}
+use Rattle.dl_source.specs.declared.tables.Finding.{Finding}
+use Rattle.dl_source.specs.declared.tables.Finding.TheVariants.{Row, Error, Break}
+use Rattle.dl_source.specs.Tables.{Table, Tables}
 
 -- ---- lists
 
@@ -28,24 +28,24 @@ SpellsMember S m xs = (d : Data) × (m ≡ Some d) × SpellsList S d xs
 abbrev pub SpellsOptional : {X : Type 0} → (Data → X → Type 0) → Option Data → List X → Type 0
 SpellsOptional S m xs = ((m ≡ None) × (xs ≡ [])) ⊎ SpellsMember S m xs
 
--- ---- entries
+-- ---- findings
 
 -- a list of an id and something more
 abbrev pub pair : List ℕ → Data → Data
 pair id d = array (item (string id) (item d no_items))
 
 -- what stands beside the id: any value in a row, a text in an error and in a break
-abbrev pub row_of : Data → Option Entry
+abbrev pub row_of : Data → Option Finding
 row_of d = Some (Row d)
 
-abbrev pub error_of : Data → Option Entry
+abbrev pub error_of : Data → Option Finding
 error_of d = option_map Error (as_str d)
 
-abbrev pub break_text_of : Data → Option Entry
+abbrev pub break_text_of : Data → Option Finding
 break_text_of d = option_map Break (as_str d)
 
-abbrev pub SpellsEntry : (Data → Option Entry) → Data → List ℕ × Entry → Type 0
-SpellsEntry entry_of d e = (v : Data) × (d ≡ pair e.0 v) × (entry_of v ≡ Some e.1)
+abbrev pub SpellsFinding : (Data → Option Finding) → Data → List ℕ × Finding → Type 0
+SpellsFinding finding_of d e = (v : Data) × (d ≡ pair e.0 v) × (finding_of v ≡ Some e.1)
 
 -- ---- tables
 
@@ -62,17 +62,17 @@ abbrev pub has_only : (List ℕ → Bool) → Data → Bool
 has_only test d = option_map_or (names_all test) (as_object d) false
 
 -- A table is an object with a name and rows, and perhaps errors and breaks, and lists them in this order.
-pub record SpellsTable (d : Data) (t : List ℕ × Listing) : Type 0 where
+pub record SpellsTable (d : Data) (t : List ℕ × Table) : Type 0 where
   pub members : has_only is_table_member d ≡ true
   pub name : get (codes "name") d ≡ Some (string t.0)
-  pub rows : Listing
-  pub errors : Listing
-  pub breaks : Listing
-  pub rows_are : SpellsMember (SpellsEntry row_of) (get (codes "rows") d) rows
-  pub errors_are : SpellsOptional (SpellsEntry error_of) (get (codes "errors") d) errors
-  pub breaks_are : SpellsOptional (SpellsEntry break_text_of) (get (codes "breaks") d) breaks
+  pub rows : Table
+  pub errors : Table
+  pub breaks : Table
+  pub rows_are : SpellsMember (SpellsFinding row_of) (get (codes "rows") d) rows
+  pub errors_are : SpellsOptional (SpellsFinding error_of) (get (codes "errors") d) errors
+  pub breaks_are : SpellsOptional (SpellsFinding break_text_of) (get (codes "breaks") d) breaks
   pub all : t.1 ≡ rows ++ errors ++ breaks
 
 -- the tree is a list of tables
-abbrev pub Spells : Data → NamedTables → Type 0
+abbrev pub Spells : Data → Tables → Type 0
 Spells d tables = SpellsList SpellsTable d tables

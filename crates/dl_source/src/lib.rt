@@ -5,14 +5,14 @@ mod fault;
 mod fetch;
 mod fetched;
 mod listed;
-mod reading;
 mod source;
+mod table_reader;
 mod tables;
 
 pub use dl_values::BatchAnswer;
 pub use fault::TableFault;
 pub use fetch::fetch_job;
 pub use fetched::Fetched;
-pub use reading::TEXT_BYTES;
 pub use source::Source;
-pub use tables::{Entry, Tables};
+pub use table_reader::TEXT_BYTES;
+pub use tables::{Finding, Tables};

@@ -3,11 +3,11 @@
 ghost use Rattle.std.specs.Prelude.{◌≡◌, false, option_map, IfOk};
 ghost use Rattle.std.specs.List.{list_any};
 ghost use Rattle.serde_json.specs.View.{view};
-ghost use Rattle.dl_source.specs.Inside.Listed.{spelled, entry_of};
+ghost use Rattle.dl_source.specs.Inside.Findings.{spelled, finding_of};
 ghost use Rattle.dl_source.specs.Faults.{is_sized, has_bad_id, is_long, is_not_whole, has_bad_name};
 
-use crate::reading::TEXT_BYTES;
-use crate::tables::Entry;
+use crate::table_reader::TEXT_BYTES;
+use crate::tables::Finding;
 use dl_values::{ID_BYTES, Json, Message, TABLE_BYTES, has_float};
 use serde_json::Value;
 use std::alloc::{AllocError, Global};
@@ -32,7 +32,7 @@ pub(crate) enum Listed<'a> {
 impl Kind {
     /// What stands beside an id in a list of this kind, if it may stand there.
     pub(crate) fn listed<'a>(self, value: &'a Value) -> Option<Listed<'a>>
-        ensures { option_map spelled result ≡ entry_of self (view value.now) }
+        ensures { option_map spelled result ≡ finding_of self (view value.now) }
     {
         match self {
             Kind::Row => Some(Listed::Row(value)),
@@ -61,43 +61,43 @@ impl Listed<'_> {
         }
     }
 
-    fn to_entry(&self, alloc: Global) -> Result<Entry, AllocError>
+    fn to_finding(&self, alloc: Global) -> Result<Finding, AllocError>
         requires { is_not_whole (spelled self.now) ≡ false }
         ensures { IfOk result (λ e. e ≡ spelled self.now) }
     {
         match self {
-            Listed::Row(value) => Ok(Entry::Row(Json::new(alloc, (*value).clone()?)?)),
-            Listed::Error(text) => Ok(Entry::Error(Message::new(alloc, text)?)),
-            Listed::Break(text) => Ok(Entry::Break(Message::new(alloc, text)?)),
+            Listed::Row(value) => Ok(Finding::Row(Json::new(alloc, (*value).clone()?)?)),
+            Listed::Error(text) => Ok(Finding::Error(Message::new(alloc, text)?)),
+            Listed::Break(text) => Ok(Finding::Break(Message::new(alloc, text)?)),
         }
     }
 }
 
-/// An id and what stands beside it. Contracts see the entry that the two spell.
+/// An id and what stands beside it. Contracts see the finding that the two spell.
 #[derive(Drop)]
-pub(crate) struct ListedEntry<'a> {
+pub(crate) struct ListedFinding<'a> {
     id: &'a str,
     listed: Listed<'a>,
 }
 
-impl<'a> Model for ListedEntry<'a> {
+impl<'a> Model for ListedFinding<'a> {
     ghost use Rattle.std.specs.Prelude.{List, ℕ};
-    ghost use Rattle.dl_source.specs.declared.tables.Entry.{Entry};
-    ghost use Rattle.dl_source.specs.Listing.{entry_code};
-    ghost use Rattle.dl_source.specs.Inside.Listed.{spelled};
+    ghost use Rattle.dl_source.specs.declared.tables.Finding.{Finding};
+    ghost use Rattle.dl_source.specs.Tables.{finding_code};
+    ghost use Rattle.dl_source.specs.Inside.Findings.{spelled};
 
-    ghost Value = { List ℕ × Entry };
+    ghost Value = { List ℕ × Finding };
 
-    ghost coded = { entry_code };
+    ghost coded = { finding_code };
 
     ghost view = { λ e. (e.id.now, spelled e.listed) };
 }
 
-impl<'a> ListedEntry<'a> {
-    pub(crate) fn new(id: &'a str, listed: Listed<'a>) -> ListedEntry<'a>
+impl<'a> ListedFinding<'a> {
+    pub(crate) fn new(id: &'a str, listed: Listed<'a>) -> ListedFinding<'a>
         ensures { result ≡ (id.entry.now, spelled listed.entry) }
     {
-        ListedEntry { id, listed }
+        ListedFinding { id, listed }
     }
 
     pub(crate) fn id(&self) -> &'a str
@@ -128,37 +128,37 @@ impl<'a> ListedEntry<'a> {
     }
 
     /// A copy with an owner.
-    pub(crate) fn to_entry(&self, alloc: Global) -> Result<Entry, AllocError>
+    pub(crate) fn to_finding(&self, alloc: Global) -> Result<Finding, AllocError>
         requires { is_not_whole self.now.1 ≡ false }
         ensures { IfOk result (λ e. e ≡ self.now.1) }
     {
-        self.listed.to_entry(alloc)
+        self.listed.to_finding(alloc)
     }
 }
 
-/// A name and the entries of its table. Contracts see the table that the two spell.
+/// A name and the findings of its table. Contracts see the table that the two spell.
 #[derive(Drop)]
 pub(crate) struct ListedTable<'a> {
     name: &'a str,
-    entries: Vec<ListedEntry<'a>>,
+    findings: Vec<ListedFinding<'a>>,
 }
 
 impl<'a> Model for ListedTable<'a> {
     ghost use Rattle.std.specs.Prelude.{List, ℕ};
-    ghost use Rattle.dl_source.specs.Listing.{Listing, table_code};
+    ghost use Rattle.dl_source.specs.Tables.{Table, named_table_code};
 
-    ghost Value = { List ℕ × Listing };
+    ghost Value = { List ℕ × Table };
 
-    ghost coded = { table_code };
+    ghost coded = { named_table_code };
 
-    ghost view = { λ t. (t.name.now, t.entries.items) };
+    ghost view = { λ t. (t.name.now, t.findings.items) };
 }
 
 impl<'a> ListedTable<'a> {
-    pub(crate) fn new(name: &'a str, entries: Vec<ListedEntry<'a>>) -> ListedTable<'a>
-        ensures { result ≡ (name.entry.now, entries.entry.items) }
+    pub(crate) fn new(name: &'a str, findings: Vec<ListedFinding<'a>>) -> ListedTable<'a>
+        ensures { result ≡ (name.entry.now, findings.entry.items) }
     {
-        ListedTable { name, entries }
+        ListedTable { name, findings }
     }
 
     pub(crate) fn name(&self) -> &'a str
@@ -167,10 +167,10 @@ impl<'a> ListedTable<'a> {
         self.name
     }
 
-    pub(crate) fn entries(&self) -> &[ListedEntry<'a>]
+    pub(crate) fn findings(&self) -> &[ListedFinding<'a>]
         ensures { result.now ≡ self.now.1 }
     {
-        self.entries.as_slice()
+        self.findings.as_slice()
     }
 
     /// Whether no key can have the name.
@@ -184,21 +184,21 @@ impl<'a> ListedTable<'a> {
     pub(crate) fn has_bad_id(&self) -> bool
         ensures { result ≡ list_any has_bad_id self.now.1 }
     {
-        self.entries.iter().any(|entry| entry.has_bad_id())
+        self.findings.iter().any(|finding| finding.has_bad_id())
     }
 
     /// Whether a text is longer than [`TEXT_BYTES`].
     pub(crate) fn has_long_text(&self) -> bool
         ensures { result ≡ list_any (λ e. is_long e.1) self.now.1 }
     {
-        self.entries.iter().any(|entry| entry.is_long())
+        self.findings.iter().any(|finding| finding.is_long())
     }
 
     /// Whether a value has a number that is not whole.
     pub(crate) fn has_other_number(&self) -> bool
         ensures { result ≡ list_any (λ e. is_not_whole e.1) self.now.1 }
     {
-        self.entries.iter().any(|entry| entry.is_not_whole())
+        self.findings.iter().any(|finding| finding.is_not_whole())
     }
 }
 

@@ -3,13 +3,13 @@
 ghost use Rattle.std.specs.Prelude.{◌≡◌, ◌⊎◌, [], ◌∷◌, ◌++◌, true, false, not, if◌then◌else◌, option_copied, IfOk, IfErr, OnOk};
 ghost use Rattle.std.specs.List.{list_any};
 ghost use Rattle.std.specs.Result.{result_copied};
-ghost use Rattle.dl_source.specs.Answer.{entry_at, found, first_break, outcomes_of};
+ghost use Rattle.dl_source.specs.Answer.{finding_at, found, first_break, outcomes_of};
 ghost use Rattle.dl_source.specs.Faults.{is_not_whole, lists, repeats, has_other_number, has_repeated_key};
 
 use crate::fault::TableFault;
-use crate::listed::{ListedEntry, ListedTable};
-use crate::reading::{content_fault, read_tables, repeats_name};
+use crate::listed::{ListedFinding, ListedTable};
 use crate::source::Source;
+use crate::table_reader::{content_fault, read_tables, repeats_name};
 use dl_values::{BatchAnswer, FetchKey, Json, Message, Outcome, Outcomes};
 use indexmap::IndexMap;
 use serde_json::Value;
@@ -19,7 +19,7 @@ use std::marker::Model;
 
 /// What a table lists under an id.
 #[derive(Debug, Drop)]
-pub enum Entry {
+pub enum Finding {
     /// The row's value.
     Row(Json),
     /// The id has no value: why.
@@ -28,27 +28,26 @@ pub enum Entry {
     Break(Message),
 }
 
-/// What one table lists. Contracts see the entries in the order in which they were added.
+/// What one table lists. Contracts see the findings in the order in which they were added.
 pub(crate) struct Table {
-    entries: IndexMap<String, Entry, RandomState>,
+    findings: IndexMap<String, Finding, RandomState>,
 }
 
-// Written out: a derived drop is proved anew in each function that lets a table go.
 impl Drop for Table {
     fn drop(self) {
-        let Table { entries } = self;
-        drop(entries);
+        let Table { findings } = self;
+        drop(findings);
     }
 }
 
 impl Model for Table {
-    ghost use Rattle.dl_source.specs.Listing.{Listing, listing_code, named};
+    ghost use Rattle.dl_source.specs.Tables.{Table, table_code, named};
 
-    ghost Value = { Listing };
+    ghost Value = { Table };
 
-    ghost coded = { listing_code };
+    ghost coded = { table_code };
 
-    ghost view = { λ t. named t.entries.entries };
+    ghost view = { λ t. named t.findings.entries };
 }
 
 /// Tables with their names, which are a source. Contracts see the tables in the order of their
@@ -59,7 +58,6 @@ pub struct Tables {
     no_row: Message,
 }
 
-// Written out: a derived drop is proved anew in each function that lets tables go.
 impl Drop for Tables {
     fn drop(self) {
         let Tables {
@@ -75,9 +73,9 @@ impl Drop for Tables {
 
 impl Model for Tables {
     ghost use Rattle.std.specs.Prelude.{◌≡◌, codes};
-    ghost use Rattle.dl_source.specs.Listing.{NamedTables, tables_code, named};
+    ghost use Rattle.dl_source.specs.Tables.{Tables, tables_code, named};
 
-    ghost Value = { NamedTables };
+    ghost Value = { Tables };
 
     ghost coded = { tables_code };
 
@@ -91,43 +89,43 @@ impl Table {
         ensures { result ≡ [] }
     {
         Table {
-            entries: IndexMap::with_hasher(alloc, hashing),
+            findings: IndexMap::with_hasher(alloc, hashing),
         }
     }
 
-    /// A table of these entries, or None where an id is listed twice. The error is a failed allocation.
+    /// A table of these findings, or None where an id is listed twice. The error is a failed allocation.
     fn copy_of(
         alloc: Global,
         hashing: RandomState,
-        entries: &[ListedEntry<'_>],
+        findings: &[ListedFinding<'_>],
     ) -> Result<Option<Table>, AllocError>
-        requires { list_any (λ e. is_not_whole e.1) entries.now ≡ false }
-        ensures { IfOk result (λ t. t ≡ (if repeats entries.now then None else Some entries.now)) }
+        requires { list_any (λ e. is_not_whole e.1) findings.now ≡ false }
+        ensures { IfOk result (λ t. t ≡ (if repeats findings.now then None else Some findings.now)) }
     {
         let mut table = Table::new(alloc, hashing);
-        for listed in entries {
-            let entry = listed.to_entry(alloc)?;
-            if !table.add(alloc, listed.id(), entry)? {
+        for listed in findings {
+            let finding = listed.to_finding(alloc)?;
+            if !table.add(alloc, listed.id(), finding)? {
                 return Ok(None);
             }
         }
         Ok(Some(table))
     }
 
-    /// Adds an entry under a new id. Where the id is listed, the entry takes the place of its own,
+    /// Adds a finding under a new id. Where the id is listed, the finding takes the place of its own,
     /// and the answer is false. The error is a failed allocation.
-    fn add(&mut self, alloc: Global, id: &str, entry: Entry) -> Result<bool, AllocError>
+    fn add(&mut self, alloc: Global, id: &str, finding: Finding) -> Result<bool, AllocError>
         ensures found { IfOk result (λ new. new ≡ not (lists id.now self.old)) }
-        ensures added { result ≡ Ok true → self.new ≡ self.old ++ (id.now, entry) ∷ [] }
+        ensures added { result ≡ Ok true → self.new ≡ self.old ++ (id.now, finding) ∷ [] }
     {
         let id = String::from_str(alloc, id)?;
-        Ok(self.entries.insert(id, entry)?.is_none())
+        Ok(self.findings.insert(id, finding)?.is_none())
     }
 
-    fn entry(&self, id: &str) -> Option<&Entry>
-        ensures { option_copied result ≡ entry_at self.now id.now }
+    fn finding(&self, id: &str) -> Option<&Finding>
+        ensures { option_copied result ≡ finding_at self.now id.now }
     {
-        self.entries.get(id)
+        self.findings.get(id)
     }
 }
 
@@ -194,7 +192,7 @@ impl Tables {
         ensures ok { OnOk result ((self.new ≡ self.old ++ listed.now ∷ []) × (repeats listed.now.1 ≡ false)) }
         ensures err { IfErr result (λ f. (f ≡ TableFault.OutOfMemory) ⊎ ((f ≡ TableFault.DuplicateKey) × (repeats listed.now.1 ≡ true))) }
     {
-        let copy = Table::copy_of(alloc, hashing, listed.entries())?;
+        let copy = Table::copy_of(alloc, hashing, listed.findings())?;
         let copy = copy.ok_or(TableFault::DuplicateKey)?;
         self.add(alloc, listed.name(), copy)?;
         Ok(())
@@ -233,10 +231,10 @@ impl Tables {
         ensures added { result ≡ Ok None → outcomes.new.items ≡ outcomes.old.items ++ outcomes_of self.now keys.now }
     {
         for key in keys {
-            let outcome = match self.entry(key) {
-                Ok(Entry::Row(value)) => Outcome::Value(value.try_copy()?),
-                Ok(Entry::Error(text)) | Err(text) => Outcome::KeyError(text.try_copy()?),
-                Ok(Entry::Break(text)) => return Ok(Some(text.try_copy()?)),
+            let outcome = match self.finding(key) {
+                Ok(Finding::Row(value)) => Outcome::Value(value.try_copy()?),
+                Ok(Finding::Error(text)) | Err(text) => Outcome::KeyError(text.try_copy()?),
+                Ok(Finding::Break(text)) => return Ok(Some(text.try_copy()?)),
             };
             outcomes.push(outcome)?;
         }
@@ -244,12 +242,12 @@ impl Tables {
     }
 
     /// What is listed under the key, or why nothing is.
-    fn entry(&self, key: &FetchKey) -> Result<&Entry, &Message>
+    fn finding(&self, key: &FetchKey) -> Result<&Finding, &Message>
         ensures { result_copied result ≡ found self.now key.now }
     {
         match self.tables.get(key.table()) {
             None => Err(&self.no_table),
-            Some(table) => table.entry(key.id()).ok_or(&self.no_row),
+            Some(table) => table.finding(key.id()).ok_or(&self.no_row),
         }
     }
 }

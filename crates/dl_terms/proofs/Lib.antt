@@ -1,11 +1,11 @@
 pub mod Options
-pub mod Kept
-pub mod Settled
-mod Ruled
-mod Risen
+pub mod AnswersStay
+pub mod AnswersWithoutWaits
+mod RuleAnswers
+mod DepthBound
 mod Views
-pub mod Learned
-pub mod Reduced
-mod Whole
-mod Gathered
-pub mod Awaited
+pub mod OutcomeMap
+pub mod Reductions
+mod WholeNumbers
+mod PartAnswers
+pub mod WaitingKeys

@@ -1,7 +1,7 @@
 -- Where what was made of an answer that may be missing came from.
 use Rattle.std.proofs.Common.{◌≡◌, refl, sym, List, ◌∷◌, Option, Some, None}
 use Rattle.std.specs.Option.{option_map, option_and_then}
-use Rattle.dl_terms.specs.Gives.{both}
+use Rattle.dl_terms.specs.TermAnswers.{both}
 
 pub some_same : {A : Type 0} (a b : A) → Some a ≡ Some b → a ≡ b
 some_same {A} a b e = let same : ◌≡◌ {A = Option A} (Some a) (Some b) = e in cc

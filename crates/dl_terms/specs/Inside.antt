@@ -1,2 +1,2 @@
 -- The words of private functions, which no public clause reaches.
-pub mod Exploring
+pub mod Exploration

@@ -5,7 +5,7 @@ use Rattle.indexmap.specs.IndexSet.{insert_all}
 use Rattle.dl_values.specs.Key.{key_eq}
 use Rattle.dl_terms.specs.declared.answer.Answer.{Answer}
 use Rattle.dl_terms.specs.Tree.{Tree, depth_of}
-use Rattle.dl_terms.specs.Gives.{Pairs, outcome_in, waits, gives, frontier}
+use Rattle.dl_terms.specs.TermAnswers.{Pairs, outcome_in, waits, gives, frontier}
 use Rattle.dl_terms.specs.Relation.{Gives}
 use Rattle.dl_terms.specs.Rounds.{Gains, GainsFrontier, PartOf}
 

@@ -1,10 +1,10 @@
 pub mod Tree
 pub mod View
-pub mod Gives
+pub mod TermAnswers
 pub mod Relation
 pub mod Rounds
 pub mod Node
 pub mod Plans
-pub mod Reduces
+pub mod Reduction
 pub mod Laws
 pub mod Inside

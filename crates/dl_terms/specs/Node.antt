@@ -6,7 +6,7 @@ use Rattle.dl_terms.specs.declared.node.Node.TheOpen.{Node-F}
 use Rattle.dl_terms.specs.declared.node.Node.TheFolds.{fold-Node}
 use Rattle.dl_terms.specs.Tree.{Tree, ended, load, pick, follow, each, all, Trees, no_trees, tree}
 use Rattle.dl_terms.specs.View.{trees_of}
-use Rattle.dl_terms.specs.Gives.{both}
+use Rattle.dl_terms.specs.TermAnswers.{both}
 
 -- one level, with each part already seen as its tree
 abbrev pub node_step : Node-F Tree → Tree

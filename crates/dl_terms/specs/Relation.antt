@@ -5,7 +5,7 @@ use Rattle.dl_values.specs.declared.outcome.Outcome.{Outcome}
 use Rattle.dl_terms.specs.declared.answer.Answer.{Answer}
 use Rattle.dl_terms.specs.declared.answer.Answer.TheVariants.{Fault}
 use Rattle.dl_terms.specs.Tree.{Tree, ended, load, pick, follow, each, all, Trees, no_trees, tree}
-use Rattle.dl_terms.specs.Gives.{Pairs, outcome_in, loaded, picked, Target, Targets, target_in, targets_in, gathered}
+use Rattle.dl_terms.specs.TermAnswers.{Pairs, outcome_in, loaded, picked, Target, Targets, target_in, targets_in, gathered}
 
 module _ (ps : Pairs) where
   -- a load gives what the pair of its key says, and nothing without one

@@ -3,7 +3,7 @@ use Rattle.std.specs.Prelude.{◌≡◌, ℕ, zero, suc, ◌⊎◌, Option, Some
 use Rattle.dl_values.specs.Key.{Key}
 use Rattle.dl_values.specs.declared.outcome.Outcome.{Outcome}
 use Rattle.dl_terms.specs.Tree.{Tree, ended, load, pick, follow, each, all, Trees, no_trees, tree}
-use Rattle.dl_terms.specs.Gives.{Pairs, outcome_in, frontier}
+use Rattle.dl_terms.specs.TermAnswers.{Pairs, outcome_in, frontier}
 
 -- q knows what p knows
 abbrev pub KnowsMore : (Key → Option Outcome) → (Key → Option Outcome) → Type 0

@@ -7,7 +7,7 @@
 #![tactic(auto)]
 
 mod answer;
-mod exploring;
+mod exploration;
 pub mod laws;
 mod node;
 mod plan;
@@ -15,7 +15,7 @@ mod target;
 mod term;
 
 pub use answer::{Answer, EvalFault};
-pub use exploring::explore;
+pub use exploration::explore;
 pub use node::{Node, unexplored};
 pub use plan::{MOST_PLANS, Plan, Step};
 pub use target::{Known, Wanted};

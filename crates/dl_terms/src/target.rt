@@ -4,10 +4,10 @@ ghost use Rattle.std.specs.Prelude.{◌≡◌, IfOk, OnOk, map, option_map};
 ghost use Rattle.serde_json.specs.View.{view, items_view};
 ghost use Rattle.dl_values.specs.Key.{key_eq};
 ghost use Rattle.indexmap.specs.IndexSet.{insert_all};
-ghost use Rattle.dl_terms.specs.Gives.{loaded, value_target, target_waits, item_targets, each_target_waits, load_waits, Target};
+ghost use Rattle.dl_terms.specs.TermAnswers.{loaded, value_target, target_waits, item_targets, each_target_waits, load_waits, Target};
 ghost use Rattle.dl_terms.specs.Node.{node_view, nodes_view};
-ghost use Rattle.dl_terms.specs.Reduces.{known_of};
-ghost use Rattle.dl_terms.specs.Inside.Exploring.{LoadsTarget, LoadsEach, target_of};
+ghost use Rattle.dl_terms.specs.Reduction.{known_of};
+ghost use Rattle.dl_terms.specs.Inside.Exploration.{LoadsTarget, LoadsEach, target_of};
 
 use crate::answer::{Answer, EvalFault};
 use crate::node::Node;

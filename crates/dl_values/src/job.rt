@@ -14,7 +14,6 @@ pub struct Job {
     pub keys: Keys,
 }
 
-// Written out: a derived drop is proved anew in each function that lets a job go.
 impl Drop for Job {
     fn drop(self) {
         let Job { batch: _, keys } = self;
@@ -23,7 +22,7 @@ impl Drop for Job {
 }
 
 impl Job {
-    /// An equal job, which shares the keys. It does not allocate; the error is that the reference count would overflow.
+    /// An equal job, which shares the keys. The error is that the reference count would overflow.
     pub fn try_copy(&self) -> Result<Job, AllocError>
         ensures { IfOk result (λ j. j ≡ self.now) }
     {

@@ -16,7 +16,6 @@ pub struct Json {
     value: Arc<Value>,
 }
 
-// Written out: a derived drop is proved anew in each function that lets a value go.
 impl Drop for Json {
     fn drop(self) {
         let Json { value } = self;
@@ -69,7 +68,7 @@ impl Json {
         Arc::unwrap_or_clone(value)
     }
 
-    /// The same value, shared. It does not allocate; the error is that the reference count would overflow.
+    /// The same value, shared. The error is that the reference count would overflow.
     pub fn try_copy(&self) -> Result<Json, AllocError>
         ensures { IfOk result (λ j. j ≡ self.now) }
     {

@@ -95,7 +95,6 @@ pub struct FetchKey {
     both: Arc<KeyText>,
 }
 
-// Written out: a derived drop is proved anew in each function that lets a key go.
 impl Drop for FetchKey {
     fn drop(self) {
         let FetchKey { both } = self;
@@ -156,7 +155,7 @@ impl FetchKey {
         self.both.parts().1
     }
 
-    /// The same key. It shares the texts and does not allocate; the error is that the reference count would overflow.
+    /// The same key. It shares the texts. The error is that the reference count would overflow.
     pub fn try_copy(&self) -> Result<FetchKey, AllocError>
         ensures { IfOk result (λ k. k ≡ self.now) }
     {
@@ -232,7 +231,6 @@ pub struct Keys {
     keys: Arc<Vec<FetchKey>>,
 }
 
-// Written out: a derived drop is proved anew in each function that lets keys go.
 impl Drop for Keys {
     fn drop(self) {
         let Keys { keys } = self;
@@ -273,7 +271,7 @@ impl Keys {
         self.keys.as_slice()
     }
 
-    /// The same list, shared. It does not allocate; the error is that the reference count would overflow.
+    /// The same list, shared. The error is that the reference count would overflow.
     pub fn try_copy(&self) -> Result<Keys, AllocError>
         ensures { IfOk result (λ k. k ≡ self.now) }
     {

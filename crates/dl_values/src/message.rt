@@ -14,7 +14,6 @@ pub struct Message {
     text: Arc<Text>,
 }
 
-// Written out: a derived drop is proved anew in each function that lets a message go.
 impl Drop for Message {
     fn drop(self) {
         let Message { text } = self;
@@ -47,7 +46,7 @@ impl Message {
         self.text.as_str()
     }
 
-    /// The same message, shared. It does not allocate; the error is that the reference count would overflow.
+    /// The same message, shared. The error is that the reference count would overflow.
     pub fn try_copy(&self) -> Result<Message, AllocError>
         ensures { IfOk result (λ m. m ≡ self.now) }
     {

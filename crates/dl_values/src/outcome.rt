@@ -3,9 +3,9 @@
 ghost use Rattle.std.specs.Prelude.{◌≡◌, IfOk};
 
 use crate::json::Json;
+use crate::list::List;
 use crate::message::Message;
 use std::alloc::AllocError;
-use std::marker::Model;
 
 /// What a key's load ends with.
 #[derive(Debug)]
@@ -18,7 +18,6 @@ pub enum Outcome {
     BatchFailed(BatchFault),
 }
 
-// Written out: a derived drop is proved anew in each function that lets an outcome go.
 impl Drop for Outcome {
     fn drop(self) {
         match self {
@@ -40,7 +39,6 @@ pub enum BatchFault {
     Unsent,
 }
 
-// Written out, as that of an outcome.
 impl Drop for BatchFault {
     fn drop(self) {
         match self {
@@ -51,7 +49,7 @@ impl Drop for BatchFault {
 }
 
 impl Outcome {
-    /// The same outcome, shared. It does not allocate; the error is that the reference count would overflow.
+    /// The same outcome, shared. The error is that the reference count would overflow.
     pub fn try_copy(&self) -> Result<Outcome, AllocError>
         ensures { IfOk result (λ o. o ≡ self.now) }
     {
@@ -64,7 +62,7 @@ impl Outcome {
 }
 
 impl BatchFault {
-    /// The same fault, shared. It does not allocate; the error is that the reference count would overflow.
+    /// The same fault, shared. The error is that the reference count would overflow.
     pub fn try_copy(&self) -> Result<BatchFault, AllocError>
         ensures { IfOk result (λ f. f ≡ self.now) }
     {
@@ -76,56 +74,8 @@ impl BatchFault {
     }
 }
 
-/// Outcomes in the order of their keys. Contracts see the list.
-#[derive(Debug)]
-pub struct Outcomes {
-    outcomes: Vec<Outcome>,
-}
-
-// Written out, as that of an outcome.
-impl Drop for Outcomes {
-    fn drop(self) {
-        let Outcomes { outcomes } = self;
-        drop(outcomes);
-    }
-}
-
-impl Model for Outcomes {
-    ghost use Rattle.std.specs.Prelude.{List};
-    ghost use Rattle.std.specs.Coded.{coded_list};
-    ghost use Rattle.dl_values.specs.declared.outcome.Outcome.{Outcome};
-    ghost use Rattle.dl_values.specs.contracts.outcome.Outcome as outcome;
-
-    ghost Value = { List Outcome };
-
-    ghost coded = { coded_list outcome.the_row.coded };
-
-    ghost view = { λ o. o.outcomes.items };
-}
-
-impl Outcomes {
-    /// These outcomes.
-    pub fn new(outcomes: Vec<Outcome>) -> Outcomes
-        ensures { result ≡ outcomes.items }
-    {
-        Outcomes { outcomes }
-    }
-
-    /// The outcomes, in order.
-    pub fn as_slice(&self) -> &[Outcome]
-        ensures { result.now ≡ self.now }
-    {
-        self.outcomes.as_slice()
-    }
-
-    /// The outcomes, to move them on.
-    pub fn into_vec(self) -> Vec<Outcome>
-        ensures { result.items ≡ self }
-    {
-        let Outcomes { outcomes } = self;
-        outcomes
-    }
-}
+/// Outcomes in the order of their keys.
+pub type Outcomes = List<Outcome>;
 
 /// What a source answers to a list of keys.
 #[derive(Debug, Drop)]

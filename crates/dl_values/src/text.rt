@@ -19,7 +19,6 @@ pub struct Text {
     text: String,
 }
 
-// Written out: a derived drop is proved anew in each function that lets a text go.
 impl Drop for Text {
     fn drop(self) {
         let Text { text } = self;

@@ -2,7 +2,7 @@
 use Rattle.std.proofs.Common.{◌≡◌, ℕ, ◌+◌, ◌-◌, List, [], ◌∷◌, ◌++◌, length, ap, ◌∙◌, count_by, flat_map, length-append, arith}
 use Rattle.std.proofs.lemmas.List.Concat.{flat_map-append}
 use Rattle.dl_workers.specs.Bag.{EachAsOften}
-use Rattle.dl_workers.specs.Lossless.{jobs, WholeIsLossless}
+use Rattle.dl_workers.specs.LosslessRule.{jobs, WholeIsLossless}
 use Rattle.dl_workers.specs.Seats.{sent_items, sent_jobs, taken_items, taken_jobs}
 use Rattle.dl_workers.specs.Balance.{Balances}
 use Rattle.dl_workers.specs.declared.rule.Item.{Item}

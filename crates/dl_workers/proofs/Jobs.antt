@@ -3,7 +3,7 @@ use Rattle.std.proofs.Common.{◌≡◌, Bool, true, false, List, [], ◌∷◌,
 use Rattle.std.proofs.lemmas.List.Sums.{sum_by-cons}
 use Rattle.dl_values.specs.declared.job.Job.{Job}
 use Rattle.dl_workers.specs.Bag.{EachAsOften}
-use Rattle.dl_workers.specs.Lossless.{jobs}
+use Rattle.dl_workers.specs.LosslessRule.{jobs}
 use Rattle.dl_workers.specs.declared.rule.Item.{Item}
 use Rattle.dl_workers.specs.declared.rule.Item.TheVariants.{Work, End}
 

@@ -7,9 +7,9 @@ use Rattle.std.proofs.lemmas.List.Concat.{flat_map-append}
 use Rattle.dl_history.specs.Lists.{Among}
 use Rattle.dl_history.specs.declared.event.Event.{Event}
 use Rattle.dl_history.proofs.ListLemmas.{among_longer, every_append, every_weaker}
-use Rattle.dl_history.proofs.Logs.{get-append_at, take-get}
+use Rattle.dl_history.proofs.Pasts.{get-append_at, take-get}
 use Rattle.dl_loader.specs.Closing.{IsLeastOf}
-use Rattle.dl_workers.specs.GivenUp.{given_up, given_up_by}
+use Rattle.dl_workers.specs.GiveUps.{given_up, given_up_by}
 
 -- the lesser of what was found and one more
 pub least_lesser : (ns : List ℕ) (n c : ℕ) → IsLeastOf (Some n) ns → IsLeastOf (Some (min n c)) (ns ++ c ∷ [])

@@ -1,10 +1,10 @@
-mod Accounts
+mod SeatSteps
 pub mod Endings
-pub mod EndsTold
-mod Dealt
+pub mod EndEntries
+mod NewSeats
 mod Finish
 mod Jobs
 mod Least
 mod Steps
 mod Totals
-mod Working
+mod WorkerSteps

@@ -5,7 +5,7 @@ use Rattle.crossbeam_queue.proofs.Lists.{at_set, at_snoc}
 use Rattle.crossbeam_channel.specs.Fifo.{Pushes, Pops, Forks, Merges, Learns}
 use Rattle.dl_workers.specs.declared.rule.Item.{Item}
 use Rattle.dl_workers.specs.declared.rule.Traffic.{Traffic}
-use Rattle.dl_workers.specs.Lossless.{traffic, KnowsAll, IdleIsEmpty, IsLossless, WholeIsLossless}
+use Rattle.dl_workers.specs.LosslessRule.{traffic, KnowsAll, IdleIsEmpty, IsLossless, WholeIsLossless}
 use Rattle.dl_workers.proofs.Totals.{sum_by-set_at, two_at-le-sum_by, sum_by-whole, count_by-append}
 
 -- how many seats all passes stand for

@@ -1,13 +1,13 @@
 -- How a caller ends the batch of a job: by what the loader's source answers to the job's keys, or as one that
--- failed for want of memory.
+-- failed since memory ran out.
 use Rattle.std.specs.Prelude.{◌≡◌, ◌⊎◌, ℕ, List, [], ◌∷◌, take, Some, slice_get}
 use Rattle.dl_values.specs.declared.outcome.BatchFault.TheVariants.{Memory}
 use Rattle.dl_values.specs.declared.job.Job.{Job}
-use Rattle.dl_loader.specs.Added.{line}
+use Rattle.dl_loader.specs.Additions.{call_entry}
 use Rattle.dl_loader.specs.Asks.{end_by}
-use Rattle.dl_loader.specs.Made.{WasMade, WasRefused}
-use Rattle.dl_loader.specs.Pass.{Part}
-use Rattle.dl_history.specs.Entries.{Line}
+use Rattle.dl_loader.specs.EventEffect.{WasMade, WasRefused}
+use Rattle.dl_loader.specs.Pass.{Trace}
+use Rattle.dl_history.specs.Entries.{Entry}
 use Rattle.dl_history.specs.Service.{Service}
 use Rattle.dl_history.specs.declared.event.Call.{Call}
 use Rattle.dl_history.specs.declared.event.Call.TheVariants.{Fail}
@@ -23,35 +23,35 @@ abbrev pub end_unanswered : Job → Call
 end_unanswered job = Fail job.batch Memory
 
 -- one call was made, which is one of the two
-abbrev pub WasEnded : Service → Part → Job → Part → Type 0
+abbrev pub WasEnded : Service → Trace → Job → Trace → Type 0
 WasEnded service old job new =
     WasMade service old (end_answered service job) Done new ⊎ WasMade service old (end_unanswered job) Done new
 
 -- one of the two was refused so
-abbrev pub WasNotEnded : Service → Part → Job → CallFault → Type 0
+abbrev pub WasNotEnded : Service → Trace → Job → CallFault → Type 0
 WasNotEnded service p job fault =
     WasRefused service p (end_answered service job) (Some job) fault ⊎ WasRefused service p (end_unanswered job) (Some job) fault
 
 -- such a call was made for each of the jobs, in order, and no other
-abbrev pub WereEnded : Service → Part → List Job → Part → Type 0
+abbrev pub WereEnded : Service → Trace → List Job → Trace → Type 0
 WereEnded service old [] new = new ≡ old
-WereEnded service old (job ∷ jobs) new = (next : Part) × WasEnded service old job next × WereEnded service next jobs new
+WereEnded service old (job ∷ jobs) new = (next : Trace) × WasEnded service old job next × WereEnded service next jobs new
 
 -- such a call was made for each of the jobs before one of them, in order, and no other, and for that one it was refused so
-abbrev pub WereEndedBefore : Service → Part → List Job → Part → CallFault → Type 0
+abbrev pub WereEndedBefore : Service → Trace → List Job → Trace → CallFault → Type 0
 WereEndedBefore service old jobs new fault =
     (n : ℕ) × (job : Job) × (slice_get jobs n ≡ Some job) × WereEnded service old (take n jobs) new × WasNotEnded service new job fault
 
 -- ---- entries of such calls
 
 -- the entry of the end of a job
-abbrev pub IsEndOf : Service → ℕ → Job → Line → Type 0
-IsEndOf service caller job l =
-    (at : ℕ) × (call : Call) × ((call ≡ end_answered service job) ⊎ (call ≡ end_unanswered job)) × (l ≡ line caller at call Done)
+abbrev pub IsEndOf : Service → ℕ → Job → Entry → Type 0
+IsEndOf service caller job entry =
+    (at : ℕ) × (call : Call) × ((call ≡ end_answered service job) ⊎ (call ≡ end_unanswered job)) × (entry ≡ call_entry caller at call Done)
 
 -- one end of each job, in order, and nothing else
-abbrev pub AreEndsOf : Service → ℕ → List Job → List Line → Type 0
+abbrev pub AreEndsOf : Service → ℕ → List Job → List Entry → Type 0
 AreEndsOf service caller [] [] = Unit {0}
-AreEndsOf service caller [] (l ∷ ls) = ⊥
+AreEndsOf service caller [] (entry ∷ entries) = ⊥
 AreEndsOf service caller (job ∷ jobs) [] = ⊥
-AreEndsOf service caller (job ∷ jobs) (l ∷ ls) = IsEndOf service caller job l × AreEndsOf service caller jobs ls
+AreEndsOf service caller (job ∷ jobs) (entry ∷ entries) = IsEndOf service caller job entry × AreEndsOf service caller jobs entries

@@ -1,9 +1,9 @@
 pub mod Bag
-pub mod Lossless
+pub mod LosslessRule
 pub mod QueueFaults
 pub mod Seats
 pub mod Balance
 pub mod Ending
-pub mod Sent
-pub mod GivenUp
-pub mod Worked
+pub mod Dispatches
+pub mod GiveUps
+pub mod WorkerResult

@@ -3,7 +3,7 @@ use Rattle.std.specs.Prelude.{◌≡◌, ◌⊎◌, ℕ, ◌+◌, ◌^◌, true,
 use Rattle.crossbeam_channel.specs.Claims.{view, IsSeatAt}
 use Rattle.crossbeam_channel.specs.Ends.{sends_on, ruled_capacity}
 use Rattle.dl_values.specs.declared.job.Job.{Job}
-use Rattle.dl_workers.specs.Lossless.{has_end, jobs}
+use Rattle.dl_workers.specs.LosslessRule.{has_end, jobs}
 use Rattle.dl_workers.specs.declared.rule.Item.{Item}
 use Rattle.dl_workers.specs.declared.seats.Sender.{Sender}
 use Rattle.dl_workers.specs.declared.seats.Taker.{Taker}

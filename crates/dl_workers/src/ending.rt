@@ -12,7 +12,7 @@ use std::alloc::Global;
 use std::sync::Wait;
 
 /// Ends the batch of a job by what the loader's source answers to its keys, or, where an allocation fails,
-/// as one that failed for want of memory.
+/// as one that failed since memory ran out.
 ///
 /// # Errors
 /// Those of [`Loader::settle`] and of [`Loader::fail`]; `OutOfMemory` only where an allocation fails for the
@@ -26,12 +26,12 @@ pub fn end_job<L: LoaderName, S: Source>(
     job: Job,
 ) -> Result<Settled, CallFault>
     requires source { Answers (S.answer source.now) L.service }
-    ensures ended { OnOk result (WasEnded L.service pass.old.part job pass.new.part) }
+    ensures ended { OnOk result (WasEnded L.service pass.old.trace job pass.new.trace) }
     ensures each { IfOk result (λ settled. settled.shown + settled.refused ≡ length job.keys) }
     ensures refused { IfOk result (λ settled. 0 < settled.refused → SomeCellRefused L.service) }
-    ensures fault { IfErr result (WasNotEnded L.service pass.old.part job) }
-    ensures unchanged { OnErr result (pass.new.part ≡ pass.old.part) }
-    ensures tickets { pass.new.part.tickets ≡ pass.old.part.tickets }
+    ensures fault { IfErr result (WasNotEnded L.service pass.old.trace job) }
+    ensures unchanged { OnErr result (pass.new.trace ≡ pass.old.trace) }
+    ensures tickets { pass.new.trace.tickets ≡ pass.old.trace.tickets }
 {
     match fetch_job(alloc, source, job) {
         Ok(fetched) => match loader.settle(rt, alloc, pass, fetched) {
@@ -58,9 +58,9 @@ pub fn end_jobs<L: LoaderName, S: Source>(
     jobs: Vec<Job>,
 ) -> Result<(), CallFault>
     requires source { Answers (S.answer source.now) L.service }
-    ensures ended { OnOk result (WereEnded L.service pass.old.part jobs.items pass.new.part) }
-    ensures stopped { IfErr result (WereEndedBefore L.service pass.old.part jobs.items pass.new.part) }
-    ensures tickets { pass.new.part.tickets ≡ pass.old.part.tickets }
+    ensures ended { OnOk result (WereEnded L.service pass.old.trace jobs.items pass.new.trace) }
+    ensures stopped { IfErr result (WereEndedBefore L.service pass.old.trace jobs.items pass.new.trace) }
+    ensures tickets { pass.new.trace.tickets ≡ pass.old.trace.tickets }
 {
     for job in jobs {
         end_job(rt, alloc, loader, source, pass, job)?;
@@ -68,7 +68,7 @@ pub fn end_jobs<L: LoaderName, S: Source>(
     Ok(())
 }
 
-/// Ends the batch of a job as one that failed for want of memory.
+/// Ends the batch of a job as one that failed since memory ran out.
 fn give_up<L: LoaderName>(
     rt: &impl Wait,
     alloc: Global,
@@ -76,12 +76,12 @@ fn give_up<L: LoaderName>(
     pass: &mut Pass<L>,
     job: Job,
 ) -> Result<Settled, CallFault>
-    ensures ended { OnOk result (WasEnded L.service pass.old.part job pass.new.part) }
+    ensures ended { OnOk result (WasEnded L.service pass.old.trace job pass.new.trace) }
     ensures each { IfOk result (λ settled. settled.shown + settled.refused ≡ length job.keys) }
     ensures refused { IfOk result (λ settled. 0 < settled.refused → SomeCellRefused L.service) }
-    ensures fault { IfErr result (WasNotEnded L.service pass.old.part job) }
-    ensures unchanged { OnErr result (pass.new.part ≡ pass.old.part) }
-    ensures tickets { pass.new.part.tickets ≡ pass.old.part.tickets }
+    ensures fault { IfErr result (WasNotEnded L.service pass.old.trace job) }
+    ensures unchanged { OnErr result (pass.new.trace ≡ pass.old.trace) }
+    ensures tickets { pass.new.trace.tickets ≡ pass.old.trace.tickets }
 {
     match loader.fail(rt, alloc, pass, job, GiveUp::Memory) {
         Ok(settled) => Ok(settled),

@@ -20,17 +20,17 @@
 mod ending;
 mod fault;
 mod gate;
-mod given_up;
+mod give_ups;
+mod new_seats;
 mod queue;
 mod rule;
-mod seating;
 mod seats;
 mod worker;
 
 pub use ending::{end_job, end_jobs};
 pub use fault::QueueFault;
 pub use gate::{Gate, NoGate};
-pub use given_up::least_given_up;
+pub use give_ups::least_given_up;
 pub use queue::{JobQueue, LARGEST_CAPACITY, MOST_SEATS, Tally};
 pub use seats::{Sender, Taker};
 pub use worker::{WorkerEnd, work};

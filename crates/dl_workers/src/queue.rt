@@ -5,8 +5,8 @@ ghost use Rattle.crossbeam_channel.specs.Ends.{sends_on, receives_on};
 ghost use Rattle.dl_workers.specs.QueueFaults.{most_seats};
 
 use crate::fault::QueueFault;
+use crate::new_seats::{deal_senders, deal_takers, widen};
 use crate::rule::{Gather, Item, Lossless, Sends, Takes, Traffic, Whole};
-use crate::seating::{deal_senders, deal_takers, widen};
 use crate::seats::{Sender, Taker};
 use crossbeam_channel::{Pass, RuledReceiver, RuledSender, bounded_with};
 use dl_desk::Job;
@@ -45,7 +45,6 @@ pub struct JobQueue {
     ghost few_takers: { takers ≤ most_seats },
 }
 
-// Written out: a derived drop is proved anew in each function that lets a queue go.
 impl Drop for JobQueue {
     fn drop(self) {
         let JobQueue {
@@ -66,7 +65,7 @@ impl JobQueue {
     ghost use Rattle.dl_workers.specs.QueueFaults.{IsCapacity, IsCount, RefusedAs};
     ghost use Rattle.dl_workers.specs.Seats.{IsSenderOf, IsTakerOf, AreSeatsOf, HasEnded, sent_items, sent_jobs, taken_items, taken_jobs, queue_room};
     ghost use Rattle.dl_workers.specs.Balance.{Balances};
-    ghost use Rattle.dl_workers.specs.Lossless.{traffic};
+    ghost use Rattle.dl_workers.specs.LosslessRule.{traffic};
 
     /// A queue with room for `capacity` jobs, and its seats. The allocations are made here: no other
     /// call of the queue takes memory.

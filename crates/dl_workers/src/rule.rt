@@ -31,7 +31,7 @@ pub(crate) struct Lossless;
 
 impl Protocol<Item, Traffic> for Lossless {
     ghost use Rattle.std.specs.Prelude.{[]};
-    ghost use Rattle.dl_workers.specs.Lossless.{traffic, IsLossless};
+    ghost use Rattle.dl_workers.specs.LosslessRule.{traffic, IsLossless};
 
     ghost holds = { IsLossless };
 
@@ -44,7 +44,7 @@ pub(crate) struct Widen;
 
 impl Split<Traffic> for Widen {
     ghost use Rattle.std.specs.Prelude.{◌+◌, []};
-    ghost use Rattle.dl_workers.specs.Lossless.{traffic};
+    ghost use Rattle.dl_workers.specs.LosslessRule.{traffic};
 
     ghost left = { λ v. traffic (v.seats + 1) (v.all + 1) v.sent v.taken };
 
@@ -56,7 +56,7 @@ pub(crate) struct Deal;
 
 impl Split<Traffic> for Deal {
     ghost use Rattle.std.specs.Prelude.{◌-◌, []};
-    ghost use Rattle.dl_workers.specs.Lossless.{traffic};
+    ghost use Rattle.dl_workers.specs.LosslessRule.{traffic};
 
     ghost left = { λ v. traffic (v.seats - 1) v.all v.sent v.taken };
 
@@ -68,7 +68,7 @@ pub(crate) struct Gather;
 
 impl Join<Traffic> for Gather {
     ghost use Rattle.std.specs.Prelude.{◌+◌, ◌++◌, []};
-    ghost use Rattle.dl_workers.specs.Lossless.{traffic};
+    ghost use Rattle.dl_workers.specs.LosslessRule.{traffic};
 
     ghost both = { λ v w. traffic (v.seats + w.seats) v.all (v.sent ++ w.sent) (v.taken ++ w.taken) };
 
@@ -80,7 +80,7 @@ pub(crate) struct Sends;
 
 impl Outcome<Item, Traffic> for Sends {
     ghost use Rattle.std.specs.Prelude.{◌≡◌, ◌++◌, ◌∷◌, []};
-    ghost use Rattle.dl_workers.specs.Lossless.{traffic};
+    ghost use Rattle.dl_workers.specs.LosslessRule.{traffic};
 
     ghost then = { λ v item w. w ≡ traffic v.seats v.all (v.sent ++ item ∷ []) v.taken };
 }
@@ -96,7 +96,7 @@ pub(crate) struct Takes;
 
 impl Outcome<Item, Traffic> for Takes {
     ghost use Rattle.std.specs.Prelude.{◌≡◌, ◌++◌, ◌∷◌, []};
-    ghost use Rattle.dl_workers.specs.Lossless.{traffic};
+    ghost use Rattle.dl_workers.specs.LosslessRule.{traffic};
 
     ghost then = { λ v item w. w ≡ traffic v.seats v.all v.sent (v.taken ++ item ∷ []) };
 }
@@ -112,7 +112,7 @@ impl Lesson<Item, Traffic> for Takes {
 pub(crate) struct Whole;
 
 impl Lesson<Item, Traffic> for Whole {
-    ghost use Rattle.dl_workers.specs.Lossless.{WholeIsLossless};
+    ghost use Rattle.dl_workers.specs.LosslessRule.{WholeIsLossless};
 
     ghost fact = { WholeIsLossless };
 }

@@ -2,7 +2,7 @@
 
 ghost use Rattle.std.specs.Prelude.{◌≡◌, [], length};
 ghost use Rattle.crossbeam_channel.specs.Claims.{view};
-ghost use Rattle.dl_workers.specs.Lossless.{has_end, traffic, jobs};
+ghost use Rattle.dl_workers.specs.LosslessRule.{has_end, traffic, jobs};
 
 use crate::rule::{Item, Traffic};
 use crossbeam_channel::Pass;

@@ -4,7 +4,7 @@ ghost use Rattle.std.specs.Prelude.{◌≡◌, ◌⊎◌, ◌++◌, MatchBool, l
 ghost use Rattle.dl_history.specs.Service.{Answers};
 ghost use Rattle.dl_workers.specs.Ending.{WasEnded};
 ghost use Rattle.dl_workers.specs.Seats.{HasEnded, IsTakerOf, taken_jobs};
-ghost use Rattle.dl_workers.specs.Worked.{Took, Worked};
+ghost use Rattle.dl_workers.specs.WorkerResult.{Took, Worked};
 
 use crate::ending::end_job;
 use crate::gate::Gate;
@@ -26,7 +26,7 @@ pub enum WorkerEnd {
 }
 
 /// Takes jobs from a queue until it is shut, and ends the batch of each as [`end_job`] does: by what the loader's
-/// source answers, or, where an allocation fails, as one that failed for want of memory. The gate is told of each
+/// source answers, or, where an allocation fails, as one that failed since memory ran out. The gate is told of each
 /// step.
 ///
 /// Where a batch can't be ended, or a cell of it refuses its outcome, the worker stops the loader, takes the jobs
@@ -44,17 +44,23 @@ pub fn work<L: LoaderName, S: Source, G: Gate, R: Wait>(
     requires source { Answers (S.answer source.now) L.service }
     requires seat { IsTakerOf queue.now taker.old }
     ensures seat { IsTakerOf queue.now taker.new }
-    ensures worked { Worked L.service result (taken_jobs taker.old) (taken_jobs taker.new) pass.old.part pass.new.part }
+    ensures worked { Worked L.service result (taken_jobs taker.old) (taken_jobs taker.new) pass.old.trace pass.new.trace }
     ensures ended { HasEnded taker.new }
-    ensures tickets { pass.new.part.tickets ≡ pass.old.part.tickets }
+    ensures tickets { pass.new.trace.tickets ≡ pass.old.trace.tickets }
 {
+    let worker = Worker {
+        alloc,
+        loader,
+        source,
+        gate,
+    };
     let mut batches = 0;
     for _ in rt.forever() {
         let Some(job) = queue.take(rt, taker) else {
             return WorkerEnd::Done { batches };
         };
         let batch = job.batch;
-        if !end_shown(rt, alloc, loader, source, pass, job, gate) {
+        if !worker.end_shown(rt, pass, job) {
             loader.stop(rt);
             drop_rest(rt, queue, taker);
             return WorkerEnd::GaveUp { batch };
@@ -64,29 +70,32 @@ pub fn work<L: LoaderName, S: Source, G: Gate, R: Wait>(
     unreachable!()
 }
 
-/// Ends the batch of a job, between the two steps that the gate is told of, and answers whether each of its cells took
-/// its outcome.
-fn end_shown<L: LoaderName, S: Source, G: Gate>(
-    rt: &impl Wait,
+/// What a worker ends batches by.
+#[derive(Drop)]
+struct Worker<'a, L: LoaderName, S, G> {
     alloc: Global,
-    loader: &Loader<L>,
-    source: &S,
-    pass: &mut Pass<L>,
-    job: Job,
-    gate: &G,
-) -> bool
-    requires source { Answers (S.answer source.now) L.service }
-    ensures ended { MatchBool result (WasEnded L.service pass.old.part job pass.new.part)
-        ((pass.new.part ≡ pass.old.part) ⊎ WasEnded L.service pass.old.part job pass.new.part) }
-    ensures tickets { pass.new.part.tickets ≡ pass.old.part.tickets }
-{
-    let batch = job.batch;
-    gate.before_fetch(batch);
-    let Ok(settled) = end_job(rt, alloc, loader, source, pass, job) else {
-        return false;
-    };
-    gate.after_settle(batch);
-    settled.refused == 0
+    loader: &'a Loader<L>,
+    source: &'a S,
+    gate: &'a G,
+}
+
+impl<L: LoaderName, S: Source, G: Gate> Worker<'_, L, S, G> {
+    /// Ends the batch of a job, between the two steps that the gate is told of, and answers whether each of its cells
+    /// took its outcome.
+    fn end_shown(&self, rt: &impl Wait, pass: &mut Pass<L>, job: Job) -> bool
+        requires source { Answers (S.answer self.now.source.now) L.service }
+        ensures ended { MatchBool result (WasEnded L.service pass.old.trace job pass.new.trace)
+            ((pass.new.trace ≡ pass.old.trace) ⊎ WasEnded L.service pass.old.trace job pass.new.trace) }
+        ensures tickets { pass.new.trace.tickets ≡ pass.old.trace.tickets }
+    {
+        let batch = job.batch;
+        self.gate.before_fetch(batch);
+        let Ok(settled) = end_job(rt, self.alloc, self.loader, self.source, pass, job) else {
+            return false;
+        };
+        self.gate.after_settle(batch);
+        settled.refused == 0
+    }
 }
 
 /// Takes jobs until the queue is shut, and drops them.

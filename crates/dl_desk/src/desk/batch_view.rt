@@ -5,7 +5,7 @@ ghost use Rattle.std.specs.List.{zip};
 ghost use Rattle.std.specs.Iterator.Adapters.{zip_first, zip_second};
 ghost use Rattle.std.specs.Slice.Iter.{iter_rest};
 ghost use Rattle.dl_desk.specs.History.{Atom, held, begun};
-ghost use Rattle.dl_desk.specs.BatchBook.{StandsFor, batch_shown};
+ghost use Rattle.dl_desk.specs.BatchBook.{StandsFor, batch_view};
 
 use crate::desk::Desk;
 use crate::reply::{BatchState, End};
@@ -25,9 +25,9 @@ pub struct BatchView<'a> {
 impl<'a> Model for BatchView<'a> {
     ghost use Rattle.std.specs.Prelude.{◌≡◌, length};
     ghost use Rattle.std.specs.List.{zip};
-    ghost use Rattle.dl_desk.specs.BatchBook.{BatchShown};
+    ghost use Rattle.dl_desk.specs.BatchBook.{BatchView};
 
-    ghost Value = { BatchShown };
+    ghost Value = { BatchView };
 
     ghost view = { λ b. record { members = zip b.keys.now b.cells.now; state = b.state } };
 
@@ -35,28 +35,28 @@ impl<'a> Model for BatchView<'a> {
 }
 
 impl<'a> BatchView<'a> {
-    /// The key and the cell of each member, in order. It does not allocate.
+    /// The key and the cell of each member, in order.
     pub fn members(&self) -> Zip<Iter<'a, FetchKey>, Iter<'a, u32>>
         ensures { zip (iter_rest (zip_first result)) (iter_rest (zip_second result)) ≡ self.now.members }
     {
         self.keys.iter().zip(self.cells)
     }
 
-    /// The keys of the members, in order. It does not allocate.
+    /// The keys of the members, in order.
     pub fn keys(&self) -> &'a [FetchKey]
         ensures { result.now ≡ map (λ m. m.0) self.now.members }
     {
         self.keys
     }
 
-    /// The cells of the members, in order. It does not allocate.
+    /// The cells of the members, in order.
     pub fn cells(&self) -> &'a [u32]
         ensures { result.now ≡ map (λ m. m.1) self.now.members }
     {
         self.cells
     }
 
-    /// How far the batch has come. It does not allocate.
+    /// How far the batch has come.
     pub fn state(&self) -> BatchState
         ensures { result ≡ self.now.state }
     {
@@ -65,7 +65,7 @@ impl<'a> BatchView<'a> {
 }
 
 impl Desk {
-    /// The cell that is held for the key, if one is. It does not allocate.
+    /// The cell that is held for the key, if one is.
     pub fn held(&self, key: &FetchKey) -> Option<u32>
         ensures { (history : List Atom) → StandsFor self.now.book history → result ≡ held history key.now }
     {
@@ -77,11 +77,11 @@ impl Desk {
         }
     }
 
-    /// The batch of a number, if it was begun. It does not allocate.
+    /// The batch of a number, if it was begun.
     pub fn batch(&self, number: u32) -> Option<BatchView<'_>>
         ensures none { IfNone result ((history : List Atom) → StandsFor self.now.book history → begun history ≤ number) }
         ensures some { IfSome result (λ view. (history : List Atom) → StandsFor self.now.book history
-            → (number < begun history) × (view ≡ batch_shown history number)) }
+            → (number < begun history) × (view ≡ batch_view history number)) }
     {
         if number >= self.shown.begun {
             return None;
@@ -92,7 +92,7 @@ impl Desk {
     /// The batch of a number that was begun.
     pub(super) fn view(&self, number: u32) -> BatchView<'_>
         requires { number < length self.now.book.batches }
-        ensures { (history : List Atom) → StandsFor self.now.book history → result ≡ batch_shown history number }
+        ensures { (history : List Atom) → StandsFor self.now.book history → result ≡ batch_view history number }
     {
         let batch = &self.batches[number as usize];
         let (keys, cells) = batch.shown();

@@ -175,7 +175,7 @@ impl Desk {
         Ok(jobs)
     }
 
-    /// Forgets the key, if it is held (DataLoader: `clear`). It does not allocate.
+    /// Forgets the key, if it is held (DataLoader: `clear`).
     pub fn clear(&mut self, key: &FetchKey)
         ensures rules { self.new.book.rules ≡ self.old.book.rules }
         ensures stands { (history : List Atom) → StandsFor self.old.book history
@@ -186,7 +186,7 @@ impl Desk {
         self.shown_memo = self.memo.len();
     }
 
-    /// Forgets all keys (DataLoader: `clearAll`). It does not allocate.
+    /// Forgets all keys (DataLoader: `clearAll`).
     pub fn clear_all(&mut self)
         ensures rules { self.new.book.rules ≡ self.old.book.rules }
         ensures stands { (history : List Atom) → StandsFor self.old.book history → StandsFor self.new.book (after self.old.book.rules history ClearsAll) }

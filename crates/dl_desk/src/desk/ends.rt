@@ -5,8 +5,8 @@ ghost use Rattle.std.specs.Map.{lookup};
 ghost use Rattle.dl_values.specs.Key.{key_eq};
 ghost use Rattle.dl_desk.specs.History.{Atom};
 ghost use Rattle.dl_desk.specs.Calls.{Settles, Fails, refusal, after, ended_so, unfit};
-ghost use Rattle.dl_desk.specs.BatchBook.{StandsFor, batch_shown};
-ghost use Rattle.dl_desk.specs.Prepared.{RefusesEnd, MayEndIn, Forgets, set_end};
+ghost use Rattle.dl_desk.specs.BatchBook.{StandsFor, batch_view};
+ghost use Rattle.dl_desk.specs.Preparation.{RefusesEnd, MayEndIn, Forgets, set_end};
 
 use crate::desk::{BatchView, Desk};
 use crate::fault::DeskFault;
@@ -14,12 +14,12 @@ use crate::memo_and_batches;
 use crate::reply::End;
 
 impl Desk {
-    /// The batch of a number, where it may end. It does not allocate.
+    /// The batch of a number, where it may end.
     ///
     /// # Errors
     /// `NoBatch`, `NotSent`, `SettledBefore`, in this order.
     pub fn ending(&self, number: u32) -> Result<BatchView<'_>, DeskFault>
-        ensures view { IfOk result (λ view. (history : List Atom) → StandsFor self.now.book history → view ≡ batch_shown history number) }
+        ensures view { IfOk result (λ view. (history : List Atom) → StandsFor self.now.book history → view ≡ batch_view history number) }
         ensures may { OnOk result (MayEndIn self.now.book number) }
         ensures accepted { OnOk result ((history : List Atom) → StandsFor self.now.book history → unfit history number ≡ None) }
         ensures fault { IfErr result (λ fault. (history : List Atom) → StandsFor self.now.book history → unfit history number ≡ Some fault) }
@@ -46,7 +46,7 @@ impl Desk {
     }
 
     /// Ends a batch that may end. A failed batch's keys are forgotten where the memo still holds the
-    /// batch's own cell. It does not allocate.
+    /// batch's own cell.
     pub fn end(&mut self, number: u32, end: End)
         requires { MayEndIn self.old.book number }
         ensures rules { self.new.book.rules ≡ self.old.book.rules }
@@ -102,7 +102,7 @@ impl Desk {
     }
 
     /// Fails a batch as a whole: its keys are forgotten where the memo still holds the batch's own
-    /// cell. It does not allocate.
+    /// cell.
     ///
     /// # Errors
     /// `NoBatch`, `NotSent`, `SettledBefore`, in this order.

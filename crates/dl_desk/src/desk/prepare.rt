@@ -60,7 +60,7 @@ impl Desk {
         })
     }
 
-    /// Makes the call that is ready, and answers its reply. It does not allocate.
+    /// Makes the call that is ready, and answers its reply.
     pub fn commit(&mut self, ready: Ready) -> DeskReply
         requires { (call : DeskCall) × IsReadyFor self.old call ready }
         ensures told { result ≡ ready.reply }

@@ -9,7 +9,7 @@ use Rattle.serde_json.specs.declared.value.Value.{Value}
 use Rattle.dl_values.specs.Limits.{Limits}
 use Rattle.dl_values.specs.declared.fault.LimitFault.{LimitFault}
 use Rattle.dl_source.specs.Faults as table
-use Rattle.dl_source.specs.Listing.{NamedTables}
+use Rattle.dl_source.specs.Tables.{Tables}
 use Rattle.dl_source.specs.Spelling.{Spells as SpellsTables}
 use Rattle.dl_source.specs.declared.fault.TableFault.{TableFault}
 use Rattle.dl_terms.specs.Plans.{ArePlans}
@@ -129,7 +129,7 @@ IsMisfit plans f = IsFirstHigh plans f ⊎ IsFirstLong plans f
 -- ---- tables and limits
 
 -- the tree spells the tables, of which nothing is refused
-pub record AreTables (tree : Data) (tables : NamedTables) : Type 0 where
+pub record AreTables (tree : Data) (tables : Tables) : Type 0 where
   pub spelled : SpellsTables tree tables
   pub lawful : (f : TableFault) → table.Causes tree f → ⊥
 
@@ -140,7 +140,7 @@ pub record IsTableRefusal (tree : Data) (f : PlanFault) : Type 0 where
   pub least : table.IsLeast tree fault
 
 -- the plans fit, the tree spells the tables, and the numbers are the limits
-pub record AreRest (plans : List (List StepTree)) (tree : Data) (n : Numbers) (named : NamedTables) (l : Limits) : Type 0 where
+pub record AreRest (plans : List (List StepTree)) (tree : Data) (n : Numbers) (named : Tables) (l : Limits) : Type 0 where
   pub fit : Fit plans
   pub tables : AreTables tree named
   pub limits : AreLimitsOf n l
@@ -153,7 +153,7 @@ pub record IsBadTables (plans : List (List StepTree)) (tree : Data) (f : PlanFau
 -- the plans fit, the tree spells tables, and the fault names the first number that is no limit
 pub record IsBadNumber (plans : List (List StepTree)) (tree : Data) (n : Numbers) (f : PlanFault) : Type 0 where
   pub fit : Fit plans
-  pub tables : NamedTables
+  pub tables : Tables
   pub spelled : AreTables tree tables
   pub which : LimitFault
   pub names : f ≡ Limit which

@@ -4,7 +4,7 @@ ghost use Rattle.std.specs.Prelude.{◌≡◌, ◌<◌, ◌≤◌, IfNone, IfSom
 ghost use Rattle.dl_desk.specs.Events.{atoms};
 ghost use Rattle.dl_desk.specs.History.{begun, end_of};
 ghost use Rattle.dl_desk.specs.declared.reply.End.TheVariants.{Settled, Failed};
-ghost use Rattle.dl_history.specs.History.{keys_of, log};
+ghost use Rattle.dl_history.specs.History.{keys_of, past};
 
 use crate::history::History;
 use dl_desk::{End, FetchKey};
@@ -18,7 +18,7 @@ pub struct EndedBatch<'a> {
 }
 
 impl<'a> Model for EndedBatch<'a> {
-    ghost use Rattle.dl_history.specs.Closed.{EndedBatch};
+    ghost use Rattle.dl_history.specs.ClosedHistory.{EndedBatch};
 
     ghost Value = { EndedBatch };
 
@@ -34,14 +34,14 @@ impl<'a> EndedBatch<'a> {
         EndedBatch { keys, end }
     }
 
-    /// The keys of its members, in order. It does not allocate.
+    /// The keys of its members, in order.
     pub fn keys(&self) -> &'a [FetchKey]
         ensures { result.now ≡ self.now.keys }
     {
         self.keys
     }
 
-    /// Whether it was settled; else it failed. It does not allocate.
+    /// Whether it was settled; else it failed.
     pub fn is_settled(&self) -> bool
         ensures { MatchBool result (self.now.end ≡ Settled) (self.now.end ≡ Failed) }
     {
@@ -79,12 +79,12 @@ impl<'a> Batches<'a> {
         Batches { history }
     }
 
-    /// The batch of a number, and none past the last one. It does not allocate.
+    /// The batch of a number, and none past the last one.
     pub fn get(&self, batch: u32) -> Option<EndedBatch<'a>>
-        ensures begun { IfSome result (λ b. batch < begun (atoms (log self.now))) }
-        ensures keys { IfSome result (λ b. b.keys ≡ keys_of (atoms (log self.now)) batch) }
-        ensures end { IfSome result (λ b. end_of (atoms (log self.now)) batch ≡ Some b.end) }
-        ensures none { IfNone result (begun (atoms (log self.now)) ≤ batch) }
+        ensures begun { IfSome result (λ b. batch < begun (atoms (past self.now))) }
+        ensures keys { IfSome result (λ b. b.keys ≡ keys_of (atoms (past self.now)) batch) }
+        ensures end { IfSome result (λ b. end_of (atoms (past self.now)) batch ≡ Some b.end) }
+        ensures none { IfNone result (begun (atoms (past self.now)) ≤ batch) }
     {
         self.history.batch(batch)
     }

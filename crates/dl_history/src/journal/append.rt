@@ -5,14 +5,14 @@ ghost use Rattle.std.specs.List.{repeat};
 ghost use Rattle.dl_cells.specs.Cells.{cell_of, row_len};
 ghost use Rattle.dl_values.specs.Limits.{largest_limit};
 ghost use Rattle.dl_history.specs.declared.journal.append.AppendFault.TheVariants.{OutOfMemory};
-ghost use Rattle.dl_history.specs.Entries.{told};
+ghost use Rattle.dl_history.specs.Entries.{event_at};
 ghost use Rattle.dl_history.specs.Journal.{AreBlank, waiting};
 
-use crate::entry::Told;
+use crate::cell_rows::CellRows;
+use crate::entry::PlacedEvent;
 use crate::event::{Ending, Event};
 use crate::journal::Journal;
 use crate::name::LoaderName;
-use crate::rows::Rows;
 use dl_cells::{CellRow, Reader};
 use std::alloc::{AllocError, Global};
 use std::sync::ledger::Share;
@@ -47,17 +47,17 @@ impl<L: LoaderName> Journal<L> {
     pub fn append(
         &mut self,
         alloc: Global,
-        rows: &Rows<L>,
+        rows: &CellRows<L>,
         share: &mut Share<L>,
         event: Event,
         cells: u32,
-    ) -> Result<Told<L>, AppendFault>
+    ) -> Result<PlacedEvent<L>, AppendFault>
         requires room { length self.old.history < L.service.rules.limits.max_calls }
         requires cells_room { length self.old.cells + cells ≤ L.service.rules.limits.max_cells }
         requires part { 0 < share.old.parts }
         ensures history { OnOk result (self.new.history ≡ self.old.history ++ event ∷ []) }
         ensures cells { OnOk result (self.new.cells ≡ self.old.cells ++ repeat cells (waiting ∷ [])) }
-        ensures stored { IfOk result (λ stored. stored ≡ told (length self.old.history) event) }
+        ensures stored { IfOk result (λ stored. stored ≡ event_at (length self.old.history) event) }
         ensures counted { OnOk result (share.new.amount ≡ share.old.amount + 1) }
         ensures parts { share.new.parts ≡ share.old.parts }
         ensures unchanged { OnErr result ((self.new.history ≡ self.old.history) × (self.new.cells ≡ self.old.cells) × (share.new ≡ share.old)) }
@@ -70,7 +70,7 @@ impl<L: LoaderName> Journal<L> {
         let Ok((mut reader, readers)) = self.grow(alloc, rows, place, first, cells) else {
             return Err(AppendFault::OutOfMemory);
         };
-        let Ok(stored) = Told::store(rows.log(), place, &mut reader, event) else {
+        let Ok(stored) = PlacedEvent::store(rows.log(), place, &mut reader, event) else {
             return Err(AppendFault::LogRefused);
         };
         self.add(&stored, share);
@@ -84,7 +84,7 @@ impl<L: LoaderName> Journal<L> {
     fn grow(
         &mut self,
         alloc: Global,
-        rows: &Rows<L>,
+        rows: &CellRows<L>,
         place: u16,
         first: u32,
         cells: u32,
@@ -106,7 +106,7 @@ impl<L: LoaderName> Journal<L> {
     }
 
     /// The place of the next event.
-    pub fn next_place(&self, rows: &Rows<L>) -> u16
+    pub fn next_place(&self, rows: &CellRows<L>) -> u16
         requires { length self.now.history < L.service.rules.limits.max_calls }
         ensures { result ≡ length self.now.history }
     {
@@ -117,7 +117,7 @@ impl<L: LoaderName> Journal<L> {
     }
 
     /// The next cell, from which on there are numbers for so many cells.
-    fn next_cell(&self, rows: &Rows<L>, cells: u32) -> u32
+    fn next_cell(&self, rows: &CellRows<L>, cells: u32) -> u32
         requires { length self.now.cells + cells ≤ L.service.rules.limits.max_cells }
         ensures first { result ≡ length self.now.cells }
         ensures fits { result + cells ≤ largest_limit }

@@ -5,22 +5,22 @@ use Rattle.dl_desk.specs.declared.reply.LoadReply.{LoadReply}
 use Rattle.dl_desk.specs.contracts.reply.LoadReply as reply
 use Rattle.dl_history.specs.declared.event.Ending.{Ending}
 use Rattle.dl_history.specs.contracts.event.Ending as ending
-use Rattle.dl_history.specs.Entries.{Line}
-use Rattle.dl_history.specs.Inside.Codes.{line_code}
+use Rattle.dl_history.specs.Entries.{Entry}
+use Rattle.dl_history.specs.Inside.Codes.{entry_code}
 use Rattle.dl_loader.specs.declared.pass.GivenTicket.{GivenTicket}
 use Rattle.dl_loader.specs.contracts.pass.GivenTicket as given
-use Rattle.dl_loader.specs.Pass.{Part, part, Pass, Hold, hold}
+use Rattle.dl_loader.specs.Pass.{Trace, trace, Pass, Ticket, ticket}
 
--- a part, by its caller, its entries and its tickets
-abbrev pub part_code : Coded Part
-part_code = code_by (ℕ × (List Line × List GivenTicket)) (coded× coded_ℕ (coded× (coded_list line_code) (coded_list given.the_row.coded)))
-    (λ p. (p.caller, (p.entries, p.tickets))) (λ q. part q.0 q.1.0 q.1.1) (λ _. refl)
+-- a trace, by its caller, its entries and its tickets
+abbrev pub trace_code : Coded Trace
+trace_code = code_by (ℕ × (List Entry × List GivenTicket)) (coded× coded_ℕ (coded× (coded_list entry_code) (coded_list given.the_row.coded)))
+    (λ p. (p.caller, (p.entries, p.tickets))) (λ q. trace q.0 q.1.0 q.1.1) (λ _. refl)
 
--- a pass, by its part and its room
+-- a pass, by its trace and its room
 abbrev pub pass_code : Coded Pass
-pass_code = code_by (Part × ℕ) (coded× part_code coded_ℕ) (λ p. (p.part, p.spare)) (λ q. record { part = q.0; spare = q.1 }) (λ _. refl)
+pass_code = code_by (Trace × ℕ) (coded× trace_code coded_ℕ) (λ p. (p.trace, p.spare)) (λ q. record { trace = q.0; spare = q.1 }) (λ _. refl)
 
 -- a ticket, by its number, its reply and what it knows
-abbrev pub hold_code : Coded Hold
-hold_code = code_by (ℕ × (LoadReply × Option Ending)) (coded× coded_ℕ (coded× reply.the_row.coded (coded_option ending.the_row.coded)))
-    (λ t. (t.number, (t.reply, t.known))) (λ p. hold p.0 p.1.0 p.1.1) (λ _. refl)
+abbrev pub ticket_code : Coded Ticket
+ticket_code = code_by (ℕ × (LoadReply × Option Ending)) (coded× coded_ℕ (coded× reply.the_row.coded (coded_option ending.the_row.coded)))
+    (λ t. (t.number, (t.reply, t.known))) (λ p. ticket p.0 p.1.0 p.1.1) (λ _. refl)

@@ -10,14 +10,14 @@ use Rattle.dl_values.specs.declared.outcome.Outcome.{Outcome}
 use Rattle.dl_values.specs.declared.outcome.Outcome.TheVariants.{BatchFailed}
 use Rattle.dl_desk.specs.declared.reply.End.{End}
 use Rattle.dl_desk.specs.declared.reply.End.TheVariants.{Settled, Failed}
-use Rattle.dl_loader.specs.declared.due_endings.Due.{Due}
+use Rattle.dl_loader.specs.declared.dues.Due.{Due}
 use Rattle.dl_history.specs.declared.event.Call.{Call}
 use Rattle.dl_history.specs.declared.event.Call.TheVariants.{Prime, Settle, Fail}
 use Rattle.dl_loader.specs.declared.fault.CallFault.{CallFault}
 use Rattle.dl_loader.specs.declared.fault.CallFault.TheVariants.{WrongKeys}
 use Rattle.dl_history.specs.History.{keys_of}
 use Rattle.dl_history.specs.Journal.{Cell, waiting}
-use Rattle.dl_history.specs.Kept.{ShowsEnd}
+use Rattle.dl_history.specs.LoaderState.{ShowsEnd}
 use Rattle.dl_loader.specs.Refusals.{call_fault, same_keys}
 
 -- The refusal of an end of a batch by a job with these keys: the batch may not end, or its keys are others.

@@ -3,17 +3,17 @@
 ghost use Rattle.std.specs.Prelude.{◌≡◌, ◌<◌, ◌≤◌, IfNone, IfSome, MatchBool, None, length};
 ghost use Rattle.dl_desk.specs.Events.{atoms};
 ghost use Rattle.dl_desk.specs.History.{begun, end_of};
-ghost use Rattle.dl_history.specs.Agrees.{Fits, HasEach, NoneBehind};
-ghost use Rattle.dl_history.specs.History.{AllEnded, HasEnd, log};
-ghost use Rattle.dl_history.specs.Kept.{kept};
-ghost use Rattle.dl_loader.specs.Book.{kept_of};
+ghost use Rattle.dl_history.specs.Agreement.{Fits, HasEach, NoneBehind};
+ghost use Rattle.dl_history.specs.History.{AllEnded, HasEnd, past};
+ghost use Rattle.dl_history.specs.LoaderState.{loader_state};
+ghost use Rattle.dl_loader.specs.Book.{state_of};
 ghost use Rattle.dl_history.specs.Lists.{Every};
 ghost use Rattle.dl_loader.specs.Closing.{IsFirstOpen, TellWhole, accounts_of};
 
 use crate::book::Book;
 use crate::pass::{Pass, audit};
 use dl_desk::{BatchState, Desk};
-use dl_history::{Journal, LoaderName, Rows};
+use dl_history::{CellRows, Journal, LoaderName};
 
 impl<L: LoaderName> Book<L> {
     /// The journal, which has the history and the cells.
@@ -25,7 +25,7 @@ impl<L: LoaderName> Book<L> {
     }
 
     /// The least batch that has not ended, sent or not.
-    pub(crate) fn open_batch(&self, rows: &Rows<L>) -> Option<u32>
+    pub(crate) fn open_batch(&self, rows: &CellRows<L>) -> Option<u32>
         ensures open { IfSome result (IsFirstOpen self.now.history) }
         ensures ended { IfNone result (AllEnded self.now.history) }
     {
@@ -43,9 +43,9 @@ impl<L: LoaderName> Book<L> {
 
     /// Whether a batch has ended, if it was begun.
     fn has_ended(&self, batch: u32) -> Option<bool>
-        ensures begun { IfSome result (λ ended. batch < begun (atoms (log self.now.history))) }
-        ensures ended { IfSome result (λ ended. MatchBool ended (HasEnd self.now.history batch) (end_of (atoms (log self.now.history)) batch ≡ None)) }
-        ensures none { IfNone result (begun (atoms (log self.now.history)) ≤ batch) }
+        ensures begun { IfSome result (λ ended. batch < begun (atoms (past self.now.history))) }
+        ensures ended { IfSome result (λ ended. MatchBool ended (HasEnd self.now.history batch) (end_of (atoms (past self.now.history)) batch ≡ None)) }
+        ensures none { IfNone result (begun (atoms (past self.now.history)) ≤ batch) }
     {
         let view = self.desk.batch(batch)?;
         Some(matches!(view.state(), BatchState::Settled | BatchState::Failed))
@@ -65,9 +65,9 @@ impl<L: LoaderName> Book<L> {
         audit(&mut self.journal, passes);
     }
 
-    /// Takes the book apart: the desk and the journal, which are those of the history. It does not allocate.
+    /// Takes the book apart: the desk and the journal, which are those of the history.
     pub(crate) fn into_parts(self) -> (Desk, Journal<L>)
-        ensures kept { kept result.1.history result.0.book result.1.cells ≡ kept_of self }
+        ensures kept { loader_state result.1.history result.0.book result.1.cells ≡ state_of self }
     {
         let Book { desk, journal, .. } = self;
         (desk, journal)

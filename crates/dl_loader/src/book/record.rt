@@ -5,19 +5,19 @@ ghost use Rattle.dl_history.specs.Entries.{cell_of_load};
 ghost use Rattle.dl_history.specs.Journal.{refusals};
 ghost use Rattle.dl_history.specs.Lists.{Every};
 ghost use Rattle.dl_loader.specs.Book.{SomeCellRefused};
-ghost use Rattle.dl_loader.specs.Inside.Prepared.{ended_count};
-ghost use Rattle.dl_loader.specs.Made.{Makes, WasMade, WasRefused, loads_of};
+ghost use Rattle.dl_loader.specs.Inside.Preparation.{ended_count};
+ghost use Rattle.dl_loader.specs.EventEffect.{Makes, WasMade, WasRefused, loads_of};
 ghost use Rattle.dl_loader.specs.Pass.{with_tickets};
 ghost use Rattle.dl_loader.specs.Refusals.{IsRefusal, refusal};
 
 use crate::book::Book;
-use crate::due_endings::give;
+use crate::dues::give;
 use crate::event_call::{EventCall, Prepared};
 use crate::fault::CallFault;
 use crate::load_replies::{add_tickets, begun_in};
 use crate::pass::Pass;
 use crate::reply::Settled;
-use dl_history::{Event, LoaderName, Rows};
+use dl_history::{CellRows, Event, LoaderName};
 use std::alloc::Global;
 
 impl<L: LoaderName> Book<L> {
@@ -32,17 +32,17 @@ impl<L: LoaderName> Book<L> {
     pub(crate) fn record<C: EventCall>(
         &mut self,
         alloc: Global,
-        rows: &Rows<L>,
+        rows: &CellRows<L>,
         pass: &mut Pass<L>,
         call: &C,
     ) -> Result<(C::Reply, Settled), CallFault>
         requires answers { C.brings call.now L.service.answer }
-        ensures made { IfOk result (λ r. Makes self.old pass.old.part (C.call call.now) (C.told r.0) self.new pass.new.part) }
-        ensures accepted { OnOk result (refusal L.service self.old pass.old.part (C.call call.now) (C.job call.now) ≡ None) }
+        ensures made { IfOk result (λ r. Makes self.old pass.old.trace (C.call call.now) (C.told r.0) self.new pass.new.trace) }
+        ensures accepted { OnOk result (refusal L.service self.old pass.old.trace (C.call call.now) (C.job call.now) ≡ None) }
         ensures refused { IfOk result (λ r. refusals self.new.cells ≡ refusals self.old.cells + r.1.refused) }
         ensures each { IfOk result (λ r. r.1.shown + r.1.refused ≡ ended_count (C.job call.now) (C.told r.0)) }
-        ensures fault { IfErr result (IsRefusal L.service self.old pass.old.part (C.call call.now) (C.job call.now)) }
-        ensures unchanged { OnErr result ((self.new ≡ self.old) × (pass.new.part ≡ pass.old.part)) }
+        ensures fault { IfErr result (IsRefusal L.service self.old pass.old.trace (C.call call.now) (C.job call.now)) }
+        ensures unchanged { OnErr result ((self.new ≡ self.old) × (pass.new.trace ≡ pass.old.trace)) }
     {
         self.admit(rows, pass)?;
         let caller = pass.caller();
@@ -75,18 +75,18 @@ impl<L: LoaderName> Book<L> {
     pub(crate) fn make<C: EventCall>(
         &mut self,
         alloc: Global,
-        rows: &Rows<L>,
+        rows: &CellRows<L>,
         pass: &mut Pass<L>,
         call: &C,
     ) -> Result<(C::Reply, Settled), CallFault>
         requires answers { C.brings call.now L.service.answer }
-        ensures made { IfOk result (λ r. WasMade L.service pass.old.part (C.call call.now) (C.told r.0) pass.new.part) }
-        ensures tickets { IfOk result (λ r. pass.new.part.tickets ≡ (with_tickets pass.old.part (loads_of (C.told r.0))).tickets) }
+        ensures made { IfOk result (λ r. WasMade L.service pass.old.trace (C.call call.now) (C.told r.0) pass.new.trace) }
+        ensures tickets { IfOk result (λ r. pass.new.trace.tickets ≡ (with_tickets pass.old.trace (loads_of (C.told r.0))).tickets) }
         ensures begun { IfOk result (λ r. Every (λ load. cell_of_load load < length self.new.cells) (loads_of (C.told r.0))) }
         ensures each { IfOk result (λ r. r.1.shown + r.1.refused ≡ ended_count (C.job call.now) (C.told r.0)) }
         ensures refused { IfOk result (λ r. 0 < r.1.refused → SomeCellRefused L.service) }
-        ensures fault { IfErr result (WasRefused L.service pass.old.part (C.call call.now) (C.job call.now)) }
-        ensures unchanged { OnErr result (pass.new.part ≡ pass.old.part) }
+        ensures fault { IfErr result (WasRefused L.service pass.old.trace (C.call call.now) (C.job call.now)) }
+        ensures unchanged { OnErr result (pass.new.trace ≡ pass.old.trace) }
     {
         self.keeps();
         let made = self.record(alloc, rows, pass, call)?;
@@ -96,7 +96,7 @@ impl<L: LoaderName> Book<L> {
 }
 
 /// So many cells took their outcome, where so many of them refused it.
-fn settled<L: LoaderName>(rows: &Rows<L>, cells: usize, refused: usize) -> Settled
+fn settled<L: LoaderName>(rows: &CellRows<L>, cells: usize, refused: usize) -> Settled
     requires few { cells ≤ L.service.rules.limits.max_cells }
     requires among { refused ≤ cells }
     ensures each { result.shown + result.refused ≡ cells }

@@ -7,7 +7,7 @@ ghost use Rattle.dl_history.specs.declared.event.Call.TheVariants as call;
 ghost use Rattle.dl_history.specs.declared.event.Reply.TheVariants as reply;
 ghost use Rattle.dl_loader.specs.Asks.{end_by, fault_of};
 ghost use Rattle.dl_loader.specs.Book.{SomeCellRefused};
-ghost use Rattle.dl_loader.specs.Made.{WasMade, WasRefused};
+ghost use Rattle.dl_loader.specs.EventEffect.{WasMade, WasRefused};
 
 use crate::ask::GiveUp;
 use crate::event_call::{Fail, Settle};
@@ -36,14 +36,14 @@ impl<L: LoaderName> Loader<L> {
         fetched: Fetched<'s, S>,
     ) -> Result<Settled, (CallFault, Fetched<'s, S>)>
         requires source { Answers (S.answer (source_of fetched)) L.service }
-        ensures made { OnOk result (WasMade L.service pass.old.part (end_by (job_of fetched.entry).batch (answer_of fetched.entry)) reply.Done pass.new.part) }
-        ensures tickets { OnOk result (pass.new.part.tickets ≡ pass.old.part.tickets) }
+        ensures made { OnOk result (WasMade L.service pass.old.trace (end_by (job_of fetched.entry).batch (answer_of fetched.entry)) reply.Done pass.new.trace) }
+        ensures tickets { OnOk result (pass.new.trace.tickets ≡ pass.old.trace.tickets) }
         ensures each { IfOk result (λ settled. settled.shown + settled.refused ≡ length (job_of fetched.entry).keys) }
         ensures refused { IfOk result (λ settled. 0 < settled.refused → SomeCellRefused L.service) }
         ensures fault { IfErr result
-            (λ e. WasRefused L.service pass.old.part (end_by (job_of fetched.entry).batch (answer_of fetched.entry)) (Some (job_of fetched.entry)) e.0) }
+            (λ e. WasRefused L.service pass.old.trace (end_by (job_of fetched.entry).batch (answer_of fetched.entry)) (Some (job_of fetched.entry)) e.0) }
         ensures back { IfErr result (λ e. e.1 ≡ fetched.entry) }
-        ensures unchanged { OnErr result (pass.new.part ≡ pass.old.part) }
+        ensures unchanged { OnErr result (pass.new.trace ≡ pass.old.trace) }
     {
         let mut book = self.book.lock(rt);
         match book.make(alloc, &self.rows, pass, &Settle { fetched: &fetched }) {
@@ -68,13 +68,13 @@ impl<L: LoaderName> Loader<L> {
         job: Job,
         give_up: GiveUp,
     ) -> Result<Settled, (CallFault, Job)>
-        ensures made { OnOk result (WasMade L.service pass.old.part (call.Fail job.batch (fault_of give_up)) reply.Done pass.new.part) }
-        ensures tickets { OnOk result (pass.new.part.tickets ≡ pass.old.part.tickets) }
+        ensures made { OnOk result (WasMade L.service pass.old.trace (call.Fail job.batch (fault_of give_up)) reply.Done pass.new.trace) }
+        ensures tickets { OnOk result (pass.new.trace.tickets ≡ pass.old.trace.tickets) }
         ensures each { IfOk result (λ settled. settled.shown + settled.refused ≡ length job.keys) }
         ensures refused { IfOk result (λ settled. 0 < settled.refused → SomeCellRefused L.service) }
-        ensures fault { IfErr result (λ e. WasRefused L.service pass.old.part (call.Fail job.batch (fault_of give_up)) (Some job) e.0) }
+        ensures fault { IfErr result (λ e. WasRefused L.service pass.old.trace (call.Fail job.batch (fault_of give_up)) (Some job) e.0) }
         ensures back { IfErr result (λ e. e.1 ≡ job) }
-        ensures unchanged { OnErr result (pass.new.part ≡ pass.old.part) }
+        ensures unchanged { OnErr result (pass.new.trace ≡ pass.old.trace) }
     {
         let mut book = self.book.lock(rt);
         match book.make(alloc, &self.rows, pass, &Fail { job: &job, give_up }) {

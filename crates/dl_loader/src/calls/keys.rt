@@ -3,9 +3,9 @@
 ghost use Rattle.std.specs.Prelude.{◌≡◌, ◌<◌, None, IfErr, IfOk, OnErr, OnOk};
 ghost use Rattle.dl_history.specs.declared.event.Call.TheVariants as call;
 ghost use Rattle.dl_history.specs.declared.event.Reply.TheVariants as reply;
-ghost use Rattle.dl_loader.specs.EventReplies.{refused_by, told_by};
+ghost use Rattle.dl_loader.specs.EventReplies.{refused_by, reply_by};
 ghost use Rattle.dl_loader.specs.Book.{SomeCellRefused};
-ghost use Rattle.dl_loader.specs.Made.{WasMade, WasRefused};
+ghost use Rattle.dl_loader.specs.EventEffect.{WasMade, WasRefused};
 
 use crate::event_call::{Clear, ClearAll, Dispatch, Prime};
 use crate::fault::CallFault;
@@ -32,11 +32,11 @@ impl<L: LoaderName> Loader<L> {
         key: &FetchKey,
         outcome: Outcome,
     ) -> Result<PrimeReply, CallFault>
-        ensures made { IfOk result (λ r. WasMade L.service pass.old.part (call.Prime key.now outcome) (told_by r) pass.new.part) }
+        ensures made { IfOk result (λ r. WasMade L.service pass.old.trace (call.Prime key.now outcome) (reply_by r) pass.new.trace) }
         ensures refused { IfOk result (λ r. 0 < refused_by r → SomeCellRefused L.service) }
-        ensures tickets { OnOk result (pass.new.part.tickets ≡ pass.old.part.tickets) }
-        ensures fault { IfErr result (WasRefused L.service pass.old.part (call.Prime key.now outcome) None) }
-        ensures unchanged { OnErr result (pass.new.part ≡ pass.old.part) }
+        ensures tickets { OnOk result (pass.new.trace.tickets ≡ pass.old.trace.tickets) }
+        ensures fault { IfErr result (WasRefused L.service pass.old.trace (call.Prime key.now outcome) None) }
+        ensures unchanged { OnErr result (pass.new.trace ≡ pass.old.trace) }
     {
         let call = Prime {
             key,
@@ -58,10 +58,10 @@ impl<L: LoaderName> Loader<L> {
         pass: &mut Pass<L>,
         key: &FetchKey,
     ) -> Result<(), CallFault>
-        ensures made { OnOk result (WasMade L.service pass.old.part (call.Clear key.now) reply.Done pass.new.part) }
-        ensures tickets { OnOk result (pass.new.part.tickets ≡ pass.old.part.tickets) }
-        ensures fault { IfErr result (WasRefused L.service pass.old.part (call.Clear key.now) None) }
-        ensures unchanged { OnErr result (pass.new.part ≡ pass.old.part) }
+        ensures made { OnOk result (WasMade L.service pass.old.trace (call.Clear key.now) reply.Done pass.new.trace) }
+        ensures tickets { OnOk result (pass.new.trace.tickets ≡ pass.old.trace.tickets) }
+        ensures fault { IfErr result (WasRefused L.service pass.old.trace (call.Clear key.now) None) }
+        ensures unchanged { OnErr result (pass.new.trace ≡ pass.old.trace) }
     {
         let mut book = self.book.lock(rt);
         book.make(alloc, &self.rows, pass, &Clear { key })?;
@@ -78,10 +78,10 @@ impl<L: LoaderName> Loader<L> {
         alloc: Global,
         pass: &mut Pass<L>,
     ) -> Result<(), CallFault>
-        ensures made { OnOk result (WasMade L.service pass.old.part call.ClearAll reply.Done pass.new.part) }
-        ensures tickets { OnOk result (pass.new.part.tickets ≡ pass.old.part.tickets) }
-        ensures fault { IfErr result (WasRefused L.service pass.old.part call.ClearAll None) }
-        ensures unchanged { OnErr result (pass.new.part ≡ pass.old.part) }
+        ensures made { OnOk result (WasMade L.service pass.old.trace call.ClearAll reply.Done pass.new.trace) }
+        ensures tickets { OnOk result (pass.new.trace.tickets ≡ pass.old.trace.tickets) }
+        ensures fault { IfErr result (WasRefused L.service pass.old.trace call.ClearAll None) }
+        ensures unchanged { OnErr result (pass.new.trace ≡ pass.old.trace) }
     {
         let mut book = self.book.lock(rt);
         book.make(alloc, &self.rows, pass, &ClearAll)?;
@@ -98,10 +98,10 @@ impl<L: LoaderName> Loader<L> {
         alloc: Global,
         pass: &mut Pass<L>,
     ) -> Result<Vec<Job>, CallFault>
-        ensures made { IfOk result (λ jobs. WasMade L.service pass.old.part call.Dispatch (reply.Sent jobs.items) pass.new.part) }
-        ensures tickets { OnOk result (pass.new.part.tickets ≡ pass.old.part.tickets) }
-        ensures fault { IfErr result (WasRefused L.service pass.old.part call.Dispatch None) }
-        ensures unchanged { OnErr result (pass.new.part ≡ pass.old.part) }
+        ensures made { IfOk result (λ jobs. WasMade L.service pass.old.trace call.Dispatch (reply.Sent jobs.items) pass.new.trace) }
+        ensures tickets { OnOk result (pass.new.trace.tickets ≡ pass.old.trace.tickets) }
+        ensures fault { IfErr result (WasRefused L.service pass.old.trace call.Dispatch None) }
+        ensures unchanged { OnErr result (pass.new.trace ≡ pass.old.trace) }
     {
         let mut book = self.book.lock(rt);
         let (jobs, _) = book.make(alloc, &self.rows, pass, &Dispatch)?;

@@ -3,7 +3,7 @@
 ghost use Rattle.std.specs.Prelude.{◌≡◌, false, IfErr, IfOk, None, OnErr, length, map};
 ghost use Rattle.dl_history.specs.declared.event.Call.TheVariants as call;
 ghost use Rattle.dl_history.specs.declared.event.Reply.TheVariants as reply;
-ghost use Rattle.dl_loader.specs.Made.{WasMade, WasRefused};
+ghost use Rattle.dl_loader.specs.EventEffect.{WasMade, WasRefused};
 ghost use Rattle.dl_loader.specs.Pass.{GaveTicket, GaveTickets};
 
 use crate::event_call::{Load, LoadMany};
@@ -29,11 +29,11 @@ impl<L: LoaderName> Loader<L> {
         pass: &mut Pass<L>,
         key: &FetchKey,
     ) -> Result<Ticket<'a, L>, CallFault>
-        ensures made { IfOk result (λ ticket. WasMade L.service pass.old.part (call.Load key.now) (reply.Loaded ticket.reply) pass.new.part) }
-        ensures number { IfOk result (λ ticket. ticket.number ≡ length pass.old.part.tickets) }
-        ensures gave { IfOk result (λ ticket. GaveTicket pass.new.part ticket false) }
-        ensures fault { IfErr result (WasRefused L.service pass.old.part (call.Load key.now) None) }
-        ensures unchanged { OnErr result (pass.new.part ≡ pass.old.part) }
+        ensures made { IfOk result (λ ticket. WasMade L.service pass.old.trace (call.Load key.now) (reply.Loaded ticket.reply) pass.new.trace) }
+        ensures number { IfOk result (λ ticket. ticket.number ≡ length pass.old.trace.tickets) }
+        ensures gave { IfOk result (λ ticket. GaveTicket pass.new.trace ticket false) }
+        ensures fault { IfErr result (WasRefused L.service pass.old.trace (call.Load key.now) None) }
+        ensures unchanged { OnErr result (pass.new.trace ≡ pass.old.trace) }
     {
         let mut book = self.book.lock(rt);
         let number = pass.tickets();
@@ -54,11 +54,11 @@ impl<L: LoaderName> Loader<L> {
         keys: &[FetchKey],
     ) -> Result<Vec<Ticket<'a, L>>, CallFault>
         ensures made { IfOk result (λ tickets.
-            WasMade L.service pass.old.part (call.LoadMany keys.now) (reply.Many (map (λ t. t.reply) tickets.items)) pass.new.part) }
+            WasMade L.service pass.old.trace (call.LoadMany keys.now) (reply.Many (map (λ t. t.reply) tickets.items)) pass.new.trace) }
         ensures each { IfOk result (λ tickets. length tickets.items ≡ length keys.now) }
-        ensures gave { IfOk result (λ tickets. GaveTickets pass.new.part (length pass.old.part.tickets) tickets.items) }
-        ensures fault { IfErr result (WasRefused L.service pass.old.part (call.LoadMany keys.now) None) }
-        ensures unchanged { OnErr result (pass.new.part ≡ pass.old.part) }
+        ensures gave { IfOk result (λ tickets. GaveTickets pass.new.trace (length pass.old.trace.tickets) tickets.items) }
+        ensures fault { IfErr result (WasRefused L.service pass.old.trace (call.LoadMany keys.now) None) }
+        ensures unchanged { OnErr result (pass.new.trace ≡ pass.old.trace) }
     {
         let mut guard = self.book.lock(rt);
         let book = &mut *guard;

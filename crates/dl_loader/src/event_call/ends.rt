@@ -4,7 +4,7 @@ ghost use Rattle.std.specs.Prelude.{◌≡◌, [], IfErr, IfOk, List, None, OnOk
 ghost use Rattle.dl_values.specs.Key.{Key};
 ghost use Rattle.dl_desk.specs.BatchBook.{StandsFor};
 ghost use Rattle.dl_desk.specs.History.{Atom, members};
-ghost use Rattle.dl_desk.specs.Prepared.{MayEndIn};
+ghost use Rattle.dl_desk.specs.Preparation.{MayEndIn};
 ghost use Rattle.dl_history.specs.declared.event.Call.TheVariants as made;
 ghost use Rattle.dl_history.specs.declared.event.Reply.TheVariants as reply;
 ghost use Rattle.dl_loader.specs.Asks.{end_by, fault_of};
@@ -12,7 +12,7 @@ ghost use Rattle.dl_loader.specs.Inside.Dues.{end_as, end_refusal};
 ghost use Rattle.dl_source.specs.Fetched.{answer_of, job_of, source_of};
 
 use crate::ask::GiveUp;
-use crate::due_endings::{copy_outcomes, dues};
+use crate::dues::{copy_outcomes, dues};
 use crate::event_call::{EventCall, Prepared};
 use crate::fault::CallFault;
 use dl_desk::{BatchFault, Desk, End, FetchKey, Job, LoadReply};

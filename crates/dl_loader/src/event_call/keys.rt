@@ -5,10 +5,10 @@ ghost use Rattle.dl_desk.specs.Calls.{Primes, Sends};
 ghost use Rattle.dl_history.specs.History.{primed};
 ghost use Rattle.dl_history.specs.declared.event.Call.TheVariants as made;
 ghost use Rattle.dl_history.specs.declared.event.Reply.TheVariants as reply;
-ghost use Rattle.dl_loader.specs.Inside.Prepared.{IsReady, cell_primed};
-ghost use Rattle.dl_loader.specs.Made.{loads_of};
+ghost use Rattle.dl_loader.specs.Inside.Preparation.{IsReady, cell_primed};
+ghost use Rattle.dl_loader.specs.EventEffect.{loads_of};
 
-use crate::due_endings::dues;
+use crate::dues::dues;
 use crate::event_call::{EventCall, Prepared};
 use crate::fault::CallFault;
 use dl_desk::{Desk, DeskPrime, FetchKey, Job, LoadReply, Outcome};

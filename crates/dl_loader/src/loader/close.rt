@@ -1,21 +1,27 @@
 //! The close of a loader.
 
 ghost use Rattle.std.specs.Prelude.{◌≡◌, IfErr, IfNone, IfOk, IfSome, OnOk, map};
-ghost use Rattle.dl_history.specs.Agrees.{accounts_by, NoneBehind};
-ghost use Rattle.dl_history.specs.Closed.{IsClosed, outline_of};
-ghost use Rattle.dl_loader.specs.Closing.{accounts_of, IsBehind, RefusesClose, present};
+ghost use Rattle.dl_history.specs.Agreement.{accounts_by, NoneBehind};
+ghost use Rattle.dl_history.specs.ClosedHistory.{IsHistory, outline_of};
+ghost use Rattle.dl_loader.specs.Closing.{accounts_of, CloseWasRefused, IsBehind, RefusesClose, present};
 ghost use Rattle.dl_history.specs.Service.{AnswersEach};
-ghost use Rattle.dl_loader.specs.Book.{Keeps, Locked};
-ghost use Rattle.dl_loader.specs.Inside.Closes.{Closes, MayClose, earlier};
+ghost use Rattle.dl_loader.specs.Inside.CloseSteps.{Closes, MayClose, earlier};
 
 use crate::book::Book;
 use crate::fault::CloseFault;
 use crate::loader::Loader;
 use crate::loader::unshown::least_unshown;
 use crate::pass::Pass;
-use dl_history::{Account, History, LoaderName, Rows};
+use dl_history::{CellRows, History, LoaderName, Outline};
 use std::alloc::{AllocError, Global};
 use std::sync::Mutex;
+
+/// The caller of a pass, and the front of the pass.
+#[derive(Clone, Copy)]
+pub(crate) struct PassFront {
+    caller: u32,
+    front: u32,
+}
 
 impl<L: LoaderName> Loader<L> {
     /// Closes the loader: its history, and with it the entries of the passes, which are their callers' parts of
@@ -28,9 +34,9 @@ impl<L: LoaderName> Loader<L> {
         alloc: Global,
         mut passes: Vec<Pass<L>>,
     ) -> Result<History, (CloseFault, Loader<L>, Vec<Pass<L>>)>
-        ensures closed { IfOk result (IsClosed L.service) }
+        ensures closed { IfOk result (IsHistory L.service) }
         ensures accounts { IfOk result (λ h. h.accounts ≡ accounts_of passes.items) }
-        ensures fault { IfErr result (λ e. (b : Locked) × Keeps L.service b × RefusesClose L.service.callers b (accounts_of passes.items) e.0) }
+        ensures fault { IfErr result (λ e. CloseWasRefused L.service (accounts_of passes.items) e.0) }
         ensures loader { IfErr result (λ e. e.1 ≡ self) }
         ensures passes { IfErr result (λ e. e.2.items ≡ passes.items) }
     {
@@ -41,11 +47,11 @@ impl<L: LoaderName> Loader<L> {
             changed,
         } = self;
         let mut book = book.into_inner();
-        match accounts(alloc, &rows, callers, &mut book, &mut passes) {
-            Ok(accounts) => {
+        match outlines(alloc, &rows, callers, &mut book, &mut passes) {
+            Ok(outlines) => {
                 book.keeps();
                 let (desk, journal) = book.into_parts();
-                Ok(History::of(rows, desk, journal, accounts))
+                Ok(History::of(rows, desk, journal, outlines))
             }
             Err(fault) => {
                 book.keeps();
@@ -61,42 +67,42 @@ impl<L: LoaderName> Loader<L> {
     }
 }
 
-/// The accounts of the passes, in order, where the loader may be closed with them.
-fn accounts<L: LoaderName>(
+/// The outlines of the passes, in order, where the loader may be closed with them.
+fn outlines<L: LoaderName>(
     alloc: Global,
-    rows: &Rows<L>,
+    rows: &CellRows<L>,
     callers: u32,
     book: &mut Book<L>,
     passes: &mut [Pass<L>],
-) -> Result<Vec<Account>, CloseFault>
+) -> Result<Vec<Outline>, CloseFault>
     requires callers { callers ≡ L.service.callers }
     requires parts { L.parts ≡ L.service.callers }
     requires answers { AnswersEach L.service.answer }
     ensures book { book.new ≡ book.old }
     ensures passes { passes.new ≡ passes.old }
-    ensures closes { IfOk result (λ accounts. Closes L.service book.old.history (accounts_of passes.old) accounts.items) }
+    ensures closes { IfOk result (λ made. Closes L.service book.old.history (accounts_of passes.old) made.items) }
     ensures fault { IfErr result (RefusesClose L.service.callers book.old (accounts_of passes.old)) }
 {
     rows.keeps();
     book.keeps();
     check(rows, callers, book, passes)?;
-    Ok(accounts_of(alloc, passes)?)
+    Ok(outlines_of(alloc, passes)?)
 }
 
-/// The accounts of the passes, in order. The error is a failed allocation.
-fn accounts_of<L: LoaderName>(alloc: Global, passes: &[Pass<L>]) -> Result<Vec<Account>, AllocError>
-    ensures { IfOk result (λ accounts. accounts.items ≡ map outline_of (accounts_of passes.now)) }
+/// The outlines of the passes, in order. The error is a failed allocation.
+fn outlines_of<L: LoaderName>(alloc: Global, passes: &[Pass<L>]) -> Result<Vec<Outline>, AllocError>
+    ensures { IfOk result (λ made. made.items ≡ map outline_of (accounts_of passes.now)) }
 {
-    let mut accounts = Vec::with_capacity(alloc, passes.len())?;
+    let mut outlines = Vec::with_capacity(alloc, passes.len())?;
     for pass in passes {
-        accounts.push(pass.account(alloc)?)?;
+        outlines.push(pass.outline(alloc)?)?;
     }
-    Ok(accounts)
+    Ok(outlines)
 }
 
 /// Whether the loader may be closed with these passes, but for a failed allocation.
 fn check<L: LoaderName>(
-    rows: &Rows<L>,
+    rows: &CellRows<L>,
     callers: u32,
     book: &mut Book<L>,
     passes: &mut [Pass<L>],
@@ -113,9 +119,11 @@ fn check<L: LoaderName>(
         return Err(CloseFault::PassesMissing { want: callers, got });
     }
     let len = book.journal().len();
-    if let Some((_, front)) = behind(len, passes) {
-        let len = len as u32;
-        return Err(CloseFault::Behind { front, len });
+    if let Some(first) = behind(len, passes) {
+        return Err(CloseFault::Behind {
+            front: first.front,
+            len: len as u32,
+        });
     }
     book.audit(passes);
     if let Some(cell) = least_unshown(book.journal(), passes) {
@@ -154,26 +162,30 @@ fn passes_of<L: LoaderName>(caller: u32, passes: &[Pass<L>]) -> usize
 }
 
 /// The least caller whose pass has seen more than so many events, and the front of that pass.
-fn behind<L: LoaderName>(len: usize, passes: &[Pass<L>]) -> Option<(u32, u32)>
-    ensures some { IfSome result (λ found. IsBehind len (accounts_of passes.now) found.0 found.1) }
+fn behind<L: LoaderName>(len: usize, passes: &[Pass<L>]) -> Option<PassFront>
+    ensures some { IfSome result (IsBehind len (accounts_of passes.now)) }
     ensures none { IfNone result (NoneBehind len (accounts_of passes.now)) }
 {
     let mut found = None;
     for pass in passes {
-        found = earlier(len, found, pass.caller(), pass.front());
+        let next = PassFront {
+            caller: pass.caller(),
+            front: pass.front(),
+        };
+        found = earlier(len, found, next);
     }
     found
 }
 
 /// What was found, or the caller of one pass more with its front, where that is the lesser one.
-fn earlier(len: usize, found: Option<(u32, u32)>, caller: u32, front: u32) -> Option<(u32, u32)>
-    ensures { result ≡ earlier len found caller front }
+fn earlier(len: usize, found: Option<PassFront>, next: PassFront) -> Option<PassFront>
+    ensures { result ≡ earlier len found next }
 {
-    if front as usize <= len {
+    if next.front as usize <= len {
         return found;
     }
     match found {
-        Some((other, _)) if other <= caller => found,
-        _ => Some((caller, front)),
+        Some(other) if other.caller <= next.caller => found,
+        _ => Some(next),
     }
 }

@@ -1,7 +1,7 @@
 //! Cells that refused their outcome and that a pass has read, for the close of a loader.
 
 ghost use Rattle.std.specs.Prelude.{◌∷◌, ◌++◌, [], ℕ, List, Some, flat_map};
-ghost use Rattle.dl_history.specs.Agrees.{read_in, refused_in, unshown};
+ghost use Rattle.dl_history.specs.Agreement.{read_in, refused_in, unshown};
 ghost use Rattle.dl_loader.specs.Closing.{IsLeastOf, accounts_of};
 
 use crate::pass::Pass;

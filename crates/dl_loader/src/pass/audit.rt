@@ -1,7 +1,7 @@
 //! What passes and the journal know of each other, for the close of a loader.
 
 ghost use Rattle.std.specs.Prelude.{◌≡◌, ◌+◌, ◌<◌, length, sum_by};
-ghost use Rattle.dl_history.specs.Agrees.{Fits, IsAccount, places_of};
+ghost use Rattle.dl_history.specs.Agreement.{Fits, IsAccount, places_of};
 ghost use Rattle.dl_history.specs.Lists.{Every};
 ghost use Rattle.dl_loader.specs.Closing.{account_of, accounts_of};
 
@@ -12,7 +12,7 @@ use std::sync::ledger::Share;
 impl<L: LoaderName> Pass<L> {
     /// What every pass keeps of its caller and its entries.
     fn keeps(&self)
-        ensures { IsAccount L.service.callers (account_of self.now.part) }
+        ensures { IsAccount L.service.callers (account_of self.now.trace) }
     {
         let _ = &self.share;
     }

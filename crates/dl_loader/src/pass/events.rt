@@ -3,11 +3,11 @@
 ghost use Rattle.std.specs.Prelude.{◌≡◌, ◌+◌, ◌<◌, ◌≤◌, ◌⊎◌, IfErr, OnErr, OnOk, length};
 ghost use Rattle.dl_loader.specs.declared.fault.CallFault.TheVariants.{LogRefused, OutOfMemory};
 ghost use Rattle.dl_history.specs.Entries.{front_of};
-ghost use Rattle.dl_loader.specs.Inside.Recorded.{NothingMade, Recorded};
+ghost use Rattle.dl_loader.specs.Inside.Record.{NothingMade, Recorded};
 
 use crate::fault::CallFault;
 use crate::pass::Pass;
-use dl_history::{Entry, Event, Journal, LoaderName, Rows};
+use dl_history::{CellRows, Entry, Event, Journal, LoaderName};
 use std::alloc::Global;
 
 impl<L: LoaderName> Pass<L> {
@@ -22,7 +22,7 @@ impl<L: LoaderName> Pass<L> {
     pub(crate) fn add_event(
         &mut self,
         alloc: Global,
-        rows: &Rows<L>,
+        rows: &CellRows<L>,
         journal: &mut Journal<L>,
         event: Event,
         cells: u32,
@@ -30,11 +30,11 @@ impl<L: LoaderName> Pass<L> {
         requires pass_room { 0 < self.old.spare }
         requires room { length journal.old.history < L.service.rules.limits.max_calls }
         requires cells_room { length journal.old.cells + cells ≤ L.service.rules.limits.max_cells }
-        requires after { front_of self.old.part.entries ≤ length journal.old.history }
-        requires own { event.caller ≡ self.old.part.caller }
-        ensures recorded { OnOk result (Recorded journal.old journal.new self.old.part self.new.part event cells) }
+        requires after { front_of self.old.trace.entries ≤ length journal.old.history }
+        requires own { event.caller ≡ self.old.trace.caller }
+        ensures recorded { OnOk result (Recorded journal.old journal.new self.old.trace self.new.trace event cells) }
         ensures pass_room { OnOk result (self.old.spare ≤ self.new.spare + 1) }
-        ensures unchanged { OnErr result (NothingMade journal.old journal.new self.old.part self.new.part) }
+        ensures unchanged { OnErr result (NothingMade journal.old journal.new self.old.trace self.new.trace) }
         ensures fault { IfErr result (λ fault. (fault ≡ OutOfMemory) ⊎ (fault ≡ LogRefused)) }
     {
         let stored = journal.append(alloc, rows, &mut self.share, event, cells)?;

@@ -2,10 +2,10 @@
 use Rattle.std.specs.Prelude.{◌≡◌, ℕ, List, [], ◌∷◌, ◌++◌, codes, Option, Some, None, Result, Ok, Err, option_map, option_and_then, if◌then◌else◌, ⊤}
 use Rattle.serde_json.specs.Data.{Data, Items, no_items, item}
 use Rattle.serde_json.specs.Find.{get, as_str, as_array}
-use Rattle.dl_source.specs.declared.tables.Entry.{Entry}
+use Rattle.dl_source.specs.declared.tables.Finding.{Finding}
 use Rattle.dl_source.specs.declared.fault.TableFault.{TableFault}
 use Rattle.dl_source.specs.declared.fault.TableFault.TheVariants.{Shape, BadKey, TextTooLong, NotWhole, DuplicateTable, DuplicateKey, OutOfMemory}
-use Rattle.dl_source.specs.Listing.{Listing, NamedTables}
+use Rattle.dl_source.specs.Tables.{Table, Tables}
 use Rattle.dl_source.specs.Faults.{has_bad_key, has_long_text, has_other_number}
 use Rattle.dl_source.specs.Spelling.{row_of, error_of, break_text_of, is_table_member, has_only}
 
@@ -24,33 +24,33 @@ abbrev pub optional_in : {X : Type 0} → (Data → Option X) → Option Data �
 optional_in read None = Some []
 optional_in read (Some d) = list_in read d
 
-abbrev pub pair_in : (Data → Option Entry) → Items → Option (List ℕ × Entry)
-pair_in entry_of no_items = None
-pair_in entry_of (item k no_items) = None
-pair_in entry_of (item k (item v no_items)) = option_and_then (λ id. option_map (λ e. (id, e)) (entry_of v)) (as_str k)
-pair_in entry_of (item k (item v (item w ds))) = None
+abbrev pub pair_in : (Data → Option Finding) → Items → Option (List ℕ × Finding)
+pair_in finding_of no_items = None
+pair_in finding_of (item k no_items) = None
+pair_in finding_of (item k (item v no_items)) = option_and_then (λ id. option_map (λ e. (id, e)) (finding_of v)) (as_str k)
+pair_in finding_of (item k (item v (item w ds))) = None
 
-abbrev pub entry_in : (Data → Option Entry) → Data → Option (List ℕ × Entry)
-entry_in entry_of d = option_and_then (pair_in entry_of) (as_array d)
+abbrev pub finding_in : (Data → Option Finding) → Data → Option (List ℕ × Finding)
+finding_in finding_of d = option_and_then (pair_in finding_of) (as_array d)
 
--- the entries of an object's members, in their order
-abbrev pub entries_in : Data → Option Listing
-entries_in d =
+-- the findings of an object's members, in their order
+abbrev pub findings_in : Data → Option Table
+findings_in d =
     option_and_then (λ rows. option_and_then (λ errors. option_map (λ breaks. rows ++ errors ++ breaks)
-    (optional_in (entry_in break_text_of) (get (codes "breaks") d)))
-    (optional_in (entry_in error_of) (get (codes "errors") d)))
-    (member_in (entry_in row_of) (get (codes "rows") d))
+    (optional_in (finding_in break_text_of) (get (codes "breaks") d)))
+    (optional_in (finding_in error_of) (get (codes "errors") d)))
+    (member_in (finding_in row_of) (get (codes "rows") d))
 
-abbrev pub table_in : Data → Option (List ℕ × Listing)
-table_in d = if has_only is_table_member d then option_and_then (λ name. option_map (λ entries. (name, entries)) (entries_in d))
+abbrev pub table_in : Data → Option (List ℕ × Table)
+table_in d = if has_only is_table_member d then option_and_then (λ name. option_map (λ findings. (name, findings)) (findings_in d))
     (option_and_then as_str (get (codes "name") d)) else None
 
-abbrev pub tables_in : Data → Option NamedTables
+abbrev pub tables_in : Data → Option Tables
 tables_in d = list_in table_in d
 
 -- ---- what the reading functions answer
 
--- At `Ok` the value was read. The only fault beside want of memory is that it was not.
+-- At `Ok` the value was read. The only fault beside a failed allocation is that it was not.
 abbrev pub Reads : {T X : Type 0} → Result T TableFault → (T → X) → Option X → Type 0
 Reads (Ok x) seen read = read ≡ Some (seen x)
 Reads (Err Shape) seen read = read ≡ None
@@ -62,7 +62,7 @@ Reads (Err DuplicateKey) seen read = ⊥
 Reads (Err OutOfMemory) seen read = ⊤
 
 -- the least of the faults that are not about repetition
-abbrev pub content_fault : NamedTables → Option TableFault
+abbrev pub content_fault : Tables → Option TableFault
 content_fault tables =
     if has_bad_key tables then Some BadKey
     else (if has_long_text tables then Some TextTooLong else (if has_other_number tables then Some NotWhole else None))

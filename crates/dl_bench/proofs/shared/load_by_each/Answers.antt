@@ -9,8 +9,8 @@ use Rattle.std.proofs.Crossing.{sync}
 use Rattle.std.specs.contracts.alloc.Global as Heap
 use Rattle.dl_values.specs.contracts.key.FetchKey as FetchKey
 use Rattle.dl_values.proofs.key.FetchKey.TheSendSync as key
-use Rattle.dl_loader.proofs.Captured.{captures_sync}
-use Rattle.dl_loader.proofs.Crossing.{Loader-sync}
+use Rattle.dl_loader.proofs.Closures.{captures_sync}
+use Rattle.dl_loader.proofs.ThreadSafety.{Loader-sync}
 use Rattle.dl_loader.specs.contracts.loader.Loader as Loader
 use Rattle.dl_bench.proofs.shared.load_by_each.Goals as goal
 

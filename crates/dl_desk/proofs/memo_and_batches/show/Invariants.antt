@@ -1,6 +1,6 @@
 use Rattle.std.proofs.Common.{◌≡◌, map}
-use Rattle.dl_desk.specs.Prepared.{whole, Same}
+use Rattle.dl_desk.specs.Preparation.{prepared_batch, Same}
 use Rattle.dl_desk.proofs.memo_and_batches.show.Given as goal
 
 abbrev pub invariant-loop-number : goal.invariant-loop-number
-invariant-loop-number l = Same l.number l.to l.batches.items × (map whole l.batches.items ≡ map whole l.fn.batches.items)
+invariant-loop-number l = Same l.number l.to l.batches.items × (map prepared_batch l.batches.items ≡ map prepared_batch l.fn.batches.items)

@@ -4,7 +4,7 @@ use Rattle.std.proofs.lemmas.Result.{IfOk-from_err}
 use Rattle.serde_json.specs.Find.{as_array}
 use Rattle.serde_json.specs.View.{view, items_view}
 use Rattle.serde_json.specs.declared.value.Value.{Value}
-use Rattle.dl_documents.proofs.FoundLists.{found_all, found_first, found_more, found_stops}
+use Rattle.dl_documents.proofs.FindingLists.{found_all, found_first, found_more, found_stops}
 use Rattle.dl_documents.specs.Reading.{key_in, keys_listed}
 use Rattle.dl_documents.proofs.argument.keys.Goals as goal
 

@@ -2,7 +2,7 @@
 use Rattle.std.proofs.Common.{take, map}
 use Rattle.serde_json.specs.View.{view}
 use Rattle.dl_documents.specs.Steps.{step_tree, step_view, IsPlanStep}
-use Rattle.dl_documents.proofs.Listed.{Spell}
+use Rattle.dl_documents.proofs.ListSpelling.{Spell}
 use Rattle.dl_documents.proofs.plan_files.plan.Given as goal
 
 abbrev pub invariant-items : goal.invariant-items

@@ -5,7 +5,7 @@ use Rattle.serde_json.specs.View.{view, items_view}
 use Rattle.dl_terms.specs.Plans.{ArePlans}
 use Rattle.dl_documents.specs.Document.{items_at}
 use Rattle.dl_documents.specs.Faults.{HasOtherCount, HasNoPlan}
-use Rattle.dl_documents.proofs.Listed.{get_item-items_of}
+use Rattle.dl_documents.proofs.ListSpelling.{get_item-items_of}
 use Rattle.dl_documents.proofs.plan_files.top.Goals as goal
 
 not_empty : (n : ℕ) → 1 ≤ n → (n == 0) ≡ true → ⊥

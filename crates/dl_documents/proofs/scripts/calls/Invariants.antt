@@ -2,7 +2,7 @@
 use Rattle.std.proofs.Common.{take}
 use Rattle.serde_json.specs.View.{view}
 use Rattle.dl_documents.specs.Script.{call_tree, IsScriptCall}
-use Rattle.dl_documents.proofs.Listed.{Spell}
+use Rattle.dl_documents.proofs.ListSpelling.{Spell}
 use Rattle.dl_documents.proofs.scripts.calls.Given as goal
 
 abbrev pub invariant-items : goal.invariant-items

@@ -8,7 +8,7 @@ use Rattle.serde_json.specs.View.{view, items_view}
 use Rattle.serde_json.specs.declared.value.Value.{Value}
 use Rattle.dl_terms.specs.Tree.{Tree, pick, follow, each}
 use Rattle.dl_terms.specs.View.{term_view}
-use Rattle.dl_documents.proofs.FoundLists.{found_first, found_more, found_stops}
+use Rattle.dl_documents.proofs.FindingLists.{found_first, found_more, found_stops}
 use Rattle.dl_documents.proofs.TermParts.{no_list, no_names, other_name, field_lower, link_lower}
 use Rattle.dl_documents.proofs.TermParts.{term_view-Follow, term_view-Each, pick_none, pick_some, link_none, link_some}
 use Rattle.dl_documents.proofs.Trees.{no_term, one_term, all_unread, item_lower, all_read}

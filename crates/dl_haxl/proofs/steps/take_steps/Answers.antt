@@ -1,25 +1,25 @@
 use Rattle.std.proofs.Common.{◌+◌, ◌≤◌, ◌++◌, ◌∷◌, [], length, length-append, arith, refl}
 use Rattle.dl_values.proofs.Errors.{on_err}
 use Rattle.dl_history.specs.Entries.{calls_of}
-use Rattle.dl_loader.proofs.AddedLemmas.{grows_after}
-use Rattle.dl_loader.proofs.TicketsKept.{keeps_after, keeps_self}
+use Rattle.dl_loader.proofs.AdditionLemmas.{grows_after}
+use Rattle.dl_loader.proofs.TicketsStay.{keeps_after, keeps_self}
 use Rattle.dl_workers.specs.Seats.{sent_jobs}
-use Rattle.dl_haxl.specs.Inside.Taken.{answers_of, rounds_of}
-use Rattle.dl_haxl.proofs.EvaluationMade.{sent_after}
+use Rattle.dl_haxl.specs.Inside.StepsSoFar.{answers_of, rounds_of}
+use Rattle.dl_haxl.proofs.EvaluationLemmas.{sent_after}
 use Rattle.dl_haxl.proofs.Stretches.{leaves_more, leaves_none, leaves_same, rounds_few}
 use Rattle.dl_haxl.proofs.steps.take_steps.Goals as goal
 
 pub add-requires : goal.add-requires
 add-requires g c =
-    let old = c.args.pass.now.part in
-    let new = c.take_step.new.pass.part in
+    let old = c.args.pass.now.trace in
+    let new = c.take_step.new.pass.trace in
     let before = sent_jobs c.args.sender.now in
     let next = sent_jobs c.loop-step.sender in
     let after = sent_jobs c.take_step.new.sender in
     let given = c.loop-step.given in
     let n = c.loop-step.number in
     let taken = c.in_ok-taken.taken in
-    let more = leaves_more old c.loop-step.pass.part new before next after c.loop-step.yielded c.in-Some.step n given.answers.items (answers_of n taken)
+    let more = leaves_more old c.loop-step.pass.trace new before next after c.loop-step.yielded c.in-Some.step n given.answers.items (answers_of n taken)
     given.rounds (rounds_of taken) c.loop-step.invariant.number c.loop-step.invariant.leaves (c.in_ok-taken.ensures.step n) in
     let few : given.rounds + rounds_of taken ≤ length (calls_of new.entries) =
     rounds_few old new before after (c.loop-step.yielded ++ c.in-Some.step ∷ []) (given.answers.items ++ answers_of n taken)
@@ -37,16 +37,16 @@ returns-in_err-add-clause-sent g c =
 
 pub returns-in_err-add-clause-grows : goal.returns-in_err-add-clause-grows
 returns-in_err-add-clause-grows g c =
-    let old = c.args.pass.now.part in
-    let now = c.loop-step.pass.part in
-    let new = c.take_step.new.pass.part in
+    let old = c.args.pass.now.trace in
+    let now = c.loop-step.pass.trace in
+    let new = c.take_step.new.pass.trace in
     let so_far = c.loop-step.invariant.leaves.2 in
     let one = (c.in_ok-taken.ensures.step c.loop-step.number).2 in
     on_err c.from_residual-in_err-add.result (grows_after old now new (so_far.0, so_far.1, so_far.2) (one.0, one.1, one.2))
 
 pub loop-step-init : goal.loop-step-init
 loop-step-init g c =
-    let p = c.args.pass.now.part in
+    let p = c.args.pass.now.trace in
     let sent = sent_jobs c.args.sender.now in
     record {
       seat = c.requires.seat;
@@ -57,8 +57,8 @@ loop-step-init g c =
 
 pub loop-step-preserved : goal.loop-step-preserved
 loop-step-preserved g c =
-    let old = c.args.pass.now.part in
-    let new = c.take_step.new.pass.part in
+    let old = c.args.pass.now.trace in
+    let new = c.take_step.new.pass.trace in
     let before = sent_jobs c.args.sender.now in
     let next = sent_jobs c.loop-step.sender in
     let after = sent_jobs c.take_step.new.sender in
@@ -66,12 +66,12 @@ loop-step-preserved g c =
     let n = c.loop-step.number in
     let taken = c.in_ok-taken.taken in
     let steps = c.loop-step.yielded ++ c.in-Some.step ∷ [] in
-    let more = leaves_more old c.loop-step.pass.part new before next after c.loop-step.yielded c.in-Some.step n given.answers.items (answers_of n taken)
+    let more = leaves_more old c.loop-step.pass.trace new before next after c.loop-step.yielded c.in-Some.step n given.answers.items (answers_of n taken)
     given.rounds (rounds_of taken) c.loop-step.invariant.number c.loop-step.invariant.leaves (c.in_ok-taken.ensures.step n) in
     record {
       seat = c.in_ok-taken.ensures.seat;
       number = omega (arith, c.loop-step.invariant.number, length-append c.loop-step.yielded (c.in-Some.step ∷ []));
-      older = keeps_after old c.loop-step.pass.part new c.loop-step.invariant.older c.take_step.ensures.older;
+      older = keeps_after old c.loop-step.pass.trace new c.loop-step.invariant.older c.take_step.ensures.older;
       leaves = leaves_same old new before after steps (given.answers.items ++ answers_of n taken) c.add.new.self.answers.items
           (given.rounds + rounds_of taken) c.add.new.self.rounds c.in_ok-add.ensures.answers c.in_ok-add.ensures.rounds more;
     }

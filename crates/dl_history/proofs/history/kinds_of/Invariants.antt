@@ -1,6 +1,6 @@
 use Rattle.std.proofs.Common.{◌≡◌, drop}
-use Rattle.dl_history.specs.Closed.{kinds_of}
+use Rattle.dl_history.specs.ClosedHistory.{kinds_of}
 use Rattle.dl_history.proofs.history.kinds_of.Given as goal
 
-abbrev pub invariant-loop-account : goal.invariant-loop-account
-invariant-loop-account l = kinds_of l.caller l.accounts ≡ kinds_of l.caller (drop l.account-index l.accounts)
+abbrev pub invariant-loop-outline : goal.invariant-loop-outline
+invariant-loop-outline l = kinds_of l.caller l.outlines ≡ kinds_of l.caller (drop l.outline-index l.outlines)

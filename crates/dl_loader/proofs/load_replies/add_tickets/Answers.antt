@@ -6,13 +6,13 @@ use Rattle.dl_loader.proofs.load_replies.add_tickets.Goals as goal
 pub add_ticket-requires-clause-answered : goal.add_ticket-requires-clause-answered
 add_ticket-requires-clause-answered g c =
     rw c.load_cell.ensures
-    (ticket_among c.args.pass.now.part c.loop-reply.pass.part c.args.replies.now c.loop-reply.reply-index (Hit 0) c.loop-reply-test.true
+    (ticket_among c.args.pass.now.trace c.loop-reply.pass.trace c.args.replies.now c.loop-reply.reply-index (Hit 0) c.loop-reply-test.true
     c.loop-reply.invariant.0 c.requires.answered)
 
 pub loop-reply-preserved : goal.loop-reply-preserved
 loop-reply-preserved g c =
     let room = c.add_ticket.ensures.room in
     let before = c.loop-reply.invariant.1 in
-    let part = ticket_next c.args.pass.now.part c.loop-reply.pass.part c.add_ticket.new.self.part c.args.replies.now c.loop-reply.reply-index c.load_cell.result
-    (Hit 0) c.loop-reply-test.true c.loop-reply.invariant.0 c.load_cell.ensures c.add_ticket.ensures.part in
-    (part, omega arith)
+    let trace = ticket_next c.args.pass.now.trace c.loop-reply.pass.trace c.add_ticket.new.self.trace c.args.replies.now c.loop-reply.reply-index c.load_cell.result
+    (Hit 0) c.loop-reply-test.true c.loop-reply.invariant.0 c.load_cell.ensures c.add_ticket.ensures.trace in
+    (trace, omega arith)

@@ -1,5 +1,5 @@
 use Rattle.std.proofs.Common.{◌≡◌, ◌≤◌, take}
-use Rattle.dl_loader.specs.Inside.Begun.{cells_begun}
+use Rattle.dl_loader.specs.Inside.NewCells.{cells_begun}
 use Rattle.dl_loader.proofs.load_replies.cells_begun.Given as goal
 
 abbrev pub invariant-loop-reply : goal.invariant-loop-reply

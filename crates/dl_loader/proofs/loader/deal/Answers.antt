@@ -1,5 +1,5 @@
 use Rattle.std.proofs.Common.{arith}
-use Rattle.dl_loader.proofs.Fresh.{fresh_next}
+use Rattle.dl_loader.proofs.FirstTraces.{fresh_next}
 use Rattle.std.proofs.lemmas.Result.{IfOk-from_err}
 use Rattle.dl_loader.proofs.loader.deal.Goals as goal
 
@@ -11,7 +11,7 @@ loop-caller-preserved g c =
     let none = c.loop-caller.invariant.1 in (
       omega arith,
       omega arith,
-      fresh_next (λ p. p.part) c.loop-caller.passes.items c.push.new.self.items c.fresh.result c.loop-caller.caller
+      fresh_next (λ p. p.trace) c.loop-caller.passes.items c.push.new.self.items c.fresh.result c.loop-caller.caller
           c.in_ok-push.ensures.items c.fresh.ensures c.loop-caller.invariant.2,
     )
 

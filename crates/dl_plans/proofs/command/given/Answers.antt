@@ -1,7 +1,7 @@
 use Rattle.std.proofs.Common.{rules, ◌∙◌, codes}
 use Rattle.clap.proofs.WalkLemmas.{one_text-rows}
 use Rattle.clap.specs.Words.{found_of}
-use Rattle.dl_plans.proofs.Given.{number_given}
+use Rattle.dl_plans.proofs.CommandMatches.{number_given}
 use Rattle.dl_plans.proofs.command.given.Goals as goal
 
 pub returns : goal.returns

@@ -1,4 +1,4 @@
-use Rattle.dl_reference.proofs.Grown.{history_of-push}
+use Rattle.dl_reference.proofs.HistoryGrowth.{history_of-push}
 use Rattle.dl_reference.proofs.calls.add.Goals as goal
 
 pub returns : goal.returns

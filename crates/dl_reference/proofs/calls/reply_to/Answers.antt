@@ -3,8 +3,8 @@ use Rattle.std.proofs.lemmas.Result.{on_ok_weaker}
 use Rattle.dl_desk.specs.Calls.{refusal}
 use Rattle.dl_reference.specs.History.{history_of}
 use Rattle.dl_reference.specs.Rules.{rules_of}
-use Rattle.dl_reference.specs.Said.{asked}
-use Rattle.dl_reference.proofs.LeftLegal.{legal_after}
+use Rattle.dl_reference.specs.Replies.{asked}
+use Rattle.dl_reference.proofs.LegalHistories.{legal_after}
 use Rattle.dl_reference.proofs.calls.reply_to.Goals as goal
 
 pub returns-in-None-clause-legal : goal.returns-in-None-clause-legal

@@ -1,5 +1,5 @@
 use Rattle.std.proofs.Common.{arith}
-use Rattle.dl_reference.proofs.Grown.{history_more, none_named}
+use Rattle.dl_reference.proofs.HistoryGrowth.{history_more, none_named}
 use Rattle.dl_reference.proofs.counts.begun.Goals as goal
 use Rattle.dl_reference.proofs.counts.begun.Goals.{in-Some+then-not-is_named, in-Some+else-not-is_named, in_default}
 

@@ -1,5 +1,5 @@
 use Rattle.std.proofs.Common.{arith}
-use Rattle.dl_reference.proofs.Grown.{history_more, none_begins}
+use Rattle.dl_reference.proofs.HistoryGrowth.{history_more, none_begins}
 use Rattle.dl_reference.proofs.counts.cells.Goals as goal
 use Rattle.dl_reference.proofs.counts.cells.Goals.{in-Some, in_default}
 

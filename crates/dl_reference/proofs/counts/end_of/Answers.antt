@@ -1,4 +1,4 @@
-use Rattle.dl_reference.proofs.Grown.{history_more, end_of-cons}
+use Rattle.dl_reference.proofs.HistoryGrowth.{history_more, end_of-cons}
 use Rattle.dl_reference.proofs.counts.end_of.Goals as goal
 
 pub loop-atom-preserved : goal.loop-atom-preserved

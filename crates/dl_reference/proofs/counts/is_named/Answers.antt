@@ -1,4 +1,4 @@
-use Rattle.dl_reference.proofs.Grown.{history_more, none_begins}
+use Rattle.dl_reference.proofs.HistoryGrowth.{history_more, none_begins}
 use Rattle.dl_reference.proofs.counts.is_named.Goals as goal
 use Rattle.dl_reference.proofs.counts.is_named.Goals.{in-Some+then-is_in, in-Some+else-is_in, in_default}
 

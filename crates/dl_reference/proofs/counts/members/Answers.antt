@@ -1,5 +1,5 @@
 use Rattle.std.proofs.Common.{refl}
-use Rattle.dl_reference.proofs.Grown.{history_more, none_begins}
+use Rattle.dl_reference.proofs.HistoryGrowth.{history_more, none_begins}
 use Rattle.dl_reference.proofs.counts.members.Goals as goal
 use Rattle.dl_reference.proofs.counts.members.Goals.{in-Some+then-is_in+in_ok-try_copy+in_ok-push, in-Some+else-is_in, in_default}
 

@@ -1,4 +1,4 @@
-use Rattle.dl_reference.proofs.Grown.{history_more, sent_other}
+use Rattle.dl_reference.proofs.HistoryGrowth.{history_more, sent_other}
 use Rattle.dl_reference.proofs.counts.sent.Goals as goal
 use Rattle.dl_reference.proofs.counts.sent.Goals.{in-Dispatch, in_default}
 

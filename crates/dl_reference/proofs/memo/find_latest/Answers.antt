@@ -1,5 +1,5 @@
 use Rattle.std.proofs.Common.{arith, refl}
-use Rattle.dl_reference.proofs.Grown.{history_more, none_begins}
+use Rattle.dl_reference.proofs.HistoryGrowth.{history_more, none_begins}
 use Rattle.dl_reference.proofs.Latests.{latest_kept, latest_new, low_kept}
 use Rattle.dl_reference.proofs.memo.find_latest.Goals as goal
 use Rattle.dl_reference.proofs.memo.find_latest.Goals.{in-Some+then-eq, in-Some+else-eq, in_default}

@@ -1,4 +1,4 @@
-use Rattle.dl_reference.proofs.Grown.{history_more}
+use Rattle.dl_reference.proofs.HistoryGrowth.{history_more}
 use Rattle.dl_reference.proofs.memo.is_forgotten.Goals as goal
 use Rattle.dl_reference.proofs.memo.is_forgotten.Goals.{then-forgets, else-forgets}
 

@@ -1,4 +1,4 @@
-use Rattle.dl_scope.proofs.Carried as law
+use Rattle.dl_scope.proofs.CarriedJobs as law
 use Rattle.dl_scope.proofs.laws.jobs_are_batches.Goals as goal
 
 pub returns : goal.returns

@@ -1,36 +1,36 @@
 use Rattle.std.proofs.Common.{subst}
 use Rattle.std.specs.List.{AllZip}
 use Rattle.dl_workers.specs.Seats.{IsTakerOf}
-use Rattle.dl_scope.specs.Inside.Kept.{OwnKept, PlanKept, WorkerKept}
-use Rattle.dl_scope.specs.declared.jobs.WorkerJob.{WorkerJob}
-use Rattle.dl_scope.proofs.Joined.{all_joined, others_stay}
-use Rattle.dl_scope.proofs.SeatsBack.{all_front, all_last}
+use Rattle.dl_scope.specs.Inside.ThreadRuns.{IsPlanRun, IsWorkerRun, SendsNothing}
+use Rattle.dl_scope.specs.declared.tasks.WorkerTask.{WorkerTask}
+use Rattle.dl_scope.proofs.ThreadJoins.{all_joined, others_stay}
+use Rattle.dl_scope.proofs.Seats.{all_front, all_last}
 use Rattle.dl_scope.proofs.threads.+run_workers.Goals as goal
 
 pub start_worker-requires-clause-seat : goal.start_worker-requires-clause-seat
 start_worker-requires-clause-seat g t c = λ κs live.
-    all_last (λ (job : WorkerJob g.row.L.Denot). IsTakerOf c.args.stage.now.queue.now job.taker) c.pop.new.self.items c.args.workers.items c.in-Some.job
+    all_last (λ (task : WorkerTask g.row.L.Denot). IsTakerOf c.args.server.now.queue.now task.taker) c.pop.new.self.items c.args.workers.items c.in-Some.task
     c.in-Some.ensures.items c.requires.workers
 
 pub run_workers-rest-requires-clause-workers : goal.run_workers-rest-requires-clause-workers
 run_workers-rest-requires-clause-workers g t c = λ κs live.
-    all_front (λ (job : WorkerJob g.row.L.Denot). IsTakerOf c.args.stage.now.queue.now job.taker) c.pop.new.self.items c.args.workers.items c.in-Some.job
+    all_front (λ (task : WorkerTask g.row.L.Denot). IsTakerOf c.args.server.now.queue.now task.taker) c.pop.new.self.items c.args.workers.items c.in-Some.task
     c.in-Some.ensures.items c.requires.workers
 
--- with the job back at the end of the list that it was taken from
+-- with the task back at the end of the list that it was taken from
 pub returns : goal.returns
 returns g t c =
-    let queue = c.args.stage.now.queue.now in
+    let queue = c.args.server.now.queue.now in
     let service = g.L.LoaderName.service in
     let child = c.in-Some-start_worker in
     let rest = c.run_workers-rest in
     let run = c.join.result in
-    let kept = subst (λ job. WorkerKept queue service job run) child.ensures.job
-    (subst (λ q. WorkerKept q service child.child.promise.job.value run) child.ensures.queue c.join.ensures) in
+    let kept = subst (λ task. IsWorkerRun queue service task run) child.ensures.task
+    (subst (λ q. IsWorkerRun q service child.child.promise.task.value run) child.ensures.queue c.join.ensures) in
     record {
-      workers = rw c.in-Some.ensures.items (all_joined (WorkerKept queue service) (λ runs. runs.workers.items) rest.result c.with_worker.result
-          c.pop.new.self.items c.in-Some.job run rest.ensures.workers kept c.with_worker.ensures.workers);
-      plans = others_stay (λ plans. AllZip (PlanKept queue service) c.args.plans.items plans.items) (λ runs. runs.plans) rest.result c.with_worker.result
+      workers = rw c.in-Some.ensures.items (all_joined (IsWorkerRun queue service) (λ runs. runs.workers.items) rest.result c.with_worker.result
+          c.pop.new.self.items c.in-Some.task run rest.ensures.workers kept c.with_worker.ensures.workers);
+      plans = others_stay (λ plans. AllZip (IsPlanRun queue service) c.args.plans.items plans.items) (λ runs. runs.plans) rest.result c.with_worker.result
           rest.ensures.plans c.with_worker.ensures.plans;
-      own = others_stay (OwnKept queue c.args.own) (λ runs. runs.own) rest.result c.with_worker.result rest.ensures.own c.with_worker.ensures.own;
+      own = others_stay (SendsNothing queue c.args.own) (λ runs. runs.own) rest.result c.with_worker.result rest.ensures.own c.with_worker.ensures.own;
     }

@@ -4,11 +4,11 @@ use denote.Param.{param}
 use denote.Param.Send.{param_send, arg_send, shr_send}
 use denote.Ref.{ShrRef}
 use denote.Struct.Tuple.{TupleAt}
-use Rattle.dl_loader.proofs.Captured.{captures_send}
-use Rattle.dl_scope.specs.contracts.jobs.PlanJob as PlanJob
-use Rattle.dl_scope.specs.contracts.jobs.PlanRun as PlanRun
-use Rattle.dl_scope.specs.contracts.stage.Stage as Stage
-use Rattle.dl_scope.proofs.Crossing.{PlanJob-send, PlanRun-send, Stage-sync}
+use Rattle.dl_loader.proofs.Closures.{captures_send}
+use Rattle.dl_scope.specs.contracts.tasks.PlanTask as PlanTask
+use Rattle.dl_scope.specs.contracts.tasks.PlanRun as PlanRun
+use Rattle.dl_scope.specs.contracts.server.Server as Server
+use Rattle.dl_scope.proofs.ThreadSafety.{PlanTask-send, PlanRun-send, Server-sync}
 use Rattle.dl_scope.proofs.threads.start_plan.Goals as goal
 
 -- what a plan's thread is given may be sent, and so may what it gives back
@@ -17,9 +17,12 @@ spawn_with-requires-send-F g c κs within =
     let L = param 1 g.row.L in
     let n = g.L.LoaderName in
     let l = g.L.Ledger in
-    let Ts = PlanJob.the_row L n l ∷ ShrRef _ _ (param 2 g.row.R) ∷ ShrRef _ _ (Stage.the_row _ L n l) ∷ [] in
+    let S = param 2 g.row.S in
+    let G = param 3 g.row.G in
+    let shared = Server-sync L n l S G c.type_bounds.sync-S c.type_bounds.sync-G _ in
+    let Ts = PlanTask.the_row L n l ∷ ShrRef _ _ (param 4 g.row.R) ∷ ShrRef _ _ (Server.the_row _ L S G n l) ∷ [] in
     param_send 2 _ (arg_send _ yes (TupleAt _ Ts) (captures_send _ Ts
-    (PlanJob-send L n l, (shr_send _ _ _ c.type_bounds.sync-R, (shr_send _ _ _ (Stage-sync L n l _), tt)))))
+    (PlanTask-send L n l, (shr_send _ _ _ c.type_bounds.sync-R, (shr_send _ _ _ shared, tt)))))
 
 pub spawn_with-requires-send-T : goal.spawn_with-requires-send-T
 spawn_with-requires-send-T g c κs within =

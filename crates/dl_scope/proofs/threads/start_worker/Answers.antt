@@ -4,11 +4,11 @@ use denote.Param.{param}
 use denote.Param.Send.{param_send, arg_send, shr_send}
 use denote.Ref.{ShrRef}
 use denote.Struct.Tuple.{TupleAt}
-use Rattle.dl_loader.proofs.Captured.{captures_send}
-use Rattle.dl_scope.specs.contracts.jobs.WorkerJob as WorkerJob
-use Rattle.dl_scope.specs.contracts.stage.Stage as Stage
-use Rattle.dl_scope.proofs.jobs.WorkerJob.TheSendSync as job
-use Rattle.dl_scope.proofs.Crossing.{Stage-sync}
+use Rattle.dl_loader.proofs.Closures.{captures_send}
+use Rattle.dl_scope.specs.contracts.tasks.WorkerTask as WorkerTask
+use Rattle.dl_scope.specs.contracts.server.Server as Server
+use Rattle.dl_scope.proofs.tasks.WorkerTask.TheSendSync as task
+use Rattle.dl_scope.proofs.ThreadSafety.{Server-sync}
 use Rattle.dl_scope.proofs.threads.start_worker.Goals as goal
 
 -- what a worker's thread is given may be sent
@@ -17,15 +17,9 @@ spawn_with-requires-send-F g c κs within =
     let L = param 1 g.row.L in
     let n = g.L.LoaderName in
     let l = g.L.Ledger in
-    let Ts = WorkerJob.the_row L n l ∷ ShrRef _ _ (param 4 g.row.R) ∷ ShrRef _ _ (Stage.the_row _ L n l) ∷ ShrRef _ _ (param 2 g.row.S)
-    ∷ ShrRef _ _ (param 3 g.row.G) ∷ [] in
-    param_send 2 _ (arg_send _ yes (TupleAt _ Ts) (captures_send _ Ts (
-      job.the_send L n l,
-      (
-        shr_send _ _ _ c.type_bounds.sync-R,
-        (
-          shr_send _ _ _ (Stage-sync L n l _),
-          (shr_send _ _ _ c.type_bounds.sync-S, (shr_send _ _ _ c.type_bounds.sync-G, tt)),
-        ),
-      ),
-    )))
+    let S = param 2 g.row.S in
+    let G = param 3 g.row.G in
+    let shared = Server-sync L n l S G c.type_bounds.sync-S c.type_bounds.sync-G _ in
+    let Ts = WorkerTask.the_row L n l ∷ ShrRef _ _ (param 4 g.row.R) ∷ ShrRef _ _ (Server.the_row _ L S G n l) ∷ [] in
+    param_send 2 _ (arg_send _ yes (TupleAt _ Ts) (captures_send _ Ts
+    (task.the_send L n l, (shr_send _ _ _ c.type_bounds.sync-R, (shr_send _ _ _ shared, tt)))))

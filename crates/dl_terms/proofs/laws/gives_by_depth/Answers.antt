@@ -1,4 +1,4 @@
-use Rattle.dl_terms.proofs.Risen.{given_by_depth}
+use Rattle.dl_terms.proofs.DepthBound.{given_by_depth}
 use Rattle.dl_terms.proofs.laws.gives_by_depth.Goals as goal
 
 pub returns : goal.returns

@@ -1,4 +1,4 @@
-use Rattle.dl_terms.proofs.Ruled.{computed, ruled}
+use Rattle.dl_terms.proofs.RuleAnswers.{computed, ruled}
 use Rattle.dl_terms.proofs.laws.gives_by_rules.Goals as goal
 
 pub returns : goal.returns

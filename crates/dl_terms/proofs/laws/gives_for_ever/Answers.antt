@@ -1,5 +1,5 @@
-use Rattle.dl_terms.specs.Gives.{outcome_in}
-use Rattle.dl_terms.proofs.Kept.{answer_kept}
+use Rattle.dl_terms.specs.TermAnswers.{outcome_in}
+use Rattle.dl_terms.proofs.AnswersStay.{answer_kept}
 use Rattle.dl_terms.proofs.laws.gives_for_ever.Goals as goal
 
 pub returns : goal.returns

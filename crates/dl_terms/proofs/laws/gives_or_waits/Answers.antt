@@ -1,5 +1,5 @@
-use Rattle.dl_terms.specs.Gives.{outcome_in}
-use Rattle.dl_terms.proofs.Settled.{answered, unblocked}
+use Rattle.dl_terms.specs.TermAnswers.{outcome_in}
+use Rattle.dl_terms.proofs.AnswersWithoutWaits.{answered, unblocked}
 use Rattle.dl_terms.proofs.laws.gives_or_waits.Goals as goal
 
 pub returns : goal.returns

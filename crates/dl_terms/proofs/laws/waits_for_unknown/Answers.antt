@@ -1,7 +1,7 @@
 use Rattle.std.proofs.Common.{◌≡◌, None}
 use Rattle.std.proofs.lemmas.List.Elements.{All-from_recursion}
-use Rattle.dl_terms.specs.Gives.{outcome_in, waits, frontier}
-use Rattle.dl_terms.proofs.Awaited.{all_firsts, waits_unknown}
+use Rattle.dl_terms.specs.TermAnswers.{outcome_in, waits, frontier}
+use Rattle.dl_terms.proofs.WaitingKeys.{all_firsts, waits_unknown}
 use Rattle.dl_terms.proofs.laws.waits_for_unknown.Goals as goal
 
 pub returns : goal.returns

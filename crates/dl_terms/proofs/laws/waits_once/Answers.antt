@@ -1,5 +1,5 @@
-use Rattle.dl_terms.specs.Gives.{outcome_in, waits}
-use Rattle.dl_terms.proofs.Awaited.{firsts_distinct}
+use Rattle.dl_terms.specs.TermAnswers.{outcome_in, waits}
+use Rattle.dl_terms.proofs.WaitingKeys.{firsts_distinct}
 use Rattle.dl_terms.proofs.laws.waits_once.Goals as goal
 
 pub returns : goal.returns

@@ -1,5 +1,5 @@
-use Rattle.dl_terms.specs.Gives.{outcome_in, waits}
-use Rattle.dl_terms.proofs.Awaited.{inserted_none}
+use Rattle.dl_terms.specs.TermAnswers.{outcome_in, waits}
+use Rattle.dl_terms.proofs.WaitingKeys.{inserted_none}
 use Rattle.dl_terms.proofs.laws.wants_frontier.Goals as goal
 
 pub returns : goal.returns

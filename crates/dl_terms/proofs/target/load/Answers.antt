@@ -2,10 +2,10 @@ use Rattle.std.proofs.Common.{◌∙◌, ap, sym}
 use Rattle.indexmap.specs.IndexSet.{insert_key, insert_all}
 use Rattle.dl_values.specs.Key.{key_eq}
 use Rattle.dl_terms.specs.Tree.{ended}
-use Rattle.dl_terms.specs.Gives.{load_waits_for}
-use Rattle.dl_terms.specs.Reduces.{known_of}
+use Rattle.dl_terms.specs.TermAnswers.{load_waits_for}
+use Rattle.dl_terms.specs.Reduction.{known_of}
 use Rattle.dl_terms.proofs.Views.{node_view-Done, node_view-Load}
-use Rattle.dl_terms.proofs.Reduced.{load_known, load_waiting}
+use Rattle.dl_terms.proofs.Reductions.{load_known, load_waiting}
 use Rattle.dl_terms.proofs.target.load.Goals as goal
 
 pub returns-in_ok-loaded-in-Some-clause-stands : goal.returns-in_ok-loaded-in-Some-clause-stands

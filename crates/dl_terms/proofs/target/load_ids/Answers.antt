@@ -3,11 +3,11 @@ use Rattle.std.specs.List.{AllZip}
 use Rattle.std.proofs.lemmas.List.{take_all}
 use Rattle.std.proofs.lemmas.Result.{IfOk-from_err}
 use Rattle.serde_json.specs.View.{view, items_view}
-use Rattle.dl_terms.specs.Gives.{value_target, item_targets, target_waits, each_target_waits}
+use Rattle.dl_terms.specs.TermAnswers.{value_target, item_targets, target_waits, each_target_waits}
 use Rattle.dl_terms.specs.Node.{node_view}
-use Rattle.dl_terms.specs.Reduces.{known_of}
-use Rattle.dl_terms.specs.Inside.Exploring.{LoadsTarget}
-use Rattle.dl_terms.proofs.Reduced.{ids_load, zip_next, wanted_next}
+use Rattle.dl_terms.specs.Reduction.{known_of}
+use Rattle.dl_terms.specs.Inside.Exploration.{LoadsTarget}
+use Rattle.dl_terms.proofs.Reductions.{ids_load, zip_next, wanted_next}
 use Rattle.dl_terms.proofs.target.load_ids.Goals as goal
 
 pub loop-id-preserved : goal.loop-id-preserved

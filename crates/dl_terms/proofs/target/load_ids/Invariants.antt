@@ -4,10 +4,10 @@ use Rattle.std.specs.List.{AllZip}
 use Rattle.indexmap.specs.IndexSet.{insert_all}
 use Rattle.serde_json.specs.View.{view, items_view}
 use Rattle.dl_values.specs.Key.{key_eq}
-use Rattle.dl_terms.specs.Gives.{value_target, item_targets, each_target_waits}
+use Rattle.dl_terms.specs.TermAnswers.{value_target, item_targets, each_target_waits}
 use Rattle.dl_terms.specs.Node.{node_view}
-use Rattle.dl_terms.specs.Reduces.{known_of}
-use Rattle.dl_terms.specs.Inside.Exploring.{LoadsTarget}
+use Rattle.dl_terms.specs.Reduction.{known_of}
+use Rattle.dl_terms.specs.Inside.Exploration.{LoadsTarget}
 use Rattle.dl_terms.proofs.target.load_ids.Given as goal
 
 abbrev pub invariant-loop-id : goal.invariant-loop-id

@@ -3,7 +3,7 @@ use Rattle.std.specs.Option.{option_map}
 use Rattle.std.specs.Map.{lookup}
 use Rattle.dl_values.specs.Key.{key_eq}
 use Rattle.dl_values.proofs.KeyLemmas.{key_eq-same}
-use Rattle.dl_terms.proofs.Learned.{known_found}
+use Rattle.dl_terms.proofs.OutcomeMap.{known_found}
 use Rattle.dl_terms.proofs.target.outcome_of.Goals as goal
 
 pub returns-in-Some : goal.returns-in-Some

@@ -3,6 +3,6 @@ use Rattle.dl_workers.proofs.ending.end_job.Goals as goal
 
 pub returns-in-Err-OutOfMemory-default-clause-ended : goal.returns-in-Err-OutOfMemory-default-clause-ended
 returns-in-Err-OutOfMemory-default-clause-ended g c =
-    let part : c.settle.new.pass.part ≡ c.args.pass.now.part = search rules in
+    let trace : c.settle.new.pass.trace ≡ c.args.pass.now.trace = search rules in
     let job : c.into_job.result ≡ c.args.job = search rules in
-    rw (part, job) at c.give_up.ensures.ended
+    rw (trace, job) at c.give_up.ensures.ended

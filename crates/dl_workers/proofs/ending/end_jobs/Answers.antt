@@ -21,5 +21,5 @@ returns-in_err-end_job-clause-stopped g c =
     let so_far = YieldsList-so_far all c.loop-job.yielded _ c.loop-job.yielded_by in
     let fault = c.in_err-end_job.field-0.0 in
     let same : c.from_residual.result ≡ Err fault = search rules in
-    rw same (ended_before s c.args.pass.now.part c.loop-job.pass.part c.end_job.new.pass.part c.loop-job.yielded c.args.jobs.items c.in-Some.job fault
+    rw same (ended_before s c.args.pass.now.trace c.loop-job.pass.trace c.end_job.new.pass.trace c.loop-job.yielded c.args.jobs.items c.in-Some.job fault
     c.loop-job.invariant.ended so_far turn c.in_err-end_job.ensures.unchanged c.in_err-end_job.ensures.fault)

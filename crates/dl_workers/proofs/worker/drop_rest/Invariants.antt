@@ -1,5 +1,5 @@
 use Rattle.dl_workers.specs.Seats.{IsTakerOf, taken_jobs}
-use Rattle.dl_workers.specs.Worked.{Took}
+use Rattle.dl_workers.specs.WorkerResult.{Took}
 use Rattle.dl_workers.proofs.worker.drop_rest.Given as goal
 
 abbrev pub invariant-loop : goal.invariant-loop

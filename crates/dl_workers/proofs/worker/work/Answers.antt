@@ -1,13 +1,13 @@
 use Rattle.std.proofs.Common.{◌∙◌, refl}
 use Rattle.dl_workers.specs.Seats.{taken_jobs}
-use Rattle.dl_workers.proofs.Working.{ended_none, ended_one_more, gave_up}
+use Rattle.dl_workers.proofs.WorkerSteps.{ended_none, ended_one_more, gave_up}
 use Rattle.dl_workers.proofs.worker.work.Goals as goal
 
 pub returns-then-not-end_shown-clause-worked : goal.returns-then-not-end_shown-clause-worked
 returns-then-not-end_shown-clause-worked g c =
     gave_up g.L.LoaderName.service c.loop.batches c.in-Some-take.job.batch
     (taken_jobs c.args.taker.now) (taken_jobs c.loop.taker) (taken_jobs c.take.new.taker) (taken_jobs c.drop_rest.new.taker)
-    c.args.pass.now.part c.loop.pass.part c.end_shown.new.pass.part c.in-Some-take.job
+    c.args.pass.now.trace c.loop.pass.trace c.end_shown.new.pass.trace c.in-Some-take.job
     c.loop.invariant.ended c.in-Some-take.ensures.taken c.if-not-end_shown.ensures.ended c.drop_rest.ensures.took refl
 
 pub returns-then-not-end_shown-clause-tickets : goal.returns-then-not-end_shown-clause-tickets
@@ -21,7 +21,7 @@ loop-init g c = record {
   can_next = tt;
   is_finite = tt;
   seat = c.requires.seat;
-  ended = ended_none g.L.LoaderName.service (taken_jobs c.args.taker.now) c.args.pass.now.part;
+  ended = ended_none g.L.LoaderName.service (taken_jobs c.args.taker.now) c.args.pass.now.trace;
   tickets = refl;
 }
 
@@ -32,7 +32,7 @@ loop-preserved g c = record {
   seat = c.take.ensures.seat;
   ended = ended_one_more g.L.LoaderName.service c.loop.batches
       (taken_jobs c.args.taker.now) (taken_jobs c.loop.taker) (taken_jobs c.take.new.taker)
-      c.args.pass.now.part c.loop.pass.part c.end_shown.new.pass.part c.in-Some-take.job
+      c.args.pass.now.trace c.loop.pass.trace c.end_shown.new.pass.trace c.in-Some-take.job
       c.loop.invariant.ended c.in-Some-take.ensures.taken c.if-not-end_shown.ensures.ended;
   tickets = c.end_shown.ensures.tickets ∙ c.loop.invariant.tickets;
 }

@@ -2,7 +2,7 @@ use Rattle.std.proofs.Common.{◌∙◌, sym, ap}
 use Rattle.std.specs.Map.{lookup}
 use Rattle.dl_values.specs.Key.{key_eq}
 use Rattle.dl_desk.specs.BatchBook.{Desk}
-use Rattle.dl_desk.proofs.Shown.{lookup-take_none, lookup-take_in, lookup-take_out}
+use Rattle.dl_desk.proofs.MemoView.{lookup-take_none, lookup-take_in, lookup-take_out}
 use Rattle.dl_desk.proofs.desk.Desk.held.Goals as goal
 
 pub returns-in_err-index : goal.returns-in_err-index

@@ -1,5 +1,5 @@
 use Rattle.std.proofs.Common.{◌∙◌}
-use Rattle.dl_desk.proofs.Sends.{book_jobs-are}
+use Rattle.dl_desk.proofs.DispatchJobs.{book_jobs-are}
 use Rattle.dl_desk.proofs.desk.Desk.prepare_dispatch.Goals as goal
 
 pub returns-clause-reply : goal.returns-clause-reply

@@ -2,7 +2,7 @@ use Rattle.std.proofs.Common.{◌≡◌, ◌∙◌, ap, sym, Ok, None, refl}
 use Rattle.std.specs.Map.{lookup}
 use Rattle.std.proofs.lemmas.Result.{IfOk-from_err}
 use Rattle.dl_values.specs.Key.{key_eq}
-use Rattle.dl_desk.proofs.Prepares.{lookup-noted}
+use Rattle.dl_desk.proofs.TwoBooks.{lookup-noted}
 use Rattle.dl_desk.proofs.desk.Desk.put_alone.Goals as goal
 
 pub returns-clause-put : goal.returns-clause-put

@@ -1,4 +1,4 @@
-use Rattle.dl_haxl.proofs.Shown.{later_self}
+use Rattle.dl_haxl.proofs.TicketLooks.{later_self}
 use Rattle.dl_haxl.proofs.run.TermRun.advance.Goals as goal
 
 pub returns-in-Ended-clause-tickets : goal.returns-in-Ended-clause-tickets

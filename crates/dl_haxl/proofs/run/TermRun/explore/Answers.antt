@@ -3,12 +3,12 @@ use Rattle.std.proofs.lemmas.List.{with_items_is}
 use Rattle.std.specs.Vec.{with_items}
 use Rattle.indexmap.specs.IndexSet.{insert_all}
 use Rattle.dl_values.specs.Key.{key_eq}
-use Rattle.dl_terms.specs.Gives.{outcome_in, waits}
+use Rattle.dl_terms.specs.TermAnswers.{outcome_in, waits}
 use Rattle.dl_terms.specs.Node.{node_view}
-use Rattle.dl_terms.specs.Reduces.{pairs_of, Reduces}
+use Rattle.dl_terms.specs.Reduction.{pairs_of, Reduces}
 use Rattle.dl_haxl.specs.Pairs.{all_show, outcomes_shown, paired}
-use Rattle.dl_haxl.proofs.Shown.{later_long}
-use Rattle.dl_haxl.proofs.Explored.{then_answers, then_pends, then_waiting, not_learning, stage_after}
+use Rattle.dl_haxl.proofs.TicketLooks.{later_long}
+use Rattle.dl_haxl.proofs.Exploration.{then_answers, then_pends, then_waiting, not_learning, stage_after}
 use Rattle.dl_haxl.proofs.run.TermRun.explore.Goals as goal
 use Rattle.dl_haxl.proofs.run.TermRun.explore.Goals.{in-Some, in-None}
 

@@ -1,8 +1,8 @@
 use Rattle.std.proofs.Common.{◌∙◌, ap, sym, length}
 use Rattle.dl_terms.specs.Node.{node_view}
-use Rattle.dl_terms.specs.Reduces.{pairs_of}
+use Rattle.dl_terms.specs.Reduction.{pairs_of}
 use Rattle.dl_haxl.specs.Run.{wanted_at}
-use Rattle.dl_haxl.proofs.Explored.{wanted_unknown, learning_not_wanting}
+use Rattle.dl_haxl.proofs.Exploration.{wanted_unknown, learning_not_wanting}
 use Rattle.dl_haxl.proofs.run.TermRun.supply.Goals as goal
 
 pub invariant_of-self : goal.invariant_of-self

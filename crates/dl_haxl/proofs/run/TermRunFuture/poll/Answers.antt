@@ -1,5 +1,5 @@
-use Rattle.dl_haxl.specs.Seen.{seen}
-use Rattle.dl_haxl.proofs.Explored.{may_answer, may_before, on_pending}
+use Rattle.dl_haxl.specs.RunView.{seen}
+use Rattle.dl_haxl.proofs.Exploration.{may_answer, may_before, on_pending}
 use Rattle.dl_haxl.proofs.run.TermRunFuture.poll.Goals as goal
 
 pub returns-in-Ready-clause-value : goal.returns-in-Ready-clause-value

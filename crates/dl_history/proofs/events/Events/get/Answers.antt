@@ -1,5 +1,5 @@
 use Rattle.std.proofs.Common.{◌≡◌, ◌∙◌, ap, subst, Bor, List, Some, option_copied, slice_get, arith}
-use Rattle.dl_cells.specs.Cells.{Reading}
+use Rattle.dl_cells.specs.Cells.{Reader}
 use Rattle.dl_history.specs.declared.event.Event.{Event}
 use Rattle.dl_history.proofs.JournalLemmas.{event_seen}
 use Rattle.dl_history.proofs.ListLemmas.{looked_up}
@@ -25,7 +25,7 @@ look-requires-clause-of_cell c =
     let there = looked_up c.deref.result.now c.args.at c.in_ok-reader.reader.now c.in_ok-reader.ensures.lookup.0 c.in_ok-reader.ensures.lookup.1 in
     let own : slice_get c.self.inside.readers.items c.args.at ≡ Some c.in_ok-reader.reader.now = rw (← c.deref.ensures.value) there in
     let known = c.self.invariant.at c.args.at c.in_ok-reader.reader.now own in
-    ap (λ (r : Reading Event). r.cell) c.again.ensures ∙ known.cell_is
+    ap (λ (r : Reader Event). r.cell) c.again.ensures ∙ known.cell_is
 
 pub returns : goal.returns
 returns c =

@@ -1,5 +1,5 @@
 use Rattle.std.proofs.Common.{◌≡◌, ◌∙◌, ℕ, List, IfOk, ap, flat_map, subst}
-use Rattle.dl_history.specs.Closed.{place_of}
+use Rattle.dl_history.specs.ClosedHistory.{place_of}
 use Rattle.dl_history.proofs.HistoryLemmas.{caller_places}
 use Rattle.dl_history.proofs.history.History.of_caller.Goals as goal
 

@@ -1,5 +1,5 @@
 use Rattle.std.proofs.Common.{take}
-use Rattle.dl_history.specs.Agrees.{Meets}
+use Rattle.dl_history.specs.Agreement.{Meets}
 use Rattle.dl_history.specs.Lists.{Every}
 use Rattle.dl_history.proofs.journal.Journal.agree.Given as goal
 

@@ -1,6 +1,6 @@
 use Rattle.std.proofs.Common.{arith}
-use Rattle.dl_loader.proofs.CellsGiven.{all_begun}
-use Rattle.dl_loader.proofs.HandedOut.{tickets_by_loads}
+use Rattle.dl_loader.proofs.LoadCells.{all_begun}
+use Rattle.dl_loader.proofs.NewTickets.{tickets_by_loads}
 use Rattle.dl_loader.proofs.book.Book.make.Goals as goal
 
 pub returns-clause-tickets : goal.returns-clause-tickets

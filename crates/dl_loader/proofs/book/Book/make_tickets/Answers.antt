@@ -1,7 +1,7 @@
 use Rattle.std.proofs.Common.{◌≡◌, ◌∙◌, ◌+◌, ◌-◌, ◌≤◌, length, ap, get_or, refl}
 use Rattle.std.specs.Vec.{vec_capacity}
 use Rattle.dl_desk.specs.declared.reply.LoadReply.TheVariants.{Hit}
-use Rattle.dl_loader.proofs.HandedOut.{tickets_more}
+use Rattle.dl_loader.proofs.NewTickets.{tickets_more}
 use Rattle.dl_loader.proofs.book.Book.make_tickets.Goals as goal
 
 pub loop-reply-preserved : goal.loop-reply-preserved

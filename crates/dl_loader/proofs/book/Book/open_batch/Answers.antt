@@ -1,5 +1,5 @@
 use Rattle.std.proofs.Common.{ap, arith}
-use Rattle.dl_loader.proofs.ClosingLemmas.{all_ended}
+use Rattle.dl_loader.proofs.CloseLemmas.{all_ended}
 use Rattle.dl_loader.proofs.book.Book.open_batch.Goals as goal
 
 pub returns-clause-ended : goal.returns-clause-ended

@@ -14,4 +14,4 @@ returns-in-Err-clause-passes g c = lent_back c.args.passes.ok.0 (c.in-Err.ensure
 
 pub returns-in-Err-clause-fault : goal.returns-in-Err-clause-fault
 returns-in-Err-clause-fault g c =
-    (c.accounts.new.book, c.keeps-in-Err.ensures, rw (c.in-Err.ensures.book, ← c.deref_mut.ensures.value) c.in-Err.ensures.fault)
+    (c.outlines.new.book, c.keeps-in-Err.ensures, rw (c.in-Err.ensures.book, ← c.deref_mut.ensures.value) c.in-Err.ensures.fault)

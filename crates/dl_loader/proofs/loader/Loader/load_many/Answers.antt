@@ -1,7 +1,7 @@
 use Rattle.std.proofs.Common.{◌≡◌, ◌∙◌, ap, sym, length, arith}
 use Rattle.std.proofs.lemmas.List.{length-map}
-use Rattle.dl_loader.proofs.CellsGiven.{loads_long}
-use Rattle.dl_loader.proofs.HandedOut.{tickets_last, gave_loads}
+use Rattle.dl_loader.proofs.LoadCells.{loads_long}
+use Rattle.dl_loader.proofs.NewTickets.{tickets_last, gave_loads}
 use Rattle.dl_loader.proofs.loader.Loader.load_many.Goals as goal
 
 pub make_tickets-requires-clause-begun : goal.make_tickets-requires-clause-begun
@@ -10,7 +10,7 @@ make_tickets-requires-clause-begun g c = rw c.as_slice.ensures.value c.in_ok-rep
 pub make_tickets-requires-clause-room : goal.make_tickets-requires-clause-room
 make_tickets-requires-clause-room g c =
     let was = c.in_ok-replies.ensures.made in
-    let many = loads_long g.L.LoaderName.service was.0 was.1 c.args.pass.now.part c.make.new.pass.part c.args.keys.now c.in_ok-replies.replies.items was.3 was.5 in
+    let many = loads_long g.L.LoaderName.service was.0 was.1 c.args.pass.now.trace c.make.new.pass.trace c.args.keys.now c.in_ok-replies.replies.items was.3 was.5 in
     let shown : length c.as_slice.result.now ≡ length c.in_ok-replies.replies.items = ap length c.as_slice.ensures.value in
     let room = c.in_ok-tickets.ensures.capacity in
     omega arith
@@ -18,7 +18,7 @@ make_tickets-requires-clause-room g c =
 pub make_tickets-requires-clause-last : goal.make_tickets-requires-clause-last
 make_tickets-requires-clause-last g c =
     let was = c.in_ok-replies.ensures.made in
-    let last = tickets_last was.0 was.1 c.args.pass.now.part c.make.new.pass.part c.args.keys.now c.in_ok-replies.replies.items was.5 in
+    let last = tickets_last was.0 was.1 c.args.pass.now.trace c.make.new.pass.trace c.args.keys.now c.in_ok-replies.replies.items was.5 in
     let shown : length c.as_slice.result.now ≡ length c.in_ok-replies.replies.items = ap length c.as_slice.ensures.value in
     omega arith
 
@@ -28,12 +28,12 @@ returns-clause-made g c = rw (c.make_tickets.ensures.replies_are, c.as_slice.ens
 pub returns-clause-gave : goal.returns-clause-gave
 returns-clause-gave g c =
     let was = c.in_ok-replies.ensures.made in
-    gave_loads was.0 was.1 c.args.pass.now.part c.make.new.pass.part c.args.keys.now c.in_ok-replies.replies.items c.make_tickets.new.tickets.items was.5
+    gave_loads was.0 was.1 c.args.pass.now.trace c.make.new.pass.trace c.args.keys.now c.in_ok-replies.replies.items c.make_tickets.new.tickets.items was.5
     (rw c.as_slice.ensures.value at c.make_tickets.ensures)
 
 pub returns-clause-each : goal.returns-clause-each
 returns-clause-each g c =
     let was = c.in_ok-replies.ensures.made in
-    let many = loads_long g.L.LoaderName.service was.0 was.1 c.args.pass.now.part c.make.new.pass.part c.args.keys.now c.in_ok-replies.replies.items was.3 was.5 in
+    let many = loads_long g.L.LoaderName.service was.0 was.1 c.args.pass.now.trace c.make.new.pass.trace c.args.keys.now c.in_ok-replies.replies.items was.3 was.5 in
     let are = rw c.as_slice.ensures.value at c.make_tickets.ensures in
     sym (length-map c.make_tickets.new.tickets.items (λ t. t.reply)) ∙ (ap length are.replies_are ∙ many)

@@ -1,6 +1,6 @@
 use Rattle.std.proofs.Common.{take}
 use Rattle.dl_loader.specs.Closing.{accounts_of}
-use Rattle.dl_loader.proofs.ClosingLemmas.{IsFound}
+use Rattle.dl_loader.proofs.CloseLemmas.{IsFound}
 use Rattle.dl_loader.proofs.loader.close.behind.Given as goal
 
 abbrev pub invariant-loop-pass : goal.invariant-loop-pass

@@ -1,4 +1,4 @@
-use Rattle.dl_loader.proofs.ClosingLemmas.{least_same, least_entry, least_all}
+use Rattle.dl_loader.proofs.CloseLemmas.{least_same, least_entry, least_all}
 use Rattle.dl_loader.proofs.loader.unshown.least_in.Goals as goal
 
 pub loop-entry-init : goal.loop-entry-init

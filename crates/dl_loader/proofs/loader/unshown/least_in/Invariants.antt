@@ -1,6 +1,6 @@
 use Rattle.std.proofs.Common.{ℕ, List, ◌++◌, take, flat_map}
 use Rattle.dl_loader.specs.Closing.{IsLeastOf}
-use Rattle.dl_history.specs.Agrees.{read_in, refused_in}
+use Rattle.dl_history.specs.Agreement.{read_in, refused_in}
 use Rattle.dl_loader.proofs.loader.unshown.least_in.Given as goal
 
 abbrev pub invariant-loop-entry : goal.invariant-loop-entry

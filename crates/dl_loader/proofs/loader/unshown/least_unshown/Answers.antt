@@ -1,4 +1,4 @@
-use Rattle.dl_loader.proofs.ClosingLemmas.{least_pass}
+use Rattle.dl_loader.proofs.CloseLemmas.{least_pass}
 use Rattle.dl_loader.proofs.loader.unshown.least_unshown.Goals as goal
 
 pub loop-pass-preserved : goal.loop-pass-preserved

@@ -1,5 +1,5 @@
 use Rattle.std.proofs.Common.{take}
-use Rattle.dl_history.specs.Agrees.{unshown}
+use Rattle.dl_history.specs.Agreement.{unshown}
 use Rattle.dl_loader.specs.Closing.{IsLeastOf, accounts_of}
 use Rattle.dl_loader.proofs.loader.unshown.least_unshown.Given as goal
 

@@ -2,6 +2,7 @@ use Rattle.std.proofs.Common.{◌≡◌, ℕ, ◌+◌, ◌-◌, ◌<◌, ◌≤�
 use Rattle.std.specs.Vec.{vec_len}
 use Rattle.std.proofs.lemmas.Result.{on_ok_weaker, on_err_weaker}
 use Rattle.dl_loader.specs.Pass.{Pass}
+use Rattle.dl_loader.proofs.PassLemmas.{pass_reserved}
 use Rattle.dl_loader.proofs.pass.Pass.reserve.Goals as goal
 
 -- two lists of lengths `l` and `k` have the capacities `a` and `b`
@@ -11,6 +12,10 @@ has_room n unseen m e xs ys first second = omega arith
 
 lacks_room : (n r : ℕ) {more spare x k b : ℕ} → more ≡ n + 1 → x ≡ k → min r (b - k) ≡ spare → b < x + more → spare < n + 1
 lacks_room n r m xs is full = omega arith
+
+pub invariant_of-self-2 : goal.invariant_of-self-2
+invariant_of-self-2 g c =
+    pass_reserved c.self.invariant c.reserve.ensures.items c.reserve-2.ensures.items c.reserve.ensures.capacity c.reserve-2.ensures.capacity
 
 pub returns : goal.returns
 returns g c =
@@ -22,7 +27,7 @@ returns g c =
     let has = has_room c.args.tickets c.self.inside.unseen more all entries tickets c.in_ok-reserve.ensures.ok in
     let lacks = lacks_room c.args.tickets _ more before (ap (λ (p : Pass). p.spare) c.self.view_is) in
     record {
-      part = rw (c.reserve.ensures.items, c.reserve-2.ensures.items) (ap (λ (p : Pass). p.part) c.self.view_is);
+      trace = rw (c.reserve.ensures.items, c.reserve-2.ensures.items) (ap (λ (p : Pass). p.trace) c.self.view_is);
       room = on_ok_weaker c.reserve-2.result has c.reserve-2.ensures.ok;
       full = on_err_weaker c.reserve-2.result lacks c.reserve-2.ensures.full;
     }

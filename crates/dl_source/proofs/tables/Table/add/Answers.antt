@@ -1,6 +1,6 @@
 use Rattle.std.proofs.Common.{◌≡◌, true, not, ap, sym, ◌∙◌, is_some, ◌++◌, ◌∷◌, []}
 use Rattle.dl_source.specs.Faults.{lists}
-use Rattle.dl_source.specs.Listing.{named}
+use Rattle.dl_source.specs.Tables.{named}
 use Rattle.dl_source.proofs.Lookups.{lists-get, named-insert}
 use Rattle.dl_source.proofs.Repeats.{not_swap, was_new}
 use Rattle.dl_source.proofs.tables.Table.add.Goals as goal
@@ -9,15 +9,15 @@ pub returns-clause-found : goal.returns-clause-found
 returns-clause-found c =
     not_swap _ _ c.is_none.ensures
     ∙ ap (λ o. not (is_some o)) c.in_ok-insert.ensures.old
-    ∙ ap not (sym (lists-get c.self.inside.entries c.in_ok-id.id c.args.id.now c.in_ok-id.ensures.ok))
+    ∙ ap not (sym (lists-get c.self.inside.findings c.in_ok-id.id c.args.id.now c.in_ok-id.ensures.ok))
     ∙ ap (λ es. not (lists c.args.id.now es)) c.self.view_is
 
 pub returns-clause-added : goal.returns-clause-added
 returns-clause-added c = λ is_new.
     let added : c.is_none.result ≡ true = cc in
-    let listed = lists-get c.self.inside.entries c.in_ok-id.id c.args.id.now c.in_ok-id.ensures.ok in
+    let listed = lists-get c.self.inside.findings c.in_ok-id.id c.args.id.now c.in_ok-id.ensures.ok in
     let found = not_swap _ _ c.is_none.ensures ∙ ap (λ o. not (is_some o)) c.in_ok-insert.ensures.old ∙ ap not (sym listed) in
-    let new = was_new (lists c.args.id.now (named c.self.inside.entries.entries)) (sym added ∙ found) in
+    let new = was_new (lists c.args.id.now (named c.self.inside.findings.entries)) (sym added ∙ found) in
     ap named c.in_ok-insert.ensures.entries
-    ∙ named-insert c.self.inside.entries c.in_ok-id.id c.args.id.now c.in_ok-id.ensures.ok c.args.entry new
-    ∙ ap (λ es. es ++ (c.args.id.now, c.args.entry) ∷ []) c.self.view_is
+    ∙ named-insert c.self.inside.findings c.in_ok-id.id c.args.id.now c.in_ok-id.ensures.ok c.args.finding new
+    ∙ ap (λ es. es ++ (c.args.id.now, c.args.finding) ∷ []) c.self.view_is

@@ -5,11 +5,11 @@ use Rattle.dl_source.proofs.Repeats.{clashes_first, take_next, any_at, goes_on, 
 use Rattle.dl_source.proofs.tables.Table.copy_of.Goals as goal
 
 pub loop-listed-init : goal.loop-listed-init
-loop-listed-init c = record { copied = c.new-table.ensures; rest = clashes_first c.args.entries.now; whole = c.requires }
+loop-listed-init c = record { copied = c.new-table.ensures; rest = clashes_first c.args.findings.now; whole = c.requires }
 
 pub loop-listed-preserved : goal.loop-listed-preserved
 loop-listed-preserved c =
-    let es = c.args.entries.now in
+    let es = c.args.findings.now in
     let i = c.loop-listed.listed-index in
     let e = c.listed-item.result in
     let lt = c.loop-listed-test.true in
@@ -19,16 +19,16 @@ loop-listed-preserved c =
     ap (λ n. lists n (take i es)) (sym c.id.ensures) ∙ ap (lists c.id.result.now) (sym c.loop-listed.invariant.copied) ∙ was in
     record {
       copied = c.in_ok-add.ensures.added (ap Ok c.if-not-branch.false)
-          ∙ ap (λ t. t ++ (c.id.result.now, c.in_ok-entry.entry) ∷ []) c.loop-listed.invariant.copied
-          ∙ ap (λ n. take i es ++ (n, c.in_ok-entry.entry) ∷ []) c.id.ensures
-          ∙ ap (λ x. take i es ++ (e.0, x) ∷ []) c.in_ok-entry.ensures
+          ∙ ap (λ t. t ++ (c.id.result.now, c.in_ok-finding.finding) ∷ []) c.loop-listed.invariant.copied
+          ∙ ap (λ n. take i es ++ (n, c.in_ok-finding.finding) ∷ []) c.id.ensures
+          ∙ ap (λ x. take i es ++ (e.0, x) ∷ []) c.in_ok-finding.ensures
           ∙ sym (take_next es i e lt is);
       rest = goes_on es i e lt is _ c.loop-listed.invariant.rest new;
       whole = or_right_false _ _ (sym (any_at es i e lt is (λ x. is_not_whole x.1)) ∙ c.loop-listed.invariant.whole);
     }
 
-pub returns-in_err-entry : goal.returns-in_err-entry
-returns-in_err-entry c = IfOk-from_err _ _ c.from_residual.ensures.0
+pub returns-in_err-finding : goal.returns-in_err-finding
+returns-in_err-finding c = IfOk-from_err _ _ c.from_residual.ensures.0
 
 pub returns-in_err-add : goal.returns-in_err-add
 returns-in_err-add c = IfOk-from_err _ _ c.from_residual-in_err-add.ensures.0

@@ -2,7 +2,7 @@ use Rattle.std.proofs.Common.{◌≡◌, ◌≤◌, ◌+◌, ◌*◌, ◌^◌, �
 use Rattle.crossbeam_channel.specs.Ends.{sends_on}
 use Rattle.crossbeam_channel.specs.Claims.{view, IsSeatAt}
 use Rattle.dl_workers.specs.Seats.{sent_items, sent_jobs}
-use Rattle.dl_workers.specs.Lossless.{traffic}
+use Rattle.dl_workers.specs.LosslessRule.{traffic}
 use Rattle.dl_workers.proofs.queue.JobQueue.gather_senders.Given as goal
 
 abbrev pub invariant-loop-sender : goal.invariant-loop-sender

@@ -2,7 +2,7 @@ use Rattle.std.proofs.Common.{◌≡◌, ◌≤◌, ◌+◌, ◌*◌, ◌^◌, �
 use Rattle.crossbeam_channel.specs.Ends.{sends_on}
 use Rattle.crossbeam_channel.specs.Claims.{view, IsSeatAt}
 use Rattle.dl_workers.specs.Seats.{taken_items, taken_jobs}
-use Rattle.dl_workers.specs.Lossless.{traffic}
+use Rattle.dl_workers.specs.LosslessRule.{traffic}
 use Rattle.dl_workers.proofs.queue.JobQueue.gather_takers.Given as goal
 
 abbrev pub invariant-loop-taker : goal.invariant-loop-taker

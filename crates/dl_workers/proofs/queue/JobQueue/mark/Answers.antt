@@ -2,7 +2,7 @@
 use Rattle.std.proofs.Common.{◌≡◌, ◌∙◌, length, ap, sym}
 use Rattle.crossbeam_channel.specs.Claims.{view}
 use Rattle.dl_workers.specs.declared.rule.Item.TheVariants.{End}
-use Rattle.dl_workers.proofs.Accounts.{after_mark}
+use Rattle.dl_workers.proofs.SeatSteps.{after_mark}
 use Rattle.dl_workers.proofs.queue.JobQueue.mark.Goals as goal
 
 pub invariant_of-sender : goal.invariant_of-sender

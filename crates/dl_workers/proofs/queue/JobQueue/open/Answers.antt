@@ -2,7 +2,7 @@
 use Rattle.std.proofs.Common.{◌≡◌, ◌∙◌, ◌+◌, sym, ap, arith}
 use Rattle.crossbeam_channel.specs.Claims.{view}
 use Rattle.dl_workers.specs.declared.rule.Traffic.{Traffic}
-use Rattle.dl_workers.proofs.Dealt.{is_unused}
+use Rattle.dl_workers.proofs.NewSeats.{is_unused}
 use Rattle.dl_workers.proofs.queue.JobQueue.open.Goals as goal
 
 pub deal_senders-requires : goal.deal_senders-requires

@@ -2,7 +2,7 @@
 use Rattle.std.proofs.Common.{◌∙◌, ap, arith}
 use Rattle.crossbeam_channel.specs.Claims.{view}
 use Rattle.dl_workers.specs.declared.rule.Traffic.{Traffic}
-use Rattle.dl_workers.proofs.Accounts.{after_send, length-push}
+use Rattle.dl_workers.proofs.SeatSteps.{after_send, length-push}
 use Rattle.dl_workers.proofs.queue.JobQueue.send.Goals as goal
 
 pub invariant_of-sender : goal.invariant_of-sender

@@ -2,7 +2,7 @@
 use Rattle.std.proofs.Common.{◌∙◌, ap, sym, length, arith}
 use Rattle.crossbeam_channel.specs.Claims.{view}
 use Rattle.dl_workers.specs.declared.rule.Traffic.{Traffic}
-use Rattle.dl_workers.proofs.Accounts.{after_take, after_end, length-push, now_marked, still_marked}
+use Rattle.dl_workers.proofs.SeatSteps.{after_take, after_end, length-push, now_marked, still_marked}
 use Rattle.dl_workers.proofs.queue.JobQueue.take.Goals as goal
 
 pub invariant_of-taker : goal.invariant_of-taker

@@ -1,6 +1,6 @@
 use Rattle.std.proofs.Common.{◌∙◌, ap, length}
 use Rattle.dl_source.specs.Fetched.{job_of, source_of}
-use Rattle.dl_loader.proofs.PreparedCalls.{answer_brings, end_prepared}
+use Rattle.dl_loader.proofs.Preparations.{answer_brings, end_prepared}
 use Rattle.dl_loader.proofs.event_call.ends.SettleEventCall.prepare.Goals as goal
 
 pub dues-requires : goal.dues-requires

@@ -1,5 +1,5 @@
 use Rattle.std.proofs.Common.{refl}
-use Rattle.dl_loader.proofs.PreparedCalls.{prime_prepared}
+use Rattle.dl_loader.proofs.Preparations.{prime_prepared}
 use Rattle.dl_loader.proofs.event_call.keys.PrimeEventCall.prepare.Goals as goal
 
 pub returns-clause-prepared : goal.returns-clause-prepared

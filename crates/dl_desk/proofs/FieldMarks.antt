@@ -1,0 +1,170 @@
+-- What cutting, showing and preparing leave of a desk's fields.
+use Rattle.std.proofs.Common.{◌≡◌, ◌∙◌, sym, true, false, ℕ, zero, suc, ◌+◌, ◌<◌, ◌≤◌, inl, inr, min, max, List, [], ◌∷◌, ◌++◌, length, map, set, take}
+use Rattle.std.proofs.Common.{Option, Some, None, slice_get, refl, arith, length-append}
+use Rattle.std.proofs.lemmas.Bool.{cases_lt, cases_eq, true≢false}
+use Rattle.std.proofs.lemmas.Option.{slice_get-map, slice_get_past}
+use Rattle.std.proofs.lemmas.List.{map-append, map-set, length-set, length-map, take_all}
+use Rattle.dl_values.specs.Key.{Key}
+use Rattle.dl_desk.specs.StoredBatch.{StoredBatch, blank}
+use Rattle.dl_desk.specs.BatchBook.{Batch}
+use Rattle.dl_desk.specs.Preparation.{prepared_batch, shown_batch, empty, Same, members_of}
+use Rattle.dl_desk.specs.Marks.{DeskFields, IsStored, IsShown, IsDesk, MakesRoom, IsAdded}
+use Rattle.dl_desk.specs.declared.desk.Extent.{Extent}
+use Rattle.dl_desk.proofs.Tails.{get-set_other, map-set_unseen, same_all}
+
+-- ---- cutting and showing
+
+-- where a list has the same batches prepared and shown, nothing is prepared
+none_prepared : (xs : List StoredBatch) → map shown_batch xs ≡ map prepared_batch xs → (b : ℕ) (x : StoredBatch) → slice_get xs b ≡ Some x → shown_batch x ≡ prepared_batch x
+none_prepared xs same b x at =
+    let f : slice_get (map shown_batch xs) b ≡ Some (shown_batch x) = rw (slice_get-map shown_batch xs b, at) refl in
+    let w : slice_get (map prepared_batch xs) b ≡ Some (prepared_batch x) = rw (slice_get-map prepared_batch xs b, at) refl in
+    let g : slice_get (map prepared_batch xs) b ≡ Some (shown_batch x) = rw same at f in
+    let e : ◌≡◌ {A = Option Batch} (Some (shown_batch x)) (Some (prepared_batch x)) = sym g ∙ w in
+    cc
+
+pub desk_cut : (d : DeskFields) (left : List (Key × ℕ)) (ys : List StoredBatch) → IsDesk d → map prepared_batch ys ≡ map shown_batch d.batches
+    → map shown_batch ys ≡ map shown_batch d.batches → length left ≡ d.shown_memo
+    → IsDesk (record d { memo = left; batches = ys; prepared = d.shown; is_prepared = false; touched = d.shown.begun })
+desk_cut d left ys is w f all = record {
+  prepared_book = rw w is.shown_book;
+  shown_book = rw f is.shown_book;
+  memo = omega arith;
+  same = λ b outside x at. none_prepared ys (f ∙ sym w) b x at;
+  unmarked = λ _. record { extent = refl; all_memo = all; none_touched = refl };
+}
+
+pub desk_shown : (d : DeskFields) (ys : List StoredBatch) → IsDesk d → map prepared_batch ys ≡ map prepared_batch d.batches
+    → map shown_batch ys ≡ map prepared_batch d.batches
+    → IsDesk (record d { batches = ys; shown = d.prepared; shown_memo = length d.memo; is_prepared = false; touched = d.prepared.begun })
+desk_shown d ys is w f = record {
+  prepared_book = rw w is.prepared_book;
+  shown_book = rw f is.prepared_book;
+  memo = omega arith;
+  same = λ b outside x at. none_prepared ys (f ∙ sym w) b x at;
+  unmarked = λ _. record { extent = refl; all_memo = refl; none_touched = refl };
+}
+
+-- ---- one more batch
+
+get-append_left : {A : Type 0} (xs ys : List A) (b : ℕ) → b < length xs → slice_get (xs ++ ys) b ≡ slice_get xs b
+get-append_left [] ys b low = absurd (omega arith)
+get-append_left (x ∷ xs) ys zero low = refl
+get-append_left (x ∷ xs) ys (suc b) low = get-append_left xs ys b (omega arith)
+
+get-append_last : {A : Type 0} (xs : List A) (y : A) (b : ℕ) → b ≡ length xs → slice_get (xs ++ y ∷ []) b ≡ Some y
+get-append_last [] y zero is = refl
+get-append_last [] y (suc b) is = absurd (omega arith)
+get-append_last (x ∷ xs) y zero is = absurd (omega arith)
+get-append_last (x ∷ xs) y (suc b) is = get-append_last xs y b (omega arith)
+
+pub stored_grown : (e : Extent) (most : ℕ) (xs : List Batch) → IsStored e most xs → IsStored e most (xs ++ empty ∷ [])
+stored_grown e most xs is = record {
+  all_sent = is.all_sent;
+  all_stored = rw length-append (let s = is.all_stored in omega arith);
+  few = is.few;
+  within = is.within;
+  spare = λ b high low. elim (cases_lt b (length xs)) [
+    | inl inside ↦ get-append_left xs (empty ∷ []) b inside ∙ is.spare b high inside
+    | inr last ↦ get-append_last xs empty b (let l : b < length xs + 1 = rw length-append at low in omega arith)
+  ];
+}
+
+same_grown : (from to : ℕ) (xs : List StoredBatch) → Same from to xs → Same from to (xs ++ blank ∷ [])
+same_grown from to xs same b outside x at = elim (cases_lt b (length xs)) [
+  | inl inside ↦ same b outside x (sym (get-append_left xs (blank ∷ []) b inside) ∙ at)
+  | inr above ↦ elim (cases_eq b (length xs)) [
+    | inl last ↦ let e : ◌≡◌ {A = Option StoredBatch} (Some blank) (Some x) = sym (get-append_last xs blank b last) ∙ at in let is : blank ≡ x = cc in rw (← is) refl
+    | inr past ↦ let none : slice_get (xs ++ blank ∷ []) b ≡ None = slice_get_past (xs ++ blank ∷ []) b (rw length-append (omega arith)) in
+        absurd (let bad : ◌≡◌ {A = Option StoredBatch} None (Some x) = sym none ∙ at in cc)
+  ]
+]
+
+pub desk_grown : (d : DeskFields) (memo : List (Key × ℕ)) (ys : List StoredBatch) → IsDesk d → MakesRoom d.batches ys → d.shown_memo ≤ length memo
+    → IsDesk (record d { memo = memo; batches = ys; is_prepared = true })
+desk_grown d memo ys is (inl same) left = record {
+  prepared_book = rw same is.prepared_book;
+  shown_book = rw same is.shown_book;
+  memo = left;
+  same = rw same is.same;
+  unmarked = λ e. absurd (true≢false e);
+}
+desk_grown d memo ys is (inr one) left = record {
+  prepared_book = rw (one, map-append) (stored_grown d.prepared d.max_cells (map prepared_batch d.batches) is.prepared_book);
+  shown_book = rw (one, map-append) (stored_grown d.shown d.max_cells (map shown_batch d.batches) is.shown_book);
+  memo = left;
+  same = rw one (same_grown d.touched d.prepared.begun d.batches is.same);
+  unmarked = λ e. absurd (true≢false e);
+}
+
+-- ---- one more member
+
+-- how far the batches go with one more member in one of them
+abbrev pub with_member : Extent → ℕ → Extent
+with_member e n = record e { begun = max e.begun (n + 1); cells = e.cells + 1 }
+
+stored_put : (e : Extent) (most n : ℕ) (xs : List Batch) (y : Batch) → IsStored e most xs → n < length xs → n ≤ e.begun → e.cells < most
+    → IsStored (with_member e n) most (set xs n y)
+stored_put e most n xs y is low next room = record {
+  all_sent = let s = is.all_sent in omega arith;
+  all_stored = rw length-set (let s = is.all_stored in omega arith);
+  few = let s = is.few in omega arith;
+  within = omega arith;
+  spare = λ b high inside. get-set_other xs n b y (λ same. absurd (omega arith)) ∙ is.spare b (omega arith) (rw length-set at inside);
+}
+
+pub desk_put : (d : DeskFields) (memo : List (Key × ℕ)) (n : ℕ) (m : Key × ℕ) (ys : List StoredBatch) → IsDesk d → IsAdded d.batches n m ys
+    → n ≤ d.prepared.begun → d.prepared.cells < d.max_cells → d.shown_memo ≤ length memo
+    → IsDesk (record d { memo = memo; batches = ys; prepared = with_member d.prepared n; is_prepared = true; touched = min d.touched n })
+desk_put d memo n m ys is added next room left = record {
+  prepared_book
+      = rw (
+        added.is,
+        map-set,
+      )
+      (stored_put d.prepared d.max_cells n (map prepared_batch added.grown) (prepared_batch added.then) grown.prepared_book (rw length-map added.low) next
+      room);
+  shown_book = rw (added.is, map-set_unseen shown_batch added.grown n added.before added.then added.at added.shown) grown.shown_book;
+  memo = left;
+  same = λ b outside x at.
+      let ne : b ≡ n → ⊥ = λ e. elim outside [ inl below ↦ omega arith | inr above ↦ omega arith ] in
+      grown.same b (elim outside [ inl below ↦ inl (omega arith) | inr above ↦ inr (omega arith) ]) x
+      (sym (get-set_other added.grown n b added.then ne) ∙ (let here : slice_get (set added.grown n added.then) b ≡ Some x = rw added.is at at in here));
+  unmarked = λ e. absurd (true≢false e);
+}
+  where
+    grown : IsDesk (record d { memo = memo; batches = added.grown; is_prepared = true })
+    grown = desk_grown d memo added.grown is added.grows left
+
+-- the grown batches are stored as well
+pub stored_grows : (e : Extent) (most : ℕ) (xs grown : List StoredBatch) → IsStored e most (map prepared_batch xs) → MakesRoom xs grown
+    → IsStored e most (map prepared_batch grown)
+stored_grows e most xs grown is (inl same) = rw same is
+stored_grows e most xs grown is (inr one) = rw (one, map-append) (stored_grown e most (map prepared_batch xs) is)
+
+-- the members of a batch, of which the next one has none before it is added
+pub grown_members : (xs grown : List StoredBatch) (n : ℕ) (x : StoredBatch) → MakesRoom xs grown → slice_get grown n ≡ Some x → n ≤ length xs
+    → x.members ≡ members_of (slice_get (map prepared_batch xs) n)
+grown_members xs grown n x (inl same) at low =
+    let here : slice_get xs n ≡ Some x = rw same at at in
+    let is : slice_get (map prepared_batch xs) n ≡ Some (prepared_batch x) = rw (slice_get-map prepared_batch xs n, here) refl in
+    rw is refl
+grown_members xs grown n x (inr one) at low = elim (cases_lt n (length xs)) [
+  | inl inside ↦
+      let here : slice_get xs n ≡ Some x = sym (get-append_left xs (blank ∷ []) n inside) ∙ (rw one at at) in
+      let is : slice_get (map prepared_batch xs) n ≡ Some (prepared_batch x) = rw (slice_get-map prepared_batch xs n, here) refl in
+      rw is refl
+  | inr above ↦
+      let last : n ≡ length xs = omega arith in
+      let e : ◌≡◌ {A = Option StoredBatch} (Some blank) (Some x) = sym (get-append_last xs blank n last) ∙ (rw one at at) in
+      let is : blank ≡ x = cc in
+      let past : slice_get (map prepared_batch xs) n ≡ None = slice_get_past (map prepared_batch xs) n (rw length-map (omega arith)) in
+      rw (past, ← is) refl
+]
+
+-- where nothing is prepared, the two books have the same entries and the same batches
+pub desk_unprepared : (d : DeskFields) → IsDesk d → IsShown d → (take d.shown_memo d.memo ≡ d.memo) × (map shown_batch d.batches ≡ map prepared_batch d.batches)
+desk_unprepared d is shown = (
+  rw (← shown.all_memo) (take_all (length d.memo) d.memo (omega arith)),
+  same_all d.touched d.prepared.begun d.batches (let t = shown.none_touched in omega arith) is.same,
+)

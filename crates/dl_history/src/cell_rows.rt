@@ -1,0 +1,93 @@
+//! The rows of a loader.
+
+ghost use Rattle.std.specs.Prelude.{◌≡◌};
+ghost use Rattle.dl_cells.specs.Cells.{row_len};
+ghost use Rattle.dl_values.specs.Limits.{AreLimits};
+
+use crate::event::{Ending, Event};
+use crate::name::LoaderName;
+use dl_cells::CellRow;
+use dl_desk::Limits;
+use std::marker::{Model, PhantomData};
+
+/// Where the events of a loader and the outcomes of its cells lie, and how many of both there may be. Contracts
+/// see the limits.
+#[derive(Drop)]
+pub struct CellRows<L: LoaderName> {
+    limits: Limits,
+    log: CellRow<Event>,
+    outcomes: CellRow<Ending>,
+    of: PhantomData<L>,
+}
+
+impl<L: LoaderName> Model for CellRows<L> {
+    ghost use Rattle.dl_values.specs.Limits.{Limits};
+    ghost use Rattle.dl_history.specs.Inside.CellRows.{AreCellRows};
+
+    ghost Value = { Limits };
+
+    ghost view = { λ r. r.limits };
+
+    ghost invariant = { λ r. AreCellRows (record { limits = L.service.rules.limits; log = L.log; outcomes = L.outcomes })
+        (record { limits = r.limits; log = r.log; outcomes = r.outcomes }) };
+}
+
+impl<L: LoaderName> CellRows<L> {
+    /// The rows of the loader that `L` stands for, which have room for all that these limits let it have.
+    pub fn new(limits: Limits, log: CellRow<Event>, outcomes: CellRow<Ending>) -> CellRows<L>
+        requires limits { limits ≡ L.service.rules.limits }
+        requires log { log ≡ L.log }
+        requires outcomes { outcomes ≡ L.outcomes }
+        requires calls_fit { row_len L.log ≡ limits.max_calls }
+        requires cells_fit { row_len L.outcomes ≡ limits.max_cells }
+        ensures { result ≡ limits }
+    {
+        CellRows {
+            limits,
+            log,
+            outcomes,
+            of: PhantomData,
+        }
+    }
+
+    /// The limits.
+    pub fn limits(&self) -> Limits
+        ensures own { result ≡ L.service.rules.limits }
+        ensures view { result ≡ self.now }
+    {
+        self.limits
+    }
+
+    /// What the rows of a loader keep: its limits are limits.
+    pub fn keeps(&self)
+        ensures { AreLimits L.service.rules.limits }
+    {
+        let _ = self.limits.max_calls();
+    }
+
+    /// The row that the events lie in.
+    pub(crate) fn log(&self) -> &CellRow<Event>
+        ensures row { result.now ≡ L.log }
+        ensures calls { row_len L.log ≡ L.service.rules.limits.max_calls }
+    {
+        &self.log
+    }
+
+    /// The row that the outcomes of cells lie in.
+    pub fn outcomes(&self) -> &CellRow<Ending>
+        ensures row { result.now ≡ L.outcomes }
+        ensures cells { row_len L.outcomes ≡ L.service.rules.limits.max_cells }
+    {
+        &self.outcomes
+    }
+
+    /// Takes the rows apart: the one that the events lie in, and the one that the outcomes of cells lie in.
+    pub(crate) fn into_parts(self) -> (CellRow<Event>, CellRow<Ending>)
+        ensures log { result.0 ≡ L.log }
+        ensures outcomes { result.1 ≡ L.outcomes }
+        ensures cells { row_len L.outcomes ≡ L.service.rules.limits.max_cells }
+    {
+        let CellRows { log, outcomes, .. } = self;
+        (log, outcomes)
+    }
+}

@@ -1,0 +1,72 @@
+//! Outlines: what passes leave when their loader is closed.
+
+ghost use Rattle.std.specs.Prelude.{◌≡◌, IfOk, map};
+ghost use Rattle.dl_history.specs.ClosedHistory.{outline};
+ghost use Rattle.dl_history.specs.Entries.{kind_of};
+
+use crate::entry::{Entry, EntryKind};
+use crate::name::LoaderName;
+use std::alloc::{AllocError, Global};
+use std::marker::Model;
+
+/// A caller and what the entries of its pass are, in order. What they tell lies in the history, so an outline
+/// names no loader.
+#[derive(Drop)]
+pub struct Outline {
+    caller: u32,
+    entries: Vec<EntryKind>,
+}
+
+impl Model for Outline {
+    ghost use Rattle.std.specs.Coded.{codes};
+    ghost use Rattle.dl_history.specs.ClosedHistory.{Outline, outline};
+    ghost use Rattle.dl_history.specs.contracts.entry.EntryKind as kind;
+
+    ghost Value = { Outline };
+
+    ghost coded = { Prim.hlevel (codes, kind.the_row.coded) };
+
+    ghost view = { λ a. outline a.caller a.entries.items };
+}
+
+impl Outline {
+    /// The outline of a caller whose pass has these entries. The error is a failed allocation.
+    pub fn of<L: LoaderName>(
+        alloc: Global,
+        caller: u32,
+        entries: &[Entry<L>],
+    ) -> Result<Outline, AllocError>
+        ensures { IfOk result (λ made. made ≡ outline caller (map kind_of entries.now)) }
+    {
+        let entries = kinds_in(alloc, entries)?;
+        Ok(Outline { caller, entries })
+    }
+
+    /// The caller.
+    pub fn caller(&self) -> u32
+        ensures { result ≡ self.now.caller }
+    {
+        self.caller
+    }
+
+    /// What the entries are, in order.
+    pub fn entries(&self) -> &[EntryKind]
+        ensures { result.now ≡ self.now.kinds }
+    {
+        self.entries.as_slice()
+    }
+}
+
+/// What the entries are, in order. The error is a failed allocation.
+fn kinds_in<L: LoaderName>(
+    alloc: Global,
+    entries: &[Entry<L>],
+) -> Result<Vec<EntryKind>, AllocError>
+    ensures { IfOk result (λ kinds. kinds.items ≡ map kind_of entries.now) }
+{
+    let mut kinds = Vec::with_capacity(alloc, entries.len())?;
+    for entry in entries {
+        kinds.push(entry.kind())?;
+    }
+    Ok(kinds)
+}

@@ -1,0 +1,157 @@
+-- Calls that are prepared: a prime, and the end of a batch by what its source answered.
+use Rattle.std.proofs.Common.{◌≡◌, ◌∙◌, sym, ap, ℕ, List, length, None, refl, subst, zero, suc, ◌<◌, Bool, true, false, cond, [], ◌∷◌, map, Option}
+use Rattle.std.proofs.Common.{Some, IsSome, slice_get, option_map, is_some, nat_le, Decides, arith}
+use Rattle.dl_values.specs.Key.{Key, key_eq}
+use Rattle.dl_desk.specs.History.{Atom, prime_reply, cells, begun, sent, end_of, members, MayEnd}
+use Rattle.dl_desk.specs.Calls.{Primes, refusal, unfit}
+use Rattle.dl_desk.specs.BatchBook.{BatchBook, StandsFor}
+use Rattle.dl_values.specs.declared.outcome.Outcome.{Outcome}
+use Rattle.dl_desk.specs.declared.reply.DeskPrime.{DeskPrime}
+use Rattle.dl_history.specs.declared.event.Call.{Call}
+use Rattle.dl_values.specs.declared.outcome.BatchAnswer.{BatchAnswer}
+use Rattle.dl_loader.specs.declared.dues.Due.{Due}
+use Rattle.dl_loader.specs.Inside.Dues.{AreDue, end_refusal, outcome_by}
+use Rattle.dl_loader.specs.Inside.Preparation.{IsPrepared, cell_primed, ended_count, cells_ended}
+use Rattle.std.proofs.lemmas.List.{length-map}
+use Rattle.dl_history.specs.declared.event.Call.TheVariants.{Prime, Settle}
+use Rattle.dl_history.specs.History.{primed, keys_of, call_of, reply_to, MayBeMade}
+use Rattle.std.specs.Option.{option_or}
+use Rattle.std.proofs.lemmas.Bool.{leb-false}
+use Rattle.std.proofs.lemmas.Slice.Eq.{slice_eq-Decides}
+use Rattle.dl_values.specs.Limits.{Rules}
+use Rattle.dl_desk.specs.declared.fault.DeskFault.{DeskFault}
+use Rattle.dl_desk.specs.declared.reply.End.{End}
+use Rattle.dl_values.proofs.KeyLemmas.{key_eq-same, key_eq-refl}
+use Rattle.dl_values.specs.declared.outcome.BatchAnswer.TheVariants.{Each, Break}
+use Rattle.dl_values.specs.declared.job.Job.{Job}
+use Rattle.dl_source.specs.Source.{IsFor}
+use Rattle.dl_history.specs.declared.event.Reply.TheVariants.{Done}
+use Rattle.dl_loader.specs.declared.fault.CallFault.{CallFault}
+use Rattle.dl_loader.specs.declared.fault.CallFault.TheVariants.{WrongKeys}
+use Rattle.dl_loader.specs.Asks.{end_by}
+use Rattle.dl_loader.specs.Refusals.{call_fault, same_keys}
+use Rattle.dl_desk.specs.declared.reply.DeskPrime.TheVariants as prime
+use Rattle.dl_desk.specs.declared.fault.DeskFault.TheVariants as desk_fault
+
+-- ---- a prime
+
+prime_each : (dues : List Due) (r : DeskPrime) → length dues ≡ length (cell_primed r) → length dues ≡ ended_count None (primed r)
+prime_each dues (prime.Primed c) same = same
+prime_each dues prime.Kept same = same
+
+-- a prime is prepared where the desk has accepted it and replies so
+pub prime_prepared : {desk : BatchBook} {call : Call} {at : ℕ} {dues : List Due} {brings : (List Key → BatchAnswer) → Type 0} (k : Key) (o : Outcome) (r : DeskPrime)
+    → ((h : List Atom) → StandsFor desk h → r ≡ prime_reply h k) → ((h : List Atom) → StandsFor desk h → refusal desk.rules h (Primes k) ≡ None)
+    → call ≡ Prime k o → AreDue call at (cell_primed r) dues → IsPrepared desk (record { call = Prime k o; job = None; brings = brings })
+    (record { at = at; reply = primed r; dues = dues })
+prime_prepared {desk} {call} {at} {dues} k o r told accepted is due = record {
+  accepted = λ h stands. rw (accepted h stands) refl;
+  replies = λ h stands. ap primed (told h stands);
+  may = λ answer brings h stands. tt;
+  gives = λ h stands. rw (← told h stands) (rw is at due);
+  each = prime_each dues r (sym (length-map dues (λ (d : Due). d.cell)) ∙ ap length due.cells_are);
+}
+
+-- ---- when an end is refused
+
+none_both : (x : Option DeskFault) (y : Option CallFault) → option_or (option_map call_fault x) y ≡ None → (x ≡ None) × (y ≡ None)
+none_both None y none = (refl, none)
+none_both (Some fault) y none = absurd (let bad : ◌≡◌ {A = Option CallFault} (Some (call_fault fault)) None = none in cc)
+
+unfit_at : (b begun sent : ℕ) (o : Option End) (t u : Bool) → nat_le begun b ≡ t → nat_le sent b ≡ u
+    → cond t (Some desk_fault.NoBatch) (cond u (Some desk_fault.NotSent) (cond (is_some o) (Some desk_fault.SettledBefore) None)) ≡ None
+    → (b < sent) × (o ≡ None)
+unfit_at b begun sent o true u x y none = absurd (let bad : ◌≡◌ {A = Option DeskFault} (Some desk_fault.NoBatch) None = none in cc)
+unfit_at b begun sent o false true x y none = absurd (let bad : ◌≡◌ {A = Option DeskFault} (Some desk_fault.NotSent) None = none in cc)
+unfit_at b begun sent (Some e) false false x y none = absurd (let bad : ◌≡◌ {A = Option DeskFault} (Some desk_fault.SettledBefore) None = none in cc)
+unfit_at b begun sent None false false x y none = (leb-false sent b y, refl)
+
+same_at : (t : Bool) → cond t None (Some WrongKeys) ≡ None → t ≡ true
+same_at true none = refl
+same_at false none = absurd (let bad : ◌≡◌ {A = Option CallFault} (Some WrongKeys) None = none in cc)
+
+key_decides : (a b : Key) → Decides (key_eq a b) (a ≡ b)
+key_decides a b = (key_eq-same a b, λ same. rw same (key_eq-refl b))
+
+-- lists with the same keys are one list
+keys_same : (ks js : List Key) → same_keys ks js ≡ true → ks ≡ js
+keys_same ks js same = (slice_eq-Decides key_decides ks js (same_keys ks js) refl).0 same
+
+-- an end that is not refused is of a batch that may end, by its keys
+may_end : (history : List Atom) (b : ℕ) (ks : List Key) → end_refusal history b ks ≡ None → MayEnd history b
+may_end history b ks none =
+    let both = none_both (unfit history b) (cond (same_keys ks (keys_of history b)) None (Some WrongKeys)) none in
+    let fit = unfit_at b (begun history) (sent history) (end_of history b) (nat_le (begun history) b) (nat_le (sent history) b) refl refl both.0 in
+    record { is_sent = fit.0; no_end = fit.1 }
+
+own_keys : (history : List Atom) (b : ℕ) (ks : List Key) → end_refusal history b ks ≡ None → ks ≡ keys_of history b
+own_keys history b ks none =
+    let both = none_both (unfit history b) (cond (same_keys ks (keys_of history b)) None (Some WrongKeys)) none in
+    keys_same ks (keys_of history b) (same_at (same_keys ks (keys_of history b)) both.1)
+
+-- ---- an end by what a source answered
+
+some_inside : {X : Type 0} (xs : List X) (i : ℕ) → i < length xs → IsSome (slice_get xs i)
+some_inside [] i low = absurd (omega arith)
+some_inside (x ∷ xs) zero low = refl
+some_inside (x ∷ xs) (suc i) low = some_inside xs i (omega arith)
+
+-- as many outcomes bring each cell one
+settle_brings : (b : ℕ) (os : List Outcome) (cs : List ℕ) → length os ≡ length cs → (i : ℕ) → i < length cs → IsSome (outcome_by (Settle b os) i)
+settle_brings b os cs same i low = some_inside os i (omega arith)
+
+-- an answer brings each cell of its keys an outcome
+pub answer_brings : (b : ℕ) (a : BatchAnswer) (ks : List Key) (cs : List ℕ) → IsFor ks a → length cs ≡ length ks → (i : ℕ) → i < length cs
+    → IsSome (outcome_by (end_by b a) i)
+answer_brings b (Each os) ks cs fits same = settle_brings b os cs (fits ∙ sym same)
+answer_brings b (Break text) ks cs fits same = λ i low. refl
+
+-- a batch that may end may end by what the source answers to its keys
+made_by : (answer : List Key → BatchAnswer) (history : List Atom) (b : ℕ) (a : BatchAnswer) → MayEnd history b → answer (keys_of history b) ≡ a
+    → MayBeMade answer history (end_by b a)
+made_by answer history b (Each os) may asked = (may, asked)
+made_by answer history b (Break text) may asked = (may, asked)
+
+-- ---- the refusal of an end
+
+refusal_by : (rules : Rules) (b : ℕ) (a : BatchAnswer) (h : List Atom) → refusal rules h (call_of (end_by b a)) ≡ unfit h b
+refusal_by rules b (Each os) h = refl
+refusal_by rules b (Break text) h = refl
+
+-- what a source answers to the keys of a job is what the loader's source answers to them
+answered_so : {a : BatchAnswer} {ks : List Key} (answer source : List Key → BatchAnswer) (js : List Key) → a ≡ source js → source js ≡ answer js
+    → ks ≡ js → a ≡ answer ks
+answered_so answer source js asked same own = rw (asked, same, own) refl
+
+-- so an end that is not refused is of a batch which may end, and for whose keys the loader's source answers the same
+answered_end : {a : BatchAnswer} (answer : List Key → BatchAnswer) (history : List Atom) (b : ℕ) (ks : List Key) → end_refusal history b ks ≡ None
+    → a ≡ answer ks → MayEnd history b × (answer (keys_of history b) ≡ a)
+answered_end answer history b ks none asked = (may_end history b ks none, ap answer (sym (own_keys history b ks none)) ∙ sym asked)
+
+-- ---- an end that is prepared
+
+done_by : (rules : Rules) (h : List Atom) (b : ℕ) (a : BatchAnswer) → Done ≡ reply_to rules h (end_by b a)
+done_by rules h b (Each os) = refl
+done_by rules h b (Break text) = refl
+
+ended_by_answer : (h : List Atom) (b : ℕ) (a : BatchAnswer) → cells_ended h (end_by b a) ≡ map (λ m. m.1) (members h b)
+ended_by_answer h b (Each os) = refl
+ended_by_answer h b (Break text) = refl
+
+-- an end by what a source answered to the keys of a job is prepared where its batch may end and has these keys
+pub end_prepared : {desk : BatchBook} {a : BatchAnswer} {cs : List ℕ} {call : Call} {at : ℕ} {dues : List Due} (job : Job) (source : List Key → BatchAnswer)
+    → a ≡ source job.keys → ((h : List Atom) → StandsFor desk h → end_refusal h job.batch job.keys ≡ None)
+    → ((h : List Atom) → StandsFor desk h → cs ≡ map (λ m. m.1) (members h job.batch)) → length cs ≡ length job.keys → call ≡ end_by job.batch a
+    → AreDue call at cs dues → IsPrepared desk
+    (record { call = end_by job.batch a; job = Some job; brings = λ answer. (keys : List Key) → source keys ≡ answer keys })
+    (record { at = at; reply = Done; dues = dues })
+end_prepared {desk} {a} {cs} {call} {at} {dues} job source asked accepted cells each is due = record {
+  accepted = λ h stands. rw (refusal_by desk.rules job.batch a h) (accepted h stands);
+  replies = λ h stands. done_by desk.rules h job.batch a;
+  may = λ answer answers h stands.
+      let none = accepted h stands in
+      let end = answered_end answer h job.batch job.keys none (answered_so answer source job.keys asked (answers job.keys) refl) in
+      made_by answer h job.batch a end.0 end.1;
+  gives = λ h stands. subst (λ (ns : List ℕ). AreDue (end_by job.batch a) at ns dues) (cells h stands ∙ sym (ended_by_answer h job.batch a)) (rw is at due);
+  each = sym (length-map dues (λ (d : Due). d.cell)) ∙ (ap length due.cells_are ∙ each);
+}

@@ -1,7 +1,0 @@
-use Rattle.std.proofs.Common.{◌≡◌, map, take}
-use Rattle.dl_history.specs.Closed.{outline_of}
-use Rattle.dl_loader.specs.Closing.{accounts_of}
-use Rattle.dl_loader.proofs.loader.close.accounts_of.Given as goal
-
-abbrev pub invariant-loop-pass : goal.invariant-loop-pass
-invariant-loop-pass g l = l.accounts.items ≡ map outline_of (accounts_of (take l.pass-index l.passes))

@@ -1,0 +1,48 @@
+-- What an event that was made leaves in the book and in the pass of its caller.
+use Rattle.std.specs.Prelude.{◌≡◌, ℕ, ◌≤◌, List, [], ◌∷◌, ◌++◌, length, Option}
+use Rattle.dl_values.specs.declared.job.Job.{Job}
+use Rattle.dl_desk.specs.declared.reply.LoadReply.{LoadReply}
+use Rattle.dl_history.specs.declared.event.Event.{Event}
+use Rattle.dl_history.specs.declared.event.Call.{Call}
+use Rattle.dl_history.specs.declared.event.Reply.{Reply}
+use Rattle.dl_history.specs.declared.event.Reply.TheVariants.{Loaded, Many, Primed, Kept, Done, Sent}
+use Rattle.dl_loader.specs.Pass.{Trace, with_call, with_tickets}
+use Rattle.dl_history.specs.Service.{Service}
+use Rattle.dl_history.specs.Entries.{front_of}
+use Rattle.dl_loader.specs.Book.{Book, Keeps}
+use Rattle.dl_loader.specs.Refusals.{IsRefusal}
+use Rattle.dl_loader.specs.declared.fault.CallFault.{CallFault}
+
+-- the event of a caller's call
+abbrev pub event_of : Trace → Call → Reply → Event
+event_of p call reply = record { caller = p.caller; call = call; reply = reply }
+
+-- the loads that a reply answers: for each of them the caller gets a ticket
+abbrev pub loads_of : Reply → List LoadReply
+loads_of (Loaded r) = r ∷ []
+loads_of (Many rs) = rs
+loads_of (Primed c) = []
+loads_of Kept = []
+loads_of Done = []
+loads_of (Sent js) = []
+
+-- the trace after its event at a place, with its tickets
+abbrev pub with_event : Trace → ℕ → Call → Reply → Trace
+with_event p at call reply = with_tickets (with_call p at (event_of p call reply)) (loads_of reply)
+
+-- The event is the last of the history, and the last call among the pass's entries, at its place.
+pub record Makes (before : Book) (old : Trace) (call : Call) (reply : Reply) (now : Book) (new : Trace) : Type 0 where
+  pub history : now.history ≡ before.history ++ event_of old call reply ∷ []
+  pub trace : new ≡ with_event old (length before.history) call reply
+  pub stopped : now.stopped ≡ before.stopped
+
+-- ---- what a caller knows of a call that was made under the lock
+
+-- at a book that keeps what the loader's does, and has at least the events that the pass had seen, the call was made so
+abbrev pub WasMade : Service → Trace → Call → Reply → Trace → Type 0
+WasMade service old call reply new =
+    (before now : Book) × Keeps service before × Keeps service now × (front_of old.entries ≤ length before.history) × Makes before old call reply now new
+
+-- at a book that keeps what the loader's does the call was refused so; that it was the locked one nothing says
+abbrev pub WasRefused : Service → Trace → Call → Option Job → CallFault → Type 0
+WasRefused service p call job fault = (before : Book) × Keeps service before × IsRefusal service before p call job fault

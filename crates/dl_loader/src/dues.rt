@@ -1,0 +1,102 @@
+//! What the cells of a batch's members are due when the batch ends.
+
+ghost use Rattle.std.specs.Prelude.{◌≡◌, ℕ, ◌+◌, ◌<◌, ◌≤◌, IfOk, IsSome, Some, length, map};
+ghost use Rattle.dl_loader.specs.Inside.Dues.{AreDue, AreGiven, CanEnd, outcome_by};
+ghost use Rattle.dl_history.specs.Journal.{refusals};
+
+use dl_desk::{Outcome, Outcomes};
+use dl_history::{Call, CellRows, Ending, Journal, LoaderName};
+use std::alloc::{AllocError, Global};
+
+/// The end that a cell is due.
+#[derive(Drop)]
+pub(crate) struct Due {
+    cell: u32,
+    ending: Box<Ending>,
+}
+
+impl Due {
+    /// The due of a cell: the outcome that a call at a place of the history brings its member. The error is a failed allocation.
+    fn new(alloc: Global, at: u16, cell: u32, call: &Call, place: usize) -> Result<Due, AllocError>
+        requires { IsSome (outcome_by call.now place) }
+        ensures cell { IfOk result (λ due. due.cell ≡ cell) }
+        ensures at { IfOk result (λ due. due.ending.value.at ≡ at) }
+        ensures outcome { IfOk result (λ due. outcome_by call.now place ≡ Some due.ending.value.outcome) }
+    {
+        let outcome = outcome_at(call, place)?;
+        let ending = Box::new(alloc, Ending { at, outcome }).map_err(AllocError::from)?;
+        Ok(Due { cell, ending })
+    }
+}
+
+/// The dues of the cells of a batch's members, in order, by a call at a place of the history that ends the
+/// batch. The error is a failed allocation.
+pub(crate) fn dues(
+    alloc: Global,
+    at: u16,
+    cells: &[u32],
+    call: &Call,
+) -> Result<Vec<Due>, AllocError>
+    requires { (i : ℕ) → i < length cells.now → IsSome (outcome_by call.now i) }
+    ensures { IfOk result (λ dues. AreDue call.now at cells.now dues.items) }
+{
+    let mut dues = Vec::with_capacity(alloc, cells.len())?;
+    for place in 0..cells.len() {
+        dues.push_reserved(Due::new(alloc, at, cells[place], call, place)?);
+    }
+    Ok(dues)
+}
+
+/// Gives the cells their dues, and tells how many of them refused.
+// Inlined for the sake of calls that end no cell.
+#[inline(always)]
+#[tactic(auto, using(crate::proofs::DueLemmas::given_none))]
+pub(crate) fn give<L: LoaderName>(
+    journal: &mut Journal<L>,
+    rows: &CellRows<L>,
+    dues: Vec<Due>,
+) -> usize
+    requires fits { length journal.old.cells ≤ L.service.rules.limits.max_cells }
+    requires can { CanEnd (map (λ d. d.cell) dues.items) journal.old.cells }
+    ensures history { journal.new.history ≡ journal.old.history }
+    ensures given { AreGiven dues.items journal.old.cells journal.new.cells }
+    ensures refused { refusals journal.new.cells ≡ refusals journal.old.cells + result }
+    ensures few { result ≤ length dues.items }
+{
+    if dues.is_empty() {
+        return 0;
+    }
+    let mut refused = 0;
+    for due in dues {
+        let Due { cell, ending } = due;
+        if !journal.end(rows, cell, ending) {
+            refused += 1;
+        }
+    }
+    refused
+}
+
+/// The same outcomes, each shared. The error is a failed allocation.
+pub(crate) fn copy_outcomes(alloc: Global, outcomes: &Outcomes) -> Result<Outcomes, AllocError>
+    ensures { IfOk result (λ copies. copies ≡ outcomes.now) }
+{
+    let outcomes = outcomes.as_slice();
+    let mut copies = Vec::with_capacity(alloc, outcomes.len())?;
+    for outcome in outcomes {
+        copies.push_reserved(outcome.try_copy()?);
+    }
+    Ok(Outcomes::new(copies))
+}
+
+/// The outcome that the end of a batch brings its member at a place.
+fn outcome_at(call: &Call, place: usize) -> Result<Outcome, AllocError>
+    requires { IsSome (outcome_by call.now place) }
+    ensures { IfOk result (λ outcome. outcome_by call.now place ≡ Some outcome) }
+{
+    match call {
+        Call::Prime(_, outcome) => outcome.try_copy(),
+        Call::Settle { outcomes, .. } => outcomes.as_slice()[place].try_copy(),
+        Call::Fail { fault, .. } => Ok(Outcome::BatchFailed(fault.try_copy()?)),
+        _ => unreachable!(),
+    }
+}

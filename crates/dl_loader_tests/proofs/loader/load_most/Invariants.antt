@@ -1,0 +1,10 @@
+use Rattle.dl_loader.specs.Opening.{service_of}
+use Rattle.dl_source.specs.Answer.{answer_of}
+use Rattle.dl_loader_tests.proofs.loader.load_most.Given as goal
+
+-- the type names the loader after its opening
+abbrev pub ghosts-load_most-L-LoaderName : goal.ghosts-load_most-L-LoaderName
+ghosts-load_most-L-LoaderName g a = record { log = a.opening.log; outcomes = a.opening.outcomes; service = service_of answer_of a.opening }
+
+abbrev pub ghosts-load_most-L-Ledger : goal.ghosts-load_most-L-Ledger
+ghosts-load_most-L-Ledger g a = record { name = a.opening.ledger; parts = a.opening.callers }

@@ -1,0 +1,26 @@
+use Rattle.std.proofs.Common.{◌≡◌, ◌∙◌, refl, false, length, Some, slice_get, rules}
+use Rattle.std.proofs.lemmas.Iterator.Adapters.{YieldsList-from_vec}
+use Rattle.std.proofs.lemmas.Iterator.Consumers.{YieldsList-turn}
+use Rattle.std.proofs.lemmas.Option.{slice_get_read}
+use Rattle.dl_loader.specs.Pass.{GaveTicket}
+use Rattle.dl_loader.proofs.TicketsAfterReads.{cells, read_cells, still_gave}
+use Rattle.dl_loader_tests.proofs.loader.player.Scene.read_all.Goals as goal
+
+pub wait-requires : goal.wait-requires
+wait-requires g c =
+    let tickets = c.in_ok-tickets.tickets.items in
+    let ticket = c.in-Some.ticket in
+    let i = length c.loop-ticket.yielded in
+    let loaded = c.load_many.new.pass.trace in
+    let all = YieldsList-from_vec tickets (search rules) (search rules) in
+    let turn = YieldsList-turn all c.loop-ticket.yielded _ c.loop-ticket.yielded_by _ c.next.new.self ticket c.in-Some.is c.next.ensures.steps in
+    let at : slice_get tickets i ≡ Some ticket = slice_get_read tickets (length tickets) i ticket refl turn.0 turn.1 in
+    let gave : GaveTicket loaded ticket false = c.in_ok-tickets.ensures.gave.gave i ticket at in
+    record { gave = still_gave loaded c.loop-ticket.pass.trace ticket ticket false gave refl refl c.loop-ticket.invariant.cells }
+
+pub loop-ticket-preserved : goal.loop-ticket-preserved
+loop-ticket-preserved g c = record {
+  can_next = tt;
+  is_finite = tt;
+  cells = read_cells c.loop-ticket.pass.trace c.in-Some.ticket _ c.wait.new.pass.trace c.in_ok-wait.ensures.saw ∙ c.loop-ticket.invariant.cells;
+}

@@ -1,0 +1,255 @@
+//! The shared loader of `dl_loader`: worked rows of its calls, each on a loader of its own.
+
+mod by_law;
+mod closed_history;
+mod hand;
+mod keys;
+mod largest;
+mod player;
+mod row;
+mod rows;
+mod step;
+mod threads;
+mod usage;
+mod waits;
+
+use crate::loader::largest::{Load, MOST, Then};
+use crate::loader::step::Row;
+use crate::loader::waits::{CALLERS, Crowd, Release};
+use dl_desk::Limits;
+use dl_fixtures::{ADA, USERS, tables};
+use dl_loader::{CloseFault, MOST_CALLERS, Opening, StartFault};
+use dl_source::Tables;
+use std::alloc::Global;
+use std::hash::RandomState;
+use std::marker::Brand;
+use std::process::Abort;
+use std::random::RandomSource;
+use std::sync::Wait;
+use std::thread::Threads;
+
+/// The users' tables.
+fn users<R: Abort + RandomSource>(rt: &R, alloc: Global) -> Tables {
+    tables(alloc, hashing(rt), USERS).expect(rt, "no tables")
+}
+
+/// A hash by random numbers.
+fn hashing<R: Abort + RandomSource>(rt: &R) -> RandomState {
+    RandomState::new(rt).expect(rt, "no random numbers")
+}
+
+/// Makes the calls and the closes of a row on a loader over these tables.
+fn play_over<R: Abort + Wait>(
+    rt: &R,
+    alloc: Global,
+    users: &Tables,
+    hashing: RandomState,
+    row: &Row,
+) {
+    let (max_batch, max_cells, max_calls) = row.limits;
+    let limits = Limits::new(max_batch, max_cells, max_calls).expect(rt, "no limits");
+    let opening = Opening::new(alloc, hashing, users, limits, row.callers).expect(rt, "no opening");
+    row::play::<Brand, _, _>(rt, alloc, users, opening, row.parts);
+}
+
+// The numbers of callers that a loader may have, and those next to them.
+static COUNTS: [(u32, Option<StartFault>); 4] = [
+    (0, Some(StartFault::NoCallers)),
+    (1, None),
+    (32, None),
+    (33, Some(StartFault::TooManyCallers)),
+];
+
+#[test]
+fn numbers_of_callers_out_of_range(rt: HostRuntime) {
+    let users = users(&rt, rt.alloc());
+    open_by_counts(&rt, rt.alloc(), &users, hashing(&rt));
+}
+
+/// Openings of loaders over these tables are refused for their numbers of callers.
+fn open_by_counts(rt: &impl Abort, alloc: Global, users: &Tables, hashing: RandomState) {
+    let limits = Limits::new(1, 1, 2).expect(rt, "no limits");
+    for (callers, fault) in &COUNTS {
+        let refused = Opening::new(alloc, hashing, users, limits, *callers).err();
+        keys::assert_same(rt, "fault", refused, *fault);
+    }
+}
+
+#[test]
+fn two_callers_of_one_key(rt: HostRuntime) {
+    let users = users(&rt, rt.alloc());
+    two_callers(&rt, rt.alloc(), hashing(&rt), &users);
+}
+
+/// Two callers of a loader over these tables load one key.
+fn two_callers<R: Abort + Threads + Wait + Sync>(
+    rt: &R,
+    alloc: Global,
+    hashing: RandomState,
+    users: &Tables,
+) {
+    let limits = Limits::new(2, 8, 16).expect(rt, "no limits");
+    let opening = Opening::new(alloc, hashing, users, limits, 2).expect(rt, "no opening");
+    threads::load_by_two::<Brand, _, _>(rt, alloc, users, opening);
+}
+
+#[test]
+fn callers_on_threads_of_their_own(rt: HostRuntime) {
+    let users = users(&rt, rt.alloc());
+    callers_on_threads(&rt, rt.alloc(), hashing(&rt), &users);
+}
+
+/// The callers of a loader over these tables load one key, each on a thread of its own.
+fn callers_on_threads<R: Abort + Threads + Wait + Sync>(
+    rt: &R,
+    alloc: Global,
+    hashing: RandomState,
+    users: &Tables,
+) {
+    let limits = Limits::new(2, 8, 16).expect(rt, "no limits");
+    let key = keys::user(rt, alloc, "u1");
+    let opening = Opening::new(alloc, hashing, users, limits, 2).expect(rt, "no opening");
+    let history = usage::load_by_each::<Brand, _, _>(rt, alloc, users, opening, &key);
+    usage::assert_history(rt, alloc, &history);
+}
+
+// Callers that wait for one batch that ends or fails, by a call or by the law, for several that end one after another, at a loader that is
+// stopped, and once all is over.
+static CROWDS: [Crowd; 9] = [
+    Crowd {
+        max_batch: 2,
+        loads: &[("u1", ADA)],
+        release: Release::Ends,
+        is_late: false,
+    },
+    Crowd {
+        max_batch: 1,
+        loads: &[("u1", ADA), ("u9", "error gone"), ("u13", "batch db down")],
+        release: Release::Ends,
+        is_late: false,
+    },
+    Crowd {
+        max_batch: 1,
+        loads: &[("u1", ADA), ("u9", "error gone"), ("u13", "batch db down")],
+        release: Release::Ends,
+        is_late: true,
+    },
+    Crowd {
+        max_batch: 1,
+        loads: &[("u1", ADA)],
+        release: Release::EndsByLaw,
+        is_late: false,
+    },
+    Crowd {
+        max_batch: 1,
+        loads: &[("u1", "memory")],
+        release: Release::GivesUpByLaw,
+        is_late: false,
+    },
+    Crowd {
+        max_batch: 1,
+        loads: &[("u1", "memory")],
+        release: Release::GivesUp,
+        is_late: false,
+    },
+    Crowd {
+        max_batch: 2,
+        loads: &[("u1", "memory"), ("u2", "memory")],
+        release: Release::GivesUp,
+        is_late: false,
+    },
+    Crowd {
+        max_batch: 1,
+        loads: &[("u1", ADA), ("u2", "")],
+        release: Release::Stops,
+        is_late: false,
+    },
+    Crowd {
+        max_batch: 2,
+        loads: &[("u1", ADA), ("u2", "")],
+        release: Release::Stops,
+        is_late: true,
+    },
+];
+
+#[test]
+fn callers_that_wait_at_once(rt: HostRuntime) {
+    let users = users(&rt, rt.alloc());
+    for crowd in &CROWDS {
+        for _ in 0..100 {
+            wait_by(&rt, rt.alloc(), hashing(&rt), &users, crowd);
+        }
+    }
+}
+
+/// Callers of a loader over these tables wait at once.
+fn wait_by<R: Abort + Threads + Wait + Sync>(
+    rt: &R,
+    alloc: Global,
+    hashing: RandomState,
+    users: &Tables,
+    crowd: &'static Crowd,
+) {
+    let limits = Limits::new(crowd.max_batch, 8, 32).expect(rt, "no limits");
+    let opening = Opening::new(alloc, hashing, users, limits, CALLERS).expect(rt, "no opening");
+    waits::wait_at_once::<Brand, _, _>(rt, alloc, users, opening, crowd);
+}
+
+/// The most keys in one batch.
+const MOST_KEYS: Load = Load {
+    max_batch: MOST,
+    keys: MOST,
+    batches: 1,
+    then: Then::Reads,
+    close: Ok(4),
+};
+
+#[test]
+fn the_most_keys_of_one_batch(rt: HostRuntime) {
+    let users = users(&rt, rt.alloc());
+    load_most(&rt, rt.alloc(), hashing(&rt), &users, &MOST_KEYS);
+}
+
+/// As many batches of one key as the log has room for the ends of.
+const MOST_CALLS: Load = Load {
+    max_batch: 1,
+    keys: MOST - 2,
+    batches: MOST - 2,
+    then: Then::Fills,
+    close: Ok(65_536),
+};
+
+#[test]
+fn the_most_calls_of_one_log(rt: HostRuntime) {
+    let users = users(&rt, rt.alloc());
+    load_most(&rt, rt.alloc(), hashing(&rt), &users, &MOST_CALLS);
+}
+
+/// As many batches as there may be.
+const MOST_BATCHES: Load = Load {
+    max_batch: 1,
+    keys: MOST,
+    batches: MOST,
+    then: Then::Ends,
+    close: Err(CloseFault::Unsettled { batch: 0 }),
+};
+
+#[test]
+fn the_most_batches_of_one_dispatch(rt: HostRuntime) {
+    let users = users(&rt, rt.alloc());
+    load_most(&rt, rt.alloc(), hashing(&rt), &users, &MOST_BATCHES);
+}
+
+/// The first of as many callers as there may be loads keys on a loader of the greatest limits over these tables.
+fn load_most<R: Abort + Wait>(
+    rt: &R,
+    alloc: Global,
+    hashing: RandomState,
+    users: &Tables,
+    load: &Load,
+) {
+    let limits = Limits::new(load.max_batch, MOST, MOST).expect(rt, "no limits");
+    let opening = Opening::new(alloc, hashing, users, limits, MOST_CALLERS);
+    let opening = opening.expect(rt, "no opening");
+    largest::load_most::<Brand, _, _>(rt, alloc, users, opening, load);
+}

@@ -1,0 +1,185 @@
+//! One key that two callers load, each on a thread of its own.
+
+ghost use Rattle.std.specs.Prelude.{◌≡◌, false};
+ghost use Rattle.dl_history.specs.Service.{Answers};
+ghost use Rattle.dl_loader.specs.Opening.{Names};
+ghost use Rattle.dl_loader.specs.Pass.{GaveTicket};
+
+use super::closed_history::assert_ends;
+use super::keys::{assert_jobs, assert_same, assert_shows, user};
+use super::player::Scene;
+use dl_desk::{FetchKey, LoadReply};
+use dl_fixtures::ADA;
+use dl_loader::laws::looks_agree;
+use dl_loader::{EntryKind, History, Loader, LoaderName, Opening, Pass, Reply, Ticket};
+use dl_source::Source;
+use dl_workers::end_jobs;
+use std::alloc::Global;
+use std::process::Abort;
+use std::sync::Wait;
+use std::thread::{Threads, join};
+
+/// Two callers load a key, each on a thread of its own. Then the first of them ends the batch, both read the
+/// outcome, and the loader is closed.
+pub(super) fn load_by_two<L: LoaderName + Send + Sync, S: Source, R: Abort + Threads + Wait + Sync>(
+    rt: &R,
+    alloc: Global,
+    source: &S,
+    opening: Opening<'_, S>,
+)
+    requires source { opening.source ≡ source.now }
+    requires names { Names S.answer opening L.service L.parts L.log L.outcomes L.name }
+{
+    let (loader, passes) = Loader::<L>::start(alloc, opening).expect(rt, "no loader");
+    let passes = read_by_two(rt, alloc, source, &loader, passes);
+    match loader.close(alloc, passes) {
+        Ok(history) => assert_history(rt, alloc, &history),
+        Err((fault, _, _)) => panic!(rt; "{fault:?}"),
+    }
+}
+
+/// The calls before the close.
+fn read_by_two<L: LoaderName + Send + Sync, S: Source, R: Abort + Threads + Wait + Sync>(
+    rt: &R,
+    alloc: Global,
+    source: &S,
+    loader: &Loader<L>,
+    mut passes: Vec<Pass<L>>,
+) -> Vec<Pass<L>>
+    requires source { Answers (S.answer source.now) L.service }
+{
+    let scene = Scene {
+        rt,
+        alloc,
+        source,
+        loader,
+    };
+    let other = passes.pop().expect(rt, "no pass");
+    let one = passes.pop().expect(rt, "no pass");
+    let (one, other) = scene.load_by_both(one, other);
+    passes.push(one).expect(rt, "no memory");
+    passes.push(other).expect(rt, "no memory");
+    passes
+}
+
+impl<'a, L: LoaderName + Send + Sync, S: Source, R: Abort + Threads + Wait + Sync> Scene<
+    'a,
+    L,
+    S,
+    R,
+> {
+    /// The calls of both callers, and their passes.
+    fn load_by_both(&self, one: Pass<L>, other: Pass<L>) -> (Pass<L>, Pass<L>)
+        requires source { Answers (S.answer self.now.source.now) L.service }
+    {
+        let key = user(self.rt, self.alloc, "u1");
+        let ((mut one, mut first), (mut other, mut second)) = start_threads(
+            self.rt,
+            self.alloc,
+            self.loader,
+            &key,
+            one,
+            other,
+        );
+        self.read_both(&mut one, &mut first, &mut other, &mut second);
+        (one, other)
+    }
+}
+
+impl<'a, L: LoaderName, S: Source, R: Abort + Wait> Scene<'a, L, S, R> {
+    /// The first caller ends the batch, and each caller reads the outcome by its ticket.
+    fn read_both(
+        &self,
+        one: &mut Pass<L>,
+        first: &mut Ticket<'_, L>,
+        other: &mut Pass<L>,
+        second: &mut Ticket<'_, L>,
+    )
+        requires source { Answers (S.answer self.now.source.now) L.service }
+        requires first { GaveTicket one.old.trace first.old false }
+        requires second { GaveTicket other.old.trace second.old false }
+    {
+        self.end_batch(one);
+        self.read(one, first);
+        self.read(other, second);
+        assert_agree(self.rt, first, second);
+    }
+
+    /// Sends the only batch that waits to be sent, which is the first and has the key alone, and ends it.
+    fn end_batch(&self, pass: &mut Pass<L>)
+        requires source { Answers (S.answer self.now.source.now) L.service }
+        ensures { pass.new.trace.tickets ≡ pass.old.trace.tickets }
+    {
+        let (rt, alloc, loader) = (self.rt, self.alloc, self.loader);
+        let jobs = loader.dispatch(rt, alloc, pass).expect(rt, "no jobs");
+        assert_jobs(rt, jobs.as_slice(), &[(0, &["u1"])]);
+        end_jobs(rt, alloc, loader, self.source, pass, jobs).expect(rt, "no end");
+    }
+
+    /// Waits for the ticket's outcome, which is the user's row.
+    fn read(&self, pass: &mut Pass<L>, ticket: &mut Ticket<'_, L>)
+        requires { GaveTicket pass.old.trace ticket.old false }
+    {
+        let waited = self.loader.wait(self.rt, pass, ticket);
+        waited.expect(self.rt, "no outcome");
+        assert_shows(self.rt, self.alloc, ticket.look(), Some(ADA));
+    }
+}
+
+/// Tickets of one key are of one cell, and have shown one outcome.
+fn assert_agree<L: LoaderName>(rt: &impl Abort, first: &Ticket<'_, L>, second: &Ticket<'_, L>) {
+    assert_eq!(rt; first.cell(), second.cell());
+    looks_agree(first, second);
+}
+
+/// Two callers load the key, each on a thread of its own.
+fn start_threads<'a, L: LoaderName + Send + Sync, R: Abort + Threads + Wait + Sync>(
+    rt: &R,
+    alloc: Global,
+    loader: &'a Loader<L>,
+    key: &FetchKey,
+    one: Pass<L>,
+    other: Pass<L>,
+) -> ((Pass<L>, Ticket<'a, L>), (Pass<L>, Ticket<'a, L>))
+    ensures one { GaveTicket result.0.0.trace result.0.1 false }
+    ensures other { GaveTicket result.1.0.trace result.1.1 false }
+{
+    join(
+        rt,
+        move || -> (Pass<L>, Ticket<'_, L>)
+            ensures { GaveTicket result.0.trace result.1 false }
+        { load(rt, alloc, loader, one, key) },
+        move || -> (Pass<L>, Ticket<'_, L>)
+            ensures { GaveTicket result.0.trace result.1 false }
+        { load(rt, alloc, loader, other, key) },
+    )
+}
+
+/// Loads the key, and gives the pass back with the ticket.
+fn load<'a, L: LoaderName, R: Abort + Wait>(
+    rt: &R,
+    alloc: Global,
+    loader: &'a Loader<L>,
+    mut pass: Pass<L>,
+    key: &FetchKey,
+) -> (Pass<L>, Ticket<'a, L>)
+    ensures { GaveTicket result.0.trace result.1 false }
+{
+    let ticket = loader.load(rt, alloc, &mut pass, key);
+    (pass, ticket.expect(rt, "no ticket"))
+}
+
+/// The four events, the first two of which are the loads, in whichever order.
+fn assert_history(rt: &impl Abort, alloc: Global, history: &History) {
+    let events = history.events();
+    assert_same(rt, "number of events", events.len(), 4);
+    let replies = [LoadReply::Fresh { cell: 0, batch: 0 }, LoadReply::Hit(0)];
+    for (at, want) in replies.iter().enumerate() {
+        let event = events.get(at).expect(rt, "no event");
+        assert!(rt; matches!(&event.reply, Reply::Loaded(reply) if *reply == *want));
+    }
+    assert_ends(rt, alloc, history, &[(0, true)]);
+    assert_same(rt, "number of entries", history.entries(0).len(), 4);
+    let last = history.entries(1).last().expect(rt, "no entry");
+    assert_same(rt, "last entry", *last, EntryKind::Saw { cell: 0, at: 3 });
+}

@@ -1,0 +1,115 @@
+//! Workers that fetch at once, and plans that run at once: one worker is held until another has ended its batch.
+
+use crate::comparison::assert_is;
+use crate::requests::plans::StepShape::{Clear, Eval};
+use crate::requests::plans::{PlanShape, plans};
+use crate::requests::reports::{Answers, assert_report};
+use crate::requests::users::{hashing, users};
+use dl_desk::Limits;
+use dl_fixtures::{ADA, BOB, Shape, U1, U2};
+use dl_scope::{Setup, serve};
+use dl_source::Tables;
+use dl_workers::Gate;
+use std::alloc::Global;
+use std::hash::RandomState;
+use std::process::Abort;
+use std::sync::Wait;
+use std::sync::atomic::{AtomicBool, Ordering};
+use std::thread::{Threads, yield_now};
+
+/// How often a worker that is held looks whether it may go on.
+const MOST_LOOKS: u32 = 10_000_000;
+
+/// A gate that holds the worker of batch 0 until batch 1 has ended.
+#[derive(Drop)]
+struct Held {
+    has_ended: AtomicBool,
+    gave_up: AtomicBool,
+}
+
+impl Held {
+    /// Holds the worker, for so many looks.
+    fn hold(&self) {
+        for _ in 0..MOST_LOOKS {
+            if self.has_ended.load(Ordering::SeqCst) {
+                return;
+            }
+            yield_now();
+        }
+        self.gave_up.store(true, Ordering::SeqCst);
+    }
+}
+
+impl Gate for Held {
+    fn before_fetch(&self, batch: u32) {
+        if batch == 0 {
+            self.hold();
+        }
+    }
+
+    fn after_settle(&self, batch: u32) {
+        if batch == 1 {
+            self.has_ended.store(true, Ordering::SeqCst);
+        }
+    }
+}
+
+/// Plans of two batches of one key each, and their answers.
+struct Row {
+    about: &'static str,
+    plans: &'static [PlanShape],
+    answers: &'static [Answers],
+    rounds: &'static [u64],
+}
+
+static ROWS: [Row; 2] = [
+    Row {
+        about: "two workers for one plan",
+        plans: &[&[Eval(Shape::All(&[U1, U2]))]],
+        answers: &[&[(
+            0,
+            r#"[{"best":"u2","friends":["u2","u3"],"name":"Ada"},{"best":"u1","friends":[],"name":"Bob"}]"#,
+        )]],
+        rounds: &[1],
+    },
+    Row {
+        about: "two workers for two plans, of which none waits for the other to end",
+        plans: &[&[Eval(U1)], &[Clear("u1"), Eval(U2)]],
+        answers: &[&[(0, ADA)], &[(1, BOB)]],
+        rounds: &[1, 1],
+    },
+];
+
+#[test]
+fn batches_that_are_fetched_at_once(rt: HostRuntime) {
+    let (alloc, hashing) = (rt.alloc(), hashing(&rt));
+    let users = users(&rt, alloc);
+    for row in &ROWS {
+        try_row(&rt, alloc, hashing, &users, row);
+    }
+}
+
+/// Serves the plans of a row by two workers, of which one is held until the other has ended its batch.
+fn try_row<R: Abort + Threads + Wait + Sync>(
+    rt: &R,
+    alloc: Global,
+    hashing: RandomState,
+    users: &Tables,
+    row: &Row,
+) {
+    let setup = Setup {
+        limits: Limits::new(1, 8, 32).expect(rt, "no limits"),
+        workers: 2,
+        queue: 4,
+    };
+    let plans = plans(alloc, row.plans).expect(rt, "no memory");
+    let gate = Held {
+        has_ended: AtomicBool::new(false),
+        gave_up: AtomicBool::new(false),
+    };
+    let served = serve(rt, alloc, hashing, users, setup, plans, &gate);
+    let report = served.expect(rt, row.about);
+    assert_report(rt, alloc, &report, row.answers, row.rounds);
+    let gave_up = gate.gave_up.load(Ordering::SeqCst);
+    assert_is(rt, &gave_up, &false, row.about);
+}

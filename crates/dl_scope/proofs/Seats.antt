@@ -1,0 +1,116 @@
+-- Seats that are dealt out and given back.
+use Rattle.std.proofs.Common.{◌≡◌, ◌∙◌, ap, sym, refl, ℕ, ◌+◌, List, [], ◌∷◌, ◌++◌, length, map, arith, length-append, zero, suc}
+use Rattle.std.specs.Prelude.{All, IfOk, Result, Ok, Err}
+use Rattle.std.specs.List.{AllByRecursion, AllZip}
+use Rattle.std.proofs.lemmas.List.{length-map}
+use Rattle.std.proofs.lemmas.List.Elements.{All-from_recursion, recursion_from_All, All-append, All-cons, All-nil, All-same}
+use Rattle.std.proofs.lemmas.Slice.Zip.{AllZip-long}
+use Rattle.dl_history.specs.Service.{Service}
+use Rattle.dl_workers.specs.Seats.{AreSeatsOf, IsSenderOf, IsTakerOf, sent_jobs, taken_jobs}
+use Rattle.dl_workers.specs.declared.queue.JobQueue.{JobQueue}
+use Rattle.dl_workers.specs.declared.seats.Sender.{Sender}
+use Rattle.dl_workers.specs.declared.seats.Taker.{Taker}
+use Rattle.dl_scope.specs.Inside.ThreadRuns.{IsPlanRun, IsWorkerRun, SendsNothing}
+use Rattle.dl_scope.specs.declared.tasks.PlanTask.{PlanTask}
+use Rattle.dl_scope.specs.declared.tasks.PlanRun.{PlanRun}
+use Rattle.dl_scope.specs.declared.tasks.WorkerTask.{WorkerTask}
+use Rattle.dl_scope.specs.declared.tasks.WorkerRun.{WorkerRun}
+use Rattle.dl_loader.specs.Pass.{Pass, new_traces}
+use Rattle.std.specs.declared.alloc.AllocError.{AllocError}
+use Rattle.dl_scope.specs.Inside.ServedPlans.{Ran}
+use Rattle.dl_terms.specs.declared.plan.Plan.{Plan}
+use Rattle.dl_scope.specs.declared.threads.Runs.{Runs}
+
+unmapped : {X Y : Type 0} (P : Y → Type 0) (f : X → Y) (xs : List X) → AllByRecursion P (map f xs) → AllByRecursion (λ x. P (f x)) xs
+unmapped P f [] all = tt
+unmapped P f (x ∷ xs) (one, others) = (one, unmapped P f xs others)
+
+-- what holds of each of a list's images
+pub all_unmapped : {X Y : Type 0} (P : Y → Type 0) (f : X → Y) (xs : List X) (ys : List Y) → map f xs ≡ ys → All P ys → All (λ x. P (f x)) xs
+all_unmapped P f xs ys is all = All-from_recursion (λ x. P (f x)) xs (unmapped P f xs (recursion_from_All P (map f xs) (All-same P (map f xs) ys is all)))
+
+front_by : {X : Type 0} (P : X → Type 0) (xs ys : List X) → AllByRecursion P (xs ++ ys) → AllByRecursion P xs
+front_by P [] ys all = tt
+front_by P (x ∷ xs) ys (one, others) = (one, front_by P xs ys others)
+
+last_by : {X : Type 0} (P : X → Type 0) (xs : List X) (y : X) → AllByRecursion P (xs ++ y ∷ []) → P y
+last_by P [] y (one, none) = one
+last_by P (x ∷ xs) y (one, others) = last_by P xs y others
+
+pub all_front : {X : Type 0} (P : X → Type 0) (xs all : List X) (y : X) → all ≡ xs ++ y ∷ [] → All P all → All P xs
+all_front P xs all y is each =
+    All-from_recursion P xs (front_by P xs (y ∷ []) (recursion_from_All P (xs ++ y ∷ []) (All-same P (xs ++ y ∷ []) all (sym is) each)))
+
+pub all_last : {X : Type 0} (P : X → Type 0) (xs all : List X) (y : X) → all ≡ xs ++ y ∷ [] → All P all → P y
+all_last P xs all y is each = last_by P xs y (recursion_from_All P (xs ++ y ∷ []) (All-same P (xs ++ y ∷ []) all (sym is) each))
+
+module _ {L : Type 0} (queue : JobQueue) (service : Service) where
+  senders_by : (tasks : List (PlanTask L)) (runs : List (PlanRun L)) → AllZip (IsPlanRun queue service) tasks runs
+      → AllByRecursion (IsSenderOf queue) (map (λ (run : PlanRun L). run.sender) runs)
+  senders_by [] [] kept = tt
+  senders_by [] (run ∷ runs) kept = absurd kept
+  senders_by (task ∷ tasks) [] kept = absurd kept
+  senders_by (task ∷ tasks) (run ∷ runs) (one, others) = (one.0, senders_by tasks runs others)
+
+  takers_by : (tasks : List (WorkerTask L)) (runs : List (WorkerRun L)) → AllZip (IsWorkerRun queue service) tasks runs
+      → AllByRecursion (IsTakerOf queue) (map (λ (run : WorkerRun L). run.taker) runs)
+  takers_by [] [] kept = tt
+  takers_by [] (run ∷ runs) kept = absurd kept
+  takers_by (task ∷ tasks) [] kept = absurd kept
+  takers_by (task ∷ tasks) (run ∷ runs) (one, others) = (one.0, takers_by tasks runs others)
+
+  -- all seats are given back
+  pub seats_back : (tasks : List (PlanTask L)) (runs : List (PlanRun L)) (worker_tasks : List (WorkerTask L)) (worker_runs : List (WorkerRun L))
+      (own : Sender) (senders : List Sender) (takers : List Taker)
+      → AllZip (IsPlanRun queue service) tasks runs → AllZip (IsWorkerRun queue service) worker_tasks worker_runs → IsSenderOf queue own
+      → length tasks + 1 ≡ queue.senders → length worker_tasks ≡ queue.takers
+      → senders ≡ map (λ (run : PlanRun L). run.sender) runs ++ own ∷ [] → takers ≡ map (λ (run : WorkerRun L). run.taker) worker_runs
+      → AreSeatsOf queue senders takers
+  seats_back tasks runs worker_tasks worker_runs own senders takers kept worked is_own count count2 are are2 =
+      let sent = map (λ (run : PlanRun L). run.sender) runs in
+      let took = map (λ (run : WorkerRun L). run.taker) worker_runs in
+      let long = AllZip-long (IsPlanRun queue service) tasks runs kept in
+      let long2 = AllZip-long (IsWorkerRun queue service) worker_tasks worker_runs worked in
+      let mapped = length-map runs (λ (run : PlanRun L). run.sender) in
+      let mapped2 = length-map worker_runs (λ (run : WorkerRun L). run.taker) in
+      let whole = ap length are ∙ length-append sent (own ∷ []) in
+      let whole2 = ap length are2 in
+      record {
+        all_senders = omega (arith, long, mapped, whole, count);
+        all_takers = omega (arith, long2, mapped2, whole2, count2);
+        senders_of = All-same (IsSenderOf queue) senders (sent ++ own ∷ []) are (All-append (IsSenderOf queue) sent (own ∷ [])
+            (All-from_recursion (IsSenderOf queue) sent (senders_by tasks runs kept)) (All-cons (IsSenderOf queue) own [] is_own (All-nil (IsSenderOf queue))));
+        takers_of = All-same (IsTakerOf queue) takers took are2 (All-from_recursion (IsTakerOf queue) took (takers_by worker_tasks worker_runs worked));
+      }
+
+module _ {L : Type 0} (queue : JobQueue) (service : Service) (passes : List Pass) (plans : List Plan) (tasks : List (PlanTask L))
+    (workers : List (WorkerTask L)) (own : Sender) where
+  -- what the threads gave back, if they were started
+  pub ran_all : (result : Result (Runs L) AllocError)
+      → map (λ (task : PlanTask L). task.pass) tasks ++ map (λ (task : WorkerTask L). task.pass) workers ≡ passes
+      → map (λ (task : PlanTask L). task.plan) tasks ≡ plans → length tasks + 1 ≡ queue.senders → length workers ≡ queue.takers
+      → All (λ task. sent_jobs task.sender ≡ []) tasks → All (λ task. taken_jobs task.taker ≡ []) workers → sent_jobs own ≡ []
+      → IfOk result (λ runs. AllZip (IsPlanRun queue service) tasks runs.plans.items)
+      → IfOk result (λ runs. AllZip (IsWorkerRun queue service) workers runs.workers.items)
+      → IfOk result (λ runs. SendsNothing queue own runs.own)
+      → IfOk result (Ran queue service passes plans)
+  ran_all (Err e) passes_are plans_are senders takers none_sent none_taken unused kept worked own_kept = tt
+  ran_all (Ok runs) passes_are plans_are senders takers none_sent none_taken unused kept worked own_kept = record {
+    plan_tasks = tasks;
+    worker_tasks = workers;
+    passes_are = passes_are;
+    plans_are = plans_are;
+    none_sent = none_sent;
+    none_taken = none_taken;
+    planned = kept;
+    worked = worked;
+    own_is = own_kept.0;
+    own_unused = own_kept.1 ∙ unused;
+    all_senders = senders;
+    all_takers = takers;
+  }
+
+-- as many fresh traces as were asked for
+pub fresh_long : (n k : ℕ) → length (new_traces n k) ≡ k
+fresh_long n zero = refl
+fresh_long n (suc k) = ap suc (fresh_long (n + 1) k)

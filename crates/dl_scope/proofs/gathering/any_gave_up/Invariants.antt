@@ -1,7 +1,0 @@
-use Rattle.std.proofs.Common.{take}
-use Rattle.std.specs.Prelude.{All}
-use Rattle.dl_scope.specs.Inside.Gathered.{IsDone}
-use Rattle.dl_scope.proofs.gathering.any_gave_up.Given as goal
-
-abbrev pub invariant-loop-run : goal.invariant-loop-run
-invariant-loop-run g l = All IsDone (take l.run-index l.workers)

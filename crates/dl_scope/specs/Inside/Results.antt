@@ -1,0 +1,69 @@
+-- What the threads of a server gave back, put together.
+use Rattle.std.specs.Prelude.{◌≡◌, ℕ, List, [], ◌∷◌, ◌++◌, map, Option, Some, None, Result, Ok, Err, IsOk, IfErr}
+use Rattle.dl_workers.specs.declared.worker.WorkerEnd.{WorkerEnd}
+use Rattle.dl_workers.specs.declared.worker.WorkerEnd.TheVariants.{Done}
+use Rattle.dl_haxl.specs.declared.fault.RunFault.{RunFault}
+use Rattle.dl_scope.specs.Faults.{IsStop, IsLeastFault, WereStopped}
+use Rattle.dl_scope.specs.declared.fault.ScopeFault.{ScopeFault}
+use Rattle.dl_scope.specs.declared.fault.ScopeFault.TheVariants.{NoPlans, TooManyPlans, BadWorkers, Start, Queue, Run, Stopped, Close, Unfetched, OutOfMemory}
+use Rattle.dl_scope.specs.declared.results.ThreadResults.{ThreadResults}
+use Rattle.dl_scope.specs.declared.tasks.PlanRun.{PlanRun}
+use Rattle.dl_scope.specs.declared.tasks.WorkerRun.{WorkerRun}
+use Rattle.dl_haxl.specs.declared.step_answer.StepAnswer.{StepAnswer}
+use Rattle.dl_haxl.specs.declared.step_answer.StepAnswers.{StepAnswers}
+use Rattle.dl_scope.specs.declared.threads.Runs.{Runs}
+
+-- the fault that steps met, or none
+abbrev pub met : Result StepAnswers RunFault → Option RunFault
+met (Ok given) = None
+met (Err fault) = Some fault
+
+-- why there is no report where plans met these faults and workers ended so
+abbrev pub IsFaultOf : List (Option RunFault) → List WorkerEnd → ScopeFault → Type 0
+IsFaultOf faults ends (Run plan fault) = IsLeastFault faults plan fault
+IsFaultOf faults ends Stopped = WereStopped faults ends
+IsFaultOf faults ends NoPlans = ⊥
+IsFaultOf faults ends TooManyPlans = ⊥
+IsFaultOf faults ends BadWorkers = ⊥
+IsFaultOf faults ends (Start fault) = ⊥
+IsFaultOf faults ends (Queue fault) = ⊥
+IsFaultOf faults ends (Close fault) = ⊥
+IsFaultOf faults ends (Unfetched batch) = ⊥
+IsFaultOf faults ends OutOfMemory = ⊥
+
+module _ {L : Type 0} where
+  -- no step of the plan met a fault
+  abbrev pub WasTaken : PlanRun L → Type 0
+  WasTaken run = IsOk run.given
+
+  -- the fault that the plan met, or none
+  abbrev pub fault_of : PlanRun L → Option RunFault
+  fault_of run = met run.given
+
+  -- the plan met no other fault than that the loader was stopped
+  abbrev pub MetNoOwn : PlanRun L → Type 0
+  MetNoOwn run = IfErr run.given IsStop
+
+  -- the worker took jobs until the queue was shut
+  abbrev pub IsDone : WorkerRun L → Type 0
+  IsDone run = (batches : ℕ) × (run.end ≡ Done batches)
+
+  -- the plan gave these answers and took so many rounds
+  abbrev pub Gave : PlanRun L → List StepAnswer → ℕ → Type 0
+  Gave run answers rounds = (given : StepAnswers) × (run.given ≡ Ok given) × (given.answers.items ≡ answers) × (given.rounds ≡ rounds)
+
+  -- so did each of the plans
+  abbrev pub AllGave : List (PlanRun L) → List (List StepAnswer) → List ℕ → Type 0
+  AllGave [] [] [] = Unit {0}
+  AllGave (run ∷ runs) (a ∷ answers) (n ∷ rounds) = Gave run a n × AllGave runs answers rounds
+  AllGave [] (a ∷ answers) rounds = ⊥
+  AllGave [] [] (n ∷ rounds) = ⊥
+  AllGave (run ∷ runs) [] rounds = ⊥
+  AllGave (run ∷ runs) (a ∷ answers) [] = ⊥
+
+  -- passes and seats of all threads, the plans' first, and what the plans gave
+  pub record AreResults (runs : Runs L) (all : ThreadResults L) : Type 0 where
+    pub passes : all.passes.items ≡ map (λ run. run.pass) runs.plans.items ++ map (λ run. run.pass) runs.workers.items
+    pub senders : all.senders.items ≡ map (λ run. run.sender) runs.plans.items ++ runs.own ∷ []
+    pub takers : all.takers.items ≡ map (λ run. run.taker) runs.workers.items
+    pub gave : AllGave runs.plans.items (map (λ a. a.items) all.answers.items) all.rounds.items

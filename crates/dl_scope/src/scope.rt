@@ -1,0 +1,231 @@
+//! Serving plans.
+
+ghost use Rattle.std.specs.Prelude.{◌≡◌, ◌+◌, [], ℕ, All, IfErr, IfOk, OnOk, Some, length, map};
+ghost use Rattle.dl_history.specs.Service.{Answers};
+ghost use Rattle.dl_loader.specs.Closing.{IsLeastOf};
+ghost use Rattle.dl_loader.specs.Opening.{Names};
+ghost use Rattle.dl_loader.specs.Pass.{new_traces};
+ghost use Rattle.dl_workers.specs.GiveUps.{given_up};
+ghost use Rattle.dl_workers.specs.Seats.{AreSeatsOf, sent_jobs, taken_jobs};
+ghost use Rattle.dl_terms.specs.Plans.{ArePlans};
+ghost use Rattle.dl_scope.specs.Faults.{AreWorkers, MayServe, RefusedAs};
+ghost use Rattle.dl_scope.specs.Headline.{Headline, service_of};
+ghost use Rattle.dl_scope.specs.Report.{report};
+ghost use Rattle.dl_scope.specs.declared.fault.ScopeFault.TheVariants.{Unfetched};
+ghost use Rattle.dl_scope.specs.Inside.ServedPlans.{AreServed, IsCounted, Ran};
+
+use crate::fault::ScopeFault;
+use crate::report::Report;
+use crate::results::{ThreadResults, check, gather};
+use crate::server::{Resources, Server};
+use crate::setup::Setup;
+use crate::task_lists::{plan_tasks, worker_tasks};
+use crate::threads::{Runs, run_all};
+use dl_haxl::StepAnswer;
+use dl_loader::{History, Loader, LoaderName, Opening, Pass};
+use dl_source::Source;
+use dl_terms::{MOST_PLANS, Plan};
+use dl_workers::{Gate, JobQueue, Sender, Taker, Tally, least_given_up};
+use std::alloc::{AllocError, Global};
+use std::hash::RandomState;
+use std::marker::Brand;
+use std::sync::Wait;
+use std::thread::Threads;
+
+/// The most fetch workers.
+pub const MOST_WORKERS: u32 = 16;
+
+/// Serves plans at once, by one shared loader over the source: a thread for each plan, and so many fetch workers. Plan n is
+/// caller n of the loader, and the workers are the callers after the plans. The gate is told of each step of a worker. Keys
+/// are hashed by `hashing`, of which nothing is seen.
+///
+/// A plan that meets a fault stops the loader, and so does a worker that can't end a batch; the others end then too.
+///
+/// # Errors
+/// The first cause of [`ScopeFault`] that applies, in its order.
+pub fn serve<S: Source + Sync, G: Gate + Sync, R: Threads + Wait + Sync>(
+    rt: &R,
+    alloc: Global,
+    hashing: RandomState,
+    source: &S,
+    setup: Setup,
+    plans: Vec<Plan>,
+    gate: &G,
+) -> Result<Report, ScopeFault>
+    ensures headline { IfOk result (Headline (service_of setup (length plans.items) (S.answer source.now)) plans.items) }
+    ensures accepted { OnOk result (MayServe setup (length plans.items)) }
+    ensures refused { IfErr result (RefusedAs (service_of setup (length plans.items) (S.answer source.now)) setup plans.items) }
+{
+    if plans.is_empty() {
+        return Err(ScopeFault::NoPlans);
+    }
+    if plans.len() > MOST_PLANS {
+        return Err(ScopeFault::TooManyPlans);
+    }
+    if setup.workers == 0 || setup.workers > MOST_WORKERS {
+        return Err(ScopeFault::BadWorkers);
+    }
+    let callers = plans.len() as u32 + setup.workers;
+    match Opening::new(alloc, hashing, source, setup.limits, callers) {
+        Ok(opening) => {
+            let resources = Resources {
+                alloc,
+                hashing,
+                source,
+                gate,
+            };
+            serve_at::<Brand, S, G, R>(rt, &resources, setup, opening, plans)
+        }
+        Err(fault) => Err(ScopeFault::Start(fault)),
+    }
+}
+
+/// Serves plans by the loader of an opening, which `L` stands for.
+fn serve_at<
+    L: LoaderName + Send + Sync,
+    S: Source + Sync,
+    G: Gate + Sync,
+    R: Threads + Wait + Sync,
+>(
+    rt: &R,
+    resources: &Resources<'_, S, G>,
+    setup: Setup,
+    opening: Opening<'_, S>,
+    plans: Vec<Plan>,
+) -> Result<Report, ScopeFault>
+    requires source { opening.source ≡ resources.now.source.now }
+    requires names { Names S.answer opening L.service L.parts L.log L.outcomes L.name }
+    requires plans { ArePlans (length plans.items) }
+    requires workers { AreWorkers setup.workers }
+    requires callers { opening.callers ≡ length plans.items + setup.workers }
+    ensures headline { IfOk result (Headline L.service plans.items) }
+    ensures accepted { OnOk result (MayServe setup (length plans.items)) }
+    ensures refused { IfErr result (RefusedAs L.service setup plans.items) }
+{
+    let (loader, passes) = Loader::<L>::start(resources.alloc, opening)?;
+    let served = serve_by(rt, resources, setup, &loader, passes, plans)?;
+    let ServedPlans {
+        passes,
+        answers,
+        rounds,
+        tally,
+    } = served;
+    match loader.close(resources.alloc, passes) {
+        Ok(history) => report(answers, rounds, history, tally),
+        Err((fault, _, _)) => Err(ScopeFault::Close(fault)),
+    }
+}
+
+/// The report, where each batch was answered by the source.
+fn report(
+    answers: Vec<Vec<StepAnswer>>,
+    rounds: Vec<u64>,
+    history: History,
+    tally: Tally,
+) -> Result<Report, ScopeFault>
+    ensures report { IfOk result (λ made. made ≡ report (map (λ a. a.items) answers.items) rounds.items history tally) }
+    ensures fetched { OnOk result (given_up history.events ≡ []) }
+    ensures fault { IfErr result (λ fault. (batch : ℕ) × (fault ≡ Unfetched batch) × IsLeastOf (Some batch) (given_up history.events)) }
+{
+    if let Some(batch) = least_given_up(&history) {
+        return Err(ScopeFault::Unfetched { batch });
+    }
+    Ok(Report::of(answers, rounds, history, tally))
+}
+
+/// What serving plans leaves before the loader is closed.
+#[derive(Drop)]
+struct ServedPlans<L: LoaderName> {
+    passes: Vec<Pass<L>>,
+    answers: Vec<Vec<StepAnswer>>,
+    rounds: Vec<u64>,
+    tally: Tally,
+}
+
+/// Serves plans by a loader with these passes, which are new.
+fn serve_by<
+    L: LoaderName + Send + Sync,
+    S: Source + Sync,
+    G: Gate + Sync,
+    R: Threads + Wait + Sync,
+>(
+    rt: &R,
+    resources: &Resources<'_, S, G>,
+    setup: Setup,
+    loader: &Loader<L>,
+    passes: Vec<Pass<L>>,
+    plans: Vec<Plan>,
+) -> Result<ServedPlans<L>, ScopeFault>
+    requires source { Answers (S.answer resources.now.source.now) L.service }
+    requires plans { ArePlans (length plans.items) }
+    requires workers { AreWorkers setup.workers }
+    requires callers { L.service.callers ≡ length plans.items + setup.workers }
+    requires passes { map (λ p. p.trace) passes.items ≡ new_traces 0 L.service.callers }
+    ensures served { IfOk result (λ s. AreServed 0 plans.items (map (λ a. a.items) s.answers.items) s.rounds.items (map (λ p. p.trace) s.passes.items)) }
+    ensures counted { IfOk result (λ s. IsCounted (length plans.items) (map (λ p. p.trace) s.passes.items) s.tally) }
+    ensures accepted { OnOk result (MayServe setup (length plans.items)) }
+    ensures refused { IfErr result (RefusedAs L.service setup plans.items) }
+{
+    let senders = plans.len() as u32 + 1;
+    let alloc = resources.alloc;
+    let (queue, senders, takers) = match JobQueue::new(alloc, setup.queue, senders, setup.workers) {
+        Ok(made) => made,
+        Err(fault) => return Err(ScopeFault::Queue(fault)),
+    };
+    let server = Server {
+        resources,
+        loader,
+        queue: &queue,
+    };
+    let runs = run_tasks(rt, &server, passes, senders, takers, plans)?;
+    match check(runs.plans.as_slice(), runs.workers.as_slice()) {
+        Ok(()) => {}
+        Err(fault) => return Err(fault),
+    }
+    let ThreadResults {
+        passes,
+        senders,
+        takers,
+        answers,
+        rounds,
+    } = gather(alloc, runs)?;
+    let tally = queue.finish(rt, senders, takers);
+    Ok(ServedPlans {
+        passes,
+        answers,
+        rounds,
+        tally,
+    })
+}
+
+/// Runs the threads of the plans and of the workers, with these passes and seats and one sender more. The error is that an
+/// allocation failed, or a thread was refused.
+fn run_tasks<
+    L: LoaderName + Send + Sync,
+    S: Source + Sync,
+    G: Gate + Sync,
+    R: Threads + Wait + Sync,
+>(
+    rt: &R,
+    server: &Server<'_, L, S, G>,
+    mut passes: Vec<Pass<L>>,
+    mut senders: Vec<Sender>,
+    takers: Vec<Taker>,
+    plans: Vec<Plan>,
+) -> Result<Runs<L>, AllocError>
+    requires source { Answers (S.answer server.now.resources.now.source.now) L.service }
+    requires seats { AreSeatsOf server.now.queue.now senders.items takers.items }
+    requires senders { length senders.items ≡ length plans.items + 1 }
+    requires none_sent { All (λ s. sent_jobs s ≡ []) senders.items }
+    requires none_taken { All (λ t. taken_jobs t ≡ []) takers.items }
+    requires passes { length passes.items ≡ length plans.items + length takers.items }
+    ensures ran { IfOk result (Ran server.now.queue.now L.service passes.items plans.items) }
+{
+    let Some(own) = senders.pop() else {
+        unreachable!()
+    };
+    let alloc = server.resources.alloc;
+    let workers = worker_tasks(alloc, &mut passes, takers)?;
+    let plans = plan_tasks(alloc, passes, senders, plans)?;
+    run_all(rt, server, workers, plans, own)
+}

@@ -1,0 +1,26 @@
+//! What the threads of a server share.
+
+use dl_loader::{Loader, LoaderName};
+use dl_workers::JobQueue;
+use std::alloc::Global;
+use std::hash::RandomState;
+
+/// What plans are served with.
+#[derive(Drop)]
+pub(crate) struct Resources<'a, S, G> {
+    pub(crate) alloc: Global,
+    /// By what keys are hashed.
+    pub(crate) hashing: RandomState,
+    /// From what workers fetch.
+    pub(crate) source: &'a S,
+    /// What is told of each step of a worker.
+    pub(crate) gate: &'a G,
+}
+
+/// What the threads of a server share.
+#[derive(Drop)]
+pub(crate) struct Server<'a, L: LoaderName, S, G> {
+    pub(crate) resources: &'a Resources<'a, S, G>,
+    pub(crate) loader: &'a Loader<L>,
+    pub(crate) queue: &'a JobQueue,
+}

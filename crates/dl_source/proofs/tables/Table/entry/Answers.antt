@@ -1,6 +1,0 @@
-use Rattle.std.proofs.Common.{rules}
-use Rattle.dl_source.proofs.Lookups.{lookup-named}
-use Rattle.dl_source.proofs.tables.Table.entry.Goals as goal
-
-pub returns : goal.returns
-returns c = let same = lookup-named c.args.id.now c.self.inside.entries.entries in search rules

@@ -1,0 +1,125 @@
+-- Parts that have ended answer together.
+use Rattle.std.proofs.lemmas.List.{map-append}
+use Rattle.std.proofs.Common.{is_some, ◌&&◌, true≢false, ◌≡◌, ◌∙◌, append_assoc, ap, sym, refl, Bool, false, List, [], ◌∷◌, ◌++◌, map, Option, Some, None}
+use Rattle.std.specs.Prelude.{IsSome, MatchOption}
+use Rattle.std.specs.List.{list_all}
+use Rattle.std.specs.Option.{option_map}
+use Rattle.serde_json.specs.Data.{Data, array}
+use Rattle.serde_json.specs.View.{view, items_view}
+use Rattle.serde_json.specs.declared.value.Value.{Value as Json}
+use Rattle.dl_terms.specs.declared.answer.Answer.{Answer}
+use Rattle.dl_terms.specs.declared.answer.Answer.TheVariants.{Value, Fault}
+use Rattle.dl_terms.specs.declared.answer.EvalFault.{EvalFault}
+use Rattle.dl_terms.specs.declared.node.Node.{Node}
+use Rattle.dl_terms.specs.TermAnswers.{Gathered, gather, gathered, ended_as, with_first, both}
+use Rattle.dl_terms.specs.Node.{node_view, nodes_view, result_of, results_of}
+use Rattle.dl_terms.specs.Tree.{Tree, Trees, ended, all}
+use Rattle.dl_terms.specs.Inside.Exploration.{GathersOn}
+
+-- the nodes have ended with the values
+abbrev pub AreValues : List Node → List Json → Type 0
+AreValues ns vs = map (λ n. result_of (node_view n)) ns ≡ map (λ v. Some (Value (view v))) vs
+
+head_is : {A : Type 0} (x y : A) (xs ys : List A) → x ∷ xs ≡ y ∷ ys → x ≡ y
+head_is {A} x y xs ys e = let same : ◌≡◌ {A = List A} (x ∷ xs) (y ∷ ys) = e in cc
+
+tail_is : {A : Type 0} (x y : A) (xs ys : List A) → x ∷ xs ≡ y ∷ ys → xs ≡ ys
+tail_is {A} x y xs ys e = let same : ◌≡◌ {A = List A} (x ∷ xs) (y ∷ ys) = e in cc
+
+none_cons : {A : Type 0} (x : A) (xs : List A) → [] ≡ x ∷ xs → ⊥
+none_cons {A} x xs e = let same : ◌≡◌ {A = List A} [] (x ∷ xs) = e in cc
+
+gather_values : (vs : List Json) → gather (map (λ v. Value (view v)) vs) ≡ Gathered.values (items_view vs)
+gather_values [] = refl
+gather_values (v ∷ vs) = ap (with_first (view v)) (gather_values vs)
+
+results_values : (ns : List Node) (vs : List Json) → AreValues ns vs → results_of (nodes_view ns) ≡ Some (map (λ v. Value (view v)) vs)
+results_values [] [] e = refl
+results_values [] (v ∷ vs) e = absurd (none_cons _ _ e)
+results_values (n ∷ ns) [] e = absurd (none_cons _ _ (sym e))
+results_values (n ∷ ns) (v ∷ vs) e =
+    let first : result_of (node_view n) ≡ Some (Value (view v)) = head_is _ _ _ _ e in
+    let rest = results_values ns vs (tail_is _ _ _ _ e) in
+    ap (λ o. both o (results_of (nodes_view ns))) first ∙ ap (option_map (λ ls. Value (view v) ∷ ls)) rest
+
+-- all of them answer the list
+pub values_together : (ns : List Node) (vs : List Json) → AreValues ns vs
+    → option_map gathered (results_of (nodes_view ns)) ≡ Some (Value (array (items_view vs)))
+values_together ns vs e = ap (option_map gathered) (results_values ns vs e) ∙ ap (λ g. Some (ended_as g)) (gather_values vs)
+
+-- ---- a part that failed
+
+fault_in : (d : Data) (g : Gathered) (f : EvalFault) → ended_as g ≡ Fault f → ended_as (with_first d g) ≡ Fault f
+fault_in d (Gathered.values ds) f e = absurd (let bad : Value (array ds) ≡ Fault f = e in cc)
+fault_in d (Gathered.fault h) f e = e
+
+fault_behind : (d : Data) (o : Option (List Answer)) (f : EvalFault) → option_map gathered o ≡ Some (Fault f)
+    → option_map gathered (option_map (λ ls. Value d ∷ ls) o) ≡ Some (Fault f)
+fault_behind d None f e = e
+fault_behind d (Some ls) f e =
+    let same : ended_as (gather ls) ≡ Fault f = (let s : ◌≡◌ {A = Option Answer} (Some (ended_as (gather ls))) (Some (Fault f)) = e in cc) in
+    ap Some (fault_in d (gather ls) f same)
+
+both_right : {A : Type 0} (x : Option A) (xs : Option (List A)) → IsSome (both x xs) → IsSome xs
+both_right None xs h = absurd (let bad = h in cc)
+both_right (Some a) None h = h
+both_right (Some a) (Some l) h = refl
+
+both_left : {A : Type 0} (x : Option A) (xs : Option (List A)) → IsSome (both x xs) → IsSome x
+both_left None xs h = h
+both_left (Some a) xs h = refl
+
+fault_here : (f : EvalFault) (o : Option (List Answer)) → IsSome o → option_map gathered (both (Some (Fault f)) o) ≡ Some (Fault f)
+fault_here f None h = absurd (let bad = h in cc)
+fault_here f (Some ls) h = refl
+
+-- behind values it is what all answer
+pub fault_together : (ns : List Node) (vs : List Json) (n : Node) (rest : List Node) (f : EvalFault) → AreValues ns vs
+    → result_of (node_view n) ≡ Some (Fault f)
+    → IsSome (results_of (nodes_view (ns ++ n ∷ rest))) → option_map gathered (results_of (nodes_view (ns ++ n ∷ rest))) ≡ Some (Fault f)
+fault_together [] [] n rest f e is every =
+    ap (λ o. option_map gathered (both o (results_of (nodes_view rest)))) is
+    ∙ fault_here f (results_of (nodes_view rest)) (both_right (result_of (node_view n)) (results_of (nodes_view rest)) every)
+fault_together [] (v ∷ vs) n rest f e is every = absurd (none_cons _ _ e)
+fault_together (m ∷ ms) [] n rest f e is every = absurd (none_cons _ _ (sym e))
+fault_together (m ∷ ms) (v ∷ vs) n rest f e is every =
+    let more = results_of (nodes_view (ms ++ n ∷ rest)) in
+    let first : result_of (node_view m) ≡ Some (Value (view v)) = head_is _ _ _ _ e in
+    let later = fault_together ms vs n rest f (tail_is _ _ _ _ e) is (both_right (result_of (node_view m)) more every) in
+    ap (λ o. option_map gathered (both o more)) first ∙ fault_behind (view v) more f later
+
+-- each of them has ended
+pub ended_in : (ns : List Node) (n : Node) (rest : List Node) → IsSome (results_of (nodes_view (ns ++ n ∷ rest))) → IsSome (result_of (node_view n))
+ended_in [] n rest every = both_left (result_of (node_view n)) (results_of (nodes_view rest)) every
+ended_in (m ∷ ms) n rest every = ended_in ms n rest (both_right (result_of (node_view m)) (results_of (nodes_view (ms ++ n ∷ rest))) every)
+
+-- ---- one step of a loop that takes the values out
+
+pub left_next : (whole done left rest : List Node) (n : Node) → whole ≡ done ++ left → left ≡ n ∷ rest → whole ≡ (done ++ n ∷ []) ++ rest
+left_next whole done left rest n e s = e ∙ (ap (λ l. done ++ l) s ∙ sym (append_assoc done (n ∷ []) rest))
+
+pub values_next : (ns : List Node) (vs more : List Json) (n : Node) (v : Json) → AreValues ns vs → result_of (node_view n) ≡ Some (Value (view v))
+    → more ≡ vs ++ v ∷ [] → AreValues (ns ++ n ∷ []) more
+values_next ns vs more n v h is pushed =
+    map-append (λ (m : Node). result_of (node_view m)) ns (n ∷ [])
+    ∙ (ap (λ l. l ++ result_of (node_view n) ∷ []) h
+    ∙ (ap (λ o. map (λ w. Some (Value (view w))) vs ++ o ∷ []) is
+    ∙ (sym (map-append (λ (w : Json). Some (Value (view w))) vs (v ∷ [])) ∙ ap (map (λ w. Some (Value (view w)))) (sym pushed))))
+
+-- ---- whether parts have ended
+
+ended_step : (x : Option Answer) (xs : Option (List Answer)) (b : Bool) → b ≡ is_some xs → (is_some x && b) ≡ is_some (both x xs)
+ended_step None xs b e = refl
+ended_step (Some a) None b e = e
+ended_step (Some a) (Some ls) b e = e
+
+pub all_ended : (ns : List Node) → list_all (λ n. is_some (result_of (node_view n))) ns ≡ is_some (results_of (nodes_view ns))
+all_ended [] = refl
+all_ended (n ∷ ns) = ended_step (result_of (node_view n)) (results_of (nodes_view ns)) (list_all (λ m. is_some (result_of (node_view m))) ns) (all_ended ns)
+
+none_ended : (vs : Trees) (u : Tree) (r : Option (List Answer)) → is_some r ≡ false → u ≡ all vs → MatchOption r (u ≡ all vs) (λ ls. u ≡ ended (gathered ls))
+none_ended vs u None e is = is
+none_ended vs u (Some ls) e is = absurd (true≢false e)
+
+pub gathers_none : (vs : Trees) (u : Tree) → is_some (results_of vs) ≡ false → u ≡ all vs → GathersOn vs u
+gathers_none vs u e is = none_ended vs u (results_of vs) e is

@@ -1,0 +1,71 @@
+//! Lists that are made once.
+
+ghost use Rattle.std.specs.Prelude.{◌≡◌, IfOk};
+
+use crate::job::Job;
+use std::alloc::{AllocError, Global};
+use std::marker::Model;
+
+/// A `Vec` that contracts see as the list of its items.
+#[derive(Debug)]
+pub struct List<T> {
+    items: Vec<T>,
+}
+
+impl<T: Drop> Drop for List<T> {
+    fn drop(self) {
+        let List { items } = self;
+        drop(items);
+    }
+}
+
+impl<T> Model for List<T> {
+    ghost use Rattle.std.specs.Prelude.{List};
+    ghost use Rattle.std.specs.Coded.{coded_list};
+
+    ghost Value = { List T };
+
+    ghost coded = { coded_list T.code };
+
+    ghost view = { λ l. l.items.items };
+}
+
+impl<T> List<T> {
+    /// A list of these items.
+    pub fn new(items: Vec<T>) -> List<T>
+        ensures { result ≡ items.items }
+    {
+        List { items }
+    }
+
+    /// The items, in order.
+    pub fn as_slice(&self) -> &[T]
+        ensures { result.now ≡ self.now }
+    {
+        self.items.as_slice()
+    }
+}
+
+impl<T: Copy> List<T> {
+    /// A list of copies of the items. The error is a failed allocation.
+    pub fn copy_of(alloc: Global, items: &[T]) -> Result<List<T>, AllocError>
+        ensures { IfOk result (λ copies. copies ≡ items.now) }
+    {
+        Ok(List {
+            items: Vec::from_slice(alloc, items)?,
+        })
+    }
+}
+
+impl List<Job> {
+    /// Copies of the jobs, which share the keys. The error is a failed allocation.
+    pub fn copy_of(alloc: Global, jobs: &[Job]) -> Result<List<Job>, AllocError>
+        ensures { IfOk result (λ copies. copies ≡ jobs.now) }
+    {
+        let mut copies = Vec::with_capacity(alloc, jobs.len())?;
+        for job in jobs {
+            copies.push(job.try_copy()?)?;
+        }
+        Ok(List { items: copies })
+    }
+}

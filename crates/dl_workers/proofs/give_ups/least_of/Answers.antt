@@ -1,0 +1,7 @@
+use Rattle.std.proofs.Common.{ℕ, Option, subst}
+use Rattle.dl_loader.specs.Closing.{IsLeastOf}
+use Rattle.dl_workers.proofs.Least.{least_lesser}
+use Rattle.dl_workers.proofs.give_ups.least_of.Goals as goal
+
+pub returns-in-Some : goal.returns-in-Some
+returns-in-Some c ns found = rw c.min.ensures (least_lesser ns c.in-Some.least c.args.batch (subst (λ (o : Option ℕ). IsLeastOf o ns) c.in-Some.is found))

@@ -1,7 +1,0 @@
-use Rattle.std.proofs.Common.{take}
-use Rattle.dl_loader.specs.Closing.{IsLeastOf}
-use Rattle.dl_workers.specs.GivenUp.{given_up}
-use Rattle.dl_workers.proofs.given_up.least_given_up.Given as goal
-
-abbrev pub invariant-loop-at : goal.invariant-loop-at
-invariant-loop-at l = IsLeastOf l.least (given_up (take l.at l.history.events))

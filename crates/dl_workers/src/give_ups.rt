@@ -1,0 +1,46 @@
+//! Batches that failed without an answer of the source.
+
+ghost use Rattle.std.specs.Prelude.{◌∷◌, ◌++◌, [], ℕ, List, Some, flat_map};
+ghost use Rattle.dl_loader.specs.Closing.{IsLeastOf};
+ghost use Rattle.dl_workers.specs.GiveUps.{given_up, given_up_by};
+
+use dl_desk::BatchFault;
+use dl_loader::{Call, History};
+
+/// The least batch of a history that failed since memory ran out or since its job was not sent, so without an answer of the
+/// source. Where there is none, each batch that ended was answered.
+pub fn least_given_up(history: &History) -> Option<u32>
+    ensures { IsLeastOf result (given_up history.now.events) }
+{
+    let events = history.events();
+    let mut least = None;
+    for at in 0..events.len() {
+        if let Some(event) = events.get(at) {
+            least = least_with(least, &event.call);
+        }
+    }
+    least
+}
+
+/// The least of the batches that were found and the one that this call gives up, if it does.
+fn least_with(found: Option<u32>, call: &Call) -> Option<u32>
+    ensures { (ns : List ℕ) → IsLeastOf found ns → IsLeastOf result (ns ++ given_up_by call.now) }
+{
+    match call {
+        Call::Fail {
+            batch,
+            fault: BatchFault::Memory | BatchFault::Unsent,
+        } => Some(least_of(found, *batch)),
+        _ => found,
+    }
+}
+
+/// The least of the batches that were found and one more.
+fn least_of(found: Option<u32>, batch: u32) -> u32
+    ensures { (ns : List ℕ) → IsLeastOf found ns → IsLeastOf (Some result) (ns ++ batch ∷ []) }
+{
+    match found {
+        Some(least) => least.min(batch),
+        None => batch,
+    }
+}
