@@ -201,10 +201,11 @@ ROWS["other documents are no scripts"] = [
     refused("not json", about="no bytes"),
     refused("not json", "{"),
     refused("not json", '{"script":1,"calls":[]} 1'),
-    refused("version", '{"script":2,"calls":[]}'),
+    refused("version", '{"script":3,"calls":[]}'),
     refused("version", '{"script":1.0,"calls":[]}'),
     refused("version", '{"script":"1","calls":[]}'),
-    refused("version", '{"version":1,"script":2,"tables":[],"plans":[[]]}'),
+    refused("version", '{"version":1,"script":3,"tables":[],"plans":[[]]}'),
+    refused("top", '{"version":1,"script":2,"tables":[],"plans":[[]]}'),
     refused("top", '{"script":1,"version":1,"calls":[]}'),
     refused("call 1", '{"script":1,"calls":[{"load":["t","a"]},{"load":["t",""]}]}'),
     refused("top", '{"script":1,"x":1,"calls":[5]}'),
@@ -451,7 +452,6 @@ ROWS["other documents are no plan files"] = [
     refused("version", "null"),
     refused("version", "[1]"),
     refused("version", '{"tables":[],"plans":[[]]}'),
-    refused("version", '{"version":2,"tables":[],"plans":[[]]}'),
     refused("version", '{"version":3,"tables":[],"plans":[[]]}'),
     refused("version", '{"version":1.0,"tables":[],"plans":[[]]}'),
     refused("version", '{"version":"1","tables":[],"plans":[[]]}'),
@@ -701,6 +701,94 @@ ROWS["a plan file has limits"] = [
     ),
 ]
 
+# ---- version 2
+
+ROWS["in version 2 a batch of a script is of one table"] = [
+    answered(
+        "a table with a limit of its own",
+        '{"script":2,"maxBatchSize":2,"tableLimits":[["s",1]],"calls":[{"load":["t","a"]},{"load":["s","x"]},{"load":["t","b"]},'
+        '{"load":["s","y"]},{"load":["t","c"]},{"dispatch":true}]}',
+        "fresh 0 0",
+        "fresh 1 1",
+        "fresh 2 0",
+        "fresh 3 2",
+        "fresh 4 3",
+        "sent 4",
+        'job 0 ["t","a"] ["t","b"]',
+        'job 1 ["s","x"]',
+        'job 2 ["s","y"]',
+        'job 3 ["t","c"]',
+    ),
+    answered("no calls and no table's limit", '{"script":2,"calls":[]}'),
+    answered("the least and the greatest limit", '{"script":2,"tableLimits":[["s",1],["t",65536]],"calls":[]}'),
+    refused("top", '{"script":1,"tableLimits":[],"calls":[]}'),
+    refused("top", '{"version":2,"tableLimits":[],"tables":[],"plans":[[]]}'),
+    refused("top", '{"script":2,"tableLimits":{},"calls":[]}'),
+    refused("top", '{"script":2,"tableLimits":[["t"]],"calls":[]}'),
+    refused("top", '{"script":2,"tableLimits":[["t",1,1]],"calls":[]}'),
+    refused("top", '{"script":2,"tableLimits":[[1,"t"]],"calls":[]}'),
+    refused("top", '{"script":2,"tableLimits":[["t",1.0]],"calls":[]}'),
+    refused("top", '{"script":2,"tableLimits":[["",1]],"calls":[]}'),
+    refused("top", '{"script":2,"tableLimits":[["', ("x", 65), '",1]],"calls":[]}', about="a table of 65 bytes with a limit"),
+    refused("limit BatchLimit", '{"script":2,"tableLimits":[["t",0]],"calls":[]}'),
+    refused("limit BatchLimit", '{"script":2,"tableLimits":[["s",1],["t",65537]],"calls":[]}'),
+    refused("limit BatchLimit", '{"script":2,"tableLimits":[["t",-1]],"calls":[]}'),
+    # of two causes the first
+    refused("top", '{"script":2,"tableLimits":[["t",0],["t",1]],"calls":[5]}'),
+    refused("call 0", '{"script":2,"tableLimits":[["t",0]],"calls":[5]}'),
+    refused("limit BatchLimit", '{"script":2,"maxCells":0,"tableLimits":[["t",0]],"calls":[]}'),
+    refused("limit BatchLimit", '{"script":2,"maxBatchSize":0,"maxCells":0,"tableLimits":[["t",1]],"calls":[]}'),
+    refused("limit CellLimit", '{"script":2,"maxCells":0,"tableLimits":[["t",1]],"calls":[]}'),
+]
+
+
+def plan_file_2(plans, number=""):
+    """A plan file of version 2 over the tables of users, that of users with this number, if one is given."""
+    tables = USERS.replace('{"name":"user",', f'{{"name":"user","maxBatchSize":{number},') if number else USERS
+    return f'{{"version":2,"maxBatchSize":2,"tables":{tables},"plans":{plans}}}'
+
+
+SHOP_AND_U13 = '[[{"eval":{"all":[{"load":["shop","s"]},{"load":["user","u13"]}]}}]]'
+NO_TABLE = '0 0 fault key ["shop","s"] "no table"'
+
+ROWS["in version 2 a batch of a plan file is of one table"] = [
+    answered(
+        "a table with a limit of its own",
+        plan_file_2('[[{"eval":{"all":[{"load":["user","u1"]},{"load":["user","u2"]},{"load":["shop","s"]}]}}]]', "1"),
+        NO_TABLE,
+        "rounds 1",
+        'batch 0 [["user","u1"]] settled',
+        'batch 1 [["user","u2"]] settled',
+        'batch 2 [["shop","s"]] settled',
+        command_lines=BATCHES,
+    ),
+    batches(
+        "in version 1 two tables share a batch",
+        SHOP_AND_U13,
+        '0 0 fault batch ["shop","s"] "db down"',
+        "rounds 1",
+        'batch 0 [["shop","s"],["user","u13"]] failed',
+    ),
+    answered(
+        "two tables, two batches",
+        plan_file_2(SHOP_AND_U13),
+        NO_TABLE,
+        "rounds 1",
+        'batch 0 [["shop","s"]] settled',
+        'batch 1 [["user","u13"]] failed',
+        command_lines=BATCHES,
+    ),
+    answered("nothing", '{"version":2,"tables":[],"plans":[[]]}'),
+    refused("limit BatchLimit", plan_file_2("[[]]", "0"), about="a table's limit of 0"),
+    refused("limit BatchLimit", plan_file_2("[[]]", "65537"), about="a table's limit of 65537"),
+    refused("table Shape", plan_file_2("[[]]", "1.0"), about="a table's limit that isn't whole"),
+    refused("table Shape", plan_file_2("[[]]", "0").replace('"version":2', '"version":1'), about="a table's limit in version 1"),
+    # of two causes the first
+    refused("plan 0 step 0", plan_file_2("[[5]]", "0"), about="a bad step and a bad limit of a table"),
+    refused("table DuplicateTable", '{"version":2,"tables":[{"name":"t","rows":[],"maxBatchSize":0},{"name":"t","rows":[]}],"plans":[[]]}'),
+    refused("limit BatchLimit", '{"version":2,"maxCells":0,"tables":[{"name":"t","rows":[],"maxBatchSize":0}],"plans":[[]]}'),
+]
+
 # ---- both kinds
 
 ROWS["a refusal tells the place"] = [
@@ -721,17 +809,25 @@ ROWS["a refusal tells the place"] = [
 ]
 
 SCRIPT = '{"script":1,"calls":[]}'
+PLAN_FILE = document(plan_file(NAME_OF_A_FRIEND))
 
 ROWS["a document has a most of bytes"] = [
     answered("a script of 1,048,576 bytes", document(SCRIPT, (" ", 1_048_576 - len(SCRIPT)))),
+    answered(
+        "a plan file of 1,048,576 bytes",
+        document(PLAN_FILE, (" ", 1_048_576 - len(PLAN_FILE))),
+        BOB,
+        "rounds 2",
+        'batch 0 [["user","u1"]] settled',
+        'batch 1 [["user","u2"]] settled',
+        command_lines=BATCHES,
+    ),
     refused("too large", SCRIPT, (" ", 1_048_577 - len(SCRIPT)), about="a script of 1,048,577 bytes"),
     refused("not json", (" ", 1_048_576), about="1,048,576 spaces"),
     refused("too large", (" ", 1_048_577), about="1,048,577 spaces"),
     refused("not json", b"\xff", (" ", 1_048_575), about="1,048,576 bytes, of which the first is no UTF-8"),
     refused("too large", b"\xff", (" ", 1_048_576), about="1,048,577 bytes, of which the first is no UTF-8"),
 ]
-
-PLAN_FILE = document(plan_file(NAME_OF_A_FRIEND))
 
 ROWS["a front of a document is refused"] = [
     *(refused("not json", PLAN_FILE[:count], about=f"{count} bytes") for count in range(len(PLAN_FILE))),

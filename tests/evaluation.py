@@ -72,11 +72,27 @@ class Source:
         return Outcome("key", errors.get(key, "no row"))
 
 
+class Limits(NamedTuple):
+    """The most keys of a batch, cells and calls; and the tables' own limits, where each batch is of one table."""
+
+    keys: int = LIMIT
+    cells: int = LIMIT
+    calls: int = LIMIT
+    own: dict | None = None
+
+    @classmethod
+    def of(cls, file):
+        """Those of a plan file."""
+        tables = {table["name"]: table["maxBatchSize"] for table in file["tables"] if "maxBatchSize" in table}
+        limits = (file.get(name, LIMIT) for name in ("maxBatchSize", "maxCells", "maxCalls"))
+        return cls(*limits, tables if file["version"] == 2 else None)
+
+
 class Loader:
     """A loader with its limits, whose batches are fetched as they are sent."""
 
-    def __init__(self, source, most_keys=LIMIT, most_cells=LIMIT, most_calls=LIMIT):
-        self.source, self.most_keys, self.most_cells, self.most_calls = source, most_keys, most_cells, most_calls
+    def __init__(self, source, limits):
+        self.source, self.limits = source, limits
         self.calls = 0
         self.loads = 0
         self.cells = []
@@ -86,7 +102,7 @@ class Loader:
 
     def call(self, fault="Run"):
         """Counts a call, which a plan makes, or a worker that ends a batch."""
-        if self.calls == self.most_calls:
+        if self.calls == self.limits.calls:
             raise Stop(fault)
         self.calls += 1
 
@@ -96,7 +112,7 @@ class Loader:
         return len(self.cells) - 1
 
     def make_room(self, cells):
-        if len(self.cells) + cells > self.most_cells:
+        if len(self.cells) + cells > self.limits.cells:
             raise Stop("Run")
 
     def load_many(self, keys):
@@ -112,10 +128,18 @@ class Loader:
             self.fetch(batch)
         return {key: self.cells[cell] for key, cell in zip(keys, cells)}
 
+    def last_of(self, table):
+        """The last batch that collects keys of the table, if there is one, and how many keys it may have."""
+        limits = self.limits
+        if limits.own is None:
+            return self.collecting[-1:], limits.keys
+        return [batch for batch in self.collecting if batch.keys[0][0] == table][-1:], limits.own.get(table, limits.keys)
+
     def join(self, key):
         """Begins a cell for a key that isn't held, in the last batch or a new one."""
-        last = self.collecting[-1] if self.collecting else None
-        if last is None or len(last.keys) == self.most_keys or key in last.keys:
+        open_batches, most = self.last_of(key[0])
+        last = open_batches[0] if open_batches else None
+        if last is None or len(last.keys) == most or key in last.keys:
             last = Batch()
             self.batches.append(last)
             self.collecting.append(last)

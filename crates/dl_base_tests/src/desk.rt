@@ -3,7 +3,7 @@
 use crate::comparison::assert_is;
 use dl_desk::{
     BatchState, BatchView, Desk, DeskFault, DeskPrime, DeskReply, FetchKey, Job, KeyFault,
-    LimitFault, Limits, LoadReply,
+    LimitFault, Limits, LoadReply, TableLimit, TableLimitFault, TableLimits, Text,
 };
 use std::alloc::Global;
 use std::hash::RandomState;
@@ -78,6 +78,99 @@ fn limits_are_refused_for_their_first_fault(rt: HostRuntime) {
         let about = format_args!("{max_batch} {max_cells} {max_calls}");
         assert_is(&rt, &fault, want, about);
     }
+}
+
+/// Of two tables, which have names of the letter x, the bytes of each name and each limit, and why they are refused, where
+/// they are refused.
+static TABLES: [(usize, u32, usize, u32, Option<TableLimitFault>); 9] = [
+    (65, 0, 0, 0, Some(TableLimitFault::EmptyTable)),
+    (0, 1, 0, 1, Some(TableLimitFault::EmptyTable)),
+    (1, 0, 65, 1, Some(TableLimitFault::TableTooLong)),
+    (65, 1, 65, 1, Some(TableLimitFault::TableTooLong)),
+    (1, 0, 1, 0, Some(TableLimitFault::BatchLimit)),
+    (1, 1, 1, 65_537, Some(TableLimitFault::BatchLimit)),
+    (1, 1, 1, 2, Some(TableLimitFault::DuplicateTable)),
+    (64, 1, 64, 1, Some(TableLimitFault::DuplicateTable)),
+    (1, 1, 64, 65_536, None),
+];
+
+/// A table with a limit.
+fn table(rt: &impl Abort, alloc: Global, name: &str, limit: u32) -> TableLimit {
+    let table = Text::new(alloc, name).expect(rt, "no memory");
+    TableLimit { table, limit }
+}
+
+/// Why tables with names of so many bytes are refused, where they are refused.
+fn tables_fault(
+    rt: &impl Abort,
+    alloc: Global,
+    first: (usize, u32),
+    second: (usize, u32),
+) -> Option<TableLimitFault> {
+    let mut tables = Vec::new(alloc);
+    for (bytes, limit) in [first, second] {
+        let name = long(rt, alloc, bytes);
+        tables
+            .push(table(rt, alloc, name.as_str(), limit))
+            .expect(rt, "no memory");
+    }
+    TableLimits::new(alloc, tables).err()
+}
+
+#[test]
+fn tables_are_refused_for_their_first_fault(rt: HostRuntime) {
+    for (first, limit, second, other, want) in &TABLES {
+        let fault = tables_fault(&rt, rt.alloc(), (*first, *limit), (*second, *other));
+        let about = format_args!("{first} {limit} {second} {other}");
+        assert_is(&rt, &fault, want, about);
+    }
+}
+
+/// The limits of these tables.
+fn table_limits(rt: &impl Abort, alloc: Global, limits: &[(&str, u32)]) -> TableLimits {
+    let mut tables = Vec::new(alloc);
+    for (name, limit) in limits {
+        tables
+            .push(table(rt, alloc, *name, *limit))
+            .expect(rt, "no memory");
+    }
+    TableLimits::new(alloc, tables).expect(rt, "no limits")
+}
+
+#[test]
+fn tables_have_their_own_limits(rt: HostRuntime) {
+    let none = table_limits(&rt, rt.alloc(), &[]);
+    assert_is(&rt, &none.limit("t"), &None, "no tables");
+    let one = table_limits(&rt, rt.alloc(), &[("t", 7)]);
+    assert_is(&rt, &one.limit("t"), &Some(7), "the table");
+    assert_is(&rt, &one.limit("s"), &None, "another table");
+}
+
+/// Tables and ids that are loaded one by one, with their cells and the batches that they go into, where a batch has two
+/// keys at most, and one of the table s one.
+static LOADS: [(&str, &str, u32, u32); 5] = [
+    ("t", "a", 0, 0),
+    ("s", "x", 1, 1),
+    ("t", "b", 2, 0),
+    ("s", "y", 3, 2),
+    ("t", "c", 4, 3),
+];
+
+#[test]
+fn each_batch_is_of_one_table(rt: HostRuntime) {
+    let alloc = rt.alloc();
+    let hashing = RandomState::new(&rt).expect(&rt, "no random numbers");
+    let limits = Limits::new(2, 65_536, 65_536).expect(&rt, "no limits");
+    let tables = table_limits(&rt, alloc, &[("s", 1)]);
+    let mut desk = Desk::by_table(alloc, hashing, limits, tables);
+    for (table, id, cell, batch) in &LOADS {
+        let key = FetchKey::new(alloc, *table, *id).expect(&rt, "no key");
+        let got = desk.load(alloc, &key);
+        let (cell, batch) = (*cell, *batch);
+        assert_is(&rt, &got, &Ok(LoadReply::Fresh { cell, batch }), id);
+    }
+    let jobs = desk.dispatch(alloc).expect(&rt, "no dispatch");
+    assert!(rt; jobs.len() == 4);
 }
 
 /// A desk of batches of one key, and of so many cells at most.

@@ -1,7 +1,9 @@
 //! Calls at their largest arguments, with ample memory: each is made.
 
 use crate::comparison::assert_is;
-use dl_desk::{Desk, DeskReply, FetchKey, Job, Keys, Limits, LoadReply, Outcome};
+use dl_desk::{
+    Desk, DeskReply, FetchKey, Job, Keys, Limits, LoadReply, Outcome, TableLimit, TableLimits, Text,
+};
 use dl_fixtures::{numbered_keys, numbered_list, outcome_text, tables};
 use dl_source::{BatchAnswer, Tables, fetch_job};
 use std::alloc::Global;
@@ -63,6 +65,36 @@ fn the_most_keys_are_loaded_and_sent(rt: HostRuntime) {
         let mut desk = desk(&rt, rt.alloc(), hashing, sizes.0);
         load_most(&rt, rt.alloc(), &mut desk, keys.as_slice(), *sizes);
     }
+}
+
+/// The keys' ids as tables, each with a limit of one key.
+fn tables_of(rt: &impl Abort, alloc: Global, keys: &[FetchKey]) -> TableLimits {
+    let mut tables = Vec::new(alloc);
+    for key in keys {
+        let table = Text::new(alloc, key.id()).expect(rt, "no memory");
+        tables
+            .push(TableLimit { table, limit: 1 })
+            .expect(rt, "no memory");
+    }
+    TableLimits::new(alloc, tables).expect(rt, "no limits")
+}
+
+#[test]
+fn as_many_tables_are_loaded_as_keys(rt: HostRuntime) {
+    let (alloc, hashing) = (rt.alloc(), RandomState::new(&rt));
+    let hashing = hashing.expect(&rt, "no random numbers");
+    let limits = Limits::new(MOST, MOST, MOST).expect(&rt, "no limits");
+    let keys = numbered_keys(alloc, MOST).expect(&rt, "no keys");
+    let tables = tables_of(&rt, alloc, keys.as_slice());
+    let mut desk = Desk::by_table(alloc, hashing, limits, tables);
+    for (cell, key) in (0..MOST).zip(keys.iter()) {
+        let key = FetchKey::new(alloc, key.id(), "x").expect(&rt, "no key");
+        let reply = desk.load(alloc, &key).expect(&rt, "no load");
+        let fresh = LoadReply::Fresh { cell, batch: cell };
+        assert_is(&rt, &reply, &fresh, "reply");
+    }
+    let jobs = desk.dispatch(alloc).expect(&rt, "no jobs");
+    assert_is(&rt, &jobs.len(), &(MOST as usize), "number of jobs");
 }
 
 /// The loads of the most keys, and the dispatch of their batches, are made ready and then made.

@@ -13,4 +13,6 @@ mod largest;
 #[cfg(test)]
 mod source;
 #[cfg(test)]
+mod table_numbers;
+#[cfg(test)]
 mod terms;

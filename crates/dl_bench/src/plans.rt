@@ -25,6 +25,7 @@ pub(crate) fn served<R: Threads + Wait + Sync>(
 ) -> Result<()> {
     let setup = Setup {
         limits: limits(batch)?,
+        tables: None,
         workers,
         queue: QUEUE,
     };

@@ -9,10 +9,12 @@ use Rattle.dl_desk.specs.StoredBatch.{StoredBatch}
 use Rattle.dl_desk.specs.BatchBook.{Batch}
 use Rattle.dl_desk.specs.Preparation.{prepared_batch, shown_batch, set_end}
 use Rattle.dl_desk.specs.Marks.{DeskFields, IsStored, IsDesk}
+use Rattle.dl_desk.specs.TableBook.{TableBook, TouchedBy, both}
 use Rattle.dl_desk.specs.declared.desk.Extent.{Extent}
 use Rattle.dl_desk.specs.declared.reply.End.{End}
 use Rattle.dl_desk.proofs.Tails.{get-set_same, get-set_other}
 use Rattle.dl_desk.proofs.DispatchJobs.{get-take}
+use Rattle.dl_desk.proofs.TableLemmas.{fit_same, alike_set, touched_by}
 
 -- ---- small ones
 
@@ -77,6 +79,21 @@ pub record IsMarked (prepared shown n : ℕ) (xs : List StoredBatch) (x y : Stor
   pub prepared_end : prepared_batch y ≡ with_end (prepared_batch x) e
   pub shown_end : shown_batch y ≡ with_end (shown_batch x) e
 
+touched_marked : (n : ℕ) (xs : List StoredBatch) (x y : StoredBatch) (t : Option TableBook) → slice_get xs n ≡ Some x → shown_batch y ≡ prepared_batch y
+    → TouchedBy t xs → TouchedBy t (set xs n y)
+touched_marked n xs x y None at done are = tt
+touched_marked n xs x y (Some t) at done are = record {
+  within = λ b is. rw length-set (are.within b is);
+  same = λ b z got none. elim (cases_eq b n) [
+    | inl here ↦
+        let mine : slice_get (set xs n y) b ≡ Some y = rw here (get-set_same xs n y (slice_get_within xs n x at)) in
+        let two : ◌≡◌ {A = Option StoredBatch} (Some y) (Some z) = sym mine ∙ got in
+        let is : y ≡ z = cc in
+        rw (← is) done
+    | inr other ↦ are.same b z (sym (get-set_other xs n b y other) ∙ got) none
+  ];
+}
+
 pub desk_marked : (d : DeskFields) (n : ℕ) (x y : StoredBatch) (e : End) → IsDesk d → IsMarked d.prepared.begun d.shown.begun n d.batches x y e
     → IsDesk (record d { batches = set d.batches n y })
 desk_marked d n x y e is m = record {
@@ -87,6 +104,16 @@ desk_marked d n x y e is m = record {
   shown_book
       = rw map-set
       (stored_set d.shown d.max_cells n (map shown_batch d.batches) (shown_batch y) is.shown_book (low_begun d.shown.begun n (map shown_batch d.batches) m.low));
+  later = is.later;
+  tables = fit_same d.max_batch (both d.shown.begun d.prepared.begun d.batches) (both d.shown.begun d.prepared.begun (set d.batches n y)) d.tables
+      (touched_marked n d.batches x y d.tables m.at (m.shown_end ∙ (ap (λ (b : Batch). with_end b e)
+      (none_at d.prepared.begun d.shown.begun n d.batches x m.same m.low m.at) ∙ sym m.prepared_end))
+      (touched_by d.max_batch (both d.shown.begun d.prepared.begun d.batches) d.tables is.tables))
+      (rw map-set (alike_set d.shown.begun n (map shown_batch d.batches) (shown_batch x) (shown_batch y) (rw (slice_get-map shown_batch d.batches n, m.at) refl)
+      (ap (λ (b : Batch). b.members) m.shown_end)))
+      (rw map-set (alike_set d.prepared.begun n (map prepared_batch d.batches) (prepared_batch x) (prepared_batch y)
+      (rw (slice_get-map prepared_batch d.batches n, m.at) refl) (ap (λ (b : Batch). b.members) m.prepared_end)))
+      is.tables;
   memo = is.memo;
   same = λ b outside z at. elim (cases_eq b n) [
     | inl here ↦

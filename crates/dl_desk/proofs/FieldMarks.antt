@@ -1,7 +1,9 @@
 -- What cutting, showing and preparing leave of a desk's fields.
 use Rattle.std.proofs.Common.{◌≡◌, ◌∙◌, sym, true, false, ℕ, zero, suc, ◌+◌, ◌<◌, ◌≤◌, inl, inr, min, max, List, [], ◌∷◌, ◌++◌, length, map, set, take}
-use Rattle.std.proofs.Common.{Option, Some, None, slice_get, refl, arith, length-append}
-use Rattle.std.proofs.lemmas.Bool.{cases_lt, cases_eq, true≢false}
+use Rattle.std.proofs.Common.{Bool, nat_eq, ◌||◌, Option, Some, None, option_map, slice_get, refl, arith, length-append}
+use Rattle.std.specs.List.{list_any}
+use Rattle.std.proofs.lemmas.List.Folds.{list_any-append}
+use Rattle.std.proofs.lemmas.Bool.{cases_lt, cases_eq, true≢false, eq-eqb, or_parts}
 use Rattle.std.proofs.lemmas.Option.{slice_get-map, slice_get_past}
 use Rattle.std.proofs.lemmas.List.{map-append, map-set, length-set, length-map, take_all}
 use Rattle.dl_values.specs.Key.{Key}
@@ -9,8 +11,10 @@ use Rattle.dl_desk.specs.StoredBatch.{StoredBatch, blank}
 use Rattle.dl_desk.specs.BatchBook.{Batch}
 use Rattle.dl_desk.specs.Preparation.{prepared_batch, shown_batch, empty, Same, members_of}
 use Rattle.dl_desk.specs.Marks.{DeskFields, IsStored, IsShown, IsDesk, MakesRoom, IsAdded}
+use Rattle.dl_desk.specs.TableBook.{TableBook, untouched, AreTouched, both, FitTables}
 use Rattle.dl_desk.specs.declared.desk.Extent.{Extent}
 use Rattle.dl_desk.proofs.Tails.{get-set_other, map-set_unseen, same_all}
+use Rattle.dl_desk.proofs.TableLemmas.{fit_cut, fit_shown, one_of}
 
 -- ---- cutting and showing
 
@@ -25,10 +29,12 @@ none_prepared xs same b x at =
 
 pub desk_cut : (d : DeskFields) (left : List (Key × ℕ)) (ys : List StoredBatch) → IsDesk d → map prepared_batch ys ≡ map shown_batch d.batches
     → map shown_batch ys ≡ map shown_batch d.batches → length left ≡ d.shown_memo
-    → IsDesk (record d { memo = left; batches = ys; prepared = d.shown; is_prepared = false; touched = d.shown.begun })
+    → IsDesk (record d { tables = option_map untouched d.tables; memo = left; batches = ys; prepared = d.shown; is_prepared = false; touched = d.shown.begun })
 desk_cut d left ys is w f all = record {
   prepared_book = rw w is.shown_book;
   shown_book = rw f is.shown_book;
+  later = omega arith;
+  tables = rw (w, f) (fit_cut d.max_batch (both d.shown.begun d.prepared.begun d.batches) ys d.tables (none_prepared ys (f ∙ sym w)) is.tables);
   memo = omega arith;
   same = λ b outside x at. none_prepared ys (f ∙ sym w) b x at;
   unmarked = λ _. record { extent = refl; all_memo = all; none_touched = refl };
@@ -36,10 +42,12 @@ desk_cut d left ys is w f all = record {
 
 pub desk_shown : (d : DeskFields) (ys : List StoredBatch) → IsDesk d → map prepared_batch ys ≡ map prepared_batch d.batches
     → map shown_batch ys ≡ map prepared_batch d.batches
-    → IsDesk (record d { batches = ys; shown = d.prepared; shown_memo = length d.memo; is_prepared = false; touched = d.prepared.begun })
+    → IsDesk (record d { tables = option_map untouched d.tables; batches = ys; shown = d.prepared; shown_memo = length d.memo; is_prepared = false; touched = d.prepared.begun })
 desk_shown d ys is w f = record {
   prepared_book = rw w is.prepared_book;
   shown_book = rw f is.prepared_book;
+  later = omega arith;
+  tables = rw (w, f) (fit_shown d.max_batch (both d.shown.begun d.prepared.begun d.batches) ys d.tables (none_prepared ys (f ∙ sym w)) is.tables);
   memo = omega arith;
   same = λ b outside x at. none_prepared ys (f ∙ sym w) b x at;
   unmarked = λ _. record { extent = refl; all_memo = refl; none_touched = refl };
@@ -80,67 +88,107 @@ same_grown from to xs same b outside x at = elim (cases_lt b (length xs)) [
   ]
 ]
 
-pub desk_grown : (d : DeskFields) (memo : List (Key × ℕ)) (ys : List StoredBatch) → IsDesk d → MakesRoom d.batches ys → d.shown_memo ≤ length memo
-    → IsDesk (record d { memo = memo; batches = ys; is_prepared = true })
-desk_grown d memo ys is (inl same) left = record {
-  prepared_book = rw same is.prepared_book;
-  shown_book = rw same is.shown_book;
-  memo = left;
-  same = rw same is.same;
-  unmarked = λ e. absurd (true≢false e);
-}
-desk_grown d memo ys is (inr one) left = record {
-  prepared_book = rw (one, map-append) (stored_grown d.prepared d.max_cells (map prepared_batch d.batches) is.prepared_book);
-  shown_book = rw (one, map-append) (stored_grown d.shown d.max_cells (map shown_batch d.batches) is.shown_book);
-  memo = left;
-  same = rw one (same_grown d.touched d.prepared.begun d.batches is.same);
-  unmarked = λ e. absurd (true≢false e);
-}
-
--- ---- one more member
-
--- how far the batches go with one more member in one of them
-abbrev pub with_member : Extent → ℕ → Extent
-with_member e n = record e { begun = max e.begun (n + 1); cells = e.cells + 1 }
-
-stored_put : (e : Extent) (most n : ℕ) (xs : List Batch) (y : Batch) → IsStored e most xs → n < length xs → n ≤ e.begun → e.cells < most
-    → IsStored (with_member e n) most (set xs n y)
-stored_put e most n xs y is low next room = record {
-  all_sent = let s = is.all_sent in omega arith;
-  all_stored = rw length-set (let s = is.all_stored in omega arith);
-  few = let s = is.few in omega arith;
-  within = omega arith;
-  spare = λ b high inside. get-set_other xs n b y (λ same. absurd (omega arith)) ∙ is.spare b (omega arith) (rw length-set at inside);
-}
-
-pub desk_put : (d : DeskFields) (memo : List (Key × ℕ)) (n : ℕ) (m : Key × ℕ) (ys : List StoredBatch) → IsDesk d → IsAdded d.batches n m ys
-    → n ≤ d.prepared.begun → d.prepared.cells < d.max_cells → d.shown_memo ≤ length memo
-    → IsDesk (record d { memo = memo; batches = ys; prepared = with_member d.prepared n; is_prepared = true; touched = min d.touched n })
-desk_put d memo n m ys is added next room left = record {
-  prepared_book
-      = rw (
-        added.is,
-        map-set,
-      )
-      (stored_put d.prepared d.max_cells n (map prepared_batch added.grown) (prepared_batch added.then) grown.prepared_book (rw length-map added.low) next
-      room);
-  shown_book = rw (added.is, map-set_unseen shown_batch added.grown n added.before added.then added.at added.shown) grown.shown_book;
-  memo = left;
-  same = λ b outside x at.
-      let ne : b ≡ n → ⊥ = λ e. elim outside [ inl below ↦ omega arith | inr above ↦ omega arith ] in
-      grown.same b (elim outside [ inl below ↦ inl (omega arith) | inr above ↦ inr (omega arith) ]) x
-      (sym (get-set_other added.grown n b added.then ne) ∙ (let here : slice_get (set added.grown n added.then) b ≡ Some x = rw added.is at at in here));
-  unmarked = λ e. absurd (true≢false e);
-}
-  where
-    grown : IsDesk (record d { memo = memo; batches = added.grown; is_prepared = true })
-    grown = desk_grown d memo added.grown is added.grows left
-
 -- the grown batches are stored as well
 pub stored_grows : (e : Extent) (most : ℕ) (xs grown : List StoredBatch) → IsStored e most (map prepared_batch xs) → MakesRoom xs grown
     → IsStored e most (map prepared_batch grown)
 stored_grows e most xs grown is (inl same) = rw same is
 stored_grows e most xs grown is (inr one) = rw (one, map-append) (stored_grown e most (map prepared_batch xs) is)
+
+shown_grows : (e : Extent) (most : ℕ) (xs grown : List StoredBatch) → IsStored e most (map shown_batch xs) → MakesRoom xs grown
+    → IsStored e most (map shown_batch grown)
+shown_grows e most xs grown is (inl same) = rw same is
+shown_grows e most xs grown is (inr one) = rw (one, map-append) (stored_grown e most (map shown_batch xs) is)
+
+same_grows : (from to : ℕ) (xs grown : List StoredBatch) → Same from to xs → MakesRoom xs grown → Same from to grown
+same_grows from to xs grown same (inl is) = rw is same
+same_grows from to xs grown same (inr one) = rw one (same_grown from to xs same)
+
+pub desk_grown : (d : DeskFields) (tables : Option TableBook) (ys : List StoredBatch) → IsDesk d → MakesRoom d.batches ys
+    → FitTables d.max_batch (both d.shown.begun d.prepared.begun ys) tables → IsDesk (record d { tables = tables; batches = ys; is_prepared = true })
+desk_grown d tables ys is room fit = record {
+  prepared_book = stored_grows d.prepared d.max_cells d.batches ys is.prepared_book room;
+  shown_book = shown_grows d.shown d.max_cells d.batches ys is.shown_book room;
+  later = is.later;
+  tables = fit;
+  memo = is.memo;
+  same = same_grows d.touched d.prepared.begun d.batches ys is.same room;
+  unmarked = λ e. absurd (true≢false e);
+}
+
+-- ---- the batches that are touched
+
+pub touched_grown : (ts : List ℕ) (xs ys : List StoredBatch) → AreTouched ts xs → MakesRoom xs ys → AreTouched ts ys
+touched_grown ts xs ys are (inl same) = rw same are
+touched_grown ts xs ys are (inr one) = rw one (record {
+  within = λ b is. rw length-append (let l = are.within b is in omega arith);
+  same = λ b x at none. elim (cases_lt b (length xs)) [
+    | inl inside ↦ are.same b x (sym (get-append_left xs (blank ∷ []) b inside) ∙ at) none
+    | inr above ↦ elim (cases_eq b (length xs)) [
+      | inl last ↦ let e : ◌≡◌ {A = Option StoredBatch} (Some blank) (Some x) = sym (get-append_last xs blank b last) ∙ at in let is : blank ≡ x = cc in rw (← is) refl
+      | inr past ↦ let none : slice_get (xs ++ blank ∷ []) b ≡ None = slice_get_past (xs ++ blank ∷ []) b (rw length-append (omega arith)) in
+          absurd (let bad : ◌≡◌ {A = Option StoredBatch} None (Some x) = sym none ∙ at in cc)
+    ]
+  ];
+})
+
+-- one batch more is touched
+pub touched_put : (ts : List ℕ) (xs ys : List StoredBatch) (n : ℕ) (m : Key × ℕ) → AreTouched ts xs → IsAdded xs n m ys → AreTouched (ts ++ n ∷ []) ys
+touched_put ts xs ys n m are added = record {
+  within = λ b is. rw (added.is, length-set) (inside b (list_any (nat_eq b) ts) refl (rw (list_any-append (nat_eq b) ts (n ∷ [])) at is));
+  same = λ b x at none.
+      let apart = or_parts (list_any (nat_eq b) ts) (list_any (nat_eq b) (n ∷ [])) (rw (list_any-append (nat_eq b) ts (n ∷ [])) at none) in
+      let other : b ≡ n → ⊥ = λ e. true≢false (sym (rw (eq-eqb b n e) refl) ∙ apart.1) in
+      let here : slice_get (set added.grown n added.then) b ≡ Some x = rw added.is at at in
+      grown.same b x (sym (get-set_other added.grown n b added.then other) ∙ here) apart.0;
+}
+  where
+    grown : AreTouched ts added.grown
+    grown = touched_grown ts xs added.grown are added.grows
+
+    inside : (b : ℕ) (t : Bool) → list_any (nat_eq b) ts ≡ t → (t || list_any (nat_eq b) (n ∷ [])) ≡ true → b < length added.grown
+    inside b true old is = grown.within b old
+    inside b false old is = let e : b ≡ n = one_of b n is in let l = added.low in omega arith
+
+-- ---- one more member
+
+-- how far the batches go with one more member in one of them
+abbrev pub with_member : Extent → ℕ → Extent
+with_member e n = record e { begun = max e.begun (n + 1) }
+
+stored_put : (e : Extent) (most n : ℕ) (xs : List Batch) (y : Batch) → IsStored e most xs → n < length xs → n ≤ e.begun → e.begun < e.cells
+    → IsStored (with_member e n) most (set xs n y)
+stored_put e most n xs y is low next room = record {
+  all_sent = let s = is.all_sent in omega arith;
+  all_stored = rw length-set (let s = is.all_stored in omega arith);
+  few = omega arith;
+  within = is.within;
+  spare = λ b high inside. get-set_other xs n b y (λ same. absurd (omega arith)) ∙ is.spare b (omega arith) (rw length-set at inside);
+}
+
+pub desk_put : (d : DeskFields) (tables : Option TableBook) (n : ℕ) (m : Key × ℕ) (ys : List StoredBatch) → IsDesk d → IsAdded d.batches n m ys
+    → n ≤ d.prepared.begun → d.prepared.begun < d.prepared.cells
+    → FitTables d.max_batch (both d.shown.begun (max d.prepared.begun (n + 1)) ys) tables
+    → IsDesk (record d { tables = tables; batches = ys; prepared = with_member d.prepared n; is_prepared = true; touched = min d.touched n })
+desk_put d tables n m ys is added next room fit = record {
+  prepared_book
+      = rw (
+        added.is,
+        map-set,
+      )
+      (stored_put d.prepared d.max_cells n (map prepared_batch added.grown) (prepared_batch added.then)
+      (stored_grows d.prepared d.max_cells d.batches added.grown is.prepared_book added.grows) (rw length-map added.low) next room);
+  shown_book = rw (added.is, map-set_unseen shown_batch added.grown n added.before added.then added.at added.shown)
+      (shown_grows d.shown d.max_cells d.batches added.grown is.shown_book added.grows);
+  later = let l = is.later in omega arith;
+  tables = fit;
+  memo = is.memo;
+  same = λ b outside x at.
+      let ne : b ≡ n → ⊥ = λ e. elim outside [ inl below ↦ omega arith | inr above ↦ omega arith ] in
+      same_grows d.touched d.prepared.begun d.batches added.grown is.same added.grows b
+      (elim outside [ inl below ↦ inl (omega arith) | inr above ↦ inr (omega arith) ]) x
+      (sym (get-set_other added.grown n b added.then ne) ∙ (let here : slice_get (set added.grown n added.then) b ≡ Some x = rw added.is at at in here));
+  unmarked = λ e. absurd (true≢false e);
+}
 
 -- the members of a batch, of which the next one has none before it is added
 pub grown_members : (xs grown : List StoredBatch) (n : ℕ) (x : StoredBatch) → MakesRoom xs grown → slice_get grown n ≡ Some x → n ≤ length xs

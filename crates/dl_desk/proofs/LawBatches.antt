@@ -1,6 +1,7 @@
 -- Batches are within their limits.
 use Rattle.std.proofs.Common.{◌≡◌, ◌≢◌, ◌∙◌, sym, ap, subst, ℕ, zero, suc, ◌<◌, ◌≤◌, ◌⊎◌, inl, inr, Bool, true, false, not, ◌&&◌, cond, List, [], ◌∷◌, ◌++◌}
-use Rattle.std.proofs.Common.{length, get_or, Option, Some, None, nat_lt, nat_le, bytes_eq, refl, arith}
+use Rattle.std.proofs.Common.{length, get_or, Option, Some, None, unwrap_or, nat_lt, nat_le, bytes_eq, refl, arith}
+use Rattle.std.specs.Map.{lookup}
 use Rattle.std.specs.List.{All, AllPairs}
 use Rattle.std.proofs.lemmas.Bool.{and_parts, not-true, eqb-true, ltb-true}
 use Rattle.std.proofs.lemmas.Bool.Decides.{nat_tests}
@@ -10,7 +11,8 @@ use Rattle.std.proofs.lemmas.List.Folds.{list_any_at}
 use Rattle.std.proofs.lemmas.List.Quantifiers.{all_pairs_push}
 use Rattle.std.proofs.lemmas.Slice.Eq.{bytes_eq-Decides}
 use Rattle.dl_values.specs.Key.{Key, key_eq}
-use Rattle.dl_values.specs.Limits.{Rules, limit_by, limit_of}
+use Rattle.dl_values.specs.Limits.{Limits, AreLimits, Rules, by_table, limit_by, limit_of}
+use Rattle.dl_values.specs.TableLimits.{AreTableLimits}
 use Rattle.dl_desk.specs.Laws.{HaveLimits, AreOfOneTable, IsBatch, BatchesAreWithinLimits}
 use Rattle.dl_desk.specs.History.{Atom, Begun, begins, is_number, add_member, members, begun, is_named, sent, has_member, serves_by, serves, greatest}
 use Rattle.dl_desk.specs.History.{is_open, room_in, room, IsAnswered, IsLegal}
@@ -96,7 +98,7 @@ passes_step : (test : ℕ → Bool) (n b : ℕ) (t : Bool) → test n ≡ t → 
 passes_step test n b true is below e = let same : ◌≡◌ {A = Option ℕ} (Some n) (Some b) = e in let eq : n ≡ b = cc in ap test (sym eq) ∙ is
 passes_step test n b false is below e = below e
 
-greatest-passes : (test : ℕ → Bool) (n b : ℕ) → greatest test n ≡ Some b → test b ≡ true
+pub greatest-passes : (test : ℕ → Bool) (n b : ℕ) → greatest test n ≡ Some b → test b ≡ true
 greatest-passes test zero b is = absurd (let bad : ◌≡◌ {A = Option ℕ} None (Some b) = is in cc)
 greatest-passes test (suc n) b is = passes_step test n b (test n) refl (greatest-passes test n b) is
 
@@ -168,3 +170,11 @@ batches_are_within_limits rules limits [] legal b = record {
     empty (Some tables) = λ i j d low high. absurd (omega arith)
 batches_are_within_limits rules limits (a ∷ history) legal b = atom_step rules history a b (begins a) limits legal.1 legal.0 refl
     (batches_are_within_limits rules limits history legal.1 b)
+
+-- limits are at least 1, the tables' own too
+pub have_limits : (limits : Limits) (tables : List (List ℕ × ℕ)) → AreLimits limits → AreTableLimits tables → HaveLimits (by_table limits tables)
+have_limits limits tables are own = record { least = λ table. each table (lookup (bytes_eq table) tables) refl }
+  where
+    each : (table : List ℕ) (o : Option ℕ) → lookup (bytes_eq table) tables ≡ o → 1 ≤ unwrap_or o limits.max_batch
+    each table None is = are.batch.least
+    each table (Some n) is = (own table n is).least

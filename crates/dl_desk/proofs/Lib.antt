@@ -7,8 +7,10 @@ pub mod OpenBatch
 pub mod DispatchJobs
 pub mod Steps
 pub mod Tails
+pub mod TableLemmas
 pub mod FieldMarks
 pub mod TwoBooks
+pub mod TableJoins
 pub mod Counts
 pub mod Loads
 pub mod EndLemmas

@@ -10,7 +10,7 @@ use Rattle.dl_desk.proofs.Facts.{greatest-below}
 pub members_at-are : (book : BatchBook) (history : List Atom) → StandsFor book history → (b : ℕ) → b < begun history → members_at book b ≡ members history b
 members_at-are book history stands b low = rw (stands.batches b low) refl
 
-greatest-same : (f g : ℕ → Bool) (n : ℕ) → ((b : ℕ) → b < n → f b ≡ g b) → greatest f n ≡ greatest g n
+pub greatest-same : (f g : ℕ → Bool) (n : ℕ) → ((b : ℕ) → b < n → f b ≡ g b) → greatest f n ≡ greatest g n
 greatest-same f g zero same = refl
 greatest-same f g (suc n) same = rw (same n (omega arith), greatest-same f g n (λ b low. same b (omega arith))) refl
 

@@ -30,7 +30,7 @@ map-set_unseen f (z ∷ xs) (suc n) x y at same = rw (map-set_unseen f xs n x y 
 
 -- ---- ranges
 
-same_each : (xs : List StoredBatch) → ((b : ℕ) (x : StoredBatch) → slice_get xs b ≡ Some x → shown_batch x ≡ prepared_batch x) → map shown_batch xs ≡ map prepared_batch xs
+pub same_each : (xs : List StoredBatch) → ((b : ℕ) (x : StoredBatch) → slice_get xs b ≡ Some x → shown_batch x ≡ prepared_batch x) → map shown_batch xs ≡ map prepared_batch xs
 same_each [] each = refl
 same_each (x ∷ xs) each = rw (each 0 x refl, same_each xs (λ b. each (suc b))) refl
 

@@ -2,7 +2,7 @@
 use Rattle.std.specs.Prelude.{◌≡◌, ◌≢◌, ℕ, ◌≤◌, true, List, ◌∷◌, ◌++◌, length, Option, Some, None, All, AllPairs}
 use Rattle.std.specs.List.{list_any}
 use Rattle.dl_values.specs.Key.{Key}
-use Rattle.dl_values.specs.Limits.{Rules, limit_of}
+use Rattle.dl_values.specs.Limits.{Limits, Rules, by_table, limit_of}
 use Rattle.dl_desk.specs.History.{Atom, Load, IsLegal, members, forgets}
 use Rattle.dl_desk.specs.Events.{Event, IsLegalPast, ended, outcome}
 use Rattle.dl_desk.specs.declared.reply.LoadReply.TheVariants.{Fresh}
@@ -35,6 +35,11 @@ pub record IsBatch (rules : Rules) (ms : List (Key × ℕ)) : Type 0 where
 abbrev pub BatchesAreWithinLimits : Type 0
 BatchesAreWithinLimits = (rules : Rules) → HaveLimits rules → (history : List Atom) → IsLegal rules history → (batch : ℕ)
     → IsBatch rules (members history batch)
+
+-- where each batch is of one table, a batch has distinct keys, all of one table, and no more than the limit of that table
+abbrev pub BatchesByTableAreWithinLimits : Limits → List (List ℕ × ℕ) → Type 0
+BatchesByTableAreWithinLimits limits tables = (history : List Atom) → IsLegal (by_table limits tables) history → (batch : ℕ)
+    → IsBatch (by_table limits tables) (members history batch)
 
 -- a cell that was ended keeps the place of its end in every longer past
 abbrev pub EndsStay : Type 0

@@ -1,14 +1,17 @@
 -- What holds of the fields of a desk: of what is shown, of what is prepared, and of both.
-use Rattle.std.specs.Prelude.{◌≡◌, ℕ, Bool, false, ◌<◌, ◌≤◌, List, [], ◌∷◌, ◌++◌, ◌⊎◌, length, map, set, slice_get, Some}
+use Rattle.std.specs.Prelude.{◌≡◌, ℕ, Bool, false, ◌<◌, ◌≤◌, List, [], ◌∷◌, ◌++◌, ◌⊎◌, length, map, set, slice_get, Option, Some}
 use Rattle.dl_values.specs.Key.{Key}
 use Rattle.dl_desk.specs.StoredBatch.{StoredBatch, blank}
 use Rattle.dl_desk.specs.BatchBook.{Batch}
 use Rattle.dl_desk.specs.Preparation.{prepared_batch, shown_batch, empty, Same}
+use Rattle.dl_desk.specs.TableBook.{TableBook, FitTables, both}
 use Rattle.dl_desk.specs.declared.desk.Extent.{Extent}
 
 -- the fields of a desk that its two books are read from
 pub record DeskFields : Type 0 where
+  pub max_batch : ℕ
   pub max_cells : ℕ
+  pub tables : Option TableBook
   pub memo : List (Key × ℕ)
   pub batches : List StoredBatch
   pub prepared : Extent
@@ -31,11 +34,13 @@ pub record IsShown (d : DeskFields) : Type 0 where
   pub all_memo : length d.memo ≡ d.shown_memo
   pub none_touched : d.touched ≡ d.prepared.begun
 
--- Both books are stored rightly, what is shown of the memo is there, nothing is prepared in batches that are not
--- touched, and without the mark nothing is prepared at all.
+-- Both books are stored rightly, what is kept of tables tells of both, what is shown of the memo is there, nothing is
+-- prepared in batches that are not touched, and without the mark nothing is prepared at all.
 pub record IsDesk (d : DeskFields) : Type 0 where
   pub prepared_book : IsStored d.prepared d.max_cells (map prepared_batch d.batches)
   pub shown_book : IsStored d.shown d.max_cells (map shown_batch d.batches)
+  pub later : d.shown.begun ≤ d.prepared.begun
+  pub tables : FitTables d.max_batch (both d.shown.begun d.prepared.begun d.batches) d.tables
   pub memo : d.shown_memo ≤ length d.memo
   pub same : Same d.touched d.prepared.begun d.batches
   pub unmarked : d.is_prepared ≡ false → IsShown d

@@ -78,6 +78,11 @@ pub record Begins (old : BatchBook) (k : Key) (batch : Option ℕ) (new : BatchB
   pub memo : (q : Key) → lookup (key_eq q) new.memo ≡ (if key_eq k q then Some old.cells else lookup (key_eq q) old.memo)
   pub batches : new.batches ≡ put_in old.batches batch (k, old.cells)
 
+-- a member of the key was put into the batch that has room for it
+pub record Joins (old : BatchBook) (k : Key) (cell batch : ℕ) (new : BatchBook) : Type 0 where
+  pub room : batch ≡ book_room old k
+  pub book : new ≡ record old { batches = put_member old.batches batch (k, cell) }
+
 -- the load of a key makes this of a book, and has this reply
 abbrev pub Puts : BatchBook → Key → LoadReply → BatchBook → Type 0
 Puts old k (Hit cell) new = (lookup (key_eq k) old.memo ≡ Some cell) × (new ≡ old)

@@ -1,5 +1,5 @@
 -- A batch as a desk stores it.
-use Rattle.std.specs.Prelude.{ℕ, List, [], Option, None}
+use Rattle.std.specs.Prelude.{ℕ, List, [], ◌∷◌, Option, None, Bool, false, bytes_eq}
 use Rattle.dl_values.specs.Key.{Key}
 use Rattle.dl_desk.specs.declared.reply.End.{End}
 
@@ -13,3 +13,8 @@ pub record StoredBatch : Type 0 where
 -- a batch with no members
 abbrev pub blank : StoredBatch
 blank = record { members = []; seen = 0; end = None }
+
+-- whether the first key is of the table
+abbrev pub is_first_of : List ℕ → List Key → Bool
+is_first_of table [] = false
+is_first_of table (k ∷ ks) = bytes_eq table k.table

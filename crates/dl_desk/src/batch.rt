@@ -2,8 +2,8 @@
 
 ghost use Rattle.std.specs.Prelude.{◌≡◌, Some, Ok, true, false, not, ◌<◌, slice_get, [], ◌∷◌, ◌++◌, length, take, map, OnErr, IfOk};
 ghost use Rattle.std.specs.List.{zip};
-ghost use Rattle.dl_desk.specs.History.{has_member};
-ghost use Rattle.dl_desk.specs.StoredBatch.{StoredBatch, blank};
+ghost use Rattle.dl_desk.specs.History.{has_member, is_of_table};
+ghost use Rattle.dl_desk.specs.StoredBatch.{StoredBatch, blank, is_first_of};
 ghost use Rattle.dl_desk.specs.Preparation.{prepared_batch, shown_batch};
 
 use crate::reply::End;
@@ -71,6 +71,20 @@ impl StoredBatch {
         (&keys[place], self.cells[place])
     }
 
+    /// Whether the first member is of the table.
+    pub(crate) fn is_of(&self, table: &str) -> bool
+        ensures { result ≡ is_of_table table.now self.now.members }
+    {
+        is_first_of(self.keys.as_slice(), table)
+    }
+
+    /// Whether the first member that is shown is of the table.
+    pub(crate) fn is_shown_of(&self, table: &str) -> bool
+        ensures { result ≡ is_of_table table.now (shown_batch self.now).members }
+    {
+        is_first_of(self.shown().0, table)
+    }
+
     /// How the batch ended, if it did.
     pub(crate) fn ended(&self) -> Option<End>
         ensures { result ≡ self.now.end }
@@ -127,5 +141,15 @@ impl StoredBatch {
     {
         let keys = self.keys.as_slice();
         (&keys[..self.seen], &self.cells[..self.seen])
+    }
+}
+
+/// Whether the first key is of the table.
+fn is_first_of(keys: &[FetchKey], table: &str) -> bool
+    ensures { result ≡ is_first_of table.now keys.now }
+{
+    match keys.first() {
+        Some(key) => table == key.table(),
+        None => false,
     }
 }

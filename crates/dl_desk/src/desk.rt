@@ -1,14 +1,15 @@
 //! The desk: one loader, for one thread.
 
-ghost use Rattle.std.specs.Prelude.{◌≡◌, ◌<◌, ◌≤◌, ◌-◌, if◌then◌else◌, None, [], ◌∷◌, ◌++◌, length, map, take, vec_len, false, IfOk, IfErr, OnOk, OnErr};
+ghost use Rattle.std.specs.Prelude.{◌≡◌, ◌<◌, ◌≤◌, ◌-◌, if◌then◌else◌, None, Some, [], ◌∷◌, ◌++◌, length, map, take, vec_len, false, IfOk, IfErr, OnOk, OnErr};
 ghost use Rattle.std.specs.Prelude.{slice_get, nat_le, IsTrue};
 ghost use Rattle.std.specs.Prelude.{List};
 ghost use Rattle.std.specs.Map.{lookup};
 ghost use Rattle.dl_values.specs.Key.{Key, key_eq};
-ghost use Rattle.dl_values.specs.Limits.{mixed};
+ghost use Rattle.dl_values.specs.Limits.{mixed, by_table};
 ghost use Rattle.dl_desk.specs.History.{Atom, Load, Prime, has_member, load_reply, prime_reply};
 ghost use Rattle.dl_desk.specs.BatchBook.{StandsFor};
-ghost use Rattle.dl_desk.specs.Preparation.{members_at, has_room_in, book_room, book_jobs, Puts, PutsAlone, RefusesStep};
+ghost use Rattle.dl_desk.specs.TableBook.{rules_of, AreNoTables};
+ghost use Rattle.dl_desk.specs.Preparation.{members_at, has_room_in, book_room, book_jobs, Joins, Puts, PutsAlone, RefusesStep};
 
 mod batch_view;
 mod calls;
@@ -19,8 +20,9 @@ use crate::batch::StoredBatch;
 use crate::fault::DeskFault;
 use crate::memo_and_batches::{self, BatchChoice};
 use crate::reply::{DeskPrime, LoadReply};
+use crate::table_book::{self, BatchMeans, Standing, TableBook};
 pub use batch_view::BatchView;
-use dl_values::{FetchKey, Job, Keys, Limits};
+use dl_values::{FetchKey, Job, Keys, Limits, TableLimits};
 use indexmap::IndexMap;
 use std::alloc::{AllocError, Global};
 use std::hash::RandomState;
@@ -29,9 +31,9 @@ use std::marker::Model;
 /// How far a desk has come: batches begun, batches sent, cells begun.
 #[derive(Clone, Copy)]
 pub(crate) struct Extent {
-    begun: u32,
-    sent: u32,
-    cells: u32,
+    pub(crate) begun: u32,
+    pub(crate) sent: u32,
+    pub(crate) cells: u32,
 }
 
 /// The loader of one thread: it holds a cell for each key that was loaded or primed, and collects
@@ -41,8 +43,24 @@ pub(crate) struct Extent {
 /// A call is prepared first, by allocations and steps that nobody sees, and then shown by moving
 /// marks, so that a refused call leaves the desk as it was. What was prepared and not shown is
 /// taken back by the next call that changes the desk.
+///
+/// # Examples
+/// A key is loaded twice and fetched once, from `crates/example_one_thread`:
+///
+/// ```rust
+/// let mut desk = Desk::new(alloc, hashing, Limits::new(64, 1_024, 4_096)?);
+/// let user = FetchKey::new(alloc, "user", "u1")?;
+/// println!(rt; "{:?}", desk.load(alloc, &user)?)?;
+/// println!(rt; "{:?}", desk.load(alloc, &user)?)?;
+/// for job in &desk.dispatch(alloc)? {
+///     println!(rt; "batch {} of {} keys", job.batch, job.keys.as_slice().len())?;
+///     desk.settle(job.batch)?;
+/// }
+/// ```
 pub struct Desk {
     limits: Limits,
+    // Where each batch is of one table.
+    tables: Option<TableBook>,
     memo: IndexMap<FetchKey, u32, RandomState>,
     batches: Vec<StoredBatch>,
     prepared: Extent,
@@ -58,6 +76,7 @@ impl Drop for Desk {
     fn drop(self) {
         let Desk {
             limits: _,
+            tables,
             memo,
             batches,
             prepared: _,
@@ -66,6 +85,7 @@ impl Drop for Desk {
             is_prepared: _,
             touched: _,
         } = self;
+        drop(tables);
         drop(memo);
         drop(batches);
     }
@@ -73,23 +93,23 @@ impl Drop for Desk {
 
 impl Model for Desk {
     ghost use Rattle.std.specs.Prelude.{take, map};
-    ghost use Rattle.dl_values.specs.Limits.{mixed};
     ghost use Rattle.dl_desk.specs.BatchBook.{Desk};
     ghost use Rattle.dl_desk.specs.Preparation.{prepared_batch, shown_batch};
+    ghost use Rattle.dl_desk.specs.TableBook.{rules_of};
     ghost use Rattle.dl_desk.specs.Marks.{IsDesk};
 
     ghost Value = { Desk };
 
     ghost view = { λ d. record {
       book = record {
-        rules = mixed d.limits;
+        rules = rules_of d.limits d.tables;
         cells = d.shown.cells;
         sent = d.shown.sent;
         memo = take d.shown_memo d.memo.entries;
         batches = take d.shown.begun (map shown_batch d.batches.items);
       };
       prepared = record {
-        rules = mixed d.limits;
+        rules = rules_of d.limits d.tables;
         cells = d.prepared.cells;
         sent = d.prepared.sent;
         memo = d.memo.entries;
@@ -98,7 +118,9 @@ impl Model for Desk {
     } };
 
     ghost invariant = { λ d. IsDesk (record {
+      max_batch = d.limits.max_batch;
       max_cells = d.limits.max_cells;
+      tables = d.tables;
       memo = d.memo.entries;
       batches = d.batches.items;
       prepared = d.prepared;
@@ -116,6 +138,29 @@ impl Desk {
         ensures rules { result.book.rules ≡ mixed limits }
         ensures stands { StandsFor result.book [] }
     {
+        Desk::of(alloc, hashing, limits, None)
+    }
+
+    /// A desk with an empty history, each of whose batches is of one table, and has at most as many keys as the limit of
+    /// that table, or else `max_batch` of the limits. It hashes keys by `hashing`, as in [`new`](Desk::new).
+    pub fn by_table(
+        alloc: Global,
+        hashing: RandomState,
+        limits: Limits,
+        tables: TableLimits,
+    ) -> Desk
+        ensures rules { result.book.rules ≡ by_table limits tables }
+        ensures stands { StandsFor result.book [] }
+    {
+        let tables = TableBook::new(alloc, tables);
+        Desk::of(alloc, hashing, limits, Some(tables))
+    }
+
+    fn of(alloc: Global, hashing: RandomState, limits: Limits, tables: Option<TableBook>) -> Desk
+        requires { AreNoTables tables }
+        ensures rules { result.book.rules ≡ rules_of limits tables }
+        ensures stands { StandsFor result.book [] }
+    {
         let start = Extent {
             begun: 0,
             sent: 0,
@@ -123,6 +168,7 @@ impl Desk {
         };
         Desk {
             limits,
+            tables,
             memo: IndexMap::with_hasher(alloc, hashing),
             batches: Vec::new(alloc),
             prepared: start,
@@ -152,7 +198,8 @@ impl Desk {
         ensures within { self.new.prepared.cells ≤ self.new.prepared.rules.limits.max_cells }
     {
         self.memo.truncate(self.shown_memo);
-        memo_and_batches::cut(
+        table_book::cut(
+            &mut self.tables,
             &mut self.batches,
             self.touched as usize,
             self.prepared.begun as usize,
@@ -187,7 +234,8 @@ impl Desk {
         ensures book { self.new.book ≡ self.old.prepared }
         ensures prepared { self.new.prepared ≡ self.old.prepared }
     {
-        memo_and_batches::show(
+        table_book::show(
+            &mut self.tables,
             &mut self.batches,
             self.touched as usize,
             self.prepared.begun as usize,
@@ -225,6 +273,7 @@ impl Desk {
     /// The batch that takes the next member, with what is prepared, where no member of it has the key: the last one
     /// that was begun, if it is open, and else the next one.
     fn newest(&self) -> u32
+        requires { self.now.prepared.rules.tables ≡ None }
         ensures low { result ≤ length self.now.prepared.batches }
         ensures room { (k : Key)
             → (if has_member (members_at self.now.prepared result) k then length self.now.prepared.batches else result) ≡ book_room self.now.prepared k }
@@ -235,6 +284,64 @@ impl Desk {
         } else {
             next
         }
+    }
+
+    /// Prepares a member of the key in the batch that has room for it, and answers which. The error is a failed
+    /// allocation, and part of the step may be prepared then.
+    // Inlined, as is the next one, so that batches that may mix tables cost nothing more for those of one table.
+    #[inline(always)]
+    fn join(&mut self, alloc: Global, key: &FetchKey, cell: u32) -> Result<u32, AllocError>
+        requires next { length self.old.prepared.batches < self.old.prepared.cells }
+        ensures book { self.new.book ≡ self.old.book }
+        ensures rules { self.new.prepared.rules ≡ self.old.prepared.rules }
+        ensures joins { IfOk result (λ batch. Joins self.old.prepared key.now cell batch self.new.prepared) }
+    {
+        self.is_prepared = true;
+        let hashing = *self.memo.hasher();
+        let Some(tables) = &mut self.tables else {
+            return self.join_newest(alloc, key, cell);
+        };
+        let batch = tables.join(
+            &mut self.batches,
+            BatchMeans { alloc, hashing },
+            Standing {
+                limits: self.limits,
+                prepared: self.prepared,
+                shown: self.shown,
+            },
+            key,
+            cell,
+        )?;
+        self.touched = self.touched.min(batch);
+        self.prepared.begun = self.prepared.begun.max(batch + 1);
+        Ok(batch)
+    }
+
+    /// The same, where batches may mix tables.
+    #[inline(always)]
+    fn join_newest(&mut self, alloc: Global, key: &FetchKey, cell: u32) -> Result<u32, AllocError>
+        requires mixes { self.old.prepared.rules.tables ≡ None }
+        requires next { length self.old.prepared.batches < self.old.prepared.cells }
+        ensures book { self.new.book ≡ self.old.book }
+        ensures rules { self.new.prepared.rules ≡ self.old.prepared.rules }
+        ensures joins { IfOk result (λ batch. Joins self.old.prepared key.now cell batch self.new.prepared) }
+    {
+        self.is_prepared = true;
+        let newest = self.newest();
+        let batch = memo_and_batches::join(
+            &mut self.batches,
+            alloc,
+            *self.memo.hasher(),
+            BatchChoice {
+                newest,
+                next: self.prepared.begun,
+            },
+            key,
+            cell,
+        )?;
+        self.touched = self.touched.min(batch);
+        self.prepared.begun = self.prepared.begun.max(batch + 1);
+        Ok(batch)
     }
 
     /// Prepares the load of one more key, where more cells may be begun. The error is a failed allocation, and part of
@@ -252,21 +359,8 @@ impl Desk {
             return Ok(LoadReply::Hit(held));
         }
         self.is_prepared = true;
-        let newest = self.newest();
-        let batch = memo_and_batches::join(
-            &mut self.batches,
-            alloc,
-            *self.memo.hasher(),
-            BatchChoice {
-                newest,
-                next: self.prepared.begun,
-            },
-            key,
-            cell,
-        )?;
-        self.touched = self.touched.min(batch);
-        self.prepared.begun = self.prepared.begun.max(batch + 1);
         self.prepared.cells += 1;
+        let batch = self.join(alloc, key, cell)?;
         Ok(LoadReply::Fresh { cell, batch })
     }
 

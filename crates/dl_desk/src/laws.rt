@@ -1,7 +1,9 @@
 //! Laws of the definitions, for every legal history. Each function does nothing: its contract is the
 //! law.
 
-ghost use Rattle.dl_desk.specs.Laws.{FreshLoadsAreApart, BatchesAreWithinLimits, EndsStay, OutcomesStay};
+ghost use Rattle.dl_desk.specs.Laws.{FreshLoadsAreApart, BatchesAreWithinLimits, BatchesByTableAreWithinLimits, EndsStay, OutcomesStay};
+
+use dl_values::{Limits, TableLimits};
 
 /// Between two fresh loads of one key something forgets the key: a clear of it, a clear of all, or the
 /// failure of the first one's batch.
@@ -14,6 +16,15 @@ pub fn fresh_loads_are_apart()
 pub fn batches_are_within_limits()
     ensures { BatchesAreWithinLimits }
 {}
+
+/// Where each batch is of one table, the members of a batch have distinct keys, are of one table, and are no more than the
+/// limit of that table, or than `max_batch` where it has none of its own.
+pub fn batches_by_table_are_within_limits(limits: &Limits, tables: &TableLimits)
+    ensures { BatchesByTableAreWithinLimits limits.now tables.now }
+{
+    let _ = limits.max_batch();
+    tables.keeps();
+}
 
 /// A cell that was ended keeps the place of its end, whatever is called after.
 pub fn ends_stay()

@@ -12,11 +12,13 @@ pub mod laws;
 mod memo_and_batches;
 mod ready;
 mod reply;
+mod table_book;
 
 pub use desk::{BatchView, Desk};
 pub use dl_values::{
     BatchAnswer, BatchFault, FetchKey, ID_BYTES, Job, Json, KeyFault, Keys, LARGEST_LIMIT,
-    LimitFault, Limits, List, Message, Outcome, Outcomes, TABLE_BYTES, Text, has_float,
+    LimitFault, Limits, List, Message, Outcome, Outcomes, TABLE_BYTES, TableLimit, TableLimitFault,
+    TableLimits, Text, has_float,
 };
 pub use fault::DeskFault;
 pub use ready::Ready;

@@ -43,7 +43,7 @@ pub enum DeskReply {
 /// How far a batch has come.
 #[derive(Clone, Copy, Debug, PartialEq, Eq)]
 pub enum BatchState {
-    /// It isn't sent, and takes members while it is the last one and has room.
+    /// It isn't sent, and takes members while it has room and is the last one, or the last one of its table.
     Collecting,
     /// It is sent, and has not ended.
     Sent,

@@ -1,5 +1,5 @@
 -- A document has no member that its kind doesn't have.
-use Rattle.std.proofs.Common.{◌≡◌, ℕ, List, Bool, true, false, Option, Some, None, refl, sym, ap, ◌∙◌, true≢false}
+use Rattle.std.proofs.Common.{◌≡◌, ℕ, List, Bool, true, false, codes, Option, Some, None, refl, sym, ap, ◌∙◌, true≢false}
 use Rattle.std.specs.Option.{option_and_then}
 use Rattle.std.proofs.Common.{Ordering, Less, Equal, Greater}
 use Rattle.std.specs.Ordering.{nat_cmp, match_ordering, is_eq}
@@ -11,6 +11,8 @@ use Rattle.serde_json.specs.Data.{Data, null, boolean, number, string, array, ob
 use Rattle.serde_json.specs.Find.{get, get_member, as_array}
 use Rattle.dl_source.specs.Spelling.{names_all, has_only}
 use Rattle.dl_documents.specs.Document.{is_script, is_known, has_only_known, items_at}
+use Rattle.dl_documents.specs.declared.head.Version.{Version}
+use Rattle.dl_documents.specs.declared.head.Version.TheVariants.{First, Second}
 use Rattle.dl_documents.proofs.Findings.{both_true}
 
 at_order : (name : List ℕ) (d : Data) (ms : Members) (o : Ordering) → (is_eq o ≡ true → ⊥) → get_member name ms ≡ None
@@ -36,13 +38,23 @@ absent test name (string s) all is = refl
 absent test name (array ds) all is = refl
 absent test name (object ms) all is = member_absent test name ms all is
 
--- a name that isn't known to the kind
-pub unknown : (d : Data) (kind : Bool) (name : List ℕ) → is_script d ≡ kind → has_only_known d ≡ true → is_known kind name ≡ false → get name d ≡ None
-unknown d kind name is all other = absent (is_known (is_script d)) name d all (ap (λ (b : Bool). is_known b name) is ∙ other)
+module _ (d : Data) (kind : Bool) (v : Version) (name : List ℕ) (is : is_script d ≡ kind) (all : has_only_known v d ≡ true) (other : is_known kind v name ≡ false) where
+  -- a name that isn't known to the kind and the version
+  pub unknown : get name d ≡ None
+  unknown = absent (is_known (is_script d) v) name d all (ap (λ (b : Bool). is_known b v name) is ∙ other)
 
--- and no list is found under it
-pub no_list : (d : Data) (kind : Bool) (name : List ℕ) (ds : Items) → is_script d ≡ kind → has_only_known d ≡ true → is_known kind name ≡ false
-    → items_at name d ≡ Some ds → ⊥
-no_list d kind name ds is all other there =
-    let none : items_at name d ≡ None = ap (λ (o : Option Data). option_and_then as_array o) (unknown d kind name is all other) in
-    none-some ds (sym none ∙ there)
+  -- and no list is found under it
+  pub no_list : (ds : Items) → items_at name d ≡ Some ds → ⊥
+  no_list ds there =
+      let none : items_at name d ≡ None = ap (λ (o : Option Data). option_and_then as_array o) unknown in
+      none-some ds (sym none ∙ there)
+
+-- ---- names that a script of neither version knows
+
+pub no_plans : (v : Version) → is_known true v (codes "plans") ≡ false
+no_plans First = refl
+no_plans Second = refl
+
+pub no_tables : (v : Version) → is_known true v (codes "tables") ≡ false
+no_tables First = refl
+no_tables Second = refl

@@ -10,7 +10,10 @@ pub mod ListSpelling
 pub mod Positions
 pub mod Heights
 pub mod Readings
+pub mod Versions
 pub mod KnownMembers
+pub mod AsLimits
+pub mod OwnNumbers
 pub mod Order
 pub mod LimitVerdicts
 pub mod ScriptVerdicts

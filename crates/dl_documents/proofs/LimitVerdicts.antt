@@ -1,17 +1,23 @@
 -- The verdicts on limits, of either kind of document.
-use Rattle.std.proofs.Common.{◌≡◌, inl, inr, ℕ, ◌<◌, ℤ, pos, List, codes, Some, refl, sym, ◌∙◌, arith}
+use Rattle.std.proofs.Common.{◌≡◌, inl, inr, ℕ, ◌<◌, ℤ, pos, List, codes, Some, refl, sym, ap, ◌∙◌, arith}
 use Rattle.std.proofs.lemmas.Option.{same_Some}
+use Rattle.std.specs.List.{slice_get}
 use Rattle.serde_json.specs.Data.{Data}
 use Rattle.dl_values.specs.Limits.{Limits}
 use Rattle.dl_values.specs.declared.fault.LimitFault.{LimitFault}
 use Rattle.dl_values.specs.declared.fault.LimitFault.TheVariants.{BatchLimit, CellLimit, CallLimit}
+use Rattle.dl_source.specs.declared.table_number.TableNumber.{TableNumber}
 use Rattle.dl_documents.specs.Document.{GivesLimits, number_at}
-use Rattle.dl_documents.specs.Faults.{limit_name, limit_number, IsBadLimit, Causes, number, place, IsEarlier, IsLeast}
+use Rattle.dl_documents.specs.Faults.{limit_name, limit_number, IsBadLimit, GivesNumbers, HasOutside, IsBadNumber, AtTop, OfTable}
+use Rattle.dl_documents.specs.Faults.{Causes, number, place, IsEarlier, IsLeast}
+use Rattle.dl_documents.specs.Inside.OwnLimits.{AreInside, IsRefusedNumber, TableOutside, TopOutside}
 use Rattle.dl_documents.specs.Numbers.{AreGiven, AreLimitsOf, IsInside, IsFirstOutside}
 use Rattle.dl_documents.specs.declared.fault.PlanFault.{PlanFault}
 use Rattle.dl_documents.specs.declared.fault.PlanFault.TheVariants.{Limit}
 use Rattle.dl_documents.specs.declared.limits.Numbers.{Numbers}
+use Rattle.dl_documents.proofs.ListSpelling.{all_at}
 use Rattle.dl_documents.proofs.Order.{Clear, clear_limits, least_of}
+use Rattle.dl_documents.proofs.OwnNumbers.{GivesOnly}
 
 inside : (name : List ℕ) (d : Data) (z : ℤ) → number_at name d ≡ Some z → IsInside z → IsBadLimit name d → ⊥
 inside name d z e is bad =
@@ -38,15 +44,34 @@ before_outside d n CellLimit CellLimit given out less bad = omega arith
 before_outside d n CellLimit CallLimit given out less bad = omega arith
 before_outside d n CallLimit CallLimit given out less bad = omega arith
 
-earlier_limit : (d : Data) (n : Numbers) (l : LimitFault) → AreGiven d n → IsFirstOutside n l
-    → (g : PlanFault) → number g ≡ 10 → IsEarlier (place g) (limit_number l, 0) → Causes d g → ⊥
-earlier_limit d n l given out (Limit m) same (inl less) h = before_outside d n l m given out less h
-earlier_limit d n l given out (Limit m) same (inr more) h = let k : 0 < 0 = more.1 in omega arith
-earlier_limit d n l given out g same early h = omega arith
+-- where each number is a limit no other that the document gives tables is none
+none_outside : (d : Data) (ns ms : List TableNumber) → GivesOnly d ns → AreInside ns → GivesNumbers d ms → HasOutside ms → ⊥
+none_outside d ns ms only all gives out =
+    let there : slice_get ns out.0 ≡ Some out.1 = ap (λ (ts : List TableNumber). slice_get ts out.0) (sym (only ms gives)) ∙ out.2 in
+    let is : IsInside out.1.number = all_at (λ (n : TableNumber). IsInside n.number) ns out.0 out.1 all there in
+    out.3 is.0 is.2 is.1
 
--- the first number that is no limit is the refusal, where nothing before is one
-pub least_limit : (d : Data) (n : Numbers) (l : LimitFault) → Clear d 10 → AreGiven d n → IsFirstOutside n l → IsLeast (Causes d) (Limit l)
-least_limit d n l low given out = least_of d (Limit l) (outside_applies d n l given out) low (earlier_limit d n l given out)
+module _ (d : Data) (n : Numbers) (ns : List TableNumber) (low : Clear d 10) (given : AreGiven d n) where
+  earlier_limit : (l : LimitFault) → GivesOnly d ns → AreInside ns → IsFirstOutside n l
+      → (g : PlanFault) → number g ≡ 10 → IsEarlier (place g) (limit_number l, 0) → Causes d g → ⊥
+  earlier_limit l only all out (Limit m) same (inl less) (AtTop bad) = before_outside d n l m given out less bad
+  earlier_limit l only all out (Limit m) same (inl less) (OfTable is ms gives bad) = none_outside d ns ms only all gives bad
+  earlier_limit l only all out (Limit m) same (inr more) h = let k : 0 < 0 = more.1 in omega arith
+  earlier_limit l only all out g same early h = omega arith
+
+  -- nothing comes before the limit of batches
+  first_limit : (g : PlanFault) → number g ≡ 10 → IsEarlier (place g) (1, 0) → Causes d g → ⊥
+  first_limit (Limit BatchLimit) same (inl less) h = omega arith
+  first_limit (Limit CellLimit) same (inl less) h = omega arith
+  first_limit (Limit CallLimit) same (inl less) h = omega arith
+  first_limit (Limit m) same (inr more) h = let k : 0 < 0 = more.1 in omega arith
+  first_limit g same early h = omega arith
+
+  -- the first number that is no limit is the refusal, where nothing before is one
+  pub least_limit : GivesNumbers d ns → GivesOnly d ns → (f : PlanFault) → IsRefusedNumber n ns f → IsLeast (Causes d) f
+  least_limit gives only f (TableOutside is out) = rw is (least_of d (Limit BatchLimit) (OfTable refl ns gives out) low first_limit)
+  least_limit gives only f (TopOutside l is all out) =
+      rw is (least_of d (Limit l) (AtTop (outside_applies d n l given out)) low (earlier_limit l only all out))
 
 -- ---- the limits that are given
 
@@ -69,5 +94,9 @@ given_inside d l gives BatchLimit bad = inside (codes "maxBatchSize") d (pos l.m
 given_inside d l gives CellLimit bad = inside (codes "maxCells") d (pos l.max_cells) gives.cells.number (l.max_cells, refl, gives.cells.limit) bad
 given_inside d l gives CallLimit bad = inside (codes "maxCalls") d (pos l.max_calls) gives.calls.number (l.max_calls, refl, gives.calls.limit) bad
 
-pub clear_given : (d : Data) (l : Limits) → GivesLimits d l → Clear d 10 → Clear d 11
-clear_given d l gives low = clear_limits d low (given_inside d l gives)
+pub clear_given : (d : Data) (l : Limits) (ns : List TableNumber) → GivesLimits d l → GivesOnly d ns → AreInside ns → Clear d 10 → Clear d 11
+clear_given d l ns gives only all low = clear_limits d low none
+  where
+    none : (m : LimitFault) → IsBadNumber d m → ⊥
+    none m (AtTop bad) = given_inside d l gives m bad
+    none m (OfTable is ms other out) = none_outside d ns ms only all other out

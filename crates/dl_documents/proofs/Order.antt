@@ -3,11 +3,13 @@ use Rattle.std.proofs.Common.{◌≡◌, inl, inr, ℕ, ◌<◌, ◌≤◌, arit
 use Rattle.serde_json.specs.Data.{Data}
 use Rattle.dl_values.specs.declared.fault.LimitFault.{LimitFault}
 use Rattle.dl_source.specs.declared.fault.TableFault.{TableFault}
-use Rattle.dl_documents.specs.Document.{IsFirstVersion}
-use Rattle.dl_documents.specs.Faults.{limit_name, IsBadTop, IsBadCall, IsBadStep, IsDeepStep, IsLongPlan, IsBadTable, IsBadLimit, Causes}
+use Rattle.dl_documents.specs.Document.{IsOfVersion, IsOfNoVersion}
+use Rattle.dl_documents.specs.Faults.{IsBadTop, IsBadCall, IsBadStep, IsDeepStep, IsLongPlan, IsBadTable, IsBadNumber, Causes}
 use Rattle.dl_documents.specs.Faults.{number, place, IsEarlier, IsLeast}
+use Rattle.dl_documents.specs.declared.head.Version.{Version}
 use Rattle.dl_documents.specs.declared.fault.PlanFault.{PlanFault}
-use Rattle.dl_documents.specs.declared.fault.PlanFault.TheVariants.{TooLarge, NotJson, Version, Top, BadCall}
+use Rattle.dl_documents.specs.declared.fault.PlanFault.TheVariants as fault
+use Rattle.dl_documents.specs.declared.fault.PlanFault.TheVariants.{TooLarge, NotJson, Top, BadCall}
 use Rattle.dl_documents.specs.declared.fault.PlanFault.TheVariants.{Shape, TooDeep, TooManySteps, Table, Limit, OutOfMemory}
 
 -- each cause has at least this number
@@ -23,9 +25,9 @@ module _ (d : Data) where
   clear_bytes OutOfMemory h = absurd h
   clear_bytes f h = omega arith
 
-  pub clear_version : IsFirstVersion d → Clear d 4
-  clear_version none Version h = absurd (h none)
-  clear_version none f h = let k = clear_bytes f h in omega arith
+  pub clear_version : (v : Version) → IsOfVersion d v → Clear d 4
+  clear_version v is fault.Version h = absurd (h v is)
+  clear_version v is f h = let k = clear_bytes f h in omega arith
 
   pub clear_top : Clear d 4 → (IsBadTop d → ⊥) → Clear d 5
   clear_top low none Top h = absurd (none h)
@@ -51,7 +53,7 @@ module _ (d : Data) where
   clear_tables low none (Table t) h = absurd (none t h)
   clear_tables low none f h = let k = low f h in omega arith
 
-  pub clear_limits : Clear d 10 → ((l : LimitFault) → IsBadLimit (limit_name l) d → ⊥) → Clear d 11
+  pub clear_limits : Clear d 10 → ((l : LimitFault) → IsBadNumber d l → ⊥) → Clear d 11
   clear_limits low none (Limit l) h = absurd (none l h)
   clear_limits low none f h = let k = low f h in omega arith
 
@@ -74,5 +76,8 @@ not_earlier : (p : ℕ × ℕ) → IsEarlier p (0, 0) → ⊥
 not_earlier p (inl h) = omega arith
 not_earlier p (inr h) = let k : p.1 < 0 = h.1 in omega arith
 
-pub least_top : (d : Data) → IsFirstVersion d → IsBadTop d → IsLeast (Causes d) Top
-least_top d first h = least_of d Top h (clear_version d first) (λ g same early c. not_earlier (place g) early)
+pub least_version : (d : Data) → IsOfNoVersion d → IsLeast (Causes d) fault.Version
+least_version d h = least_of d fault.Version h (clear_bytes d) (λ g same early c. not_earlier (place g) early)
+
+pub least_top : (d : Data) (v : Version) → IsOfVersion d v → IsBadTop d → IsLeast (Causes d) Top
+least_top d v is h = least_of d Top h (clear_version d v is) (λ g same early c. not_earlier (place g) early)

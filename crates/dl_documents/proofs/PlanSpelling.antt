@@ -1,16 +1,23 @@
 -- What is read of a plan file is what its tree spells, and nothing is refused of it.
-use Rattle.std.proofs.Common.{◌≡◌, List, [], ◌∷◌, length, map, false, Some, refl, sym, ap, ◌∙◌}
+use Rattle.std.proofs.Common.{◌≡◌, List, [], ◌∷◌, length, map, true, false, Some, refl, sym, ap, subst, ◌∙◌}
 use Rattle.std.proofs.lemmas.List.{length-map}
 use Rattle.std.specs.List.{AllByRecursion}
 use Rattle.serde_json.specs.Data.{Data, Items, item}
-use Rattle.dl_documents.specs.Document.{SpellsPlans, is_script}
+use Rattle.dl_source.specs.declared.fault.TableFault.{TableFault}
+use Rattle.dl_documents.specs.Document.{SpellsPlans, IsOfVersion, has_only_known, is_script}
+use Rattle.dl_documents.specs.Tables.{SpellsNumbers, TableCauses}
 use Rattle.dl_documents.specs.Faults.{Causes}
+use Rattle.dl_source.specs.declared.table_number.TableNumber.{TableNumber}
+use Rattle.dl_documents.specs.OwnLimits.{version_by, own}
 use Rattle.dl_documents.specs.Inside.Results.{HasHead}
 use Rattle.dl_documents.specs.Inside.PlanFiles.{rows_tree, HasPlans, AreRead, AreLow, AreFew, AreRest}
 use Rattle.dl_documents.specs.Steps.{StepTree, step_tree, plans_tree, plan_tree, plan_view, IsPlanStep, IsPlan}
 use Rattle.dl_documents.specs.declared.fault.PlanFault.{PlanFault}
 use Rattle.dl_documents.specs.declared.input.PlanFile.{PlanFile}
-use Rattle.dl_documents.specs.declared.limits.Numbers.{Numbers}
+use Rattle.dl_documents.specs.declared.head.Head.{Head}
+use Rattle.dl_documents.specs.declared.head.Version.{Version}
+use Rattle.dl_documents.proofs.AsLimits.{are_inside}
+use Rattle.dl_documents.proofs.OwnNumbers.{tables_only}
 use Rattle.dl_documents.proofs.LimitVerdicts.{gives_limits, numbers_of, are_given, clear_given}
 use Rattle.dl_documents.proofs.Order.{Clear, no_cause}
 use Rattle.dl_documents.proofs.PlanVerdicts.{clear_10}
@@ -40,29 +47,39 @@ plans_few (plan ∷ plans) all = (all.0.few, plans_few plans all.1)
 -- ---- what is spelled
 
 -- what was read is what the tree spells
-pub spells : (d : Data) (n : Numbers) (rows : List (List Data)) (tree : Data) (file : PlanFile) → is_script d ≡ false → HasHead d n → HasPlans d rows tree
-    → AreRead rows (map plan_view file.plans.items) → AreRest (map plan_view file.plans.items) tree n file.tables file.limits → SpellsPlans d file
-spells d n rows tree file kind head top read rest =
+pub spells : (d : Data) (h : Head) (rows : List (List Data)) (tree : Data) (file : PlanFile) → is_script d ≡ false → HasHead d h → HasPlans d rows tree
+    → AreRead rows (map plan_view file.plans.items)
+    → AreRest (map plan_view file.plans.items) tree h (file.tables, file.limits, file.table_limits) → SpellsPlans d file
+spells d h rows tree file kind head top read rest =
+    let v : version_by file.table_limits ≡ h.version = rest.limits.own.same in
     let plans : List (List StepTree) = map plan_view file.plans.items in
     let size : length rows ≡ length file.plans.items =
     ap (λ (xs : List (List Data)). length xs) read.trees ∙ (length-map plans (map step_tree) ∙ length-map file.plans.items plan_view) in
     record {
       kind = kind;
-      version = head.version;
-      members = head.members;
+      version = subst (IsOfVersion d) (sym v) head.version;
+      members = subst (λ (u : Version). has_only_known u d ≡ true) (sym v) head.members;
       list = top.list ∙ ap (λ (ds : Items). Some ds) (ap rows_tree read.trees ∙ plans_rows plans);
       count = rw size at top.count;
       plans = all_plans plans read.steps rest.fit.low rest.fit.few;
-      tables = record { tree = tree; member = top.tables; spelled = rest.tables.spelled; lawful = rest.tables.lawful };
-      limits = gives_limits d n file.limits head.numbers rest.limits;
+      tables = record {
+        tree = tree;
+        member = top.tables;
+        given = rest.numbers;
+        spelled = subst (λ (u : Version). SpellsNumbers u tree file.tables rest.numbers) (sym v) rest.tables.spelled;
+        lawful = subst (λ (u : Version). (f : TableFault) → TableCauses u tree f → ⊥) (sym v) rest.tables.lawful;
+        limits = rest.limits.own.limits;
+      };
+      limits = gives_limits d h.numbers file.limits head.numbers rest.limits.top;
     }
 
 -- nothing is refused of what spells a plan file
 pub plans_pass : (d : Data) (file : PlanFile) → SpellsPlans d file → (f : PlanFault) → Causes d f → ⊥
 plans_pass d file spelled =
     let plans : List (List StepTree) = map plan_view file.plans.items in
-    let head : HasHead d (numbers_of file.limits) =
-    record { version = spelled.version; members = spelled.members; numbers = are_given d file.limits spelled.limits } in
+    let v : Version = version_by file.table_limits in
+    let h : Head = record { version = v; numbers = numbers_of file.limits } in
+    let head : HasHead d h = record { version = spelled.version; members = spelled.members; numbers = are_given d file.limits spelled.limits } in
     let size : length (map (map step_tree) plans) ≡ length file.plans.items = length-map plans (map step_tree) ∙ length-map file.plans.items plan_view in
     let top : HasPlans d (map (map step_tree) plans) spelled.tables.tree =
     record {
@@ -70,8 +87,11 @@ plans_pass d file spelled =
       count = rw size spelled.count;
       tables = spelled.tables.member;
     } in
-    let low : Clear d 10 = clear_10 d (numbers_of file.limits) (map (map step_tree) plans) spelled.tables.tree spelled.kind head top plans
+    let ns : List TableNumber = spelled.tables.given in
+    let low : Clear d 10 = clear_10 d h (map (map step_tree) plans) spelled.tables.tree spelled.kind head top plans
     (record { trees = refl; steps = plans_steps plans spelled.plans })
     (record { low = plans_low plans spelled.plans; few = plans_few plans spelled.plans })
     spelled.tables.lawful in
-    no_cause d (clear_given d file.limits spelled.limits low)
+    no_cause d (clear_given d file.limits ns spelled.limits
+    (tables_only d v spelled.tables.tree file.tables ns spelled.kind spelled.version spelled.tables.member spelled.tables.spelled)
+    (are_inside ns (own file.table_limits) spelled.tables.limits) low)

@@ -1,5 +1,5 @@
 -- The verdicts on plan files.
-use Rattle.std.proofs.Common.{◌≡◌, inl, inr, ℕ, ◌<◌, ◌≤◌, List, length, map, Bool, false, codes, Some, None, refl, sym, ap, ◌∙◌, arith}
+use Rattle.std.proofs.Common.{◌≡◌, inl, inr, ℕ, ◌<◌, ◌≤◌, List, length, map, Bool, false, codes, Some, None, refl, sym, ap, subst, ◌∙◌, arith}
 use Rattle.std.proofs.Common.{true≢false, if◌then◌else◌}
 use Rattle.std.proofs.lemmas.List.{length-map}
 use Rattle.std.proofs.lemmas.Option.{none-some, same_Some}
@@ -10,24 +10,31 @@ use Rattle.serde_json.specs.Find.{get_item, as_array}
 use Rattle.serde_json.specs.View.{items_of}
 use Rattle.dl_values.specs.declared.fault.LimitFault.TheVariants.{BatchLimit, CellLimit, CallLimit}
 use Rattle.dl_source.specs.Faults as table
+use Rattle.dl_source.specs.Tables.{Tables}
+use Rattle.dl_source.specs.declared.table_number.TableNumber.{TableNumber}
 use Rattle.dl_source.specs.declared.fault.TableFault.{TableFault}
-use Rattle.dl_documents.specs.Document.{is_script, items_at, list_name}
+use Rattle.dl_documents.specs.Document.{has_only_known, is_script, items_at, list_name}
 use Rattle.dl_documents.specs.Faults.{IsBadTop, HasStrange, LacksList, LacksTables, HasOtherCount}
-use Rattle.dl_documents.specs.Faults.{HasNoPlan, HasNoNumber, IsNoStep, IsBadCall, IsPlanAt, IsStepAt}
+use Rattle.dl_documents.specs.Faults.{HasNoPlan, HasNoNumber, HasNoNumbers, IsNoStep, IsBadCall, IsPlanAt, IsStepAt, InTables}
 use Rattle.dl_documents.specs.Faults.{IsBadStep, IsDeepStep, IsLongPlan, IsBadTable, Causes, number, place, IsEarlier, IsLeast}
 use Rattle.dl_documents.specs.Inside.Places.{IsFirst, IsFirstIn}
 use Rattle.dl_documents.specs.Inside.Results.{HasHead}
 use Rattle.dl_documents.specs.Inside.PlanFiles.{row_tree, rows_tree, HasPlans, AreRead, IsHigh, AreLow, AreFew, AreMany, Fit, IsFirstBadStep}
-use Rattle.dl_documents.specs.Inside.PlanFiles.{IsRefusal}
+use Rattle.dl_documents.specs.Inside.PlanFiles.{IsRefusal, AreTables}
+use Rattle.dl_documents.specs.Inside.OwnLimits.{IsRefusedNumber}
+use Rattle.dl_documents.specs.Tables.{TableCauses, IsTableFault}
 use Rattle.dl_documents.specs.Steps.{StepTree, eval, step_tree, IsPlanStep, IsLow, most_steps}
 use Rattle.dl_documents.specs.declared.fault.PlanFault.{PlanFault}
 use Rattle.dl_documents.specs.declared.fault.PlanFault.TheVariants.{Shape, TooDeep, TooManySteps, Table}
-use Rattle.dl_documents.specs.declared.limits.Numbers.{Numbers}
+use Rattle.dl_documents.specs.declared.head.Head.{Head}
+use Rattle.dl_documents.specs.declared.head.Version.{Version}
 use Rattle.dl_documents.specs.StepReading.{step_in}
 use Rattle.dl_documents.proofs.KnownMembers.{no_list}
 use Rattle.dl_documents.proofs.ListSpelling.{get_item-items_of, items_len-items_of, all_at, from_item, item_made}
 use Rattle.dl_documents.proofs.Order.{Clear, clear_version, clear_top, clear_calls, clear_steps, clear_heights, clear_counts, clear_tables, least_of}
 use Rattle.dl_documents.proofs.LimitVerdicts.{least_limit}
+use Rattle.dl_documents.proofs.OwnNumbers.{tables_only}
+use Rattle.dl_documents.proofs.Versions.{one_version}
 use Rattle.dl_documents.proofs.StepLaws.{step_again}
 use Rattle.dl_documents.proofs.Heights.{not_low}
 
@@ -37,7 +44,7 @@ use Rattle.dl_documents.proofs.Heights.{not_low}
 list_at : (d : Data) → is_script d ≡ false → items_at (list_name d) d ≡ items_at (codes "plans") d
 list_at d kind = ap (λ (b : Bool). items_at (if b then codes "calls" else codes "plans") d) kind
 
-module _ (d : Data) (n : Numbers) (rows : List (List Data)) (tree : Data) (kind : is_script d ≡ false) (head : HasHead d n) (top : HasPlans d rows tree) where
+module _ (d : Data) (given : Head) (rows : List (List Data)) (tree : Data) (kind : is_script d ≡ false) (head : HasHead d given) (top : HasPlans d rows tree) where
   same_items : (ds : Items) → items_at (codes "plans") d ≡ Some ds → rows_tree rows ≡ ds
   same_items ds e = same_Some (rows_tree rows) ds (sym top.list ∙ e)
 
@@ -55,20 +62,22 @@ module _ (d : Data) (n : Numbers) (rows : List (List Data)) (tree : Data) (kind 
   no_other row plan e none = none-some (items_of row) (sym none ∙ ap as_array e)
 
   top_passes : IsBadTop d → ⊥
-  top_passes (HasStrange e) = true≢false (sym head.members ∙ e)
+  top_passes (HasStrange v is e) =
+      true≢false (sym head.members ∙ (ap (λ (u : Version). has_only_known u d) (one_version d given.version v head.version is) ∙ e))
   top_passes (LacksList e) = none-some (rows_tree rows) (sym e ∙ (list_at d kind ∙ top.list))
   top_passes (LacksTables k e) = none-some tree (sym e ∙ top.tables)
   top_passes (HasOtherCount ds k e other) = other (rw (sym (ap items_len (same_items ds e)) ∙ counted) top.count)
   top_passes (HasNoPlan ds m plan k e there none) = let p = row_at ds m plan e there in no_other p.0 plan p.2 none
-  top_passes (HasNoNumber BatchLimit e) = none-some n.max_batch (sym e ∙ head.numbers.batch)
-  top_passes (HasNoNumber CellLimit e) = none-some n.max_cells (sym e ∙ head.numbers.cells)
-  top_passes (HasNoNumber CallLimit e) = none-some n.max_calls (sym e ∙ head.numbers.calls)
+  top_passes (HasNoNumber BatchLimit e) = none-some given.numbers.max_batch (sym e ∙ head.numbers.batch)
+  top_passes (HasNoNumber CellLimit e) = none-some given.numbers.max_cells (sym e ∙ head.numbers.cells)
+  top_passes (HasNoNumber CallLimit e) = none-some given.numbers.max_calls (sym e ∙ head.numbers.calls)
+  top_passes (HasNoNumbers v k is e) = true≢false (sym k ∙ kind)
 
   no_call : (m : ℕ) → IsBadCall d m → ⊥
-  no_call m h = no_list d false (codes "calls") h.items kind head.members refl h.list
+  no_call m h = no_list d false given.version (codes "calls") kind head.members refl h.items h.list
 
   clear_6 : Clear d 6
-  clear_6 = clear_calls d (clear_top d (clear_version d head.version) top_passes) no_call
+  clear_6 = clear_calls d (clear_top d (clear_version d given.version head.version) top_passes) no_call
 
   -- ---- steps
 
@@ -218,24 +227,35 @@ module _ (d : Data) (n : Numbers) (rows : List (List Data)) (tree : Data) (kind 
 
     -- ---- tables
 
-    table_cause : (t : TableFault) → IsBadTable d t → table.Causes tree t
-    table_cause t h = rw (same_Some tree h.0 (sym top.tables ∙ h.1)) h.2
+    table_cause : (t : TableFault) → IsBadTable d t → TableCauses given.version tree t
+    table_cause t h =
+        let same : h.tree ≡ tree = same_Some h.tree tree (sym h.member ∙ top.tables) in
+        subst (λ (v : Version). TableCauses v tree t) (one_version d h.version given.version h.is head.version)
+        (subst (λ (e : Data). TableCauses h.version e t) same h.cause)
 
-    earlier_table : (t : TableFault) → table.IsLeast tree t → (g : PlanFault) → number g ≡ 9 → IsEarlier (place g) (table.number t, 0) → Causes d g → ⊥
+    earlier_table : (t : TableFault) → IsTableFault given.version tree t → (g : PlanFault) → number g ≡ 9 → IsEarlier (place g) (table.number t, 0) → Causes d g → ⊥
     earlier_table t least (Table u) same (inl less) c = least.least u less (table_cause u c)
     earlier_table t least (Table u) same (inr more) c = let k : 0 < 0 = more.1 in omega arith
     earlier_table t least g same early c = omega arith
 
-    least_table : (t : TableFault) → Fit plans → table.IsLeast tree t → IsLeast (Causes d) (Table t)
-    least_table t fit least = least_of d (Table t) (tree, top.tables, least.cause) (clear_9 fit) (earlier_table t least)
+    least_table : (t : TableFault) → Fit plans → IsTableFault given.version tree t → IsLeast (Causes d) (Table t)
+    least_table t fit least =
+        least_of d (Table t) (record { version = given.version; is = head.version; tree = tree; member = top.tables; cause = least.cause }) (clear_9 fit)
+        (earlier_table t least)
 
-    pub clear_10 : Fit plans → ((t : TableFault) → table.Causes tree t → ⊥) → Clear d 10
+    pub clear_10 : Fit plans → ((t : TableFault) → TableCauses given.version tree t → ⊥) → Clear d 10
     clear_10 fit lawful = clear_tables d (clear_9 fit) (λ t h. lawful t (table_cause t h))
+
+    least_number : (tables : Tables) (ns : List TableNumber) (f : PlanFault) → Fit plans → AreTables given.version tree tables ns → IsRefusedNumber given.numbers ns f
+        → IsLeast (Causes d) f
+    least_number tables ns f fit are =
+        least_limit d given.numbers ns (clear_10 fit are.lawful) head.numbers (InTables given.version tree tables kind head.version top.tables are.spelled)
+        (tables_only d given.version tree tables ns kind head.version top.tables are.spelled) f
 
     -- ---- the first refusal of what was read
 
-    pub least_refusal : (f : PlanFault) → IsRefusal plans tree n f → IsLeast (Causes d) f
+    pub least_refusal : (f : PlanFault) → IsRefusal plans tree given f → IsLeast (Causes d) f
     least_refusal f (inl (inl h)) = rw h.names (least_deep h.plan h.step h.first)
     least_refusal f (inl (inr h)) = rw h.names (least_long h.plan h.low h.first)
     least_refusal f (inr (inl h)) = rw h.refused.names (least_table h.refused.fault h.fit h.refused.least)
-    least_refusal f (inr (inr h)) = rw h.names (least_limit d n h.which (clear_10 h.fit h.spelled.lawful) head.numbers h.outside)
+    least_refusal f (inr (inr h)) = least_number h.tables h.numbers f h.fit h.spelled h.refused

@@ -3,16 +3,21 @@ use Rattle.std.specs.Prelude.{◌≡◌, ℕ, ℤ, pos, List, length, map, Bool,
 use Rattle.std.specs.Prelude.{Option, Some, None, option_and_then, IsUtf8}
 use Rattle.std.specs.List.{AllByRecursion}
 use Rattle.serde_json.specs.Data.{Data, Items}
-use Rattle.serde_json.specs.Find.{get, as_number, as_integer, as_array}
+use Rattle.serde_json.specs.Find.{get, as_array}
 use Rattle.serde_json.specs.Read.{read}
 use Rattle.dl_values.specs.Limits.{Limits, IsLimit, largest_limit}
-use Rattle.dl_source.specs.Faults.{Causes}
 use Rattle.dl_source.specs.Tables.{Tables}
-use Rattle.dl_source.specs.Spelling.{Spells as SpellsTables, has_only}
+use Rattle.dl_source.specs.Spelling.{has_only, whole}
 use Rattle.dl_source.specs.declared.fault.TableFault.{TableFault}
+use Rattle.dl_source.specs.declared.table_number.TableNumber.{TableNumber}
 use Rattle.dl_terms.specs.Plans.{ArePlans}
 use Rattle.dl_documents.specs.Script.{IsScriptCall, calls_tree}
 use Rattle.dl_documents.specs.Steps.{IsPlan, plan_view, plans_tree}
+use Rattle.dl_documents.specs.OwnLimits.{TableLimits, version_by, own, AreTheirLimits}
+use Rattle.dl_documents.specs.TableNumbers.{script_numbers}
+use Rattle.dl_documents.specs.Tables.{SpellsNumbers, TableCauses}
+use Rattle.dl_documents.specs.declared.head.Version.{Version}
+use Rattle.dl_documents.specs.declared.head.Version.TheVariants.{First, Second}
 use Rattle.dl_documents.specs.declared.input.Input.{Input}
 use Rattle.dl_documents.specs.declared.input.Input.TheVariants as input
 use Rattle.dl_documents.specs.declared.input.PlanFile.{PlanFile}
@@ -37,30 +42,43 @@ version_name d = if is_script d then codes "script" else codes "version"
 abbrev pub list_name : Data → List ℕ
 list_name d = if is_script d then codes "calls" else codes "plans"
 
+-- ---- versions
+
+-- the whole number that tells the version
+abbrev pub version_number : Data → Option ℤ
+version_number d = option_and_then whole (get (version_name d) d)
+
+-- the document is of the version
+abbrev pub IsOfVersion : Data → Version → Type 0
+IsOfVersion d First = version_number d ≡ Some (pos 1)
+IsOfVersion d Second = version_number d ≡ Some (pos 2)
+
+abbrev pub IsOfNoVersion : Data → Type 0
+IsOfNoVersion d = (version : Version) → IsOfVersion d version → ⊥
+
+-- ---- members
+
 -- the names of the members of each kind
 abbrev pub is_limit_member : List ℕ → Bool
 is_limit_member name = bytes_eq name (codes "maxBatchSize") || (bytes_eq name (codes "maxCells") || bytes_eq name (codes "maxCalls"))
 
-abbrev pub is_script_member : List ℕ → Bool
-is_script_member name = bytes_eq name (codes "script") || (bytes_eq name (codes "calls") || is_limit_member name)
+-- scripts of version 2 have one member more
+abbrev pub is_script_member : Version → List ℕ → Bool
+is_script_member First name = bytes_eq name (codes "script") || (bytes_eq name (codes "calls") || is_limit_member name)
+is_script_member Second name =
+    bytes_eq name (codes "script") || (bytes_eq name (codes "calls") || (bytes_eq name (codes "tableLimits") || is_limit_member name))
 
 abbrev pub is_plans_member : List ℕ → Bool
 is_plans_member name = bytes_eq name (codes "version") || (bytes_eq name (codes "tables") || (bytes_eq name (codes "plans") || is_limit_member name))
 
 -- whether it is the name of a script's member, or of a plan file's
-abbrev pub is_known : Bool → List ℕ → Bool
-is_known true name = is_script_member name
-is_known false name = is_plans_member name
+abbrev pub is_known : Bool → Version → List ℕ → Bool
+is_known true version name = is_script_member version name
+is_known false version name = is_plans_member name
 
--- whether each member of an object is one of its kind
-abbrev pub has_only_known : Data → Bool
-has_only_known d = has_only (is_known (is_script d)) d
-
--- ---- members
-
--- a whole number is one that an i64 or a u64 holds
-abbrev pub whole : Data → Option ℤ
-whole d = option_and_then as_integer (as_number d)
+-- whether each member of an object is one of its kind and of the version
+abbrev pub has_only_known : Version → Data → Bool
+has_only_known version d = has_only (is_known (is_script d) version) d
 
 -- the list that a member is
 abbrev pub items_at : List ℕ → Data → Option Items
@@ -85,37 +103,42 @@ pub record GivesLimits (d : Data) (l : Limits) : Type 0 where
   pub cells : GivesLimit (codes "maxCells") d l.max_cells
   pub calls : GivesLimit (codes "maxCalls") d l.max_calls
 
--- the member `tables` gives the tables, of which nothing is refused
-pub record GivesTables (d : Data) (tables : Tables) : Type 0 where
+-- the script gives tables these limits of their own
+pub record GivesOwn (d : Data) (tables : Option TableLimits) : Type 0 where
+  pub given : List TableNumber
+  pub numbers : script_numbers (version_by tables) d ≡ Some given
+  pub limits : AreTheirLimits given (own tables)
+
+-- the member `tables` gives the tables, of which nothing is refused, and these limits of their own
+pub record GivesTables (d : Data) (tables : Tables) (limited : Option TableLimits) : Type 0 where
   pub tree : Data
   pub member : get (codes "tables") d ≡ Some tree
-  pub spelled : SpellsTables tree tables
-  pub lawful : (f : TableFault) → Causes tree f → ⊥
+  pub given : List TableNumber
+  pub spelled : SpellsNumbers (version_by limited) tree tables given
+  pub lawful : (f : TableFault) → TableCauses (version_by limited) tree f → ⊥
+  pub limits : AreTheirLimits given (own limited)
 
 -- ---- documents
 
--- the document is of the first version of its kind
-abbrev pub IsFirstVersion : Data → Type 0
-IsFirstVersion d = option_and_then whole (get (version_name d) d) ≡ Some (pos 1)
-
--- the tree spells the script
+-- the tree spells the script, which has limits of tables exactly in version 2
 pub record SpellsScript (d : Data) (s : Script) : Type 0 where
   pub kind : is_script d ≡ true
-  pub version : IsFirstVersion d
-  pub members : has_only_known d ≡ true
+  pub version : IsOfVersion d (version_by s.table_limits)
+  pub members : has_only_known (version_by s.table_limits) d ≡ true
   pub list : items_at (codes "calls") d ≡ Some (calls_tree s.calls)
   pub calls : AllByRecursion IsScriptCall s.calls
   pub limits : GivesLimits d s.limits
+  pub own : GivesOwn d s.table_limits
 
--- the tree spells the plan file
+-- the tree spells the plan file, which has limits of tables exactly in version 2
 pub record SpellsPlans (d : Data) (f : PlanFile) : Type 0 where
   pub kind : is_script d ≡ false
-  pub version : IsFirstVersion d
-  pub members : has_only_known d ≡ true
+  pub version : IsOfVersion d (version_by f.table_limits)
+  pub members : has_only_known (version_by f.table_limits) d ≡ true
   pub list : items_at (codes "plans") d ≡ Some (plans_tree (map plan_view f.plans.items))
   pub count : ArePlans (length f.plans.items)
   pub plans : AllByRecursion IsPlan (map plan_view f.plans.items)
-  pub tables : GivesTables d f.tables
+  pub tables : GivesTables d f.tables f.table_limits
   pub limits : GivesLimits d f.limits
 
 -- the tree spells what was read

@@ -1,5 +1,6 @@
 -- When a document is refused, and which of several causes counts.
-use Rattle.std.specs.Prelude.{◌≡◌, ◌⊎◌, ℕ, ◌<◌, ℤ, pos, List, length, false, codes, Some, None}
+use Rattle.std.specs.Prelude.{◌≡◌, ◌⊎◌, ℕ, ◌<◌, ℤ, pos, List, length, true, false, codes, Some, None}
+use Rattle.std.specs.List.{slice_get}
 use Rattle.serde_json.specs.Data.{Data, array, Items}
 use Rattle.serde_json.specs.Events.{items_len}
 use Rattle.serde_json.specs.Find.{as_array, get, get_item}
@@ -7,15 +8,21 @@ use Rattle.dl_values.specs.Limits.{IsLimit}
 use Rattle.dl_values.specs.declared.fault.LimitFault.{LimitFault}
 use Rattle.dl_values.specs.declared.fault.LimitFault.TheVariants.{BatchLimit, CellLimit, CallLimit}
 use Rattle.dl_source.specs.Faults as table
+use Rattle.dl_source.specs.Tables.{Tables}
 use Rattle.dl_source.specs.declared.fault.TableFault.{TableFault}
+use Rattle.dl_source.specs.declared.table_number.TableNumber.{TableNumber}
 use Rattle.dl_terms.specs.Plans.{ArePlans}
 use Rattle.dl_terms.specs.Tree.{Tree, height_of}
 use Rattle.dl_documents.specs.Script.{call_tree, IsScriptCall}
 use Rattle.dl_documents.specs.Steps.{StepTree, eval, step_tree, IsPlanStep, most_height, most_steps}
-use Rattle.dl_documents.specs.Document.{IsTextOf, IsFirstVersion, has_only_known, is_script, items_at, list_name, number_at}
+use Rattle.dl_documents.specs.Document.{IsTextOf, IsOfVersion, IsOfNoVersion, has_only_known, is_script, items_at, list_name, number_at}
+use Rattle.dl_documents.specs.TableNumbers.{script_numbers}
+use Rattle.dl_documents.specs.Tables.{SpellsNumbers, TableCauses}
 use Rattle.dl_documents.specs.declared.fault.PlanFault.{PlanFault}
-use Rattle.dl_documents.specs.declared.fault.PlanFault.TheVariants.{TooLarge, NotJson, Version, Top, BadCall}
+use Rattle.dl_documents.specs.declared.fault.PlanFault.TheVariants as fault
+use Rattle.dl_documents.specs.declared.fault.PlanFault.TheVariants.{TooLarge, NotJson, Top, BadCall}
 use Rattle.dl_documents.specs.declared.fault.PlanFault.TheVariants.{Shape, TooDeep, TooManySteps, Table, Limit, OutOfMemory}
+use Rattle.dl_documents.specs.declared.head.Version.{Version}
 use Rattle.dl_documents.specs.declared.input.ScriptCall.{ScriptCall}
 
 -- ---- causes at the top
@@ -26,16 +33,17 @@ limit_name BatchLimit = codes "maxBatchSize"
 limit_name CellLimit = codes "maxCells"
 limit_name CallLimit = codes "maxCalls"
 
--- The members aren't those of a document of its kind: a strange one, no list of calls or plans, no tables or no list of 1 to 16
--- lists in a plan file, or a limit that is no whole number.
+-- The members aren't those of a document of its kind and version: a strange one, no list of calls or plans, no tables or no list
+-- of 1 to 16 lists in a plan file, a limit that is no whole number, or no list of tables' numbers in a script.
 pub data IsBadTop (d : Data) : Type 0 where
-  HasStrange : has_only_known d ≡ false → IsBadTop d
+  HasStrange : (version : Version) → IsOfVersion d version → has_only_known version d ≡ false → IsBadTop d
   LacksList : items_at (list_name d) d ≡ None → IsBadTop d
   LacksTables : is_script d ≡ false → get (codes "tables") d ≡ None → IsBadTop d
   HasOtherCount : (ds : Items) → is_script d ≡ false → items_at (codes "plans") d ≡ Some ds → (ArePlans (items_len ds) → ⊥) → IsBadTop d
   HasNoPlan : (ds : Items) (n : ℕ) (plan : Data) → is_script d ≡ false → items_at (codes "plans") d ≡ Some ds → get_item n ds ≡ Some plan
       → as_array plan ≡ None → IsBadTop d
   HasNoNumber : (l : LimitFault) → number_at (limit_name l) d ≡ None → IsBadTop d
+  HasNoNumbers : (version : Version) → is_script d ≡ true → IsOfVersion d version → script_numbers version d ≡ None → IsBadTop d
 
 -- ---- causes in calls
 
@@ -93,8 +101,12 @@ abbrev pub IsLongPlan : Data → ℕ → Type 0
 IsLongPlan d n = (steps : Items) × IsPlanAt d n steps × (most_steps < items_len steps)
 
 -- the member `tables` is refused for the fault
-abbrev pub IsBadTable : Data → TableFault → Type 0
-IsBadTable d f = (tables : Data) × (get (codes "tables") d ≡ Some tables) × table.Causes tables f
+pub record IsBadTable (d : Data) (f : TableFault) : Type 0 where
+  pub version : Version
+  pub is : IsOfVersion d version
+  pub tree : Data
+  pub member : get (codes "tables") d ≡ Some tree
+  pub cause : TableCauses version tree f
 
 -- ---- causes in limits
 
@@ -108,20 +120,35 @@ pub record IsBadLimit (name : List ℕ) (d : Data) : Type 0 where
   pub number : number_at name d ≡ Some given
   pub outside : IsOutside given
 
+-- the document gives tables these numbers: a script in a list of its own, a plan file in its tables
+pub data GivesNumbers (d : Data) (ns : List TableNumber) : Type 0 where
+  InScript : (version : Version) → is_script d ≡ true → IsOfVersion d version → script_numbers version d ≡ Some ns → GivesNumbers d ns
+  InTables : (version : Version) (tree : Data) (tables : Tables) → is_script d ≡ false → IsOfVersion d version → get (codes "tables") d ≡ Some tree
+      → SpellsNumbers version tree tables ns → GivesNumbers d ns
+
+-- one of the numbers is no limit
+abbrev pub HasOutside : List TableNumber → Type 0
+HasOutside ns = (k : ℕ) × (n : TableNumber) × (slice_get ns k ≡ Some n) × IsOutside n.number
+
+-- the number at the top is no limit, or, where batches are limited, a table's number is none
+pub data IsBadNumber (d : Data) (l : LimitFault) : Type 0 where
+  AtTop : IsBadLimit (limit_name l) d → IsBadNumber d l
+  OfTable : l ≡ BatchLimit → (ns : List TableNumber) → GivesNumbers d ns → HasOutside ns → IsBadNumber d l
+
 -- ---- causes
 
 -- what in a document's tree is a cause of a refusal
 abbrev pub Causes : Data → PlanFault → Type 0
 Causes d TooLarge = ⊥
 Causes d NotJson = ⊥
-Causes d Version = IsFirstVersion d → ⊥
+Causes d fault.Version = IsOfNoVersion d
 Causes d Top = IsBadTop d
 Causes d (BadCall n) = IsBadCall d n
 Causes d (Shape n s) = IsBadStep d n s
 Causes d (TooDeep n s) = IsDeepStep d n s
 Causes d (TooManySteps n) = IsLongPlan d n
 Causes d (Table f) = IsBadTable d f
-Causes d (Limit l) = IsBadLimit (limit_name l) d
+Causes d (Limit l) = IsBadNumber d l
 Causes d OutOfMemory = ⊥
 
 -- a cause in the tree that the bytes are the text of
@@ -138,7 +165,7 @@ most_bytes = 1048576
 abbrev pub Applies : List ℕ → PlanFault → Type 0
 Applies bytes TooLarge = most_bytes < length bytes
 Applies bytes NotJson = (d : Data) → IsTextOf bytes d → ⊥
-Applies bytes Version = CausesIn bytes Version
+Applies bytes fault.Version = CausesIn bytes fault.Version
 Applies bytes Top = CausesIn bytes Top
 Applies bytes (BadCall n) = CausesIn bytes (BadCall n)
 Applies bytes (Shape n s) = CausesIn bytes (Shape n s)
@@ -159,7 +186,7 @@ limit_number CallLimit = 3
 abbrev pub number : PlanFault → ℕ
 number TooLarge = 1
 number NotJson = 2
-number Version = 3
+number fault.Version = 3
 number Top = 4
 number (BadCall n) = 5
 number (Shape n s) = 6
@@ -173,7 +200,7 @@ number OutOfMemory = 11
 abbrev pub place : PlanFault → ℕ × ℕ
 place TooLarge = (0, 0)
 place NotJson = (0, 0)
-place Version = (0, 0)
+place fault.Version = (0, 0)
 place Top = (0, 0)
 place (BadCall n) = (n, 0)
 place (Shape n s) = (n, s)

@@ -1,4 +1,5 @@
 pub mod Results
 pub mod Places
 pub mod Scripts
+pub mod OwnLimits
 pub mod PlanFiles

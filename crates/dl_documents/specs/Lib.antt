@@ -1,6 +1,9 @@
 pub mod Script
 pub mod Terms
 pub mod Steps
+pub mod TableNumbers
+pub mod OwnLimits
+pub mod Tables
 pub mod Document
 pub mod Faults
 pub mod Numbers

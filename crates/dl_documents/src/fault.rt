@@ -18,11 +18,12 @@ pub enum PlanFault {
     /// The bytes are not the text of a JSON value.
     #[error("not json")]
     NotJson,
-    /// The document is not of version 1: a script by its member `script`, a plan file by its member `version`.
+    /// The document is not of version 1 or 2: a script by its member `script`, a plan file by its member `version`.
     #[error("version")]
     Version,
-    /// The document has a member that its kind does not have, lacks one that it needs, has no list of calls or of 1 to
-    /// [`MOST_PLANS`](crate::MOST_PLANS) lists of steps, or one of its three limits is not a whole number.
+    /// The document has a member that its kind does not have in its version, lacks one that it needs, has no list of calls or of
+    /// 1 to [`MOST_PLANS`](crate::MOST_PLANS) lists of steps, or one of its three limits is not a whole number; or a script's
+    /// `tableLimits` are no list of pairs of a table's name and a whole number, or a table stands twice in it.
     #[error("top")]
     Top,
     /// A call is none of a script's.
@@ -40,7 +41,7 @@ pub enum PlanFault {
     /// The tables are refused.
     #[error("table {0:?}")]
     Table(TableFault),
-    /// One of the three limits is out of range.
+    /// One of the three limits is out of range, or a table's limit of a batch.
     #[error("limit {0:?}")]
     Limit(LimitFault),
     /// An allocation failed.

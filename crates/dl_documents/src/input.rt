@@ -2,7 +2,7 @@
 
 use dl_source::Tables;
 use dl_terms::Plan;
-use dl_values::{FetchKey, Keys, Limits, List};
+use dl_values::{FetchKey, Keys, Limits, List, TableLimits};
 
 /// A document that was read.
 #[derive(Drop)]
@@ -14,10 +14,12 @@ pub enum Input {
 }
 
 /// Calls that one desk answers in their order.
-#[derive(Debug, Drop)]
+#[derive(Drop)]
 pub struct Script {
     /// The desk's limits.
     pub limits: Limits,
+    /// In version 2 the tables that have a limit of their own, where each batch is of one table; none in version 1.
+    pub table_limits: Option<TableLimits>,
     /// The calls.
     pub calls: Calls,
 }
@@ -43,6 +45,8 @@ pub type Calls = List<ScriptCall>;
 pub struct PlanFile {
     /// The loader's limits.
     pub limits: Limits,
+    /// In version 2 the tables that have a limit of their own, where each batch is of one table; none in version 1.
+    pub table_limits: Option<TableLimits>,
     /// The tables, which the keys are fetched from.
     pub tables: Tables,
     /// The plans: 1 to [`MOST_PLANS`](crate::MOST_PLANS), each of at most [`MOST_STEPS`](crate::MOST_STEPS) steps, whose

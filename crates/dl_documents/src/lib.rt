@@ -5,12 +5,15 @@ mod argument;
 mod call;
 mod document;
 mod fault;
+mod head;
 mod input;
 mod limits;
 mod member;
 mod plan_files;
 mod scripts;
 mod steps;
+mod table_limits;
+mod table_numbers;
 mod terms;
 
 pub use dl_terms::MOST_PLANS;

@@ -3,7 +3,8 @@
 ghost use Rattle.std.specs.Prelude.{◌≡◌, pos, IfOk, IfErr, MatchOption};
 ghost use Rattle.serde_json.specs.View.{view};
 ghost use Rattle.dl_values.specs.Limits.{IsLimit, IsNoLimit};
-ghost use Rattle.dl_documents.specs.Document.{whole, number_at};
+ghost use Rattle.dl_source.specs.Spelling.{whole};
+ghost use Rattle.dl_documents.specs.Document.{number_at};
 ghost use Rattle.dl_documents.specs.Faults.{IsOutside};
 ghost use Rattle.dl_documents.specs.Numbers.{AreGiven, LacksNumber, AreLimitsOf, IsFirstOutside};
 
@@ -65,7 +66,7 @@ pub(crate) fn whole(value: &Value) -> Option<i128>
 }
 
 /// The number as one that a limit may be, and 0, which no limit is, where there is none.
-fn limit(number: i128) -> u32
+pub(crate) fn limit(number: i128) -> u32
     ensures inside { IsLimit result → number ≡ pos result }
     ensures outside { IsNoLimit result → IsOutside number }
 {

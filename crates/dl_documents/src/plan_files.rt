@@ -9,15 +9,17 @@ ghost use Rattle.dl_documents.specs.Steps.{plan_view, step_view};
 ghost use Rattle.dl_documents.specs.Inside.Results.{HasHead, RefusedFor};
 ghost use Rattle.dl_documents.specs.Inside.PlanFiles.{rows_view, HasPlans, AreRows, HasOther, IsPlanOf, IsFirstBadIn, AreRead, IsFirstBadStep};
 ghost use Rattle.dl_documents.specs.Inside.PlanFiles.{is_high, is_long, AreLow, IsFirstHigh, Fit, IsMisfit, AreTables, IsTableRefusal, AreRest, IsRefusal};
+ghost use Rattle.dl_documents.specs.Tables.{IsTableFault};
 
 use crate::fault::PlanFault;
+use crate::head::{Head, Version};
 use crate::input::PlanFile;
-use crate::limits::{self, Numbers};
 use crate::member;
 use crate::steps::read_step;
-use dl_source::{TableFault, Tables};
+use crate::table_limits::all_limits;
+use dl_source::{TableFault, TableNumber, Tables};
 use dl_terms::{MOST_PLANS, Plan, Step};
-use dl_values::Limits;
+use dl_values::{Limits, TableLimits};
 use serde_json::Value;
 use std::alloc::Global;
 use std::hash::RandomState;
@@ -28,7 +30,7 @@ pub const MOST_HEIGHT: u32 = 32;
 /// The most steps of a plan.
 pub const MOST_STEPS: usize = 256;
 
-/// The plan file that a document is. Its head has been read, with the numbers of its limits.
+/// The plan file that a document is, whose head has been read.
 ///
 /// # Errors
 /// The first cause that applies; `OutOfMemory` where an allocation failed.
@@ -36,18 +38,19 @@ pub(crate) fn plan_file(
     alloc: Global,
     hashing: RandomState,
     document: &Value,
-    numbers: Numbers,
+    head: Head,
 ) -> Result<PlanFile, PlanFault>
     requires kind { is_script (view document.now) ≡ false }
-    requires head { HasHead (view document.now) numbers }
+    requires head { HasHead (view document.now) head }
     ensures ok { IfOk result (SpellsPlans (view document.now)) }
     ensures err { IfErr result (RefusedFor (view document.now)) }
 {
     let (lists, tables) = top(alloc, document)?;
     let plans = plans(alloc, lists.as_slice())?;
-    let (tables, limits) = rest(alloc, hashing, plans.as_slice(), tables, numbers)?;
+    let (tables, limits, table_limits) = rest(alloc, hashing, plans.as_slice(), tables, head)?;
     Ok(PlanFile {
         limits,
+        table_limits,
         tables,
         plans,
     })
@@ -127,25 +130,23 @@ fn plan(alloc: Global, number: usize, items: &[Value]) -> Result<Plan, PlanFault
 
 // ---- what is tested once all steps are read
 
-/// The tables and the limits, unless the plans, the tables or a number are refused, in this order.
+/// The tables, the limits and those of tables, unless the plans, the tables or a number are refused, in this order.
 fn rest(
     alloc: Global,
     hashing: RandomState,
     plans: &[Plan],
     tables: &Value,
-    numbers: Numbers,
-) -> Result<(Tables, Limits), PlanFault>
-    ensures ok { IfOk result (λ p. AreRest (map plan_view plans.now) (view tables.now) numbers p.0 p.1) }
-    ensures err { IfErr result (λ f. (f ≡ PlanFault.OutOfMemory) ⊎ IsRefusal (map plan_view plans.now) (view tables.now) numbers f) }
+    head: Head,
+) -> Result<(Tables, Limits, Option<TableLimits>), PlanFault>
+    ensures ok { IfOk result (λ p. AreRest (map plan_view plans.now) (view tables.now) head p) }
+    ensures err { IfErr result (λ f. (f ≡ PlanFault.OutOfMemory) ⊎ IsRefusal (map plan_view plans.now) (view tables.now) head f) }
 {
     if let Some(fault) = misfit(plans) {
         return Err(fault);
     }
-    let tables = read_tables(alloc, hashing, tables)?;
-    match limits::limits(numbers) {
-        Ok(limits) => Ok((tables, limits)),
-        Err(fault) => Err(PlanFault::Limit(fault)),
-    }
+    let (tables, numbers) = read_tables(alloc, hashing, head.version, tables)?;
+    let (limits, table_limits) = all_limits(alloc, head, numbers)?;
+    Ok((tables, limits, table_limits))
 }
 
 /// Why the plans are refused: their first term that is too high, or else the first plan that has too many steps.
@@ -204,14 +205,41 @@ fn is_long(plan: &Plan) -> bool
     plan.steps.len() > MOST_STEPS
 }
 
-/// The tables that a value spells.
-fn read_tables(alloc: Global, hashing: RandomState, tables: &Value) -> Result<Tables, PlanFault>
-    ensures ok { IfOk result (AreTables (view tables.now)) }
-    ensures err { IfErr result (λ f. (f ≡ PlanFault.OutOfMemory) ⊎ IsTableRefusal (view tables.now) f) }
+/// The tables that a value spells, with the numbers that it gives them.
+fn read_tables(
+    alloc: Global,
+    hashing: RandomState,
+    version: Version,
+    tables: &Value,
+) -> Result<(Tables, Vec<TableNumber>), PlanFault>
+    ensures ok { IfOk result (λ p. AreTables version (view tables.now) p.0 p.1.items) }
+    ensures err { IfErr result (λ f. (f ≡ PlanFault.OutOfMemory) ⊎ IsTableRefusal version (view tables.now) f) }
 {
-    match Tables::from_value(alloc, hashing, tables) {
+    match spelled(alloc, hashing, version, tables) {
         Ok(tables) => Ok(tables),
         Err(TableFault::OutOfMemory) => Err(PlanFault::OutOfMemory),
         Err(fault) => Err(PlanFault::Table(fault)),
+    }
+}
+
+/// The tables that a value spells as the version has them, with the numbers that it gives them: none in the first.
+fn spelled(
+    alloc: Global,
+    hashing: RandomState,
+    version: Version,
+    tables: &Value,
+) -> Result<(Tables, Vec<TableNumber>), TableFault>
+    ensures ok { IfOk result (λ p. AreTables version (view tables.now) p.0 p.1.items) }
+    ensures err { IfErr result (λ f. (f ≡ TableFault.OutOfMemory) ⊎ IsTableFault version (view tables.now) f) }
+{
+    match version {
+        Version::First => {
+            let tables = Tables::from_value(alloc, hashing, tables)?;
+            Ok((tables, Vec::new(alloc)))
+        }
+        Version::Second => {
+            let read = Tables::from_value_2(alloc, hashing, tables)?;
+            Ok(read)
+        }
     }
 }

@@ -7,33 +7,41 @@ ghost use Rattle.dl_documents.specs.Inside.Results.{HasHead, RefusedFor};
 ghost use Rattle.dl_documents.specs.Inside.Scripts.{AreCalls, IsFirstBadCall};
 
 use crate::fault::PlanFault;
+use crate::head::Head;
 use crate::input::{Calls, Script, ScriptCall};
-use crate::limits::{self, Numbers};
+use crate::table_limits::all_limits;
+use crate::table_numbers::script_numbers;
 use crate::{call, member};
 use serde_json::Value;
 use std::alloc::Global;
+use std::hash::RandomState;
 
-/// The call script that a document is. Its head has been read, with the numbers of its limits.
+/// The call script that a document is, whose head has been read.
 ///
 /// # Errors
 /// The first cause that applies; `OutOfMemory` where an allocation failed.
-pub(crate) fn script(alloc: Global, document: &Value, numbers: Numbers) -> Result<Script, PlanFault>
+pub(crate) fn script(
+    alloc: Global,
+    hashing: RandomState,
+    document: &Value,
+    head: Head,
+) -> Result<Script, PlanFault>
     requires kind { is_script (view document.now) ≡ true }
-    requires head { HasHead (view document.now) numbers }
+    requires head { HasHead (view document.now) head }
     ensures ok { IfOk result (SpellsScript (view document.now)) }
     ensures err { IfErr result (RefusedFor (view document.now)) }
 {
     let Some(items) = member::list(document, "calls") else {
         return Err(PlanFault::Top);
     };
+    let numbers = script_numbers(alloc, hashing, head.version, document)?;
     let calls = calls(alloc, items)?;
-    match limits::limits(numbers) {
-        Ok(limits) => Ok(Script {
-            limits,
-            calls: Calls::new(calls),
-        }),
-        Err(fault) => Err(PlanFault::Limit(fault)),
-    }
+    let (limits, table_limits) = all_limits(alloc, head, numbers)?;
+    Ok(Script {
+        limits,
+        table_limits,
+        calls: Calls::new(calls),
+    })
 }
 
 /// The calls that the items are.

@@ -7,8 +7,11 @@ use std::alloc::{AllocError, Global};
 use std::hash::RandomState;
 
 /// Three users, one whose row is an error, and one that breaks the source.
-pub const USERS: &str =
-    r#"[{"name":"user","rows":[["u1",{"best":"u2","friends":["u2","u3"],"name":"Ada"}],["u2",{"best":"u1","friends":[],"name":"Bob"}],["u3",{"name":"Cy"}]],"errors":[["u9","gone"]],"breaks":[["u13","db down"]]}]"#;
+pub const USERS: &str = concat!(
+    r#"[{"name":"user","rows":["#,
+    r#"["u1",{"best":"u2","friends":["u2","u3"],"name":"Ada"}],["u2",{"best":"u1","friends":[],"name":"Bob"}],"#,
+    r#"["u3",{"name":"Cy"}]],"errors":[["u9","gone"]],"breaks":[["u13","db down"]]}]"#
+);
 
 /// The row of the user `u1`.
 pub const ADA: &str = r#"{"best":"u2","friends":["u2","u3"],"name":"Ada"}"#;

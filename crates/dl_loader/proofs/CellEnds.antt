@@ -48,7 +48,8 @@ abbrev member_cells : List Event → ℕ → List ℕ
 member_cells es n = map (λ m. m.1) (members (atoms (past es)) n)
 
 -- the cells of the members of a batch that may end can end
-can_end : {s : Service} {seen : LoaderState} {n : ℕ} → IsLoaderState s seen → MayEnd (atoms (past seen.history)) n → CanEnd (member_cells seen.history n) seen.cells
+can_end : {s : Service} {seen : LoaderState} {n : ℕ} → IsLoaderState s seen → MayEnd (atoms (past seen.history)) n
+    → CanEnd (member_cells seen.history n) seen.cells
 can_end {s} {seen} {n} keeps may = record {
   waits = λ j c got.
       let m = unmapped (λ (m : Key × ℕ). m.1) (members (atoms (past seen.history)) n) j c got in
@@ -168,8 +169,8 @@ can_none seen e empty = record {
   distinct = λ i j c first second. absurd (let bad : ◌≡◌ {A = Option ℕ} None (Some c) = rw empty at first in cc);
 }
 
-can_by_prime : {s : Service} {seen : LoaderState} {e : Event} {mids : List Cell} {k : Key} {o : Outcome} (r : DeskPrime) → MayStand s seen e → e.call ≡ Prime k o
-    → prime_reply (atoms (past seen.history)) k ≡ r → e.reply ≡ primed r → mids ≡ seen.cells ++ repeat (begun_in e.reply) (waiting ∷ [])
+can_by_prime : {s : Service} {seen : LoaderState} {e : Event} {mids : List Cell} {k : Key} {o : Outcome} (r : DeskPrime) → MayStand s seen e
+    → e.call ≡ Prime k o → prime_reply (atoms (past seen.history)) k ≡ r → e.reply ≡ primed r → mids ≡ seen.cells ++ repeat (begun_in e.reply) (waiting ∷ [])
     → CanEnd (ended_in seen e) mids
 can_by_prime {s} {seen} {e} {mids} {k} {o} (prime.Primed c) g is r reply more =
     let own = primed_cell s seen.history e k o c g.next is reply in
@@ -212,7 +213,8 @@ members_few (a ∷ before) b = by (begins a) (members_few before b)
     by (Some g) few = put (is_number b g.batch) (g.key, g.cell) few
 
 -- a batch has no more members than there may be cells
-few_end : {s : Service} {seen : LoaderState} {cs : List ℕ} (n : ℕ) → IsLoaderState s seen → cs ≡ member_cells seen.history n → length cs ≤ s.rules.limits.max_cells
+few_end : {s : Service} {seen : LoaderState} {cs : List ℕ} (n : ℕ) → IsLoaderState s seen → cs ≡ member_cells seen.history n
+    → length cs ≤ s.rules.limits.max_cells
 few_end {s} {seen} {cs} n keeps cells =
     let H = atoms (past seen.history) in
     let long : length cs ≡ length (members H n) = ap length cells ∙ length-map (members H n) (λ (m : Key × ℕ). m.1) in

@@ -1,6 +1,4 @@
-pub mod PassLemmas
 mod FirstTraces
-pub mod Tickets
 pub mod NewTickets
 pub mod LoadCells
 pub mod NewCells
@@ -8,10 +6,9 @@ pub mod NextEvent
 pub mod CellEnds
 pub mod DueLemmas
 pub mod Preparations
-pub mod RecordedEvent
+pub mod BookAfterEvent
 mod CallKnowledge
 pub mod AdditionLemmas
-pub mod TicketsAfterReads
 pub mod TicketsStay
 mod AccountLemmas
 mod CloseLemmas

@@ -15,7 +15,7 @@ use Rattle.dl_history.specs.Entries.{cell_of_load, Called, event_at, cells_of}
 use Rattle.dl_history.specs.History.{past}
 use Rattle.dl_history.specs.Lists.{Every, Among}
 use Rattle.dl_loader.specs.EventEffect.{event_of, loads_of, Makes}
-use Rattle.dl_loader.specs.Pass.{Trace, with_call}
+use Rattle.dl_passes.specs.Pass.{Trace, with_call}
 use Rattle.dl_history.specs.Service.{Service}
 use Rattle.dl_loader.proofs.CallKnowledge.{replied}
 use Rattle.dl_history.proofs.Pasts.{legal_at, legal_atoms, atoms_next, get-append_at}
@@ -100,7 +100,8 @@ many_answered {now} {rs} p at e is reply copy =
 -- so are those of the loads that any event answers
 pub loads_answered : {now : Trace} {ls : List LoadReply} (p : Trace) (at : ℕ) (e : Event) → now ≡ with_call p at e → loads_of e.reply ≡ ls
     → Every (λ r. Among (cell_of_load r) (cells_of now.entries)) ls
-loads_answered {now} {ls} p at e is loads = subst (λ (rs : List LoadReply). Every (λ r. Among (cell_of_load r) (cells_of now.entries)) rs) loads (by e.reply refl)
+loads_answered {now} {ls} p at e is loads =
+    subst (λ (rs : List LoadReply). Every (λ r. Among (cell_of_load r) (cells_of now.entries)) rs) loads (by e.reply refl)
   where
     by : (reply : Reply) → e.reply ≡ reply → Every (λ r. Among (cell_of_load r) (cells_of now.entries)) (loads_of reply)
     by (Loaded r) told = (one_answered p at e r is told, tt)

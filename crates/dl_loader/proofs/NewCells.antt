@@ -1,7 +1,9 @@
 -- How many cells a call begins, and that those of an accepted one fit.
-use Rattle.std.proofs.Common.{◌≡◌, ◌∙◌, sym, ℕ, ◌+◌, ◌≤◌, Bool, true, false, cond, List, [], ◌∷◌, Option, Some, None, nat_lt, refl, arith}
+use Rattle.std.proofs.Common.{◌≡◌, ◌∙◌, sym, ap, ℕ, ◌+◌, ◌<◌, ◌≤◌, Bool, true, false, cond, List, [], ◌∷◌, ◌++◌, length, take, get_or}
+use Rattle.std.proofs.Common.{Option, Some, None, nat_lt, refl, arith}
 use Rattle.std.proofs.lemmas.Bool.{ltb-false}
-use Rattle.std.proofs.lemmas.List.Sums.{sum_by-cons}
+use Rattle.std.proofs.lemmas.List.{take_more}
+use Rattle.std.proofs.lemmas.List.Sums.{sum_by-append, sum_by-cons}
 use Rattle.dl_values.specs.Key.{Key}
 use Rattle.dl_values.specs.Limits.{Rules}
 use Rattle.dl_desk.specs.History.{Atom, begins, count_cell, cells, held, load_reply, load_replies, loaded, prime_reply, prime_reply_at}
@@ -33,6 +35,20 @@ same_cells history a old new none before now =
     now.cells ∙ (count ∙ sym before.cells)
 
 -- ---- loads
+
+-- the cells of one load more
+begun-snoc : (rs : List LoadReply) (r : LoadReply) → cells_begun (rs ++ r ∷ []) ≡ cells_begun rs + begun_by r
+begun-snoc rs r =
+    let more : cells_begun (rs ++ r ∷ []) ≡ cells_begun rs + cells_begun (r ∷ []) = sum_by-append begun_by rs (r ∷ []) in
+    let one : cells_begun (r ∷ []) ≡ begun_by r + 0 = sum_by-cons begun_by r [] in
+    omega arith
+
+-- the cells that loads began, with the load at a place
+pub begun_next : (rs : List LoadReply) (i n m : ℕ) (d r : LoadReply) → i < length rs → n ≡ cells_begun (take i rs) → get_or rs i d ≡ r → m ≡ n + begun_by r
+    → m ≡ cells_begun (take (i + 1) rs)
+begun_next rs i n m d r low before is more =
+    let longer : take (i + 1) rs ≡ take i rs ++ r ∷ [] = take_more rs i d low ∙ ap (λ (x : LoadReply). take i rs ++ x ∷ []) is in
+    rw (longer, begun-snoc (take i rs) r, more, before) refl
 
 -- a load begins as many cells as its reply tells
 load_begins : (k : Key) (r : LoadReply) (n : ℕ) → count_cell (begins (atom.Load k r)) n ≡ n + begun_by r

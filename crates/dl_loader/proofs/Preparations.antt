@@ -26,10 +26,11 @@ use Rattle.dl_values.specs.declared.outcome.BatchAnswer.TheVariants.{Each, Break
 use Rattle.dl_values.specs.declared.job.Job.{Job}
 use Rattle.dl_source.specs.Source.{IsFor}
 use Rattle.dl_history.specs.declared.event.Reply.TheVariants.{Done}
-use Rattle.dl_loader.specs.declared.fault.CallFault.{CallFault}
-use Rattle.dl_loader.specs.declared.fault.CallFault.TheVariants.{WrongKeys}
-use Rattle.dl_loader.specs.Asks.{end_by}
-use Rattle.dl_loader.specs.Refusals.{call_fault, same_keys}
+use Rattle.dl_passes.specs.declared.fault.CallFault.{CallFault}
+use Rattle.dl_passes.specs.declared.fault.CallFault.TheVariants.{WrongKeys}
+use Rattle.dl_passes.specs.Asks.{end_by}
+use Rattle.dl_loader.specs.Refusals.{same_keys}
+use Rattle.dl_passes.specs.Faults.{call_fault}
 use Rattle.dl_desk.specs.declared.reply.DeskPrime.TheVariants as prime
 use Rattle.dl_desk.specs.declared.fault.DeskFault.TheVariants as desk_fault
 
@@ -40,8 +41,8 @@ prime_each dues (prime.Primed c) same = same
 prime_each dues prime.Kept same = same
 
 -- a prime is prepared where the desk has accepted it and replies so
-pub prime_prepared : {desk : BatchBook} {call : Call} {at : ℕ} {dues : List Due} {brings : (List Key → BatchAnswer) → Type 0} (k : Key) (o : Outcome) (r : DeskPrime)
-    → ((h : List Atom) → StandsFor desk h → r ≡ prime_reply h k) → ((h : List Atom) → StandsFor desk h → refusal desk.rules h (Primes k) ≡ None)
+pub prime_prepared : {desk : BatchBook} {call : Call} {at : ℕ} {dues : List Due} {brings : (List Key → BatchAnswer) → Type 0} (k : Key) (o : Outcome)
+    (r : DeskPrime) → ((h : List Atom) → StandsFor desk h → r ≡ prime_reply h k) → ((h : List Atom) → StandsFor desk h → refusal desk.rules h (Primes k) ≡ None)
     → call ≡ Prime k o → AreDue call at (cell_primed r) dues → IsPrepared desk (record { call = Prime k o; job = None; brings = brings })
     (record { at = at; reply = primed r; dues = dues })
 prime_prepared {desk} {call} {at} {dues} k o r told accepted is due = record {

@@ -1,17 +1,12 @@
 -- What of a shared loader may cross threads.
 use denote.RattleType.{RattleType}
-use denote.Ref.{NamedLft}
-use denote.Struct.Field.{shr_ref_field}
 use denote.Param.SendFields.{declared_send, declared_sync, as_row_send, as_row_sync}
-use denote.Param.Send.{IsSend, IsSync, sendable, shr_send}
+use denote.Param.Send.{IsSend, IsSync, sendable}
 use Rattle.std.below.core.proofs.chan.Condvar.TheSendSync as changed
 use Rattle.std.specs.declared.sync.ledger.Ledger as ledger
 use Rattle.dl_history.specs.declared.name.LoaderName as name
 use Rattle.std.proofs.Crossing.{crosses as owners_cross}
-use Rattle.dl_history.specs.contracts.event.Ending as Ending
 use Rattle.std.specs.contracts.sync.Mutex as Mutex
-use Rattle.dl_cells.specs.contracts.reader.Reader as Reader
-use Rattle.dl_cells.specs.contracts.row.CellRow as Row
 use Rattle.dl_desk.specs.contracts.desk.Desk as Desk
 use Rattle.dl_history.specs.contracts.cell_rows.CellRows as CellRows
 use Rattle.dl_history.specs.contracts.journal.Journal as Journal
@@ -19,11 +14,8 @@ use Rattle.dl_loader.specs.contracts.book.Book as Book
 use Rattle.dl_loader.specs.contracts.book.Book.TheInside as book
 use Rattle.dl_loader.specs.contracts.loader.Loader as Loader
 use Rattle.dl_loader.specs.contracts.loader.Loader.TheInside as loader
-use Rattle.dl_loader.specs.contracts.ticket.Ticket as Ticket
-use Rattle.dl_loader.specs.contracts.ticket.Ticket.TheInside as ticket
-use Rattle.dl_cells.proofs.reader.Reader.TheSendSync as reader
 use Rattle.dl_desk.proofs.desk.Desk.TheSendSync as desk
-use Rattle.dl_history.proofs.ThreadSafety.{Journal-send, CellRows-sync, outcomes_sync}
+use Rattle.dl_history.proofs.ThreadSafety.{Journal-send, CellRows-sync}
 
 module _ (T : RattleType) (n : name.Ghosts T.Denot) (l : ledger.Ghosts T.Denot) where
   book_send : IsSend (book.the_row T n l)
@@ -49,19 +41,3 @@ module _ (T : RattleType) (n : name.Ghosts T.Denot) (l : ledger.Ghosts T.Denot) 
 
   pub Loader-sync : IsSync (Loader.the_row T n l)
   Loader-sync = search (loader_sync, sendable) depth 10
-
-  module _ (a : NamedLft) where
-    ticket_send : IsSend (ticket.the_row a T n l)
-    ticket_send = declared_send (ticket.the_type a T n l) (
-      as_row_send (shr_ref_field a (Row.the_row Ending.the_row) tt) (shr_send _ _ _ outcomes_sync),
-      (
-        search (as_row_send, sendable) depth 10,
-        (
-          search (as_row_send, sendable) depth 10,
-          (as_row_send (Reader.the_field Ending.the_row) (search (reader.the_send) depth 10), (search (as_row_send, sendable) depth 10, tt)),
-        ),
-      ),
-    )
-
-    pub Ticket-send : IsSend (Ticket.the_row a T n l)
-    Ticket-send = search (ticket_send, sendable) depth 10

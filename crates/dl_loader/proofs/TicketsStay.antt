@@ -1,15 +1,15 @@
 -- The tickets that a pass had given stand as they stood, whatever was given and read since.
-use Rattle.std.proofs.Common.{◌≡◌, ◌≢◌, ◌∙◌, ap, subst, sym, ℕ, zero, suc, ◌<◌, ◌≤◌, false, List, [], ◌∷◌, ◌++◌, length}
+use Rattle.std.proofs.Common.{◌≡◌, ◌∙◌, ap, subst, sym, ℕ, zero, suc, ◌<◌, false, List, [], ◌∷◌, ◌++◌, length}
 use Rattle.std.proofs.Common.{Option, Some, None, slice_get, arith}
 use Rattle.dl_desk.specs.declared.reply.LoadReply.{LoadReply}
 use Rattle.dl_history.specs.declared.event.Call.{Call}
 use Rattle.dl_history.specs.declared.event.Reply.{Reply}
 use Rattle.dl_history.specs.Entries.{cell_of_load}
 use Rattle.dl_history.specs.Service.{Service}
-use Rattle.dl_loader.specs.Additions.{KeepsTickets}
+use Rattle.dl_passes.specs.Additions.{KeepsTickets}
 use Rattle.dl_loader.specs.EventEffect.{WasMade, event_of, loads_of}
-use Rattle.dl_loader.specs.declared.pass.GivenTicket.{GivenTicket}
-use Rattle.dl_loader.specs.Pass.{Trace, given, with_call, with_ticket, with_tickets}
+use Rattle.dl_passes.specs.declared.pass.GivenTicket.{GivenTicket}
+use Rattle.dl_passes.specs.Pass.{Trace, given, with_call, with_ticket, with_tickets}
 
 -- ---- one after another
 

@@ -5,8 +5,8 @@ use Rattle.dl_values.specs.Key.{Key}
 use Rattle.dl_values.specs.Limits.{Limits, Rules}
 use Rattle.dl_values.specs.declared.outcome.BatchAnswer.{BatchAnswer}
 use Rattle.dl_history.specs.Service.{Service, Answers, AnswersEach, service}
-use Rattle.dl_loader.specs.declared.fault.StartFault.{StartFault}
-use Rattle.dl_loader.specs.declared.fault.StartFault.TheVariants.{NoCallers, TooManyCallers, OutOfMemory}
+use Rattle.dl_passes.specs.declared.fault.StartFault.{StartFault}
+use Rattle.dl_passes.specs.declared.fault.StartFault.TheVariants.{NoCallers, TooManyCallers, OutOfMemory}
 
 -- what contracts see of an opening: its source, how batches will be made, how many callers there will be,
 -- the loader's two rows, and the name of the ledger that counts its events
@@ -55,15 +55,15 @@ service_of answer opening = service opening.rules opening.callers (answer openin
 
 -- The loader that a type stands for is the one of the opening: what the type says of it is what it serves by, the number of the
 -- ledger's parts, its two rows, and the ledger.
-pub record Names {S : Type 0} (answer : S → List Key → BatchAnswer) (opening : Opening S) (own : Service) (parts : ℕ) (log outcomes : RowName) (ledger : ℕ) : Type 0
-  where
-    pub rules : opening.rules ≡ own.rules
-    pub callers : opening.callers ≡ own.callers
-    pub answers : Answers (answer opening.source) own
-    pub parts_are : opening.callers ≡ parts
-    pub log_is : opening.log ≡ log
-    pub outcomes_are : opening.outcomes ≡ outcomes
-    pub ledger_is : opening.ledger ≡ ledger
+pub record Names {S : Type 0} (answer : S → List Key → BatchAnswer) (opening : Opening S) (own : Service) (parts : ℕ) (log outcomes : RowName)
+    (ledger : ℕ) : Type 0 where
+  pub rules : opening.rules ≡ own.rules
+  pub callers : opening.callers ≡ own.callers
+  pub answers : Answers (answer opening.source) own
+  pub parts_are : opening.callers ≡ parts
+  pub log_is : opening.log ≡ log
+  pub outcomes_are : opening.outcomes ≡ outcomes
+  pub ledger_is : opening.ledger ≡ ledger
 
 -- what holds of the fields of a loader: it has its number of callers, each with a part of the ledger, and its source
 -- answers each key

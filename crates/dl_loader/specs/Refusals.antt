@@ -7,33 +7,16 @@ use Rattle.dl_values.specs.Limits.{Rules}
 use Rattle.dl_desk.specs.Events.{atoms}
 use Rattle.dl_desk.specs.History.{Atom}
 use Rattle.dl_desk.specs.Calls as desk
-use Rattle.dl_desk.specs.declared.fault.DeskFault.{DeskFault}
-use Rattle.dl_desk.specs.declared.fault.DeskFault.TheVariants as desk_fault
 use Rattle.dl_values.specs.declared.job.Job.{Job}
 use Rattle.dl_history.specs.Service.{Service}
 use Rattle.dl_history.specs.History.{past, keys_of, call_of}
 use Rattle.dl_history.specs.Entries.{front_of}
-use Rattle.dl_loader.specs.Pass.{Trace}
+use Rattle.dl_passes.specs.Pass.{Trace}
 use Rattle.dl_loader.specs.Book.{Book}
 use Rattle.dl_history.specs.declared.event.Call.{Call}
-use Rattle.dl_history.specs.declared.journal.append.AppendFault.{AppendFault}
-use Rattle.dl_history.specs.declared.journal.append.AppendFault.TheVariants as append
-use Rattle.dl_loader.specs.declared.fault.CallFault.{CallFault}
-use Rattle.dl_loader.specs.declared.fault.CallFault.TheVariants.{Stopped, Behind, LogFull, NoBatch, NotSent, SettledBefore, WrongKeys, CellsFull, OutOfMemory}
-use Rattle.dl_loader.specs.declared.fault.CallFault.TheVariants.{LogRefused}
-
--- the desk's refusal as the loader's
-abbrev pub call_fault : DeskFault → CallFault
-call_fault desk_fault.NoBatch = NoBatch
-call_fault desk_fault.NotSent = NotSent
-call_fault desk_fault.SettledBefore = SettledBefore
-call_fault (desk_fault.CellsFull limit) = CellsFull limit
-call_fault desk_fault.OutOfMemory = OutOfMemory
-
--- the journal's refusal as the loader's
-abbrev pub append_fault : AppendFault → CallFault
-append_fault append.OutOfMemory = OutOfMemory
-append_fault append.LogRefused = LogRefused
+use Rattle.dl_passes.specs.declared.fault.CallFault.{CallFault}
+use Rattle.dl_passes.specs.declared.fault.CallFault.TheVariants.{Stopped, Behind, LogFull, WrongKeys, OutOfMemory, LogRefused}
+use Rattle.dl_passes.specs.Faults.{call_fault}
 
 -- Why a pass may make no event at all: the loader is stopped, the pass has seen more events than there are, or
 -- the history is full.

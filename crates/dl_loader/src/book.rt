@@ -1,19 +1,17 @@
 //! The book of a loader, which lies behind its lock.
 
 ghost use Rattle.std.specs.Prelude.{◌≡◌, ◌<◌, ◌≤◌, [], false, true, IfErr, None, OnOk, Some, length};
-ghost use Rattle.dl_values.specs.Limits.{mixed};
+ghost use Rattle.dl_values.specs.Limits.{rules_by};
 ghost use Rattle.dl_loader.specs.Book.{Keeps, book};
 ghost use Rattle.dl_history.specs.Entries.{cell_of_load, front_of};
 ghost use Rattle.dl_loader.specs.Refusals.{unready};
 
-mod closing;
+mod close;
 mod record;
 
-use crate::fault::CallFault;
-use crate::pass::Pass;
-use crate::ticket::{Ticket, load_cell};
-use dl_desk::{Desk, Limits, LoadReply};
+use dl_desk::{Desk, Limits, LoadReply, TableLimits};
 use dl_history::{CellRows, Journal, LoaderName};
+use dl_passes::{CallFault, Pass, Ticket, load_cell};
 use std::alloc::Global;
 use std::hash::RandomState;
 use std::marker::Model;
@@ -51,15 +49,20 @@ impl<L: LoaderName> Book<L> {
         alloc: Global,
         hashing: RandomState,
         limits: Limits,
+        tables: Option<TableLimits>,
         calls: ledger::Book<L>,
     ) -> Book<L>
-        requires rules { mixed limits ≡ L.service.rules }
+        requires rules { rules_by limits tables ≡ L.service.rules }
         requires none_counted { calls.total ≡ 0 }
         ensures history { result.history ≡ [] }
         ensures not_stopped { result.stopped ≡ false }
     {
+        let desk = match tables {
+            Some(tables) => Desk::by_table(alloc, hashing, limits, tables),
+            None => Desk::new(alloc, hashing, limits),
+        };
         Book {
-            desk: Desk::new(alloc, hashing, limits),
+            desk,
             journal: Journal::new(alloc, calls),
             stopped: false,
         }

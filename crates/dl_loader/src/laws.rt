@@ -2,28 +2,24 @@
 
 ghost use Rattle.dl_history.specs.Service.{Answers};
 ghost use Rattle.std.specs.Prelude.{◌≡◌, ◌+◌, None, IfErr, IfOk, IfSome, OnErr, OnOk};
-ghost use Rattle.dl_cells.specs.Cells.{Agrees};
-ghost use Rattle.dl_loader.specs.Asks.{call_asked, job_asked, source_asked};
+ghost use Rattle.dl_passes.specs.Asks.{call_asked, job_asked, source_asked};
 ghost use Rattle.dl_loader.specs.Book.{Keeps};
-ghost use Rattle.dl_history.specs.Entries.{cell_of_load};
 ghost use Rattle.dl_history.specs.Journal.{refusals};
 ghost use Rattle.dl_loader.specs.EventEffect.{Makes};
 ghost use Rattle.dl_loader.specs.Refusals.{refusal, IsRefusal};
 
-use crate::ask::Ask;
 use crate::book::Book;
 use crate::event_call::{
     Clear, ClearAll, Dispatch, Fail, Load, LoadMany, Prime, Settle, prime_told,
 };
-use crate::fault::CallFault;
 use crate::loader::Loader;
-use crate::pass::Pass;
-use crate::ticket::Ticket;
 pub use dl_history::laws::{
     batches_are_within_limits, ends_stay, events_are_calls, fresh_loads_are_apart,
     histories_begin_empty,
 };
 use dl_history::{CellRows, Jobs, LoaderName, Replies, Reply};
+pub use dl_passes::laws::looks_agree;
+use dl_passes::{Ask, CallFault, Pass};
 use dl_source::Source;
 use std::alloc::Global;
 
@@ -60,15 +56,6 @@ pub fn event<'a, L: LoaderName, S: Source>(
         }
         Err(fault) => Err((fault, ask)),
     }
-}
-
-/// All looks of one cell show one outcome: what two tickets of it have shown is the same, with the same place
-/// of the event that gave it, whichever threads looked.
-pub fn looks_agree<L: LoaderName>(one: &Ticket<'_, L>, other: &Ticket<'_, L>)
-    requires cell { cell_of_load other.now.reply ≡ cell_of_load one.now.reply }
-    ensures { IfSome other.now.known (Agrees one.now.known) }
-{
-    one.agree(other);
 }
 
 /// Makes the event that is asked for.

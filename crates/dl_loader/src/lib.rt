@@ -5,29 +5,22 @@
 //! knows of the history stands in its [`Pass`].
 #![tactic(auto)]
 
-mod ask;
 mod book;
 mod calls;
 mod dues;
 mod event_call;
-mod fault;
 pub mod laws;
 mod load_replies;
 mod loader;
 mod opening;
-mod pass;
-mod reply;
-mod ticket;
 
-pub use ask::{Ask, GiveUp};
 pub use book::Book;
 pub use dl_history::{
     Batches, Call, EndedBatch, Ending, Entry, EntryKind, Event, Events, History, Jobs, LoaderName,
     Replies, Reply,
 };
-pub use fault::{CallFault, CloseFault, StartFault, Stopped};
+pub use dl_passes::{
+    Ask, CallFault, CloseFault, GiveUp, Pass, PrimeReply, Settled, StartFault, Stopped, Ticket,
+};
 pub use loader::Loader;
 pub use opening::{MOST_CALLERS, Opening};
-pub use pass::Pass;
-pub use reply::{PrimeReply, Settled};
-pub use ticket::Ticket;

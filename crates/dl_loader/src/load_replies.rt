@@ -2,15 +2,14 @@
 
 ghost use Rattle.std.specs.Prelude.{◌≡◌, ◌-◌, ◌<◌, ◌≤◌, [], length, vec_capacity};
 ghost use Rattle.dl_loader.specs.Inside.NewCells.{begun_by, begun_in, cells_begun};
-ghost use Rattle.dl_history.specs.Entries.{cell_of_load, cells_of};
-ghost use Rattle.dl_history.specs.Lists.{Among, Every};
-ghost use Rattle.dl_loader.specs.Pass.{AreTickets, with_tickets};
+ghost use Rattle.dl_history.specs.Entries.{cell_of_load};
+ghost use Rattle.dl_history.specs.Lists.{Every};
+ghost use Rattle.dl_passes.specs.Pass.{AreTickets};
 
 use crate::book::Book;
-use crate::pass::Pass;
-use crate::ticket::{Ticket, load_cell};
 use dl_desk::LoadReply;
 use dl_history::{CellRows, LoaderName, Reply};
+use dl_passes::{Pass, Ticket};
 
 /// How many cells a load began.
 pub(crate) fn begun_by(reply: LoadReply) -> u32
@@ -82,16 +81,5 @@ impl<L: LoaderName> Book<L> {
             let number = first + tickets.len();
             tickets.push_reserved(self.ticket(rows, number, *reply));
         }
-    }
-}
-
-/// Adds a ticket for each load.
-pub(crate) fn add_tickets<L: LoaderName>(pass: &mut Pass<L>, replies: &[LoadReply])
-    requires room { length replies.now ≤ pass.old.spare }
-    requires answered { Every (λ r. Among (cell_of_load r) (cells_of pass.old.trace.entries)) replies.now }
-    ensures { pass.new.trace ≡ with_tickets pass.old.trace replies.now }
-{
-    for reply in replies {
-        pass.add_ticket(load_cell(*reply));
     }
 }

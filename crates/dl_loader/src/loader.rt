@@ -1,21 +1,19 @@
 //! The shared loader.
 
 ghost use Rattle.std.specs.Prelude.{◌≡◌, Bool, IfErr, IfOk, IfSome, IsSome, None, OnErr, OnOk, Some, map};
-ghost use Rattle.dl_loader.specs.declared.fault.StartFault.TheVariants.{OutOfMemory};
+ghost use Rattle.dl_passes.specs.declared.fault.StartFault.TheVariants.{OutOfMemory};
 ghost use Rattle.dl_history.specs.Entries.{cell_of_load, ending_known};
 ghost use Rattle.dl_loader.specs.Book.{SomeStopped};
 ghost use Rattle.dl_loader.specs.Opening.{Names};
-ghost use Rattle.dl_loader.specs.Pass.{GaveTicket, new_traces, with_saw};
+ghost use Rattle.dl_passes.specs.Pass.{GaveTicket, new_traces, with_saw};
 
 mod close;
 mod unshown;
 
 use crate::book::Book;
-use crate::fault::{StartFault, Stopped};
 use crate::opening::Opening;
-use crate::pass::Pass;
-use crate::ticket::Ticket;
 use dl_history::{CellRows, LoaderName};
+use dl_passes::{Pass, StartFault, Stopped, Ticket};
 use dl_source::Source;
 use std::alloc::{AllocError, Global};
 use std::marker::Model;
@@ -23,6 +21,21 @@ use std::sync::ledger::Share;
 use std::sync::{Condvar, Mutex, MutexGuard, Wait};
 
 /// A loader that threads share by reference. Each of its callers has a [`Pass`].
+///
+/// # Examples
+/// Loads a user, sends the batch, ends its job, and prints the outcome, from `crates/example_one_caller`:
+///
+/// ```rust
+/// let key = FetchKey::new(alloc, "user", "u1")?;
+/// let mut ticket = loader.load(rt, alloc, pass, &key)?;
+/// let jobs = loader.dispatch(rt, alloc, pass)?;
+/// end_jobs(rt, alloc, loader, source, pass, jobs)?;
+/// loader.wait(rt, pass, &mut ticket)?;
+/// match ticket.look() {
+///     Some(Outcome::Value(name)) => println!(rt; "{}", name.to_text(alloc)?)?,
+///     _ => bail!("no user"),
+/// }
+/// ```
 pub struct Loader<L: LoaderName> {
     callers: u32,
     pub(crate) rows: CellRows<L>,
@@ -69,6 +82,7 @@ impl<L: LoaderName> Loader<L> {
         let Opening {
             hashing,
             limits,
+            tables,
             callers,
             log,
             outcomes,
@@ -77,7 +91,7 @@ impl<L: LoaderName> Loader<L> {
         } = opening;
         let (calls, all) = blank.open::<L>();
         let passes = deal(alloc, callers, all)?;
-        let book = Book::new(alloc, hashing, limits, calls);
+        let book = Book::new(alloc, hashing, limits, tables, calls);
         let loader = Loader {
             callers,
             rows: CellRows::new(limits, log, outcomes),

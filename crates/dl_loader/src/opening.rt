@@ -1,13 +1,13 @@
 //! What a loader is opened with.
 
 ghost use Rattle.std.specs.Prelude.{◌≡◌, IfOk, IfErr, OnOk};
-ghost use Rattle.dl_values.specs.Limits.{mixed};
+ghost use Rattle.dl_values.specs.Limits.{mixed, by_table, rules_by};
 ghost use Rattle.dl_loader.specs.Opening.{AreCallers, RefusedAs};
 
-use crate::fault::StartFault;
 use dl_cells::CellRow;
-use dl_desk::Limits;
+use dl_desk::{Limits, TableLimits};
 use dl_history::{Ending, Event};
+use dl_passes::StartFault;
 use dl_source::Source;
 use std::alloc::Global;
 use std::hash::RandomState;
@@ -27,6 +27,8 @@ pub struct Opening<'s, S: Source> {
     source: &'s S,
     pub(crate) hashing: RandomState,
     pub(crate) limits: Limits,
+    // Where each batch is of one table.
+    pub(crate) tables: Option<TableLimits>,
     pub(crate) callers: u32,
     pub(crate) log: CellRow<Event>,
     pub(crate) outcomes: CellRow<Ending>,
@@ -34,14 +36,14 @@ pub struct Opening<'s, S: Source> {
 }
 
 impl<'s, S: Source> Model for Opening<'s, S> {
-    ghost use Rattle.dl_values.specs.Limits.{mixed};
+    ghost use Rattle.dl_values.specs.Limits.{rules_by};
     ghost use Rattle.dl_loader.specs.Opening.{Opening, IsOpening};
 
     ghost Value = { Opening S };
 
     ghost view = { λ o. record {
       source = o.source.now;
-      rules = mixed o.limits;
+      rules = rules_by o.limits o.tables;
       callers = o.blank.parts;
       log = o.log;
       outcomes = o.outcomes;
@@ -76,6 +78,45 @@ impl<'s, S: Source> Opening<'s, S> {
         ensures accepted { OnOk result (AreCallers callers) }
         ensures refused { IfErr result (RefusedAs callers) }
     {
+        Opening::of(alloc, hashing, source, limits, None, callers)
+    }
+
+    /// An opening of a loader over a source, each of whose batches is of one table, and has at most as many keys as the
+    /// limit of that table, or else `max_batch` of the limits. All else is as in [`new`](Opening::new).
+    ///
+    /// # Errors
+    /// As [`new`](Opening::new).
+    pub fn by_table(
+        alloc: Global,
+        hashing: RandomState,
+        source: &'s S,
+        limits: Limits,
+        tables: TableLimits,
+        callers: u32,
+    ) -> Result<Opening<'s, S>, StartFault>
+        ensures source { IfOk result (λ o. o.source ≡ source.now) }
+        ensures rules { IfOk result (λ o. o.rules ≡ by_table limits tables) }
+        ensures callers { IfOk result (λ o. o.callers ≡ callers) }
+        ensures accepted { OnOk result (AreCallers callers) }
+        ensures refused { IfErr result (RefusedAs callers) }
+    {
+        Opening::of(alloc, hashing, source, limits, Some(tables), callers)
+    }
+
+    fn of(
+        alloc: Global,
+        hashing: RandomState,
+        source: &'s S,
+        limits: Limits,
+        tables: Option<TableLimits>,
+        callers: u32,
+    ) -> Result<Opening<'s, S>, StartFault>
+        ensures source { IfOk result (λ o. o.source ≡ source.now) }
+        ensures rules { IfOk result (λ o. o.rules ≡ rules_by limits tables) }
+        ensures callers { IfOk result (λ o. o.callers ≡ callers) }
+        ensures accepted { OnOk result (AreCallers callers) }
+        ensures refused { IfErr result (RefusedAs callers) }
+    {
         if callers == 0 {
             return Err(StartFault::NoCallers);
         }
@@ -86,6 +127,7 @@ impl<'s, S: Source> Opening<'s, S> {
             source,
             hashing,
             limits,
+            tables,
             callers,
             log: CellRow::new(alloc, limits.max_calls())?,
             outcomes: CellRow::new(alloc, limits.max_cells())?,

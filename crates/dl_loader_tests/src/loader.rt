@@ -22,6 +22,7 @@ use dl_loader::{CloseFault, MOST_CALLERS, Opening, StartFault};
 use dl_source::Tables;
 use std::alloc::Global;
 use std::hash::RandomState;
+use std::io::Eprint;
 use std::marker::Brand;
 use std::process::Abort;
 use std::random::RandomSource;
@@ -38,17 +39,19 @@ fn hashing<R: Abort + RandomSource>(rt: &R) -> RandomState {
     RandomState::new(rt).expect(rt, "no random numbers")
 }
 
-/// Makes the calls and the closes of a row on a loader over these tables.
-fn play_over<R: Abort + Wait>(
+/// Makes the calls and the closes of a row on a loader of its own over these tables. What the row is about is told first,
+/// so where an assertion fails the last text told names its row.
+fn play_over<R: Abort + Eprint + RandomSource + Wait>(
     rt: &R,
     alloc: Global,
     users: &Tables,
-    hashing: RandomState,
     row: &Row,
 ) {
+    rt.eprintln(row.about).expect(rt, "no text told");
     let (max_batch, max_cells, max_calls) = row.limits;
     let limits = Limits::new(max_batch, max_cells, max_calls).expect(rt, "no limits");
-    let opening = Opening::new(alloc, hashing, users, limits, row.callers).expect(rt, "no opening");
+    let opening = Opening::new(alloc, hashing(rt), users, limits, row.callers);
+    let opening = opening.expect(rt, "no opening");
     row::play::<Brand, _, _>(rt, alloc, users, opening, row.parts);
 }
 
@@ -63,15 +66,10 @@ static COUNTS: [(u32, Option<StartFault>); 4] = [
 #[test]
 fn numbers_of_callers_out_of_range(rt: HostRuntime) {
     let users = users(&rt, rt.alloc());
-    open_by_counts(&rt, rt.alloc(), &users, hashing(&rt));
-}
-
-/// Openings of loaders over these tables are refused for their numbers of callers.
-fn open_by_counts(rt: &impl Abort, alloc: Global, users: &Tables, hashing: RandomState) {
-    let limits = Limits::new(1, 1, 2).expect(rt, "no limits");
+    let limits = Limits::new(1, 1, 2).expect(&rt, "no limits");
     for (callers, fault) in &COUNTS {
-        let refused = Opening::new(alloc, hashing, users, limits, *callers).err();
-        keys::assert_same(rt, "fault", refused, *fault);
+        let refused = Opening::new(rt.alloc(), hashing(&rt), &users, limits, *callers).err();
+        keys::assert_same(&rt, "fault", refused, *fault);
     }
 }
 

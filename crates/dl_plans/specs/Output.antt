@@ -2,7 +2,7 @@
 use Rattle.std.specs.Prelude.{ℕ, List, [], ◌∷◌, ◌++◌, Option, Some, None}
 use Rattle.dl_desk.specs.Calls.{DeskCall, Loads, Primes, Clears, ClearsAll, Sends, Settles, Fails, refusal, after}
 use Rattle.dl_desk.specs.History.{Atom, load_reply, load_replies, prime_reply, jobs}
-use Rattle.dl_values.specs.Limits.{Rules, mixed}
+use Rattle.dl_values.specs.Limits.{Rules, rules_by}
 use Rattle.dl_desk.specs.declared.fault.DeskFault.{DeskFault}
 use Rattle.dl_plans.specs.Lines.{done_line, load_line, many_lines, prime_line, sent_lines, refused_line}
 use Rattle.dl_documents.specs.declared.input.Script.{Script}
@@ -54,4 +54,4 @@ calls_text rules history (call ∷ calls) = call_lines rules history call ++ cal
 
 -- the text that a script gives
 abbrev pub script_text : Script → List ℕ
-script_text s = calls_text (mixed s.limits) [] s.calls
+script_text s = calls_text (rules_by s.limits s.table_limits) [] s.calls

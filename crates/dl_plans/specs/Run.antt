@@ -1,5 +1,5 @@
 -- What a run reads and writes.
-use Rattle.std.specs.Prelude.{◌≡◌, ℕ, ◌≤◌, List, length, take, Option}
+use Rattle.std.specs.Prelude.{◌≡◌, ℕ, ◌≤◌, List, length, take, Option, None}
 use Rattle.std.specs.Io.KnownBytes.{Appends, Consumes}
 use Rattle.serde_json.specs.Data.{Data}
 use Rattle.dl_documents.specs.Document.{IsTextOf, Spells}
@@ -43,7 +43,7 @@ queue_places = 16
 
 -- how the program serves a plan file
 abbrev pub setup_of : Options → PlanFile → Setup
-setup_of options file = record { limits = file.limits; workers = options.workers; queue = queue_places }
+setup_of options file = record { limits = file.limits; tables = file.table_limits; workers = options.workers; queue = queue_places }
 
 -- what the plans of a file are served by: its tables
 abbrev pub file_service : Options → PlanFile → Service

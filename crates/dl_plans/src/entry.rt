@@ -31,7 +31,7 @@ pub fn plans<
 }
 
 /// The words behind the program's name.
-fn words<R: Env + AllocGlobal>(rt: &R) -> io::Result<Vec<String>> {
+pub fn words<R: Env + AllocGlobal>(rt: &R) -> io::Result<Vec<String>> {
     let words = env::args(rt)?.skip(1).collect(rt.alloc())?;
     Ok(words)
 }
@@ -45,7 +45,7 @@ fn tell_unread<R: Print + Eprint + AllocGlobal>(rt: &R, error: &io::Error) {
 }
 
 /// Says why words give no options: an allocation failed; or clap says that they are refused, or gives the help asked for.
-fn tell_no_options<R: Print + Eprint>(rt: &R, error: &clap::Error) {
+pub fn tell_no_options<R: Print + Eprint>(rt: &R, error: &clap::Error) {
     let _ = match error.kind() {
         ErrorKind::OutOfMemory => eprintln!(rt; "{}", RunError::OutOfMemory),
         _ => error.print(rt),

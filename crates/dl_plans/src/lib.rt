@@ -18,9 +18,10 @@ pub use command::options;
 pub use dl_documents::{
     Calls, Input, MOST_BYTES, PlanFault, PlanFile, Script, ScriptCall, read_input,
 };
-pub use entry::plans;
+pub use entry::{plans, tell_no_options, words};
 pub use fault::RunError;
-pub use program::run;
+pub use program::{read_all, run, served, write_all};
 pub use report::report_text;
 pub use script_text::run_script;
 pub use settings::Options;
+pub use status::{FAILED, RAN, command_status, words_status};

@@ -85,8 +85,12 @@ fn output<T: Threads + Wait + Sync>(
     }
 }
 
-/// What serving the plans of a file over its tables leaves.
-fn served<T: Threads + Wait + Sync>(
+/// What serving the plans of a file over its tables leaves: at once, each on a thread of its own, within the limits of the file,
+/// by as many workers as the options say, over a queue of `QUEUE_PLACES`.
+///
+/// # Errors
+/// Those of [`serve`].
+pub fn served<T: Threads + Wait + Sync>(
     rt: &T,
     alloc: Global,
     hashing: RandomState,
@@ -96,20 +100,19 @@ fn served<T: Threads + Wait + Sync>(
     ensures headline { IfOk result (Headline (file_service options file) file.plans.items) }
     ensures refused { IfErr result (RefusedAs (file_service options file) (setup_of options file) file.plans.items) }
 {
-    let setup = setup(&file, options);
-    let PlanFile { tables, plans, .. } = file;
-    serve(rt, alloc, hashing, &tables, setup, plans, &NoGate)
-}
-
-/// How a plan file is served: within its limits, by as many workers as the options say, over a queue of `QUEUE_PLACES`.
-fn setup(file: &PlanFile, options: Options) -> Setup
-    ensures { result ≡ setup_of options file.now }
-{
-    Setup {
-        limits: file.limits,
+    let PlanFile {
+        tables,
+        plans,
+        limits,
+        table_limits,
+    } = file;
+    let setup = Setup {
+        limits,
+        tables: table_limits,
         workers: options.workers,
         queue: QUEUE_PLACES,
-    }
+    };
+    serve(rt, alloc, hashing, &tables, setup, plans, &NoGate)
 }
 
 /// The bytes that the reader has, up to one more than a document's. A read is repeated until it
@@ -117,8 +120,8 @@ fn setup(file: &PlanFile, options: Options) -> Setup
 ///
 /// # Errors
 /// `Read` at a read that fails, also an interrupted one, and `OutOfMemory` where an allocation failed.
-fn read_all<R: Read>(alloc: Global, reader: &mut R) -> Result<Vec<u8>, RunError>
-    ensures bytes { IfOk result (λ v. IfSome (R.remaining reader.old) (λ bytes. v.items ≡ take MOST_READ bytes)) }
+pub fn read_all<R: Read>(alloc: Global, reader: &mut R) -> Result<Vec<u8>, RunError>
+    ensures bytes { IfOk result (λ v. IfSome (R.remaining reader.old) (λ bytes. v.items ≡ take (most_bytes + 1) bytes)) }
     ensures reads { ReadsAtMost (most_bytes + 1) (R.remaining reader.old) (R.remaining reader.new) }
     ensures err { IfErr result (λ e. (e ≡ RunError.Read) ⊎ (e ≡ RunError.OutOfMemory)) }
 {
@@ -142,7 +145,7 @@ fn read_all<R: Read>(alloc: Global, reader: &mut R) -> Result<Vec<u8>, RunError>
 /// # Errors
 /// `Write` at a write that fails, also an interrupted one, or takes nothing, and at a flush that
 /// fails. What was written is then a front of the text.
-fn write_all<W: Write>(writer: &mut W, text: &[u8]) -> Result<(), RunError>
+pub fn write_all<W: Write>(writer: &mut W, text: &[u8]) -> Result<(), RunError>
     ensures ok { OnOk result (Appends (W.contents writer.old) (W.contents writer.new) text.now) }
     ensures err { IfErr result (λ e. e ≡ RunError.Write) }
     ensures front { AppendsFront (W.contents writer.old) (W.contents writer.new) text.now }

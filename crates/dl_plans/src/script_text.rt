@@ -1,6 +1,7 @@
 //! Answering a script.
 
-ghost use Rattle.std.specs.Prelude.{◌≡◌, ◌++◌, List, IfOk, OnOk, string_bytes};
+ghost use Rattle.std.specs.Prelude.{◌≡◌, ◌++◌, [], List, IfOk, OnOk, string_bytes};
+ghost use Rattle.dl_values.specs.Limits.{rules_by};
 ghost use Rattle.dl_desk.specs.BatchBook.{StandsFor};
 ghost use Rattle.dl_desk.specs.History.{Atom};
 ghost use Rattle.dl_plans.specs.Output.{script_text, call_lines, next_history};
@@ -21,12 +22,23 @@ pub fn run_script(
 ) -> Result<String, AllocError>
     ensures { IfOk result (λ text. string_bytes text ≡ script_text script.now) }
 {
-    let mut desk = Desk::new(alloc, hashing, script.limits);
+    let mut desk = new_desk(alloc, hashing, script)?;
     let mut out = String::new(alloc);
     'calls: for call in script.calls.as_slice() {
         push_answer(alloc, &mut out, &mut desk, call)?;
     }
     Ok(out)
+}
+
+/// The desk of a script, within its limits. The error is that a reference count would overflow.
+fn new_desk(alloc: Global, hashing: RandomState, script: &Script) -> Result<Desk, AllocError>
+    ensures rules { IfOk result (λ desk. desk.book.rules ≡ rules_by script.now.limits script.now.table_limits) }
+    ensures stands { IfOk result (λ desk. StandsFor desk.book []) }
+{
+    match &script.table_limits {
+        None => Ok(Desk::new(alloc, hashing, script.limits)),
+        Some(tables) => Ok(Desk::by_table(alloc, hashing, script.limits, tables.try_copy()?)),
+    }
 }
 
 /// The lines of a call, and the desk after it.

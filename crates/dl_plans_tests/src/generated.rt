@@ -4,9 +4,10 @@ ghost use Rattle.std.specs.Prelude.{◌<◌};
 
 use crate::comparison::assert_is;
 use crate::lines::lines_of;
-use crate::reference::{mixed, script};
+use crate::reference::{by_table, mixed, script};
 use dl_documents::Script;
 use dl_plans::run_script;
+use dl_reference::Rules;
 use std::alloc::{AllocError, Global};
 use std::hash::RandomState;
 use std::process::Abort;
@@ -19,6 +20,12 @@ const KEYS: [&str; 5] = [
     r#"["s","a"]"#,
     r#"["s","b"]"#,
 ];
+
+/// The first members of a script whose batches may mix tables.
+const MIXED: &str = r#""script":1"#;
+
+/// The first members of a script whose batches have one table each, and those of s one key.
+const BY_TABLE: &str = r#""script":2,"tableLimits":[["s",1]]"#;
 
 /// Numbers that look random, the same on each run.
 #[derive(Drop)]
@@ -80,13 +87,13 @@ impl Numbers {
         }
     }
 
-    /// Writes a script of 30 calls.
-    fn write_script(&mut self, text: &mut String) -> Result<(), AllocError> {
+    /// Writes a script of 30 calls, which begins with these members.
+    fn write_script(&mut self, text: &mut String, members: &str) -> Result<(), AllocError> {
         let max_batch = 1 + self.below(3);
         let max_cells = 4 + self.below(12);
         write!(
             text,
-            "{{\"script\":1,\"maxBatchSize\":{max_batch},\"maxCells\":{max_cells},\"calls\":["
+            "{{{members},\"maxBatchSize\":{max_batch},\"maxCells\":{max_cells},\"calls\":["
         )?;
         for index in 0..30 {
             text.push_str(if index == 0 { "" } else { "," })?;
@@ -96,17 +103,29 @@ impl Numbers {
     }
 }
 
-/// The desk prints of a script what the reference loader prints.
-fn assert_same(rt: &impl Abort, alloc: Global, hashing: RandomState, script: &Script) {
-    let want = lines_of(alloc, &mixed(script.limits), script).expect(rt, "no memory");
+/// The desk prints of a script what the reference loader prints by these rules.
+fn assert_same(
+    rt: &impl Abort,
+    alloc: Global,
+    hashing: RandomState,
+    rules: &Rules,
+    script: &Script,
+) {
+    let want = lines_of(alloc, rules, script).expect(rt, "no memory");
     let text = run_script(alloc, hashing, script).expect(rt, "no memory");
     assert_is(rt, &text.as_str(), &want.as_str(), "a script");
 }
 
-/// The script that is made up of the numbers from a seed on.
-fn made_up(rt: &impl Abort, alloc: Global, hashing: RandomState, seed: u64) -> Script {
+/// The script that begins with these members and is made up of the numbers from a seed on.
+fn made_up(
+    rt: &impl Abort,
+    alloc: Global,
+    hashing: RandomState,
+    members: &str,
+    seed: u64,
+) -> Script {
     let mut document = String::new(alloc);
-    let written = Numbers { state: seed }.write_script(&mut document);
+    let written = Numbers { state: seed }.write_script(&mut document, members);
     written.expect(rt, "no memory");
     script(alloc, hashing, document.as_str()).expect(rt, "no script")
 }
@@ -115,7 +134,17 @@ fn made_up(rt: &impl Abort, alloc: Global, hashing: RandomState, seed: u64) -> S
 fn the_desk_prints_what_the_reference_loader_prints(rt: HostRuntime) {
     let hashing = RandomState::new(&rt).expect(&rt, "no random numbers");
     for seed in 0..300u64 {
-        let script = made_up(&rt, rt.alloc(), hashing, seed);
-        assert_same(&rt, rt.alloc(), hashing, &script);
+        let script = made_up(&rt, rt.alloc(), hashing, MIXED, seed);
+        assert_same(&rt, rt.alloc(), hashing, &mixed(script.limits), &script);
+    }
+}
+
+#[test]
+fn the_desk_prints_what_the_reference_loader_prints_by_table(rt: HostRuntime) {
+    let hashing = RandomState::new(&rt).expect(&rt, "no random numbers");
+    for seed in 0..300u64 {
+        let script = made_up(&rt, rt.alloc(), hashing, BY_TABLE, seed);
+        let rules = by_table(&rt, rt.alloc(), script.limits);
+        assert_same(&rt, rt.alloc(), hashing, &rules, &script);
     }
 }

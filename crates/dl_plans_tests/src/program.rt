@@ -16,8 +16,12 @@ use std::sync::Wait;
 use std::thread::Threads;
 
 /// A plan file whose one plan takes two rounds, and the text that it gives with its batches.
-const DOCUMENT: &str =
-    r#"{"version":1,"maxBatchSize":2,"tables":[{"name":"user","rows":[["u1",{"best":"u2","friends":["u2","u3"],"name":"Ada"}],["u2",{"best":"u1","friends":[],"name":"Bob"}],["u3",{"name":"Cy"}]],"errors":[["u9","gone"]],"breaks":[["u13","db down"]]}],"plans":[[{"eval":{"pick":[{"follow":[{"load":["user","u1"]},"best","user"]},"name"]}}]]}"#;
+const DOCUMENT: &str = concat!(
+    r#"{"version":1,"maxBatchSize":2,"tables":[{"name":"user","rows":["#,
+    r#"["u1",{"best":"u2","friends":["u2","u3"],"name":"Ada"}],["u2",{"best":"u1","friends":[],"name":"Bob"}],"#,
+    r#"["u3",{"name":"Cy"}]],"errors":[["u9","gone"]],"breaks":[["u13","db down"]]}],"#,
+    r#""plans":[[{"eval":{"pick":[{"follow":[{"load":["user","u1"]},"best","user"]},"name"]}}]]}"#
+);
 
 const TEXT: &str =
     "0 0 ok \"Bob\"\nrounds 2\nbatch 0 [[\"user\",\"u1\"]] settled\nbatch 1 [[\"user\",\"u2\"]] settled\n";

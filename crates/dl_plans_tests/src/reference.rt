@@ -53,7 +53,10 @@ static ROWS: [(&str, &str, &str); 17] = [
     ),
     (
         "a batch ends once after it was sent",
-        r#"{"script":1,"maxBatchSize":2,"calls":[{"load":["t","a"]},{"settle":0},{"dispatch":true},{"settle":0},{"load":["t","a"]},{"settle":0},{"fail":0},{"settle":5}]}"#,
+        concat!(
+            r#"{"script":1,"maxBatchSize":2,"calls":[{"load":["t","a"]},{"settle":0},{"dispatch":true},{"settle":0},"#,
+            r#"{"load":["t","a"]},{"settle":0},{"fail":0},{"settle":5}]}"#
+        ),
         "fresh 0 0\nrefused NotSent\nsent 1\njob 0 [\"t\",\"a\"]\nok\nhit 0\nrefused SettledBefore\nrefused SettledBefore\nrefused NoBatch\n",
     ),
     (
@@ -73,7 +76,11 @@ static ROWS: [(&str, &str, &str); 17] = [
     ),
     (
         "a call that needs too many cells adds nothing",
-        r#"{"script":1,"maxBatchSize":2,"maxCells":2,"calls":[{"load":["t","a"]},{"loadMany":[["t","b"],["t","c"],["t","b"]]},{"loadMany":[["t","b"],["t","b"],["t","a"]]},{"prime":["t","c"]}]}"#,
+        concat!(
+            r#"{"script":1,"maxBatchSize":2,"maxCells":2,"calls":[{"load":["t","a"]},"#,
+            r#"{"loadMany":[["t","b"],["t","c"],["t","b"]]},{"loadMany":[["t","b"],["t","b"],["t","a"]]},"#,
+            r#"{"prime":["t","c"]}]}"#
+        ),
         "fresh 0 0\nrefused CellsFull 2\nmany 3\nfresh 1 0\nhit 1\nhit 0\nrefused CellsFull 2\n",
     ),
     (
@@ -83,7 +90,10 @@ static ROWS: [(&str, &str, &str); 17] = [
     ),
     (
         "ends come in any order",
-        r#"{"script":1,"maxBatchSize":1,"calls":[{"load":["t","a"]},{"load":["t","b"]},{"dispatch":true},{"settle":1},{"fail":0},{"load":["t","a"]},{"load":["t","b"]},{"dispatch":true}]}"#,
+        concat!(
+            r#"{"script":1,"maxBatchSize":1,"calls":[{"load":["t","a"]},{"load":["t","b"]},{"dispatch":true},"#,
+            r#"{"settle":1},{"fail":0},{"load":["t","a"]},{"load":["t","b"]},{"dispatch":true}]}"#
+        ),
         "fresh 0 0\nfresh 1 1\nsent 2\njob 0 [\"t\",\"a\"]\njob 1 [\"t\",\"b\"]\nok\nok\nfresh 2 2\nhit 1\nsent 1\njob 2 [\"t\",\"a\"]\n",
     ),
     (
@@ -95,12 +105,16 @@ static ROWS: [(&str, &str, &str); 17] = [
 ];
 
 /// Loads of the tables t and s in turn, and a dispatch.
-const TWO_TABLES: &str =
-    r#"{"script":1,"maxBatchSize":2,"calls":[{"load":["t","a"]},{"load":["s","x"]},{"load":["t","b"]},{"load":["s","y"]},{"load":["t","c"]},{"dispatch":true}]}"#;
+const TWO_TABLES: &str = concat!(
+    r#"{"script":1,"maxBatchSize":2,"calls":[{"load":["t","a"]},{"load":["s","x"]},{"load":["t","b"]},"#,
+    r#"{"load":["s","y"]},{"load":["t","c"]},{"dispatch":true}]}"#
+);
 
 /// What they print where each batch is of one table, and those of s have one key.
-const BY_TABLE: &str =
-    "fresh 0 0\nfresh 1 1\nfresh 2 0\nfresh 3 2\nfresh 4 3\nsent 4\njob 0 [\"t\",\"a\"] [\"t\",\"b\"]\njob 1 [\"s\",\"x\"]\njob 2 [\"s\",\"y\"]\njob 3 [\"t\",\"c\"]\n";
+const BY_TABLE: &str = concat!(
+    "fresh 0 0\nfresh 1 1\nfresh 2 0\nfresh 3 2\nfresh 4 3\nsent 4\njob 0 [\"t\",\"a\"] [\"t\",\"b\"]\n",
+    "job 1 [\"s\",\"x\"]\njob 2 [\"s\",\"y\"]\njob 3 [\"t\",\"c\"]\n"
+);
 
 /// The script that a document is, if it is one.
 pub(crate) fn script(alloc: Global, hashing: RandomState, document: &str) -> Option<Script> {
@@ -119,7 +133,7 @@ pub(crate) fn mixed(limits: Limits) -> Rules {
 }
 
 /// Rules of a loader whose batches have one table each, and those of s one key.
-fn by_table(rt: &impl Abort, alloc: Global, limits: Limits) -> Rules {
+pub(crate) fn by_table(rt: &impl Abort, alloc: Global, limits: Limits) -> Rules {
     let table = Text::new(alloc, "s").expect(rt, "no memory");
     let tables = vec![in alloc; (table, 1)].expect(rt, "no memory");
     Rules {

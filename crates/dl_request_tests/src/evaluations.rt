@@ -5,10 +5,13 @@ ghost use Rattle.dl_history.specs.Service.{Answers};
 ghost use Rattle.dl_loader.specs.Opening.{Names};
 
 use crate::comparison::assert_is;
-use crate::rows::{Player, Row, try_row};
+use crate::rows::{Player, ROW, Row, try_row};
+use crate::scene::Scene;
 use crate::texts::evaluation_text;
-use dl_desk::Limits;
-use dl_fixtures::{ADA, BEST, FRIENDS, Shape, U1, U2, USERS, list_text, tables, term};
+use dl_desk::{FetchKey, Limits};
+use dl_fixtures::{
+    ADA, BEST, BOB, FRIENDS, Shape, U1, U2, USERS, list_text, outcome_text, tables, term,
+};
 use dl_haxl::run_inline;
 use dl_loader::{Loader, LoaderName, Opening, Pass};
 use dl_source::{Source, Tables};
@@ -20,18 +23,6 @@ use std::sync::Wait;
 
 /// The rows of the users `u2` and `u3`.
 pub(crate) const TWO_FRIENDS: &str = r#"[{"best":"u1","friends":[],"name":"Bob"},{"name":"Cy"}]"#;
-
-/// A row of a term that needs no load, from which the others differ.
-const ROW: Row<'static> = Row {
-    about: "a value",
-    term: Shape::Value("7"),
-    max_batch: 2,
-    max_cells: 8,
-    answer: "7",
-    rounds: 0,
-    batches: &[],
-    settled: true,
-};
 
 pub(crate) static ROWS: [Row<'static>; 19] = [
     Row {
@@ -198,7 +189,7 @@ pub(crate) static ROWS: [Row<'static>; 19] = [
 #[test]
 fn terms_and_their_batches(rt: HostRuntime) {
     for row in &ROWS {
-        let played = try_row(&rt, rt.alloc(), Player::Inline, row);
+        let played = try_row(&rt, rt.alloc(), row);
         played.expect(&rt, "a growth was refused");
     }
 }
@@ -217,43 +208,85 @@ fn as_many_items_as_there_may_be(rt: HostRuntime) {
         batches: &[&["u1"]],
         ..ROW
     };
-    let played = try_row(&rt, rt.alloc(), Player::Inline, &row);
+    let played = try_row(&rt, rt.alloc(), &row);
     played.expect(&rt, "a growth was refused");
 }
 
-/// Evaluates the term of a row, whose answer and rounds are as the row says.
-pub(crate) fn evaluate<L: LoaderName, S: Source, R: Abort + Wait>(
-    rt: &R,
-    alloc: Global,
-    hashing: RandomState,
-    source: &S,
-    loader: &Loader<L>,
-    pass: &mut Pass<L>,
-    row: &Row<'_>,
-) -> Option<()>
-    requires { Answers (S.answer source.now) L.service }
-{
-    let (text, rounds) = evaluated(rt, alloc, hashing, source, loader, pass, row)?;
-    assert_is(rt, &text.as_str(), &row.answer, row.about);
-    assert_is(rt, &rounds, &row.rounds, row.about);
-    Some(())
+impl<L: LoaderName, S: Source, R: Wait> Scene<'_, L, S, R> {
+    /// The text of what the evaluation of a term gives, and how many rounds it takes.
+    fn evaluated(&self, pass: &mut Pass<L>, shape: &Shape) -> Option<(String, u32)>
+        requires { Answers (S.answer self.now.source.now) L.service }
+    {
+        let (rt, alloc) = (self.rt, self.alloc);
+        let term = term(alloc, shape)?;
+        let evaluated = run_inline(
+            rt,
+            alloc,
+            self.hashing,
+            self.loader,
+            self.source,
+            pass,
+            term,
+        );
+        evaluation_text(alloc, evaluated)
+    }
 }
 
-/// The text of what the evaluation of a row's term gives, and how many rounds it takes.
-fn evaluated<L: LoaderName, S: Source, R: Wait>(
-    rt: &R,
-    alloc: Global,
-    hashing: RandomState,
-    source: &S,
-    loader: &Loader<L>,
-    pass: &mut Pass<L>,
-    row: &Row<'_>,
-) -> Option<(String, u32)>
-    requires { Answers (S.answer source.now) L.service }
-{
-    let term = term(alloc, &row.term)?;
-    let evaluated = run_inline(rt, alloc, hashing, loader, source, pass, term);
-    evaluation_text(alloc, evaluated)
+impl<L: LoaderName, S: Source, R: Abort + Wait> Scene<'_, L, S, R> {
+    /// Evaluates the term of a row, whose answer and rounds are as the row says.
+    pub(crate) fn evaluate(&self, pass: &mut Pass<L>, row: &Row<'_>) -> Option<()>
+        requires { Answers (S.answer self.now.source.now) L.service }
+    {
+        let (text, rounds) = self.evaluated(pass, &row.term)?;
+        assert_is(self.rt, &text.as_str(), &row.answer, row.about);
+        assert_is(self.rt, &rounds, &row.rounds, row.about);
+        Some(())
+    }
+
+    /// Loads the first user, evaluates the term of a row, and then waits for the user, whose ticket shows its own row.
+    pub(crate) fn hold(&self, pass: &mut Pass<L>, row: &Row<'_>) -> Option<()>
+        requires { Answers (S.answer self.now.source.now) L.service }
+    {
+        let (rt, alloc, loader) = (self.rt, self.alloc, self.loader);
+        let key = FetchKey::new(alloc, "user", "u1").ok()?;
+        let term = term(alloc, &row.term)?;
+        let mut ticket = loader.load(rt, alloc, pass, &key).ok()?;
+        let evaluated = run_inline(rt, alloc, self.hashing, loader, self.source, pass, term);
+        loader.wait(rt, pass, &mut ticket).ok()?;
+        let text = outcome_text(alloc, ticket.look()?).ok()?;
+        assert_is(rt, &text.as_str(), &ADA, "the ticket");
+        let (text, rounds) = evaluation_text(alloc, evaluated)?;
+        assert_is(rt, &text.as_str(), &row.answer, row.about);
+        assert_is(rt, &rounds, &row.rounds, row.about);
+        Some(())
+    }
+
+    /// Evaluates the term of a row, where a growth may be refused.
+    pub(crate) fn starve(&self, pass: &mut Pass<L>, row: &Row<'_>) -> Option<()>
+        requires { Answers (S.answer self.now.source.now) L.service }
+    {
+        let (text, _rounds) = self.evaluated(pass, &row.term)?;
+        let text = text.as_str();
+        let is_given = text == row.answer || STARVED.contains(&text);
+        assert_is(self.rt, &is_given, &true, text);
+        Some(())
+    }
+}
+
+#[test]
+fn a_ticket_that_is_older_than_an_evaluation(rt: HostRuntime) {
+    let row = Row {
+        about: "another user, while a ticket of the first is held",
+        player: Player::Holding,
+        term: U2,
+        answer: BOB,
+        rounds: 1,
+        calls: 1,
+        batches: &[&["u1", "u2"]],
+        ..ROW
+    };
+    let played = try_row(&rt, rt.alloc(), &row);
+    played.expect(&rt, "a growth was refused");
 }
 
 /// What an evaluation may give in place of its answer where a growth is refused.
@@ -270,30 +303,12 @@ const STARVED: [&str; 5] = [
 fn a_refused_growth(rt: HostRuntime) {
     let row = Row {
         about: "all friends, where a growth may be refused",
+        player: Player::Starved,
         term: FRIENDS,
         answer: TWO_FRIENDS,
         ..ROW
     };
-    let _ = try_row(&rt, rt.alloc(), Player::Starved, &row);
-}
-
-/// Evaluates the term of a row, where a growth may be refused.
-pub(crate) fn starve<L: LoaderName, S: Source, R: Abort + Wait>(
-    rt: &R,
-    alloc: Global,
-    hashing: RandomState,
-    source: &S,
-    loader: &Loader<L>,
-    pass: &mut Pass<L>,
-    row: &Row<'_>,
-) -> Option<()>
-    requires { Answers (S.answer source.now) L.service }
-{
-    let (text, _rounds) = evaluated(rt, alloc, hashing, source, loader, pass, row)?;
-    let text = text.as_str();
-    let is_given = text == row.answer || STARVED.contains(&text);
-    assert_is(rt, &is_given, &true, text);
-    Some(())
+    let _ = try_row(&rt, rt.alloc(), &row);
 }
 
 /// What the load of the first user gives to two callers, one after the other, where the log has room for the loads and the
@@ -325,11 +340,16 @@ fn evaluate_by_each<L: LoaderName, S: Source, R: Abort + Wait>(
     requires source { opening.source ≡ source.now }
     requires names { Names S.answer opening L.service L.parts L.log L.outcomes L.name }
 {
-    let load = Row { term: U1, ..ROW };
     let (loader, mut passes) = Loader::<L>::start(alloc, opening).expect(rt, "no loader");
+    let scene = Scene {
+        rt,
+        alloc,
+        hashing,
+        source,
+        loader: &loader,
+    };
     for (pass, want) in passes.iter_mut().zip(UNENDED.iter()) {
-        let given = evaluated(rt, alloc, hashing, source, &loader, pass, &load);
-        let (text, _) = given.expect(rt, "no memory");
+        let (text, _) = scene.evaluated(pass, &U1).expect(rt, "no memory");
         assert_is(rt, &text.as_str(), want, "a batch that can't be ended");
     }
 }

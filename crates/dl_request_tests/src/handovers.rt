@@ -18,7 +18,7 @@ use std::sync::Wait;
 use std::thread::Threads;
 
 /// Terms that a caller evaluates one after another, on a loader of these limits, and what the loader leaves.
-struct Scene {
+struct Series {
     about: &'static str,
     max_batch: u32,
     max_calls: u32,
@@ -120,8 +120,8 @@ const STOPPED: Turn<'static> = Turn {
     ..UNSENT
 };
 
-static SCENES: [Scene; 9] = [
-    Scene {
+static SERIES: [Series; 9] = [
+    Series {
         about: "a load over a shut queue",
         max_batch: 2,
         max_calls: 16,
@@ -136,7 +136,7 @@ static SCENES: [Scene; 9] = [
             batches: &[(&["u1"], false)],
         }),
     },
-    Scene {
+    Series {
         about: "the name of a friend",
         max_batch: 2,
         max_calls: 32,
@@ -153,7 +153,7 @@ static SCENES: [Scene; 9] = [
             batches: &[(&["u1"], true), (&["u2"], true)],
         }),
     },
-    Scene {
+    Series {
         about: "two batches over a shut queue, and a load by a worker",
         max_batch: 1,
         max_calls: 32,
@@ -173,7 +173,7 @@ static SCENES: [Scene; 9] = [
             batches: &[(&["u1"], false), (&["u2"], false), (&["u1"], true)],
         }),
     },
-    Scene {
+    Series {
         about: "more jobs than the queue has room for",
         max_batch: 1,
         max_calls: 32,
@@ -189,7 +189,7 @@ static SCENES: [Scene; 9] = [
             batches: &[(&["u1"], true), (&["u2"], true), (&["u3"], true)],
         }),
     },
-    Scene {
+    Series {
         about: "a key that breaks its batch, and then a load of the other",
         max_batch: 2,
         max_calls: 32,
@@ -207,21 +207,21 @@ static SCENES: [Scene; 9] = [
             batches: &[(&["u1", "u13"], false), (&["u1"], true)],
         }),
     },
-    Scene {
+    Series {
         about: "a log that is full at the dispatch",
         max_batch: 2,
         max_calls: 1,
         turns: &[FULL_AT_DISPATCH],
         closed: Err(CloseFault::Unsettled { batch: 0 }),
     },
-    Scene {
+    Series {
         about: "a log that is full at the worker's end",
         max_batch: 2,
         max_calls: 2,
         turns: &[GIVEN_UP],
         closed: Err(CloseFault::Unsettled { batch: 0 }),
     },
-    Scene {
+    Series {
         about: "a log that is full once the worker has ended the batch",
         max_batch: 2,
         max_calls: 3,
@@ -231,7 +231,7 @@ static SCENES: [Scene; 9] = [
             batches: &[(&["u1"], true)],
         }),
     },
-    Scene {
+    Series {
         about: "a log that is full where a job came back",
         max_batch: 2,
         max_calls: 2,
@@ -240,7 +240,7 @@ static SCENES: [Scene; 9] = [
     },
 ];
 
-/// How often each scene is played.
+/// How often each series is played.
 const TIMES: u32 = 100;
 
 #[test]
@@ -248,28 +248,28 @@ fn terms_whose_jobs_are_handed_over(rt: HostRuntime) {
     let alloc = rt.alloc();
     let hashing = RandomState::new(&rt).expect(&rt, "no random numbers");
     let users = tables(alloc, hashing, USERS).expect(&rt, "no tables");
-    for scene in &SCENES {
+    for series in &SERIES {
         for _ in 0..TIMES {
-            try_scene(&rt, alloc, hashing, &users, scene);
+            try_series(&rt, alloc, hashing, &users, series);
         }
     }
 }
 
-/// Plays a scene, which is seen to be as it says.
-fn try_scene<R: Abort + Threads + Wait + Sync>(
+/// Plays a series, which is seen to be as it says.
+fn try_series<R: Abort + Threads + Wait + Sync>(
     rt: &R,
     alloc: Global,
     hashing: RandomState,
     users: &Tables,
-    scene: &Scene,
+    series: &Series,
 ) {
-    let limits = Limits::new(scene.max_batch, 8, scene.max_calls).expect(rt, "no limits");
-    let played = play_over(rt, alloc, hashing, users, limits, scene.turns);
+    let limits = Limits::new(series.max_batch, 8, series.max_calls).expect(rt, "no limits");
+    let played = play_over(rt, alloc, hashing, users, limits, series.turns);
     let closed = played.expect(rt, "a growth was refused");
-    match (&closed, scene.closed) {
+    match (&closed, series.closed) {
         (Ok(history), Ok(want)) => assert_closed(rt, history, want),
-        (Err(fault), Err(want)) => assert_is(rt, fault, &want, scene.about),
-        _ => assert_is(rt, &closed.is_ok(), &scene.closed.is_ok(), scene.about),
+        (Err(fault), Err(want)) => assert_is(rt, fault, &want, series.about),
+        _ => assert_is(rt, &closed.is_ok(), &series.closed.is_ok(), series.about),
     }
 }
 

@@ -11,8 +11,6 @@ mod evaluations;
 #[cfg(test)]
 mod handovers;
 #[cfg(test)]
-mod older_tickets;
-#[cfg(test)]
 mod polls;
 #[cfg(test)]
 mod queue_player;
@@ -20,5 +18,7 @@ mod queue_player;
 mod requests;
 #[cfg(test)]
 mod rows;
+#[cfg(test)]
+mod scene;
 #[cfg(test)]
 mod texts;

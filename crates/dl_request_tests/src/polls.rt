@@ -3,103 +3,179 @@
 ghost use Rattle.dl_history.specs.Service.{Answers};
 
 use crate::comparison::assert_is;
-use crate::rows::{Player, Row, assert_ids, try_row};
+use crate::rows::{Player, ROW, Row, assert_ids, try_row};
+use crate::scene::Scene;
 use crate::texts::debug_text;
 use dl_desk::FetchKey;
 use dl_fixtures::{ADA, Shape, U1, U2, answer_text, outcome_text, term};
 use dl_haxl::{LoadFuture, TermRun};
-use dl_loader::{Loader, LoaderName, Pass, Ticket};
+use dl_loader::{LoaderName, Pass, Ticket};
 use dl_source::Source;
 use dl_workers::end_jobs;
 use futures::task::Poll;
 use futures::test::MockTask;
 use std::alloc::{AllocError, AllocGlobal, Global};
-use std::hash::RandomState;
 use std::process::Abort;
 use std::random::RandomSource;
 use std::sync::Wait;
 
-/// A term of three loads, of which two are of one key.
+/// A run of a term of three loads, of which two are of one key.
 const TERM: Row<'static> = Row {
     about: "a run",
+    player: Player::Run,
     term: Shape::All(&[U1, U1, U2]),
-    max_batch: 2,
-    max_cells: 8,
     answer: r#"[{"best":"u2","friends":["u2","u3"],"name":"Ada"},{"best":"u2","friends":["u2","u3"],"name":"Ada"},{"best":"u1","friends":[],"name":"Bob"}]"#,
     rounds: 1,
     batches: &[&["u1", "u2"]],
-    settled: true,
+    ..ROW
 };
 
 #[test]
 fn a_run_of_a_term(rt: HostRuntime) {
-    let played = try_row(&rt, rt.alloc(), Player::Run, &TERM);
+    let played = try_row(&rt, rt.alloc(), &TERM);
     played.expect(&rt, "a growth was refused");
 }
 
-/// Polls a run of the row's term, which wants the first two users, until its answer.
-pub(crate) fn poll_run<L: LoaderName, S: Source, R: Abort + AllocGlobal + RandomSource + Wait>(
-    rt: &R,
-    alloc: Global,
-    hashing: RandomState,
-    source: &S,
-    loader: &Loader<L>,
-    pass: &mut Pass<L>,
-    row: &Row<'_>,
-) -> Option<()>
-    requires { Answers (S.answer source.now) L.service }
-{
-    let task = MockTask::new(rt).expect(rt, "no task");
-    let mut run = TermRun::new(alloc, hashing, term(alloc, &row.term)?).ok()?;
-    poll_to_the_end(rt, alloc, source, loader, pass, &task, &mut run, row.answer);
-    Some(())
+impl<'l, L: LoaderName, S: Source, R: Abort + AllocGlobal + RandomSource + Wait> Scene<
+    'l,
+    L,
+    S,
+    R,
+> {
+    /// Polls a run of the row's term, which wants the first two users, until its answer.
+    pub(crate) fn poll_run(&self, pass: &mut Pass<L>, row: &Row<'_>) -> Option<()>
+        requires { Answers (S.answer self.now.source.now) L.service }
+    {
+        let task = MockTask::new(self.rt).expect(self.rt, "no task");
+        let term = term(self.alloc, &row.term)?;
+        let mut run = TermRun::new(self.alloc, self.hashing, term).ok()?;
+        self.poll_to_the_end(pass, &task, &mut run, row.answer);
+        Some(())
+    }
+
+    /// Loads the first user, and polls the load's future until the outcome.
+    pub(crate) fn poll_load(&self, pass: &mut Pass<L>, row: &Row<'_>) -> Option<()>
+        requires { Answers (S.answer self.now.source.now) L.service }
+    {
+        let task = MockTask::new(self.rt).expect(self.rt, "no task");
+        let ticket = self.load_first(pass);
+        let mut load = LoadFuture::new(ticket);
+        self.poll_until_shown(pass, &task, &mut load, row.answer);
+        Some(())
+    }
+
+    /// Polls a run of the row's term, where a growth may be refused.
+    pub(crate) fn starve_run(&self, row: &Row<'_>) -> Option<()> {
+        let task = MockTask::new(self.rt).ok()?;
+        let mut run = self.made_run(row)?;
+        self.assert_starves(&task, &mut run)
+    }
 }
 
-/// Polls a new run, which wants the first two users, until its answer.
-fn poll_to_the_end<'l, L: LoaderName, S: Source, R: Abort + Wait>(
-    rt: &R,
-    alloc: Global,
-    source: &S,
-    loader: &'l Loader<L>,
-    pass: &mut Pass<L>,
-    task: &MockTask,
-    run: &mut TermRun<'l, L>,
-    answer: &str,
-)
-    requires { Answers (S.answer source.now) L.service }
-{
-    assert_ids(rt, run.wanted(), &[]);
-    assert_waits(rt, alloc, task, run, &["u1", "u2"]);
-    supply(rt, alloc, loader, pass, run);
-    assert_waits(rt, alloc, task, run, &[]);
-    end_all(rt, alloc, source, loader, pass);
-    assert_run(rt, alloc, task, run, answer);
-    assert_run(rt, alloc, task, run, "Finished");
-}
+impl<'l, L: LoaderName, S: Source, R: Abort + Wait> Scene<'l, L, S, R> {
+    /// Polls a new run, which wants the first two users, until its answer.
+    fn poll_to_the_end(
+        &self,
+        pass: &mut Pass<L>,
+        task: &MockTask,
+        run: &mut TermRun<'l, L>,
+        answer: &str,
+    )
+        requires { Answers (S.answer self.now.source.now) L.service }
+    {
+        assert_ids(self.rt, run.wanted(), &[]);
+        self.assert_waits(task, run, &["u1", "u2"]);
+        self.supply(pass, run);
+        self.assert_waits(task, run, &[]);
+        self.end_all(pass);
+        self.assert_run(task, run, answer);
+        self.assert_run(task, run, "Finished");
+    }
 
-/// A poll is pending, and asks for another one. The run then wants these ids.
-fn assert_waits<L: LoaderName>(
-    rt: &impl Abort,
-    alloc: Global,
-    task: &MockTask,
-    run: &mut TermRun<'_, L>,
-    want: &[&str],
-) {
-    assert_run(rt, alloc, task, run, "pending");
-    assert_is(rt, &task.is_woken(), &true, "woken");
-    assert_ids(rt, run.wanted(), want);
-}
+    /// A poll is pending, and asks for another one. The run then wants these ids.
+    fn assert_waits(&self, task: &MockTask, run: &mut TermRun<'l, L>, want: &[&str]) {
+        self.assert_run(task, run, "pending");
+        assert_is(self.rt, &task.is_woken(), &true, "woken");
+        assert_ids(self.rt, run.wanted(), want);
+    }
 
-/// A poll of a run gives this text.
-fn assert_run<L: LoaderName>(
-    rt: &impl Abort,
-    alloc: Global,
-    task: &MockTask,
-    run: &mut TermRun<'_, L>,
-    want: &str,
-) {
-    let text = run_text(alloc, task, run).expect(rt, "no memory");
-    assert_is(rt, &text.as_str(), &want, "a poll");
+    /// A poll of a run gives this text.
+    fn assert_run(&self, task: &MockTask, run: &mut TermRun<'l, L>, want: &str) {
+        let text = run_text(self.alloc, task, run).expect(self.rt, "no memory");
+        assert_is(self.rt, &text.as_str(), &want, "a poll");
+    }
+
+    /// Loads what the run wants, and supplies the tickets. Nothing is wanted then.
+    fn supply(&self, pass: &mut Pass<L>, run: &mut TermRun<'l, L>) {
+        let tickets = self
+            .loader
+            .load_many(self.rt, self.alloc, pass, run.wanted());
+        run.supply(tickets.expect(self.rt, "no tickets"));
+        assert_ids(self.rt, run.wanted(), &[]);
+    }
+
+    /// Sends what waits to be sent, and ends it.
+    fn end_all(&self, pass: &mut Pass<L>)
+        requires { Answers (S.answer self.now.source.now) L.service }
+    {
+        let (rt, alloc, loader) = (self.rt, self.alloc, self.loader);
+        let jobs = loader.dispatch(rt, alloc, pass).expect(rt, "no jobs");
+        end_jobs(rt, alloc, loader, self.source, pass, jobs).expect(rt, "no ends");
+    }
+
+    /// The ticket of a load of the first user.
+    fn load_first(&self, pass: &mut Pass<L>) -> Ticket<'l, L> {
+        let key = FetchKey::new(self.alloc, "user", "u1").expect(self.rt, "no key");
+        let ticket = self.loader.load(self.rt, self.alloc, pass, &key);
+        ticket.expect(self.rt, "no ticket")
+    }
+
+    /// Polls the future of a load, which is pending until its batch is ended.
+    fn poll_until_shown(
+        &self,
+        pass: &mut Pass<L>,
+        task: &MockTask,
+        load: &mut LoadFuture<'l, L>,
+        answer: &str,
+    )
+        requires { Answers (S.answer self.now.source.now) L.service }
+    {
+        self.assert_load(task, load, "pending");
+        assert_is(self.rt, &task.is_woken(), &true, "woken");
+        self.end_all(pass);
+        self.assert_load(task, load, answer);
+        self.assert_load(task, load, "Finished");
+    }
+
+    /// A poll of a load's future gives this text.
+    fn assert_load(&self, task: &MockTask, load: &mut LoadFuture<'l, L>, want: &str) {
+        let text = load_text(self.alloc, task, load).expect(self.rt, "no memory");
+        assert_is(self.rt, &text.as_str(), &want, "a poll");
+    }
+
+    /// A run of the row's term. Where it can't be made, another one is.
+    fn made_run(&self, row: &Row<'_>) -> Option<TermRun<'l, L>> {
+        let (alloc, hashing) = (self.alloc, self.hashing);
+        match TermRun::new(alloc, hashing, term(alloc, &row.term)?) {
+            Ok(run) => Some(run),
+            Err(AllocError) => {
+                let again = TermRun::new(alloc, hashing, term(alloc, &row.term)?);
+                Some(again.expect(self.rt, "no memory"))
+            }
+        }
+    }
+
+    /// A poll wants the first two users, or it wants memory, and then so does the next.
+    fn assert_starves(&self, task: &MockTask, run: &mut TermRun<'l, L>) -> Option<()> {
+        let text = run_text(self.alloc, task, run).ok()?;
+        if text.as_str() == "pending" {
+            assert_ids(self.rt, run.wanted(), &["u1", "u2"]);
+            return Some(());
+        }
+        assert_is(self.rt, &text.as_str(), &"OutOfMemory", "a poll");
+        self.assert_run(task, run, "OutOfMemory");
+        Some(())
+    }
 }
 
 /// What a poll of a run gives: that it is pending, the text of the answer, or why there is none.
@@ -115,111 +191,6 @@ fn run_text<L: LoaderName>(
     }
 }
 
-/// Loads what the run wants, and supplies the tickets. Nothing is wanted then.
-fn supply<'l, L: LoaderName, R: Abort + Wait>(
-    rt: &R,
-    alloc: Global,
-    loader: &'l Loader<L>,
-    pass: &mut Pass<L>,
-    run: &mut TermRun<'l, L>,
-) {
-    let tickets = loader.load_many(rt, alloc, pass, run.wanted());
-    run.supply(tickets.expect(rt, "no tickets"));
-    assert_ids(rt, run.wanted(), &[]);
-}
-
-/// Sends what waits to be sent, and ends it.
-fn end_all<L: LoaderName, S: Source, R: Abort + Wait>(
-    rt: &R,
-    alloc: Global,
-    source: &S,
-    loader: &Loader<L>,
-    pass: &mut Pass<L>,
-)
-    requires { Answers (S.answer source.now) L.service }
-{
-    let jobs = loader.dispatch(rt, alloc, pass).expect(rt, "no jobs");
-    end_jobs(rt, alloc, loader, source, pass, jobs).expect(rt, "no ends");
-}
-
-/// A load, of the first user.
-const LOAD: Row<'static> = Row {
-    about: "a future",
-    term: U1,
-    answer: ADA,
-    batches: &[&["u1"]],
-    ..TERM
-};
-
-#[test]
-fn a_future_of_a_load(rt: HostRuntime) {
-    let played = try_row(&rt, rt.alloc(), Player::Future, &LOAD);
-    played.expect(&rt, "a growth was refused");
-}
-
-/// Loads the first user, and polls the load's future until the outcome.
-pub(crate) fn poll_load<L: LoaderName, S: Source, R: Abort + AllocGlobal + RandomSource + Wait>(
-    rt: &R,
-    alloc: Global,
-    source: &S,
-    loader: &Loader<L>,
-    pass: &mut Pass<L>,
-    row: &Row<'_>,
-) -> Option<()>
-    requires { Answers (S.answer source.now) L.service }
-{
-    let task = MockTask::new(rt).expect(rt, "no task");
-    let ticket = load_first(rt, alloc, loader, pass);
-    let mut load = LoadFuture::new(ticket);
-    poll_until_shown(
-        rt, alloc, source, loader, pass, &task, &mut load, row.answer,
-    );
-    Some(())
-}
-
-/// The ticket of a load of the first user.
-fn load_first<'l, L: LoaderName, R: Abort + Wait>(
-    rt: &R,
-    alloc: Global,
-    loader: &'l Loader<L>,
-    pass: &mut Pass<L>,
-) -> Ticket<'l, L> {
-    let key = FetchKey::new(alloc, "user", "u1").expect(rt, "no key");
-    loader.load(rt, alloc, pass, &key).expect(rt, "no ticket")
-}
-
-/// Polls the future of a load, which is pending until its batch is ended.
-fn poll_until_shown<L: LoaderName, S: Source, R: Abort + Wait>(
-    rt: &R,
-    alloc: Global,
-    source: &S,
-    loader: &Loader<L>,
-    pass: &mut Pass<L>,
-    task: &MockTask,
-    load: &mut LoadFuture<'_, L>,
-    answer: &str,
-)
-    requires { Answers (S.answer source.now) L.service }
-{
-    assert_load(rt, alloc, task, load, "pending");
-    assert_is(rt, &task.is_woken(), &true, "woken");
-    end_all(rt, alloc, source, loader, pass);
-    assert_load(rt, alloc, task, load, answer);
-    assert_load(rt, alloc, task, load, "Finished");
-}
-
-/// A poll of a load's future gives this text.
-fn assert_load<L: LoaderName>(
-    rt: &impl Abort,
-    alloc: Global,
-    task: &MockTask,
-    load: &mut LoadFuture<'_, L>,
-    want: &str,
-) {
-    let text = load_text(alloc, task, load).expect(rt, "no memory");
-    assert_is(rt, &text.as_str(), &want, "a poll");
-}
-
 /// What a poll of a load's future gives: that it is pending, the text of the outcome, or why there is none.
 fn load_text<L: LoaderName>(
     alloc: Global,
@@ -233,53 +204,28 @@ fn load_text<L: LoaderName>(
     }
 }
 
+/// A load, of the first user.
+const LOAD: Row<'static> = Row {
+    about: "a future",
+    player: Player::Future,
+    term: U1,
+    answer: ADA,
+    batches: &[&["u1"]],
+    ..TERM
+};
+
+#[test]
+fn a_future_of_a_load(rt: HostRuntime) {
+    let played = try_row(&rt, rt.alloc(), &LOAD);
+    played.expect(&rt, "a growth was refused");
+}
+
 /// Under `rt try --test --fail-alloc N` each growth is refused in turn. Where that isn't one of a `TermRun` the test ends.
 #[test]
 fn a_refused_growth(rt: HostRuntime) {
-    let _ = try_row(&rt, rt.alloc(), Player::StarvedRun, &TERM);
-}
-
-/// Polls a run of the row's term, where a growth may be refused.
-pub(crate) fn starve_run<L: LoaderName, R: Abort + AllocGlobal + RandomSource>(
-    rt: &R,
-    alloc: Global,
-    hashing: RandomState,
-    row: &Row<'_>,
-) -> Option<()> {
-    let task = MockTask::new(rt).ok()?;
-    let mut run: TermRun<'_, L> = made_run(rt, alloc, hashing, row)?;
-    assert_starves(rt, alloc, &task, &mut run)
-}
-
-/// A run of the row's term. Where it can't be made, another one is.
-fn made_run<'l, L: LoaderName>(
-    rt: &impl Abort,
-    alloc: Global,
-    hashing: RandomState,
-    row: &Row<'_>,
-) -> Option<TermRun<'l, L>> {
-    match TermRun::new(alloc, hashing, term(alloc, &row.term)?) {
-        Ok(run) => Some(run),
-        Err(AllocError) => {
-            let again = TermRun::new(alloc, hashing, term(alloc, &row.term)?);
-            Some(again.expect(rt, "no memory"))
-        }
-    }
-}
-
-/// A poll wants the first two users, or it wants memory, and then so does the next.
-fn assert_starves<L: LoaderName>(
-    rt: &impl Abort,
-    alloc: Global,
-    task: &MockTask,
-    run: &mut TermRun<'_, L>,
-) -> Option<()> {
-    let text = run_text(alloc, task, run).ok()?;
-    if text.as_str() == "pending" {
-        assert_ids(rt, run.wanted(), &["u1", "u2"]);
-        return Some(());
-    }
-    assert_is(rt, &text.as_str(), &"OutOfMemory", "a poll");
-    assert_run(rt, alloc, task, run, "OutOfMemory");
-    Some(())
+    let starved = Row {
+        player: Player::StarvedRun,
+        ..TERM
+    };
+    let _ = try_row(&rt, rt.alloc(), &starved);
 }

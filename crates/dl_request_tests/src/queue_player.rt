@@ -7,6 +7,7 @@ ghost use Rattle.dl_loader.specs.Opening.{Names};
 ghost use Rattle.dl_workers.specs.Seats.{IsSenderOf, IsTakerOf};
 
 use crate::comparison::assert_is;
+use crate::scene::{Scene, close};
 use crate::texts::evaluation_text;
 use dl_desk::Limits;
 use dl_fixtures::{Shape, term};
@@ -56,7 +57,7 @@ struct Seen {
     tally: Tally,
 }
 
-/// A caller with the seat of its queue's sender, and the text of what its evaluation gave with the number of rounds.
+/// A caller with the seat of its queue's sender, and the text of what its term gave with the number of rounds.
 #[derive(Drop)]
 struct Caller<L: LoaderName> {
     pass: Pass<L>,
@@ -72,52 +73,43 @@ struct Worker<L: LoaderName> {
     end: Option<WorkerEnd>,
 }
 
-/// What a caller and a worker share, and the term that the caller evaluates.
-#[derive(Drop)]
-struct Stage<'a, L: LoaderName, S: Source> {
-    alloc: Global,
-    hashing: RandomState,
-    loader: &'a Loader<L>,
-    source: &'a S,
-    queue: &'a JobQueue,
-    shape: Shape,
-}
-
-impl<L: LoaderName + Send + Sync, S: Source + Sync> Stage<'_, L, S> {
-    /// Plays a caller and a worker.
-    fn play<R: Threads + Wait + Sync>(
+impl<L: LoaderName + Send + Sync, S: Source + Sync, R: Threads + Wait + Sync> Scene<'_, L, S, R> {
+    /// Plays a caller, who evaluates the term of a shape, and a worker.
+    fn play_both(
         &self,
-        rt: &R,
+        queue: &JobQueue,
         place: Place,
+        shape: &Shape,
         caller: Caller<L>,
         worker: Worker<L>,
     ) -> (Worker<L>, Caller<L>)
         requires source { Answers (S.answer self.now.source.now) L.service }
-        requires senders { All (IsSenderOf self.now.queue.now) caller.seats.items × (length caller.seats.items ≡ 1) }
-        requires takers { All (IsTakerOf self.now.queue.now) worker.seats.items × (length worker.seats.items ≡ 1) }
-        ensures takers { All (IsTakerOf self.now.queue.now) result.0.seats.items × (length result.0.seats.items ≡ 1) }
-        ensures senders { All (IsSenderOf self.now.queue.now) result.1.seats.items × (length result.1.seats.items ≡ 1) }
+        requires senders { All (IsSenderOf queue.now) caller.seats.items × (length caller.seats.items ≡ 1) }
+        requires takers { All (IsTakerOf queue.now) worker.seats.items × (length worker.seats.items ≡ 1) }
+        ensures takers { All (IsTakerOf queue.now) result.0.seats.items × (length result.0.seats.items ≡ 1) }
+        ensures senders { All (IsSenderOf queue.now) result.1.seats.items × (length result.1.seats.items ≡ 1) }
     {
         match place {
-            Place::Beside => self.beside(rt, caller, worker),
-            Place::After => self.after(rt, caller, worker),
+            Place::Beside => self.beside(queue, shape, caller, worker),
+            Place::After => self.after(queue, shape, caller, worker),
         }
     }
 
     /// Plays the worker on a thread of its own.
-    fn beside<R: Threads + Wait + Sync>(
+    fn beside(
         &self,
-        rt: &R,
+        queue: &JobQueue,
+        shape: &Shape,
         caller: Caller<L>,
         worker: Worker<L>,
     ) -> (Worker<L>, Caller<L>)
         requires source { Answers (S.answer self.now.source.now) L.service }
-        requires senders { All (IsSenderOf self.now.queue.now) caller.seats.items × (length caller.seats.items ≡ 1) }
-        requires takers { All (IsTakerOf self.now.queue.now) worker.seats.items × (length worker.seats.items ≡ 1) }
-        ensures takers { All (IsTakerOf self.now.queue.now) result.0.seats.items × (length result.0.seats.items ≡ 1) }
-        ensures senders { All (IsSenderOf self.now.queue.now) result.1.seats.items × (length result.1.seats.items ≡ 1) }
+        requires senders { All (IsSenderOf queue.now) caller.seats.items × (length caller.seats.items ≡ 1) }
+        requires takers { All (IsTakerOf queue.now) worker.seats.items × (length worker.seats.items ≡ 1) }
+        ensures takers { All (IsTakerOf queue.now) result.0.seats.items × (length result.0.seats.items ≡ 1) }
+        ensures senders { All (IsSenderOf queue.now) result.1.seats.items × (length result.1.seats.items ≡ 1) }
     {
-        let (alloc, loader, source, queue) = (self.alloc, self.loader, self.source, self.queue);
+        let (rt, alloc, loader, source) = (self.rt, self.alloc, self.loader, self.source);
         join(
             rt,
             move || -> Worker<L>
@@ -126,54 +118,58 @@ impl<L: LoaderName + Send + Sync, S: Source + Sync> Stage<'_, L, S> {
                 ensures { All (IsTakerOf queue.entry.now) result.seats.items × (length result.seats.items ≡ 1) }
             { work_until_shut(rt, alloc, loader, source, queue, worker) },
             move || -> Caller<L>
-                requires { All (IsSenderOf self.now.queue.now) caller.seats.items × (length caller.seats.items ≡ 1) }
-                ensures { All (IsSenderOf self.entry.now.queue.now) result.seats.items × (length result.seats.items ≡ 1) }
-            { self.evaluate_and_shut(rt, caller) },
+                requires { All (IsSenderOf queue.now) caller.seats.items × (length caller.seats.items ≡ 1) }
+                ensures { All (IsSenderOf queue.entry.now) result.seats.items × (length result.seats.items ≡ 1) }
+            { self.evaluate_and_shut(queue, shape, caller) },
         )
     }
+}
 
+impl<L: LoaderName, S: Source, R: Wait> Scene<'_, L, S, R> {
     /// Plays the worker after the caller, which shuts the queue before it evaluates.
-    fn after<R: Wait>(
+    fn after(
         &self,
-        rt: &R,
+        queue: &JobQueue,
+        shape: &Shape,
         mut caller: Caller<L>,
         worker: Worker<L>,
     ) -> (Worker<L>, Caller<L>)
         requires source { Answers (S.answer self.now.source.now) L.service }
-        requires senders { All (IsSenderOf self.now.queue.now) caller.seats.items × (length caller.seats.items ≡ 1) }
-        requires takers { All (IsTakerOf self.now.queue.now) worker.seats.items × (length worker.seats.items ≡ 1) }
-        ensures takers { All (IsTakerOf self.now.queue.now) result.0.seats.items × (length result.0.seats.items ≡ 1) }
-        ensures senders { All (IsSenderOf self.now.queue.now) result.1.seats.items × (length result.1.seats.items ≡ 1) }
+        requires senders { All (IsSenderOf queue.now) caller.seats.items × (length caller.seats.items ≡ 1) }
+        requires takers { All (IsTakerOf queue.now) worker.seats.items × (length worker.seats.items ≡ 1) }
+        ensures takers { All (IsTakerOf queue.now) result.0.seats.items × (length result.0.seats.items ≡ 1) }
+        ensures senders { All (IsSenderOf queue.now) result.1.seats.items × (length result.1.seats.items ≡ 1) }
     {
-        self.queue.shut(rt, &mut caller.seats[0]);
-        let caller = self.evaluate(rt, caller);
-        let worker = work_until_shut(rt, self.alloc, self.loader, self.source, self.queue, worker);
+        let (rt, alloc, loader, source) = (self.rt, self.alloc, self.loader, self.source);
+        queue.shut(rt, &mut caller.seats[0]);
+        let caller = self.evaluate_over(queue, shape, caller);
+        let worker = work_until_shut(rt, alloc, loader, source, queue, worker);
         (worker, caller)
     }
 
     /// Has the caller evaluate the term, and shut the queue.
-    fn evaluate_and_shut<R: Wait>(&self, rt: &R, caller: Caller<L>) -> Caller<L>
-        requires { All (IsSenderOf self.now.queue.now) caller.seats.items × (length caller.seats.items ≡ 1) }
-        ensures { All (IsSenderOf self.now.queue.now) result.seats.items × (length result.seats.items ≡ 1) }
+    fn evaluate_and_shut(&self, queue: &JobQueue, shape: &Shape, caller: Caller<L>) -> Caller<L>
+        requires { All (IsSenderOf queue.now) caller.seats.items × (length caller.seats.items ≡ 1) }
+        ensures { All (IsSenderOf queue.now) result.seats.items × (length result.seats.items ≡ 1) }
     {
-        let mut caller = self.evaluate(rt, caller);
-        self.queue.shut(rt, &mut caller.seats[0]);
+        let mut caller = self.evaluate_over(queue, shape, caller);
+        queue.shut(self.rt, &mut caller.seats[0]);
         caller
     }
 
     /// Has the caller evaluate the term, if there is memory for it.
-    fn evaluate<R: Wait>(&self, rt: &R, mut caller: Caller<L>) -> Caller<L>
-        requires { All (IsSenderOf self.now.queue.now) caller.seats.items × (length caller.seats.items ≡ 1) }
-        ensures { All (IsSenderOf self.now.queue.now) result.seats.items × (length result.seats.items ≡ 1) }
+    fn evaluate_over(&self, queue: &JobQueue, shape: &Shape, mut caller: Caller<L>) -> Caller<L>
+        requires { All (IsSenderOf queue.now) caller.seats.items × (length caller.seats.items ≡ 1) }
+        ensures { All (IsSenderOf queue.now) result.seats.items × (length result.seats.items ≡ 1) }
     {
-        if let Some(term) = term(self.alloc, &self.shape) {
+        if let Some(term) = term(self.alloc, shape) {
             let evaluated = run_term(
-                rt,
+                self.rt,
                 self.alloc,
                 self.hashing,
                 self.loader,
                 &mut caller.pass,
-                self.queue,
+                queue,
                 &mut caller.seats[0],
                 term,
             );
@@ -209,6 +205,55 @@ fn work_until_shut<L: LoaderName, S: Source, R: Wait>(
     worker
 }
 
+impl<L: LoaderName + Send + Sync, S: Source + Sync, R: Abort + Threads + Wait + Sync> Scene<
+    '_,
+    L,
+    S,
+    R,
+> {
+    /// Plays turns by these passes, each of which is seen to be as it says.
+    fn play_turns(&self, passes: &mut Vec<Pass<L>>, turns: &[Turn<'_>]) -> Option<()>
+        requires { Answers (S.answer self.now.source.now) L.service }
+    {
+        for turn in turns {
+            let seen = self.play_turn(passes, turn)?;
+            assert_turn(self.rt, turn, &seen);
+        }
+        Some(())
+    }
+
+    /// Plays a turn by these passes, with a queue of one sender and one taker.
+    fn play_turn(&self, passes: &mut Vec<Pass<L>>, turn: &Turn<'_>) -> Option<Seen>
+        requires { Answers (S.answer self.now.source.now) L.service }
+    {
+        let Ok((queue, senders, takers)) = JobQueue::new(self.alloc, turn.capacity, 1, 1) else {
+            return None;
+        };
+        let worker = Worker {
+            pass: passes.pop().expect(self.rt, "no pass"),
+            seats: takers,
+            end: None,
+        };
+        let caller = Caller {
+            pass: passes.pop().expect(self.rt, "no pass"),
+            seats: senders,
+            given: None,
+        };
+        let (worker, caller) = self.play_both(&queue, turn.place, &turn.term, caller, worker);
+        let tally = queue.finish(self.rt, caller.seats, worker.seats);
+        passes.push(caller.pass).expect(self.rt, "no room");
+        passes.push(worker.pass).expect(self.rt, "no room");
+        let end = worker.end.expect(self.rt, "no end");
+        let (text, rounds) = caller.given?;
+        Some(Seen {
+            text,
+            rounds,
+            end,
+            tally,
+        })
+    }
+}
+
 /// Plays turns on a loader of two callers over these tables: its history, or why it can't be closed. There is no answer
 /// where a growth is refused that isn't one of `run_term` or `work`.
 pub(crate) fn play_over<R: Abort + Threads + Wait + Sync>(
@@ -240,61 +285,17 @@ fn play<L: LoaderName + Send + Sync, S: Source + Sync, R: Abort + Threads + Wait
     let Ok((loader, mut passes)) = Loader::<L>::start(alloc, opening) else {
         return None;
     };
-    for turn in turns {
-        let seen = play_turn(rt, alloc, hashing, source, &loader, &mut passes, turn)?;
-        assert_turn(rt, turn, &seen);
-    }
-    match loader.close(alloc, passes) {
-        Ok(history) => Some(Ok(history)),
-        Err((fault, _, _)) => Some(Err(fault)),
-    }
-}
-
-/// Plays a turn by these passes, with a queue of one sender and one taker.
-fn play_turn<L: LoaderName + Send + Sync, S: Source + Sync, R: Threads + Wait + Sync>(
-    rt: &R,
-    alloc: Global,
-    hashing: RandomState,
-    source: &S,
-    loader: &Loader<L>,
-    passes: &mut Vec<Pass<L>>,
-    turn: &Turn<'_>,
-) -> Option<Seen>
-    requires { Answers (S.answer source.now) L.service }
-{
-    let Ok((queue, senders, takers)) = JobQueue::new(alloc, turn.capacity, 1, 1) else {
-        return None;
-    };
-    let (worker, caller) = (passes.pop()?, passes.pop()?);
-    let stage = Stage {
+    let scene = Scene {
+        rt,
         alloc,
         hashing,
-        loader,
         source,
-        queue: &queue,
-        shape: turn.term,
+        loader: &loader,
     };
-    let caller = Caller {
-        pass: caller,
-        seats: senders,
-        given: None,
-    };
-    let worker = Worker {
-        pass: worker,
-        seats: takers,
-        end: None,
-    };
-    let (worker, caller) = stage.play(rt, turn.place, caller, worker);
-    let tally = queue.finish(rt, caller.seats, worker.seats);
-    passes.push(caller.pass).ok()?;
-    passes.push(worker.pass).ok()?;
-    let (text, rounds) = caller.given?;
-    Some(Seen {
-        text,
-        rounds,
-        end: worker.end?,
-        tally,
-    })
+    let played = scene.play_turns(&mut passes, turns);
+    let closed = close(alloc, loader, passes);
+    played?;
+    Some(closed)
 }
 
 /// What is seen of a turn is what must be.

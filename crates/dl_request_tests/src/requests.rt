@@ -8,6 +8,6 @@ mod plans;
 mod refusals;
 mod reports;
 mod rows;
+mod service;
 mod stops;
-mod usage;
 mod users;

@@ -1,6 +1,6 @@
 -- The headline: what a report is evidence of, whatever the schedule was.
 use Rattle.std.specs.Prelude.{◌≡◌, ℕ, ◌+◌, ◌<◌, ◌≤◌, List, [], length, count_by, nat_le, Some, slice_get}
-use Rattle.dl_values.specs.Limits.{mixed}
+use Rattle.dl_values.specs.Limits.{rules_by}
 use Rattle.dl_values.specs.Key.{Key}
 use Rattle.dl_values.specs.declared.outcome.BatchAnswer.{BatchAnswer}
 use Rattle.dl_history.specs.Agreement.{Agrees, HasEach, entries_of}
@@ -21,7 +21,7 @@ use Rattle.dl_haxl.specs.declared.step_answer.StepAnswer.{StepAnswer}
 
 -- what a server serves by: its callers are the plans and then the workers, and its source answers by one function
 abbrev pub service_of : Setup → ℕ → (List Key → BatchAnswer) → Service
-service_of setup plans answer = service (mixed setup.limits) (plans + setup.workers) answer
+service_of setup plans answer = service (rules_by setup.limits setup.tables) (plans + setup.workers) answer
 
 -- the call ends this batch
 abbrev pub Ends : ℕ → Call → Type 0

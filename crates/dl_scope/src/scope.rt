@@ -2,8 +2,9 @@
 
 ghost use Rattle.std.specs.Prelude.{◌≡◌, ◌+◌, [], ℕ, All, IfErr, IfOk, OnOk, Some, length, map};
 ghost use Rattle.dl_history.specs.Service.{Answers};
-ghost use Rattle.dl_loader.specs.Closing.{IsLeastOf};
-ghost use Rattle.dl_loader.specs.Opening.{Names};
+ghost use Rattle.dl_loader.specs.CloseRefusals.{IsLeastOf};
+ghost use Rattle.dl_loader.specs.Opening.{AreCallers, Names};
+ghost use Rattle.dl_values.specs.Limits.{rules_by};
 ghost use Rattle.dl_loader.specs.Pass.{new_traces};
 ghost use Rattle.dl_workers.specs.GiveUps.{given_up};
 ghost use Rattle.dl_workers.specs.Seats.{AreSeatsOf, sent_jobs, taken_jobs};
@@ -22,7 +23,7 @@ use crate::setup::Setup;
 use crate::task_lists::{plan_tasks, worker_tasks};
 use crate::threads::{Runs, run_all};
 use dl_haxl::StepAnswer;
-use dl_loader::{History, Loader, LoaderName, Opening, Pass};
+use dl_loader::{History, Loader, LoaderName, Opening, Pass, StartFault};
 use dl_source::Source;
 use dl_terms::{MOST_PLANS, Plan};
 use dl_workers::{Gate, JobQueue, Sender, Taker, Tally, least_given_up};
@@ -43,6 +44,26 @@ pub const MOST_WORKERS: u32 = 16;
 ///
 /// # Errors
 /// The first cause of [`ScopeFault`] that applies, in its order.
+///
+/// # Examples
+/// Two requests over a table of users, from `crates/example_two_requests`:
+///
+/// ```rust
+/// let mut plans = Vec::new(alloc);
+/// for id in ["u1", "u2"] {
+///     let user = Term::Load(FetchKey::new(alloc, "user", id)?);
+///     let steps = vec![in alloc; Step::Eval(user)]?;
+///     plans.push(Plan { steps })?;
+/// }
+/// let limits = Limits::new(64, 1_024, 4_096)?;
+/// let setup = Setup {
+///     limits,
+///     tables: None,
+///     workers: 2,
+///     queue: 16,
+/// };
+/// let report = serve(&rt, alloc, hashing, &users, setup, plans, &NoGate)?;
+/// ```
 pub fn serve<S: Source + Sync, G: Gate + Sync, R: Threads + Wait + Sync>(
     rt: &R,
     alloc: Global,
@@ -66,7 +87,7 @@ pub fn serve<S: Source + Sync, G: Gate + Sync, R: Threads + Wait + Sync>(
         return Err(ScopeFault::BadWorkers);
     }
     let callers = plans.len() as u32 + setup.workers;
-    match Opening::new(alloc, hashing, source, setup.limits, callers) {
+    match opening(alloc, hashing, source, &setup, callers) {
         Ok(opening) => {
             let resources = Resources {
                 alloc,
@@ -74,9 +95,31 @@ pub fn serve<S: Source + Sync, G: Gate + Sync, R: Threads + Wait + Sync>(
                 source,
                 gate,
             };
-            serve_at::<Brand, S, G, R>(rt, &resources, setup, opening, plans)
+            serve_at::<Brand, S, G, R>(rt, &resources, &setup, opening, plans)
         }
         Err(fault) => Err(ScopeFault::Start(fault)),
+    }
+}
+
+/// The opening of a loader by the limits of the setup.
+fn opening<'s, S: Source>(
+    alloc: Global,
+    hashing: RandomState,
+    source: &'s S,
+    setup: &Setup,
+    callers: u32,
+) -> Result<Opening<'s, S>, StartFault>
+    ensures source { IfOk result (λ o. o.source ≡ source.now) }
+    ensures rules { IfOk result (λ o. o.rules ≡ rules_by setup.now.limits setup.now.tables) }
+    ensures callers { IfOk result (λ o. o.callers ≡ callers) }
+    ensures refused { IfErr result (λ fault. AreCallers callers → fault ≡ StartFault.OutOfMemory) }
+{
+    match &setup.tables {
+        None => Opening::new(alloc, hashing, source, setup.limits, callers),
+        Some(tables) => {
+            let tables = tables.try_copy()?;
+            Opening::by_table(alloc, hashing, source, setup.limits, tables, callers)
+        }
     }
 }
 
@@ -89,18 +132,18 @@ fn serve_at<
 >(
     rt: &R,
     resources: &Resources<'_, S, G>,
-    setup: Setup,
+    setup: &Setup,
     opening: Opening<'_, S>,
     plans: Vec<Plan>,
 ) -> Result<Report, ScopeFault>
     requires source { opening.source ≡ resources.now.source.now }
     requires names { Names S.answer opening L.service L.parts L.log L.outcomes L.name }
     requires plans { ArePlans (length plans.items) }
-    requires workers { AreWorkers setup.workers }
-    requires callers { opening.callers ≡ length plans.items + setup.workers }
+    requires workers { AreWorkers setup.now.workers }
+    requires callers { opening.callers ≡ length plans.items + setup.now.workers }
     ensures headline { IfOk result (Headline L.service plans.items) }
-    ensures accepted { OnOk result (MayServe setup (length plans.items)) }
-    ensures refused { IfErr result (RefusedAs L.service setup plans.items) }
+    ensures accepted { OnOk result (MayServe setup.now (length plans.items)) }
+    ensures refused { IfErr result (RefusedAs L.service setup.now plans.items) }
 {
     let (loader, passes) = Loader::<L>::start(resources.alloc, opening)?;
     let served = serve_by(rt, resources, setup, &loader, passes, plans)?;
@@ -151,20 +194,20 @@ fn serve_by<
 >(
     rt: &R,
     resources: &Resources<'_, S, G>,
-    setup: Setup,
+    setup: &Setup,
     loader: &Loader<L>,
     passes: Vec<Pass<L>>,
     plans: Vec<Plan>,
 ) -> Result<ServedPlans<L>, ScopeFault>
     requires source { Answers (S.answer resources.now.source.now) L.service }
     requires plans { ArePlans (length plans.items) }
-    requires workers { AreWorkers setup.workers }
-    requires callers { L.service.callers ≡ length plans.items + setup.workers }
+    requires workers { AreWorkers setup.now.workers }
+    requires callers { L.service.callers ≡ length plans.items + setup.now.workers }
     requires passes { map (λ p. p.trace) passes.items ≡ new_traces 0 L.service.callers }
     ensures served { IfOk result (λ s. AreServed 0 plans.items (map (λ a. a.items) s.answers.items) s.rounds.items (map (λ p. p.trace) s.passes.items)) }
     ensures counted { IfOk result (λ s. IsCounted (length plans.items) (map (λ p. p.trace) s.passes.items) s.tally) }
-    ensures accepted { OnOk result (MayServe setup (length plans.items)) }
-    ensures refused { IfErr result (RefusedAs L.service setup plans.items) }
+    ensures accepted { OnOk result (MayServe setup.now (length plans.items)) }
+    ensures refused { IfErr result (RefusedAs L.service setup.now plans.items) }
 {
     let senders = plans.len() as u32 + 1;
     let alloc = resources.alloc;

@@ -9,7 +9,6 @@ use Rattle.dl_source.specs.declared.tables.Finding.TheVariants.{Row, Error, Brea
 use Rattle.dl_source.specs.declared.fault.TableFault.{TableFault}
 use Rattle.dl_source.specs.declared.fault.TableFault.TheVariants.{Shape, BadKey, TextTooLong, NotWhole, DuplicateTable, DuplicateKey, OutOfMemory}
 use Rattle.dl_source.specs.Tables.{Table, Tables}
-use Rattle.dl_source.specs.Spelling.{Spells}
 
 -- ---- what a finding may not have
 
@@ -59,21 +58,21 @@ has_other_number tables = list_any (λ t. list_any (λ e. is_not_whole e.1) t.1)
 abbrev pub has_repeated_key : Tables → Bool
 has_repeated_key tables = list_any (λ t. repeats t.1) tables
 
--- ---- refusals
+-- ---- refusals, where a relation says which tables a tree spells
 
 -- the tree spells tables of which the test is true
-abbrev pub Has : (Tables → Bool) → Data → Type 0
-Has test d = (tables : Tables) × Spells d tables × (test tables ≡ true)
+abbrev pub Has : (Data → Tables → Type 0) → (Tables → Bool) → Data → Type 0
+Has Spells test d = (tables : Tables) × Spells d tables × (test tables ≡ true)
 
 -- what each refusal comes from
-abbrev pub Causes : Data → TableFault → Type 0
-Causes d Shape = (tables : Tables) → Spells d tables → ⊥
-Causes d BadKey = Has has_bad_key d
-Causes d TextTooLong = Has has_long_text d
-Causes d NotWhole = Has has_other_number d
-Causes d DuplicateTable = Has repeats d
-Causes d DuplicateKey = Has has_repeated_key d
-Causes d OutOfMemory = ⊥
+abbrev pub Causes : (Data → Tables → Type 0) → Data → TableFault → Type 0
+Causes Spells d Shape = (tables : Tables) → Spells d tables → ⊥
+Causes Spells d BadKey = Has Spells has_bad_key d
+Causes Spells d TextTooLong = Has Spells has_long_text d
+Causes Spells d NotWhole = Has Spells has_other_number d
+Causes Spells d DuplicateTable = Has Spells repeats d
+Causes Spells d DuplicateKey = Has Spells has_repeated_key d
+Causes Spells d OutOfMemory = ⊥
 
 -- the faults are tested in this order
 abbrev pub number : TableFault → ℕ
@@ -86,10 +85,10 @@ number DuplicateKey = 6
 number OutOfMemory = 7
 
 -- the tree gives cause for the fault, and for none that is tested before it
-pub record IsLeast (d : Data) (f : TableFault) : Type 0 where
-  pub cause : Causes d f
-  pub least : (g : TableFault) → number g < number f → Causes d g → ⊥
+pub record IsLeast (Spells : Data → Tables → Type 0) (d : Data) (f : TableFault) : Type 0 where
+  pub cause : Causes Spells d f
+  pub least : (g : TableFault) → number g < number f → Causes Spells d g → ⊥
 
 -- Memory may run out before the cause is found.
-abbrev pub RefusedFor : Data → TableFault → Type 0
-RefusedFor d f = (f ≡ OutOfMemory) ⊎ IsLeast d f
+abbrev pub RefusedFor : (Data → Tables → Type 0) → Data → TableFault → Type 0
+RefusedFor Spells d f = (f ≡ OutOfMemory) ⊎ IsLeast Spells d f

@@ -1,5 +1,6 @@
 pub mod Source
 pub mod Tables
+pub mod NumberedTables
 pub mod Answer
 pub mod AnswerFits
 pub mod Spelling

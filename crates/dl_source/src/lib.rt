@@ -6,6 +6,7 @@ mod fetch;
 mod fetched;
 mod listed;
 mod source;
+mod table_number;
 mod table_reader;
 mod tables;
 
@@ -14,5 +15,6 @@ pub use fault::TableFault;
 pub use fetch::fetch_job;
 pub use fetched::Fetched;
 pub use source::Source;
+pub use table_number::TableNumber;
 pub use table_reader::TEXT_BYTES;
 pub use tables::{Finding, Tables};

@@ -5,10 +5,12 @@ ghost use Rattle.std.specs.List.{list_any};
 ghost use Rattle.serde_json.specs.View.{view};
 ghost use Rattle.dl_source.specs.Inside.Findings.{spelled, finding_of};
 ghost use Rattle.dl_source.specs.Faults.{is_sized, has_bad_id, is_long, is_not_whole, has_bad_name};
+ghost use Rattle.dl_source.specs.NumberedTables.{numbered, number_of, table_of};
 
+use crate::table_number::TableNumber;
 use crate::table_reader::TEXT_BYTES;
 use crate::tables::Finding;
-use dl_values::{ID_BYTES, Json, Message, TABLE_BYTES, has_float};
+use dl_values::{ID_BYTES, Json, Message, TABLE_BYTES, Text, has_float};
 use serde_json::Value;
 use std::alloc::{AllocError, Global};
 use std::marker::Model;
@@ -136,67 +138,88 @@ impl<'a> ListedFinding<'a> {
     }
 }
 
-/// A name and the findings of its table. Contracts see the table that the two spell.
+/// A table's name, its number, if it has one, and its findings. Contracts see the table that these spell.
 #[derive(Drop)]
 pub(crate) struct ListedTable<'a> {
     name: &'a str,
+    number: Option<i128>,
     findings: Vec<ListedFinding<'a>>,
 }
 
 impl<'a> Model for ListedTable<'a> {
-    ghost use Rattle.std.specs.Prelude.{List, ℕ};
-    ghost use Rattle.dl_source.specs.Tables.{Table, named_table_code};
+    ghost use Rattle.dl_source.specs.NumberedTables.{NumberedTable, numbered, numbered_table_code};
 
-    ghost Value = { List ℕ × Table };
+    ghost Value = { NumberedTable };
 
-    ghost coded = { named_table_code };
+    ghost coded = { numbered_table_code };
 
-    ghost view = { λ t. (t.name.now, t.findings.items) };
+    ghost view = { λ t. numbered t.name.now t.number t.findings.items };
 }
 
 impl<'a> ListedTable<'a> {
-    pub(crate) fn new(name: &'a str, findings: Vec<ListedFinding<'a>>) -> ListedTable<'a>
-        ensures { result ≡ (name.entry.now, findings.entry.items) }
+    pub(crate) fn new(
+        name: &'a str,
+        number: Option<i128>,
+        findings: Vec<ListedFinding<'a>>,
+    ) -> ListedTable<'a>
+        ensures { result ≡ numbered name.entry.now number findings.entry.items }
     {
-        ListedTable { name, findings }
+        ListedTable {
+            name,
+            number,
+            findings,
+        }
     }
 
     pub(crate) fn name(&self) -> &'a str
-        ensures { result.now ≡ self.now.0 }
+        ensures { result.now ≡ self.now.name }
     {
         self.name
     }
 
     pub(crate) fn findings(&self) -> &[ListedFinding<'a>]
-        ensures { result.now ≡ self.now.1 }
+        ensures { result.now ≡ self.now.findings }
     {
         self.findings.as_slice()
     }
 
+    /// A copy of its number with an owner, beside its name.
+    pub(crate) fn to_number(&self, alloc: Global) -> Result<Option<TableNumber>, AllocError>
+        ensures { IfOk result (λ n. n ≡ number_of self.now) }
+    {
+        match self.number {
+            Some(number) => {
+                let table = Text::new(alloc, self.name)?;
+                Ok(Some(TableNumber { table, number }))
+            }
+            None => Ok(None),
+        }
+    }
+
     /// Whether no key can have the name.
     pub(crate) fn has_bad_name(&self) -> bool
-        ensures { result ≡ has_bad_name self.now }
+        ensures { result ≡ has_bad_name (table_of self.now) }
     {
         !is_sized(self.name, TABLE_BYTES)
     }
 
     /// Whether no key can have one of the ids.
     pub(crate) fn has_bad_id(&self) -> bool
-        ensures { result ≡ list_any has_bad_id self.now.1 }
+        ensures { result ≡ list_any has_bad_id self.now.findings }
     {
         self.findings.iter().any(|finding| finding.has_bad_id())
     }
 
     /// Whether a text is longer than [`TEXT_BYTES`].
     pub(crate) fn has_long_text(&self) -> bool
-        ensures { result ≡ list_any (λ e. is_long e.1) self.now.1 }
+        ensures { result ≡ list_any (λ e. is_long e.1) self.now.findings }
     {
         self.findings.iter().any(|finding| finding.is_long())
     }
 
     /// Whether a value has a number that is not whole.
     pub(crate) fn has_other_number(&self) -> bool
-        ensures { result ≡ list_any (λ e. is_not_whole e.1) self.now.1 }
+        ensures { result ≡ list_any (λ e. is_not_whole e.1) self.now.findings }
     {
         self.findings.iter().any(|finding| finding.is_not_whole())
     }

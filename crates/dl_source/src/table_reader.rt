@@ -7,9 +7,11 @@ ghost use Rattle.std.specs.BTreeMap.{keys};
 ghost use Rattle.serde_json.specs.View.{view};
 ghost use Rattle.dl_source.specs.declared.fault.TableFault.TheVariants.{OutOfMemory};
 ghost use Rattle.dl_source.specs.Inside.Findings.{finding_of};
-ghost use Rattle.dl_source.specs.Spelling.{is_table_member, has_only};
+ghost use Rattle.dl_source.specs.Spelling.{is_table_member, has_only, whole};
 ghost use Rattle.dl_source.specs.Faults.{has_bad_key, has_long_text, has_other_number, repeats};
-ghost use Rattle.dl_source.specs.Inside.Reading.{Reads, after, finding_in, list_in, optional_in, findings_in, table_in, tables_in, content_fault};
+ghost use Rattle.dl_source.specs.NumberedTables.{tables_of};
+ghost use Rattle.dl_source.specs.Inside.Reading.{Reads, after, finding_in, list_in, optional_in, findings_in, content_fault};
+ghost use Rattle.dl_source.specs.Inside.Reading.{is_member_of, number_in, number_by, numbered_in, listed_in};
 
 use crate::fault::TableFault;
 use crate::listed::{Kind, ListedFinding, ListedTable};
@@ -37,50 +39,103 @@ impl<T: Drop> From<AllocFailed<T>> for TableFault {
     }
 }
 
+/// A version of the formats.
+#[derive(Clone, Copy)]
+pub(crate) enum Version {
+    /// Tables have no numbers.
+    First,
+    /// A table may have a number of its own, the member `maxBatchSize`.
+    Second,
+}
+
 /// The tables that the value lists. The only faults are `Shape` and `OutOfMemory`.
 pub(crate) fn read_tables<'a>(
     alloc: Global,
+    version: Version,
     value: &'a Value,
 ) -> Result<Vec<ListedTable<'a>>, TableFault>
-    ensures { Reads result (λ v. v.items) (tables_in (view value.entry.now)) }
+    ensures { Reads result (λ v. v.items) (listed_in version (view value.entry.now)) }
 {
     let mut tables = Vec::new(alloc);
     for item in value.as_array().ok_or(TableFault::Shape)? {
-        tables.push(read_table(alloc, item)?)?;
+        tables.push(read_table(alloc, version, item)?)?;
     }
     Ok(tables)
 }
 
-fn read_table<'a>(alloc: Global, value: &'a Value) -> Result<ListedTable<'a>, TableFault>
-    ensures { Reads result (λ t. t) (table_in (view value.entry.now)) }
+fn read_table<'a>(
+    alloc: Global,
+    version: Version,
+    value: &'a Value,
+) -> Result<ListedTable<'a>, TableFault>
+    ensures { Reads result (λ t. t) (numbered_in version (view value.entry.now)) }
 {
-    if !has_only_table_members(value) {
+    if !has_only_table_members(version, value) {
         return Err(TableFault::Shape);
     }
     let name = value.get("name").and_then(Value::as_str);
     let name = name.ok_or(TableFault::Shape)?;
-    Ok(ListedTable::new(name, read_findings(alloc, value)?))
+    let number = read_number(version, value)?;
+    let findings = read_findings(alloc, value)?;
+    Ok(ListedTable::new(name, number, findings))
 }
 
-fn has_only_table_members(value: &Value) -> bool
-    ensures { result ≡ has_only is_table_member (view value.now) }
+fn has_only_table_members(version: Version, value: &Value) -> bool
+    ensures { result ≡ has_only (is_member_of version) (view value.now) }
 {
     match value.as_object() {
-        Some(members) => are_table_members(members),
+        Some(members) => are_table_members(version, members),
         None => false,
     }
 }
 
-fn are_table_members(members: &Map<String, Value>) -> bool
-    ensures { result ≡ list_all (λ k. is_table_member (string_bytes k)) (keys members.now) }
+fn are_table_members(version: Version, members: &Map<String, Value>) -> bool
+    ensures { result ≡ list_all (λ k. is_member_of version (string_bytes k)) (keys members.now) }
 {
-    members.keys().all(|name| is_table_member(name.as_str()))
+    members
+        .keys()
+        .all(|name| is_member_of(version, name.as_str()))
+}
+
+/// Whether a table may have a member of this name.
+fn is_member_of(version: Version, name: &str) -> bool
+    ensures { result ≡ is_member_of version name.now }
+{
+    match version {
+        Version::First => is_table_member(name),
+        Version::Second => is_table_member(name) || name == "maxBatchSize",
+    }
 }
 
 fn is_table_member(name: &str) -> bool
     ensures { result ≡ is_table_member name.now }
 {
     matches!(name, "name" | "rows" | "errors" | "breaks")
+}
+
+fn read_number(version: Version, table: &Value) -> Result<Option<i128>, TableFault>
+    ensures { Reads result (λ n. n) (number_by version (view table.now)) }
+{
+    match version {
+        Version::First => Ok(None),
+        Version::Second => read_optional_number(table.get("maxBatchSize")),
+    }
+}
+
+fn read_optional_number(number: Option<&Value>) -> Result<Option<i128>, TableFault>
+    ensures { Reads result (λ n. n) (number_in (option_map (λ v. view v.now) number.entry)) }
+{
+    match number {
+        Some(number) => whole(number).map(Some).ok_or(TableFault::Shape),
+        None => Ok(None),
+    }
+}
+
+/// The value as a whole number, if it is one.
+fn whole(value: &Value) -> Option<i128>
+    ensures { result ≡ whole (view value.now) }
+{
+    value.as_number()?.as_i128()
 }
 
 fn read_findings<'a>(alloc: Global, table: &'a Value) -> Result<Vec<ListedFinding<'a>>, TableFault>
@@ -136,7 +191,7 @@ fn read_finding<'a>(kind: Kind, pair: &'a Value) -> Option<ListedFinding<'a>>
 
 /// The least fault of what the tables hold, but for repetitions.
 pub(crate) fn content_fault(tables: &[ListedTable<'_>]) -> Option<TableFault>
-    ensures { result ≡ content_fault tables.now }
+    ensures { result ≡ content_fault (tables_of tables.now) }
 {
     if has_bad_key(tables) {
         Some(TableFault::BadKey)
@@ -150,7 +205,7 @@ pub(crate) fn content_fault(tables: &[ListedTable<'_>]) -> Option<TableFault>
 }
 
 fn has_bad_key(tables: &[ListedTable<'_>]) -> bool
-    ensures { result ≡ has_bad_key tables.now }
+    ensures { result ≡ has_bad_key (tables_of tables.now) }
 {
     tables
         .iter()
@@ -158,13 +213,13 @@ fn has_bad_key(tables: &[ListedTable<'_>]) -> bool
 }
 
 fn has_long_text(tables: &[ListedTable<'_>]) -> bool
-    ensures { result ≡ has_long_text tables.now }
+    ensures { result ≡ has_long_text (tables_of tables.now) }
 {
     tables.iter().any(|table| table.has_long_text())
 }
 
 fn has_other_number(tables: &[ListedTable<'_>]) -> bool
-    ensures { result ≡ has_other_number tables.now }
+    ensures { result ≡ has_other_number (tables_of tables.now) }
 {
     tables.iter().any(|table| table.has_other_number())
 }
@@ -175,7 +230,7 @@ pub(crate) fn repeats_name(
     hashing: RandomState,
     tables: &[ListedTable<'_>],
 ) -> Result<bool, AllocError>
-    ensures { IfOk result (λ b. b ≡ repeats tables.now) }
+    ensures { IfOk result (λ b. b ≡ repeats (tables_of tables.now)) }
 {
     let mut names = IndexSet::with_hasher(alloc, hashing);
     for table in tables {

@@ -5,11 +5,13 @@ ghost use Rattle.std.specs.List.{list_any};
 ghost use Rattle.std.specs.Result.{result_copied};
 ghost use Rattle.dl_source.specs.Answer.{finding_at, found, first_break, outcomes_of};
 ghost use Rattle.dl_source.specs.Faults.{is_not_whole, lists, repeats, has_other_number, has_repeated_key};
+ghost use Rattle.dl_source.specs.NumberedTables.{table_of, tables_of};
 
 use crate::fault::TableFault;
 use crate::listed::{ListedFinding, ListedTable};
 use crate::source::Source;
-use crate::table_reader::{content_fault, read_tables, repeats_name};
+use crate::table_number::{TableNumber, numbers_of};
+use crate::table_reader::{Version, content_fault, read_tables, repeats_name};
 use dl_values::{BatchAnswer, FetchKey, Json, Message, Outcome, Outcomes};
 use indexmap::IndexMap;
 use serde_json::Value;
@@ -132,8 +134,9 @@ impl Table {
 impl Tables {
     ghost use Rattle.dl_source.specs.declared.fault.TableFault.{TableFault};
     ghost use Rattle.serde_json.specs.View.{view};
-    ghost use Rattle.dl_source.specs.Spelling.{Spells};
+    ghost use Rattle.dl_source.specs.Spelling.{Spells, SpellsNumbered, SpellsWithNumbers};
     ghost use Rattle.dl_source.specs.Faults.{Causes, RefusedFor};
+    ghost use Rattle.dl_source.specs.Inside.Reading.{fault_of};
 
     /// The tables that a JSON value spells: a list of objects with the members `name` (a text),
     /// `rows` (a list of pairs of an id and any value) and, if wanted, `errors` and `breaks` (lists
@@ -149,17 +152,51 @@ impl Tables {
         value: &Value,
     ) -> Result<Tables, TableFault>
         ensures ok { IfOk result (Spells (view value.now)) }
-        ensures passes { OnOk result ((f : TableFault) → Causes (view value.now) f → ⊥) }
-        ensures err { IfErr result (RefusedFor (view value.now)) }
+        ensures passes { OnOk result ((f : TableFault) → Causes Spells (view value.now) f → ⊥) }
+        ensures err { IfErr result (RefusedFor Spells (view value.now)) }
     {
-        let listed = read_tables(alloc, value)?;
-        if let Some(fault) = content_fault(&listed) {
+        let listed = read_tables(alloc, Version::First, value)?;
+        Tables::from_listed(alloc, hashing, &listed)
+    }
+
+    /// The tables that a JSON value spells, as [`from_value`](Tables::from_value) reads them, but for one more member that a
+    /// table may have: `maxBatchSize`, a whole number, as an `i64` or a `u64` is. Beside the tables stand the numbers that are
+    /// given, in the order of the tables; a table without one gives none. What a number says is up to the caller.
+    ///
+    /// # Errors
+    /// The first cause of [`TableFault`] that applies anywhere in the value, in its order, or a
+    /// failed allocation. A number that is not whole is one of `Shape`.
+    pub fn from_value_2(
+        alloc: Global,
+        hashing: RandomState,
+        value: &Value,
+    ) -> Result<(Tables, Vec<TableNumber>), TableFault>
+        ensures ok { IfOk result (λ p. SpellsNumbered (view value.now) p.0 p.1.items) }
+        ensures passes { OnOk result ((f : TableFault) → Causes SpellsWithNumbers (view value.now) f → ⊥) }
+        ensures err { IfErr result (RefusedFor SpellsWithNumbers (view value.now)) }
+    {
+        let listed = read_tables(alloc, Version::Second, value)?;
+        let tables = Tables::from_listed(alloc, hashing, &listed)?;
+        let numbers = numbers_of(alloc, &listed)?;
+        Ok((tables, numbers))
+    }
+
+    /// Copies of the tables that a document lists, or their least fault.
+    fn from_listed(
+        alloc: Global,
+        hashing: RandomState,
+        listed: &[ListedTable<'_>],
+    ) -> Result<Tables, TableFault>
+        ensures ok { IfOk result (λ t. (t ≡ tables_of listed.now) × (fault_of (tables_of listed.now) ≡ None)) }
+        ensures err { IfErr result (λ f. (f ≡ TableFault.OutOfMemory) ⊎ (fault_of (tables_of listed.now) ≡ Some f)) }
+    {
+        if let Some(fault) = content_fault(listed) {
             return Err(fault);
         }
-        if repeats_name(alloc, hashing, &listed)? {
+        if repeats_name(alloc, hashing, listed)? {
             return Err(TableFault::DuplicateTable);
         }
-        Tables::copy_of(alloc, hashing, &listed)
+        Tables::copy_of(alloc, hashing, listed)
     }
 
     /// Copies of these tables, or the one fault that is found only now, that an id is listed twice.
@@ -168,10 +205,10 @@ impl Tables {
         hashing: RandomState,
         listed: &[ListedTable<'_>],
     ) -> Result<Tables, TableFault>
-        requires names { repeats listed.now ≡ false }
-        requires whole { has_other_number listed.now ≡ false }
-        ensures ok { IfOk result (λ t. (t ≡ listed.now) × (has_repeated_key listed.now ≡ false)) }
-        ensures err { IfErr result (λ f. (f ≡ TableFault.OutOfMemory) ⊎ ((f ≡ TableFault.DuplicateKey) × (has_repeated_key listed.now ≡ true))) }
+        requires names { repeats (tables_of listed.now) ≡ false }
+        requires whole { has_other_number (tables_of listed.now) ≡ false }
+        ensures ok { IfOk result (λ t. (t ≡ tables_of listed.now) × (has_repeated_key (tables_of listed.now) ≡ false)) }
+        ensures err { IfErr result (λ f. (f ≡ TableFault.OutOfMemory) ⊎ ((f ≡ TableFault.DuplicateKey) × (has_repeated_key (tables_of listed.now) ≡ true))) }
     {
         let mut tables = Tables::new(alloc, hashing)?;
         for table in listed {
@@ -187,10 +224,10 @@ impl Tables {
         hashing: RandomState,
         listed: &ListedTable<'_>,
     ) -> Result<(), TableFault>
-        requires name { lists listed.now.0 self.old ≡ false }
-        requires whole { list_any (λ e. is_not_whole e.1) listed.now.1 ≡ false }
-        ensures ok { OnOk result ((self.new ≡ self.old ++ listed.now ∷ []) × (repeats listed.now.1 ≡ false)) }
-        ensures err { IfErr result (λ f. (f ≡ TableFault.OutOfMemory) ⊎ ((f ≡ TableFault.DuplicateKey) × (repeats listed.now.1 ≡ true))) }
+        requires name { lists listed.now.name self.old ≡ false }
+        requires whole { list_any (λ e. is_not_whole e.1) listed.now.findings ≡ false }
+        ensures ok { OnOk result ((self.new ≡ self.old ++ table_of listed.now ∷ []) × (repeats listed.now.findings ≡ false)) }
+        ensures err { IfErr result (λ f. (f ≡ TableFault.OutOfMemory) ⊎ ((f ≡ TableFault.DuplicateKey) × (repeats listed.now.findings ≡ true))) }
     {
         let copy = Table::copy_of(alloc, hashing, listed.findings())?;
         let copy = copy.ok_or(TableFault::DuplicateKey)?;

@@ -15,6 +15,18 @@ use dl_values::{FetchKey, Json, Text};
 /// wants. With 8 MiB of stack and an unoptimised build, making the node of a chain of picks held at a height of
 /// 1,500, exploring and dropping it at 5,000, and counting its depth and height at 7,000. Whoever
 /// takes terms from strangers bounds their height.
+///
+/// # Examples
+/// The domain that another one lies in, from `crates/example_own_source`: it is loaded, and then the one that its field `parent` names.
+///
+/// ```rust
+/// let domain = Term::Load(FetchKey::new(alloc, "domain", id)?);
+/// let parent = Term::Follow {
+///     part: Box::new(alloc, domain)?,
+///     field: Text::new(alloc, "parent")?,
+///     table: Text::new(alloc, "domain")?,
+/// };
+/// ```
 #[derive(Debug, Drop)]
 pub enum Term {
     /// A value.

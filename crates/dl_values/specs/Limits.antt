@@ -45,6 +45,14 @@ pub record Rules : Type 0 where
 abbrev pub mixed : Limits → Rules
 mixed limits = record { limits = limits; tables = None }
 
+-- each batch is of one table, and these tables have limits of their own
+abbrev pub by_table : Limits → List (List ℕ × ℕ) → Rules
+by_table limits tables = record { limits = limits; tables = Some tables }
+
+-- batches may mix tables or, where tables may have limits of their own, are each of one table
+abbrev pub rules_by : Limits → Option (List (List ℕ × ℕ)) → Rules
+rules_by limits tables = record { limits = limits; tables = tables }
+
 abbrev pub limit_by : ℕ → Option (List (List ℕ × ℕ)) → List ℕ → ℕ
 limit_by max_batch None table = max_batch
 limit_by max_batch (Some ts) table = unwrap_or (lookup (bytes_eq table) ts) max_batch

@@ -35,3 +35,23 @@ pub enum LimitFault {
     #[error("the limit of calls is out of range")]
     CallLimit,
 }
+
+/// Why a list of tables with limits is refused, the first cause that applies anywhere in it.
+#[derive(Clone, Copy, Debug, PartialEq, Eq, Error)]
+pub enum TableLimitFault {
+    /// A table's name has no bytes.
+    #[error("the name of a table is empty")]
+    EmptyTable,
+    /// A table's name has more than [`TABLE_BYTES`](crate::TABLE_BYTES) bytes.
+    #[error("the name of a table is too long")]
+    TableTooLong,
+    /// A table's limit is out of range.
+    #[error("the limit of a batch is out of range")]
+    BatchLimit,
+    /// A table stands twice.
+    #[error("a table has two limits")]
+    DuplicateTable,
+    /// An allocation failed.
+    #[error("out of memory")]
+    OutOfMemory,
+}

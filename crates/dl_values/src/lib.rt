@@ -12,9 +12,10 @@ mod limits;
 mod list;
 mod message;
 mod outcome;
+mod table_limits;
 mod text;
 
-pub use fault::{KeyFault, LimitFault};
+pub use fault::{KeyFault, LimitFault, TableLimitFault};
 pub use job::Job;
 pub use json::{Json, has_float};
 pub use key::{FetchKey, ID_BYTES, Keys, TABLE_BYTES};
@@ -22,4 +23,5 @@ pub use limits::{LARGEST_LIMIT, Limits};
 pub use list::List;
 pub use message::Message;
 pub use outcome::{BatchAnswer, BatchFault, Outcome, Outcomes};
+pub use table_limits::{TableLimit, TableLimits};
 pub use text::Text;

@@ -80,7 +80,8 @@ impl Limits {
     }
 }
 
-fn is_limit(number: u32) -> bool
+/// Whether a number may be a limit.
+pub(crate) fn is_limit(number: u32) -> bool
     ensures { result ≡ (nat_le 1 number && nat_le number largest_limit) }
 {
     (1..=LARGEST_LIMIT).contains(&number)

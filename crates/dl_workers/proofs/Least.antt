@@ -8,7 +8,7 @@ use Rattle.dl_history.specs.Lists.{Among}
 use Rattle.dl_history.specs.declared.event.Event.{Event}
 use Rattle.dl_history.proofs.ListLemmas.{among_longer, every_append, every_weaker}
 use Rattle.dl_history.proofs.Pasts.{get-append_at, take-get}
-use Rattle.dl_loader.specs.Closing.{IsLeastOf}
+use Rattle.dl_loader.specs.CloseRefusals.{IsLeastOf}
 use Rattle.dl_workers.specs.GiveUps.{given_up, given_up_by}
 
 -- the lesser of what was found and one more

@@ -1,7 +1,7 @@
 //! Batches that failed without an answer of the source.
 
 ghost use Rattle.std.specs.Prelude.{◌∷◌, ◌++◌, [], ℕ, List, Some, flat_map};
-ghost use Rattle.dl_loader.specs.Closing.{IsLeastOf};
+ghost use Rattle.dl_loader.specs.CloseRefusals.{IsLeastOf};
 ghost use Rattle.dl_workers.specs.GiveUps.{given_up, given_up_by};
 
 use dl_desk::BatchFault;

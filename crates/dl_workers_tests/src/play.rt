@@ -17,6 +17,7 @@ use dl_workers::{JobQueue, Sender, Taker, Tally, WorkerEnd, work};
 use std::alloc::{AllocError, Global};
 use std::hash::RandomState;
 use std::marker::Brand;
+use std::process::Abort;
 use std::sync::Wait;
 use std::thread::{Threads, join};
 
@@ -293,7 +294,7 @@ fn wait<L: LoaderName>(
 /// Plays a caller's loads and a worker, on a loader of two callers over these tables: what is seen, and the text of the
 /// worker's calls in the history, if the loader could be closed. There is no answer where a growth outside of `work` is
 /// refused.
-pub(crate) fn play_over<R: Threads + Wait + Sync>(
+pub(crate) fn play_over<R: Abort + Threads + Wait + Sync>(
     rt: &R,
     alloc: Global,
     users: &Tables,
@@ -308,7 +309,7 @@ pub(crate) fn play_over<R: Threads + Wait + Sync>(
 }
 
 /// Plays on the loader of an opening, which `L` stands for, and closes it.
-fn play<L: LoaderName + Send + Sync, S: Source, R: Threads + Wait + Sync>(
+fn play<L: LoaderName + Send + Sync, S: Source, R: Abort + Threads + Wait + Sync>(
     rt: &R,
     alloc: Global,
     source: &S,
@@ -321,15 +322,25 @@ fn play<L: LoaderName + Send + Sync, S: Source, R: Threads + Wait + Sync>(
     let Ok((loader, mut passes)) = Loader::<L>::start(alloc, opening) else {
         return None;
     };
-    let seen = use_loader(rt, alloc, source, &loader, &mut passes, script)?;
+    let seen = use_loader(rt, alloc, source, &loader, &mut passes, script);
+    let closed = close(alloc, loader, passes);
+    Some((seen?, closed?))
+}
+
+/// Closes a loader: the text of the worker's calls in its history, or why it can't be closed.
+fn close<L: LoaderName>(
+    alloc: Global,
+    loader: Loader<L>,
+    passes: Vec<Pass<L>>,
+) -> Option<Result<String, CloseFault>> {
     match loader.close(alloc, passes) {
-        Ok(history) => Some((seen, Ok(calls_of_worker(alloc, &history).ok()?))),
-        Err((fault, _, _)) => Some((seen, Err(fault))),
+        Ok(history) => Some(Ok(calls_of_worker(alloc, &history).ok()?)),
+        Err((fault, _, _)) => Some(Err(fault)),
     }
 }
 
 /// Plays a caller and a worker by these passes, with a queue of one sender and one taker.
-fn use_loader<L: LoaderName + Send + Sync, S: Source, R: Threads + Wait + Sync>(
+fn use_loader<L: LoaderName + Send + Sync, S: Source, R: Abort + Threads + Wait + Sync>(
     rt: &R,
     alloc: Global,
     source: &S,
@@ -342,7 +353,16 @@ fn use_loader<L: LoaderName + Send + Sync, S: Source, R: Threads + Wait + Sync>(
     let Ok((queue, senders, takers)) = JobQueue::new(alloc, script.loads.capacity, 1, 1) else {
         return None;
     };
-    let (worker, caller) = (passes.pop()?, passes.pop()?);
+    let worker = Worker {
+        pass: passes.pop().expect(rt, "no pass"),
+        seats: takers,
+        end: None,
+    };
+    let caller = Caller {
+        pass: passes.pop().expect(rt, "no pass"),
+        seats: senders,
+        waited: None,
+    };
     let scene = Scene {
         alloc,
         loader,
@@ -350,24 +370,15 @@ fn use_loader<L: LoaderName + Send + Sync, S: Source, R: Threads + Wait + Sync>(
         queue: &queue,
         script,
     };
-    let caller = Caller {
-        pass: caller,
-        seats: senders,
-        waited: None,
-    };
-    let worker = Worker {
-        pass: worker,
-        seats: takers,
-        end: None,
-    };
     let (mut caller, worker) = scene.play(rt, caller, worker);
     let next = loader.clear_all(rt, alloc, &mut caller.pass);
     let tally = queue.finish(rt, caller.seats, worker.seats);
     let calls = worker.pass.calls();
-    passes.push(caller.pass).ok()?;
-    passes.push(worker.pass).ok()?;
+    passes.push(caller.pass).expect(rt, "no room");
+    passes.push(worker.pass).expect(rt, "no room");
+    let end = worker.end.expect(rt, "no end");
     Some(Seen {
-        end: worker.end?,
+        end,
         calls,
         waited: caller.waited?,
         next,

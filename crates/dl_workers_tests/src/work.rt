@@ -1,5 +1,6 @@
 //! Fetch workers: worked rows of the jobs that one takes, and growths that are refused meanwhile.
 
+use crate::comparison::assert_is;
 use crate::play::{Loads, Place, Script, play_over};
 use crate::steps::{MOST_NOTED, Steps};
 use dl_fixtures::{ADA, BOB, USERS, tables};
@@ -182,15 +183,11 @@ fn try_row<R: Abort + Threads + Wait + Sync>(
         taken: row.jobs,
         left: 0,
     };
-    assert_eq!(rt;
-        (seen.end, seen.tally),
-        (row.end, tally),
-        "of {}",
-        row.about
-    );
-    assert_eq!(rt; text_of(&seen.waited), row.waited, "of {}", row.about);
-    assert_eq!(rt; seen.next, row.next, "of {}", row.about);
-    assert_eq!(rt; text_of(&history), row.history, "of {}", row.about);
+    assert_is(rt, &seen.end, &row.end, row.about);
+    assert_is(rt, &seen.tally, &tally, row.about);
+    assert_is(rt, &text_of(&seen.waited), &row.waited, row.about);
+    assert_is(rt, &seen.next, &row.next, row.about);
+    assert_is(rt, &text_of(&history), &row.history, row.about);
     assert_told(rt, &gate, seen.calls, row);
 }
 
@@ -206,10 +203,10 @@ fn text_of<E: Copy>(text: &Result<String, E>) -> Result<&str, E> {
 fn assert_told(rt: &impl Abort, gate: &Steps, calls: usize, row: &Row) {
     for batch in 0..MOST_NOTED {
         let told = row.told.get(batch).copied().unwrap_or((0, 0));
-        assert_eq!(rt; gate.noted(batch), told, "of {}", row.about);
+        assert_is(rt, &gate.noted(batch), &told, row.about);
     }
     let ended = row.told.iter().filter(|told| told.1 > 0).count();
-    assert_eq!(rt; calls, ended, "of {}", row.about);
+    assert_is(rt, &calls, &ended, row.about);
 }
 
 #[test]
@@ -280,17 +277,17 @@ fn starve<R: Abort + Threads + Wait + Sync>(
     let Some((seen, _)) = played else {
         return;
     };
-    let waited = text_of(&seen.waited);
-    assert!(rt;
-        STARVED.contains(&(seen.end, waited)),
-        "{:?}, {:?}",
-        seen.end,
-        waited
+    let given = (seen.end, text_of(&seen.waited));
+    assert_is(
+        rt,
+        &STARVED.contains(&given),
+        &true,
+        "where a growth is refused",
     );
     let all = Tally {
         sent: 1,
         taken: 1,
         left: 0,
     };
-    assert_eq!(rt; seen.tally, all);
+    assert_is(rt, &seen.tally, &all, "where a growth is refused");
 }

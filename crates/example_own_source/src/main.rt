@@ -71,6 +71,7 @@ fn main(rt: HostRuntime) -> anyhow::Result<()> {
     }
     let setup = Setup {
         limits: Limits::new(64, 1_024, 4_096)?,
+        tables: None,
         workers: 2,
         queue: 16,
     };

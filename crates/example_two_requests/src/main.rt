@@ -21,6 +21,7 @@ fn main(rt: HostRuntime) -> anyhow::Result<()> {
     let limits = Limits::new(64, 1_024, 4_096)?;
     let setup = Setup {
         limits,
+        tables: None,
         workers: 2,
         queue: 16,
     };

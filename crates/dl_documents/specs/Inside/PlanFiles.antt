@@ -1,5 +1,5 @@
 -- What is read of a plan file.
-use Rattle.std.specs.Prelude.{◌≡◌, ◌⊎◌, ℕ, ◌<◌, ◌≤◌, List, length, map, Bool, false, nat_lt, codes, Some, None}
+use Rattle.std.specs.Prelude.{◌≡◌, ◌⊎◌, ℕ, ◌<◌, ◌≤◌, List, length, map, Bool, false, nat_lt, codes, Option, Some, None}
 use Rattle.std.specs.Borrow.{Bor}
 use Rattle.std.specs.List.{AllByRecursion, slice_get}
 use Rattle.serde_json.specs.Data.{Data, array, Items}
@@ -7,21 +7,22 @@ use Rattle.serde_json.specs.Find.{as_array, get}
 use Rattle.serde_json.specs.View.{view, items_of}
 use Rattle.serde_json.specs.declared.value.Value.{Value}
 use Rattle.dl_values.specs.Limits.{Limits}
-use Rattle.dl_values.specs.declared.fault.LimitFault.{LimitFault}
-use Rattle.dl_source.specs.Faults as table
 use Rattle.dl_source.specs.Tables.{Tables}
-use Rattle.dl_source.specs.Spelling.{Spells as SpellsTables}
 use Rattle.dl_source.specs.declared.fault.TableFault.{TableFault}
+use Rattle.dl_source.specs.declared.table_number.TableNumber.{TableNumber}
 use Rattle.dl_terms.specs.Plans.{ArePlans}
 use Rattle.dl_terms.specs.Tree.{height_of}
 use Rattle.dl_documents.specs.Document.{items_at}
 use Rattle.dl_documents.specs.Faults.{IsNoStep}
 use Rattle.dl_documents.specs.Inside.Places.{IsFirst, IsFirstIn}
-use Rattle.dl_documents.specs.Numbers.{AreLimitsOf, IsFirstOutside}
+use Rattle.dl_documents.specs.Inside.OwnLimits.{AreAllLimits, IsRefusedNumber}
+use Rattle.dl_documents.specs.OwnLimits.{TableLimits}
 use Rattle.dl_documents.specs.Steps.{StepTree, prime, clear, clear_all, eval, step_tree, IsPlanStep, IsLow, most_height, most_steps}
 use Rattle.dl_documents.specs.declared.fault.PlanFault.{PlanFault}
-use Rattle.dl_documents.specs.declared.fault.PlanFault.TheVariants.{Shape, TooDeep, TooManySteps, Table, Limit}
-use Rattle.dl_documents.specs.declared.limits.Numbers.{Numbers}
+use Rattle.dl_documents.specs.declared.fault.PlanFault.TheVariants.{Shape, TooDeep, TooManySteps, Table}
+use Rattle.dl_documents.specs.declared.head.Head.{Head}
+use Rattle.dl_documents.specs.declared.head.Version.{Version}
+use Rattle.dl_documents.specs.Tables.{SpellsNumbers, TableCauses, IsTableFault}
 
 -- ---- the top
 
@@ -128,37 +129,37 @@ IsMisfit plans f = IsFirstHigh plans f ⊎ IsFirstLong plans f
 
 -- ---- tables and limits
 
--- the tree spells the tables, of which nothing is refused
-pub record AreTables (tree : Data) (tables : Tables) : Type 0 where
-  pub spelled : SpellsTables tree tables
-  pub lawful : (f : TableFault) → table.Causes tree f → ⊥
+-- the tree spells the tables with their numbers as the version has them, and nothing is refused
+pub record AreTables (version : Version) (tree : Data) (tables : Tables) (ns : List TableNumber) : Type 0 where
+  pub spelled : SpellsNumbers version tree tables ns
+  pub lawful : (f : TableFault) → TableCauses version tree f → ⊥
 
 -- the tree is refused as tables
-pub record IsTableRefusal (tree : Data) (f : PlanFault) : Type 0 where
+pub record IsTableRefusal (version : Version) (tree : Data) (f : PlanFault) : Type 0 where
   pub fault : TableFault
   pub names : f ≡ Table fault
-  pub least : table.IsLeast tree fault
+  pub least : IsTableFault version tree fault
 
 -- the plans fit, the tree spells the tables, and the numbers are the limits
-pub record AreRest (plans : List (List StepTree)) (tree : Data) (n : Numbers) (named : Tables) (l : Limits) : Type 0 where
+pub record AreRest (plans : List (List StepTree)) (tree : Data) (h : Head) (p : Tables × Limits × Option TableLimits) : Type 0 where
   pub fit : Fit plans
-  pub tables : AreTables tree named
-  pub limits : AreLimitsOf n l
+  pub numbers : List TableNumber
+  pub tables : AreTables h.version tree p.0 numbers
+  pub limits : AreAllLimits h numbers (p.1, p.2)
 
 -- the plans fit, and the tree is refused as tables
-pub record IsBadTables (plans : List (List StepTree)) (tree : Data) (f : PlanFault) : Type 0 where
+pub record IsBadTables (plans : List (List StepTree)) (tree : Data) (h : Head) (f : PlanFault) : Type 0 where
   pub fit : Fit plans
-  pub refused : IsTableRefusal tree f
+  pub refused : IsTableRefusal h.version tree f
 
--- the plans fit, the tree spells tables, and the fault names the first number that is no limit
-pub record IsBadNumber (plans : List (List StepTree)) (tree : Data) (n : Numbers) (f : PlanFault) : Type 0 where
+-- the plans fit, the tree spells tables, and a number is refused
+pub record HasRefusedNumber (plans : List (List StepTree)) (tree : Data) (h : Head) (f : PlanFault) : Type 0 where
   pub fit : Fit plans
   pub tables : Tables
-  pub spelled : AreTables tree tables
-  pub which : LimitFault
-  pub names : f ≡ Limit which
-  pub outside : IsFirstOutside n which
+  pub numbers : List TableNumber
+  pub spelled : AreTables h.version tree tables numbers
+  pub refused : IsRefusedNumber h.numbers numbers f
 
 -- the plans, the tree or a number is refused, the first of them
-abbrev pub IsRefusal : List (List StepTree) → Data → Numbers → PlanFault → Type 0
-IsRefusal plans tree n f = IsMisfit plans f ⊎ (IsBadTables plans tree f ⊎ IsBadNumber plans tree n f)
+abbrev pub IsRefusal : List (List StepTree) → Data → Head → PlanFault → Type 0
+IsRefusal plans tree h f = IsMisfit plans f ⊎ (IsBadTables plans tree h f ⊎ HasRefusedNumber plans tree h f)

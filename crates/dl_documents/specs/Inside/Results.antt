@@ -1,18 +1,18 @@
 -- What is read of a document of either kind.
 use Rattle.std.specs.Prelude.{◌≡◌, ◌⊎◌, true}
 use Rattle.serde_json.specs.Data.{Data}
-use Rattle.dl_documents.specs.Document.{IsFirstVersion, has_only_known}
+use Rattle.dl_documents.specs.Document.{IsOfVersion, has_only_known}
 use Rattle.dl_documents.specs.Faults.{Causes, IsLeast}
 use Rattle.dl_documents.specs.Numbers.{AreGiven}
 use Rattle.dl_documents.specs.declared.fault.PlanFault.{PlanFault}
 use Rattle.dl_documents.specs.declared.fault.PlanFault.TheVariants.{OutOfMemory}
-use Rattle.dl_documents.specs.declared.limits.Numbers.{Numbers}
+use Rattle.dl_documents.specs.declared.head.Head.{Head}
 
--- its version is the first, its members are those of its kind, and its limits are given by these numbers
-pub record HasHead (d : Data) (n : Numbers) : Type 0 where
-  pub version : IsFirstVersion d
-  pub members : has_only_known d ≡ true
-  pub numbers : AreGiven d n
+-- it is of the version, its members are those of its kind and version, and its limits are given by the numbers
+pub record HasHead (d : Data) (h : Head) : Type 0 where
+  pub version : IsOfVersion d h.version
+  pub members : has_only_known h.version d ≡ true
+  pub numbers : AreGiven d h.numbers
 
 -- Memory may run out before the cause is found.
 abbrev pub RefusedFor : Data → PlanFault → Type 0

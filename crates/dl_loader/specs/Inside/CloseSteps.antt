@@ -8,7 +8,7 @@ use Rattle.dl_history.specs.Service.{Service}
 use Rattle.dl_history.specs.declared.event.Event.{Event}
 use Rattle.dl_loader.specs.Book.{Book}
 use Rattle.dl_loader.specs.declared.loader.close.PassFront.{PassFront}
-use Rattle.dl_loader.specs.Closing.{TellWhole}
+use Rattle.dl_loader.specs.CloseRefusals.{TellWhole}
 
 -- what was found of accounts that have seen more than so many events, and one account more with its front
 abbrev pub earlier : ℕ → Option PassFront → PassFront → Option PassFront

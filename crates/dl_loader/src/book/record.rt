@@ -7,17 +7,15 @@ ghost use Rattle.dl_history.specs.Lists.{Every};
 ghost use Rattle.dl_loader.specs.Book.{SomeCellRefused};
 ghost use Rattle.dl_loader.specs.Inside.Preparation.{ended_count};
 ghost use Rattle.dl_loader.specs.EventEffect.{Makes, WasMade, WasRefused, loads_of};
-ghost use Rattle.dl_loader.specs.Pass.{with_tickets};
+ghost use Rattle.dl_passes.specs.Pass.{with_tickets};
 ghost use Rattle.dl_loader.specs.Refusals.{IsRefusal, refusal};
 
 use crate::book::Book;
 use crate::dues::give;
 use crate::event_call::{EventCall, Prepared};
-use crate::fault::CallFault;
-use crate::load_replies::{add_tickets, begun_in};
-use crate::pass::Pass;
-use crate::reply::Settled;
+use crate::load_replies::begun_in;
 use dl_history::{CellRows, Event, LoaderName};
+use dl_passes::{CallFault, Pass, Settled};
 use std::alloc::Global;
 
 impl<L: LoaderName> Book<L> {
@@ -64,7 +62,7 @@ impl<L: LoaderName> Book<L> {
         pass.reserve(loads.len())?;
         pass.add_event(alloc, rows, &mut self.journal, event, cells)?;
         call.show(&mut self.desk);
-        add_tickets(pass, loads);
+        pass.add_tickets(&self.journal, loads);
         let ended = dues.len();
         let refused = give(&mut self.journal, rows, dues);
         Ok((answer, settled(rows, ended, refused)))

@@ -5,18 +5,15 @@ ghost use Rattle.std.specs.Prelude.{◌≡◌, ◌+◌, ◌<◌, IfErr, IfOk, On
 ghost use Rattle.dl_source.specs.Fetched.{answer_of, job_of, source_of};
 ghost use Rattle.dl_history.specs.declared.event.Call.TheVariants as call;
 ghost use Rattle.dl_history.specs.declared.event.Reply.TheVariants as reply;
-ghost use Rattle.dl_loader.specs.Asks.{end_by, fault_of};
+ghost use Rattle.dl_passes.specs.Asks.{end_by, fault_of};
 ghost use Rattle.dl_loader.specs.Book.{SomeCellRefused};
 ghost use Rattle.dl_loader.specs.EventEffect.{WasMade, WasRefused};
 
-use crate::ask::GiveUp;
 use crate::event_call::{Fail, Settle};
-use crate::fault::CallFault;
 use crate::loader::Loader;
-use crate::pass::Pass;
-use crate::reply::Settled;
 use dl_desk::Job;
 use dl_history::LoaderName;
+use dl_passes::{CallFault, GiveUp, Pass, Settled};
 use dl_source::{Fetched, Source};
 use std::alloc::Global;
 use std::sync::Wait;
@@ -36,7 +33,8 @@ impl<L: LoaderName> Loader<L> {
         fetched: Fetched<'s, S>,
     ) -> Result<Settled, (CallFault, Fetched<'s, S>)>
         requires source { Answers (S.answer (source_of fetched)) L.service }
-        ensures made { OnOk result (WasMade L.service pass.old.trace (end_by (job_of fetched.entry).batch (answer_of fetched.entry)) reply.Done pass.new.trace) }
+        ensures made { OnOk result
+            (WasMade L.service pass.old.trace (end_by (job_of fetched.entry).batch (answer_of fetched.entry)) reply.Done pass.new.trace) }
         ensures tickets { OnOk result (pass.new.trace.tickets ≡ pass.old.trace.tickets) }
         ensures each { IfOk result (λ settled. settled.shown + settled.refused ≡ length (job_of fetched.entry).keys) }
         ensures refused { IfOk result (λ settled. 0 < settled.refused → SomeCellRefused L.service) }

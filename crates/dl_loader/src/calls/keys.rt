@@ -1,19 +1,18 @@
 //! The calls on keys, and the dispatch.
 
-ghost use Rattle.std.specs.Prelude.{◌≡◌, ◌<◌, None, IfErr, IfOk, OnErr, OnOk};
+ghost use Rattle.std.specs.Prelude.{◌≡◌, ◌<◌, ◌≤◌, None, IfErr, IfOk, OnErr, OnOk};
+ghost use Rattle.dl_history.specs.History.{primed};
 ghost use Rattle.dl_history.specs.declared.event.Call.TheVariants as call;
 ghost use Rattle.dl_history.specs.declared.event.Reply.TheVariants as reply;
-ghost use Rattle.dl_loader.specs.EventReplies.{refused_by, reply_by};
+ghost use Rattle.dl_passes.specs.EventReplies.{refused_by, reply_by};
 ghost use Rattle.dl_loader.specs.Book.{SomeCellRefused};
 ghost use Rattle.dl_loader.specs.EventEffect.{WasMade, WasRefused};
 
 use crate::event_call::{Clear, ClearAll, Dispatch, Prime};
-use crate::fault::CallFault;
 use crate::loader::Loader;
-use crate::pass::Pass;
-use crate::reply::PrimeReply;
-use dl_desk::{FetchKey, Job, Outcome};
+use dl_desk::{DeskPrime, FetchKey, Job, Outcome};
 use dl_history::LoaderName;
+use dl_passes::{CallFault, Pass, PrimeReply, Settled};
 use std::alloc::Global;
 use std::sync::Wait;
 
@@ -44,7 +43,7 @@ impl<L: LoaderName> Loader<L> {
         };
         let mut book = self.book.lock(rt);
         let (reply, ended) = book.make(alloc, &self.rows, pass, &call)?;
-        Ok(PrimeReply::of(reply, ended))
+        Ok(prime_reply(reply, ended))
     }
 
     /// Forgets the key, if it is held (DataLoader: `clear`).
@@ -106,5 +105,19 @@ impl<L: LoaderName> Loader<L> {
         let mut book = self.book.lock(rt);
         let (jobs, _) = book.make(alloc, &self.rows, pass, &Dispatch)?;
         Ok(jobs)
+    }
+}
+
+/// What a prime answers that the desk replied to so, where its cell took its outcome so.
+fn prime_reply(prime: DeskPrime, ended: Settled) -> PrimeReply
+    ensures told { reply_by result ≡ primed prime }
+    ensures refused { refused_by result ≤ ended.refused }
+{
+    match prime {
+        DeskPrime::Primed(cell) => PrimeReply::Primed {
+            cell,
+            shown: ended.refused == 0,
+        },
+        DeskPrime::Kept => PrimeReply::Kept,
     }
 }

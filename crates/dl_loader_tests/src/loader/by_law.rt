@@ -7,8 +7,8 @@ ghost use Rattle.dl_loader.specs.Asks.{source_asked};
 use super::hand::Hand;
 use super::keys::{assert_jobs, assert_same, job, outcome, user, users};
 use super::player::Scene;
-use super::step::{Asked, Primed, Told};
-use dl_loader::{Ask, CallFault, GiveUp, LoaderName, Reply};
+use super::step::{Asked, Told};
+use dl_loader::{Ask, CallFault, LoaderName, Reply};
 use dl_source::Source;
 use std::process::Abort;
 use std::sync::Wait;
@@ -31,18 +31,39 @@ impl<'a, L: LoaderName, S: Source, R: Abort + Wait> Scene<'a, L, S, R> {
     fn made(&self, hand: &mut Hand<'a, L>, asked: Asked) -> Result<(Reply, u32), CallFault>
         requires { Answers (S.answer self.now.source.now) L.service }
     {
+        let (rt, alloc) = (self.rt, self.alloc);
         match asked {
-            Asked::Load(id) => self.load_asked(hand, id),
-            Asked::LoadMany(ids) => self.loads_asked(hand, ids),
-            Asked::Prime(id, primed) => self.prime_asked(hand, id, primed),
-            Asked::Clear(id) => self.clear_asked(hand, id),
-            Asked::ClearAll => self.clear_all_asked(hand),
-            Asked::Dispatch => self.dispatch_asked(hand),
-            Asked::Settle(batch, ids) => self.settle_asked(hand, batch, ids),
-            Asked::Fail(batch, ids, why) => self.fail_asked(hand, batch, ids, why),
+            Asked::Load(id) => {
+                let key = user(rt, alloc, id);
+                self.ask(hand, Ask::Load(&key))
+            }
+            Asked::LoadMany(ids) => {
+                let keys = users(rt, alloc, ids);
+                self.ask(hand, Ask::LoadMany(keys.as_slice()))
+            }
+            Asked::Prime(id, primed) => {
+                let key = user(rt, alloc, id);
+                let outcome = outcome(rt, alloc, primed);
+                self.ask(hand, Ask::Prime(&key, outcome))
+            }
+            Asked::Clear(id) => {
+                let key = user(rt, alloc, id);
+                self.ask(hand, Ask::Clear(&key))
+            }
+            Asked::ClearAll => self.ask_owned(hand, Ask::ClearAll),
+            Asked::Dispatch => self.ask_owned(hand, Ask::Dispatch),
+            Asked::Settle(batch, ids) => {
+                let fetched = self.fetch(job(rt, alloc, batch, ids));
+                self.ask_owned(hand, Ask::Settle(fetched))
+            }
+            Asked::Fail(batch, ids, why) => {
+                let job = job(rt, alloc, batch, ids);
+                self.ask_owned(hand, Ask::Fail(job, why))
+            }
         }
     }
 
+    /// Makes a call, which may borrow keys, by the law.
     fn ask(&self, hand: &mut Hand<'a, L>, ask: Ask<'_, S>) -> Result<(Reply, u32), CallFault>
         requires { IfSome (source_asked ask) (λ source. Answers (S.answer source) L.service) }
     {
@@ -54,63 +75,6 @@ impl<'a, L: LoaderName, S: Source, R: Abort + Wait> Scene<'a, L, S, R> {
         requires { IfSome (source_asked ask) (λ source. Answers (S.answer source) L.service) }
     {
         self.ask(hand, ask)
-    }
-
-    fn load_asked(&self, hand: &mut Hand<'a, L>, id: &str) -> Result<(Reply, u32), CallFault> {
-        let key = user(self.rt, self.alloc, id);
-        self.ask(hand, Ask::Load(&key))
-    }
-
-    fn loads_asked(&self, hand: &mut Hand<'a, L>, ids: &[&str]) -> Result<(Reply, u32), CallFault> {
-        let keys = users(self.rt, self.alloc, ids);
-        self.ask(hand, Ask::LoadMany(keys.as_slice()))
-    }
-
-    fn prime_asked(
-        &self,
-        hand: &mut Hand<'a, L>,
-        id: &str,
-        primed: Primed,
-    ) -> Result<(Reply, u32), CallFault> {
-        let key = user(self.rt, self.alloc, id);
-        let outcome = outcome(self.rt, self.alloc, primed);
-        self.ask(hand, Ask::Prime(&key, outcome))
-    }
-
-    fn clear_asked(&self, hand: &mut Hand<'a, L>, id: &str) -> Result<(Reply, u32), CallFault> {
-        let key = user(self.rt, self.alloc, id);
-        self.ask(hand, Ask::Clear(&key))
-    }
-
-    fn clear_all_asked(&self, hand: &mut Hand<'a, L>) -> Result<(Reply, u32), CallFault> {
-        self.ask_owned(hand, Ask::ClearAll)
-    }
-
-    fn dispatch_asked(&self, hand: &mut Hand<'a, L>) -> Result<(Reply, u32), CallFault> {
-        self.ask_owned(hand, Ask::Dispatch)
-    }
-
-    fn fail_asked(
-        &self,
-        hand: &mut Hand<'a, L>,
-        batch: u32,
-        ids: &[&str],
-        why: GiveUp,
-    ) -> Result<(Reply, u32), CallFault> {
-        let job = job(self.rt, self.alloc, batch, ids);
-        self.ask_owned(hand, Ask::Fail(job, why))
-    }
-
-    fn settle_asked(
-        &self,
-        hand: &mut Hand<'a, L>,
-        batch: u32,
-        ids: &[&str],
-    ) -> Result<(Reply, u32), CallFault>
-        requires { Answers (S.answer self.now.source.now) L.service }
-    {
-        let fetched = self.fetch(job(self.rt, self.alloc, batch, ids));
-        self.ask_owned(hand, Ask::Settle(fetched))
     }
 }
 

@@ -2,7 +2,7 @@
 
 use super::keys::{assert_keys, assert_same, assert_shows};
 use super::step::{Closed, Ids};
-use dl_loader::{Batches, Call, CloseFault, EntryKind, History, Loader, LoaderName, Pass};
+use dl_loader::{Batches, Call, EntryKind, History};
 use std::alloc::Global;
 use std::process::Abort;
 
@@ -12,38 +12,31 @@ pub(super) fn assert_closed(rt: &impl Abort, alloc: Global, history: &History, w
     let events = history.events();
     assert_same(rt, "number of events", events.len(), want.events);
     assert!(rt; events.get(want.events).is_none());
-    for (caller, entries, places) in want.callers {
-        assert_caller(rt, alloc, history, *caller, entries, places);
+    for (caller, entries) in want.callers {
+        assert_caller(rt, alloc, history, *caller, entries);
     }
     assert_ends(rt, alloc, history, want.ends);
     assert_batches(rt, &history.batches(), want.batches);
     assert_outcomes(rt, alloc, history, want.outcomes);
 }
 
-/// Why the loader can't be closed with these passes. It is let go.
-pub(super) fn close_fault<L: LoaderName>(
-    alloc: Global,
-    loader: Loader<L>,
-    passes: Vec<Pass<L>>,
-) -> Option<CloseFault> {
-    match loader.close(alloc, passes) {
-        Ok(_) => None,
-        Err((fault, _, _)) => Some(fault),
-    }
-}
-
-/// The caller has these entries, and its events stand at these places.
+/// The caller has these entries, and its events stand at the places of those that are calls.
 fn assert_caller(
     rt: &impl Abort,
     alloc: Global,
     history: &History,
     caller: u32,
     entries: &[EntryKind],
-    places: &[u32],
 ) {
     assert_same(rt, "entries", history.entries(caller), entries);
+    let mut places = Vec::new(alloc);
+    for entry in entries {
+        if let EntryKind::Call { at } = entry {
+            places.push(*at).expect(rt, "no memory");
+        }
+    }
     let found = history.of_caller(alloc, caller).expect(rt, "no memory");
-    assert_same(rt, "places", found.as_slice(), places);
+    assert_same(rt, "places", found.as_slice(), places.as_slice());
 }
 
 /// The events end these batches, in this order, where `true` says that a batch is settled.

@@ -1,9 +1,8 @@
 //! Keys, jobs and outcomes, made from data and held against it.
 
 use super::step::{Ids, Primed};
-use dl_desk::{BatchFault, FetchKey, Job, Json, Keys, Message, Outcome, has_float};
-use dl_fixtures::outcome_text;
-use serde_json::Value;
+use dl_desk::{BatchFault, FetchKey, Job, Keys, Message, Outcome};
+use dl_fixtures::{json, outcome_text};
 use std::alloc::Global;
 use std::fmt::Debug;
 use std::process::Abort;
@@ -64,19 +63,12 @@ pub(super) fn assert_jobs(rt: &impl Abort, jobs: &[Job], want: &[(u32, Ids)]) {
 /// The outcome that a key is primed with.
 pub(super) fn outcome(rt: &impl Abort, alloc: Global, primed: Primed) -> Outcome {
     match primed {
-        Primed::Value(text) => value(rt, alloc, text),
+        Primed::Value(text) => Outcome::Value(json(alloc, text).expect(rt, "no JSON")),
         Primed::KeyError(text) => {
             Outcome::KeyError(Message::new(alloc, text).expect(rt, "no message"))
         }
         Primed::NoMemory => Outcome::BatchFailed(BatchFault::Memory),
     }
-}
-
-/// The value of a JSON text.
-fn value(rt: &impl Abort, alloc: Global, text: &str) -> Outcome {
-    let value = Value::from_str(alloc, text).expect(rt, "no JSON");
-    assert!(rt; !has_float(&value));
-    Outcome::Value(Json::new(alloc, value).expect(rt, "no memory"))
 }
 
 /// An outcome of this text is shown.

@@ -42,7 +42,7 @@ pub(super) enum Then {
     Ends,
 }
 
-/// Opens a loader, has its first caller make the calls, and closes it.
+/// Opens a loader, has its first caller make the calls, with keys that are numbered, and closes it.
 pub(super) fn load_most<L: LoaderName, S: Source, R: Abort + Wait>(
     rt: &R,
     alloc: Global,
@@ -53,39 +53,25 @@ pub(super) fn load_most<L: LoaderName, S: Source, R: Abort + Wait>(
     requires source { opening.source ≡ source.now }
     requires names { Names S.answer opening L.service L.parts L.log L.outcomes L.name }
 {
+    let keys = numbered_keys(alloc, load.keys).expect(rt, "no keys");
     let (loader, mut passes) = Loader::<L>::start(alloc, opening).expect(rt, "no loader");
-    make_calls(rt, alloc, source, &loader, passes.as_mut_slice(), load);
+    let scene = Scene {
+        rt,
+        alloc,
+        source,
+        loader: &loader,
+    };
+    let pass = passes.first_mut().expect(rt, "no pass");
+    scene.make_calls(pass, load, keys.as_slice());
     match loader.close(alloc, passes) {
         Ok(history) => assert_history(rt, alloc, &history, load),
         Err((fault, _, _)) => assert_same(rt, "close", Err(fault), load.close),
     }
 }
 
-/// Has the first caller make the calls, with keys that are numbered.
-fn make_calls<L: LoaderName, S: Source, R: Abort + Wait>(
-    rt: &R,
-    alloc: Global,
-    source: &S,
-    loader: &Loader<L>,
-    passes: &mut [Pass<L>],
-    load: &Load,
-)
-    requires { Answers (S.answer source.now) L.service }
-{
-    let scene = Scene {
-        rt,
-        alloc,
-        source,
-        loader,
-    };
-    let keys = numbered_keys(alloc, load.keys).expect(rt, "no keys");
-    let pass = passes.first_mut().expect(rt, "no pass");
-    scene.load_most(pass, load, keys.as_slice());
-}
-
 impl<'a, L: LoaderName, S: Source, R: Abort + Wait> Scene<'a, L, S, R> {
     /// Makes the calls.
-    fn load_most(&self, pass: &mut Pass<L>, load: &Load, keys: &[FetchKey])
+    fn make_calls(&self, pass: &mut Pass<L>, load: &Load, keys: &[FetchKey])
         requires { Answers (S.answer self.now.source.now) L.service }
     {
         self.load_all(pass, load, keys);

@@ -46,7 +46,10 @@ impl<'a, L: LoaderName, S: Source, R: Abort + Wait> Scene<'a, L, S, R> {
             Step::ByLaw(asked, want) => self.by_law(hand, asked, want),
             Step::Prime(id, primed, want) => self.prime(hand, id, primed, want),
             Step::Clear(id, want) => self.clear(hand, id, want),
-            Step::ClearAll(want) => self.clear_all(hand, want),
+            Step::ClearAll(want) => {
+                let reply = self.loader.clear_all(self.rt, self.alloc, &mut hand.pass);
+                assert_same(self.rt, "clear_all", reply, want);
+            }
             Step::Dispatch(want) => self.dispatch(hand, want),
             Step::Settle(batch, ids, want) => self.settle(hand, batch, ids, want),
             Step::Fail(batch, ids, why, want) => self.fail(hand, batch, ids, why, want),
@@ -56,7 +59,7 @@ impl<'a, L: LoaderName, S: Source, R: Abort + Wait> Scene<'a, L, S, R> {
             Step::WaitWithBook(want) => {
                 self.assert_waited(hand.wait_with_book(self.rt, self.loader), Ok(want))
             }
-            Step::Stop => self.stop(),
+            Step::Stop => self.loader.stop(self.rt),
             Step::Entries {
                 kinds,
                 calls,
@@ -103,11 +106,6 @@ impl<'a, L: LoaderName, S: Source, R: Abort + Wait> Scene<'a, L, S, R> {
         let key = user(self.rt, self.alloc, id);
         let reply = self.loader.clear(self.rt, self.alloc, &mut hand.pass, &key);
         assert_same(self.rt, "clear", reply, want);
-    }
-
-    fn clear_all(&self, hand: &mut Hand<'a, L>, want: Result<(), CallFault>) {
-        let reply = self.loader.clear_all(self.rt, self.alloc, &mut hand.pass);
-        assert_same(self.rt, "clear_all", reply, want);
     }
 
     fn dispatch(&self, hand: &mut Hand<'a, L>, want: Result<&[(u32, Ids)], CallFault>) {
@@ -174,10 +172,6 @@ impl<'a, L: LoaderName, S: Source, R: Abort + Wait> Scene<'a, L, S, R> {
             }
             Err(stopped) => assert_same(self.rt, "wait", Err(stopped), want),
         }
-    }
-
-    fn stop(&self) {
-        self.loader.stop(self.rt);
     }
 
     fn entries(&self, pass: &Pass<L>, kinds: &[EntryKind], (calls, front): (usize, u32)) {

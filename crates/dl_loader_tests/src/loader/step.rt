@@ -106,8 +106,8 @@ pub(super) struct Part {
 pub(super) struct Closed {
     /// The number of events.
     pub(super) events: usize,
-    /// Callers, with their entries and the places of their events.
-    pub(super) callers: &'static [(u32, &'static [EntryKind], &'static [u32])],
+    /// Callers, with their entries.
+    pub(super) callers: &'static [(u32, &'static [EntryKind])],
     /// The ends in order, with `true` where the batch was settled.
     pub(super) ends: &'static [(u32, bool)],
     /// The batches, in order, with `true` where the batch was settled.

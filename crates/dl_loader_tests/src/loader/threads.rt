@@ -6,7 +6,7 @@ ghost use Rattle.dl_loader.specs.Opening.{Names};
 ghost use Rattle.dl_loader.specs.Pass.{GaveTicket};
 
 use super::closed_history::assert_ends;
-use super::keys::{assert_jobs, assert_same, assert_shows, user};
+use super::keys::{assert_jobs, assert_same, user};
 use super::player::Scene;
 use dl_desk::{FetchKey, LoadReply};
 use dl_fixtures::ADA;
@@ -31,35 +31,17 @@ pub(super) fn load_by_two<L: LoaderName + Send + Sync, S: Source, R: Abort + Thr
     requires names { Names S.answer opening L.service L.parts L.log L.outcomes L.name }
 {
     let (loader, passes) = Loader::<L>::start(alloc, opening).expect(rt, "no loader");
-    let passes = read_by_two(rt, alloc, source, &loader, passes);
-    match loader.close(alloc, passes) {
-        Ok(history) => assert_history(rt, alloc, &history),
-        Err((fault, _, _)) => panic!(rt; "{fault:?}"),
-    }
-}
-
-/// The calls before the close.
-fn read_by_two<L: LoaderName + Send + Sync, S: Source, R: Abort + Threads + Wait + Sync>(
-    rt: &R,
-    alloc: Global,
-    source: &S,
-    loader: &Loader<L>,
-    mut passes: Vec<Pass<L>>,
-) -> Vec<Pass<L>>
-    requires source { Answers (S.answer source.now) L.service }
-{
     let scene = Scene {
         rt,
         alloc,
         source,
-        loader,
+        loader: &loader,
     };
-    let other = passes.pop().expect(rt, "no pass");
-    let one = passes.pop().expect(rt, "no pass");
-    let (one, other) = scene.load_by_both(one, other);
-    passes.push(one).expect(rt, "no memory");
-    passes.push(other).expect(rt, "no memory");
-    passes
+    let passes = scene.load_by_both(passes);
+    match loader.close(alloc, passes) {
+        Ok(history) => assert_history(rt, alloc, &history),
+        Err((fault, _, _)) => panic!(rt; "{fault:?}"),
+    }
 }
 
 impl<'a, L: LoaderName + Send + Sync, S: Source, R: Abort + Threads + Wait + Sync> Scene<
@@ -68,26 +50,32 @@ impl<'a, L: LoaderName + Send + Sync, S: Source, R: Abort + Threads + Wait + Syn
     S,
     R,
 > {
-    /// The calls of both callers, and their passes.
-    fn load_by_both(&self, one: Pass<L>, other: Pass<L>) -> (Pass<L>, Pass<L>)
+    /// The calls before the close.
+    fn load_by_both(&self, mut passes: Vec<Pass<L>>) -> Vec<Pass<L>>
         requires source { Answers (S.answer self.now.source.now) L.service }
     {
-        let key = user(self.rt, self.alloc, "u1");
+        let (rt, alloc) = (self.rt, self.alloc);
+        let key = user(rt, alloc, "u1");
+        let other = passes.pop().expect(rt, "no pass");
+        let one = passes.pop().expect(rt, "no pass");
         let ((mut one, mut first), (mut other, mut second)) = start_threads(
-            self.rt,
-            self.alloc,
+            rt,
+            alloc,
             self.loader,
             &key,
             one,
             other,
         );
         self.read_both(&mut one, &mut first, &mut other, &mut second);
-        (one, other)
+        passes.push(one).expect(rt, "no memory");
+        passes.push(other).expect(rt, "no memory");
+        passes
     }
 }
 
 impl<'a, L: LoaderName, S: Source, R: Abort + Wait> Scene<'a, L, S, R> {
-    /// The first caller ends the batch, and each caller reads the outcome by its ticket.
+    /// The first caller ends the batch, and each caller reads the outcome by its ticket: the tickets are of one cell, and have
+    /// shown one outcome.
     fn read_both(
         &self,
         one: &mut Pass<L>,
@@ -100,8 +88,8 @@ impl<'a, L: LoaderName, S: Source, R: Abort + Wait> Scene<'a, L, S, R> {
         requires second { GaveTicket other.old.trace second.old false }
     {
         self.end_batch(one);
-        self.read(one, first);
-        self.read(other, second);
+        self.read(one, first, Some(ADA));
+        self.read(other, second, Some(ADA));
         assert_agree(self.rt, first, second);
     }
 
@@ -114,15 +102,6 @@ impl<'a, L: LoaderName, S: Source, R: Abort + Wait> Scene<'a, L, S, R> {
         let jobs = loader.dispatch(rt, alloc, pass).expect(rt, "no jobs");
         assert_jobs(rt, jobs.as_slice(), &[(0, &["u1"])]);
         end_jobs(rt, alloc, loader, self.source, pass, jobs).expect(rt, "no end");
-    }
-
-    /// Waits for the ticket's outcome, which is the user's row.
-    fn read(&self, pass: &mut Pass<L>, ticket: &mut Ticket<'_, L>)
-        requires { GaveTicket pass.old.trace ticket.old false }
-    {
-        let waited = self.loader.wait(self.rt, pass, ticket);
-        waited.expect(self.rt, "no outcome");
-        assert_shows(self.rt, self.alloc, ticket.look(), Some(ADA));
     }
 }
 

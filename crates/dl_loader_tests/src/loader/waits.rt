@@ -7,19 +7,18 @@ ghost use Rattle.dl_loader.specs.Asks.{source_asked};
 ghost use Rattle.dl_loader.specs.Opening.{Names};
 ghost use Rattle.dl_loader.specs.Pass.{GaveTicket};
 
-use super::closed_history::close_fault;
 use super::keys::{assert_same, assert_shows, user};
+use super::player::Scene;
 use dl_desk::Job;
-use dl_fixtures::Starved;
 use dl_loader::{
     Ask, CloseFault, GiveUp, Loader, LoaderName, MOST_CALLERS, Opening, Pass, Ticket, laws,
 };
-use dl_source::{Source, fetch_job};
+use dl_source::Source;
 use dl_workers::end_jobs;
 use std::alloc::Global;
 use std::process::Abort;
 use std::sync::Wait;
-use std::sync::atomic::{AtomicBool, AtomicU32, Ordering};
+use std::sync::atomic::{AtomicU32, Ordering};
 use std::thread;
 use std::thread::Threads;
 
@@ -56,70 +55,32 @@ pub(super) struct Crowd {
 }
 
 impl Crowd {
-    /// The user that a caller loads, and the outcome.
-    fn load_of(&self, rt: &impl Abort, caller: usize) -> (&'static str, &'static str) {
-        let load = self.loads.iter().cycle().nth(caller);
-        load.copied().expect(rt, "no user")
-    }
-
-    /// What a caller is to read, where this is the outcome.
+    /// What a caller is to read, where this is the outcome: nothing at a loader that is stopped.
     fn shown<'a>(&self, text: &'a str) -> Option<&'a str> {
-        if self.is_stopped() { None } else { Some(text) }
-    }
-
-    /// Whether the loader is stopped.
-    fn is_stopped(&self) -> bool {
-        matches!(self.release, Release::Stops)
+        match self.release {
+            Release::Stops => None,
+            _ => Some(text),
+        }
     }
 }
 
-/// A crowd, and what its callers tell one another.
+/// A crowd, and how many steps its callers have taken: each but the first has loaded, or the first has ended the waiting.
 #[derive(Drop)]
 struct Meeting {
     crowd: &'static Crowd,
-    /// How many have loaded, beside the first.
-    loaded: AtomicU32,
-    /// Whether the first has ended the waiting.
-    is_done: AtomicBool,
+    steps: AtomicU32,
 }
 
 impl Meeting {
-    fn new(crowd: &'static Crowd) -> Meeting {
-        Meeting {
-            crowd,
-            loaded: AtomicU32::new(0),
-            is_done: AtomicBool::new(false),
-        }
-    }
-
-    /// Tells that a caller beside the first has loaded. Returns at once, or once the first caller is done.
-    fn come(&self, rt: &impl Abort) {
-        self.loaded.fetch_add(1, Ordering::SeqCst);
-        if self.crowd.is_late {
-            self.await_first(rt);
-        }
-    }
-
-    /// Returns once all other callers have loaded.
-    fn await_loads(&self, rt: &impl Abort) {
+    /// Returns once so many callers have taken their steps.
+    fn await_steps(&self, rt: &impl Abort, count: u32) {
         for _ in 0..MOST_LOOKS {
-            if self.loaded.load(Ordering::SeqCst) == CALLERS - 1 {
+            if self.steps.load(Ordering::SeqCst) == count {
                 return;
             }
             thread::yield_now();
         }
-        panic!(rt; "a caller has not loaded");
-    }
-
-    /// Returns once the first caller is done.
-    fn await_first(&self, rt: &impl Abort) {
-        for _ in 0..MOST_LOOKS {
-            if self.is_done.load(Ordering::SeqCst) {
-                return;
-            }
-            thread::yield_now();
-        }
-        panic!(rt; "the first caller is not done");
+        panic!(rt; "a caller has not come");
     }
 }
 
@@ -133,30 +94,17 @@ pub(super) fn wait_at_once<
     requires names { Names S.answer opening L.service L.parts L.log L.outcomes L.name }
 {
     let (loader, mut passes) = Loader::<L>::start(alloc, opening).expect(rt, "no loader");
-    meet(rt, alloc, source, &loader, passes.as_mut_slice(), crowd);
-    let refused = close_fault(alloc, loader, passes);
-    let unsettled = CloseFault::Unsettled { batch: 0 };
-    assert_same(
-        rt,
-        "close",
-        refused,
-        crowd.is_stopped().then_some(unsettled),
-    );
-}
-
-/// The callers meet.
-fn meet<L: LoaderName + Send + Sync, S: Source + Sync, R: Abort + Threads + Wait + Sync>(
-    rt: &R,
-    alloc: Global,
-    source: &S,
-    loader: &Loader<L>,
-    passes: &mut [Pass<L>],
-    crowd: &'static Crowd,
-)
-    requires { Answers (S.answer source.now) L.service }
-{
-    let meeting = Meeting::new(crowd);
-    start_threads(rt, alloc, source, loader, passes, &meeting);
+    let meeting = Meeting {
+        crowd,
+        steps: AtomicU32::new(0),
+    };
+    start_threads(rt, alloc, source, &loader, passes.as_mut_slice(), &meeting);
+    let closed = loader.close(alloc, passes).map_err(|(fault, _, _)| fault);
+    let want = match crowd.release {
+        Release::Stops => Some(CloseFault::Unsettled { batch: 0 }),
+        _ => None,
+    };
+    assert_same(rt, "close", closed.err(), want);
 }
 
 /// Each caller takes part on a thread of its own.
@@ -191,122 +139,95 @@ fn take_part<L: LoaderName, S: Source, R: Abort + Wait>(
 )
     requires { Answers (S.answer source.now) L.service }
 {
+    let scene = Scene {
+        rt,
+        alloc,
+        source,
+        loader,
+    };
     let (caller, crowd) = (pass.caller() as usize, meeting.crowd);
-    let (id, text) = crowd.load_of(rt, caller);
+    let user_of_caller = crowd.loads.iter().cycle().nth(caller).copied();
+    let (id, text) = user_of_caller.expect(rt, "no user");
     let key = user(rt, alloc, id);
     let mut ticket = loader.load(rt, alloc, pass, &key).expect(rt, "no ticket");
     if caller == 0 {
-        lead(rt, alloc, source, loader, pass, meeting);
+        meeting.await_steps(rt, CALLERS - 1);
+        scene.release(pass, crowd);
+        meeting.steps.fetch_add(1, Ordering::SeqCst);
         return assert_shows(rt, alloc, ticket.look(), crowd.shown(text));
     }
-    meeting.come(rt);
-    read(rt, alloc, loader, pass, &mut ticket, crowd.shown(text));
-}
-
-/// Waits for the ticket's outcome, which is of this text, or there is none.
-fn read<L: LoaderName, R: Abort + Wait>(
-    rt: &R,
-    alloc: Global,
-    loader: &Loader<L>,
-    pass: &mut Pass<L>,
-    ticket: &mut Ticket<'_, L>,
-    text: Option<&str>,
-)
-    requires { GaveTicket pass.old.trace ticket.old false }
-{
-    let is_stopped = loader.wait(rt, pass, ticket).is_err();
-    assert_same(rt, "wait", is_stopped, text.is_none());
-    assert_shows(rt, alloc, ticket.look(), text);
-}
-
-/// Once all others have loaded, ends their waiting.
-fn lead<L: LoaderName, S: Source, R: Abort + Wait>(
-    rt: &R,
-    alloc: Global,
-    source: &S,
-    loader: &Loader<L>,
-    pass: &mut Pass<L>,
-    meeting: &Meeting,
-)
-    requires { Answers (S.answer source.now) L.service }
-{
-    meeting.await_loads(rt);
-    match meeting.crowd.release {
-        Release::Ends => {
-            let jobs = loader.dispatch(rt, alloc, pass).expect(rt, "no jobs");
-            end_jobs(rt, alloc, loader, source, pass, jobs).expect(rt, "no end");
-        }
-        Release::EndsByLaw => settle_by_law(rt, alloc, source, loader, pass),
-        Release::GivesUpByLaw => fail_by_law(rt, alloc, loader, pass),
-        Release::GivesUp => give_up(rt, alloc, loader, pass),
-        Release::Stops => loader.stop(rt),
+    meeting.steps.fetch_add(1, Ordering::SeqCst);
+    if crowd.is_late {
+        meeting.await_steps(rt, CALLERS);
     }
-    meeting.is_done.store(true, Ordering::SeqCst);
+    scene.read(pass, &mut ticket, crowd.shown(text));
 }
 
-/// Sends the only batch, and ends it by the law with what the source answers.
-fn settle_by_law<L: LoaderName, S: Source, R: Abort + Wait>(
-    rt: &R,
-    alloc: Global,
-    source: &S,
-    loader: &Loader<L>,
-    pass: &mut Pass<L>,
-)
-    requires { Answers (S.answer source.now) L.service }
-{
-    let job = send(rt, alloc, loader, pass);
-    let fetched = fetch_job(alloc, source, job).expect(rt, "no memory");
-    make_by_law(rt, alloc, loader, pass, Ask::Settle(fetched));
-}
+impl<'a, L: LoaderName, S: Source, R: Abort + Wait> Scene<'a, L, S, R> {
+    /// Waits for the ticket's outcome, which is of this text, or there is none.
+    pub(super) fn read(&self, pass: &mut Pass<L>, ticket: &mut Ticket<'_, L>, text: Option<&str>)
+        requires { GaveTicket pass.old.trace ticket.old false }
+    {
+        let is_stopped = self.loader.wait(self.rt, pass, ticket).is_err();
+        assert_same(self.rt, "wait", is_stopped, text.is_none());
+        assert_shows(self.rt, self.alloc, ticket.look(), text);
+    }
 
-/// Sends the only batch, and fails it by the law.
-fn fail_by_law<L: LoaderName, R: Abort + Wait>(
-    rt: &R,
-    alloc: Global,
-    loader: &Loader<L>,
-    pass: &mut Pass<L>,
-) {
-    let job = send(rt, alloc, loader, pass);
-    let ask: Ask<'static, Starved> = Ask::Fail(job, GiveUp::Memory);
-    make_by_law(rt, alloc, loader, pass, ask);
-}
+    /// Releases the other callers.
+    fn release(&self, pass: &mut Pass<L>, crowd: &Crowd)
+        requires { Answers (S.answer self.now.source.now) L.service }
+    {
+        let (rt, alloc, loader) = (self.rt, self.alloc, self.loader);
+        match crowd.release {
+            Release::Ends => {
+                let jobs = loader.dispatch(rt, alloc, pass).expect(rt, "no jobs");
+                end_jobs(rt, alloc, loader, self.source, pass, jobs).expect(rt, "no end");
+            }
+            Release::EndsByLaw => self.settle_by_law(pass),
+            Release::GivesUpByLaw => self.fail_by_law(pass),
+            Release::GivesUp => self.give_up(pass),
+            Release::Stops => loader.stop(rt),
+        }
+    }
 
-/// Makes a call by the law of one event, on the book that is lent.
-fn make_by_law<L: LoaderName, S: Source, R: Abort + Wait>(
-    rt: &R,
-    alloc: Global,
-    loader: &Loader<L>,
-    pass: &mut Pass<L>,
-    ask: Ask<'_, S>,
-)
-    requires { IfSome (source_asked ask) (λ source. Answers (S.answer source) L.service) }
-{
-    let mut book = loader.lock(rt);
-    let made = laws::event(alloc, loader, &mut *book, pass, ask);
-    assert!(rt; made.is_ok());
-}
+    /// Sends the only batch, and ends it by the law with what the source answers.
+    fn settle_by_law(&self, pass: &mut Pass<L>)
+        requires { Answers (S.answer self.now.source.now) L.service }
+    {
+        let fetched = self.fetch(self.send(pass));
+        self.make_by_law(pass, Ask::Settle(fetched));
+    }
 
-/// Sends the only batch, and fails it as one that is out of memory.
-fn give_up<L: LoaderName, R: Abort + Wait>(
-    rt: &R,
-    alloc: Global,
-    loader: &Loader<L>,
-    pass: &mut Pass<L>,
-) {
-    let job = send(rt, alloc, loader, pass);
-    let failed = loader.fail(rt, alloc, pass, job, GiveUp::Memory);
-    assert!(rt; failed.is_ok());
-}
+    /// Sends the only batch, and fails it by the law.
+    fn fail_by_law(&self, pass: &mut Pass<L>) {
+        let ask: Ask<'a, S> = Ask::Fail(self.send(pass), GiveUp::Memory);
+        self.make_by_law(pass, ask);
+    }
 
-/// Sends the only batch: its job.
-fn send<L: LoaderName, R: Abort + Wait>(
-    rt: &R,
-    alloc: Global,
-    loader: &Loader<L>,
-    pass: &mut Pass<L>,
-) -> Job {
-    let mut jobs = loader.dispatch(rt, alloc, pass).expect(rt, "no jobs");
-    let job = jobs.pop().expect(rt, "no job");
-    assert!(rt; jobs.is_empty());
-    job
+    /// Makes a call by the law of one event, on the book that is lent.
+    fn make_by_law(&self, pass: &mut Pass<L>, ask: Ask<'a, S>)
+        requires { IfSome (source_asked ask) (λ source. Answers (S.answer source) L.service) }
+    {
+        let mut book = self.loader.lock(self.rt);
+        let made = laws::event(self.alloc, self.loader, &mut *book, pass, ask);
+        assert!(self.rt; made.is_ok());
+    }
+
+    /// Sends the only batch, and fails it as one that is out of memory.
+    fn give_up(&self, pass: &mut Pass<L>) {
+        let job = self.send(pass);
+        let failed = self
+            .loader
+            .fail(self.rt, self.alloc, pass, job, GiveUp::Memory);
+        assert!(self.rt; failed.is_ok());
+    }
+
+    /// Sends the only batch: its job.
+    fn send(&self, pass: &mut Pass<L>) -> Job {
+        let jobs = self.loader.dispatch(self.rt, self.alloc, pass);
+        let mut jobs = jobs.expect(self.rt, "no jobs");
+        let job = jobs.pop().expect(self.rt, "no job");
+        assert!(self.rt; jobs.is_empty());
+        job
+    }
 }

@@ -2,20 +2,12 @@
 
 use crate::comparison::assert_is;
 use crate::requests::plans::StepShape::{Clear, Eval};
-use crate::requests::plans::{PlanShape, plans};
-use crate::requests::reports::{Answers, assert_report};
-use crate::requests::users::{hashing, users};
-use dl_desk::Limits;
+use crate::requests::rows::{Row, try_row};
+use crate::requests::users::users;
 use dl_fixtures::{ADA, BOB, Shape, U1, U2};
-use dl_scope::{Setup, serve};
-use dl_source::Tables;
 use dl_workers::Gate;
-use std::alloc::Global;
-use std::hash::RandomState;
-use std::process::Abort;
-use std::sync::Wait;
 use std::sync::atomic::{AtomicBool, Ordering};
-use std::thread::{Threads, yield_now};
+use std::thread::yield_now;
 
 /// How often a worker that is held looks whether it may go on.
 const MOST_LOOKS: u32 = 10_000_000;
@@ -54,62 +46,41 @@ impl Gate for Held {
     }
 }
 
-/// Plans of two batches of one key each, and their answers.
-struct Row {
-    about: &'static str,
-    plans: &'static [PlanShape],
-    answers: &'static [Answers],
-    rounds: &'static [u64],
-}
-
+/// Plans of two batches of one key each, which two workers fetch.
 static ROWS: [Row; 2] = [
     Row {
         about: "two workers for one plan",
+        most: (1, 8, 32),
+        queue: 4,
         plans: &[&[Eval(Shape::All(&[U1, U2]))]],
         answers: &[&[(
             0,
             r#"[{"best":"u2","friends":["u2","u3"],"name":"Ada"},{"best":"u1","friends":[],"name":"Bob"}]"#,
         )]],
         rounds: &[1],
+        batches: None,
     },
     Row {
         about: "two workers for two plans, of which none waits for the other to end",
+        most: (1, 8, 32),
+        queue: 4,
         plans: &[&[Eval(U1)], &[Clear("u1"), Eval(U2)]],
         answers: &[&[(0, ADA)], &[(1, BOB)]],
         rounds: &[1, 1],
+        batches: None,
     },
 ];
 
 #[test]
 fn batches_that_are_fetched_at_once(rt: HostRuntime) {
-    let (alloc, hashing) = (rt.alloc(), hashing(&rt));
-    let users = users(&rt, alloc);
+    let users = users(&rt, rt.alloc());
     for row in &ROWS {
-        try_row(&rt, alloc, hashing, &users, row);
+        let gate = Held {
+            has_ended: AtomicBool::new(false),
+            gave_up: AtomicBool::new(false),
+        };
+        try_row(&rt, rt.alloc(), &users, &gate, 2, row);
+        let gave_up = gate.gave_up.load(Ordering::SeqCst);
+        assert_is(&rt, &gave_up, &false, row.about);
     }
-}
-
-/// Serves the plans of a row by two workers, of which one is held until the other has ended its batch.
-fn try_row<R: Abort + Threads + Wait + Sync>(
-    rt: &R,
-    alloc: Global,
-    hashing: RandomState,
-    users: &Tables,
-    row: &Row,
-) {
-    let setup = Setup {
-        limits: Limits::new(1, 8, 32).expect(rt, "no limits"),
-        workers: 2,
-        queue: 4,
-    };
-    let plans = plans(alloc, row.plans).expect(rt, "no memory");
-    let gate = Held {
-        has_ended: AtomicBool::new(false),
-        gave_up: AtomicBool::new(false),
-    };
-    let served = serve(rt, alloc, hashing, users, setup, plans, &gate);
-    let report = served.expect(rt, row.about);
-    assert_report(rt, alloc, &report, row.answers, row.rounds);
-    let gave_up = gate.gave_up.load(Ordering::SeqCst);
-    assert_is(rt, &gave_up, &false, row.about);
 }

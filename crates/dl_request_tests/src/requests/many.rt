@@ -1,21 +1,14 @@
 //! Many plans at a small queue: whatever the schedule, their answers are those by one worker.
 
+use crate::requests::plans::PlanShape;
 use crate::requests::plans::StepShape::{Clear, ClearAll, Eval};
-use crate::requests::plans::{PlanShape, plans};
-use crate::requests::reports::{Answers, assert_report};
-use crate::requests::users::{hashing, users};
-use dl_desk::Limits;
+use crate::requests::reports::Answers;
+use crate::requests::rows::{Row, try_row};
+use crate::requests::users::users;
 use dl_fixtures::{ADA, BEST, BOB, FRIENDS, Shape, U1, U2};
-use dl_scope::{Setup, serve};
-use dl_source::Tables;
 use dl_workers::NoGate;
-use std::alloc::Global;
-use std::hash::RandomState;
-use std::process::Abort;
-use std::sync::Wait;
-use std::thread::Threads;
 
-static PLANS: [PlanShape; 8] = [
+const PLANS: [PlanShape; 8] = [
     &[Eval(Shape::Pick(&BEST, "name"))],
     &[Eval(FRIENDS)],
     &[Eval(Shape::All(&[])), Eval(U2)],
@@ -30,7 +23,7 @@ static PLANS: [PlanShape; 8] = [
     ],
 ];
 
-static ANSWERS: [Answers; 8] = [
+const ANSWERS: [Answers; 8] = [
     &[(0, r#""Bob""#)],
     &[(
         0,
@@ -47,36 +40,25 @@ static ANSWERS: [Answers; 8] = [
     &[(0, "key u9: gone"), (2, "not a list")],
 ];
 
-const ROUNDS: [u64; 8] = [2, 2, 1, 1, 1, 1, 2, 2];
+/// These plans in batches of one key.
+static MANY: Row = Row {
+    about: "many plans at a queue of one place",
+    most: (1, 64, 256),
+    queue: 1,
+    plans: &PLANS,
+    answers: &ANSWERS,
+    rounds: &[2, 2, 1, 1, 1, 1, 2, 2],
+    batches: None,
+};
 
 /// How often the plans are served by several workers.
 const TIMES: u32 = 1_000;
 
 #[test]
 fn many_plans_at_a_queue_of_one_place(rt: HostRuntime) {
-    let (alloc, hashing) = (rt.alloc(), hashing(&rt));
-    let users = users(&rt, alloc);
-    try_plans(&rt, alloc, hashing, &users, 1);
+    let users = users(&rt, rt.alloc());
+    try_row(&rt, rt.alloc(), &users, &NoGate, 1, &MANY);
     for _ in 0..TIMES {
-        try_plans(&rt, alloc, hashing, &users, 4);
+        try_row(&rt, rt.alloc(), &users, &NoGate, 4, &MANY);
     }
-}
-
-/// Serves the plans by so many workers, in batches of one key.
-fn try_plans<R: Abort + Threads + Wait + Sync>(
-    rt: &R,
-    alloc: Global,
-    hashing: RandomState,
-    users: &Tables,
-    workers: u32,
-) {
-    let setup = Setup {
-        limits: Limits::new(1, 64, 256).expect(rt, "no limits"),
-        workers,
-        queue: 1,
-    };
-    let plans = plans(alloc, &PLANS).expect(rt, "no memory");
-    let served = serve(rt, alloc, hashing, users, setup, plans, &NoGate);
-    let report = served.expect(rt, "no report");
-    assert_report(rt, alloc, &report, &ANSWERS, &ROUNDS);
 }

@@ -1,37 +1,40 @@
 //! Plans that are served by one, two and three workers: their answers, their rounds, and the batches that these make.
 
+use crate::comparison::assert_is;
+use crate::requests::plans::PlanShape;
 use crate::requests::plans::StepShape::{Clear, ClearAll, Eval, Prime};
-use crate::requests::plans::{PlanShape, plans};
 use crate::requests::reports::{Answers, Batch, assert_batches, assert_report};
-use crate::requests::users::{hashing, users};
-use dl_desk::Limits;
+use crate::requests::service::{Most, served, setup};
+use crate::requests::users::users;
 use dl_fixtures::{ADA, BEST, BOB, FRIENDS, Shape, U1, U2};
-use dl_scope::{Setup, serve};
 use dl_source::Tables;
-use dl_workers::NoGate;
+use dl_workers::{Gate, NoGate};
 use std::alloc::Global;
-use std::hash::RandomState;
 use std::process::Abort;
+use std::random::RandomSource;
 use std::sync::Wait;
 use std::thread::Threads;
 
 /// Plans that are served at once, and what the report must have.
-struct Row {
-    about: &'static str,
-    max_batch: u32,
-    plans: &'static [PlanShape],
+pub(crate) struct Row {
+    pub(crate) about: &'static str,
+    pub(crate) most: Most,
+    /// How many jobs the queue has room for.
+    pub(crate) queue: u32,
+    pub(crate) plans: &'static [PlanShape],
     /// For each plan, the answers of its terms.
-    answers: &'static [Answers],
+    pub(crate) answers: &'static [Answers],
     /// For each plan, how many rounds of loads its terms take.
-    rounds: &'static [u64],
+    pub(crate) rounds: &'static [u64],
     /// All batches, in order, where one plan makes them.
-    batches: Option<&'static [Batch]>,
+    pub(crate) batches: Option<&'static [Batch]>,
 }
 
 /// A row of a plan with a load, from which the others differ.
 const ROW: Row = Row {
     about: "a load",
-    max_batch: 2,
+    most: (2, 64, 256),
+    queue: 16,
     plans: &[&[Eval(U1)]],
     answers: &[&[(0, ADA)]],
     rounds: &[1],
@@ -61,7 +64,7 @@ const FOUR: Row = Row {
     ..ROW
 };
 
-static ROWS: [Row; 11] = [
+static ROWS: [Row; 12] = [
     Row {
         about: "two users, one of them twice",
         plans: &[&[Eval(Shape::All(&[U1, U2, U1]))]],
@@ -78,6 +81,18 @@ static ROWS: [Row; 11] = [
         answers: &[&[(0, r#""Bob""#)]],
         rounds: &[2],
         batches: Some(&[(&[("user", "u1")], true), (&[("user", "u2")], true)]),
+        ..ROW
+    },
+    Row {
+        about: "the names of the best friends of two users, by two plans",
+        most: (64, 1_024, 4_096),
+        plans: &[
+            &[Eval(Shape::Pick(&BEST, "name"))],
+            &[Eval(Shape::Pick(&Shape::Follow(&U2, "best"), "name"))],
+        ],
+        answers: &[&[(0, r#""Bob""#)], &[(0, r#""Ada""#)]],
+        rounds: &[2, 2],
+        batches: None,
         ..ROW
     },
     Row {
@@ -114,13 +129,13 @@ static ROWS: [Row; 11] = [
     },
     Row {
         about: "four plans in batches of one",
-        max_batch: 1,
+        most: (1, 64, 256),
         ..FOUR
     },
     FOUR,
     Row {
         about: "four plans in batches of any size",
-        max_batch: 65_536,
+        most: (65_536, 64, 256),
         ..FOUR
     },
     Row {
@@ -177,36 +192,70 @@ const TIMES: u32 = 20;
 
 #[test]
 fn plans_by_one_two_and_three_workers(rt: HostRuntime) {
-    let (alloc, hashing) = (rt.alloc(), hashing(&rt));
-    let users = users(&rt, alloc);
+    let users = users(&rt, rt.alloc());
     for row in &ROWS {
         for workers in WORKERS {
             for _ in 0..TIMES {
-                try_row(&rt, alloc, hashing, &users, workers, row);
+                try_row(&rt, rt.alloc(), &users, &NoGate, workers, row);
             }
         }
     }
 }
 
-/// Plays a row by so many workers, which is seen to be as it says.
-fn try_row<R: Abort + Threads + Wait + Sync>(
+/// A plan of no steps makes no call.
+static NO_STEPS: Row = Row {
+    about: "a plan of no steps",
+    most: (2, 8, 32),
+    queue: 1,
+    plans: &[&[]],
+    answers: &[&[]],
+    rounds: &[0],
+    batches: Some(&[]),
+};
+
+#[test]
+fn a_plan_of_no_steps(rt: HostRuntime) {
+    let users = users(&rt, rt.alloc());
+    let events = try_row(&rt, rt.alloc(), &users, &NoGate, 1, &NO_STEPS);
+    assert_is(&rt, &events, &0, "events");
+}
+
+/// A plan of one user, and its answers.
+const ONE: PlanShape = &[Eval(U1)];
+
+const ANSWER: Answers = &[(0, ADA)];
+
+/// As many plans of one user as there may be.
+static MOST: Row = Row {
+    about: "16 plans by 16 workers",
+    most: (2, 8, 256),
+    queue: 1_024,
+    plans: &[ONE; 16],
+    answers: &[ANSWER; 16],
+    rounds: &[1; 16],
+    batches: None,
+};
+
+#[test]
+fn as_many_plans_and_workers_as_there_may_be(rt: HostRuntime) {
+    let users = users(&rt, rt.alloc());
+    try_row(&rt, rt.alloc(), &users, &NoGate, 16, &MOST);
+}
+
+/// Serves the plans of a row by so many workers, which is seen to be as it says: the number of its events.
+pub(crate) fn try_row<G: Gate + Sync, R: Abort + RandomSource + Threads + Wait + Sync>(
     rt: &R,
     alloc: Global,
-    hashing: RandomState,
     users: &Tables,
+    gate: &G,
     workers: u32,
     row: &Row,
-) {
-    let setup = Setup {
-        limits: Limits::new(row.max_batch, 64, 256).expect(rt, "no limits"),
-        workers,
-        queue: 16,
-    };
-    let plans = plans(alloc, row.plans).expect(rt, "no memory");
-    let served = serve(rt, alloc, hashing, users, setup, plans, &NoGate);
-    let report = served.expect(rt, row.about);
+) -> usize {
+    let setup = setup(rt, row.most, workers, row.queue);
+    let report = served(rt, alloc, users, gate, setup, row.plans).expect(rt, row.about);
     assert_report(rt, alloc, &report, row.answers, row.rounds);
     if let Some(batches) = row.batches {
         assert_batches(rt, &report, batches);
     }
+    report.history().events().len()
 }

@@ -2,19 +2,19 @@
 //! first, and none is left waiting.
 
 use crate::comparison::assert_is;
+use crate::requests::plans::PlanShape;
 use crate::requests::plans::StepShape::{Eval, Users};
-use crate::requests::plans::{PlanShape, plans};
-use crate::requests::users::{hashing, users};
-use dl_desk::Limits;
+use crate::requests::service::{served, setup};
+use crate::requests::users::users;
 use dl_fixtures::{Shape, U1, U2};
 use dl_haxl::RunFault;
 use dl_loader::CallFault;
-use dl_scope::{ScopeFault, Setup, serve};
+use dl_scope::{ScopeFault, Setup};
 use dl_source::Tables;
 use dl_workers::{Gate, NoGate};
 use std::alloc::Global;
-use std::hash::RandomState;
 use std::process::Abort;
+use std::random::RandomSource;
 use std::sync::Wait;
 use std::sync::atomic::{AtomicU32, Ordering};
 use std::thread::{Threads, sleep};
@@ -80,22 +80,25 @@ static ROWS: [Row; 2] = [
 /// By how many workers the plans are served.
 const WORKERS: [u32; 3] = [1, 2, 3];
 
+/// What the plans are served with, by so many workers.
+fn setup_of(rt: &impl Abort, workers: u32) -> Setup {
+    setup(rt, (1, MOST_CELLS, 64), workers, 1)
+}
+
 #[test]
 fn a_plan_that_waits_is_stopped_by_the_fault_of_another(rt: HostRuntime) {
-    let (alloc, hashing) = (rt.alloc(), hashing(&rt));
-    let users = users(&rt, alloc);
+    let users = users(&rt, rt.alloc());
     for row in &ROWS {
         for workers in WORKERS {
-            try_row(&rt, alloc, hashing, &users, workers, row);
+            try_row(&rt, rt.alloc(), &users, workers, row);
         }
     }
 }
 
 /// The plans of a row leave no report, since one met its fault, and not all batches of the other were fetched.
-fn try_row<R: Abort + Clock + Threads + Wait + Sync>(
+fn try_row<R: Abort + Clock + RandomSource + Threads + Wait + Sync>(
     rt: &R,
     alloc: Global,
-    hashing: RandomState,
     users: &Tables,
     workers: u32,
     row: &Row,
@@ -104,7 +107,8 @@ fn try_row<R: Abort + Clock + Threads + Wait + Sync>(
         rt,
         ended: AtomicU32::new(0),
     };
-    let fault = fault_of(rt, alloc, hashing, users, workers, row.plans, &gate);
+    let setup = setup_of(rt, workers);
+    let fault = served(rt, alloc, users, &gate, setup, row.plans).err();
     assert_is(rt, &fault, &Some(full(row.plan)), row.about);
     let ended = gate.ended.load(Ordering::SeqCst);
     assert_is(rt, &(ended < MOST_CELLS), &true, row.about);
@@ -115,23 +119,25 @@ const TIMES: u32 = 50;
 
 #[test]
 fn two_plans_that_meet_faults_at_once(rt: HostRuntime) {
-    let (alloc, hashing) = (rt.alloc(), hashing(&rt));
-    let users = users(&rt, alloc);
+    let users = users(&rt, rt.alloc());
     for workers in WORKERS {
         for _ in 0..TIMES {
-            let fault = fault_of(
-                &rt,
-                alloc,
-                hashing,
-                &users,
-                workers,
-                &[FAULTY, FAULTY],
-                &NoGate,
-            );
-            let is_one = fault == Some(full(0)) || fault == Some(full(1));
-            assert_is(&rt, &is_one, &true, "one of the plans is named");
+            try_both(&rt, rt.alloc(), &users, workers);
         }
     }
+}
+
+/// Of two plans that meet their faults at once, one is named.
+fn try_both<R: Abort + RandomSource + Threads + Wait + Sync>(
+    rt: &R,
+    alloc: Global,
+    users: &Tables,
+    workers: u32,
+) {
+    let setup = setup_of(rt, workers);
+    let fault = served(rt, alloc, users, &NoGate, setup, &[FAULTY, FAULTY]).err();
+    let is_one = fault == Some(full(0)) || fault == Some(full(1));
+    assert_is(rt, &is_one, &true, "one of the plans is named");
 }
 
 /// The fault of the plan, which needed more cells than there may be.
@@ -141,23 +147,4 @@ fn full(plan: u32) -> ScopeFault {
         plan,
         fault: RunFault::Call(CallFault::CellsFull { limit }),
     }
-}
-
-/// Why plans that are served by so many workers leave no report.
-fn fault_of<G: Gate + Sync, R: Abort + Threads + Wait + Sync>(
-    rt: &R,
-    alloc: Global,
-    hashing: RandomState,
-    users: &Tables,
-    workers: u32,
-    shapes: &[PlanShape],
-    gate: &G,
-) -> Option<ScopeFault> {
-    let setup = Setup {
-        limits: Limits::new(1, MOST_CELLS, 64).expect(rt, "no limits"),
-        workers,
-        queue: 1,
-    };
-    let plans = plans(alloc, shapes).expect(rt, "no memory");
-    serve(rt, alloc, hashing, users, setup, plans, gate).err()
 }

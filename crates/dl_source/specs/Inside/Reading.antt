@@ -1,13 +1,18 @@
 -- The tables that a tree spells, found by looking into it; and what the reading functions answer.
-use Rattle.std.specs.Prelude.{◌≡◌, ℕ, List, [], ◌∷◌, ◌++◌, codes, Option, Some, None, Result, Ok, Err, option_map, option_and_then, if◌then◌else◌, ⊤}
+use Rattle.std.specs.Prelude.{◌≡◌, ℕ, ℤ, List, [], ◌∷◌, ◌++◌, codes, Bool, Option, Some, None, Result, Ok, Err, option_map, option_and_then}
+use Rattle.std.specs.Prelude.{if◌then◌else◌, ⊤}
+use Rattle.std.specs.Option.{option_or}
 use Rattle.serde_json.specs.Data.{Data, Items, no_items, item}
 use Rattle.serde_json.specs.Find.{get, as_str, as_array}
 use Rattle.dl_source.specs.declared.tables.Finding.{Finding}
 use Rattle.dl_source.specs.declared.fault.TableFault.{TableFault}
 use Rattle.dl_source.specs.declared.fault.TableFault.TheVariants.{Shape, BadKey, TextTooLong, NotWhole, DuplicateTable, DuplicateKey, OutOfMemory}
+use Rattle.dl_source.specs.declared.table_reader.Version.{Version}
+use Rattle.dl_source.specs.declared.table_reader.Version.TheVariants.{First, Second}
 use Rattle.dl_source.specs.Tables.{Table, Tables}
-use Rattle.dl_source.specs.Faults.{has_bad_key, has_long_text, has_other_number}
-use Rattle.dl_source.specs.Spelling.{row_of, error_of, break_text_of, is_table_member, has_only}
+use Rattle.dl_source.specs.NumberedTables.{NumberedTable, numbered, tables_of}
+use Rattle.dl_source.specs.Faults.{has_bad_key, has_long_text, has_other_number, repeats, has_repeated_key}
+use Rattle.dl_source.specs.Spelling.{row_of, error_of, break_text_of, is_table_member, is_numbered_member, has_only, whole}
 
 -- each item read, if each can be read
 abbrev pub each_in : {X : Type 0} → (Data → Option X) → Items → Option (List X)
@@ -41,12 +46,35 @@ findings_in d =
     (optional_in (finding_in error_of) (get (codes "errors") d)))
     (member_in (finding_in row_of) (get (codes "rows") d))
 
-abbrev pub table_in : Data → Option (List ℕ × Table)
-table_in d = if has_only is_table_member d then option_and_then (λ name. option_map (λ findings. (name, findings)) (findings_in d))
+-- the number that a member is, and none where it is absent
+abbrev pub number_in : Option Data → Option (Option ℤ)
+number_in None = Some None
+number_in (Some d) = option_map Some (whole d)
+
+-- ---- by the versions of the formats
+
+-- the names of a table's members
+abbrev pub is_member_of : Version → List ℕ → Bool
+is_member_of First = is_table_member
+is_member_of Second = is_numbered_member
+
+-- a table's number, which the first version doesn't know
+abbrev pub number_by : Version → Data → Option (Option ℤ)
+number_by First d = Some None
+number_by Second d = number_in (get (codes "maxBatchSize") d)
+
+abbrev pub numbered_in : Version → Data → Option NumberedTable
+numbered_in version d =
+    if has_only (is_member_of version) d
+    then option_and_then (λ name. option_and_then (λ number. option_map (numbered name number) (findings_in d)) (number_by version d))
     (option_and_then as_str (get (codes "name") d)) else None
 
-abbrev pub tables_in : Data → Option Tables
-tables_in d = list_in table_in d
+-- the tables that a tree lists, with their numbers and without
+abbrev pub listed_in : Version → Data → Option (List NumberedTable)
+listed_in version d = list_in (numbered_in version) d
+
+abbrev pub tables_in : Version → Data → Option Tables
+tables_in version d = option_map tables_of (listed_in version d)
 
 -- ---- what the reading functions answer
 
@@ -66,6 +94,13 @@ abbrev pub content_fault : Tables → Option TableFault
 content_fault tables =
     if has_bad_key tables then Some BadKey
     else (if has_long_text tables then Some TextTooLong else (if has_other_number tables then Some NotWhole else None))
+
+abbrev pub repetition_fault : Tables → Option TableFault
+repetition_fault tables = if repeats tables then Some DuplicateTable else (if has_repeated_key tables then Some DuplicateKey else None)
+
+-- the least of all faults that tables have
+abbrev pub fault_of : Tables → Option TableFault
+fault_of tables = option_or (content_fault tables) (repetition_fault tables)
 
 -- what was read, after what was there
 abbrev pub after : {X : Type 0} → List X → Option (List X) → Option (List X)

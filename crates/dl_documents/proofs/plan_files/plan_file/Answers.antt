@@ -12,7 +12,7 @@ returns-in_err-lists-clause-err c =
     let same : c.from_residual.result ≡ Err c.in_err-lists.field-0.0 = search rules in
     rw same (elim c.in_err-lists.ensures.err [
       | inl memory ↦ inl memory
-      | inr bad ↦ inr (rw bad.0 (least_top (view c.args.document.now) c.requires.head.version bad.1))
+      | inr bad ↦ inr (rw bad.0 (least_top (view c.args.document.now) c.args.head.version c.requires.head.version bad.1))
     ])
 
 pub returns-in_err-plans-clause-err : goal.returns-in_err-plans-clause-err
@@ -21,7 +21,7 @@ returns-in_err-plans-clause-err c =
     let same : c.from_residual-in_err-plans.result ≡ Err c.in_err-plans.field-0.0 = search rules in
     rw same (elim c.in_err-plans.ensures.err [
       | inl memory ↦ inl memory
-      | inr bad ↦ inr (least_shape (view c.args.document.now) c.args.numbers (rows_view c.in_ok-lists.lists.items) (view c.in_ok-lists.tables.now)
+      | inr bad ↦ inr (least_shape (view c.args.document.now) c.args.head (rows_view c.in_ok-lists.lists.items) (view c.in_ok-lists.tables.now)
           c.requires.kind c.requires.head top c.in_err-plans.field-0.0 (rw c.as_slice.ensures.value at bad))
     ])
 
@@ -33,7 +33,7 @@ returns-in_err-tables-clause-err c =
     let same : c.from_residual-in_err-tables.result ≡ Err c.in_err-tables.field-0.0 = search rules in
     rw same (elim c.in_err-tables.ensures.err [
       | inl memory ↦ inl memory
-      | inr bad ↦ inr (least_refusal (view c.args.document.now) c.args.numbers (rows_view c.in_ok-lists.lists.items) (view c.in_ok-lists.tables.now)
+      | inr bad ↦ inr (least_refusal (view c.args.document.now) c.args.head (rows_view c.in_ok-lists.lists.items) (view c.in_ok-lists.tables.now)
           c.requires.kind c.requires.head top (map plan_view c.in_ok-plans.plans.items) read c.in_err-tables.field-0.0 (rw c.as_slice-2.ensures.value at bad))
     ])
 
@@ -42,7 +42,9 @@ returns-clause-ok c =
     let top : HasPlans (view c.args.document.now) (rows_view c.in_ok-lists.lists.items) (view c.in_ok-lists.tables.now) = search rules in
     let read : AreRead (rows_view c.in_ok-lists.lists.items) (map plan_view c.in_ok-plans.plans.items) =
     rw c.as_slice.ensures.value at c.in_ok-plans.ensures.ok in
-    let rest : AreRest (map plan_view c.in_ok-plans.plans.items) (view c.in_ok-lists.tables.now) c.args.numbers c.in_ok-tables.tables c.in_ok-tables.limits =
+    let tables = c.in_ok-tables in
+    let rest : AreRest (map plan_view c.in_ok-plans.plans.items) (view c.in_ok-lists.tables.now) c.args.head (tables.tables, tables.limits, tables.table_limits) =
     rw c.as_slice-2.ensures.value at c.in_ok-tables.ensures.ok in
-    spells (view c.args.document.now) c.args.numbers (rows_view c.in_ok-lists.lists.items) (view c.in_ok-lists.tables.now)
-    (record { limits = c.in_ok-tables.limits; tables = c.in_ok-tables.tables; plans = c.in_ok-plans.plans }) c.requires.kind c.requires.head top read rest
+    spells (view c.args.document.now) c.args.head (rows_view c.in_ok-lists.lists.items) (view c.in_ok-lists.tables.now)
+    (record { limits = tables.limits; table_limits = tables.table_limits; tables = tables.tables; plans = c.in_ok-plans.plans }) c.requires.kind
+    c.requires.head top read rest

@@ -1,6 +1,6 @@
 use Rattle.std.proofs.Common.{arith}
 use Rattle.dl_desk.specs.declared.reply.LoadReply.TheVariants.{Hit, Fresh}
-use Rattle.dl_loader.proofs.Tickets.{begun_next}
+use Rattle.dl_loader.proofs.NewCells.{begun_next}
 use Rattle.dl_loader.proofs.load_replies.cells_begun.Goals.{in-Hit, in-Fresh}
 use Rattle.dl_loader.proofs.load_replies.cells_begun.Goals as goal
 

@@ -1,9 +1,8 @@
 //! Closes of a loader, some of which are refused, and what the last one leaves.
 
-use super::play;
 use crate::loader::step::Step::{Clear, Dispatch, Fail as GivesUp, Load, LoadMany, Settle};
 use crate::loader::step::{Closed, Part, Row};
-use crate::loader::users;
+use crate::loader::{play_over, users};
 use dl_desk::LoadReply::Fresh;
 use dl_fixtures::ADA;
 use dl_loader::CloseFault::{PassesMissing, Unsettled};
@@ -32,11 +31,7 @@ static ROWS: [Row; 6] = [
                 passes: 1,
                 close: Ok(&Closed {
                     events: 3,
-                    callers: &[(
-                        0,
-                        &[Call { at: 0 }, Call { at: 1 }, Call { at: 2 }],
-                        &[0, 1, 2],
-                    )],
+                    callers: &[(0, &[Call { at: 0 }, Call { at: 1 }, Call { at: 2 }])],
                     ends: &[(0, false)],
                     batches: &[(&["u1"], false)],
                     outcomes: &["memory"],
@@ -115,7 +110,6 @@ static ROWS: [Row; 6] = [
                                 Call { at: 5 },
                                 Call { at: 6 },
                             ],
-                            &[0, 3, 5, 6],
                         ),
                         (
                             1,
@@ -125,9 +119,8 @@ static ROWS: [Row; 6] = [
                                 Call { at: 4 },
                                 Call { at: 7 },
                             ],
-                            &[1, 2, 4, 7],
                         ),
-                        (2, &[], &[]),
+                        (2, &[]),
                     ],
                     ends: &[(0, true), (1, false), (2, true)],
                     batches: &[(&["u1"], true), (&["u2"], false), (&["u3"], true)],
@@ -151,11 +144,7 @@ static ROWS: [Row; 6] = [
                 passes: 32,
                 close: Ok(&Closed {
                     events: 2,
-                    callers: &[
-                        (0, &[Call { at: 0 }], &[0]),
-                        (1, &[], &[]),
-                        (31, &[Call { at: 1 }], &[1]),
-                    ],
+                    callers: &[(0, &[Call { at: 0 }]), (1, &[]), (31, &[Call { at: 1 }])],
                     ends: &[],
                     batches: &[],
                     outcomes: &[],
@@ -190,6 +179,6 @@ static ROWS: [Row; 6] = [
 fn rows_of_closes(rt: HostRuntime) {
     let users = users(&rt, rt.alloc());
     for row in &ROWS {
-        play(&rt, rt.alloc(), &users, row);
+        play_over(&rt, rt.alloc(), &users, row);
     }
 }

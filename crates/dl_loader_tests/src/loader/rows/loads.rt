@@ -1,13 +1,12 @@
 //! Loads, primes and clears, and the outcomes that are read.
 
-use super::play;
 use crate::loader::step::Primed::{KeyError, NoMemory, Value};
 use crate::loader::step::Step::{
     ByLaw, Clear, ClearAll, Dispatch, Entries, Load, LoadMany, Look, Prime, Saw, Settle, Wait,
     WaitWithBook,
 };
 use crate::loader::step::{Asked, Closed, Part, Row, Told};
-use crate::loader::users;
+use crate::loader::{play_over, users};
 use dl_desk::LoadReply::{Fresh, Hit};
 use dl_fixtures::{ADA, BOB};
 use dl_loader::CallFault::{NoBatch, NotSent, SettledBefore, WrongKeys};
@@ -51,7 +50,7 @@ static LOADS: [Row; 4] = [
             passes: 1,
             close: Ok(&Closed {
                 events: 5,
-                callers: &[(0, &ENTRIES, &[0, 1, 2, 3, 4]), (1, &[], &[])],
+                callers: &[(0, &ENTRIES), (1, &[])],
                 ends: &[(0, true)],
                 batches: &[(&["u1"], true)],
                 outcomes: &[ADA],
@@ -93,7 +92,6 @@ static LOADS: [Row; 4] = [
                         Call { at: 4 },
                         Read { cell: 1, at: 2 },
                     ],
-                    &[0, 1, 2, 3, 4],
                 )],
                 ends: &[(0, true)],
                 batches: &[(&["u9", "u4"], true)],
@@ -141,11 +139,7 @@ static LOADS: [Row; 4] = [
             passes: 1,
             close: Ok(&Closed {
                 events: 3,
-                callers: &[(
-                    0,
-                    &[Call { at: 0 }, Call { at: 1 }, Call { at: 2 }],
-                    &[0, 1, 2],
-                )],
+                callers: &[(0, &[Call { at: 0 }, Call { at: 1 }, Call { at: 2 }])],
                 ends: &[],
                 batches: &[],
                 outcomes: &[],
@@ -158,7 +152,7 @@ static LOADS: [Row; 4] = [
 fn rows_of_loads(rt: HostRuntime) {
     let users = users(&rt, rt.alloc());
     for row in &LOADS {
-        play(&rt, rt.alloc(), &users, row);
+        play_over(&rt, rt.alloc(), &users, row);
     }
 }
 
@@ -248,7 +242,6 @@ static PRIMES: [Row; 3] = [
                         Call { at: 3 },
                         Read { cell: 1, at: 2 },
                     ],
-                    &[0, 1, 2, 3],
                 )],
                 ends: &[],
                 batches: &[],
@@ -290,7 +283,7 @@ static PRIMES: [Row; 3] = [
 fn rows_of_primes(rt: HostRuntime) {
     let users = users(&rt, rt.alloc());
     for row in &PRIMES {
-        play(&rt, rt.alloc(), &users, row);
+        play_over(&rt, rt.alloc(), &users, row);
     }
 }
 
@@ -368,7 +361,6 @@ static BY_THE_LAW: [Row; 2] = [
                         Call { at: 10 },
                         Call { at: 11 },
                     ],
-                    &[0, 1, 2, 3, 4, 5, 6, 7, 8, 9, 10, 11],
                 )],
                 ends: &[(0, true), (1, false)],
                 batches: &[(&["u1", "u2"], true), (&["u1"], false)],
@@ -399,7 +391,6 @@ static BY_THE_LAW: [Row; 2] = [
                         Call { at: 2 },
                         Read { cell: 0, at: 2 },
                     ],
-                    &[0, 1, 2],
                 )],
                 ends: &[(0, true)],
                 batches: &[(&["u1"], true)],
@@ -413,6 +404,6 @@ static BY_THE_LAW: [Row; 2] = [
 fn rows_by_the_law(rt: HostRuntime) {
     let users = users(&rt, rt.alloc());
     for row in &BY_THE_LAW {
-        play(&rt, rt.alloc(), &users, row);
+        play_over(&rt, rt.alloc(), &users, row);
     }
 }

@@ -1,13 +1,12 @@
 //! Calls that are refused, each by the first cause that applies. A refused call leaves the pass as it was.
 
-use super::play;
 use crate::loader::step::Primed::{NoMemory, Value};
 use crate::loader::step::Step::{
     ByLaw, Clear, ClearAll, Dispatch, Entries, Fail as GivesUp, Load, LoadMany, Prime, Settle,
     Stop, Wait,
 };
 use crate::loader::step::{Asked, Closed, Part, Row};
-use crate::loader::users;
+use crate::loader::{play_over, users};
 use dl_desk::LoadReply::{Fresh, Hit};
 use dl_fixtures::ADA;
 use dl_loader::CallFault::{
@@ -50,7 +49,7 @@ static FULL: [Row; 4] = [
                 passes: 1,
                 close: Ok(&Closed {
                     events: 2,
-                    callers: &[(0, &[Call { at: 0 }, Call { at: 1 }], &[0, 1])],
+                    callers: &[(0, &[Call { at: 0 }, Call { at: 1 }])],
                     ends: &[],
                     batches: &[],
                     outcomes: &[],
@@ -154,7 +153,7 @@ static FULL: [Row; 4] = [
 fn rows_of_full_loaders(rt: HostRuntime) {
     let users = users(&rt, rt.alloc());
     for row in &FULL {
-        play(&rt, rt.alloc(), &users, row);
+        play_over(&rt, rt.alloc(), &users, row);
     }
 }
 
@@ -218,7 +217,6 @@ static STOPPED: [Row; 2] = [
                         Call { at: 2 },
                         Saw { cell: 0, at: 2 },
                     ],
-                    &[0, 1, 2],
                 )],
                 ends: &[(0, true)],
                 batches: &[(&["u1"], true)],
@@ -232,7 +230,7 @@ static STOPPED: [Row; 2] = [
 fn rows_of_stopped_loaders(rt: HostRuntime) {
     let users = users(&rt, rt.alloc());
     for row in &STOPPED {
-        play(&rt, rt.alloc(), &users, row);
+        play_over(&rt, rt.alloc(), &users, row);
     }
 }
 
@@ -257,11 +255,7 @@ static ENDS: [Row; 3] = [
             passes: 1,
             close: Ok(&Closed {
                 events: 3,
-                callers: &[(
-                    0,
-                    &[Call { at: 0 }, Call { at: 1 }, Call { at: 2 }],
-                    &[0, 1, 2],
-                )],
+                callers: &[(0, &[Call { at: 0 }, Call { at: 1 }, Call { at: 2 }])],
                 ends: &[(0, true)],
                 batches: &[(&["u1"], true)],
                 outcomes: &[ADA],
@@ -293,11 +287,7 @@ static ENDS: [Row; 3] = [
             passes: 1,
             close: Ok(&Closed {
                 events: 3,
-                callers: &[(
-                    0,
-                    &[Call { at: 0 }, Call { at: 1 }, Call { at: 2 }],
-                    &[0, 1, 2],
-                )],
+                callers: &[(0, &[Call { at: 0 }, Call { at: 1 }, Call { at: 2 }])],
                 ends: &[(0, false)],
                 batches: &[(&["u1"], false)],
                 outcomes: &["unsent"],
@@ -355,6 +345,6 @@ static ENDS: [Row; 3] = [
 fn rows_of_refused_ends(rt: HostRuntime) {
     let users = users(&rt, rt.alloc());
     for row in &ENDS {
-        play(&rt, rt.alloc(), &users, row);
+        play_over(&rt, rt.alloc(), &users, row);
     }
 }

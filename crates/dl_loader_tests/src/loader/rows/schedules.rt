@@ -1,9 +1,8 @@
 //! Calls in orders that a schedule may give them: ends that come late, and two callers of one key.
 
-use super::play;
 use crate::loader::step::Step::{Clear, Dispatch, Fail as GivesUp, Load, Look, Saw, Settle};
 use crate::loader::step::{Closed, Part, Row};
-use crate::loader::users;
+use crate::loader::{play_over, users};
 use dl_desk::LoadReply::{Fresh, Hit};
 use dl_fixtures::ADA;
 use dl_loader::CloseFault::Unsettled;
@@ -57,7 +56,6 @@ static ROWS: [Row; 4] = [
                                 Call { at: 10 },
                                 Call { at: 11 },
                             ],
-                            &[0, 1, 4, 6, 10, 11],
                         ),
                         (
                             1,
@@ -69,7 +67,6 @@ static ROWS: [Row; 4] = [
                                 Call { at: 8 },
                                 Call { at: 9 },
                             ],
-                            &[2, 3, 5, 7, 8, 9],
                         ),
                     ],
                     ends: &[(0, false), (1, false), (2, false)],
@@ -139,6 +136,6 @@ static ROWS: [Row; 4] = [
 fn rows_of_schedules(rt: HostRuntime) {
     let users = users(&rt, rt.alloc());
     for row in &ROWS {
-        play(&rt, rt.alloc(), &users, row);
+        play_over(&rt, rt.alloc(), &users, row);
     }
 }

@@ -34,13 +34,13 @@ returns-in-Err-check-clause-refused g c =
     let runs = c.in_ok-runs.runs in
     let service = g.L.LoaderName.service in
     let fresh = ap parts_of ran.passes_are ∙ c.requires.passes in
-    let workers : length ran.worker_tasks ≡ c.args.setup.workers =
+    let workers : length ran.worker_tasks ≡ c.args.setup.now.workers =
     omega (arith, ran.all_takers, c.in-Ok.ensures.seats.all_takers, c.in-Ok.ensures.takers) in
     let faults = ap (map fault_of) c.as_slice.ensures.value in
     let ends = ap (map (λ run. run.end)) c.as_slice-2.ensures.value in
-    run_refused service c.args.setup c.args.plans.items (map fault_of runs.plans.items) (map (λ run. run.end) runs.workers.items) c.in-Err-check.fault
+    run_refused service c.args.setup.now c.args.plans.items (map fault_of runs.plans.items) (map (λ run. run.end) runs.workers.items) c.in-Err-check.fault
     (record { plans_are = c.requires.plans; workers_are = c.requires.workers; capacity = c.in-Ok.ensures.accepted.0 })
-    (are_ends c.in-Ok.made.0 service service.callers c.args.setup.workers c.args.plans.items ran.plan_tasks runs.plans.items ran.worker_tasks
+    (are_ends c.in-Ok.made.0 service service.callers c.args.setup.now.workers c.args.plans.items ran.plan_tasks runs.plans.items ran.worker_tasks
     runs.workers.items ran.planned ran.worked fresh ran.plans_are workers)
     (subst (λ fs. IsFaultOf fs (map (λ run. run.end) runs.workers.items) c.in-Err-check.fault) faults
     (subst (λ es. IsFaultOf (map fault_of c.as_slice.result.now) es c.in-Err-check.fault) ends c.in-Err-check.ensures.fault))

@@ -1,5 +1,5 @@
 use Rattle.std.proofs.Common.{take}
-use Rattle.dl_loader.specs.Closing.{IsLeastOf}
+use Rattle.dl_loader.specs.CloseRefusals.{IsLeastOf}
 use Rattle.dl_workers.specs.GiveUps.{given_up}
 use Rattle.dl_workers.proofs.give_ups.least_given_up.Given as goal
 

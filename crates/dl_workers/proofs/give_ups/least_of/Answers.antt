@@ -1,5 +1,5 @@
 use Rattle.std.proofs.Common.{ℕ, Option, subst}
-use Rattle.dl_loader.specs.Closing.{IsLeastOf}
+use Rattle.dl_loader.specs.CloseRefusals.{IsLeastOf}
 use Rattle.dl_workers.proofs.Least.{least_lesser}
 use Rattle.dl_workers.proofs.give_ups.least_of.Goals as goal
 

@@ -1,4 +1,4 @@
-use Rattle.std.proofs.Common.{◌≡◌, sym, ℕ, ◌-◌, suc, false, refl, arith}
+use Rattle.std.proofs.Common.{◌≡◌, sym, ℕ, ◌-◌, suc, false, arith}
 use Rattle.dl_desk.specs.Preparation.{has_room_in}
 use Rattle.dl_desk.proofs.TwoBooks.{length-begun}
 use Rattle.dl_desk.proofs.OpenBatch.{next_room}
@@ -6,7 +6,7 @@ use Rattle.dl_desk.proofs.desk.Desk.newest.Goals as goal
 use Rattle.dl_desk.proofs.desk.Desk.newest.Goals.{else-next-gt0-via-then-next-gt0+else-is_open, else-next-gt0-via-else-next-gt0}
 
 pub returns-else-next-gt0-clause-room : goal.returns-else-next-gt0-clause-room
-returns-else-next-gt0-clause-room c = next_room c.args.self.now.prepared c.self.inside.prepared.begun (rw (← c.self.view_is) refl)
+returns-else-next-gt0-clause-room c = next_room c.args.self.now.prepared c.self.inside.prepared.begun c.requires
     (rw (← c.self.view_is) (length-begun _ _ _ c.self.invariant.prepared_book)) full
   where
     full : (m : ℕ) → c.self.inside.prepared.begun ≡ suc m → has_room_in c.args.self.now.prepared m ≡ false

@@ -2,7 +2,7 @@ use Rattle.std.proofs.Common.{◌∙◌, ap, length, arith}
 use Rattle.dl_history.specs.Journal.{refusals}
 use Rattle.dl_loader.proofs.LoadCells.{loads_answered}
 use Rattle.dl_loader.proofs.NextEvent.{event, gained}
-use Rattle.dl_loader.proofs.RecordedEvent.{next_begun, next_can, next_cells, next_few, next_fits, next_in, next_kept, refusals_waiting}
+use Rattle.dl_loader.proofs.BookAfterEvent.{next_begun, next_can, next_cells, next_few, next_fits, next_in, next_kept, refusals_waiting}
 use Rattle.dl_loader.proofs.book.Book.record.Goals as goal
 
 pub begun_in-cells-requires : goal.begun_in-cells-requires

@@ -10,7 +10,8 @@ make_tickets-requires-clause-begun g c = rw c.as_slice.ensures.value c.in_ok-rep
 pub make_tickets-requires-clause-room : goal.make_tickets-requires-clause-room
 make_tickets-requires-clause-room g c =
     let was = c.in_ok-replies.ensures.made in
-    let many = loads_long g.L.LoaderName.service was.0 was.1 c.args.pass.now.trace c.make.new.pass.trace c.args.keys.now c.in_ok-replies.replies.items was.3 was.5 in
+    let many =
+    loads_long g.L.LoaderName.service was.0 was.1 c.args.pass.now.trace c.make.new.pass.trace c.args.keys.now c.in_ok-replies.replies.items was.3 was.5 in
     let shown : length c.as_slice.result.now ≡ length c.in_ok-replies.replies.items = ap length c.as_slice.ensures.value in
     let room = c.in_ok-tickets.ensures.capacity in
     omega arith
@@ -34,6 +35,7 @@ returns-clause-gave g c =
 pub returns-clause-each : goal.returns-clause-each
 returns-clause-each g c =
     let was = c.in_ok-replies.ensures.made in
-    let many = loads_long g.L.LoaderName.service was.0 was.1 c.args.pass.now.trace c.make.new.pass.trace c.args.keys.now c.in_ok-replies.replies.items was.3 was.5 in
+    let many =
+    loads_long g.L.LoaderName.service was.0 was.1 c.args.pass.now.trace c.make.new.pass.trace c.args.keys.now c.in_ok-replies.replies.items was.3 was.5 in
     let are = rw c.as_slice.ensures.value at c.make_tickets.ensures in
     sym (length-map c.make_tickets.new.tickets.items (λ t. t.reply)) ∙ (ap length are.replies_are ∙ many)

@@ -1,6 +1,6 @@
 use Rattle.std.proofs.Common.{◌≡◌, ◌≤◌}
-use Rattle.dl_loader.specs.Closing.{accounts_of}
-use Rattle.dl_loader.specs.Closing.{present}
+use Rattle.dl_passes.specs.Accounts.{accounts_of}
+use Rattle.dl_loader.specs.CloseRefusals.{present}
 use Rattle.dl_loader.proofs.loader.close.present.Given as goal
 
 abbrev pub invariant-loop-caller : goal.invariant-loop-caller

@@ -1,5 +1,5 @@
 use Rattle.std.proofs.Common.{ℕ, List, ◌++◌, take, flat_map}
-use Rattle.dl_loader.specs.Closing.{IsLeastOf}
+use Rattle.dl_loader.specs.CloseRefusals.{IsLeastOf}
 use Rattle.dl_history.specs.Agreement.{read_in, refused_in}
 use Rattle.dl_loader.proofs.loader.unshown.least_in.Given as goal
 

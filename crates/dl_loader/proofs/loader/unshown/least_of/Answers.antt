@@ -1,5 +1,5 @@
 use Rattle.std.proofs.Common.{ℕ, Option, subst}
-use Rattle.dl_loader.specs.Closing.{IsLeastOf}
+use Rattle.dl_loader.specs.CloseRefusals.{IsLeastOf}
 use Rattle.dl_loader.proofs.CloseLemmas.{least_lesser}
 use Rattle.dl_loader.proofs.loader.unshown.least_of.Goals as goal
 

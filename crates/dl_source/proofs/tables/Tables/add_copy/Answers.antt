@@ -8,10 +8,10 @@ pub returns-clause-ok : goal.returns-clause-ok
 returns-clause-ok c =
     let t = c.args.listed.now in
     let kept = c.in_ok-copy-2.ensures.value ∙ ap (λ o. ok_or o DuplicateKey) c.in_ok-copy.ensures in
-    let once : repeats t.1 ≡ false = ap repeats (sym c.findings.ensures) ∙ kept_true _ _ _ _ kept in
+    let once : repeats t.findings ≡ false = ap repeats (sym c.findings.ensures) ∙ kept_true _ _ _ _ kept in
     let rows = kept_rows _ _ _ _ kept ∙ c.findings.ensures in (
       c.in_ok-add.ensures
           ∙ ap (λ n. c.args.self.now ++ (n, c.in_ok-copy-2.copy) ∷ []) c.name.ensures
-          ∙ ap (λ x. c.args.self.now ++ (t.0, x) ∷ []) rows,
+          ∙ ap (λ x. c.args.self.now ++ (t.name, x) ∷ []) rows,
       once,
     )

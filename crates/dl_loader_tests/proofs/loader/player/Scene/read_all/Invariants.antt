@@ -1,5 +1,5 @@
 use Rattle.std.proofs.Common.{◌≡◌}
-use Rattle.dl_loader.proofs.TicketsAfterReads.{cells}
+use Rattle.dl_passes.proofs.TicketsAfterReads.{cells}
 use Rattle.dl_loader_tests.proofs.loader.player.Scene.read_all.Given as goal
 
 abbrev pub invariant-loop-ticket : goal.invariant-loop-ticket

@@ -1,0 +1,305 @@
+//! What a desk keeps of its tables, where each batch is of one table.
+
+ghost use Rattle.std.specs.Prelude.{◌≡◌, ℕ, ◌<◌, ◌≤◌, ◌+◌, List, [], length, map, take, max, vec_len, option_map, Some, None, IsSome, IfOk, IfSome, OnErr};
+ghost use Rattle.dl_values.specs.Limits.{limit_by};
+ghost use Rattle.dl_desk.specs.Preparation.{prepared_batch, shown_batch, book_room, Same};
+ghost use Rattle.dl_desk.specs.Marks.{IsStored, IsAdded, MakesRoom};
+ghost use Rattle.dl_desk.specs.BatchBook.{BatchBook};
+ghost use Rattle.dl_desk.specs.TableBook.{told, newest_at, open_at, open_for, untouched, both, AreTables, AreTouched, TouchedBy, Renews, IsNewest, IsOf};
+
+use crate::batch::StoredBatch;
+use crate::desk::Extent;
+use crate::memo_and_batches::{self, BatchChoice};
+use dl_values::{FetchKey, Limits, TableLimits};
+use std::alloc::{AllocError, Global};
+use std::collections::BTreeMap;
+use std::hash::RandomState;
+use std::marker::Model;
+
+/// Of a table, how many keys a batch of it may have, and which batch is its newest.
+#[derive(Clone, Copy)]
+pub(crate) struct Newest {
+    most: u32,
+    // The batch that was begun last for the table. Where that was taken back, it is none or another table's.
+    latest: u32,
+    // The table's newest batch of those that were shown when that one was begun.
+    before: Option<u32>,
+}
+
+/// How a desk's batches stand: the limits, how far they have come with what is prepared, and how far what is shown has.
+#[derive(Clone, Copy)]
+pub(crate) struct Standing {
+    pub(crate) limits: Limits,
+    pub(crate) prepared: Extent,
+    pub(crate) shown: Extent,
+}
+
+/// What a new batch is made with.
+#[derive(Clone, Copy)]
+pub(crate) struct BatchMeans {
+    pub(crate) alloc: Global,
+    pub(crate) hashing: RandomState,
+}
+
+/// The tables' own limits, and the newest batch of each table. What is told of a table is never taken back: whether its
+/// latest batch counts is told by that batch.
+pub(crate) struct TableBook {
+    limits: TableLimits,
+    newest: BTreeMap<String, Newest>,
+    // The batches in which something may be prepared.
+    touched: Vec<u32>,
+}
+
+// Written out: a derived drop is proved anew in each function that lets a book go.
+impl Drop for TableBook {
+    fn drop(self) {
+        let TableBook {
+            limits,
+            newest,
+            touched,
+        } = self;
+        drop(limits);
+        drop(newest);
+        drop(touched);
+    }
+}
+
+impl Model for TableBook {
+    ghost use Rattle.dl_values.specs.TableLimits.{named};
+    ghost use Rattle.dl_desk.specs.TableBook.{TableBook};
+
+    ghost Value = { TableBook };
+
+    ghost view = { λ t. record { limits = t.limits; newest = named t.newest.entries; touched = t.touched.items } };
+}
+
+impl TableBook {
+    /// A book of no batches.
+    pub(crate) fn new(alloc: Global, limits: TableLimits) -> TableBook
+        ensures limits { result.limits ≡ limits }
+        ensures none { (result.newest ≡ []) × (result.touched ≡ []) }
+    {
+        TableBook {
+            limits,
+            newest: BTreeMap::new(alloc),
+            touched: Vec::new(alloc),
+        }
+    }
+
+    /// Takes back what is prepared.
+    fn cut(&mut self, batches: &mut Vec<StoredBatch>)
+        requires { AreTouched self.old.touched batches.old.items }
+        ensures book { self.new ≡ untouched self.old }
+        ensures prepared { map prepared_batch batches.new.items ≡ map shown_batch batches.old.items }
+        ensures shown { map shown_batch batches.new.items ≡ map shown_batch batches.old.items }
+    {
+        cut_each(batches, self.touched.as_slice());
+        self.touched.clear();
+    }
+
+    /// Shows what is prepared.
+    fn show(&mut self, batches: &mut Vec<StoredBatch>)
+        requires { AreTouched self.old.touched batches.old.items }
+        ensures book { self.new ≡ untouched self.old }
+        ensures prepared { map prepared_batch batches.new.items ≡ map prepared_batch batches.old.items }
+        ensures shown { map shown_batch batches.new.items ≡ map prepared_batch batches.old.items }
+    {
+        show_each(batches, self.touched.as_slice());
+        self.touched.clear();
+    }
+
+    /// How many keys a batch of the table may have.
+    fn most(&self, max_batch: u32, table: &str) -> u32
+        ensures { result ≡ limit_by max_batch (Some self.now.limits) table.now }
+    {
+        self.limits.limit(table).unwrap_or(max_batch)
+    }
+
+    /// The newest batch of the table. Where nothing is told of the table, it is told from now on that its first batch may
+    /// be the next one. The error is a failed allocation, and leaves the book.
+    fn newest_of(
+        &mut self,
+        alloc: Global,
+        max_batch: u32,
+        next: u32,
+        table: &str,
+    ) -> Result<Newest, AllocError>
+        ensures renews { IfOk result (λ newest. Renews self.old table.now newest self.new) }
+        ensures newest { IfOk result (IsNewest max_batch next self.old table.now) }
+        ensures err { OnErr result (self.new ≡ self.old) }
+    {
+        if let Some(newest) = self.newest.get(table) {
+            return Ok(*newest);
+        }
+        let newest = Newest {
+            most: self.most(max_batch, table),
+            latest: next,
+            before: None,
+        };
+        let name = String::from_str(alloc, table)?;
+        self.newest.insert(name, newest)?;
+        Ok(newest)
+    }
+
+    /// Tells another newest batch of a table.
+    fn renew(&mut self, table: &str, newest: Newest)
+        requires { IsSome (told self.old table.now) }
+        ensures { Renews self.old table.now newest self.new }
+    {
+        if let Some(last) = self.newest.get_mut(table) {
+            *last = newest;
+        }
+    }
+
+    /// Prepares a member of the key in the newest batch of its table, if that is open for the key, and else in the next
+    /// one, and answers which. The error is a failed allocation, and then an empty batch may have been added.
+    pub(crate) fn join(
+        &mut self,
+        batches: &mut Vec<StoredBatch>,
+        means: BatchMeans,
+        standing: Standing,
+        key: &FetchKey,
+        cell: u32,
+    ) -> Result<u32, AllocError>
+        requires stored { IsStored standing.prepared standing.limits.max_cells (map prepared_batch batches.old.items) }
+        requires shown { standing.shown.begun ≤ standing.prepared.begun }
+        requires fits { AreTables standing.limits.max_batch (both standing.shown.begun standing.prepared.begun batches.old.items) self.old }
+        ensures room { IfOk result (λ number. (book : BatchBook)
+            → IsOf standing.limits.max_batch standing.prepared.sent (take standing.prepared.begun (map prepared_batch batches.old.items)) self.old.limits book
+            → number ≡ book_room book key.now) }
+        ensures next { IfOk result (λ number. number ≤ standing.prepared.begun) }
+        ensures added { IfOk result (λ number. IsAdded batches.old.items number (key.now, cell) batches.new.items) }
+        ensures limits { self.new.limits ≡ self.old.limits }
+        ensures fits { IfOk result (λ number. AreTables standing.limits.max_batch
+            (both standing.shown.begun (max standing.prepared.begun (number + 1)) batches.new.items) self.new) }
+        ensures err_batches { OnErr result (MakesRoom batches.old.items batches.new.items) }
+        ensures err_fits { OnErr result (AreTables standing.limits.max_batch (both standing.shown.begun standing.prepared.begun batches.new.items) self.new) }
+    {
+        let next = standing.prepared.begun;
+        let table = key.table();
+        let newest = self.newest_of(means.alloc, standing.limits.max_batch(), next, table)?;
+        let last = newest_in(batches.as_slice(), next, newest, table);
+        let open = with_room(batches.as_slice(), standing.prepared, newest.most, last);
+        self.touched.reserve(1)?;
+        let choice = BatchChoice { newest: open, next };
+        let number = memo_and_batches::join(
+            batches,
+            means.alloc,
+            means.hashing,
+            choice,
+            key,
+            cell,
+        )?;
+        self.touched.push(number).unwrap();
+        if number == next {
+            let before = newest_shown(batches.as_slice(), standing.shown.begun, newest, table);
+            let renewed = Newest {
+                most: newest.most,
+                latest: number,
+                before,
+            };
+            self.renew(table, renewed);
+        }
+        Ok(number)
+    }
+}
+
+/// The newest of the first batches that is of the table, as is told of the table.
+fn newest_in(batches: &[StoredBatch], begun: u32, newest: Newest, table: &str) -> Option<u32>
+    requires { begun ≤ length batches.now }
+    ensures { result ≡ newest_at (take begun (map prepared_batch batches.now)) table.now (Some newest) }
+{
+    if newest.latest < begun && batches[newest.latest as usize].is_of(table) {
+        Some(newest.latest)
+    } else {
+        newest.before
+    }
+}
+
+/// The same, of what is shown.
+fn newest_shown(batches: &[StoredBatch], shown: u32, newest: Newest, table: &str) -> Option<u32>
+    requires { shown ≤ length batches.now }
+    ensures { result ≡ newest_at (take shown (map shown_batch batches.now)) table.now (Some newest) }
+{
+    if newest.latest < shown && batches[newest.latest as usize].is_shown_of(table) {
+        Some(newest.latest)
+    } else {
+        newest.before
+    }
+}
+
+/// The batch, where it isn't sent and has fewer members than the most, and else the next one.
+fn with_room(batches: &[StoredBatch], extent: Extent, most: u32, newest: Option<u32>) -> u32
+    requires within { extent.begun ≤ length batches.now }
+    requires newest { IfSome newest (λ b. b < extent.begun) }
+    ensures { result ≡ open_at extent.sent most (take extent.begun (map prepared_batch batches.now)) newest }
+{
+    match newest {
+        Some(number) if extent.sent <= number && batches[number as usize].len() < most as usize => {
+            number
+        }
+        _ => extent.begun,
+    }
+}
+
+/// Takes back what is prepared in these batches.
+fn cut_each(batches: &mut Vec<StoredBatch>, touched: &[u32])
+    requires { AreTouched touched.now batches.old.items }
+    ensures prepared { map prepared_batch batches.new.items ≡ map shown_batch batches.old.items }
+    ensures shown { map shown_batch batches.new.items ≡ map shown_batch batches.old.items }
+{
+    for number in touched {
+        batches[*number as usize].cut();
+    }
+}
+
+/// Shows what is prepared in these batches.
+fn show_each(batches: &mut Vec<StoredBatch>, touched: &[u32])
+    requires { AreTouched touched.now batches.old.items }
+    ensures prepared { map prepared_batch batches.new.items ≡ map prepared_batch batches.old.items }
+    ensures shown { map shown_batch batches.new.items ≡ map prepared_batch batches.old.items }
+{
+    for number in touched {
+        batches[*number as usize].show();
+    }
+}
+
+/// Takes back what is prepared: in a range of batches, where they may mix tables, and else in those that were touched.
+pub(crate) fn cut(
+    tables: &mut Option<TableBook>,
+    batches: &mut Vec<StoredBatch>,
+    from: usize,
+    to: usize,
+)
+    requires within { to ≤ vec_len batches.old }
+    requires same { Same from to batches.old.items }
+    requires touched { TouchedBy tables.old batches.old.items }
+    ensures tables { tables.new ≡ option_map untouched tables.old }
+    ensures prepared { map prepared_batch batches.new.items ≡ map shown_batch batches.old.items }
+    ensures shown { map shown_batch batches.new.items ≡ map shown_batch batches.old.items }
+{
+    match tables {
+        None => memo_and_batches::cut(batches, from, to),
+        Some(tables) => tables.cut(batches),
+    }
+}
+
+/// Shows what is prepared: in a range of batches, where they may mix tables, and else in those that were touched.
+pub(crate) fn show(
+    tables: &mut Option<TableBook>,
+    batches: &mut Vec<StoredBatch>,
+    from: usize,
+    to: usize,
+)
+    requires within { to ≤ vec_len batches.old }
+    requires same { Same from to batches.old.items }
+    requires touched { TouchedBy tables.old batches.old.items }
+    ensures tables { tables.new ≡ option_map untouched tables.old }
+    ensures prepared { map prepared_batch batches.new.items ≡ map prepared_batch batches.old.items }
+    ensures shown { map shown_batch batches.new.items ≡ map prepared_batch batches.old.items }
+{
+    match tables {
+        None => memo_and_batches::show(batches, from, to),
+        Some(tables) => tables.show(batches),
+    }
+}

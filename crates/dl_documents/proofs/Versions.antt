@@ -1,0 +1,25 @@
+-- A document is of one version.
+use Rattle.std.proofs.Common.{◌≡◌, ◌∙◌, refl, sym, ap, arith, ℕ, ℤ, pos, negsuc, Some}
+use Rattle.std.proofs.lemmas.Option.{same_Some}
+use Rattle.serde_json.specs.Data.{Data}
+use Rattle.dl_documents.specs.Document.{version_number, IsOfVersion, IsOfNoVersion}
+use Rattle.dl_documents.specs.declared.head.Version.{Version}
+use Rattle.dl_documents.specs.declared.head.Version.TheVariants.{First, Second}
+
+abbrev size : ℤ → ℕ
+size (pos n) = n
+size (negsuc n) = 0
+
+one_is_not_two : pos 1 ≡ pos 2 → ⊥
+one_is_not_two e = let same : size (pos 1) ≡ size (pos 2) = ap size e in omega arith
+
+pub one_version : (d : Data) (v w : Version) → IsOfVersion d v → IsOfVersion d w → v ≡ w
+one_version d First First a b = refl
+one_version d Second Second a b = refl
+one_version d First Second a b = absurd (one_is_not_two (same_Some (pos 1) (pos 2) (sym a ∙ b)))
+one_version d Second First a b = absurd (one_is_not_two (same_Some (pos 1) (pos 2) (sym b ∙ a)))
+
+-- where the number is neither 1 nor 2
+pub no_version : (d : Data) → (version_number d ≡ Some (pos 1) → ⊥) → (version_number d ≡ Some (pos 2) → ⊥) → IsOfNoVersion d
+no_version d first second First is = first is
+no_version d first second Second is = second is

@@ -1,0 +1,106 @@
+//! Reading the numbers that a script gives tables.
+
+ghost use Rattle.std.specs.Prelude.{◌≡◌, ◌⊎◌, Some, None, option_map, IfOk, IfErr};
+ghost use Rattle.serde_json.specs.View.{view};
+ghost use Rattle.dl_values.specs.TableLimits.{repeats};
+ghost use Rattle.dl_documents.specs.TableNumbers.{named, numbered, table_number_in, table_numbers_in, listed_numbers, script_numbers};
+
+use crate::argument::pair;
+use crate::fault::PlanFault;
+use crate::head::Version;
+use crate::limits::whole;
+use dl_source::TableNumber;
+use dl_values::{TABLE_BYTES, Text};
+use indexmap::IndexSet;
+use serde_json::Value;
+use std::alloc::{AllocError, Global};
+use std::hash::RandomState;
+
+/// The numbers that a script of the version gives tables. In the first version there are none.
+///
+/// # Errors
+/// `Top` where the member `tableLimits` is no list of pairs of a table's name and a whole number, or a table stands twice in it;
+/// `OutOfMemory` where an allocation failed.
+pub(crate) fn script_numbers(
+    alloc: Global,
+    hashing: RandomState,
+    version: Version,
+    script: &Value,
+) -> Result<Vec<TableNumber>, PlanFault>
+    ensures ok { IfOk result (λ ns. Some ns.items ≡ script_numbers version (view script.now)) }
+    ensures err { IfErr result (λ f. (f ≡ PlanFault.OutOfMemory)
+        ⊎ ((f ≡ PlanFault.Top) × (None ≡ script_numbers version (view script.now)))) }
+{
+    match version {
+        Version::First => Ok(Vec::new(alloc)),
+        Version::Second => match listed_numbers(alloc, hashing, script)? {
+            Some(numbers) => Ok(numbers),
+            None => Err(PlanFault::Top),
+        },
+    }
+}
+
+/// The numbers under `tableLimits`, if they are a list of such, no table twice. Without the member there are none.
+fn listed_numbers(
+    alloc: Global,
+    hashing: RandomState,
+    script: &Value,
+) -> Result<Option<Vec<TableNumber>>, AllocError>
+    ensures { IfOk result (λ ns. option_map (λ v. v.items) ns ≡ listed_numbers (view script.now)) }
+{
+    let Some(list) = script.get("tableLimits") else {
+        return Ok(Some(Vec::new(alloc)));
+    };
+    let Some(numbers) = table_numbers(alloc, list)? else {
+        return Ok(None);
+    };
+    if repeats(alloc, hashing, &numbers)? {
+        return Ok(None);
+    }
+    Ok(Some(numbers))
+}
+
+/// The numbers of a list, if each item is one of a table.
+fn table_numbers(alloc: Global, value: &Value) -> Result<Option<Vec<TableNumber>>, AllocError>
+    ensures { IfOk result (λ ns. option_map (λ v. v.items) ns ≡ table_numbers_in (view value.now)) }
+{
+    let Some(items) = value.as_array() else {
+        return Ok(None);
+    };
+    let mut numbers = Vec::with_capacity(alloc, items.len())?;
+    'items: for item in items {
+        let Some((table, number)) = table_number(item) else {
+            return Ok(None);
+        };
+        let table = Text::new(alloc, table)?;
+        numbers.push(TableNumber { table, number })?;
+    }
+    Ok(Some(numbers))
+}
+
+/// The table and the number of a list of the two, if the table has a table's length and the number is whole.
+fn table_number(value: &Value) -> Option<(&str, i128)>
+    ensures { option_map (λ p. numbered p.0.now p.1) result ≡ table_number_in (view value.now) }
+{
+    let (table, number) = pair(value)?;
+    let table = table.as_str()?;
+    let number = whole(number)?;
+    if (1..=TABLE_BYTES).contains(&table.len()) {
+        Some((table, number))
+    } else {
+        None
+    }
+}
+
+/// Whether a table stands twice. The error is a failed allocation.
+fn repeats(alloc: Global, hashing: RandomState, numbers: &[TableNumber]) -> Result<bool, AllocError>
+    ensures { IfOk result (λ b. b ≡ repeats (named numbers.now)) }
+{
+    let mut names = IndexSet::with_hasher(alloc, hashing);
+    for number in numbers {
+        if !names.insert(number.table.as_str())? {
+            return Ok(true);
+        }
+    }
+    Ok(false)
+}

@@ -1,0 +1,4 @@
+mod PassLemmas
+pub mod Tickets
+pub mod TicketsAfterReads
+pub mod ThreadSafety

@@ -1,0 +1,3 @@
+-- The words of private functions, which no public clause reaches.
+pub mod PassFields
+pub mod Codes

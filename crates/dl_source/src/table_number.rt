@@ -1,0 +1,34 @@
+//! Numbers that tables have of their own.
+
+ghost use Rattle.std.specs.Prelude.{◌≡◌, IfOk};
+ghost use Rattle.dl_source.specs.NumberedTables.{numbers_of};
+
+use crate::listed::ListedTable;
+use dl_values::Text;
+use std::alloc::{AllocError, Global};
+
+/// The whole number that a table has of its own, as its document gives it: nothing is known of its size but that an `i64` or a
+/// `u64` holds it.
+#[derive(Debug, Drop)]
+pub struct TableNumber {
+    /// The table's name.
+    pub table: Text,
+    /// Its number.
+    pub number: i128,
+}
+
+/// The numbers of the tables, in their order. The error is a failed allocation.
+pub(crate) fn numbers_of(
+    alloc: Global,
+    tables: &[ListedTable<'_>],
+) -> Result<Vec<TableNumber>, AllocError>
+    ensures { IfOk result (λ v. v.items ≡ numbers_of tables.now) }
+{
+    let mut numbers = Vec::new(alloc);
+    for table in tables {
+        if let Some(number) = table.to_number(alloc)? {
+            numbers.push(number)?;
+        }
+    }
+    Ok(numbers)
+}
