@@ -1,0 +1,3 @@
+pub mod BatchCounts
+pub mod EventCounts
+pub mod MadeCalls

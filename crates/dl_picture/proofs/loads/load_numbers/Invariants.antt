@@ -1,0 +1,7 @@
+-- The numbers are those of the events so far.
+use Rattle.std.proofs.Common.{take}
+use Rattle.dl_picture.specs.Numbers.{AreLoadNumbers, events_by, load_replies}
+use Rattle.dl_picture.proofs.loads.load_numbers.Given as goal
+
+abbrev pub invariant-events : goal.invariant-events
+invariant-events l = AreLoadNumbers (load_replies (events_by l.caller (take l.at l.events))) l.numbers

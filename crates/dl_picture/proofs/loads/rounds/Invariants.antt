@@ -1,0 +1,10 @@
+-- The rounds are those of the events so far, and no more than those.
+use Rattle.std.proofs.Common.{◌≡◌, ◌≤◌, length, take}
+use Rattle.dl_picture.specs.Numbers.{round_events}
+use Rattle.dl_picture.proofs.loads.rounds.Given as goal
+
+abbrev pub invariant-events : goal.invariant-events
+invariant-events l = record {
+  few : l.count ≤ l.at;
+  counted : l.count ≡ length (round_events l.caller (take l.at l.events));
+}

@@ -1,0 +1,71 @@
+//! Texts that are cut in their middle where they need more room than there is.
+
+use crate::xml;
+use std::alloc::AllocError;
+use std::fmt::Write;
+
+/// The first character that may be wider than one of the Latin, Greek and Cyrillic ones.
+const FIRST_WIDE: char = '\u{590}';
+
+/// How many pixels a narrow character takes.
+pub(crate) const CHARACTER: usize = 7;
+
+/// How many narrow characters a character takes the room of.
+fn room_of(c: char) -> usize {
+    if c < FIRST_WIDE { 1 } else { 2 }
+}
+
+/// How many narrow characters a text takes the room of.
+fn room_for(text: &str) -> usize {
+    let mut room: usize = 0;
+    for c in text.chars() {
+        room = room.saturating_add(room_of(c));
+    }
+    room
+}
+
+/// Whether a character of the text may be wide.
+fn is_wide(text: &str) -> bool {
+    text.chars().any(|c| c >= FIRST_WIDE)
+}
+
+/// A `text` element at x and y: the text, which is cut in its middle where it needs more room than that of so many narrow
+/// characters. One with wide characters is fitted to its room, whatever the font is.
+pub(crate) fn push_cut_text(
+    out: &mut String,
+    x: usize,
+    y: usize,
+    text: &str,
+    room: usize,
+) -> Result<(), AllocError> {
+    write!(out, "<text x='{x}' y='{y}'")?;
+    if is_wide(text) {
+        let width = room_for(text).min(room).saturating_mul(CHARACTER);
+        write!(out, " textLength='{width}' lengthAdjust='spacingAndGlyphs'")?;
+    }
+    out.push('>')?;
+    push_cut(out, text, room)?;
+    out.push_str("</text>")
+}
+
+/// The text, without its middle where it needs more room than there is.
+fn push_cut(out: &mut String, text: &str, room: usize) -> Result<(), AllocError> {
+    let whole = room_for(text);
+    if whole <= room {
+        return xml::push_text(out, text);
+    }
+    let half = room.saturating_sub(1) / 2;
+    let mut passed: usize = 0;
+    let mut is_cut = false;
+    for c in text.chars() {
+        let end = passed.saturating_add(room_of(c));
+        if end <= half || whole.saturating_sub(passed) <= half {
+            xml::push_char(out, c)?;
+        } else if !is_cut {
+            out.push('…')?;
+            is_cut = true;
+        }
+        passed = end;
+    }
+    Ok(())
+}

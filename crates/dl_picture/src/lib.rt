@@ -1,0 +1,27 @@
+//! Pictures of what requests did, as SVG: the rounds of plans, their batches and their hits; and the numbers of a history.
+//!
+//! [`report_picture`] draws what serving plans left, and [`script_picture`] what the calls of a script are answered. A picture
+//! has its numbers at its head; [`history_numbers`] and [`plan_numbers`] give those of any history.
+#![tactic(auto)]
+
+mod batches;
+mod column;
+mod cut_text;
+mod drawing;
+mod head;
+mod history;
+mod lanes;
+mod loads;
+mod mark;
+mod numbers;
+mod script;
+mod script_run;
+mod style;
+mod xml;
+
+pub use batches::{BatchNumbers, Mean, batch_numbers};
+pub use history::{history_picture, report_picture};
+pub use loads::{LoadNumbers, load_numbers, rounds};
+pub use numbers::{HistoryNumbers, PlanNumbers, history_numbers, plan_numbers, script_numbers};
+pub use script::script_picture;
+pub use script_run::{CallAnswer, ScriptRun, run_script};

@@ -1,0 +1,79 @@
+//! The numbers of a picture.
+
+ghost use Rattle.std.specs.Prelude.{◌≡◌, ℕ, List, IfOk};
+ghost use Rattle.dl_history.specs.declared.event.Event.{Event};
+ghost use Rattle.dl_documents.specs.declared.input.Script.{Script};
+ghost use Rattle.dl_picture.specs.Numbers.{AreHistoryNumbers, ArePlanNumbers, fetches_alone};
+ghost use Rattle.dl_picture.specs.Script.{AreScriptNumbers, IsRunOf};
+
+use crate::batches::{BatchNumbers, batch_numbers, desk_numbers};
+use crate::loads::{LoadNumbers, load_numbers, rounds};
+use crate::script_run::{ScriptRun, answer_numbers};
+use dl_loader::History;
+use std::alloc::AllocError;
+
+/// The numbers of a history.
+#[derive(Clone, Copy, Debug, PartialEq, Eq)]
+pub struct HistoryNumbers {
+    /// Of all its loads.
+    pub loads: LoadNumbers,
+    /// Of all its batches.
+    pub batches: BatchNumbers,
+}
+
+/// The numbers of one plan of a history.
+#[derive(Clone, Copy, Debug, PartialEq, Eq)]
+pub struct PlanNumbers {
+    /// How many rounds it took.
+    pub rounds: usize,
+    /// Of its own loads.
+    pub loads: LoadNumbers,
+}
+
+/// The numbers of a history.
+///
+/// # Errors
+/// `AllocError` where there are more than a number counts, which no memory holds.
+pub fn history_numbers(history: &History) -> Result<HistoryNumbers, AllocError>
+    ensures { IfOk result (AreHistoryNumbers history.now.events) }
+{
+    Ok(HistoryNumbers {
+        loads: load_numbers(history.events(), None)?,
+        batches: batch_numbers(&history.batches())?,
+    })
+}
+
+/// The numbers of a plan, by the number of its caller.
+///
+/// # Errors
+/// `AllocError` where there are more than a number counts, which no memory holds.
+pub fn plan_numbers(history: &History, plan: u32) -> Result<PlanNumbers, AllocError>
+    ensures { IfOk result (ArePlanNumbers history.now.events plan) }
+{
+    Ok(PlanNumbers {
+        rounds: rounds(history.events(), plan),
+        loads: load_numbers(history.events(), Some(plan))?,
+    })
+}
+
+impl HistoryNumbers {
+    /// How many fetches there would have been without a loader: one for each load.
+    pub fn fetches_alone(&self) -> u64
+        ensures { (events : List Event) → AreHistoryNumbers events self.now → result ≡ fetches_alone events }
+    {
+        self.loads.loads
+    }
+}
+
+/// The numbers of a script's run, whose batches need not be sent.
+///
+/// # Errors
+/// `AllocError` where there are more than a number counts, which no memory holds.
+pub fn script_numbers(run: &ScriptRun) -> Result<HistoryNumbers, AllocError>
+    ensures { IfOk result (λ numbers. (script : Script) → IsRunOf script run.now → AreScriptNumbers script numbers) }
+{
+    Ok(HistoryNumbers {
+        loads: answer_numbers(run.answers.as_slice())?,
+        batches: desk_numbers(&run.desk)?,
+    })
+}

@@ -1,0 +1,32 @@
+//! How a picture looks: its colours, by light and by dark, are those that most who are colour-blind tell apart (Okabe and Ito).
+
+/// The style of every picture.
+pub(crate) const STYLE: &str = "<style>
+text{font-family:ui-monospace,'DejaVu Sans Mono',Menlo,Consolas,monospace;font-size:12px;fill:#1b1f24}
+.title{font-size:18px;font-weight:bold}
+.lane{font-size:14px;font-weight:bold}
+.figure{font-size:16px;font-weight:bold}
+.head{font-weight:bold}
+.soft{fill:#57606a}
+.side{fill:#57606a;text-anchor:end}
+.letter{font-size:11px;font-weight:bold;text-anchor:middle;fill:#000000}
+.ground{fill:#ffffff}
+.card{fill:#f3f5f8;stroke:#ccd3db}
+.fresh{fill:#56b4e9}
+.hit{fill:#009e73}
+.primed{fill:#cc79a7}
+.error{fill:#e69f00}
+.failed{fill:#d55e00}
+.cleared{fill:#f0e442}
+.kept{fill:#bbbbbb}
+.refused{fill:#999999}
+.settled{fill:#56b4e9}
+@media (prefers-color-scheme:dark){
+text{fill:#e6e9ed}
+.soft,.side{fill:#9aa5b1}
+.letter{fill:#000000}
+.ground{fill:#12161b}
+.card{fill:#1d232b;stroke:#3d4752}
+}
+</style>
+";

@@ -1,0 +1,64 @@
+//! Running the program over a reader and a writer.
+
+ghost use Rattle.std.specs.Prelude.{◌≡◌, ◌≢◌, ◌+◌, IfErr, IfSome};
+ghost use Rattle.std.specs.Io.KnownBytes.{Keeps};
+ghost use Rattle.dl_documents.specs.Faults.{most_bytes};
+ghost use Rattle.dl_plans.specs.Run.{IsRefused, ReadsAtMost};
+
+use dl_picture::{report_picture, script_picture};
+use dl_plans::{Input, Options, PlanFault, RunError, read_all, read_input, served, write_all};
+use std::alloc::Global;
+use std::hash::RandomState;
+use std::io::{Read, Write};
+use std::sync::Wait;
+use std::thread::Threads;
+
+/// Reads a document, and writes its picture once all of it is made: that of a script, or that of what serving the plans of a
+/// plan file left. They are served as [`dl_plans::run`] serves them. Keys are hashed by `hashing`, of which nothing is seen.
+///
+/// # Errors
+/// Those of [`dl_plans::run`]. Only after `Write` something may be written: a front of the picture.
+pub(crate) fn run<R: Read, W: Write, T: Threads + Wait + Sync>(
+    rt: &T,
+    alloc: Global,
+    hashing: RandomState,
+    reader: &mut R,
+    writer: &mut W,
+    options: Options,
+) -> Result<(), RunError>
+    ensures refused { IfErr result (λ e. IfSome (R.remaining reader.old) (λ bytes. IsRefused options bytes e)) }
+    ensures reads { ReadsAtMost (most_bytes + 1) (R.remaining reader.old) (R.remaining reader.new) }
+    ensures untouched { IfErr result (λ e. e ≢ RunError.Write → Keeps (W.contents writer.old) (W.contents writer.new)) }
+{
+    let bytes = read_all(alloc, reader)?;
+    let text = picture(rt, alloc, hashing, &bytes, options)?;
+    write_all(writer, text.as_bytes())
+}
+
+/// The picture of a document.
+fn picture<T: Threads + Wait + Sync>(
+    rt: &T,
+    alloc: Global,
+    hashing: RandomState,
+    bytes: &[u8],
+    options: Options,
+) -> Result<String, RunError>
+    ensures err { IfErr result (IsRefused options bytes.now) }
+    ensures kept { IfErr result (λ e. e ≢ RunError.Write) }
+{
+    match read_input(alloc, hashing, bytes) {
+        Ok(Input::Script(script)) => match script_picture(alloc, hashing, &script) {
+            Ok(text) => Ok(text),
+            Err(_) => Err(RunError::OutOfMemory),
+        },
+        Ok(Input::Plans(file)) => match served(rt, alloc, hashing, file, options) {
+            Ok(report) => match report_picture(alloc, &report) {
+                Ok(text) => Ok(text),
+                Err(_) => Err(RunError::OutOfMemory),
+            },
+            Err(fault) => Err(RunError::Run(fault)),
+        },
+        Err(PlanFault::OutOfMemory) => Err(RunError::OutOfMemory),
+        Err(fault) => Err(RunError::Refused(fault)),
+    }
+}
