@@ -32,7 +32,7 @@ def script(kind, loads):
 
 
 def long_id(number):
-    return f"{'k' * 118}{number:010}"
+    return f"{'k' * 246}{number:010}"
 
 
 def row(kind, number):

@@ -22,12 +22,20 @@ AT(dl_dispatched, count, 8);
 _Static_assert(sizeof(dl_key_lengths) == 8, "the lengths of a key");
 AT(dl_key_lengths, table, 0);
 AT(dl_key_lengths, id, 4);
-_Static_assert(sizeof(dl_key_texts) == 208, "the texts of a key");
+_Static_assert(sizeof(dl_key_texts) == 336, "the texts of a key");
 AT(dl_key_texts, table_len, 0);
 AT(dl_key_texts, id_len, 8);
 AT(dl_key_texts, table, 16);
 AT(dl_key_texts, id, 80);
-_Static_assert(DL_TABLE_BYTES == 64 && DL_ID_BYTES == 128 && DL_LARGEST_LIMIT == 65536, "limits");
+_Static_assert(sizeof(dl_opening) == 24, "what a desk by table is opened with");
+AT(dl_opening, max_batch, 0);
+AT(dl_opening, max_cells, 4);
+AT(dl_opening, seed_low, 8);
+AT(dl_opening, seed_high, 16);
+_Static_assert(sizeof(dl_table_limit) == 8, "a table and its limit");
+AT(dl_table_limit, name_len, 0);
+AT(dl_table_limit, limit, 4);
+_Static_assert(DL_TABLE_BYTES == 64 && DL_ID_BYTES == 256 && DL_LARGEST_LIMIT == 65536, "limits");
 
 static unsigned passed, failed;
 
@@ -84,7 +92,7 @@ static void a_closed_handle_answers(void)
     CHECK(dl_desk_dispatch(&desk).code == DL_CLOSED);
     CHECK(is(dl_desk_member(&desk, 0, 0), DL_CLOSED, 0, 0));
     CHECK(dl_desk_key(&desk, 0, 0, &texts) == DL_CLOSED);
-    CHECK(texts.table[0] == 42 && texts.id[127] == 42);
+    CHECK(texts.table[0] == 42 && texts.id[255] == 42);
     CHECK(dl_desk_settle(&desk, 0) == DL_CLOSED);
     CHECK(dl_desk_fail(&desk, 0) == DL_CLOSED);
     CHECK(dl_desk_close(&desk) == DL_CLOSED);
@@ -138,9 +146,121 @@ static void a_desk_keeps_both_halves_of_its_seed(void)
     CHECK(dl_desk_close(&desk) == DL_DONE);
 }
 
+/* Opens a desk by table, of batches of two keys and of eight cells at most, with so many of the tables. */
+static uint32_t open_by_table(dl_desk *desk, const char *names, const dl_table_limit *tables, size_t tables_len)
+{
+    static const dl_opening opening = {.max_batch = 2, .max_cells = 8, .seed_low = SEED_LOW, .seed_high = SEED_HIGH};
+
+    return dl_desk_open_by_table(desk, &opening, (const uint8_t *)names, strlen(names), tables, tables_len);
+}
+
+static void a_desk_by_table_opens_once(void)
+{
+    static const dl_table_limit tables[2] = {{1, 1}, {1, 2}};
+    const uint8_t *names = (const uint8_t *)"st";
+    dl_opening opening = {.max_batch = 0, .max_cells = 1, .seed_low = 0, .seed_high = 0};
+    dl_desk desk = {0};
+
+    /* The limits of the desk are looked at before the tables. */
+    CHECK(dl_desk_open_by_table(&desk, &opening, names, 1, tables, 2) == DL_BAD_LIMIT);
+    opening.max_batch = DL_LARGEST_LIMIT + 1;
+    CHECK(dl_desk_open_by_table(&desk, &opening, names, 2, tables, 2) == DL_BAD_LIMIT);
+    opening.max_batch = 1;
+    opening.max_cells = 0;
+    CHECK(dl_desk_open_by_table(&desk, &opening, names, 2, tables, 2) == DL_BAD_LIMIT);
+    opening.max_cells = DL_LARGEST_LIMIT + 1;
+    CHECK(dl_desk_open_by_table(&desk, &opening, names, 2, tables, 2) == DL_BAD_LIMIT);
+    CHECK(!desk.is_open);
+    CHECK(open_by_table(&desk, "st", tables, 2) == DL_DONE);
+    CHECK(desk.is_open);
+    CHECK(is(dl_desk_load(&desk, KEY("s", "x")), DL_FRESH, 0, 0));
+    CHECK(open_by_table(&desk, "s", tables, 2) == DL_OPEN);
+    CHECK(dl_desk_open(&desk, 1, 1, 0, 0) == DL_OPEN);
+    CHECK(is(dl_desk_load(&desk, KEY("s", "x")), DL_HIT, 0, 0));
+    CHECK(dl_desk_close(&desk) == DL_DONE);
+}
+
+static void tables_with_a_fault_are_refused(void)
+{
+    static const char long_name[] =
+        "xxxxxxxxxxxxxxxxxxxxxxxxxxxxxxxxxxxxxxxxxxxxxxxxxxxxxxxxxxxxxxxxx";
+    static const struct {
+        const char *names;
+        dl_table_limit tables[2];
+        size_t count;
+        uint32_t code;
+    } rows[] = {
+        {"st", {{1, 1}}, 1, DL_BAD_LENGTHS},
+        {"s", {{1, 1}, {1, 1}}, 2, DL_BAD_LENGTHS},
+        {"s", {{UINT32_MAX, 1}}, 1, DL_BAD_LENGTHS},
+        {"s", {{0, 0}}, 0, DL_BAD_LENGTHS},
+        {"\xff", {{1, 1}}, 1, DL_BAD_TEXT},
+        /* A name is cut within a character. */
+        {"\xc3\xa9", {{1, 1}, {1, 1}}, 2, DL_BAD_TEXT},
+        {"", {{0, 1}}, 1, DL_EMPTY_TABLE},
+        {long_name, {{65, 1}}, 1, DL_TABLE_TOO_LONG},
+        {"t", {{1, 0}}, 1, DL_BAD_TABLE_LIMIT},
+        {"t", {{1, DL_LARGEST_LIMIT + 1}}, 1, DL_BAD_TABLE_LIMIT},
+        {"tt", {{1, 1}, {1, 2}}, 2, DL_DUPLICATE_TABLE},
+        /* What counts first counts of any table. */
+        {long_name, {{65, 0}, {0, 0}}, 2, DL_EMPTY_TABLE},
+        {long_name, {{65, 0}}, 1, DL_TABLE_TOO_LONG},
+        {"tt", {{1, 1}, {1, 0}}, 2, DL_BAD_TABLE_LIMIT},
+    };
+    dl_desk desk = {0};
+
+    for (size_t row = 0; row < sizeof rows / sizeof rows[0]; row++) {
+        CHECK(open_by_table(&desk, rows[row].names, rows[row].tables, rows[row].count) == rows[row].code);
+        CHECK(!desk.is_open);
+    }
+}
+
+static void a_batch_by_table_is_of_one_table(void)
+{
+    /* The last table's name is as long, and its limit as large, as may be. */
+    static const dl_table_limit tables[2] = {{1, 1}, {DL_TABLE_BYTES, DL_LARGEST_LIMIT}};
+    static const char names[] = "sxxxxxxxxxxxxxxxxxxxxxxxxxxxxxxxxxxxxxxxxxxxxxxxxxxxxxxxxxxxxxxxx";
+    dl_desk desk = {0};
+    dl_key_texts texts;
+
+    CHECK(open_by_table(&desk, names, tables, 2) == DL_DONE);
+    CHECK(is(dl_desk_load(&desk, KEY("t", "a")), DL_FRESH, 0, 0));
+    CHECK(is(dl_desk_load(&desk, KEY("s", "x")), DL_FRESH, 1, 1));
+    CHECK(is(dl_desk_load(&desk, KEY("t", "b")), DL_FRESH, 2, 0));
+    CHECK(is(dl_desk_load(&desk, KEY("s", "y")), DL_FRESH, 3, 2));
+    CHECK(is(dl_desk_load(&desk, KEY("t", "c")), DL_FRESH, 4, 3));
+    CHECK(is(dl_desk_load(&desk, KEY("t", "a")), DL_HIT, 0, 0));
+    CHECK(sent(dl_desk_dispatch(&desk), 0, 4));
+    CHECK(is(dl_desk_member(&desk, 0, 1), DL_HIT, 2, 0));
+    CHECK(is(dl_desk_member(&desk, 1, 1), DL_NO_MEMBER, 0, 0));
+    CHECK(dl_desk_key(&desk, 2, 0, &texts) == DL_DONE);
+    CHECK(texts.table_len == 1 && texts.table[0] == 's' && texts.id_len == 1 && texts.id[0] == 'y');
+    CHECK(dl_desk_settle(&desk, 0) == DL_DONE);
+    CHECK(dl_desk_fail(&desk, 1) == DL_DONE);
+    /* The key of the batch that failed is loaded anew, into a batch of its table. */
+    CHECK(is(dl_desk_load(&desk, KEY("t", "d")), DL_FRESH, 5, 4));
+    CHECK(is(dl_desk_load(&desk, KEY("s", "x")), DL_FRESH, 6, 5));
+    CHECK(is(dl_desk_load(&desk, KEY("t", "a")), DL_HIT, 0, 0));
+    CHECK(dl_desk_close(&desk) == DL_DONE);
+}
+
+static void a_desk_by_table_needs_no_tables(void)
+{
+    static const dl_table_limit none[1] = {{0, 0}};
+    dl_desk desk = {0};
+
+    CHECK(open_by_table(&desk, "", none, 0) == DL_DONE);
+    CHECK(is(dl_desk_load(&desk, KEY("s", "x")), DL_FRESH, 0, 0));
+    CHECK(is(dl_desk_load(&desk, KEY("t", "x")), DL_FRESH, 1, 1));
+    CHECK(is(dl_desk_load(&desk, KEY("s", "y")), DL_FRESH, 2, 0));
+    CHECK(is(dl_desk_load(&desk, KEY("s", "z")), DL_FRESH, 3, 2));
+    CHECK(has(&desk, SEED_LOW) && has(&desk, SEED_HIGH));
+    CHECK(dl_desk_close(&desk) == DL_DONE);
+}
+
 static void texts_that_are_no_key_are_refused(void)
 {
-    static const uint8_t long_text[129] = {0};
+    static const uint8_t long_text[257] = {0};
     dl_desk desk = {0};
 
     open_desk(&desk, 1, 1);
@@ -149,11 +269,11 @@ static void texts_that_are_no_key_are_refused(void)
     CHECK(is(dl_desk_load(&desk, KEY("user", "\xff")), DL_BAD_KEY, 0, 0));
     CHECK(is(dl_desk_load(&desk, KEY("\xc3", "a")), DL_BAD_KEY, 0, 0));
     CHECK(is(dl_desk_load(&desk, long_text, 65, long_text, 1), DL_BAD_KEY, 0, 0));
-    CHECK(is(dl_desk_load(&desk, long_text, 1, long_text, 129), DL_BAD_KEY, 0, 0));
+    CHECK(is(dl_desk_load(&desk, long_text, 1, long_text, 257), DL_BAD_KEY, 0, 0));
     CHECK(is(dl_desk_prime(&desk, KEY("", "a")), DL_BAD_KEY, 0, 0));
     CHECK(is(dl_desk_held(&desk, KEY("", "a")), DL_BAD_KEY, 0, 0));
     CHECK(dl_desk_clear(&desk, KEY("", "a")) == DL_BAD_KEY);
-    CHECK(is(dl_desk_load(&desk, long_text, 64, long_text, 128), DL_FRESH, 0, 0));
+    CHECK(is(dl_desk_load(&desk, long_text, 64, long_text, 256), DL_FRESH, 0, 0));
     CHECK(dl_desk_close(&desk) == DL_DONE);
 }
 
@@ -301,6 +421,10 @@ int main(void)
     a_closed_handle_answers();
     a_desk_opens_and_closes_once();
     a_desk_keeps_both_halves_of_its_seed();
+    a_desk_by_table_opens_once();
+    tables_with_a_fault_are_refused();
+    a_batch_by_table_is_of_one_table();
+    a_desk_by_table_needs_no_tables();
     texts_that_are_no_key_are_refused();
     loads_are_batched_once_a_turn();
     a_settled_key_is_held_and_a_failed_one_is_not();

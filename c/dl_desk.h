@@ -31,25 +31,30 @@ typedef struct dl_desk {
 
 /* What a call answers. */
 enum {
-    DL_DONE = 0,          /* the call is made */
-    DL_HIT = 0,           /* a cell is found; of a prime: the key is held already */
-    DL_FRESH = 1,         /* a cell is begun */
-    DL_NONE = 1,          /* of dl_desk_held: no cell is held */
-    DL_OUT_OF_MEMORY = 2, /* malloc or realloc refused */
-    DL_CELLS_FULL = 3,    /* the call would begin more cells than the limit */
-    DL_NO_BATCH = 4,      /* no batch has this number yet */
-    DL_NOT_SENT = 5,      /* the batch still collects keys */
-    DL_ENDED_BEFORE = 6,  /* the batch was settled or failed before */
-    DL_BAD_KEY = 7,       /* a text of the key is no UTF-8, is empty, or is too long */
-    DL_BAD_LIMIT = 8,     /* a limit is not 1 to 65,536 */
-    DL_CLOSED = 9,        /* the handle has no desk */
-    DL_OPEN = 10,         /* the handle has a desk already */
-    DL_NO_MEMBER = 11,    /* the batch has no member of this index */
-    DL_BAD_LENGTHS = 12   /* lengths don't add up to the texts, or are not as many as the answers */
+    DL_DONE = 0,             /* the call is made */
+    DL_HIT = 0,              /* a cell is found; of a prime: the key is held already */
+    DL_FRESH = 1,            /* a cell is begun */
+    DL_NONE = 1,             /* of dl_desk_held: no cell is held */
+    DL_OUT_OF_MEMORY = 2,    /* malloc or realloc refused */
+    DL_CELLS_FULL = 3,       /* the call would begin more cells than the limit */
+    DL_NO_BATCH = 4,         /* no batch has this number yet */
+    DL_NOT_SENT = 5,         /* the batch still collects keys */
+    DL_ENDED_BEFORE = 6,     /* the batch was settled or failed before */
+    DL_BAD_KEY = 7,          /* a text of the key is no UTF-8, is empty, or is too long */
+    DL_BAD_LIMIT = 8,        /* a limit of the desk is not 1 to 65,536 */
+    DL_CLOSED = 9,           /* the handle has no desk */
+    DL_OPEN = 10,            /* the handle has a desk already */
+    DL_NO_MEMBER = 11,       /* the batch has no member of this index */
+    DL_BAD_LENGTHS = 12,     /* lengths don't add up to the texts, or are not as many as the answers */
+    DL_BAD_TEXT = 13,        /* the name of a table is no UTF-8 */
+    DL_EMPTY_TABLE = 14,     /* the name of a table is empty */
+    DL_TABLE_TOO_LONG = 15,  /* the name of a table is too long */
+    DL_BAD_TABLE_LIMIT = 16, /* the limit of a table is not 1 to 65,536 */
+    DL_DUPLICATE_TABLE = 17  /* a table stands twice */
 };
 
 /* The most bytes of a key's table, and of its id. Each has at least one. */
-enum { DL_TABLE_BYTES = 64, DL_ID_BYTES = 128 };
+enum { DL_TABLE_BYTES = 64, DL_ID_BYTES = 256 };
 
 /* The greatest number that a limit may be. */
 enum { DL_LARGEST_LIMIT = 65536 };
@@ -76,6 +81,17 @@ typedef struct dl_key_texts {
     uint8_t table[DL_TABLE_BYTES], id[DL_ID_BYTES];
 } dl_key_texts;
 
+/* What a desk by table is opened with: the four numbers of dl_desk_open. */
+typedef struct dl_opening {
+    uint32_t max_batch, max_cells;
+    uint64_t seed_low, seed_high;
+} dl_opening;
+
+/* A table with a limit of its own: how many bytes its name has, and the most keys of a batch of it, 1 to 65,536. */
+typedef struct dl_table_limit {
+    uint32_t name_len, limit;
+} dl_table_limit;
+
 /* A key: the texts of a table and of an id in it, each by a pointer to its bytes and their number. They are read during the
  * call alone. */
 #define DL_KEY const uint8_t *table, size_t table_len, const uint8_t *id, size_t id_len
@@ -86,6 +102,14 @@ typedef struct dl_key_texts {
  * them can't make keys whose hashes meet. No answer depends on them.
  * DL_DONE; or, with the handle as it was, DL_OPEN, DL_BAD_LIMIT, DL_OUT_OF_MEMORY. */
 uint32_t dl_desk_open(dl_desk *desk, uint32_t max_batch, uint32_t max_cells, uint64_t seed_low, uint64_t seed_high);
+
+/* Opens a desk as dl_desk_open does, of which each batch is of one table. Each table that is handed in has a limit of its own; a
+ * batch of any other takes max_batch keys at most. The names are those of these tables in their order, with nothing between them.
+ * DL_DONE; or, with the handle as it was, DL_OPEN, DL_BAD_LIMIT, DL_OUT_OF_MEMORY; DL_BAD_LENGTHS or DL_BAD_TEXT, by the first
+ * name that can't be read; or of DL_EMPTY_TABLE, DL_TABLE_TOO_LONG, DL_BAD_TABLE_LIMIT and DL_DUPLICATE_TABLE the first that is so
+ * of any table. */
+uint32_t dl_desk_open_by_table(dl_desk *desk, const dl_opening *opening, const uint8_t *names, size_t names_len,
+                               const dl_table_limit *tables, size_t tables_len);
 
 /* Closes the desk and frees its memory. The handle is closed then, and may be opened again.
  * DL_DONE; DL_CLOSED. */

@@ -7,7 +7,7 @@
 #include <stdio.h>
 #include <string.h>
 
-typedef enum { OPEN, LOAD, LOAD_MANY, PRIME, HELD, CLEAR, CLEAR_ALL, DISPATCH, MEMBER, KEY, SETTLE, FAIL, CLOSE } call_name;
+typedef enum { OPEN, OPEN_BY_TABLE, LOAD, LOAD_MANY, PRIME, HELD, CLEAR, CLEAR_ALL, DISPATCH, MEMBER, KEY, SETTLE, FAIL, CLOSE } call_name;
 
 /* What a call answers: its code, two numbers, and what else it writes, as one sum. */
 typedef struct {
@@ -75,6 +75,14 @@ static answer key_of(dl_desk *desk, uint32_t batch)
     return given;
 }
 
+static answer open_by_table(dl_desk *desk)
+{
+    static const dl_opening opening = {.max_batch = 2, .max_cells = 64, .seed_low = 1, .seed_high = 2};
+    static const dl_table_limit tables[3] = {{4, 1}, {5, 2}, {3, 3}};
+
+    return (answer){dl_desk_open_by_table(desk, &opening, (const uint8_t *)"userordertag", 12, tables, 3), 0, 0, 0};
+}
+
 static answer make(dl_desk *desk, const call *call)
 {
     const uint8_t *user = (const uint8_t *)"user", *id = (const uint8_t *)call->ids;
@@ -83,6 +91,8 @@ static answer make(dl_desk *desk, const call *call)
     switch (call->name) {
     case OPEN:
         return (answer){dl_desk_open(desk, 2, 64, 1, 2), 0, 0, 0};
+    case OPEN_BY_TABLE:
+        return open_by_table(desk);
     case LOAD:
         return loaded(dl_desk_load(desk, user, 4, id, 1));
     case LOAD_MANY:
@@ -140,6 +150,12 @@ static const call CALLS[] = {
     {CLEAR_ALL, "", 0, {DL_DONE, 0, 0, 0}, false},
     {LOAD_MANY, "abcdefghijklmnop", 0, {DL_DONE, (9 + 24) * 8, 4 * 16 + 2 * (0 + 1 + 2 + 3 + 4 + 5 + 6 + 7), 16}, true},
     {DISPATCH, "", 0, {DL_DONE, 3, 9, 0}, true},
+    {CLOSE, "", 0, {DL_DONE, 0, 0, 0}, false},
+    /* A batch of this desk has one key of the table. */
+    {OPEN_BY_TABLE, "", 0, {DL_DONE, 0, 0, 0}, true},
+    {LOAD, "a", 0, {DL_FRESH, 0, 0, 0}, true},
+    {LOAD_MANY, "bac", 0, {DL_DONE, 1 + 0 + 2, 1 + 2, 2}, true},
+    {DISPATCH, "", 0, {DL_DONE, 0, 3, 0}, true},
     {CLOSE, "", 0, {DL_DONE, 0, 0, 0}, false},
 };
 

@@ -39,9 +39,9 @@ def answered(about, text, *lines, **others):
 
 
 def refused(line, *parts, about=None):
-    """The row of a document that is refused with this line, whatever the options. Where nothing is said about it, it is short."""
+    """The row of a document that is refused with this line, whatever the words. Where nothing is said about it, it is short."""
     text = document(*parts)
-    return Row(about or text.decode(), text, command_lines=("", "--batches"), status=1, error=f"refused: {line}\n")
+    return Row(about or text.decode(), text, command_lines=("", "--batches", "migrate"), status=1, error=f"refused: {line}\n")
 
 
 ROWS = {}
@@ -261,11 +261,11 @@ def load_of(table, key):
 
 ROWS["a call takes keys up to their limits"] = [
     answered("a table of 1 byte, an id of 1", document(*load_of(1, 1)), "fresh 0 0"),
-    answered("a table of 64 bytes, an id of 128", document(*load_of(64, 128)), "fresh 0 0"),
+    answered("a table of 64 bytes, an id of 256", document(*load_of(64, 256)), "fresh 0 0"),
     refused("call 0", *load_of(0, 1), about="a table of no bytes"),
     refused("call 0", *load_of(65, 1), about="a table of 65 bytes"),
     refused("call 0", *load_of(1, 0), about="an id of no bytes"),
-    refused("call 0", *load_of(1, 129), about="an id of 129 bytes"),
+    refused("call 0", *load_of(1, 257), about="an id of 257 bytes"),
 ]
 
 # ---- plan files
@@ -665,20 +665,20 @@ ROWS["a plan file has limits"] = [
     ),
     refused("plan 0 step 0", TERM, '{"load":["', ("t", 65), '","a"]}}]]}', about="a load from a table of 65 bytes"),
     answered(
-        "a load of an id of 128 bytes",
-        document(TERM, '{"load":["t","', ("é", 64), '"]}}]]}'),
-        f'0 0 fault key ["t","{"é" * 64}"] "no table"',
+        "a load of an id of 256 bytes",
+        document(TERM, '{"load":["t","', ("é", 128), '"]}}]]}'),
+        f'0 0 fault key ["t","{"é" * 128}"] "no table"',
     ),
-    refused("plan 0 step 0", TERM, '{"load":["t","a', ("é", 64), '"]}}]]}', about="a load of an id of 129 bytes"),
-    answered("a clear of an id of 128 bytes", document(PLAN, '{"clear":["t","', ("a", 128), '"]}]]}')),
-    refused("plan 0 step 0", PLAN, '{"clear":["t","', ("a", 129), '"]}]]}', about="a clear of an id of 129 bytes"),
+    refused("plan 0 step 0", TERM, '{"load":["t","a', ("é", 128), '"]}}]]}', about="a load of an id of 257 bytes"),
+    answered("a clear of an id of 256 bytes", document(PLAN, '{"clear":["t","', ("a", 256), '"]}]]}')),
+    refused("plan 0 step 0", PLAN, '{"clear":["t","', ("a", 257), '"]}]]}', about="a clear of an id of 257 bytes"),
     answered(
         "an error of 1,024 bytes",
         document(PLAN, '{"prime":[["t","a"],{"error":"', ("e", 1_024), '"}]},{"eval":{"load":["t","a"]}}]]}'),
         f'0 1 fault key ["t","a"] "{"e" * 1_024}"',
     ),
     refused("plan 0 step 0", PLAN, '{"prime":[["t","a"],{"error":"', ("e", 1_025), '"}]}]]}', about="an error of 1,025 bytes"),
-    refused("plan 0 step 0", PLAN, '{"prime":[["t","', ("a", 129), '"],{"value":1}]}]]}', about="a prime of an id of 129 bytes"),
+    refused("plan 0 step 0", PLAN, '{"prime":[["t","', ("a", 257), '"],{"value":1}]}]]}', about="a prime of an id of 257 bytes"),
     answered("a field of no bytes", document(TERM, '{"pick":[{"value":{"":1}},""]}}]]}'), "0 0 ok 1"),
     answered(
         "a field of many bytes",
@@ -688,9 +688,9 @@ ROWS["a plan file has limits"] = [
     refused(
         "table BadKey",
         '{"version":1,"maxCalls":0,"plans":[[]],"tables":[{"name":"t","rows":[["',
-        ("a", 129),
+        ("a", 257),
         '",1]]}]}',
-        about="an id of 129 bytes in a table, and a limit of 0",
+        about="an id of 257 bytes in a table, and a limit of 0",
     ),
     refused(
         "table TextTooLong",
@@ -834,6 +834,56 @@ ROWS["a front of a document is refused"] = [
     refused("not json", PLAN_FILE[1:], about="a document without its first byte"),
 ]
 
+# ---- migration
+
+# How a document is refused that is to be migrated and is no plan file of version 1. The checker has nothing against it.
+NOT_VERSION_1 = "refused: not version 1\n"
+
+MIGRATE = ("migrate", "--batches --workers 16 migrate")
+
+NOTHING = '{"version":1,"tables":[],"plans":[[]]}'
+NOTHING_2 = '{"plans":[[]],"tables":[],"version":2}'
+
+# The file of four plans in batches of two, as version 2.
+FOUR_2 = (
+    '{"maxBatchSize":2,"plans":[[{"eval":{"pick":[{"follow":[{"load":["user","u1"]},"best","user"]},"name"]}}],'
+    '[{"eval":{"each":[{"load":["user","u1"]},"friends","user"]}}],[{"eval":{"all":[]}}],[{"eval":{"load":["user","u7"]}}]],'
+    '"tables":[{"breaks":[["u13","db down"]],"errors":[["u9","gone"]],"name":"user","rows":'
+    '[["u1",{"best":"u2","friends":["u2","u3"],"name":"Ada"}],["u2",{"best":"u1","friends":[],"name":"Bob"}],["u3",{"name":"Cy"}]]}],'
+    '"version":2}'
+)
+
+
+def migrated(about, text, output):
+    """The row of a plan file of version 1 that is written as this text."""
+    return Row(about, document(text), MIGRATE, output=output)
+
+
+def not_version_1(about, text):
+    """The row of another document, which isn't migrated."""
+    return Row(about, document(text), MIGRATE, status=1, error=NOT_VERSION_1)
+
+
+ROWS["a plan file of version 1 is migrated"] = [
+    migrated("no tables, and a plan of no steps", NOTHING, NOTHING_2),
+    migrated("four plans", plan_file(FOUR), FOUR_2),
+    answered("four plans, migrated", FOUR_2, *LINES_OF_FOUR, command_lines=PLAIN),
+    migrated(
+        "white space, members in another order, and characters that are written otherwise",
+        r'{ "version" : 1, "plans" : [ [ {"eval" : {"value" : {"b" : -7, "B" : [ ], "\u0061" : "\u00e9\/\u0008\u001F\ud834\udd1e"}}} ] ],'
+        ' "tables" : [ ],\n"maxCells" : 65536 }\n',
+        r'{"maxCells":65536,"plans":[[{"eval":{"value":{"B":[],"a":"é/\b\u001f𝄞","b":-7}}}]],"tables":[],"version":2}',
+    ),
+    not_version_1(
+        "a script",
+        '{"script":1,"maxBatchSize":2,"calls":[{"load":["t","a"]},{"load":["t","b"]},{"load":["t","c"]},{"dispatch":true}]}',
+    ),
+    not_version_1("a file that was migrated", NOTHING_2),
+    not_version_1("a script of version 2", '{"script":2,"calls":[]}'),
+    not_version_1("a table with a limit of its own", plan_file_2(SHOP_AND_U13, "1")),
+    Row("no bytes", b"", MIGRATE, status=1, error="refused: not json\n"),
+]
+
 # ---- the program
 
 LOAD = document('{"script":1,"calls":[{"load":["t","a"]}]}')
@@ -852,8 +902,15 @@ ROWS["a run ends with its status"] = [
     Row(
         "help",
         LOAD,
-        ("--help", "-h", "--batches --help"),
-        output=Holding("", ("Usage: plans", "--workers <N>", "[default: 3]", "--batches", "--help")),
+        ("--help", "-h", "--batches --help", "help"),
+        output=Holding("", ("Usage: plans", "migrate", "help", "--workers <N>", "[default: 3]", "--batches", "--help")),
+        is_read=False,
+    ),
+    Row(
+        "help of migrate",
+        LOAD,
+        ("migrate --help", "migrate -h", "help migrate", "--batches help migrate"),
+        output=Holding("Writes a plan file of version 1 as one of version 2", ("Usage: plans migrate", "--help")),
         is_read=False,
     ),
     Row("no document", b"", status=1, error="refused: not json\n"),
@@ -867,9 +924,14 @@ ROWS["a run ends with its status"] = [
     usage("workers twice", "--workers 1 --workers 1", "the argument '--workers <N>' cannot be used multiple times"),
     usage("a flag with a value", "--batches=true", "unexpected value 'true' for '--batches'"),
     usage("an unknown option", "--jobs", "unexpected argument '--jobs' found", "Usage: plans"),
-    usage("a word too many", "script.json", "unexpected argument 'script.json' found", "Usage: plans"),
+    usage("a word that is none", "script.json", "unrecognized subcommand 'script.json'", "Usage: plans"),
+    usage("an option behind migrate", "migrate --batches", "unexpected argument '--batches' found", "Usage: plans migrate"),
+    usage("workers behind migrate", "migrate --workers 3", "unexpected argument '--workers' found", "Usage: plans migrate"),
+    usage("a word behind migrate", "migrate script.json", "unexpected argument 'script.json' found", "Usage: plans migrate"),
+    usage("no workers, and migrate", "--workers 0 migrate", "invalid value '0' for '--workers <N>'"),
     # The byte 255.
     usage("a word that is no UTF-8", "\udcff", "invalid UTF-8 was detected in one or more arguments", "Usage: plans"),
     usage("a number that is no UTF-8", "--workers \udcff", "invalid UTF-8 was detected in one or more arguments", "Usage: plans"),
     Row("an output that takes nothing", LOAD, status=3, error="failed: write\n", is_full=True),
+    Row("an output that takes nothing of what is migrated", document(NOTHING), MIGRATE, 3, error="failed: write\n", is_full=True),
 ]

@@ -7,7 +7,7 @@ import json
 from typing import NamedTuple
 
 # The most of a key's id in bytes, and of an `each` in items.
-ID_BYTES = 128
+ID_BYTES = 256
 ITEMS = 1_024
 
 LIMIT = 65_536

@@ -112,7 +112,7 @@ class Keys(unittest.IsolatedAsyncioTestCase):
             x: int
             y: int
 
-        keys = [("a", 1), Place(1, 2), b"a", "", "x" * 129, "\ud800", 10**128, -(2**63), 2**60, 1.5, frozenset("ab"), object()]
+        keys = [("a", 1), Place(1, 2), b"a", "", "x" * 257, "\ud800", 10**256, -(2**63), 2**60, 1.5, frozenset("ab"), object()]
         for get_cache_key in (None, lambda key: key):
             batches = []
             loader = loader_of(batches, get_cache_key=get_cache_key)
@@ -157,7 +157,7 @@ class Keys(unittest.IsolatedAsyncioTestCase):
         batches = []
         keys = ["1", 1, 1.5, b"1", ("1",), (1,), "ints1", "one", "\ud800", "\ud801", "é", "e\u0301"]
         keys += [-1, -2, 2**61, 2**61 + 1, 2**125, -(2**125)]
-        keys += ["x" * 128, "x" * 129, "x" * 128 + "y", "é" * 64, "é" * 64 + "y", "0", 0]
+        keys += ["x" * 256, "x" * 257, "x" * 256 + "y", "é" * 128, "é" * 128 + "y", "0", 0]
         loader = loader_of(batches)
         await loader.load_many(keys)
         self.assertEqual(batches, [keys])

@@ -24,14 +24,14 @@ fn long(rt: &impl Abort, alloc: Global, bytes: usize) -> String {
 /// Bytes of a table's name and of an id, and why there is no key of them, where there is none.
 static KEYS: [(usize, usize, Option<KeyFault>); 9] = [
     (0, 0, Some(KeyFault::EmptyTable)),
-    (0, 129, Some(KeyFault::EmptyTable)),
+    (0, 257, Some(KeyFault::EmptyTable)),
     (65, 0, Some(KeyFault::TableTooLong)),
-    (65, 129, Some(KeyFault::TableTooLong)),
+    (65, 257, Some(KeyFault::TableTooLong)),
     (1, 0, Some(KeyFault::EmptyId)),
     (64, 0, Some(KeyFault::EmptyId)),
-    (1, 129, Some(KeyFault::IdTooLong)),
+    (1, 257, Some(KeyFault::IdTooLong)),
     (1, 1, None),
-    (64, 128, None),
+    (64, 256, None),
 ];
 
 /// Why there is no key of texts of so many bytes, where there is none.
@@ -52,7 +52,7 @@ fn keys_are_refused_for_their_first_fault(rt: HostRuntime) {
 
 #[test]
 fn a_copy_of_a_longest_key_is_equal(rt: HostRuntime) {
-    let id = long(&rt, rt.alloc(), 128);
+    let id = long(&rt, rt.alloc(), 256);
     let key = key(&rt, rt.alloc(), id.as_str());
     let copy = key.try_copy().expect(&rt, "no memory");
     assert!(rt; copy == key);

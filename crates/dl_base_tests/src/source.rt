@@ -237,12 +237,12 @@ fn table_of(
 /// The bytes of a table's name, of an id and of the text of an error or a break, and the first fault of these.
 static LENGTHS: [((usize, usize, usize), Option<TableFault>); 8] = [
     ((1, 1, 0), None),
-    ((64, 128, 1_024), None),
+    ((64, 256, 1_024), None),
     ((0, 1, 1_025), Some(TableFault::BadKey)),
     ((65, 1, 0), Some(TableFault::BadKey)),
     ((1, 0, 0), Some(TableFault::BadKey)),
-    ((1, 129, 0), Some(TableFault::BadKey)),
-    ((65, 129, 1_025), Some(TableFault::BadKey)),
+    ((1, 257, 0), Some(TableFault::BadKey)),
+    ((65, 257, 1_025), Some(TableFault::BadKey)),
     ((1, 1, 1_025), Some(TableFault::TextTooLong)),
 ];
 

@@ -118,9 +118,9 @@ fn a_term_wants_all_its_keys_at_once(rt: HostRuntime) {
 static IDS: [(usize, usize, bool); 5] = [
     (4, 0, false),
     (4, 1, true),
-    (4, 128, true),
-    (64, 128, true),
-    (4, 129, false),
+    (4, 256, true),
+    (64, 256, true),
+    (4, 257, false),
 ];
 
 fn name(rt: &impl Abort, alloc: Global, text: &str) -> Text {
@@ -191,7 +191,7 @@ fn assert_loads(
 }
 
 #[test]
-fn an_id_has_1_to_128_bytes(rt: HostRuntime) {
+fn an_id_has_1_to_256_bytes(rt: HostRuntime) {
     let hashing = RandomState::new(&rt).expect(&rt, "no random numbers");
     for (table, id, is_id) in &IDS {
         let table = "t".repeat(rt.alloc(), *table).expect(&rt, "no memory");

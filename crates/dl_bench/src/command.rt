@@ -8,6 +8,8 @@ use thiserror::Error;
 pub(crate) enum Workload {
     /// Loads the keys one by one on a desk, then dispatches.
     OneByOne(Ids),
+    /// The same on a desk by table, of so many tables in turn.
+    ByTable { tables: u32 },
     /// Makes the keys, and then calls of a desk.
     Listed(Calls),
     /// Loads, clears and loads again each key in turn.
@@ -103,9 +105,9 @@ pub(crate) struct Command {
 /// Why words are no command.
 #[derive(Debug, Drop, Error)]
 pub(crate) enum CommandFault {
-    #[error("usage: dl_bench loads|many|rounds|tables|loader N B, hostile|harmless[-tables] N, hits|clears|terms N, threads N C, inline P N, or serve P W N")]
+    #[error("usage: dl_bench loads|many|rounds|tables|loader N B, hostile|harmless[-tables] N, hits|clears|terms N, threads N C, tables-of T N, inline P N, or serve P W N")]
     Usage,
-    #[error("N, B, C, P and W are numbers from 1 to 65536, the largest limit of a loader")]
+    #[error("N, B, C, P, T and W are numbers from 1 to 65536, the largest limit of a loader")]
     Size,
 }
 
@@ -129,6 +131,14 @@ impl Command {
     /// The command of a name and two words.
     fn of_two(name: &str, first: &str, second: &str) -> Result<Command, CommandFault> {
         match name {
+            "tables-of" => {
+                let tables = size(first)?;
+                Ok(Command {
+                    workload: Workload::ByTable { tables },
+                    keys: size(second)?,
+                    most: BATCH,
+                })
+            }
             "inline" => {
                 let count = size(first)?;
                 Ok(Command::of_terms(Evaluated::InTurn { count }, size(second)?))

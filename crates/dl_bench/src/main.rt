@@ -12,6 +12,7 @@ mod keys;
 mod plans;
 mod scene;
 mod shared;
+mod table_loads;
 mod tables;
 mod terms;
 
@@ -43,6 +44,9 @@ fn run<R: RandomSource + Threads + Wait + Sync>(
     } = command;
     match workload {
         Workload::OneByOne(ids) => desk::one_by_one(alloc, hashing, counts, ids, keys, most),
+        Workload::ByTable { tables } => {
+            table_loads::one_by_one(alloc, hashing, counts, tables, keys, most)
+        }
         Workload::Listed(calls) => desk::listed(alloc, hashing, counts, calls, keys, most),
         Workload::Clears => desk::clears(alloc, hashing, counts, keys, most),
         Workload::Tables(ids) => tables::tables(alloc, hashing, counts, ids, keys, most),

@@ -1,5 +1,5 @@
 -- The load of several keys as C makes it.
-use Rattle.std.specs.Prelude.{◌≡◌, ℕ, ◌+◌, ◌<◌, ◌≤◌, ◌⊎◌, List, [], ◌∷◌, length, map, take, drop}
+use Rattle.std.specs.Prelude.{◌≡◌, ℕ, ◌+◌, ◌<◌, ◌≤◌, ◌⊎◌, List, length, map, take, drop}
 use Rattle.std.specs.List.{All}
 use Rattle.dl_values.specs.Key.{Key}
 use Rattle.dl_desk.specs.History.{Atom, load_replies}
@@ -9,6 +9,7 @@ use Rattle.dl_c.specs.declared.codes.TheConstants.{DONE, OUT_OF_MEMORY, BAD_KEY,
 use Rattle.dl_c.specs.declared.answers.Loaded.{Loaded}
 use Rattle.dl_c.specs.declared.key_texts.KeyLengths.{KeyLengths}
 use Rattle.dl_c.specs.Answers.{loaded_as}
+use Rattle.dl_c.specs.Cuts.{parts, total_by}
 use Rattle.dl_c.specs.Keys.{IsKeyText}
 use Rattle.dl_c.specs.Calls.{Makes, Refuses}
 
@@ -16,15 +17,17 @@ use Rattle.dl_c.specs.Calls.{Makes, Refuses}
 abbrev pub front_key : List ℕ → KeyLengths → Key
 front_key bytes l = record { table = take l.table bytes; id = take l.id (drop l.table bytes) }
 
+-- how many bytes a key takes
+abbrev pub key_width : KeyLengths → ℕ
+key_width l = l.table + l.id
+
 -- the keys that lengths cut the bytes into, from the front on
 abbrev pub cut : List ℕ → List KeyLengths → List Key
-cut bytes [] = []
-cut bytes (l ∷ ls) = front_key bytes l ∷ cut (drop (l.table + l.id) bytes) ls
+cut bytes ls = parts key_width front_key bytes ls
 
 -- how many bytes the lengths take
 abbrev pub total : List KeyLengths → ℕ
-total [] = 0
-total (l ∷ ls) = (l.table + l.id) + total ls
+total ls = total_by key_width ls
 
 -- Why there is no key at the front of the bytes: they are too few for the lengths, it is none, or memory is short.
 abbrev pub IsFrontFault : List ℕ → KeyLengths → ℕ → Type 0

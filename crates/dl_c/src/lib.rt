@@ -15,3 +15,4 @@ mod key_texts;
 mod lives;
 mod many;
 mod seed;
+mod tables;

@@ -1,14 +1,25 @@
-//! Opening a desk, and closing it.
+//! Opening a desk, also one by table, and closing it.
 
-ghost use Rattle.std.specs.Prelude.{◌≡◌, true, false};
+ghost use Rattle.std.specs.Prelude.{◌≡◌, ◌<◌, true, false};
 ghost use Rattle.dl_c.specs.Handles.{OnClosed};
-ghost use Rattle.dl_c.specs.Lives.{AnswersOpen, limits_of};
+ghost use Rattle.dl_c.specs.Lives.{AnswersOpen, AnswersByTable, limits_of};
 
 use crate::codes::{BAD_LIMIT, CLOSED, DONE, OPEN, OUT_OF_MEMORY};
 use crate::handle::{Handle, take};
 use crate::seed::hashing;
+use crate::tables::{NamedLimit, limits_of_tables};
 use dl_desk::{Desk, LARGEST_LIMIT, Limits};
 use std::alloc::Global;
+
+/// What a desk by table is opened with: the limits and the seed of [`dl_desk_open`].
+#[repr(C)]
+#[derive(Clone, Copy, Debug, PartialEq, Eq)]
+pub struct Opening {
+    pub max_batch: u32,
+    pub max_cells: u32,
+    pub seed_low: u64,
+    pub seed_high: u64,
+}
 
 /// Opens a desk of batches of so many keys and of so many cells at most, each 1 to 65,536. Its handle begins as all zeros. The
 /// seed is two random numbers, by which it hashes keys, so that nobody can make keys whose hashes meet.
@@ -34,7 +45,52 @@ pub extern "C" fn dl_desk_open(
     let Ok(hashing) = hashing(seed_low, seed_high) else {
         return OUT_OF_MEMORY;
     };
-    let Ok(desk) = Box::new(alloc, Desk::new(alloc, hashing, limits)) else {
+    keep(alloc, handle, Desk::new(alloc, hashing, limits))
+}
+
+/// Opens a desk as [`dl_desk_open`] does, of which each batch is of one table. The names of the tables that have a limit of their
+/// own stand one behind the other, with nothing between them, in the order of their limits. A batch of another table takes as
+/// many keys as the limit of the opening says.
+///
+/// Codes: `DONE`; `OPEN`, `BAD_LIMIT`, `BAD_LENGTHS`, `BAD_TEXT`, `EMPTY_TABLE`, `TABLE_TOO_LONG`, `BAD_TABLE_LIMIT`,
+/// `DUPLICATE_TABLE`, `OUT_OF_MEMORY`, each of which leaves the handle. Of those from `EMPTY_TABLE` on it is the first that
+/// applies to any table.
+#[unsafe(no_mangle)]
+pub extern "C" fn dl_desk_open_by_table(
+    alloc: Global,
+    handle: &mut Handle,
+    opening: &Opening,
+    names: &[u8],
+    tables: &[NamedLimit],
+) -> u32
+    ensures opens { AnswersByTable (limits_of opening.now.max_batch opening.now.max_cells) names.now tables.now result handle.old handle.new }
+{
+    if handle.is_open {
+        return OPEN;
+    }
+    let Ok(limits) = Limits::new(opening.max_batch, opening.max_cells, LARGEST_LIMIT) else {
+        return BAD_LIMIT;
+    };
+    let Ok(hashing) = hashing(opening.seed_low, opening.seed_high) else {
+        return OUT_OF_MEMORY;
+    };
+    match limits_of_tables(alloc, names, tables) {
+        Ok(tables) => keep(
+            alloc,
+            handle,
+            Desk::by_table(alloc, hashing, limits, tables),
+        ),
+        Err(code) => code,
+    }
+}
+
+/// Keeps a desk in a closed handle. A code.
+fn keep(alloc: Global, handle: &mut Handle, desk: Desk) -> u32
+    requires { handle.old.is_open ≡ false }
+    ensures kept { result ≡ DONE → (handle.new.is_open ≡ true) × (handle.new.held.desk ≡ desk) }
+    ensures refused { DONE < result → (result ≡ OUT_OF_MEMORY) × (handle.new ≡ handle.old) }
+{
+    let Ok(desk) = Box::new(alloc, desk) else {
         return OUT_OF_MEMORY;
     };
     *handle = Handle::opened(desk);

@@ -42,7 +42,7 @@ pub extern "C" fn dl_desk_load_many(
     code
 }
 
-#[tactic(auto, using(crate::proofs::Cuts::length_cut))]
+#[tactic(auto, using(crate::proofs::Cuts::length_parts))]
 fn load_many(
     alloc: Global,
     desk: &mut Desk,

@@ -1,6 +1,7 @@
 -- What is told of the newest batches, as batches are begun, shown and taken back.
-use Rattle.std.proofs.Common.{◌≡◌, ◌∙◌, sym, ap, ℕ, zero, suc, ◌+◌, ◌<◌, ◌≤◌, Bool, true, false, ◌&&◌, ◌||◌, not, cond, List, [], ◌∷◌, ◌++◌, length, map, set, take, drop, get_or}
-use Rattle.std.proofs.Common.{Option, Some, None, IfSome, option_map, inl, inr, nat_eq, nat_le, nat_lt, bytes_eq, String, string_bytes, slice_get, true≢false, refl, arith}
+use Rattle.std.proofs.Common.{◌≡◌, ◌∙◌, sym, ap, ℕ, zero, suc, ◌+◌, ◌<◌, ◌≤◌, Bool, true, false, ◌&&◌, ◌||◌, not, cond, true≢false, refl, arith}
+use Rattle.std.proofs.Common.{List, [], ◌∷◌, ◌++◌, length, map, set, take, drop, get_or, slice_get, Option, Some, None, IfSome, option_map, inl, inr}
+use Rattle.std.proofs.Common.{nat_eq, nat_le, nat_lt, bytes_eq, String, string_bytes}
 use Rattle.std.specs.List.{list_any}
 use Rattle.std.specs.Map.{lookup}
 use Rattle.std.specs.BTreeMap.{BTreeMap, UpdatesBy}
@@ -25,8 +26,8 @@ use Rattle.dl_desk.specs.Preparation.{prepared_batch, shown_batch, members_of, m
 use Rattle.dl_desk.specs.Marks.{IsStored}
 use Rattle.dl_desk.specs.declared.desk.Extent.{Extent}
 use Rattle.dl_desk.specs.declared.table_book.Newest.{Newest}
-use Rattle.dl_desk.specs.TableBook.{TableBook, told, untouched, is_of, newest_at, TellsNewest, TellsLimits, AreTouched, TouchedBy, BothBatches, AreTables, FitTables}
-use Rattle.dl_desk.specs.TableBook.{Renews, IsNewest, open_at, open_for, IsOf}
+use Rattle.dl_desk.specs.TableBook.{TableBook, told, untouched, is_of, newest_at, TellsNewest, TellsLimits, AreTouched, TouchedBy, BothBatches}
+use Rattle.dl_desk.specs.TableBook.{AreTables, FitTables, Renews, IsNewest, open_at, open_for, IsOf}
 use Rattle.dl_desk.proofs.Facts.{greatest-below}
 use Rattle.dl_desk.proofs.LawBatches.{greatest-passes}
 use Rattle.dl_desk.proofs.Tails.{get-set_same, get-set_other, map-set_unseen, same_each}
@@ -121,7 +122,8 @@ touched_turn f ts i n xs first x y low at read done unseen inv = (
           let two : ◌≡◌ {A = Option StoredBatch} (Some y) (Some z) = sym (get-set_same xs n y inside) ∙ (rw here at got) in
           let is : y ≡ z = cc in
           rw (← is) done
-      | inr other ↦ before.same b z (sym (get-set_other xs n b y other) ∙ got) (or_none (nat_eq b n) (list_any (nat_eq b) (drop (i + 1) ts)) (not_same b n other) none)
+      | inr other ↦ before.same b z (sym (get-set_other xs n b y other) ∙ got)
+          (or_none (nat_eq b n) (list_any (nat_eq b) (drop (i + 1) ts)) (not_same b n other) none)
     ];
   },
   map-set_unseen f xs n x y (slice_get_read xs (length xs) n x refl inside read) unseen ∙ inv.1,
@@ -246,7 +248,8 @@ tells_new xs n m e old new is latest renews tells table =
     ap (greatest (is_of (put_member xs n m) table)) count ∙ by (bytes_eq table m.0.table) refl
   where
     by : (t : Bool) → bytes_eq table m.0.table ≡ t
-        → cond (is_of (put_member xs n m) table n) (Some n) (greatest (is_of (put_member xs n m) table) n) ≡ newest_at (put_member xs n m) table (told new table)
+        → cond (is_of (put_member xs n m) table n) (Some n) (greatest (is_of (put_member xs n m) table) n)
+        ≡ newest_at (put_member xs n m) table (told new table)
     by true own =
         let found : told new table ≡ Some e = renews.newest table ∙ (rw (bytes_eq-comm m.0.table table, own) refl) in
         rw (found, latest, put_last xs n m table is, own) refl
@@ -363,8 +366,8 @@ open_or_next : (has : Bool) (b n len : ℕ) → n ≡ len → cond has n b ≡ c
 open_or_next true b n len same = same
 open_or_next false b n len same = refl
 
-room_open : (max_batch sent most : ℕ) (xs : List Batch) (limits : List (List ℕ × ℕ)) (book : BatchBook) (k : Key) (o : Option ℕ) → IsOf max_batch sent xs limits book
-    → most ≡ limit_by max_batch (Some limits) k.table
+room_open : (max_batch sent most : ℕ) (xs : List Batch) (limits : List (List ℕ × ℕ)) (book : BatchBook) (k : Key) (o : Option ℕ)
+    → IsOf max_batch sent xs limits book → most ≡ limit_by max_batch (Some limits) k.table
     → cond (has_member (members_of (slice_get xs (open_at sent most xs o))) k) (length xs) (open_at sent most xs o) ≡ room_of book k o
 room_open max_batch sent most xs limits book k None is limit =
     either_way (has_member (members_of (slice_get xs (length xs))) k) (length xs) (length book.batches) (ap length (sym is.batches))

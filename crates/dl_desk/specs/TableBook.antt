@@ -1,5 +1,6 @@
 -- What a desk keeps of its tables, where each batch is of one table.
-use Rattle.std.specs.Prelude.{◌≡◌, ℕ, ◌<◌, ◌⊎◌, Bool, ◌&&◌, false, true, List, [], length, map, take, Option, Some, None, option_map, slice_get, nat_eq, nat_le, nat_lt, bytes_eq, if◌then◌else◌}
+use Rattle.std.specs.Prelude.{◌≡◌, ℕ, ◌<◌, ◌⊎◌, Bool, ◌&&◌, false, true, List, [], length, map, take, slice_get, Option, Some, None, option_map}
+use Rattle.std.specs.Prelude.{nat_eq, nat_le, nat_lt, bytes_eq, if◌then◌else◌}
 use Rattle.std.specs.List.{list_any}
 use Rattle.std.specs.Map.{lookup}
 use Rattle.dl_values.specs.Limits.{Limits, Rules, limit_by}

@@ -1,7 +1,7 @@
 //! The desk: one loader, for one thread.
 
-ghost use Rattle.std.specs.Prelude.{◌≡◌, ◌<◌, ◌≤◌, ◌-◌, if◌then◌else◌, None, Some, [], ◌∷◌, ◌++◌, length, map, take, vec_len, false, IfOk, IfErr, OnOk, OnErr};
-ghost use Rattle.std.specs.Prelude.{slice_get, nat_le, IsTrue};
+ghost use Rattle.std.specs.Prelude.{◌≡◌, ◌<◌, ◌≤◌, ◌-◌, if◌then◌else◌, None, [], ◌∷◌, ◌++◌, length, map, take, vec_len, false, IfOk, IfErr, OnOk, OnErr};
+ghost use Rattle.std.specs.Prelude.{slice_get, nat_le, IsTrue, IsSome};
 ghost use Rattle.std.specs.Prelude.{List};
 ghost use Rattle.std.specs.Map.{lookup};
 ghost use Rattle.dl_values.specs.Key.{Key, key_eq};
@@ -296,25 +296,10 @@ impl Desk {
         ensures rules { self.new.prepared.rules ≡ self.old.prepared.rules }
         ensures joins { IfOk result (λ batch. Joins self.old.prepared key.now cell batch self.new.prepared) }
     {
-        self.is_prepared = true;
-        let hashing = *self.memo.hasher();
-        let Some(tables) = &mut self.tables else {
-            return self.join_newest(alloc, key, cell);
-        };
-        let batch = tables.join(
-            &mut self.batches,
-            BatchMeans { alloc, hashing },
-            Standing {
-                limits: self.limits,
-                prepared: self.prepared,
-                shown: self.shown,
-            },
-            key,
-            cell,
-        )?;
-        self.touched = self.touched.min(batch);
-        self.prepared.begun = self.prepared.begun.max(batch + 1);
-        Ok(batch)
+        match &self.tables {
+            None => self.join_newest(alloc, key, cell),
+            Some(_) => self.join_of_table(alloc, key, cell),
+        }
     }
 
     /// The same, where batches may mix tables.
@@ -335,6 +320,38 @@ impl Desk {
             BatchChoice {
                 newest,
                 next: self.prepared.begun,
+            },
+            key,
+            cell,
+        )?;
+        self.touched = self.touched.min(batch);
+        self.prepared.begun = self.prepared.begun.max(batch + 1);
+        Ok(batch)
+    }
+
+    /// The same, where each batch is of one table.
+    // Out of line, so that the steps of batches that may mix tables stay as short as they are without it.
+    #[cold]
+    #[inline(never)]
+    fn join_of_table(&mut self, alloc: Global, key: &FetchKey, cell: u32) -> Result<u32, AllocError>
+        requires by_table { IsSome self.old.prepared.rules.tables }
+        requires next { length self.old.prepared.batches < self.old.prepared.cells }
+        ensures book { self.new.book ≡ self.old.book }
+        ensures rules { self.new.prepared.rules ≡ self.old.prepared.rules }
+        ensures joins { IfOk result (λ batch. Joins self.old.prepared key.now cell batch self.new.prepared) }
+    {
+        self.is_prepared = true;
+        let hashing = *self.memo.hasher();
+        let Some(tables) = &mut self.tables else {
+            unreachable!()
+        };
+        let batch = tables.join(
+            &mut self.batches,
+            BatchMeans { alloc, hashing },
+            Standing {
+                limits: self.limits,
+                prepared: self.prepared,
+                shown: self.shown,
             },
             key,
             cell,

@@ -98,6 +98,8 @@ impl TableBook {
     }
 
     /// Shows what is prepared.
+    #[cold]
+    #[inline(never)]
     fn show(&mut self, batches: &mut Vec<StoredBatch>)
         requires { AreTouched self.old.touched batches.old.items }
         ensures book { self.new ≡ untouched self.old }
@@ -285,6 +287,8 @@ pub(crate) fn cut(
 }
 
 /// Shows what is prepared: in a range of batches, where they may mix tables, and else in those that were touched.
+// Inlined, but not what batches of one table take, so that those that may mix tables cost nothing more.
+#[inline(always)]
 pub(crate) fn show(
     tables: &mut Option<TableBook>,
     batches: &mut Vec<StoredBatch>,

@@ -30,7 +30,8 @@ member_absent test name (member other d ms) all is =
     true≢false (sym p.0 ∙ (ap test (sym same) ∙ is)))
     (member_absent test name ms p.1 is)
 
-absent : (test : List ℕ → Bool) (name : List ℕ) (d : Data) → has_only test d ≡ true → test name ≡ false → get name d ≡ None
+-- an object whose names pass a test has no member whose name doesn't
+pub absent : (test : List ℕ → Bool) (name : List ℕ) (d : Data) → has_only test d ≡ true → test name ≡ false → get name d ≡ None
 absent test name null all is = refl
 absent test name (boolean b) all is = refl
 absent test name (number n) all is = refl

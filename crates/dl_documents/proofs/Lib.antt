@@ -19,4 +19,5 @@ pub mod LimitVerdicts
 pub mod ScriptVerdicts
 pub mod PlanVerdicts
 pub mod PlanSpelling
+pub mod OneReading
 pub mod Texts

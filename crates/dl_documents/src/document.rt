@@ -28,12 +28,29 @@ pub fn read_input(alloc: Global, hashing: RandomState, bytes: &[u8]) -> Result<I
     ensures passes { OnOk result ((f : PlanFault) → Applies bytes.now f → ⊥) }
     ensures err { IfErr result (λ f. (f ≡ PlanFault.OutOfMemory) ⊎ IsLeast (Applies bytes.now) f) }
 {
+    let (_document, input) = read_document(alloc, hashing, bytes)?;
+    Ok(input)
+}
+
+/// The tree of a document, and what it says.
+///
+/// # Errors
+/// Those of [`read_input`].
+pub fn read_document(
+    alloc: Global,
+    hashing: RandomState,
+    bytes: &[u8],
+) -> Result<(Value, Input), PlanFault>
+    ensures ok { IfOk result (λ p. IsTextOf bytes.now (view p.0) × Spells (view p.0) p.1) }
+    ensures passes { OnOk result ((f : PlanFault) → Applies bytes.now f → ⊥) }
+    ensures err { IfErr result (λ f. (f ≡ PlanFault.OutOfMemory) ⊎ IsLeast (Applies bytes.now) f) }
+{
     if bytes.len() > MOST_BYTES {
         return Err(PlanFault::TooLarge);
     }
     let document = tree(alloc, bytes)?;
     let input = input(alloc, hashing, &document)?;
-    Ok(input)
+    Ok((document, input))
 }
 
 /// The tree that the bytes are the text of.

@@ -10,6 +10,7 @@ ghost use Rattle.dl_documents.specs.Inside.Results.{HasHead};
 
 use crate::fault::PlanFault;
 use crate::limits::{self, Numbers};
+use dl_source::whole_number;
 use serde_json::{Map, Value};
 
 /// The version of a document. In the first a batch may mix tables. In the second each batch is of one table, and a table may
@@ -73,7 +74,8 @@ fn has_number(document: &Value, number: i128) -> bool
     } else {
         "version"
     };
-    document.get(name).and_then(limits::whole) == Some(number)
+    let given = document.get(name).and_then(|value| whole_number(value));
+    given == Some(number)
 }
 
 /// Whether the document is an object, and each of its members is one of its kind and of the version.

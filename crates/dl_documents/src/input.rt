@@ -14,7 +14,7 @@ pub enum Input {
 }
 
 /// Calls that one desk answers in their order.
-#[derive(Drop)]
+#[derive(Debug, Drop)]
 pub struct Script {
     /// The desk's limits.
     pub limits: Limits,

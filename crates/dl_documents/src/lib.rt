@@ -17,7 +17,7 @@ mod table_numbers;
 mod terms;
 
 pub use dl_terms::MOST_PLANS;
-pub use document::{MOST_BYTES, read_input};
+pub use document::{MOST_BYTES, read_document, read_input};
 pub use fault::PlanFault;
 pub use input::{Calls, Input, PlanFile, Script, ScriptCall};
 pub use plan_files::{MOST_HEIGHT, MOST_STEPS};

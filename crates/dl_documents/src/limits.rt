@@ -3,11 +3,11 @@
 ghost use Rattle.std.specs.Prelude.{◌≡◌, pos, IfOk, IfErr, MatchOption};
 ghost use Rattle.serde_json.specs.View.{view};
 ghost use Rattle.dl_values.specs.Limits.{IsLimit, IsNoLimit};
-ghost use Rattle.dl_source.specs.Spelling.{whole};
 ghost use Rattle.dl_documents.specs.Document.{number_at};
 ghost use Rattle.dl_documents.specs.Faults.{IsOutside};
 ghost use Rattle.dl_documents.specs.Numbers.{AreGiven, LacksNumber, AreLimitsOf, IsFirstOutside};
 
+use dl_source::whole_number;
 use dl_values::{LARGEST_LIMIT, LimitFault, Limits};
 use serde_json::Value;
 
@@ -53,16 +53,9 @@ fn number(document: &Value, name: &str) -> Option<i128>
     ensures { result ≡ number_at name.now (view document.now) }
 {
     match document.get(name) {
-        Some(value) => whole(value),
+        Some(value) => whole_number(value),
         None => Some(i128::from(LARGEST_LIMIT)),
     }
-}
-
-/// The value as a whole number, if it is one.
-pub(crate) fn whole(value: &Value) -> Option<i128>
-    ensures { result ≡ whole (view value.now) }
-{
-    value.as_number()?.as_i128()
 }
 
 /// The number as one that a limit may be, and 0, which no limit is, where there is none.

@@ -8,8 +8,7 @@ ghost use Rattle.dl_documents.specs.TableNumbers.{named, numbered, table_number_
 use crate::argument::pair;
 use crate::fault::PlanFault;
 use crate::head::Version;
-use crate::limits::whole;
-use dl_source::TableNumber;
+use dl_source::{TableNumber, whole_number};
 use dl_values::{TABLE_BYTES, Text};
 use indexmap::IndexSet;
 use serde_json::Value;
@@ -84,7 +83,7 @@ fn table_number(value: &Value) -> Option<(&str, i128)>
 {
     let (table, number) = pair(value)?;
     let table = table.as_str()?;
-    let number = whole(number)?;
+    let number = whole_number(number)?;
     if (1..=TABLE_BYTES).contains(&table.len()) {
         Some((table, number))
     } else {

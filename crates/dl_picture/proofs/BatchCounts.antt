@@ -21,13 +21,6 @@ sizes_length history zero = refl
 sizes_length history (suc n) =
     length-append (sizes_of history n) (length (keys_of history n) ∷ []) ∙ (ap (λ k. k + 1) (sizes_length history n) ∙ add-one n)
 
--- the next batch of a history
-pub batch_next : (history : List Atom) (n size : ℕ) (m more : BatchNumbers) → size ≡ length (keys_of history n)
-    → ((sizes : List ℕ) → AreSizes sizes m → AreSizes (sizes ++ size ∷ []) more) → AreSizes (sizes_of history n) m → AreSizes (sizes_of history (n + 1)) more
-batch_next history n size m more same step are =
-    subst (λ k. AreSizes (sizes_of history k) more) (sym (add-one n))
-    (subst (λ k. AreSizes (sizes_of history n ++ k ∷ []) more) same (step (sizes_of history n) are))
-
 -- all batches were counted
 pub all_batches : (history : List Atom) (n : ℕ) (m : BatchNumbers) → n ≤ begun history → begun history ≤ n → AreSizes (sizes_of history n) m
     → AreBatchNumbers history m

@@ -1,30 +1,19 @@
 -- Loads and rounds of a history, counted one event after another.
 use Rattle.std.proofs.Common.{◌≡◌, ◌∙◌, sym, ap, subst, refl, cond, ℕ, zero, suc, ◌+◌, Bool, true, false, List, [], ◌∷◌, ◌++◌, length, take, Option, Some, None}
 use Rattle.std.proofs.Common.{append-nil, length-append, add-one, arith, filter, nat_eq, ◌&&◌, Result, Ok, Err}
-use Rattle.std.specs.Prelude.{IfOk, count_by, flat_map, slice_get}
+use Rattle.std.specs.Prelude.{IfOk, flat_map, slice_get}
 use Rattle.std.proofs.lemmas.List.Concat.{flat_map-append}
 use Rattle.std.proofs.lemmas.List.Elements.{filter-append}
-use Rattle.std.proofs.lemmas.List.Sums.{sum_by-append}
 use Rattle.dl_desk.specs.declared.reply.LoadReply.{LoadReply}
 use Rattle.dl_history.specs.Lists.{one_if}
 use Rattle.dl_history.specs.declared.event.Event.{Event}
 use Rattle.dl_history.proofs.Pasts.{take-get}
-use Rattle.dl_picture.specs.Numbers.{AreLoadNumbers, events_by, is_by, is_hit, is_round, load_replies, replies_in, round_events}
+use Rattle.dl_picture.specs.Numbers.{AreLoadNumbers, events_by, is_by, is_round, load_replies, replies_in, round_events}
 use Rattle.dl_picture.specs.declared.loads.LoadNumbers.{LoadNumbers}
-
--- ---- replies
-
--- some replies more
-pub replies_more : (before more : List LoadReply) (n m : LoadNumbers) → m.loads ≡ n.loads + length more → m.hits ≡ n.hits + count_by is_hit more
-    → AreLoadNumbers before n → AreLoadNumbers (before ++ more) m
-replies_more before more n m loads hits are = record {
-  loads = loads ∙ (ap (λ k. k + length more) are.loads ∙ sym (length-append before more));
-  hits = hits ∙ (ap (λ k. k + count_by is_hit more) are.hits ∙ sym (sum_by-append (λ r. cond (is_hit r) 1 0) before more));
-}
 
 -- ---- events
 
-pub take_next : {X : Type 0} (xs : List X) (i : ℕ) (x : X) → slice_get xs i ≡ Some x → take (i + 1) xs ≡ take i xs ++ x ∷ []
+take_next : {X : Type 0} (xs : List X) (i : ℕ) (x : X) → slice_get xs i ≡ Some x → take (i + 1) xs ≡ take i xs ++ x ∷ []
 take_next xs i x is = ap (λ n. take n xs) (add-one i) ∙ take-get xs i x is
 
 take_past : {X : Type 0} (xs : List X) (i : ℕ) → slice_get xs i ≡ None → take (suc i) xs ≡ take i xs
@@ -34,7 +23,7 @@ take_past {X} (x ∷ xs) zero is = absurd (let bad : ◌≡◌ {A = Option X} (S
 take_past (x ∷ xs) (suc i) is = ap (λ zs. x ∷ zs) (take_past xs i is)
 
 -- past the end nothing is taken
-pub take_none : {X : Type 0} (xs : List X) (i : ℕ) → slice_get xs i ≡ None → take (i + 1) xs ≡ take i xs
+take_none : {X : Type 0} (xs : List X) (i : ℕ) → slice_get xs i ≡ None → take (i + 1) xs ≡ take i xs
 take_none xs i is = ap (λ n. take n xs) (add-one i) ∙ take_past xs i is
 
 filter_yes : {X : Type 0} (p : X → Bool) (x : X) → p x ≡ true → filter p (x ∷ []) ≡ x ∷ []
@@ -48,7 +37,7 @@ filter_next : {X : Type 0} (p : X → Bool) (xs : List X) (i : ℕ) (x : X) → 
 filter_next p xs i x is = ap (filter p) (take_next xs i x is) ∙ filter-append p (take i xs) (x ∷ [])
 
 -- one event more, which is the caller's
-pub own_event : (caller : Option ℕ) (events : List Event) (at : ℕ) (e : Event) (n m : LoadNumbers) → slice_get events at ≡ Some e → is_by caller e ≡ true
+own_event : (caller : Option ℕ) (events : List Event) (at : ℕ) (e : Event) (n m : LoadNumbers) → slice_get events at ≡ Some e → is_by caller e ≡ true
     → ((before : List LoadReply) → AreLoadNumbers before n → AreLoadNumbers (before ++ replies_in e.reply) m)
     → AreLoadNumbers (load_replies (events_by caller (take at events))) n → AreLoadNumbers (load_replies (events_by caller (take (at + 1) events))) m
 own_event caller events at e n m is own more are =
@@ -93,7 +82,7 @@ length_one {X} p x = by (p x)
     by false = refl
 
 -- how many pass a test, with one more
-pub test_next : {X : Type 0} (p : X → Bool) (xs : List X) (i : ℕ) (x : X) → slice_get xs i ≡ Some x
+test_next : {X : Type 0} (p : X → Bool) (xs : List X) (i : ℕ) (x : X) → slice_get xs i ≡ Some x
     → length (filter p (take (i + 1) xs)) ≡ length (filter p (take i xs)) + one_if (p x)
 test_next p xs i x is =
     ap length (filter_next p xs i x is)

@@ -1,8 +1,10 @@
 //! The head of a picture: its title, its numbers, and what its marks mean.
 
 use crate::batches::{BatchNumbers, Mean};
+use crate::column::push_badge;
 use crate::cut_text::CHARACTER;
-use crate::drawing::{Drawing, MARGIN, push_badge};
+use crate::drawing::{Drawing, MARGIN};
+use crate::elements::{Frame, push_rectangle, push_words};
 use crate::mark::MARKS;
 use std::alloc::AllocError;
 use std::fmt::Write;
@@ -32,9 +34,9 @@ pub(crate) enum Figure {
 /// A number, the name by which a program finds it in the picture, and what it is, in words.
 #[derive(Clone, Copy)]
 pub(crate) struct Tile {
-    pub(crate) name: &'static str,
-    pub(crate) words: &'static str,
-    pub(crate) figure: Figure,
+    name: &'static str,
+    words: &'static str,
+    figure: Figure,
 }
 
 impl Tile {
@@ -65,70 +67,74 @@ pub(crate) fn add_head(
 ) -> Result<(), AllocError> {
     drawing.add_words("title", title)?;
     let y = drawing.height;
-    let mut x = MARGIN;
-    for tile in tiles {
-        push_tile(&mut drawing.elements, (x, y), tile)?;
-        x = x.saturating_add(TILE_STEP);
-    }
+    push_tiles(&mut drawing.elements, y, tiles)?;
     drawing.add_height(TILE_HEIGHT + ROOM);
-    add_marks(drawing)
+    let y = drawing.height;
+    push_marks(&mut drawing.elements, y)?;
+    drawing.add_height(ROOM + ROOM);
+    Ok(())
 }
 
-/// A tile, whose corner stands at a place.
-fn push_tile(out: &mut String, corner: (usize, usize), tile: &Tile) -> Result<(), AllocError> {
-    let (x, y) = corner;
-    let (left, top, foot) = (
-        x.saturating_add(10),
-        y.saturating_add(22),
-        y.saturating_add(40),
-    );
-    let (name, words) = (tile.name, tile.words);
-    write!(
-        out,
-        "<rect class='card' x='{x}' y='{y}' width='{TILE_WIDTH}' height='{TILE_HEIGHT}' rx='6'/>"
-    )?;
+/// Tiles beside one another, at a height.
+fn push_tiles(out: &mut String, y: usize, tiles: &[Tile]) -> Result<(), AllocError> {
+    let mut x = MARGIN;
+    for tile in tiles {
+        push_tile(out, x, y, tile)?;
+        x = x.saturating_add(TILE_STEP);
+    }
+    Ok(())
+}
+
+/// A tile, whose corner stands at x and y.
+fn push_tile(out: &mut String, x: usize, y: usize, tile: &Tile) -> Result<(), AllocError> {
+    let card = Frame {
+        x,
+        y,
+        width: TILE_WIDTH,
+        height: TILE_HEIGHT,
+    };
+    push_rectangle(out, "card", card, 6)?;
+    let (name, left, top) = (tile.name, x.saturating_add(10), y.saturating_add(22));
     write!(
         out,
         "<text class='figure' id='{name}' x='{left}' y='{top}'>"
     )?;
-    push_figure(out, &tile.figure)?;
-    write!(
-        out,
-        "</text><text class='soft' x='{left}' y='{foot}'>{words}</text>\n"
-    )
+    push_figure(out, tile.figure)?;
+    out.push_str("</text>")?;
+    push_words(out, "soft", left, y.saturating_add(40), tile.words)?;
+    out.push('\n')
 }
 
-/// A number. A mean that isn't whole is a whole number and a fraction.
-fn push_figure(out: &mut String, figure: &Figure) -> Result<(), AllocError> {
+/// A number.
+fn push_figure(out: &mut String, figure: Figure) -> Result<(), AllocError> {
     match figure {
         Figure::Count(count) => write!(out, "{count}"),
+        Figure::Mean(Some(mean)) => push_mean(out, mean),
         Figure::Mean(None) => out.push_str("none"),
-        Figure::Mean(Some(mean)) => {
-            let Mean { whole, rest, of } = *mean;
-            write!(out, "{whole}")?;
-            if rest > 0 {
-                write!(out, " {rest}/{of}")?;
-            }
-            Ok(())
-        }
     }
 }
 
-/// What the marks mean, in one line.
-fn add_marks(drawing: &mut Drawing) -> Result<(), AllocError> {
-    let y = drawing.height;
+/// A mean: a whole number, and a fraction behind it where it isn't whole.
+fn push_mean(out: &mut String, mean: Mean) -> Result<(), AllocError> {
+    let Mean { whole, rest, of } = mean;
+    if rest == 0 {
+        write!(out, "{whole}")
+    } else {
+        write!(out, "{whole} {rest}/{of}")
+    }
+}
+
+/// What the marks mean, in one line at a height.
+fn push_marks(out: &mut String, y: usize) -> Result<(), AllocError> {
     let foot = y.saturating_add(12);
     let mut x = MARGIN;
-    for mark in MARKS {
-        push_badge(&mut drawing.elements, (x, y), mark)?;
-        let (left, words) = (x.saturating_add(22), mark.meaning());
-        write!(
-            drawing.elements,
-            "<text class='soft' x='{left}' y='{foot}'>{words}</text>\n"
-        )?;
+    for mark in &MARKS {
+        push_badge(out, x, y, *mark)?;
+        let words = mark.meaning();
+        push_words(out, "soft", x.saturating_add(22), foot, words)?;
+        out.push('\n')?;
         let width = words.len().saturating_mul(CHARACTER);
         x = x.saturating_add(width).saturating_add(MARK_STEP);
     }
-    drawing.add_height(ROOM + ROOM);
     Ok(())
 }

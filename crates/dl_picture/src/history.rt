@@ -2,9 +2,10 @@
 
 use crate::drawing::Drawing;
 use crate::head::{Tile, add_head};
-use crate::lanes::{Scene, batch_columns, plan_columns, primed_cells, worker_columns};
+use crate::lanes::{add_batches, add_calls, add_workers};
 use crate::loads::LoadNumbers;
 use crate::numbers::{HistoryNumbers, PlanNumbers, history_numbers, plan_numbers};
+use crate::scene::{Scene, primed_cells};
 use dl_loader::{History, MOST_CALLERS};
 use dl_scope::{MOST_PLANS, Report};
 use std::alloc::{AllocError, Global};
@@ -20,27 +21,33 @@ pub fn report_picture(alloc: Global, report: &Report) -> Result<String, AllocErr
 /// workers. A column of more than 200 keys is summed up. The text is linear in the events and their keys. The error is a
 /// failed allocation.
 pub fn history_picture(alloc: Global, history: &History, plans: u32) -> Result<String, AllocError> {
-    let plans = plans.min(MOST_CALLERS);
     let primed = primed_cells(alloc, history.events())?;
     let scene = Scene {
-        alloc,
         history,
         primed: primed.as_slice(),
-        plans,
+        plans: plans.min(MOST_CALLERS),
     };
+    scene_picture(alloc, scene)
+}
+
+/// The picture of a scene.
+fn scene_picture(alloc: Global, scene: Scene<'_>) -> Result<String, AllocError> {
     let mut drawing = Drawing::new(alloc);
-    add_history_head(&mut drawing, &history_numbers(history)?)?;
-    for plan in 0..plans {
-        add_plan(&mut drawing, scene, plan)?;
-    }
-    let batches = batch_columns(scene)?;
-    drawing.add_columns(
-        "batches, in the order in which they ended",
-        batches.as_slice(),
-    )?;
-    let workers = worker_columns(scene, MOST_CALLERS)?;
-    drawing.add_columns("workers", workers.as_slice())?;
+    add_scene(&mut drawing, scene)?;
     drawing.finish()
+}
+
+/// The head of a scene and its lanes.
+fn add_scene(drawing: &mut Drawing, scene: Scene<'_>) -> Result<(), AllocError> {
+    add_history_head(drawing, &history_numbers(scene.history)?)?;
+    for plan in 0..scene.plans {
+        add_plan_words(drawing, plan, &plan_numbers(scene.history, plan)?)?;
+        add_calls(drawing, scene, plan)?;
+    }
+    drawing.add_words("lane", "batches, in the order in which they ended")?;
+    add_batches(drawing, scene)?;
+    drawing.add_words("lane", "workers")?;
+    add_workers(drawing, scene, MOST_CALLERS)
 }
 
 /// The head: the numbers of the history.
@@ -57,12 +64,15 @@ fn add_history_head(drawing: &mut Drawing, numbers: &HistoryNumbers) -> Result<(
     add_head(drawing, "What the requests did", &tiles)
 }
 
-/// The lane of a plan.
-fn add_plan(drawing: &mut Drawing, scene: Scene<'_>, plan: u32) -> Result<(), AllocError> {
-    let PlanNumbers { rounds, loads } = plan_numbers(scene.history, plan)?;
+/// The words above the lane of a plan.
+fn add_plan_words(
+    drawing: &mut Drawing,
+    plan: u32,
+    numbers: &PlanNumbers,
+) -> Result<(), AllocError> {
+    let PlanNumbers { rounds, loads } = *numbers;
     let LoadNumbers { loads, hits } = loads;
-    let alloc = scene.alloc;
+    let alloc = drawing.alloc;
     let words = format!(in alloc; "plan {plan}: rounds {rounds}, loads {loads}, hits {hits}")?;
-    let columns = plan_columns(scene, plan)?;
-    drawing.add_columns(words.as_str(), columns.as_slice())
+    drawing.add_words("lane", words.as_str())
 }

@@ -1,5 +1,7 @@
 //! Marks: what became of a key in a call, or how a batch ended.
 
+use dl_desk::{LoadReply, Outcome};
+
 /// What became of a key in a call, or that a batch was settled.
 #[derive(Clone, Copy, PartialEq, Eq)]
 pub(crate) enum Mark {
@@ -24,7 +26,7 @@ pub(crate) enum Mark {
 }
 
 /// All marks, in the order in which they are explained.
-pub(crate) const MARKS: [Mark; 9] = [
+pub(crate) static MARKS: [Mark; 9] = [
     Mark::Fresh,
     Mark::Hit,
     Mark::Primed,
@@ -37,18 +39,35 @@ pub(crate) const MARKS: [Mark; 9] = [
 ];
 
 impl Mark {
+    /// That of a load by its reply alone.
+    pub(crate) fn of_load(reply: LoadReply) -> Mark {
+        match reply {
+            LoadReply::Fresh { .. } => Mark::Fresh,
+            LoadReply::Hit(_) => Mark::Hit,
+        }
+    }
+
+    /// That of a key that was given an outcome.
+    pub(crate) fn of_outcome(outcome: &Outcome) -> Mark {
+        match outcome {
+            Outcome::Value(_) => Mark::Fresh,
+            Outcome::KeyError(_) => Mark::KeyError,
+            Outcome::BatchFailed(_) => Mark::Failed,
+        }
+    }
+
     /// The letter in its badge.
-    pub(crate) fn letter(self) -> char {
+    pub(crate) fn letter(self) -> &'static str {
         match self {
-            Mark::Fresh => 'F',
-            Mark::Hit => 'H',
-            Mark::Primed => 'P',
-            Mark::KeyError => 'E',
-            Mark::Failed => 'X',
-            Mark::Cleared => 'C',
-            Mark::Kept => 'K',
-            Mark::Refused => 'R',
-            Mark::Settled => 'S',
+            Mark::Fresh => "F",
+            Mark::Hit => "H",
+            Mark::Primed => "P",
+            Mark::KeyError => "E",
+            Mark::Failed => "X",
+            Mark::Cleared => "C",
+            Mark::Kept => "K",
+            Mark::Refused => "R",
+            Mark::Settled => "S",
         }
     }
 
@@ -70,15 +89,9 @@ impl Mark {
     /// What it says, in words.
     pub(crate) fn meaning(self) -> &'static str {
         match self {
-            Mark::Fresh => "fresh",
-            Mark::Hit => "hit",
-            Mark::Primed => "primed",
             Mark::KeyError => "error of its key",
             Mark::Failed => "failed with its batch",
-            Mark::Cleared => "cleared",
-            Mark::Kept => "kept",
-            Mark::Refused => "refused",
-            Mark::Settled => "settled",
+            _ => self.class(),
         }
     }
 }

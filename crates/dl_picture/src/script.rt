@@ -1,12 +1,14 @@
 //! The picture of a script.
 
-use crate::column::{Column, Label, Line, count_text};
+use crate::column::Column;
 use crate::drawing::Drawing;
 use crate::head::{Tile, add_head};
+use crate::lines::Lines;
 use crate::mark::Mark;
 use crate::numbers::{HistoryNumbers, script_numbers};
-use crate::script_run::{CallAnswer, run_script};
-use dl_desk::{BatchState, BatchView, Desk, DeskFault, DeskPrime, FetchKey, LoadReply};
+use crate::phrase::Phrase;
+use crate::script_run::{CallAnswer, ScriptRun, run_script};
+use dl_desk::{BatchState, BatchView, Desk, DeskFault, DeskPrime, FetchKey};
 use dl_documents::{Script, ScriptCall};
 use std::alloc::{AllocError, Global};
 use std::hash::RandomState;
@@ -20,14 +22,23 @@ pub fn script_picture(
     script: &Script,
 ) -> Result<String, AllocError> {
     let run = run_script(alloc, hashing, script)?;
+    run_picture(alloc, script.calls.as_slice(), &run)
+}
+
+/// The picture of what calls left.
+fn run_picture(alloc: Global, calls: &[ScriptCall], run: &ScriptRun) -> Result<String, AllocError> {
     let mut drawing = Drawing::new(alloc);
-    let numbers = script_numbers(&run)?;
-    add_script_head(&mut drawing, run.answers.len(), &numbers)?;
-    let calls = call_columns(alloc, script.calls.as_slice(), run.answers.as_slice())?;
-    drawing.add_columns("calls", calls.as_slice())?;
-    let batches = batch_columns(alloc, &run.desk)?;
-    drawing.add_columns("batches", batches.as_slice())?;
+    add_run(&mut drawing, calls, run)?;
     drawing.finish()
+}
+
+/// The head, the calls and the batches.
+fn add_run(drawing: &mut Drawing, calls: &[ScriptCall], run: &ScriptRun) -> Result<(), AllocError> {
+    add_script_head(drawing, run.answers.len(), &script_numbers(run)?)?;
+    drawing.add_words("lane", "calls")?;
+    add_calls(drawing, calls, run.answers.as_slice())?;
+    drawing.add_words("lane", "batches")?;
+    add_batches(drawing, &run.desk)
 }
 
 /// The head: the numbers of the script.
@@ -51,21 +62,21 @@ fn add_script_head(
 // ---- calls
 
 /// A column for each call, with what it is answered.
-fn call_columns<'a>(
-    alloc: Global,
+fn add_calls<'a>(
+    drawing: &mut Drawing,
     calls: &'a [ScriptCall],
-    answers: &[CallAnswer],
-) -> Result<Vec<Column<'a>>, AllocError> {
-    let mut columns = Vec::new(alloc);
+    answers: &'a [CallAnswer],
+) -> Result<(), AllocError> {
     let mut number: u64 = 0;
     for (call, answer) in calls.iter().zip(answers) {
-        let heading = format!(in alloc; "{number} {}", name_of(call))?;
-        let side = side_of(alloc, call, answer)?;
-        let lines = call_lines(alloc, call, answer)?;
-        columns.push(Column::new(alloc, heading, side, lines)?)?;
+        drawing.add_column(&Column {
+            heading: Phrase::Counted(number, name_of(call)),
+            side: side_of(call, answer),
+            lines: call_lines(call, answer),
+        })?;
         number = number.saturating_add(1);
     }
-    Ok(columns)
+    Ok(())
 }
 
 /// The name of a call, as a script has it.
@@ -83,51 +94,44 @@ fn name_of(call: &ScriptCall) -> &'static str {
 }
 
 /// What stands beside the name of a call: the batch that it ends, or how many it sends.
-fn side_of(alloc: Global, call: &ScriptCall, answer: &CallAnswer) -> Result<String, AllocError> {
+fn side_of(call: &ScriptCall, answer: &CallAnswer) -> Phrase {
     match call {
-        ScriptCall::Settle(batch) | ScriptCall::Fail(batch) => format!(in alloc; "batch {batch}"),
-        _ => sent_text(alloc, answer),
-    }
-}
-
-/// How many batches a call sends, if it is a dispatch.
-fn sent_text(alloc: Global, answer: &CallAnswer) -> Result<String, AllocError> {
-    match answer {
-        CallAnswer::Sent(count) => format!(in alloc; "{count} sent"),
-        _ => Ok(String::new(alloc)),
+        ScriptCall::Settle(batch) | ScriptCall::Fail(batch) => {
+            Phrase::Numbered("batch", u64::from(*batch))
+        }
+        _ => match answer {
+            CallAnswer::Sent(count) => Phrase::Counted(*count as u64, "sent"),
+            _ => Phrase::Words(""),
+        },
     }
 }
 
 /// A line for each key of a call, with what became of it, or why the call is refused.
-fn call_lines<'a>(
-    alloc: Global,
-    call: &'a ScriptCall,
-    answer: &CallAnswer,
-) -> Result<Vec<Line<'a>>, AllocError> {
-    let mut lines = Vec::new(alloc);
+fn call_lines<'a>(call: &'a ScriptCall, answer: &'a CallAnswer) -> Lines<'a> {
+    let keys = keys_of(call);
     match answer {
-        CallAnswer::Load(reply) => {
-            push_loads(&mut lines, keys_of(call), std::slice::from_ref(reply))?;
-        }
-        CallAnswer::Many(replies) => push_loads(&mut lines, keys_of(call), replies.as_slice())?,
-        CallAnswer::Prime(DeskPrime::Primed(_)) => push_keys(
-            &mut lines,
-            keys_of(call),
-            Mark::Primed,
-        )?,
-        CallAnswer::Prime(DeskPrime::Kept) => push_keys(&mut lines, keys_of(call), Mark::Kept)?,
-        CallAnswer::Done | CallAnswer::Sent(_) => push_keys(
-            &mut lines,
-            keys_of(call),
-            Mark::Cleared,
-        )?,
-        CallAnswer::Refused(fault) => lines.push(Line {
-            mark: Mark::Refused,
-            label: Label::Words(fault_name(*fault)),
-            batch: None,
-        })?,
+        CallAnswer::Load(reply) => Lines::Replies {
+            keys,
+            replies: std::slice::from_ref(reply),
+        },
+        CallAnswer::Many(replies) => Lines::Replies {
+            keys,
+            replies: replies.as_slice(),
+        },
+        CallAnswer::Prime(DeskPrime::Primed(_)) => Lines::Keys {
+            keys,
+            mark: Mark::Primed,
+        },
+        CallAnswer::Prime(DeskPrime::Kept) => Lines::Keys {
+            keys,
+            mark: Mark::Kept,
+        },
+        CallAnswer::Done | CallAnswer::Sent(_) => Lines::Keys {
+            keys,
+            mark: Mark::Cleared,
+        },
+        CallAnswer::Refused(fault) => Lines::Refused(fault_name(*fault)),
     }
-    Ok(lines)
 }
 
 /// The keys that a call names.
@@ -140,42 +144,6 @@ fn keys_of(call: &ScriptCall) -> &[FetchKey] {
         ScriptCall::ClearAll | ScriptCall::Dispatch | ScriptCall::Settle(_) | ScriptCall::Fail(_) =>
             &[],
     }
-}
-
-/// A line for each load.
-fn push_loads<'a>(
-    lines: &mut Vec<Line<'a>>,
-    keys: &'a [FetchKey],
-    replies: &[LoadReply],
-) -> Result<(), AllocError> {
-    for (key, reply) in keys.iter().zip(replies) {
-        let (mark, batch) = match reply {
-            LoadReply::Fresh { batch, .. } => (Mark::Fresh, Some(*batch)),
-            LoadReply::Hit(_) => (Mark::Hit, None),
-        };
-        lines.push(Line {
-            mark,
-            label: Label::Key(key),
-            batch,
-        })?;
-    }
-    Ok(())
-}
-
-/// A line for each key, with one mark.
-fn push_keys<'a>(
-    lines: &mut Vec<Line<'a>>,
-    keys: &'a [FetchKey],
-    mark: Mark,
-) -> Result<(), AllocError> {
-    for key in keys {
-        lines.push(Line {
-            mark,
-            label: Label::Key(key),
-            batch: None,
-        })?;
-    }
-    Ok(())
 }
 
 /// Why a call is refused, by its name.
@@ -192,32 +160,28 @@ fn fault_name(fault: DeskFault) -> &'static str {
 // ---- batches
 
 /// A column for each batch, with its keys and how far it has come.
-fn batch_columns<'a>(alloc: Global, desk: &'a Desk) -> Result<Vec<Column<'a>>, AllocError> {
-    let mut columns = Vec::new(alloc);
+fn add_batches(drawing: &mut Drawing, desk: &Desk) -> Result<(), AllocError> {
     for number in 0..u32::MAX {
         match desk.batch(number) {
-            Some(batch) => columns.push(batch_column(alloc, number, &batch)?)?,
-            None => return Ok(columns),
+            Some(batch) => drawing.add_column(&batch_column(number, &batch))?,
+            None => return Ok(()),
         }
     }
-    Ok(columns)
+    Ok(())
 }
 
 /// The column of a batch.
-fn batch_column<'a>(
-    alloc: Global,
-    number: u32,
-    batch: &BatchView<'a>,
-) -> Result<Column<'a>, AllocError> {
+fn batch_column<'a>(number: u32, batch: &BatchView<'a>) -> Column<'a> {
     let (state, mark) = match batch.state() {
         BatchState::Collecting => ("collecting", Mark::Fresh),
         BatchState::Sent => ("sent", Mark::Fresh),
         BatchState::Settled => ("settled", Mark::Fresh),
         BatchState::Failed => ("failed", Mark::Failed),
     };
-    let mut lines = Vec::new(alloc);
-    push_keys(&mut lines, batch.keys(), mark)?;
-    let heading = format!(in alloc; "batch {number} {state}")?;
-    let side = count_text(alloc, lines.len(), "key", "keys")?;
-    Column::new(alloc, heading, side, lines)
+    let keys = batch.keys();
+    Column {
+        heading: Phrase::Batch(number, state),
+        side: Phrase::count(keys.len(), "key", "keys"),
+        lines: Lines::Keys { keys, mark },
+    }
 }

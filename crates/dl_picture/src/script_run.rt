@@ -15,7 +15,6 @@ use std::alloc::{AllocError, Global};
 use std::hash::RandomState;
 
 /// What a call of a script is answered.
-#[derive(Drop)]
 pub enum CallAnswer {
     /// A load.
     Load(LoadReply),
@@ -31,11 +30,31 @@ pub enum CallAnswer {
     Refused(DeskFault),
 }
 
+impl Drop for CallAnswer {
+    fn drop(self) {
+        match self {
+            CallAnswer::Many(replies) => drop(replies),
+            CallAnswer::Load(_)
+            | CallAnswer::Prime(_)
+            | CallAnswer::Done
+            | CallAnswer::Sent(_)
+            | CallAnswer::Refused(_) => {}
+        }
+    }
+}
+
 /// What a script leaves: what each of its calls was answered, in order, and the desk that answered them.
-#[derive(Drop)]
 pub struct ScriptRun {
     pub answers: Vec<CallAnswer>,
     pub desk: Desk,
+}
+
+impl Drop for ScriptRun {
+    fn drop(self) {
+        let ScriptRun { answers, desk } = self;
+        drop(answers);
+        drop(desk);
+    }
 }
 
 /// Makes the calls of a script on one desk, in order. The desk hashes keys by `hashing`, of which nothing is seen. The error

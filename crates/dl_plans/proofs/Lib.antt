@@ -1,5 +1,6 @@
 pub mod CommandMatches
 pub mod Bytes
+pub mod MigratedAnswers
 pub mod Runs
 pub mod Scripts
 pub mod Texts

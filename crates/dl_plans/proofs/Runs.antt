@@ -13,6 +13,8 @@ use Rattle.dl_documents.specs.declared.fault.PlanFault.TheVariants.{TooLarge, No
 use Rattle.dl_documents.specs.declared.fault.PlanFault.TheVariants.{Table, Limit, OutOfMemory}
 use Rattle.dl_documents.specs.declared.input.Input.{Input}
 use Rattle.dl_documents.specs.declared.input.Input.TheVariants as input
+use Rattle.dl_migration.specs.Migration.{IsMigrated, IsOther}
+use Rattle.dl_plans.specs.Migration.{IsNotMigrated}
 use Rattle.dl_plans.specs.Run.{IsOutput, AppendsFront, IsDocument, IsRefused, Writes, WritesFront}
 use Rattle.dl_plans.specs.declared.fault.RunError.{RunError}
 use Rattle.dl_plans.specs.declared.fault.RunError.TheVariants as error
@@ -26,32 +28,48 @@ all_read bytes h = take_all MOST_READ bytes (omega (arith, length-take {A = ℕ}
 document_all : (bytes : List ℕ) (i : Input) → IsDocument (take MOST_READ bytes) i → IsDocument bytes i
 document_all bytes i d = rw (all_read bytes d.small) at d
 
-output_all : (options : Options) (bytes text : List ℕ) → IsOutput options (take MOST_READ bytes) text → IsOutput options bytes text
+pub output_all : (options : Options) (bytes text : List ℕ) → IsOutput options (take MOST_READ bytes) text → IsOutput options bytes text
 output_all options bytes text a = (a.0, document_all bytes a.0 a.1, a.2)
 
-pub run_writes : (options : Options) (held : Option (List ℕ)) (read text : List ℕ) (old new : Option (List ℕ))
-    → IfSome held (λ bytes. read ≡ take MOST_READ bytes) → IsOutput options read text → Appends old new text → IfSome held (Writes options old new)
-run_writes options None read text old new is a written = tt
-run_writes options (Some bytes) read text old new is a written =
-    record { text = text; output = output_all options bytes text (rw is at a); written = written }
+-- bytes to which no refusal applies are as few as a document has
+within : (bytes : List ℕ) → ((f : PlanFault) → Applies bytes f → ⊥) → length bytes ≤ most_bytes
+within bytes passes = elim (cases_lt most_bytes (length bytes)) [ inl many ↦ absurd (passes TooLarge many) | inr few ↦ few ]
 
-pub run_writes_front : (options : Options) (held : Option (List ℕ)) (read text : List ℕ) (old new : Option (List ℕ))
-    → IfSome held (λ bytes. read ≡ take MOST_READ bytes) → IsOutput options read text → AppendsFront old new text → IfSome held (WritesFront options old new)
-run_writes_front options None read text old new is a written = tt
-run_writes_front options (Some bytes) read text old new is a written =
-    record { text = text; output = output_all options bytes text (rw is at a); written = written }
+pub migrated_all : (bytes text : List ℕ) → IsMigrated (take MOST_READ bytes) text → IsMigrated bytes text
+migrated_all bytes text m = rw (all_read bytes (within (take MOST_READ bytes) m.reads.passes)) at m
+
+other_all : (bytes : List ℕ) → IsOther (take MOST_READ bytes) → IsOther bytes
+other_all bytes o = rw (all_read bytes (within (take MOST_READ bytes) o.reads.passes)) at o
+
+-- what is given for the first bytes is given for all
+abbrev pub IsForAll : (List ℕ → List ℕ → Type 0) → Type 0
+IsForAll IsGiven = (bytes text : List ℕ) → IsGiven (take MOST_READ bytes) text → IsGiven bytes text
+
+pub run_writes : (IsGiven : List ℕ → List ℕ → Type 0) (all : IsForAll IsGiven) (held : Option (List ℕ)) (read text : List ℕ)
+    (old new : Option (List ℕ)) → IfSome held (λ bytes. read ≡ take MOST_READ bytes) → IsGiven read text → Appends old new text
+    → IfSome held (Writes IsGiven old new)
+run_writes IsGiven all None read text old new is a written = tt
+run_writes IsGiven all (Some bytes) read text old new is a written =
+    record { text = text; given = all bytes text (rw is at a); written = written }
+
+pub run_writes_front : (IsGiven : List ℕ → List ℕ → Type 0) (all : IsForAll IsGiven) (held : Option (List ℕ)) (read text : List ℕ)
+    (old new : Option (List ℕ)) → IfSome held (λ bytes. read ≡ take MOST_READ bytes) → IsGiven read text → AppendsFront old new text
+    → IfSome held (WritesFront IsGiven old new)
+run_writes_front IsGiven all None read text old new is a written = tt
+run_writes_front IsGiven all (Some bytes) read text old new is a written =
+    record { text = text; given = all bytes text (rw is at a); written = written }
 
 -- the same of a write that may have failed
-pub run_ok : (options : Options) (written : Result (Unit {0}) RunError) (held : Option (List ℕ)) (read text : List ℕ) (old new : Option (List ℕ))
-    → IfSome held (λ bytes. read ≡ take MOST_READ bytes) → IsOutput options read text → OnOk written (Appends old new text)
-    → OnOk written (IfSome held (Writes options old new))
-run_ok options (Ok u) held read text old new is a h = run_writes options held read text old new is a h
-run_ok options (Err e) held read text old new is a h = tt
+pub run_ok : (IsGiven : List ℕ → List ℕ → Type 0) (all : IsForAll IsGiven) (written : Result (Unit {0}) RunError) (held : Option (List ℕ))
+    (read text : List ℕ) (old new : Option (List ℕ)) → IfSome held (λ bytes. read ≡ take MOST_READ bytes) → IsGiven read text
+    → OnOk written (Appends old new text) → OnOk written (IfSome held (Writes IsGiven old new))
+run_ok IsGiven all (Ok u) held read text old new is a h = run_writes IsGiven all held read text old new is a h
+run_ok IsGiven all (Err e) held read text old new is a h = tt
 
 -- what was read of bytes that no refusal applies to
 pub document_read : (bytes : List ℕ) (i : Input) → ((d : Data) × IsTextOf bytes d × Spells d i) → ((f : PlanFault) → Applies bytes f → ⊥) → IsDocument bytes i
 document_read bytes i p passes = record {
-  small = elim (cases_lt most_bytes (length bytes)) [ inl many ↦ absurd (passes TooLarge many) | inr few ↦ few ];
+  small = within bytes passes;
   tree = p.0;
   is_text = p.1;
   spells = p.2;
@@ -105,9 +123,23 @@ refused_all options bytes (error.Refused f) h = refused_by bytes f (either_size 
 refused_all options bytes (error.Run f) h = (h.0, document_all bytes (input.Plans h.0) h.1, h.2)
 refused_all options bytes error.Write h = h
 refused_all options bytes error.OutOfMemory h = h
+refused_all options bytes error.NotVersion1 h = h
+
+not_migrated_all : (bytes : List ℕ) (e : RunError) → IsNotMigrated (take MOST_READ bytes) e → IsNotMigrated bytes e
+not_migrated_all bytes error.Read h = h
+not_migrated_all bytes (error.Refused f) h = refused_by bytes f (either_size (length bytes)) h
+not_migrated_all bytes (error.Run f) h = h
+not_migrated_all bytes error.Write h = h
+not_migrated_all bytes error.OutOfMemory h = h
+not_migrated_all bytes error.NotVersion1 h = other_all bytes h
 
 -- what is refused of the first bytes is refused of all
 pub run_refused : (options : Options) (held : Option (List ℕ)) (read : List ℕ) (e : RunError) → IfSome held (λ bytes. read ≡ take MOST_READ bytes)
     → IsRefused options read e → IfSome held (λ bytes. IsRefused options bytes e)
 run_refused options None read e is h = tt
 run_refused options (Some bytes) read e is h = refused_all options bytes e (rw is at h)
+
+pub migrate_refused : (held : Option (List ℕ)) (read : List ℕ) (e : RunError) → IfSome held (λ bytes. read ≡ take MOST_READ bytes)
+    → IsNotMigrated read e → IfSome held (λ bytes. IsNotMigrated bytes e)
+migrate_refused None read e is h = tt
+migrate_refused (Some bytes) read e is h = not_migrated_all bytes e (rw is at h)

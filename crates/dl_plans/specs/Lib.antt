@@ -1,7 +1,9 @@
 pub mod JsonText
 pub mod Lines
+pub mod MigratedAnswers
 pub mod Output
 pub mod ReportText
 pub mod Options
 pub mod Run
+pub mod Migration
 pub mod Status

@@ -1,7 +1,7 @@
 -- The command line of `plans`, and what its matches give.
-use Rattle.std.specs.Prelude.{◌≡◌, ◌≤◌, ℕ, ◌∷◌, [], List, true, false, pos, codes, Some}
+use Rattle.std.specs.Prelude.{◌≡◌, ◌≤◌, ◌↔◌, ℕ, ◌∷◌, [], List, true, false, IsTrue, pos, codes, Option, Some, option_map}
 use Rattle.std.specs.Str.Parse.{digits_value, without_leading_plus, IsNumeral}
-use Rattle.clap.specs.Words.{App, Shape, Row, Rule, Text, new_app, new_rule, one_of, with_rule}
+use Rattle.clap.specs.Words.{App, Shape, Row, Rule, Text, new_app, new_rule, one_of, with_rule, with_subcommand}
 use Rattle.clap.specs.Simple.{on_top}
 use Rattle.clap.specs.declared.builder.action.ArgAction.TheVariants.{SetTrue}
 use Rattle.clap.specs.declared.builder.value_parser.ValueParser.TheVariants as vp
@@ -25,9 +25,18 @@ batches_rule = record (new_rule (codes "batches")) { long = Some (codes "batches
 abbrev pub without_name : Shape → Shape
 without_name s = record s { no_binary_name = true }
 
+-- `migrate`, which has no option
+abbrev pub migrate_app : App
+migrate_app = new_app (codes "migrate")
+
 -- the command line
 abbrev pub plans_app : App
-plans_app = with_rule (with_rule (on_top without_name (new_app (codes "plans"))) workers_rule) batches_rule
+plans_app =
+    with_subcommand (with_rule (with_rule (on_top without_name (new_app (codes "plans"))) workers_rule) batches_rule) migrate_app.top
+
+-- the name of a subcommand that was used, beside what its own matches give
+abbrev pub name_of : Option (Text × List Row) → Option Text
+name_of = option_map (λ used. used.0)
 
 -- a text is this number in decimal
 pub record IsDecimal (text : Text) (n : ℕ) : Type 0 where
@@ -40,10 +49,11 @@ pub record GivesNumber (rows : List Row) (id : Text) (n : ℕ) : Type 0 where
   pub row : one_of id rows ≡ Some text
   pub decimal : IsDecimal text n
 
--- the options that the matches give
-pub record AreGiven (rows : List Row) (o : Options) : Type 0 where
+-- the options that the matches give, and the subcommand that was used
+pub record AreGiven (rows : List Row) (used : Option (Text × List Row)) (o : Options) : Type 0 where
   pub workers : GivesNumber rows (codes "workers") o.workers
   pub least : 1 ≤ o.workers
   pub most : o.workers ≤ most_workers
   pub batches : one_of (codes "batches") rows ≡ Some (codes "true") → o.batches ≡ true
   pub no_batches : one_of (codes "batches") rows ≡ Some (codes "false") → o.batches ≡ false
+  pub migrate : IsTrue o.migrate ↔ (name_of used ≡ Some (codes "migrate"))

@@ -17,7 +17,7 @@ use Rattle.dl_scope.specs.declared.setup.Setup.{Setup}
 use Rattle.dl_plans.specs.Output.{script_text}
 use Rattle.dl_plans.specs.ReportText.{report_text}
 use Rattle.dl_plans.specs.declared.fault.RunError.{RunError}
-use Rattle.dl_plans.specs.declared.fault.RunError.TheVariants.{Read, Refused, Run, Write, OutOfMemory}
+use Rattle.dl_plans.specs.declared.fault.RunError.TheVariants.{Read, Refused, Run, Write, OutOfMemory, NotVersion1}
 use Rattle.dl_plans.specs.declared.settings.Options.{Options}
 
 -- ---- what is read
@@ -67,16 +67,16 @@ pub record AppendsFront (old new : Option (List ℕ)) (text : List ℕ) : Type 0
   pub within : count ≤ length text
   pub written : Appends old new (take count text)
 
--- the writer has gained an output for the bytes
-pub record Writes (options : Options) (old new : Option (List ℕ)) (bytes : List ℕ) : Type 0 where
+-- the writer has gained a text that is given for the bytes
+pub record Writes (IsGiven : List ℕ → List ℕ → Type 0) (old new : Option (List ℕ)) (bytes : List ℕ) : Type 0 where
   pub text : List ℕ
-  pub output : IsOutput options bytes text
+  pub given : IsGiven bytes text
   pub written : Appends old new text
 
--- the writer has gained a front of an output for the bytes
-pub record WritesFront (options : Options) (old new : Option (List ℕ)) (bytes : List ℕ) : Type 0 where
+-- the writer has gained a front of a text that is given for the bytes
+pub record WritesFront (IsGiven : List ℕ → List ℕ → Type 0) (old new : Option (List ℕ)) (bytes : List ℕ) : Type 0 where
   pub text : List ℕ
-  pub output : IsOutput options bytes text
+  pub given : IsGiven bytes text
   pub written : AppendsFront old new text
 
 -- ---- refusals
@@ -87,10 +87,11 @@ IsNotServed options bytes fault = (file : PlanFile) × IsDocument bytes (input.P
     × RefusedAs (file_service options file) (setup_of options file) file.plans.items fault
 
 -- where the error says that a document is refused, the refusal is the first that applies to it; where it says that plans aren't
--- served, they are those of the document
+-- served, they are those of the document; each version is answered
 abbrev pub IsRefused : Options → List ℕ → RunError → Type 0
 IsRefused options bytes Read = Unit {0}
 IsRefused options bytes (Refused fault) = IsLeast (Applies bytes) fault
 IsRefused options bytes (Run fault) = IsNotServed options bytes fault
 IsRefused options bytes Write = Unit {0}
 IsRefused options bytes OutOfMemory = Unit {0}
+IsRefused options bytes NotVersion1 = ⊥

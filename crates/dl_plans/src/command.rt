@@ -1,7 +1,7 @@
 //! The command line.
 
 ghost use Rattle.std.specs.Prelude.{◌≡◌, IfOk, IfSome, map, false};
-ghost use Rattle.clap.specs.Words.{app_of, rule_of, found_of, matches_of, rows_of};
+ghost use Rattle.clap.specs.Words.{app_of, rule_of, found_of, matches_of, rows_of, subcommand_of, subcommand_rows_of};
 ghost use Rattle.dl_plans.specs.Options.{plans_app, workers_rule, batches_rule, AreGiven};
 
 use crate::settings::Options;
@@ -10,13 +10,14 @@ use clap::{Arg, ArgAction, ArgMatches, Command, Error, value_parser};
 use std::alloc::{AllocError, Global};
 use std::convert::AsStr;
 
-/// The options that the words behind the program's name give: `[--workers N] [--batches]`, with N
-/// from 1 to 16, and 3 where it is not given.
+/// The options that the words behind the program's name give: `[--workers N] [--batches] [migrate]`, with N
+/// from 1 to 16, and 3 where it is not given. Behind `migrate` stands no option.
 ///
 /// # Errors
 /// A request for help, with the help as its text, and words of another form.
 pub fn options<'a, S: AsStr>(alloc: Global, words: &'a [S]) -> Result<Options, Error>
-    ensures { IfOk result (AreGiven (matches_of plans_app (map S.text words.entry.now))) }
+    ensures { let texts = map S.text words.entry.now in
+        IfOk result (AreGiven (matches_of plans_app texts) (subcommand_of plans_app texts)) }
 {
     let mut command = command(alloc)?;
     match read(&mut command, words)? {
@@ -41,7 +42,8 @@ fn refusal(alloc: Global, message: &str) -> Result<Error, Error> {
 /// The options that the words give by the command line, if the number of workers is in range.
 fn read<'a, S: AsStr>(command: &mut Command<'a>, words: &'a [S]) -> Result<Option<Options>, Error>
     requires { app_of command.old ≡ plans_app }
-    ensures { IfOk result (λ options. IfSome options (AreGiven (matches_of plans_app (map S.text words.entry.now)))) }
+    ensures { let texts = map S.text words.entry.now in
+        IfOk result (λ options. IfSome options (AreGiven (matches_of plans_app texts) (subcommand_of plans_app texts))) }
 {
     let matches = command.try_get_matches_from_mut(words)?;
     Ok(given(&matches))
@@ -51,11 +53,15 @@ fn read<'a, S: AsStr>(command: &mut Command<'a>, words: &'a [S]) -> Result<Optio
 fn command<'a>(alloc: Global) -> Result<Command<'a>, AllocError>
     ensures { IfOk result (λ c. app_of c ≡ plans_app) }
 {
+    let migrate = Command::new(alloc, "migrate")
+        .about("Writes a plan file of version 1 as one of version 2")
+        .override_usage("plans migrate");
     Command::new(alloc, "plans")
         .about("Answers a document that stands on standard input")
         .no_binary_name(true)
         .arg(workers(alloc))?
-        .arg(batches(alloc))
+        .arg(batches(alloc))?
+        .subcommand(migrate)
 }
 
 /// `--workers N`.
@@ -84,7 +90,7 @@ fn batches<'a>(alloc: Global) -> Arg<'a>
 
 /// The options of the matches, if the number of workers is in range.
 fn given(matches: &ArgMatches) -> Option<Options>
-    ensures { IfSome result (AreGiven (rows_of (found_of matches.now))) }
+    ensures { IfSome result (AreGiven (rows_of (found_of matches.now)) (subcommand_rows_of matches.now)) }
 {
     let workers = matches.get_one::<u32>("workers")?;
     if !(1..=16).contains(&workers) {
@@ -93,5 +99,6 @@ fn given(matches: &ArgMatches) -> Option<Options>
     Some(Options {
         workers,
         batches: matches.get_flag("batches"),
+        migrate: matches.subcommand_matches("migrate").is_some(),
     })
 }

@@ -2,6 +2,7 @@
 
 use crate::command::{options, unreadable};
 use crate::fault::RunError;
+use crate::migration::run_migrate;
 use crate::program::run;
 use crate::settings::Options;
 use crate::status::{FAILED, RAN, command_status, words_status};
@@ -67,7 +68,7 @@ fn obey<R: RandomSource + Input + Print + Eprint + AllocGlobal, T: Threads + Wai
     }
 }
 
-/// Answers the document, or says on standard error why not. Its keys come from strangers, so they are hashed
+/// Answers the document or migrates it, or says on standard error why not. Its keys come from strangers, so they are hashed
 /// by random numbers of this run.
 fn answer<R: RandomSource + Input + Print + Eprint + AllocGlobal, T: Threads + Wait + Sync>(
     rt: &R,
@@ -78,18 +79,26 @@ fn answer<R: RandomSource + Input + Print + Eprint + AllocGlobal, T: Threads + W
         let _ = eprintln!(rt; "failed: random numbers");
         return FAILED;
     };
-    match run(
-        threads,
-        rt.alloc(),
-        hashing,
-        &mut rt.reader(),
-        &mut io::writer(rt),
-        options,
-    ) {
+    match written(rt, threads, hashing, options) {
         Ok(()) => RAN,
         Err(error) => {
             let _ = eprintln!(rt; "{error}");
             error.status()
         }
+    }
+}
+
+/// Writes what the options ask for to standard output: the document that stands on standard input as version 2, or what it gives.
+fn written<R: Input + Print + AllocGlobal, T: Threads + Wait + Sync>(
+    rt: &R,
+    threads: &T,
+    hashing: RandomState,
+    options: Options,
+) -> Result<(), RunError> {
+    let (alloc, mut reader, mut writer) = (rt.alloc(), rt.reader(), io::writer(rt));
+    if options.migrate {
+        run_migrate(alloc, hashing, &mut reader, &mut writer)
+    } else {
+        run(threads, alloc, hashing, &mut reader, &mut writer, options)
     }
 }

@@ -22,6 +22,9 @@ pub enum RunError {
     /// An allocation failed. Nothing is written.
     #[error("failed: memory")]
     OutOfMemory,
+    /// What was read is to be migrated, and is a script or a plan file of version 2. Nothing is written.
+    #[error("refused: not version 1")]
+    NotVersion1,
 }
 
 /// The name of a fault.

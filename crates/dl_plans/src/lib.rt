@@ -7,7 +7,9 @@ mod command;
 mod entry;
 mod fault;
 mod json_text;
+pub mod laws;
 mod lines;
+mod migration;
 mod program;
 mod report;
 mod script_text;
@@ -18,8 +20,10 @@ pub use command::options;
 pub use dl_documents::{
     Calls, Input, MOST_BYTES, PlanFault, PlanFile, Script, ScriptCall, read_input,
 };
+pub use dl_migration::{MigrateFault, migrate};
 pub use entry::{plans, tell_no_options, words};
 pub use fault::RunError;
+pub use migration::run_migrate;
 pub use program::{read_all, run, served, write_all};
 pub use report::report_text;
 pub use script_text::run_script;

@@ -45,9 +45,9 @@ pub fn run<R: Read, W: Write, T: Threads + Wait + Sync>(
     writer: &mut W,
     options: Options,
 ) -> Result<(), RunError>
-    ensures ok { OnOk result (IfSome (R.remaining reader.old) (Writes options (W.contents writer.old) (W.contents writer.new))) }
+    ensures ok { OnOk result (IfSome (R.remaining reader.old) (Writes (IsOutput options) (W.contents writer.old) (W.contents writer.new))) }
     ensures refused { IfErr result (λ e. IfSome (R.remaining reader.old) (λ bytes. IsRefused options bytes e)) }
-    ensures write { result ≡ Err RunError.Write → IfSome (R.remaining reader.old) (WritesFront options (W.contents writer.old) (W.contents writer.new)) }
+    ensures write { result ≡ Err RunError.Write → IfSome (R.remaining reader.old) (WritesFront (IsOutput options) (W.contents writer.old) (W.contents writer.new)) }
     ensures reads { ReadsAtMost (most_bytes + 1) (R.remaining reader.old) (R.remaining reader.new) }
     ensures untouched { IfErr result (λ e. e ≢ RunError.Write → Keeps (W.contents writer.old) (W.contents writer.new)) }
 {

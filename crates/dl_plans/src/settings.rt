@@ -7,4 +7,9 @@ pub struct Options {
     pub workers: u32,
     /// Whether the rounds and batches of a plan file with exactly one plan are printed.
     pub batches: bool,
+    /// Whether a plan file of version 1 is written as version 2, and not answered: [`run_migrate`] is called, and [`run`] not.
+    ///
+    /// [`run`]: crate::run
+    /// [`run_migrate`]: crate::run_migrate
+    pub migrate: bool,
 }

@@ -12,7 +12,7 @@ use std::io;
 /// The status of a run, and of a request for help.
 pub const RAN: u8 = 0;
 
-/// The status of a document that is refused.
+/// The status of a document that is refused, or that isn't of the version that is asked for.
 const REFUSED: u8 = 1;
 
 /// The status of a command line that is refused.
@@ -22,12 +22,13 @@ const USAGE: u8 = 2;
 pub const FAILED: u8 = 3;
 
 impl RunError {
-    /// The status with which a run that fails so ends the program: 1 where the document is refused, and else 3.
+    /// The status with which a run that fails so ends the program: 1 where the document is refused or isn't of version 1 and
+    /// is to be migrated, and else 3.
     pub fn status(&self) -> u8
         ensures { result ≡ run_status self.now }
     {
         match self {
-            RunError::Refused(_) => REFUSED,
+            RunError::Refused(_) | RunError::NotVersion1 => REFUSED,
             RunError::Read | RunError::Run(_) | RunError::Write | RunError::OutOfMemory => FAILED,
         }
     }

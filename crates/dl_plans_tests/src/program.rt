@@ -1,10 +1,10 @@
-//! `run` over readers and writers, the lines of its failures, and the command line.
+//! `run` and `run_migrate` over readers and writers, the lines of their failures, and the command line.
 
 use crate::comparison::assert_is;
 use dl_documents::PlanFault;
 use dl_haxl::RunFault;
 use dl_loader::{CallFault, CloseFault, StartFault};
-use dl_plans::{Options, RunError, options, run};
+use dl_plans::{Options, RunError, options, run, run_migrate};
 use dl_scope::ScopeFault;
 use dl_workers::QueueFault;
 use std::alloc::Global;
@@ -15,7 +15,7 @@ use std::random::RandomSource;
 use std::sync::Wait;
 use std::thread::Threads;
 
-/// A plan file whose one plan takes two rounds, and the text that it gives with its batches.
+/// A plan file whose one plan takes two rounds, the text that it gives with its batches, and the file as version 2.
 const DOCUMENT: &str = concat!(
     r#"{"version":1,"maxBatchSize":2,"tables":[{"name":"user","rows":["#,
     r#"["u1",{"best":"u2","friends":["u2","u3"],"name":"Ada"}],["u2",{"best":"u1","friends":[],"name":"Bob"}],"#,
@@ -26,10 +26,18 @@ const DOCUMENT: &str = concat!(
 const TEXT: &str =
     "0 0 ok \"Bob\"\nrounds 2\nbatch 0 [[\"user\",\"u1\"]] settled\nbatch 1 [[\"user\",\"u2\"]] settled\n";
 
+const MIGRATED: &str = concat!(
+    r#"{"maxBatchSize":2,"plans":[[{"eval":{"pick":[{"follow":[{"load":["user","u1"]},"best","user"]},"name"]}}]],"#,
+    r#""tables":[{"breaks":[["u13","db down"]],"errors":[["u9","gone"]],"name":"user","rows":["#,
+    r#"["u1",{"best":"u2","friends":["u2","u3"],"name":"Ada"}],["u2",{"best":"u1","friends":[],"name":"Bob"}],"#,
+    r#"["u3",{"name":"Cy"}]]}],"version":2}"#
+);
+
 /// The options of no words, and those with batches.
 const OPTIONS: Options = Options {
     workers: 3,
     batches: false,
+    migrate: false,
 };
 
 const BATCHES: Options = Options {
@@ -69,6 +77,7 @@ enum Ends {
 /// A writer that takes so many bytes of a text that is wanted, at most 10 a write, and then no more.
 #[derive(Drop)]
 struct Cut {
+    text: &'static str,
     rest: &'static [u8],
     room: usize,
     ends: Ends,
@@ -106,25 +115,49 @@ fn whole() -> Drip {
     }
 }
 
-/// A writer that takes so many bytes of the text, and then ends so.
-fn writer(room: usize, ends: Ends) -> Cut {
+/// What the program is asked for: what a document gives, with its batches, or the document as version 2.
+#[derive(Clone, Copy)]
+enum Mode {
+    Answering,
+    Migrating,
+}
+
+static MODES: [Mode; 2] = [Mode::Answering, Mode::Migrating];
+
+/// A writer that takes so many bytes of what the document gives in the mode, and then ends so.
+fn writer(mode: Mode, room: usize, ends: Ends) -> Cut {
+    let text = match mode {
+        Mode::Answering => TEXT,
+        Mode::Migrating => MIGRATED,
+    };
     Cut {
-        rest: TEXT.as_bytes(),
+        text,
+        rest: text.as_bytes(),
         room,
         ends,
         differs: false,
     }
 }
 
-/// What the program is run with.
+/// What the program is run with, and in which mode.
 #[derive(Drop)]
 struct Scene<'a, R: Abort + Threads + Wait + Sync> {
     rt: &'a R,
     alloc: Global,
     hashing: RandomState,
+    mode: Mode,
 }
 
 impl<'a, R: Abort + Threads + Wait + Sync> Scene<'a, R> {
+    /// Runs the program on a reader and a writer.
+    fn run_on<I: Read>(&self, reader: &mut I, writer: &mut Cut) -> Result<(), RunError> {
+        let (alloc, hashing) = (self.alloc, self.hashing);
+        match self.mode {
+            Mode::Answering => run(self.rt, alloc, hashing, reader, writer, BATCHES),
+            Mode::Migrating => run_migrate(alloc, hashing, reader, writer),
+        }
+    }
+
     /// A run of the program on a reader and a writer ends so, and so many bytes of the text are written and nothing else.
     fn assert_run(
         &self,
@@ -133,32 +166,62 @@ impl<'a, R: Abort + Threads + Wait + Sync> Scene<'a, R> {
         want: Result<(), RunError>,
         written: usize,
     ) {
-        let (alloc, hashing) = (self.alloc, self.hashing);
-        let ran = run(self.rt, alloc, hashing, &mut reader, &mut writer, BATCHES);
+        let ran = self.run_on(&mut reader, &mut writer);
         assert_is(self.rt, &ran, &want, "how it ends");
         assert!(self.rt; !writer.differs, "another text");
         let all = writer.rest.len().saturating_add(written);
         let about = "what is written, and what is left";
-        assert_is(self.rt, &all, &TEXT.len(), about);
+        assert_is(self.rt, &all, &writer.text.len(), about);
     }
 
     /// A writer fails, or takes nothing more, once it took so many bytes, which are the front of the text.
     fn assert_front(&self, room: usize) {
         let want = Err(RunError::Write);
-        let failing = writer(room, Ends::Failing);
+        let failing = writer(self.mode, room, Ends::Failing);
         self.assert_run(whole(), failing, want, room);
-        let full = writer(room, Ends::TakingNothing);
+        let full = writer(self.mode, room, Ends::TakingNothing);
         self.assert_run(whole(), full, want, room);
+    }
+
+    /// A writer fails after each number of bytes of the text, and then in its flush, and then it doesn't fail.
+    fn assert_fronts(&self) {
+        let unflushed = writer(self.mode, usize::MAX, Ends::FailingToFlush);
+        let all = unflushed.text.len();
+        for room in 0..all {
+            self.assert_front(room);
+        }
+        self.assert_run(whole(), unflushed, Err(RunError::Write), all);
+        let good = writer(self.mode, usize::MAX, Ends::TakingNothing);
+        self.assert_run(whole(), good, Ok(()), all);
+    }
+
+    /// A run ends with all of the text written, or out of memory with nothing written.
+    fn assert_whole_or_nothing(&self) {
+        let mut reader = whole();
+        let mut writer = writer(self.mode, usize::MAX, Ends::TakingNothing);
+        let ran = self.run_on(&mut reader, &mut writer);
+        let left = if ran.is_ok() { 0 } else { writer.text.len() };
+        assert_is(self.rt, &writer.rest.len(), &left, "what isn't written");
+        assert!(self.rt; !writer.differs, "another text");
+        if let Err(error) = ran {
+            assert!(self.rt; is_for_want_of_memory(error), "a run met {error:?}");
+        }
     }
 }
 
-/// What a test runs the program with.
+/// What a test runs the program with, in the mode.
 fn make_scene<R: Abort + RandomSource + Threads + Wait + Sync>(
     rt: &R,
     alloc: Global,
+    mode: Mode,
 ) -> Scene<'_, R> {
     let hashing = RandomState::new(rt).expect(rt, "no random numbers");
-    Scene { rt, alloc, hashing }
+    Scene {
+        rt,
+        alloc,
+        hashing,
+        mode,
+    }
 }
 
 /// How many reads are good, and how the next one fails.
@@ -170,16 +233,18 @@ static READS: [(usize, ErrorKind); 3] = [
 
 #[test]
 fn a_reader_that_fails_leaves_nothing_written(rt: HostRuntime) {
-    let scene = make_scene(&rt, rt.alloc());
-    for (good_reads, kind) in &READS {
-        let reader = Drip {
-            good_reads: *good_reads,
-            kind: *kind,
-            ..whole()
-        };
-        let writer = writer(usize::MAX, Ends::TakingNothing);
-        let want = Err(RunError::Read);
-        scene.assert_run(reader, writer, want, 0);
+    for mode in &MODES {
+        let scene = make_scene(&rt, rt.alloc(), *mode);
+        for (good_reads, kind) in &READS {
+            let reader = Drip {
+                good_reads: *good_reads,
+                kind: *kind,
+                ..whole()
+            };
+            let writer = writer(*mode, usize::MAX, Ends::TakingNothing);
+            let want = Err(RunError::Read);
+            scene.assert_run(reader, writer, want, 0);
+        }
     }
 }
 
@@ -192,44 +257,42 @@ static SPACES: [(u64, u64, PlanFault); 3] = [
 
 #[test]
 fn one_byte_more_than_a_document_is_read(rt: HostRuntime) {
-    let hashing = RandomState::new(&rt).expect(&rt, "no random numbers");
-    for (spaces, left, want) in &SPACES {
-        let mut reader = io::repeat(b' ').take(*spaces);
-        let mut writer = writer(usize::MAX, Ends::TakingNothing);
-        let ran = run(&rt, rt.alloc(), hashing, &mut reader, &mut writer, OPTIONS);
-        assert_is(&rt, &ran, &Err(RunError::Refused(*want)), "how it ends");
-        assert_is(&rt, &reader.limit(), left, "the spaces that are left");
-        assert_is(&rt, &writer.rest.len(), &TEXT.len(), "what isn't written");
+    for mode in &MODES {
+        let scene = make_scene(&rt, rt.alloc(), *mode);
+        for (spaces, left, want) in &SPACES {
+            let mut reader = io::repeat(b' ').take(*spaces);
+            let mut writer = writer(*mode, usize::MAX, Ends::TakingNothing);
+            let ran = scene.run_on(&mut reader, &mut writer);
+            assert_is(&rt, &ran, &Err(RunError::Refused(*want)), "how it ends");
+            assert_is(&rt, &reader.limit(), left, "the spaces that are left");
+            let unwritten = writer.rest.len();
+            assert_is(&rt, &unwritten, &writer.text.len(), "what isn't written");
+        }
     }
 }
 
 #[test]
 fn a_writer_that_fails_has_a_front(rt: HostRuntime) {
-    let scene = make_scene(&rt, rt.alloc());
-    let all = TEXT.len();
-    for room in 0..all {
-        scene.assert_front(room);
+    for mode in &MODES {
+        make_scene(&rt, rt.alloc(), *mode).assert_fronts();
     }
-    let unflushed = writer(usize::MAX, Ends::FailingToFlush);
-    let want = Err(RunError::Write);
-    scene.assert_run(whole(), unflushed, want, all);
-    let good = writer(usize::MAX, Ends::TakingNothing);
-    scene.assert_run(whole(), good, Ok(()), all);
 }
 
-// Under `rt try --test --fail-alloc N` each growth is refused in turn. Where that isn't one of `run` the test ends.
+// Under `rt try --test --fail-alloc N` each growth is refused in turn. Where that isn't one of `run` or `run_migrate` the test
+// ends.
 #[test]
 fn a_refused_growth(rt: HostRuntime) {
     let Ok(hashing) = RandomState::new(&rt) else {
         return;
     };
-    let (mut reader, mut writer) = (whole(), writer(usize::MAX, Ends::TakingNothing));
-    let ran = run(&rt, rt.alloc(), hashing, &mut reader, &mut writer, BATCHES);
-    let left = if ran.is_ok() { 0 } else { TEXT.len() };
-    assert_is(&rt, &writer.rest.len(), &left, "what isn't written");
-    assert!(rt; !writer.differs, "another text");
-    if let Err(error) = ran {
-        assert!(rt; is_for_want_of_memory(error), "a run met {error:?}");
+    for mode in &MODES {
+        let scene = Scene {
+            rt: &rt,
+            alloc: rt.alloc(),
+            hashing,
+            mode: *mode,
+        };
+        scene.assert_whole_or_nothing();
     }
 }
 
@@ -250,7 +313,7 @@ fn is_for_want_of_memory(error: RunError) -> bool {
                 | ScopeFault::Stopped
                 | ScopeFault::Unfetched { .. }
         ),
-        RunError::Read | RunError::Refused(_) | RunError::Write => false,
+        RunError::Read | RunError::Refused(_) | RunError::Write | RunError::NotVersion1 => false,
     }
 }
 
@@ -324,24 +387,33 @@ fn failures_have_lines_and_statuses(rt: HostRuntime) {
 }
 
 /// Words of a command line, and the options that they are, or the status with which they end the program.
-static WORDS: [(&[&str], Result<Options, i32>); 6] = [
+static WORDS: [(&[&str], Result<Options, i32>); 8] = [
     (&[], Ok(OPTIONS)),
     (
         &["--batches", "--workers", "16"],
         Ok(Options {
             workers: 16,
-            batches: true,
+            ..BATCHES
         }),
     ),
     (
         &["--workers", "1"],
         Ok(Options {
             workers: 1,
-            batches: false,
+            ..OPTIONS
+        }),
+    ),
+    (
+        &["--workers", "1", "--batches", "migrate"],
+        Ok(Options {
+            workers: 1,
+            migrate: true,
+            ..BATCHES
         }),
     ),
     (&["--workers", "0"], Err(2)),
     (&["--workers", "17"], Err(2)),
+    (&["migrate", "--batches"], Err(2)),
     (&["--help"], Err(0)),
 ];
 

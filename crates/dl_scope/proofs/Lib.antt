@@ -5,6 +5,7 @@ mod TallyOfPasses
 mod ThreadSafety
 mod TaskLists
 mod EndCounts
+mod EqualAnswers
 mod OneEnd
 mod ThreadResults
 mod Headlines

@@ -1,4 +1,5 @@
 pub mod CarriedJobs
+pub mod EqualAnswers
 pub mod Faults
 pub mod Headline
 pub mod Inside

@@ -1,6 +1,7 @@
 //! Laws of what reports have, for every report. Each function does nothing: its contract is the law.
 
 ghost use Rattle.dl_scope.specs.CarriedJobs.{EachIsCarried, JobsAreBatches};
+ghost use Rattle.dl_scope.specs.EqualAnswers.{AnswersAreEqual};
 ghost use Rattle.dl_scope.specs.OwnAnswers.{AnswersAreOwn, OwnAnswersAreOne};
 
 /// The dispatches of a report's history handed out one job for each batch, also where batches were given up.
@@ -25,4 +26,12 @@ pub fn own_answers_are_one()
 {
     dl_haxl::laws::gives_once();
     dl_haxl::laws::gives_for_ever();
+}
+
+/// Reports over the same tables, of plans that evaluate the same terms at the same places, have the same answers, whatever the
+/// workers, limits and batches were, where no batch failed and no plan primes a key.
+pub fn answers_are_equal()
+    ensures { AnswersAreEqual }
+{
+    own_answers_are_one();
 }

@@ -8,7 +8,8 @@ use Rattle.dl_source.specs.declared.fault.TableFault.TheVariants.{Shape, BadKey,
 use Rattle.dl_source.specs.declared.table_reader.Version.{Version}
 use Rattle.dl_source.specs.Tables.{Tables}
 use Rattle.dl_source.specs.NumberedTables.{NumberedTable, tables_of}
-use Rattle.dl_source.specs.Faults.{has_bad_key, has_long_text, has_other_number, repeats, has_repeated_key, Has, Causes, number, IsLeast, RefusedFor}
+use Rattle.dl_values.specs.TableLimits.{repeats}
+use Rattle.dl_source.specs.Faults.{has_bad_key, has_long_text, has_other_number, has_repeated_key, Has, Causes, number, IsLeast, RefusedFor}
 use Rattle.dl_source.specs.Inside.Reading.{listed_in, tables_in, Reads, content_fault, repetition_fault, fault_of}
 use Rattle.dl_source.proofs.Spelling.{IsReader, same_some}
 

@@ -1,9 +1,10 @@
 -- When a tree is refused as tables.
-use Rattle.std.specs.Prelude.{◌≡◌, ◌⊎◌, ℕ, ◌<◌, ◌&&◌, ◌||◌, List, [], ◌∷◌, length, Bool, true, false, not, nat_lt, nat_le, bytes_eq}
+use Rattle.std.specs.Prelude.{◌≡◌, ◌⊎◌, ℕ, ◌<◌, ◌&&◌, ◌||◌, List, length, Bool, true, false, not, nat_lt, nat_le}
 use Rattle.std.specs.List.{list_any}
 use Rattle.serde_json.specs.Data.{Data}
 use Rattle.serde_json.specs.Written.{has_float}
 use Rattle.dl_values.specs.Key.{table_bytes, id_bytes}
+use Rattle.dl_values.specs.TableLimits.{repeats}
 use Rattle.dl_source.specs.declared.tables.Finding.{Finding}
 use Rattle.dl_source.specs.declared.tables.Finding.TheVariants.{Row, Error, Break}
 use Rattle.dl_source.specs.declared.fault.TableFault.{TableFault}
@@ -33,15 +34,6 @@ is_not_whole (Error t) = false
 is_not_whole (Break t) = false
 
 -- ---- what tables may not have
-
--- the name stands in the list
-abbrev pub lists : {X : Type 0} → List ℕ → List (List ℕ × X) → Bool
-lists name es = list_any (λ e. bytes_eq name e.0) es
-
--- some name stands twice
-abbrev pub repeats : {X : Type 0} → List (List ℕ × X) → Bool
-repeats [] = false
-repeats (e ∷ es) = lists e.0 es || repeats es
 
 abbrev pub has_bad_name : List ℕ × Table → Bool
 has_bad_name t = not (is_sized table_bytes t.0)

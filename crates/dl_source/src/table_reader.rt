@@ -8,7 +8,8 @@ ghost use Rattle.serde_json.specs.View.{view};
 ghost use Rattle.dl_source.specs.declared.fault.TableFault.TheVariants.{OutOfMemory};
 ghost use Rattle.dl_source.specs.Inside.Findings.{finding_of};
 ghost use Rattle.dl_source.specs.Spelling.{is_table_member, has_only, whole};
-ghost use Rattle.dl_source.specs.Faults.{has_bad_key, has_long_text, has_other_number, repeats};
+ghost use Rattle.dl_values.specs.TableLimits.{repeats};
+ghost use Rattle.dl_source.specs.Faults.{has_bad_key, has_long_text, has_other_number};
 ghost use Rattle.dl_source.specs.NumberedTables.{tables_of};
 ghost use Rattle.dl_source.specs.Inside.Reading.{Reads, after, finding_in, list_in, optional_in, findings_in, content_fault};
 ghost use Rattle.dl_source.specs.Inside.Reading.{is_member_of, number_in, number_by, numbered_in, listed_in};
@@ -126,13 +127,13 @@ fn read_optional_number(number: Option<&Value>) -> Result<Option<i128>, TableFau
     ensures { Reads result (λ n. n) (number_in (option_map (λ v. view v.now) number.entry)) }
 {
     match number {
-        Some(number) => whole(number).map(Some).ok_or(TableFault::Shape),
+        Some(number) => whole_number(number).map(Some).ok_or(TableFault::Shape),
         None => Ok(None),
     }
 }
 
-/// The value as a whole number, if it is one.
-fn whole(value: &Value) -> Option<i128>
+/// The value as a whole number, if it is one: one that an `i64` or a `u64` holds.
+pub fn whole_number(value: &Value) -> Option<i128>
     ensures { result ≡ whole (view value.now) }
 {
     value.as_number()?.as_i128()

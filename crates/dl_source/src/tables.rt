@@ -4,7 +4,8 @@ ghost use Rattle.std.specs.Prelude.{◌≡◌, ◌⊎◌, [], ◌∷◌, ◌++�
 ghost use Rattle.std.specs.List.{list_any};
 ghost use Rattle.std.specs.Result.{result_copied};
 ghost use Rattle.dl_source.specs.Answer.{finding_at, found, first_break, outcomes_of};
-ghost use Rattle.dl_source.specs.Faults.{is_not_whole, lists, repeats, has_other_number, has_repeated_key};
+ghost use Rattle.dl_values.specs.TableLimits.{lists, repeats};
+ghost use Rattle.dl_source.specs.Faults.{is_not_whole, has_other_number, has_repeated_key};
 ghost use Rattle.dl_source.specs.NumberedTables.{table_of, tables_of};
 
 use crate::fault::TableFault;

@@ -20,7 +20,7 @@ pub enum EvalFault {
     Batch { key: FetchKey, fault: BatchFault },
     /// The value is no object, or has no member of this name.
     NoField,
-    /// A value that was to be an id is no text of 1 to 128 bytes.
+    /// A value that was to be an id is no text of 1 to 256 bytes.
     NotAKey,
     /// A value that was to be a list of ids is no list.
     NotAList,

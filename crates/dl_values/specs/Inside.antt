@@ -1,2 +1,3 @@
+pub mod JoinedText
 pub mod Json
 pub mod KeyText

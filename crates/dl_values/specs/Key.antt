@@ -12,7 +12,7 @@ table_bytes = 64
 
 -- the most bytes of an id
 abbrev pub id_bytes : ℕ
-id_bytes = 128
+id_bytes = 256
 
 -- the texts have the lengths of a key's
 pub record IsKey (k : Key) : Type 0 where

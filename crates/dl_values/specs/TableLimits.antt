@@ -1,5 +1,6 @@
 -- Limits of tables of their own, and when a list of such is refused.
-use Rattle.std.specs.Prelude.{◌≡◌, ℕ, List, [], ◌∷◌, map, length, Bool, false, not, ◌||◌, ◌&&◌, Option, Some, None, bytes_eq, nat_eq, nat_lt, nat_le, if◌then◌else◌, String, string_bytes}
+use Rattle.std.specs.Prelude.{◌≡◌, ℕ, List, [], ◌∷◌, map, length, Bool, false, not, ◌||◌, ◌&&◌, Option, Some, None, if◌then◌else◌}
+use Rattle.std.specs.Prelude.{bytes_eq, nat_eq, nat_lt, nat_le, String, string_bytes}
 use Rattle.std.specs.List.{list_any}
 use Rattle.std.specs.Map.{lookup}
 use Rattle.std.specs.declared.alloc.Global.{Global}
@@ -49,4 +50,5 @@ has_other_limit ts = list_any (λ t. not (nat_le 1 t.limit && nat_le t.limit lar
 abbrev pub fault_of : List TableLimit → Option TableLimitFault
 fault_of ts =
     if has_empty_table ts then Some EmptyTable
-    else (if has_long_table ts then Some TableTooLong else (if has_other_limit ts then Some BatchLimit else (if repeats (pairs ts) then Some DuplicateTable else None)))
+    else (if has_long_table ts then Some TableTooLong
+    else (if has_other_limit ts then Some BatchLimit else (if repeats (pairs ts) then Some DuplicateTable else None)))

@@ -10,7 +10,7 @@ ghost use Rattle.dl_values.specs.KeyOrder.{key_cmp, key_input};
 ghost use Rattle.dl_values.specs.KeyFaults.{RefusedAs};
 
 use crate::fault::KeyFault;
-use crate::text::Text;
+use crate::joined_text::JoinedText;
 use std::alloc::{AllocError, Global};
 use std::cmp::Ordering;
 use std::fmt;
@@ -22,28 +22,25 @@ use std::sync::Arc;
 pub const TABLE_BYTES: usize = 64;
 
 /// The most bytes of a key's id.
-pub const ID_BYTES: usize = 128;
+pub const ID_BYTES: usize = 256;
 
 /// The two texts of a key as one: a character whose code is how many bytes the table has, then the table, then the id.
-/// So no two keys have one text.
-#[derive(PartialEq, Eq, Drop)]
+/// So no two keys have one text, and a hash reads both in one piece.
+#[derive(Drop)]
 struct KeyText {
-    text: Text,
+    text: JoinedText,
 }
 
 impl Model for KeyText {
     ghost use Rattle.dl_values.specs.Key.{Key};
-    ghost use Rattle.dl_values.specs.Inside.KeyText.{marked, unmarked, IsMarked};
+    ghost use Rattle.dl_values.specs.Inside.JoinedText.{bytes_of};
+    ghost use Rattle.dl_values.specs.Inside.KeyText.{unmarked, IsMarked};
 
     ghost Value = { Key };
 
-    ghost view = { λ k. unmarked k.text };
+    ghost view = { λ k. unmarked (bytes_of k.text) };
 
-    ghost invariant = { λ k. IsMarked k.text };
-
-    ghost inverse = { λ k. record { text = marked k } };
-
-    ghost inverse_ok = { λ k h i. record { text = h.own i } };
+    ghost invariant = { λ k. IsMarked (bytes_of k.text) };
 }
 
 impl KeyText {
@@ -52,7 +49,7 @@ impl KeyText {
         requires { IsKey (record { table = table.now; id = id.now }) }
         ensures { IfOk result (λ k. k ≡ record { table = table.now; id = id.now }) }
     {
-        let text = Text::marked(alloc, table.len() as u8, table, id)?;
+        let text = JoinedText::new(alloc, table.len() as u8, table, id)?;
         Ok(KeyText { text })
     }
 
@@ -65,6 +62,21 @@ impl KeyText {
         let (mark, both) = self.text.as_str().split_at(1);
         both.split_at(mark.as_bytes()[0] as usize)
     }
+}
+
+impl PartialEq for KeyText {
+    ghost eq = { key_eq };
+
+    ghost laws = { Prim.search (comparing, rules) };
+
+    #[inline(always)]
+    fn eq(&self, other: &KeyText) -> bool {
+        self.text.as_str() == other.text.as_str()
+    }
+}
+
+impl Eq for KeyText {
+    ghost laws = { Prim.search (comparing, rules) };
 }
 
 impl Hash for KeyText {

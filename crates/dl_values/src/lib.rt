@@ -6,6 +6,7 @@
 
 mod fault;
 mod job;
+mod joined_text;
 mod json;
 mod key;
 mod limits;

@@ -23,6 +23,7 @@ pub struct TableLimit {
 
 /// The tables that have a limit of their own, where each batch is of one table. A copy costs one atomic step.
 /// Contracts see the tables with their limits, each once.
+#[derive(Debug)]
 pub struct TableLimits {
     limits: Arc<BTreeMap<String, u32>>,
 }
@@ -73,7 +74,8 @@ impl TableLimits {
     /// The limits of these tables, of which there may be none.
     ///
     /// # Errors
-    /// The first cause of [`TableLimitFault`] that applies anywhere in the list, in its order.
+    /// The first cause of [`TableLimitFault`] that applies anywhere in the list, in its order. But two limits of one table are
+    /// found while memory is taken, so `OutOfMemory` may come before.
     pub fn new(alloc: Global, limits: Vec<TableLimit>) -> Result<TableLimits, TableLimitFault>
         ensures ok { IfOk result (λ t. GiveTheSame t (pairs limits.items) × (fault_of limits.items ≡ None)) }
         ensures err { IfErr result (λ f. (f ≡ TableLimitFault.OutOfMemory) ⊎ (fault_of limits.items ≡ Some f)) }

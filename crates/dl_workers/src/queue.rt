@@ -33,6 +33,17 @@ pub struct Tally {
 
 /// A queue that carries jobs from the threads that hold a [`Sender`] to those that hold a
 /// [`Taker`]. Threads share it by reference.
+///
+/// # Examples
+/// A job is sent and taken, on one thread, from `crates/dl_workers_tests`. [`work`](crate::work) takes jobs until
+/// the queue is shut.
+///
+/// ```rust
+/// let sent = queue.send(&rt, &mut senders[0], job);
+/// queue.shut(&rt, &mut senders[0]);
+/// let taken = queue.take(&rt, &mut takers[0]);
+/// let tally = queue.finish(&rt, senders, takers);
+/// ```
 pub struct JobQueue {
     sends: RuledSender<Item, Traffic, Lossless>,
     receives: RuledReceiver<Item, Traffic, Lossless>,

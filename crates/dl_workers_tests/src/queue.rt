@@ -169,6 +169,21 @@ fn what_is_left_comes_before_the_end(rt: HostRuntime) {
     play(&rt, rt.alloc(), (3, 2, 2), &FULL, tally);
 }
 
+/// One sender sends a job and shuts the queue, and one taker takes it.
+#[test]
+fn a_job_goes_through(rt: HostRuntime) {
+    let made = JobQueue::new(rt.alloc(), 64, 1, 1);
+    let (queue, mut senders, mut takers) = made.expect(&rt, "no queue");
+    let job = job(&rt, rt.alloc(), 7);
+    let sent = queue.send(&rt, &mut senders[0], job);
+    queue.shut(&rt, &mut senders[0]);
+    let taken = queue.take(&rt, &mut takers[0]);
+    let tally = queue.finish(&rt, senders, takers);
+    assert!(rt; sent.is_ok());
+    assert_eq!(rt; taken.map(|job| job.batch), Some(7));
+    assert_eq!(rt; tally.left, 0);
+}
+
 /// Under `rt try --test --fail-alloc N` each growth of `new` is refused in turn.
 #[test]
 fn a_refused_growth(rt: HostRuntime) {

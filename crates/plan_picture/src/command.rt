@@ -82,5 +82,6 @@ fn given(matches: &ArgMatches) -> Option<Options>
     Some(Options {
         workers,
         batches: false,
+        migrate: false,
     })
 }

@@ -11,7 +11,8 @@ use Rattle.dl_source.specs.declared.table_reader.Version.{Version}
 use Rattle.dl_source.specs.declared.table_reader.Version.TheVariants.{First, Second}
 use Rattle.dl_source.specs.Tables.{Table, Tables}
 use Rattle.dl_source.specs.NumberedTables.{NumberedTable, numbered, tables_of}
-use Rattle.dl_source.specs.Faults.{has_bad_key, has_long_text, has_other_number, repeats, has_repeated_key}
+use Rattle.dl_values.specs.TableLimits.{repeats}
+use Rattle.dl_source.specs.Faults.{has_bad_key, has_long_text, has_other_number, has_repeated_key}
 use Rattle.dl_source.specs.Spelling.{row_of, error_of, break_text_of, is_table_member, is_numbered_member, has_only, whole}
 
 -- each item read, if each can be read

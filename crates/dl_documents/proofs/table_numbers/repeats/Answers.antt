@@ -3,7 +3,8 @@ use Rattle.std.proofs.lemmas.List.{length-map, get_or-map}
 use Rattle.std.specs.List.{list_any}
 use Rattle.dl_values.specs.TableLimits.{lists}
 use Rattle.dl_source.specs.declared.table_number.TableNumber.{TableNumber}
-use Rattle.dl_source.proofs.Repeats.{clashes_first, lists-names, found_again, goes_on, noted, was_there, was_new}
+use Rattle.dl_values.proofs.Repeats.{clashes_first, found_again, goes_on}
+use Rattle.dl_source.proofs.Repeats.{lists-names, noted, was_there, was_new}
 use Rattle.dl_documents.specs.TableNumbers.{named}
 use Rattle.dl_documents.proofs.table_numbers.repeats.Goals as goal
 

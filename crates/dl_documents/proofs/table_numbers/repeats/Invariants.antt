@@ -1,7 +1,7 @@
 -- The names so far, each once.
 use Rattle.std.proofs.Common.{◌≡◌, map, take, drop}
 use Rattle.dl_values.specs.TableLimits.{repeats}
-use Rattle.dl_source.proofs.Repeats.{clashes}
+use Rattle.dl_values.proofs.Repeats.{clashes}
 use Rattle.dl_documents.specs.TableNumbers.{named}
 use Rattle.dl_documents.proofs.table_numbers.repeats.Given as goal
 

@@ -1,7 +1,7 @@
-use Rattle.std.proofs.Common.{rules, ◌∙◌, codes}
+use Rattle.std.proofs.Common.{rules, ◌∙◌, sym, codes}
 use Rattle.clap.proofs.WalkLemmas.{one_text-rows}
 use Rattle.clap.specs.Words.{found_of}
-use Rattle.dl_plans.proofs.CommandMatches.{number_given}
+use Rattle.dl_plans.proofs.CommandMatches.{number_given, name_used}
 use Rattle.dl_plans.proofs.command.given.Goals as goal
 
 pub returns : goal.returns
@@ -13,4 +13,8 @@ returns c =
       most = search rules;
       batches = λ e. c.get_flag.ensures.value (one_text-rows (found_of c.args.matches.now) (codes "batches") ∙ e);
       no_batches = λ e. c.get_flag.ensures.other (one_text-rows (found_of c.args.matches.now) (codes "batches") ∙ e);
+      migrate = (
+        λ is. name_used c.args.matches.now ∙ c.subcommand_matches.ensures.found.0 (sym c.is_some.ensures ∙ is),
+        λ named. c.is_some.ensures ∙ c.subcommand_matches.ensures.found.1 (sym (name_used c.args.matches.now) ∙ named),
+      );
     }

@@ -1,6 +1,6 @@
 use Rattle.std.proofs.Common.{rules, string_bytes, ◌≡◌, Err}
 use Rattle.dl_plans.specs.Run.{IsOutput}
-use Rattle.dl_plans.proofs.Runs.{run_ok, run_writes_front, run_refused}
+use Rattle.dl_plans.proofs.Runs.{run_ok, run_writes_front, run_refused, output_all}
 use Rattle.dl_plans.proofs.program.run.Goals as goal
 
 pub returns-in_err-text-clause-refused : goal.returns-in_err-text-clause-refused
@@ -12,13 +12,13 @@ returns-in_err-text-clause-refused g c =
 pub returns-clause-ok : goal.returns-clause-ok
 returns-clause-ok g c =
     let output : IsOutput c.args.options c.in_ok-bytes.bytes.items (string_bytes c.in_ok-text.text) = rw c.deref.ensures.value at c.in_ok-text.ensures.ok in
-    run_ok c.args.options c.write_all.result (g.R.Read.remaining c.args.reader.now) c.in_ok-bytes.bytes.items (string_bytes c.in_ok-text.text)
+    run_ok (IsOutput c.args.options) (output_all c.args.options) c.write_all.result (g.R.Read.remaining c.args.reader.now) c.in_ok-bytes.bytes.items (string_bytes c.in_ok-text.text)
     (g.W.Write.contents c.args.writer.now) (g.W.Write.contents c.write_all.new.writer) c.in_ok-bytes.ensures.bytes output
     (rw c.as_bytes.ensures.value at c.write_all.ensures.ok)
 
 pub returns-clause-write : goal.returns-clause-write
 returns-clause-write g c = λ failed.
     let output : IsOutput c.args.options c.in_ok-bytes.bytes.items (string_bytes c.in_ok-text.text) = rw c.deref.ensures.value at c.in_ok-text.ensures.ok in
-    run_writes_front c.args.options (g.R.Read.remaining c.args.reader.now) c.in_ok-bytes.bytes.items (string_bytes c.in_ok-text.text)
+    run_writes_front (IsOutput c.args.options) (output_all c.args.options) (g.R.Read.remaining c.args.reader.now) c.in_ok-bytes.bytes.items (string_bytes c.in_ok-text.text)
     (g.W.Write.contents c.args.writer.now) (g.W.Write.contents c.write_all.new.writer) c.in_ok-bytes.ensures.bytes output
     (rw c.as_bytes.ensures.value at c.write_all.ensures.front)

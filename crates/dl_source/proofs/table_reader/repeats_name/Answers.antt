@@ -1,8 +1,9 @@
 use Rattle.std.proofs.Common.{◌≡◌, true, false, ◌++◌, ◌∷◌, [], if◌then◌else◌, map, ap, sym, ◌∙◌, bytes_eq, take}
 use Rattle.std.specs.List.{list_any}
-use Rattle.dl_source.specs.Faults.{lists}
+use Rattle.dl_values.specs.TableLimits.{lists}
 use Rattle.dl_source.specs.NumberedTables.{table_of, tables_of}
-use Rattle.dl_source.proofs.Repeats.{clashes_first, lists-names, found_again, goes_on, noted, was_there, was_new}
+use Rattle.dl_values.proofs.Repeats.{clashes_first, found_again, goes_on}
+use Rattle.dl_source.proofs.Repeats.{lists-names, noted, was_there, was_new}
 use Rattle.dl_source.proofs.WithoutNumbers.{within, is_at}
 use Rattle.dl_source.proofs.table_reader.repeats_name.Goals as goal
 

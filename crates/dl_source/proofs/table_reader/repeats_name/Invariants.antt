@@ -1,8 +1,8 @@
 -- The names so far, each once.
 use Rattle.std.proofs.Common.{◌≡◌, map, take, drop}
-use Rattle.dl_source.specs.Faults.{repeats}
+use Rattle.dl_values.specs.TableLimits.{repeats}
 use Rattle.dl_source.specs.NumberedTables.{tables_of}
-use Rattle.dl_source.proofs.Repeats.{clashes}
+use Rattle.dl_values.proofs.Repeats.{clashes}
 use Rattle.dl_source.proofs.table_reader.repeats_name.Given as goal
 
 abbrev pub invariant-loop-table : goal.invariant-loop-table

@@ -1,5 +1,5 @@
 use Rattle.std.proofs.Common.{◌≡◌, true, not, ap, sym, ◌∙◌, is_some, ◌++◌, ◌∷◌, []}
-use Rattle.dl_source.specs.Faults.{lists}
+use Rattle.dl_values.specs.TableLimits.{lists}
 use Rattle.dl_source.specs.Tables.{named}
 use Rattle.dl_source.proofs.Lookups.{lists-get, named-insert}
 use Rattle.dl_source.proofs.Repeats.{not_swap, was_new}

@@ -1,7 +1,9 @@
 use Rattle.std.proofs.Common.{◌≡◌, false, Ok, take, ◌++◌, ◌∷◌, [], ap, sym, ◌∙◌}
 use Rattle.std.proofs.lemmas.Result.{IfOk-from_err}
-use Rattle.dl_source.specs.Faults.{lists, is_not_whole}
-use Rattle.dl_source.proofs.Repeats.{clashes_first, take_next, any_at, goes_on, was_new, or_right_false}
+use Rattle.dl_values.specs.TableLimits.{lists}
+use Rattle.dl_source.specs.Faults.{is_not_whole}
+use Rattle.dl_values.proofs.Repeats.{clashes_first, take_next, any_at, goes_on, or_right_false}
+use Rattle.dl_source.proofs.Repeats.{was_new}
 use Rattle.dl_source.proofs.tables.Table.copy_of.Goals as goal
 
 pub loop-listed-init : goal.loop-listed-init

@@ -1,8 +1,9 @@
 -- The findings so far, each id once, and the rest still whole.
 use Rattle.std.proofs.Common.{◌≡◌, false, take, drop}
 use Rattle.std.specs.List.{list_any}
-use Rattle.dl_source.specs.Faults.{is_not_whole, repeats}
-use Rattle.dl_source.proofs.Repeats.{clashes}
+use Rattle.dl_values.specs.TableLimits.{repeats}
+use Rattle.dl_source.specs.Faults.{is_not_whole}
+use Rattle.dl_values.proofs.Repeats.{clashes}
 use Rattle.dl_source.proofs.tables.Table.copy_of.Given as goal
 
 abbrev pub invariant-loop-listed : goal.invariant-loop-listed

@@ -1,5 +1,5 @@
 use Rattle.std.proofs.Common.{ap, ◌∙◌, ◌++◌, ◌∷◌, []}
-use Rattle.dl_source.specs.Faults.{lists}
+use Rattle.dl_values.specs.TableLimits.{lists}
 use Rattle.dl_source.specs.Tables.{named}
 use Rattle.dl_source.proofs.Lookups.{named-insert}
 use Rattle.dl_source.proofs.tables.Tables.add.Goals as goal

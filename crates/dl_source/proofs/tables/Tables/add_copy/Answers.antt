@@ -1,5 +1,5 @@
 use Rattle.std.proofs.Common.{◌≡◌, false, ◌++◌, ◌∷◌, [], ap, sym, ◌∙◌, ok_or}
-use Rattle.dl_source.specs.Faults.{repeats}
+use Rattle.dl_values.specs.TableLimits.{repeats}
 use Rattle.dl_source.specs.declared.fault.TableFault.TheVariants.{DuplicateKey}
 use Rattle.dl_source.proofs.Repeats.{kept_true, kept_rows}
 use Rattle.dl_source.proofs.tables.Tables.add_copy.Goals as goal

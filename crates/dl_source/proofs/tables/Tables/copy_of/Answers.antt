@@ -4,9 +4,10 @@ use Rattle.std.proofs.lemmas.Result.{IfOk-from_err, err_from_is_err_and}
 use Rattle.dl_source.specs.declared.fault.TableFault.{TableFault}
 use Rattle.dl_source.specs.declared.fault.TableFault.TheVariants.{DuplicateKey, OutOfMemory}
 use Rattle.dl_source.specs.Tables.{Table, Tables}
-use Rattle.dl_source.specs.Faults.{lists, repeats, is_not_whole, has_repeated_key}
+use Rattle.dl_values.specs.TableLimits.{lists, repeats}
+use Rattle.dl_source.specs.Faults.{is_not_whole, has_repeated_key}
 use Rattle.dl_source.specs.NumberedTables.{table_of, tables_of}
-use Rattle.dl_source.proofs.Repeats.{clashes_first, clashes_at, take_next, any_at, goes_on, or_left_false, or_right_false}
+use Rattle.dl_values.proofs.Repeats.{clashes_first, clashes_at, take_next, any_at, goes_on, or_left_false, or_right_false}
 use Rattle.dl_source.proofs.WithoutNumbers.{within, is_at}
 use Rattle.dl_source.proofs.tables.Tables.copy_of.Goals as goal
 

@@ -2,7 +2,7 @@
 use Rattle.std.proofs.Common.{◌≡◌, false, take, drop}
 use Rattle.dl_source.specs.Faults.{has_other_number, has_repeated_key}
 use Rattle.dl_source.specs.NumberedTables.{tables_of}
-use Rattle.dl_source.proofs.Repeats.{clashes}
+use Rattle.dl_values.proofs.Repeats.{clashes}
 use Rattle.dl_source.proofs.tables.Tables.copy_of.Given as goal
 
 abbrev pub invariant-loop-table : goal.invariant-loop-table

@@ -1,6 +1,6 @@
 use Rattle.std.proofs.Common.{◌≡◌, true, false, sym, ◌∙◌, inr}
 use Rattle.std.proofs.lemmas.Result.{MatchResult-weaker}
-use Rattle.dl_source.specs.Faults.{repeats}
+use Rattle.dl_values.specs.TableLimits.{repeats}
 use Rattle.dl_source.specs.NumberedTables.{tables_of}
 use Rattle.dl_source.proofs.Refusals.{content_first, name_next, twice_or_memory, none_left}
 use Rattle.dl_source.proofs.tables.Tables.from_listed.Goals as goal

@@ -3,7 +3,7 @@ use Rattle.serde_json.specs.View.{view}
 use Rattle.dl_documents.specs.Document.{IsTextOf}
 use Rattle.dl_documents.specs.Faults.{most_bytes}
 use Rattle.dl_documents.proofs.Texts.{refused_in, passes}
-use Rattle.dl_documents.proofs.document.read_input.Goals as goal
+use Rattle.dl_documents.proofs.document.read_document.Goals as goal
 
 pub returns-in_err-input-clause-err : goal.returns-in_err-input-clause-err
 returns-in_err-input-clause-err c =

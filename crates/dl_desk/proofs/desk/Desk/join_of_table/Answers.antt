@@ -3,10 +3,10 @@ use Rattle.dl_desk.specs.Preparation.{prepared_batch, book_room}
 use Rattle.dl_desk.specs.TableBook.{IsOf}
 use Rattle.dl_desk.proofs.FieldMarks.{desk_grown, desk_put}
 use Rattle.dl_desk.proofs.TwoBooks.{length-begun, put_batches, batches_shown, same_book}
-use Rattle.dl_desk.proofs.desk.Desk.join.Goals as goal
+use Rattle.dl_desk.proofs.desk.Desk.join_of_table.Goals as goal
 
-pub invariant_of-self-in_err-batch : goal.invariant_of-self-in_err-batch
-invariant_of-self-in_err-batch c = desk_grown _ (Some c.join.new.self) _ c.self.invariant c.in_err-batch.ensures.err_batches c.in_err-batch.ensures.err_fits
+pub invariant_of-self : goal.invariant_of-self
+invariant_of-self c = desk_grown _ (Some c.join.new.self) _ c.self.invariant c.in_err-batch.ensures.err_batches c.in_err-batch.ensures.err_fits
 
 is_of : (c : goal.After-self-4-1) → IsOf c.self.inside.limits.max_batch c.self.inside.prepared.sent
     (take c.self.inside.prepared.begun (map prepared_batch c.self.inside.batches.items)) c.in-Some.tables.limits c.args.self.now.prepared

@@ -1,0 +1,71 @@
+//! The workload on a desk each of whose batches is of one table.
+
+use crate::counts::Counts;
+use crate::keys::limits;
+use anyhow::{Result, bail};
+use dl_desk::{Desk, FetchKey, TableLimit, TableLimits, Text};
+use itoa::Buffer;
+use std::alloc::Global;
+use std::hash::RandomState;
+
+/// Loads keys one by one on a new desk, of so many tables in turn, of which each has a limit of its own, then dispatches.
+pub(crate) fn one_by_one(
+    alloc: Global,
+    hashing: RandomState,
+    counts: &mut Counts,
+    tables: u32,
+    keys: u32,
+    batch: u32,
+) -> Result<()> {
+    let names = names_of(alloc, tables)?;
+    let own = limits_of(alloc, &names, batch)?;
+    let mut desk = Desk::by_table(alloc, hashing, limits(batch)?, own);
+    loads(alloc, &mut desk, counts, &names, keys)?;
+    counts.jobs(&desk.dispatch(alloc)?);
+    // The newest cell is in any of the open batches. Each has been sent by now.
+    counts.batches = counts.jobs;
+    Ok(())
+}
+
+/// Loads the keys of the first numbers, whose tables take turns.
+fn loads(
+    alloc: Global,
+    desk: &mut Desk,
+    counts: &mut Counts,
+    names: &[Text],
+    keys: u32,
+) -> Result<()> {
+    let mut id = Buffer::new();
+    for number in 0..keys {
+        let turn = (number as usize).checked_rem(names.len());
+        let Some(name) = turn.and_then(|turn| names.get(turn)) else {
+            bail!("a key without a table");
+        };
+        let key = FetchKey::new(alloc, name.as_str(), id.format(number))?;
+        counts.load(desk.load(alloc, &key)?);
+    }
+    Ok(())
+}
+
+/// The names of so many tables: each is a number in decimal.
+fn names_of(alloc: Global, tables: u32) -> Result<Vec<Text>> {
+    let mut names = Vec::with_capacity(alloc, tables as usize)?;
+    let mut name = Buffer::new();
+    for number in 0..tables {
+        names.push(Text::new(alloc, name.format(number))?)?;
+    }
+    Ok(names)
+}
+
+/// The same limit of a batch for each of the tables.
+fn limits_of(alloc: Global, names: &[Text], batch: u32) -> Result<TableLimits> {
+    let mut limits = Vec::with_capacity(alloc, names.len())?;
+    for name in names {
+        let table = name.try_copy()?;
+        limits.push(TableLimit {
+            table,
+            limit: batch,
+        })?;
+    }
+    Ok(TableLimits::new(alloc, limits)?)
+}

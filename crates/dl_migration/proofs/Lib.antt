@@ -1,0 +1,10 @@
+pub mod Puts
+pub mod MigratedLemmas
+pub mod SecondVersion
+pub mod UnnumberedTables
+pub mod SortedTrees
+pub mod WholeMembers
+pub mod WholePlans
+pub mod WholeTables
+pub mod WholeFiles
+pub mod Migrations

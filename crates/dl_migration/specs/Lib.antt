@@ -1,0 +1,3 @@
+pub mod Migrated
+pub mod Migration
+pub mod SecondVersion

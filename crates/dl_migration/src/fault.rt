@@ -1,0 +1,43 @@
+//! Why a document isn't migrated.
+
+ghost use Rattle.std.specs.Prelude.{◌≡◌};
+ghost use Rattle.dl_migration.specs.Migration.{unmigrated};
+ghost use Rattle.dl_migration.specs.declared.fault.MigrateFault.TheVariants.{OutOfMemory};
+
+use dl_documents::PlanFault;
+use std::alloc::AllocError;
+use thiserror::Error;
+
+/// Why a document isn't migrated, the first cause that applies. `OutOfMemory` has no place in that order: it comes wherever an
+/// allocation failed.
+#[derive(Clone, Copy, Debug, PartialEq, Eq, Error)]
+pub enum MigrateFault {
+    /// Reading refuses the document.
+    #[error("{0}")]
+    Refused(PlanFault),
+    /// The document is a script, or a plan file of version 2.
+    #[error("not version 1")]
+    NotVersion1,
+    /// An allocation failed.
+    #[error("out of memory")]
+    OutOfMemory,
+}
+
+impl From<PlanFault> for MigrateFault {
+    ghost from_gives = { λ read fault. fault ≡ unmigrated read };
+
+    fn from(fault: PlanFault) -> MigrateFault {
+        match fault {
+            PlanFault::OutOfMemory => MigrateFault::OutOfMemory,
+            fault => MigrateFault::Refused(fault),
+        }
+    }
+}
+
+impl From<AllocError> for MigrateFault {
+    ghost from_gives = { λ _ fault. fault ≡ OutOfMemory };
+
+    fn from(_error: AllocError) -> MigrateFault {
+        MigrateFault::OutOfMemory
+    }
+}

@@ -1,0 +1,5 @@
+use Rattle.dl_migration.proofs.SecondVersion as law
+use Rattle.dl_plans.proofs.laws.migrated_is_the_same.Goals as goal
+
+pub returns : goal.returns
+returns c = law.migrated_is_the_same

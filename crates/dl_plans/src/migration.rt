@@ -1,0 +1,53 @@
+//! Migrating a plan file over a reader and a writer.
+
+ghost use Rattle.std.specs.Prelude.{◌≡◌, ◌≢◌, ◌+◌, IfOk, IfErr, IfSome, OnOk, string_bytes};
+ghost use Rattle.std.specs.Io.KnownBytes.{Keeps};
+ghost use Rattle.dl_documents.specs.Faults.{most_bytes};
+ghost use Rattle.dl_migration.specs.Migration.{IsMigrated};
+ghost use Rattle.dl_plans.specs.Migration.{IsNotMigrated};
+ghost use Rattle.dl_plans.specs.Run.{Writes, WritesFront, ReadsAtMost};
+
+use crate::fault::RunError;
+use crate::program::{read_all, write_all};
+use dl_migration::{MigrateFault, migrate};
+use std::alloc::Global;
+use std::hash::RandomState;
+use std::io::{Read, Write};
+
+/// Reads a plan file of version 1, and writes it as [`migrate`] gives it, as version 2, once all of the text is made. It reads
+/// and writes as [`run`](crate::run) does. Tables are hashed by `hashing`, of which nothing is seen.
+///
+/// # Errors
+/// `Read` where the reader fails, `Refused` where what it holds is no document, `NotVersion1` where it is a script or a plan file
+/// of version 2, `OutOfMemory` where an allocation failed, and `Write` where the writer fails. Only after `Write` something
+/// may be written: a front of the text.
+pub fn run_migrate<R: Read, W: Write>(
+    alloc: Global,
+    hashing: RandomState,
+    reader: &mut R,
+    writer: &mut W,
+) -> Result<(), RunError>
+    ensures ok { OnOk result (IfSome (R.remaining reader.old) (Writes IsMigrated (W.contents writer.old) (W.contents writer.new))) }
+    ensures refused { IfErr result (λ e. IfSome (R.remaining reader.old) (λ bytes. IsNotMigrated bytes e)) }
+    ensures write { result ≡ Err RunError.Write → IfSome (R.remaining reader.old) (WritesFront IsMigrated (W.contents writer.old) (W.contents writer.new)) }
+    ensures reads { ReadsAtMost (most_bytes + 1) (R.remaining reader.old) (R.remaining reader.new) }
+    ensures untouched { IfErr result (λ e. e ≢ RunError.Write → Keeps (W.contents writer.old) (W.contents writer.new)) }
+{
+    let bytes = read_all(alloc, reader)?;
+    let text = migrated(alloc, hashing, &bytes)?;
+    write_all(writer, text.as_bytes())
+}
+
+/// The text of a plan file of version 1 as one of version 2.
+fn migrated(alloc: Global, hashing: RandomState, bytes: &[u8]) -> Result<String, RunError>
+    ensures ok { IfOk result (λ text. IsMigrated bytes.now (string_bytes text)) }
+    ensures err { IfErr result (IsNotMigrated bytes.now) }
+    ensures kept { IfErr result (λ e. e ≢ RunError.Write) }
+{
+    match migrate(alloc, hashing, bytes) {
+        Ok(text) => Ok(text),
+        Err(MigrateFault::Refused(fault)) => Err(RunError::Refused(fault)),
+        Err(MigrateFault::NotVersion1) => Err(RunError::NotVersion1),
+        Err(MigrateFault::OutOfMemory) => Err(RunError::OutOfMemory),
+    }
+}
