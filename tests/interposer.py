@@ -54,8 +54,8 @@ class Interposer:
         os.pwrite(self.threads.told, bytes(8), 0)
         return self.threads.told
 
-    def run(self, document, words, environment):
-        """Runs the program on a document: how it ends, and how much it was refused."""
+    def run(self, document, words, environment, program=None):
+        """Runs the program, or another one, on a document: how it ends, and how much it was refused."""
         told = self.told()
         with os.fdopen(os.memfd_create("document"), "wb") as given:
             given.write(document)
@@ -63,7 +63,7 @@ class Interposer:
             os.lseek(given.fileno(), 0, os.SEEK_SET)
             try:
                 ran = subprocess.run(
-                    [self.program, *words],
+                    [program or self.program, *words],
                     stdin=given,
                     capture_output=True,
                     timeout=self.longest,

@@ -6,6 +6,9 @@
  * alone, and of writes those of standard output. REFUSE_IN counts the growths alone that are asked for by a library whose file has
  * this in its name. YIELD=s has threads yield or sleep for an instant at growths, as s draws it.
  *
+ * A test asks from inside, by growths of sizes that nothing else has (crates/dl_refusals): GROWTHS + n bytes refuse the n-th growth from
+ * then on, THREADS + n the n-th thread, and ENDS bytes end that, and are refused themselves where one was.
+ *
  * REFUSE_TOLD is the number of an open file, whose first eight bytes become how many were refused. */
 #define _GNU_SOURCE
 #include "refuse.h"
@@ -29,6 +32,9 @@ extern void *__libc_malloc(size_t), *__libc_realloc(void *, size_t), *__libc_cal
 
 typedef enum { GROWTH, THREAD, RANDOM, READ, WRITE, KINDS } kind;
 
+/* The sizes by which a test asks. */
+enum { GROWTHS = 5000011, THREADS = 5200011, ENDS = 5400013, MOST = 10000 };
+
 /* Of each kind: how many were asked for, which are refused, from the first to the last (0: none), and by which error. */
 static struct {
     atomic_long asked, first, last;
@@ -36,6 +42,8 @@ static struct {
 } rules[KINDS];
 
 static atomic_long own_count, *refused_count = &own_count;
+/* How many were refused since a test asked for it. */
+static atomic_long asked_count;
 static size_t most_read = SIZE_MAX, most_write = SIZE_MAX;
 static const char *counted_object;
 static uint64_t yield_seed;
@@ -99,15 +107,23 @@ static bool is_refused(kind kind)
         return false;
     }
     atomic_fetch_add(refused_count, 1);
+    atomic_fetch_add(&asked_count, 1);
     errno = rules[kind].error;
     return true;
+}
+
+/* Has the n-th of a kind refused from now on, and no other. */
+static void refuse_from_now(kind kind, long n)
+{
+    asked_count = 0;
+    rules[kind].asked = 0;
+    rules[kind].first = rules[kind].last = n;
 }
 
 void refuse_growth(long n)
 {
     *refused_count = 0;
-    rules[GROWTH].asked = 0;
-    rules[GROWTH].first = rules[GROWTH].last = n;
+    refuse_from_now(GROWTH, n);
 }
 
 long growths_refused(void)
@@ -135,12 +151,33 @@ static void yield_at_random(void)
     }
 }
 
+/* Whether a growth of this size is a test's word. It is followed, and `fails` says whether the growth itself is refused. */
+static bool is_word(size_t size, bool *fails)
+{
+    *fails = false;
+    if (size > GROWTHS && size <= GROWTHS + MOST) {
+        refuse_from_now(GROWTH, (long)(size - GROWTHS));
+    } else if (size > THREADS && size <= THREADS + MOST) {
+        refuse_from_now(THREAD, (long)(size - THREADS));
+    } else if (size == ENDS) {
+        rules[GROWTH].first = rules[THREAD].first = 0;
+        *fails = atomic_exchange(&asked_count, 0) > 0;
+    } else {
+        return false;
+    }
+    return true;
+}
+
 /* Whether a growth is refused that is asked for by the code at this place. */
-static bool is_growth_refused(void *caller)
+static bool is_growth_refused(size_t size, void *caller)
 {
     Dl_info object;
+    bool fails;
 
     yield_at_random();
+    if (is_word(size, &fails)) {
+        return fails;
+    }
     if (rules[GROWTH].first == 0) {
         return false;
     }
@@ -150,22 +187,22 @@ static bool is_growth_refused(void *caller)
     return is_refused(GROWTH);
 }
 
-#define IS_REFUSED is_growth_refused(__builtin_return_address(0))
+#define IS_REFUSED(size) is_growth_refused(size, __builtin_return_address(0))
 
 void *malloc(size_t size)
 {
-    return IS_REFUSED ? NULL : __libc_malloc(size);
+    return IS_REFUSED(size) ? NULL : __libc_malloc(size);
 }
 
 void *calloc(size_t count, size_t size)
 {
-    return IS_REFUSED ? NULL : __libc_calloc(count, size);
+    return IS_REFUSED(0) ? NULL : __libc_calloc(count, size);
 }
 
 void *realloc(void *block, size_t size)
 {
     bool frees = block != NULL && size == 0;
-    return !frees && IS_REFUSED ? NULL : __libc_realloc(block, size);
+    return !frees && IS_REFUSED(size) ? NULL : __libc_realloc(block, size);
 }
 
 int pthread_create(pthread_t *thread, const pthread_attr_t *attributes, void *(*start)(void *), void *argument)

@@ -1,0 +1,92 @@
+//! Tables, and what is fetched from them.
+
+use crate::comparison::assert_is;
+use crate::stage::Stage;
+use dl_desk::{Job, Keys, Outcome};
+use dl_fixtures::USERS;
+use dl_refusals::made;
+use dl_source::{BatchAnswer, Fetched, TableFault, Tables, fetch_job};
+use serde_json::Value;
+use std::alloc::AllocError;
+use std::io::Eprint;
+use std::process::Abort;
+
+/// A table with a number of its own.
+const NUMBERED: &str = r#"[{"name":"user","maxBatchSize":7,"rows":[["u1",1]]}]"#;
+
+/// What the users `u9` and `u4` give.
+static OUTCOMES: [&str; 2] = ["error gone", "error no row"];
+
+impl<R: Abort + Eprint> Stage<'_, R> {
+    /// The calls of tables.
+    pub(crate) fn use_tables(&self) {
+        let value = Value::from_str(self.alloc, USERS).expect(self.rt, "no JSON");
+        let tables = made!(
+            self,
+            "Tables::from_value",
+            Err(TableFault::OutOfMemory),
+            Tables::from_value(self.alloc, self.hashing, &value)
+        );
+        let tables = tables.expect(self.rt, "no tables");
+        let job = self.job(0, "u9", "u4");
+        self.fetch(&tables, job);
+        self.number_tables();
+    }
+
+    /// The job of a batch of two users.
+    pub(crate) fn job(&self, batch: u32, first: &str, second: &str) -> Job {
+        let keys = [self.key("user", first), self.key("user", second)];
+        let keys = Keys::copy_of(self.alloc, &keys).expect(self.rt, "no memory");
+        Job { batch, keys }
+    }
+
+    fn number_tables(&self) {
+        let value = Value::from_str(self.alloc, NUMBERED).expect(self.rt, "no JSON");
+        let tables = made!(
+            self,
+            "Tables::from_value_2",
+            Err(TableFault::OutOfMemory),
+            Tables::from_value_2(self.alloc, self.hashing, &value)
+        );
+        let (_, numbers) = tables.expect(self.rt, "no tables");
+        assert_is(self.rt, &numbers.len(), &1, "numbers");
+        for number in &numbers {
+            assert_is(self.rt, &number.number, &7, "a number");
+        }
+    }
+
+    fn fetch(&self, tables: &Tables, job: Job) {
+        self.refusal.begin();
+        match fetch_job(self.alloc, tables, job) {
+            Ok(fetched) => {
+                self.is_again("fetch_job", false);
+                self.assert_fetched(&fetched);
+            }
+            Err((job, _)) => {
+                self.is_again("fetch_job", true);
+                self.fetch_again(tables, job);
+            }
+        }
+    }
+
+    fn fetch_again(&self, tables: &Tables, job: Job) {
+        match fetch_job(self.alloc, tables, job) {
+            Ok(fetched) => self.assert_fetched(&fetched),
+            Err((_, AllocError)) => panic!(self.rt; "no memory"),
+        }
+    }
+
+    fn assert_fetched(&self, fetched: &Fetched<'_, Tables>) {
+        match fetched.answer() {
+            BatchAnswer::Each(outcomes) => self.assert_outcomes(outcomes.as_slice()),
+            BatchAnswer::Break(_) => panic!(self.rt; "a break"),
+        }
+    }
+
+    fn assert_outcomes(&self, outcomes: &[Outcome]) {
+        assert_is(self.rt, &outcomes.len(), &OUTCOMES.len(), "outcomes");
+        for (outcome, want) in outcomes.iter().zip(OUTCOMES.iter()) {
+            self.copy_outcome(outcome, want);
+        }
+    }
+}

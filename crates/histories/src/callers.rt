@@ -1,0 +1,195 @@
+//! Callers that make calls of their own.
+
+ghost use Rattle.std.specs.Prelude.{◌≡◌};
+ghost use Rattle.dl_history.specs.Service.{Answers};
+ghost use Rattle.dl_loader.specs.Opening.{Names};
+ghost use Rattle.histories.specs.Restless.{answer_restless};
+
+use crate::event_text::history_text;
+use crate::restless::{Drawn, Restless};
+use anyhow::Result;
+use dl_desk::{FetchKey, Limits, Message, Outcome, TableLimits};
+use dl_loader::{Loader, LoaderName, MOST_CALLERS, Opening, Pass};
+use dl_source::Source;
+use dl_workers::end_jobs;
+use std::alloc::{AllocGlobal, Global};
+use std::hash::RandomState;
+use std::marker::Brand;
+use std::sync::Wait;
+use std::thread::{self, Threads};
+
+/// How many calls each caller makes, beside the ends of what it dispatches.
+const CALLS: u64 = 24;
+
+/// The keys that are called.
+static TABLES: [&str; 4] = ["user", "post", "own0", "shop"];
+
+static IDS: [&str; 8] = ["a", "b", "c", "d", "e", "f", "1", "2"];
+
+/// The text of the history that so many callers leave, each of which makes calls on a thread of its own, as the source draws them.
+pub(crate) fn called<R: AllocGlobal + Threads + Wait + Sync>(
+    rt: &R,
+    hashing: RandomState,
+    source: &Restless,
+    limits: Limits,
+    tables: Option<TableLimits>,
+    callers: u32,
+) -> Result<String> {
+    let alloc = rt.alloc();
+    let opening = match tables {
+        None => Opening::new(alloc, hashing, source, limits, callers)?,
+        Some(tables) => Opening::by_table(alloc, hashing, source, limits, tables, callers)?,
+    };
+    use_loader::<Brand, _>(rt, alloc, source, opening)
+}
+
+/// The text of the history of the loader of an opening, which `L` stands for.
+fn use_loader<L: LoaderName + Send + Sync, R: Threads + Wait + Sync>(
+    rt: &R,
+    alloc: Global,
+    source: &Restless,
+    opening: Opening<'_, Restless>,
+) -> Result<String>
+    requires source { opening.source ≡ source.now }
+    requires names { Names answer_restless opening L.service L.parts L.log L.outcomes L.name }
+{
+    let (loader, mut passes) = Loader::<L>::start(alloc, opening)?;
+    call_by_each(rt, alloc, source, &loader, passes.as_mut_slice());
+    for pass in &mut passes {
+        end_all(rt, alloc, source, &loader, pass)?;
+    }
+    match loader.close(alloc, passes) {
+        Ok(history) => Ok(history_text(alloc, &history)?),
+        Err((fault, _, _)) => Err(fault.into()),
+    }
+}
+
+/// Each caller makes its calls on a thread of its own.
+fn call_by_each<L: LoaderName + Send + Sync, S: Source + Drawn + Sync, R: Threads + Wait + Sync>(
+    rt: &R,
+    alloc: Global,
+    source: &S,
+    loader: &Loader<L>,
+    passes: &mut [Pass<L>],
+)
+    requires { Answers (S.answer source.now) L.service }
+{
+    thread::for_each_mut(
+        rt,
+        passes,
+        MOST_CALLERS as usize,
+        &|caller: usize, pass: &mut Pass<L>|
+            requires { Answers (S.answer source.now) L.service }
+        { call_or_stop(rt, alloc, source, loader, pass, caller) },
+    );
+}
+
+/// Makes the calls of a caller. Where one is refused the loader is stopped, so that no other caller waits for ever.
+fn call_or_stop<L: LoaderName, S: Source + Drawn, R: Wait>(
+    rt: &R,
+    alloc: Global,
+    source: &S,
+    loader: &Loader<L>,
+    pass: &mut Pass<L>,
+    caller: usize,
+)
+    requires { Answers (S.answer source.now) L.service }
+{
+    let first = (caller as u64).saturating_mul(CALLS);
+    for number in 0..CALLS {
+        let drawn = source.drawn(first.saturating_add(number));
+        source.rest();
+        if call(rt, alloc, source, loader, pass, drawn).is_err() {
+            loader.stop(rt);
+            return;
+        }
+    }
+}
+
+/// Makes the call that is drawn.
+fn call<L: LoaderName, S: Source + Drawn, R: Wait>(
+    rt: &R,
+    alloc: Global,
+    source: &S,
+    loader: &Loader<L>,
+    pass: &mut Pass<L>,
+    drawn: u64,
+) -> Result<()>
+    requires { Answers (S.answer source.now) L.service }
+{
+    let key = key(alloc, drawn / 16)?;
+    match drawn % 16 {
+        0..=4 => {
+            loader.load(rt, alloc, pass, &key)?;
+        }
+        5 => prime(rt, alloc, loader, pass, &key)?,
+        6 => loader.clear(rt, alloc, pass, &key)?,
+        7 => loader.clear_all(rt, alloc, pass)?,
+        8 => end_all(rt, alloc, source, loader, pass)?,
+        _ => {
+            let keys = [
+                key,
+                self::key(alloc, drawn / 512)?,
+                self::key(alloc, drawn / 16_384)?,
+            ];
+            round(rt, alloc, source, loader, pass, &keys)?;
+        }
+    }
+    Ok(())
+}
+
+/// The key that is drawn.
+fn key(alloc: Global, drawn: u64) -> Result<FetchKey> {
+    let table = TABLES[(drawn % 4) as usize];
+    let id = IDS[(drawn / 4 % 8) as usize];
+    Ok(FetchKey::new(alloc, table, id)?)
+}
+
+/// Primes a key with an error.
+fn prime<L: LoaderName, R: Wait>(
+    rt: &R,
+    alloc: Global,
+    loader: &Loader<L>,
+    pass: &mut Pass<L>,
+    key: &FetchKey,
+) -> Result<()> {
+    let outcome = Outcome::KeyError(Message::new(alloc, "primed")?);
+    loader.prime(rt, alloc, pass, key, outcome)?;
+    Ok(())
+}
+
+/// Sends what waits to be sent, and ends it.
+fn end_all<L: LoaderName, S: Source, R: Wait>(
+    rt: &R,
+    alloc: Global,
+    source: &S,
+    loader: &Loader<L>,
+    pass: &mut Pass<L>,
+) -> Result<()>
+    requires { Answers (S.answer source.now) L.service }
+{
+    let jobs = loader.dispatch(rt, alloc, pass)?;
+    end_jobs(rt, alloc, loader, source, pass, jobs)?;
+    Ok(())
+}
+
+/// Loads keys in one call, sends what waits to be sent and ends it, and reads each outcome.
+fn round<L: LoaderName, S: Source, R: Wait>(
+    rt: &R,
+    alloc: Global,
+    source: &S,
+    loader: &Loader<L>,
+    pass: &mut Pass<L>,
+    keys: &[FetchKey],
+) -> Result<()>
+    requires { Answers (S.answer source.now) L.service }
+{
+    let tickets = loader.load_many(rt, alloc, pass, keys)?;
+    let jobs = loader.dispatch(rt, alloc, pass)?;
+    end_jobs(rt, alloc, loader, source, pass, jobs)?;
+    for mut ticket in tickets {
+        loader.wait(rt, pass, &mut ticket)?;
+        pass.saw(&mut ticket);
+    }
+    Ok(())
+}
