@@ -1,24 +1,16 @@
 -- What is told of the newest batches, as batches are begun, shown and taken back.
 use Rattle.std.proofs.Common.{◌≡◌, ◌∙◌, sym, ap, ℕ, zero, suc, ◌+◌, ◌<◌, ◌≤◌, Bool, true, false, ◌&&◌, ◌||◌, not, cond, true≢false, refl, arith}
 use Rattle.std.proofs.Common.{List, [], ◌∷◌, ◌++◌, length, map, set, take, drop, get_or, slice_get, Option, Some, None, IfSome, option_map, inl, inr}
-use Rattle.std.proofs.Common.{nat_eq, nat_le, nat_lt, bytes_eq, String, string_bytes}
+use Rattle.std.proofs.Common.{nat_eq, nat_le, nat_lt, bytes_eq}
 use Rattle.std.specs.List.{list_any}
-use Rattle.std.specs.Map.{lookup}
-use Rattle.std.specs.BTreeMap.{BTreeMap, UpdatesBy}
-use Rattle.std.specs.Ordering.{nat_cmp}
-use Rattle.std.specs.Cmp.Lexicographic.{slice_cmp}
-use Rattle.std.specs.String.{string_cmp}
-use Rattle.std.specs.declared.alloc.Global.{Global}
 use Rattle.std.proofs.lemmas.Bool.{cases_eq, cases_lt, eqb-true, eq-eqb}
 use Rattle.std.proofs.lemmas.Cmp.{nat_list_eq_equiv}
 use Rattle.std.proofs.lemmas.List.{length-take, length-set, drop_more, drop_all}
 use Rattle.std.proofs.lemmas.Option.{slice_get_past, slice_get_read}
-use Rattle.std.proofs.lemmas.Map.Text.{btree_map_updates_text}
 use Rattle.dl_values.specs.Key.{Key}
 use Rattle.dl_values.specs.Limits.{limit_by}
 use Rattle.dl_values.proofs.Repeats.{bytes_eq-comm}
-use Rattle.dl_values.specs.TableLimits.{named}
-use Rattle.dl_values.proofs.Names.{bytes_eq-same, lookup-named}
+use Rattle.dl_values.proofs.Names.{bytes_eq-same}
 use Rattle.dl_desk.specs.History.{is_of_table, has_member, greatest, serves}
 use Rattle.dl_desk.specs.StoredBatch.{StoredBatch}
 use Rattle.dl_desk.specs.BatchBook.{Batch, BatchBook}
@@ -27,7 +19,7 @@ use Rattle.dl_desk.specs.Marks.{IsStored}
 use Rattle.dl_desk.specs.declared.desk.Extent.{Extent}
 use Rattle.dl_desk.specs.declared.table_book.Newest.{Newest}
 use Rattle.dl_desk.specs.TableBook.{TableBook, told, untouched, is_of, newest_at, TellsNewest, TellsLimits, AreTouched, TouchedBy, BothBatches}
-use Rattle.dl_desk.specs.TableBook.{AreTables, FitTables, Renews, IsNewest, open_at, open_for, IsOf}
+use Rattle.dl_desk.specs.TableBook.{AreTables, FitTables, Renews, renewed, IsNewest, open_at, open_for, IsOf}
 use Rattle.dl_desk.proofs.Facts.{greatest-below}
 use Rattle.dl_desk.proofs.LawBatches.{greatest-passes}
 use Rattle.dl_desk.proofs.Tails.{get-set_same, get-set_other, map-set_unseen, same_each}
@@ -298,12 +290,10 @@ renews_told t table e found = record { limits = refl; newest = λ q. by q (bytes
     by q true same = sym (ap (told t) (bytes_eq-same table q same)) ∙ found
     by q false not = refl
 
--- what a write leaves
-pub lookup-written : (m n : BTreeMap (String Global) Newest) (table : List ℕ) (e : Newest)
-    → UpdatesBy string_cmp (λ k. slice_cmp nat_cmp table (string_bytes k)) m n (Some e)
-    → (q : List ℕ) → lookup (bytes_eq q) (named n.entries) ≡ cond (bytes_eq table q) (Some e) (lookup (bytes_eq q) (named m.entries))
-lookup-written m n table e updates q =
-    lookup-named q n ∙ btree_map_updates_text table m n (Some e) updates q ∙ ap (cond (bytes_eq table q) (Some e)) (sym (lookup-named q m))
+-- and what would be told anew, where the latest batch is none of those that are shown
+pub told_again : (t : TableBook) (shown : List Batch) (table : List ℕ) (e : Newest) (n : ℕ) → length shown ≤ n → e.latest ≡ n → told t table ≡ Some e
+    → Renews t table (renewed shown table e n) t
+told_again t shown table e n high latest found = rw (← latest, past_end shown table e.latest (rw latest high)) (renews_told t table e found)
 
 pub tables_told : (most next : ℕ) (b : BothBatches) (old new : TableBook) (table : List ℕ) (e : Newest) → AreTables most b old → Renews old table e new
     → IsNewest most next old table e → length b.shown ≤ next → length b.prepared ≤ next → AreTables most b new

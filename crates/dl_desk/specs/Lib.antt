@@ -3,6 +3,7 @@ pub mod Calls
 pub mod StoredBatch
 pub mod BatchBook
 pub mod Preparation
+pub mod TableName
 pub mod TableBook
 pub mod Marks
 pub mod Ready

@@ -89,6 +89,10 @@ pub record Renews (old : TableBook) (table : List ℕ) (e : Newest) (new : Table
   pub newest : (q : List ℕ) → told new q ≡ (if bytes_eq table q then Some e else told old q)
   pub touched : new.touched ≡ old.touched
 
+-- what is told of a table once the batch was begun for it, after e was told, where these batches are shown
+abbrev pub renewed : List Batch → List ℕ → Newest → ℕ → Newest
+renewed shown table e number = record { most = e.most; latest = number; before = newest_at shown table (Some e) }
+
 -- what is told of a table for which no batch was begun before the next one
 abbrev pub first_newest : ℕ → ℕ → TableBook → List ℕ → Newest
 first_newest max_batch next t table = record { most = limit_by max_batch (Some t.limits) table; latest = next; before = None }

@@ -5,11 +5,12 @@ ghost use Rattle.dl_values.specs.Limits.{limit_by};
 ghost use Rattle.dl_desk.specs.Preparation.{prepared_batch, shown_batch, book_room, Same};
 ghost use Rattle.dl_desk.specs.Marks.{IsStored, IsAdded, MakesRoom};
 ghost use Rattle.dl_desk.specs.BatchBook.{BatchBook};
-ghost use Rattle.dl_desk.specs.TableBook.{told, newest_at, open_at, open_for, untouched, both, AreTables, AreTouched, TouchedBy, Renews, IsNewest, IsOf};
+ghost use Rattle.dl_desk.specs.TableBook.{told, newest_at, open_at, open_for, untouched, both, renewed, AreTables, AreTouched, TouchedBy, Renews, IsNewest, IsOf};
 
 use crate::batch::StoredBatch;
 use crate::desk::Extent;
 use crate::memo_and_batches::{self, BatchChoice};
+use crate::table_name::TableName;
 use dl_values::{FetchKey, Limits, TableLimits};
 use std::alloc::{AllocError, Global};
 use std::collections::BTreeMap;
@@ -45,7 +46,7 @@ pub(crate) struct BatchMeans {
 /// latest batch counts is told by that batch.
 pub(crate) struct TableBook {
     limits: TableLimits,
-    newest: BTreeMap<String, Newest>,
+    newest: BTreeMap<TableName, Newest>,
     // The batches in which something may be prepared.
     touched: Vec<u32>,
 }
@@ -65,12 +66,11 @@ impl Drop for TableBook {
 }
 
 impl Model for TableBook {
-    ghost use Rattle.dl_values.specs.TableLimits.{named};
     ghost use Rattle.dl_desk.specs.TableBook.{TableBook};
 
     ghost Value = { TableBook };
 
-    ghost view = { λ t. record { limits = t.limits; newest = named t.newest.entries; touched = t.touched.items } };
+    ghost view = { λ t. record { limits = t.limits; newest = t.newest.entries; touched = t.touched.items } };
 }
 
 impl TableBook {
@@ -121,10 +121,9 @@ impl TableBook {
     /// be the next one. The error is a failed allocation, and leaves the book.
     fn newest_of(
         &mut self,
-        alloc: Global,
         max_batch: u32,
         next: u32,
-        table: &str,
+        table: &TableName,
     ) -> Result<Newest, AllocError>
         ensures renews { IfOk result (λ newest. Renews self.old table.now newest self.new) }
         ensures newest { IfOk result (IsNewest max_batch next self.old table.now) }
@@ -134,22 +133,50 @@ impl TableBook {
             return Ok(*newest);
         }
         let newest = Newest {
-            most: self.most(max_batch, table),
+            most: self.most(max_batch, table.as_str()),
             latest: next,
             before: None,
         };
-        let name = String::from_str(alloc, table)?;
-        self.newest.insert(name, newest)?;
+        self.newest.insert(table.try_copy()?, newest)?;
         Ok(newest)
     }
 
     /// Tells another newest batch of a table.
-    fn renew(&mut self, table: &str, newest: Newest)
+    fn renew(&mut self, table: &TableName, newest: Newest)
         requires { IsSome (told self.old table.now) }
         ensures { Renews self.old table.now newest self.new }
     {
         if let Some(last) = self.newest.get_mut(table) {
             *last = newest;
+        }
+    }
+
+    /// Tells of a table, of which `last` is told, that a member was put into the batch: it is the table's newest from now
+    /// on, where it is the next one.
+    fn tell(
+        &mut self,
+        batches: &[StoredBatch],
+        standing: Standing,
+        table: &TableName,
+        last: Newest,
+        number: u32,
+    )
+        requires stored { standing.shown.begun ≤ length batches.now }
+        requires shown { standing.shown.begun ≤ standing.prepared.begun }
+        requires told { told self.old table.now ≡ Some last }
+        ensures begun { number ≡ standing.prepared.begun
+            → Renews self.old table.now (renewed (take standing.shown.begun (map shown_batch batches.now)) table.now last number) self.new }
+        ensures kept { (number ≡ standing.prepared.begun → ⊥) → self.new ≡ self.old }
+    {
+        let next = standing.prepared.begun;
+        // Where the next batch was the table's latest already, it isn't shown, and what is told stays.
+        if number == next && last.latest != next {
+            let newest = Newest {
+                most: last.most,
+                latest: number,
+                before: newest_shown(batches, standing.shown.begun, last, table.as_str()),
+            };
+            self.renew(table, newest);
         }
     }
 
@@ -178,8 +205,9 @@ impl TableBook {
         ensures err_fits { OnErr result (AreTables standing.limits.max_batch (both standing.shown.begun standing.prepared.begun batches.new.items) self.new) }
     {
         let next = standing.prepared.begun;
-        let table = key.table();
-        let newest = self.newest_of(means.alloc, standing.limits.max_batch(), next, table)?;
+        let name = TableName::of(key)?;
+        let table = name.as_str();
+        let newest = self.newest_of(standing.limits.max_batch(), next, &name)?;
         let last = newest_in(batches.as_slice(), next, newest, table);
         let open = with_room(batches.as_slice(), standing.prepared, newest.most, last);
         self.touched.reserve(1)?;
@@ -193,15 +221,7 @@ impl TableBook {
             cell,
         )?;
         self.touched.push(number).unwrap();
-        if number == next {
-            let before = newest_shown(batches.as_slice(), standing.shown.begun, newest, table);
-            let renewed = Newest {
-                most: newest.most,
-                latest: number,
-                before,
-            };
-            self.renew(table, renewed);
-        }
+        self.tell(batches.as_slice(), standing, &name, newest, number);
         Ok(number)
     }
 }
