@@ -58,29 +58,17 @@ impl<T: Drop> CellRow<T> {
         ensures known { IfOk result (λ reader. reader.known ≡ None) }
     {
         let alloc = *self.segments.allocator();
-        self.reader_with(i, move || Ok(Box::new(alloc, Segment::new(alloc))?))
-    }
-
-    /// As `reader`, where `make` makes a segment that isn't there.
-    #[inline(always)]
-    fn reader_with<F: FnOnce() -> Result<Box<Segment<T>>, AllocError>>(
-        &self,
-        i: u32,
-        make: F,
-    ) -> Result<Reader<T>, AllocError>
-    where
-        F: Drop,
-        requires in_row { i < row_len self.now }
-        requires callable { F.pre make }
-        ensures cell { IfOk result (λ reader. reader.cell ≡ cell_of self.now i) }
-        ensures known { IfOk result (λ reader. reader.known ≡ None) }
-    {
         let home = self.home(i);
         let mut note = home.note();
         let place = i % SEGMENT;
         let segment = match home.get_as(&mut note) {
             Some(segment) => segment,
-            None => home.get_or_try_init_as(make, &mut note)?,
+            None => {
+                let make = move || -> Result<Box<Segment<T>>, AllocError> {
+                    Ok(Box::new(alloc, Segment::new(alloc))?)
+                };
+                home.get_or_try_init_as(make, &mut note)?
+            }
         };
         let cell = segment.cell(place);
         Ok(Reader {
@@ -125,23 +113,5 @@ impl<T> CellRow<T> {
         ensures { cell_name result.now ≡ (cell_of self.now i).segment }
     {
         &self.segments[(i / SEGMENT) as usize]
-    }
-}
-
-#[cfg(test)]
-mod tests {
-    use super::CellRow;
-    use std::alloc::AllocError;
-    use std::test::Fail;
-
-    #[test]
-    fn only_a_new_segment_takes_memory(rt: HostRuntime) -> Result<(), Fail> {
-        let row = CellRow::<u8>::new(rt.alloc(), 130)?;
-        let _first = row.reader(0)?;
-        assert!(rt; row.reader_with(63, || Err(AllocError)).is_ok());
-        assert!(rt; row.reader_with(64, || Err(AllocError)).is_err());
-        let mut reader = row.reader(64)?;
-        assert_eq!(rt; row.look(64, &mut reader), None);
-        Ok(())
     }
 }
