@@ -1,6 +1,7 @@
 """What the program `plans` gives for documents and command lines: rows, by what they show. The program `program` beside this one
 runs it on each."""
 
+import itertools
 from typing import NamedTuple
 
 
@@ -21,10 +22,12 @@ class Row(NamedTuple):
     # All of standard output and of standard error.
     output: str | Holding = ""
     error: str | Holding = ""
-    # Whether all of the document is read, or nothing of it.
+    # Whether the document is read, up to the first byte that is one too many, or nothing of it.
     is_read: bool = True
     # Whether standard output takes nothing.
     is_full: bool = False
+    # Whether ./check_document is held against it, which takes its time on what is large.
+    is_checked: bool = True
 
 
 def document(*parts):
@@ -381,6 +384,16 @@ ROWS["a plan file is answered"] = [
         'batch 0 [["user","u1"]] settled',
     ),
     batches(
+        "keys that are held and primed again, which keep what they have",
+        '[[{"prime":[["user","u1"],{"value":5}]},{"prime":[["user","u1"],{"value":6}]},{"eval":{"load":["user","u1"]}},'
+        '{"eval":{"load":["user","u3"]}},{"prime":[["user","u3"],{"value":7}]},{"eval":{"load":["user","u3"]}}]]',
+        "0 2 ok 5",
+        '0 3 ok {"name":"Cy"}',
+        '0 5 ok {"name":"Cy"}',
+        "rounds 3",
+        'batch 0 [["user","u3"]] settled',
+    ),
+    batches(
         "terms that give no value",
         '[[{"eval":{"pick":[{"value":1},"x"]}},{"eval":{"each":[{"load":["user","u3"]},"name","user"]}},'
         '{"eval":{"follow":[{"load":["user","u1"]},"friends","user"]}},{"eval":{"load":["shop","s"]}}]]',
@@ -400,6 +413,15 @@ ROWS["a plan file is answered"] = [
         "rounds 1",
     ),
     batches(
+        "all friends, the name of one and another user, in two rounds",
+        '[[{"eval":{"all":[{"each":[{"load":["user","u1"]},"friends","user"]},'
+        '{"pick":[{"follow":[{"load":["user","u1"]},"best","user"]},"name"]},{"load":["user","u3"]}]}}]]',
+        '0 0 ok [[{"best":"u1","friends":[],"name":"Bob"},{"name":"Cy"}],"Bob",{"name":"Cy"}]',
+        "rounds 2",
+        'batch 0 [["user","u1"],["user","u3"]] settled',
+        'batch 1 [["user","u2"]] settled',
+    ),
+    batches(
         "the members of a value in the order of their names, and its numbers",
         '[[{"eval":{"value":{"b":[null,true,-9223372036854775808],"a":18446744073709551615}}}]]',
         '0 0 ok {"a":18446744073709551615,"b":[null,true,-9223372036854775808]}',
@@ -417,6 +439,14 @@ ROWS["a plan file is answered"] = [
         '[[{"eval":{"all":[{"load":["user","u1"]},{"load":["user","u2"]}]}}]]',
         '"maxBatchSize":2,"maxCells":1,',
         BATCHES,
+    ),
+    failed(
+        "Run",
+        "two plans that meet faults at once",
+        '[[{"eval":{"all":[{"load":["user","u1"]},{"load":["user","u2"]}]}}],'
+        '[{"eval":{"all":[{"load":["user","u3"]},{"load":["user","u9"]}]}}]]',
+        '"maxBatchSize":2,"maxCells":1,',
+        PLAIN,
     ),
     failed("Run", "two calls where there is one", ONE_USER, '"maxCalls":1,', PLAIN),
     failed("Stopped", "three calls where there are two, the third of a worker", ONE_USER, '"maxCalls":2,', PLAIN),
@@ -701,6 +731,117 @@ ROWS["a plan file has limits"] = [
     ),
 ]
 
+# ---- tables
+
+# Trees that spell no tables, by the first fault of each.
+NO_TABLES = {
+    "Shape": [
+        "{}",
+        "[1]",
+        '[{"rows":[]}]',
+        '[{"name":"t"}]',
+        '[{"name":1,"rows":[]}]',
+        '[{"name":"t","rows":["a"]}]',
+        '[{"name":"t","rows":[["a"]]}]',
+        '[{"name":"t","rows":[[1,1]]}]',
+        '[{"name":"t","rows":[["a",1,2]]}]',
+        '[{"name":"t","rows":[],"row":[]}]',
+        '[{"name":"t","rows":[],"errors":{}}]',
+        '[{"name":"t","rows":[],"errors":[["a",1]]}]',
+        '[{"name":"t","rows":[],"breaks":["a"]}]',
+        '[{"name":"t","rows":[],"breaks":[["a",null]]}]',
+        '[{"name":"t","rows":[],"maxBatchSize":1}]',
+        '[{"name":"","rows":5}]',
+    ],
+    "BadKey": [
+        '[{"name":"t","rows":[["",1]]}]',
+        '[{"name":"t","rows":[],"errors":[["","x"]]}]',
+        '[{"name":"t","rows":[],"breaks":[["","x"]]}]',
+        '[{"name":"","rows":[["a",1.5]]}]',
+        '[{"name":"t","rows":[["a",1.5]]},{"name":"t","rows":[["",1]]}]',
+    ],
+    "NotWhole": [
+        '[{"name":"t","rows":[["a",1.5]]}]',
+        '[{"name":"t","rows":[["a",[18446744073709551616]]]}]',
+        '[{"name":"t","rows":[["a",{"n":1.5}]]}]',
+        '[{"name":"t","rows":[["a",1.5]]},{"name":"t","rows":[]}]',
+    ],
+    "DuplicateTable": [
+        '[{"name":"t","rows":[]},{"name":"s","rows":[]},{"name":"t","rows":[]}]',
+        '[{"name":"t","rows":[["a",1],["a",2]]},{"name":"t","rows":[]}]',
+    ],
+    "DuplicateKey": [
+        '[{"name":"t","rows":[["u1",1],["u1",2]]}]',
+        '[{"name":"t","rows":[["u1",1]],"breaks":[["u1","down"]]}]',
+        '[{"name":"t","rows":[["u1",1]],"errors":[["u1","gone"]]}]',
+        '[{"name":"t","rows":[],"errors":[["u1","gone"],["u1","gone"]]}]',
+        '[{"name":"t","rows":[],"errors":[["u1","gone"]],"breaks":[["u1","down"]]}]',
+        '[{"name":"t","rows":[],"breaks":[["u1","down"],["u1","down"]]}]',
+    ],
+}
+
+
+def tables_file(version, *tables):
+    """The parts of a plan file over these tables, with a plan of no steps."""
+    return f'{{"version":{version},"plans":[[]],"tables":', *tables, "}"
+
+
+ROWS["other tables are refused"] = [
+    refused(f"table {fault}", *tables_file(1, tree)) for fault, trees in NO_TABLES.items() for tree in trees
+]
+
+
+def table_of(member, name, key, text):
+    """The parts of a file over one table whose member lists one pair. A name, an id and a text have so many bytes."""
+    return tables_file(1, '[{"name":"', ("t", name), f'","rows":[],"{member}":[["', ("x", key), '","', ("e", text), '"]]}]')
+
+
+ROWS["a table takes names, ids and texts up to their limits"] = [
+    row
+    for member in ("errors", "breaks")
+    for row in [
+        answered(f"the shortest {member}", document(*table_of(member, 1, 1, 0))),
+        answered(f"the longest {member}", document(*table_of(member, 64, 256, 1_024))),
+        refused("table BadKey", *table_of(member, 0, 1, 1_025), about=f"{member} of a table of no bytes, and a text of 1,025"),
+        refused("table BadKey", *table_of(member, 65, 1, 0), about=f"{member} of a table of 65 bytes"),
+        refused("table BadKey", *table_of(member, 1, 0, 0), about=f"{member} of an id of no bytes"),
+        refused("table BadKey", *table_of(member, 1, 257, 0), about=f"{member} of an id of 257 bytes"),
+        refused("table BadKey", *table_of(member, 65, 257, 1_025), about=f"{member} that are too long in each way"),
+        refused("table TextTooLong", *table_of(member, 1, 1, 1_025), about=f"{member} of 1,025 bytes"),
+    ]
+]
+
+# ---- terms
+
+# The texts round the text that a follow and an each load, and round the name of its table.
+LOADED = {
+    "follow": ('{"follow":[{"value":{"f":"', '"}},"f","', '"]}}]]}'),
+    "each": ('{"each":[{"value":{"f":["', '"]}},"f","', '"]}}]]}'),
+}
+
+
+def loaded(form, table, key):
+    """A plan whose term loads a text of so many bytes from a table whose name has so many."""
+    front, middle, back = LOADED[form]
+    return document(TERM, front, ("x", key), middle, ("t", table), back)
+
+
+ROWS["an id has 1 to 256 bytes"] = [
+    row
+    for form in LOADED
+    for row in [
+        answered(f"a text of no bytes, by {form}", loaded(form, 4, 0), "0 0 fault NotAKey"),
+        answered(f"a text of 1 byte, by {form}", loaded(form, 4, 1), '0 0 fault key ["tttt","x"] "no table"'),
+        answered(f"a text of 256 bytes, by {form}", loaded(form, 4, 256), f'0 0 fault key ["tttt","{"x" * 256}"] "no table"'),
+        answered(
+            f"a text of 256 bytes in a table of 64, by {form}",
+            loaded(form, 64, 256),
+            f'0 0 fault key ["{"t" * 64}","{"x" * 256}"] "no table"',
+        ),
+        answered(f"a text of 257 bytes, by {form}", loaded(form, 4, 257), "0 0 fault NotAKey"),
+    ]
+]
+
 # ---- version 2
 
 ROWS["in version 2 a batch of a script is of one table"] = [
@@ -789,6 +930,42 @@ ROWS["in version 2 a batch of a plan file is of one table"] = [
     refused("limit BatchLimit", '{"version":2,"maxCells":0,"tables":[{"name":"t","rows":[],"maxBatchSize":0}],"plans":[[]]}'),
 ]
 
+# What a table's number can't be, and numbers that no limit may be.
+NO_NUMBERS = ('"1"', "1.5", "null", "18446744073709551616", "[1]")
+NO_LIMITS = ("0", "-1", "65537", "18446744073709551615", "-9223372036854775808")
+
+ROWS["in version 2 a table may have a number"] = [
+    *(
+        refused("table Shape", *tables_file(2, f'[{{"name":"","rows":[]}},{{"name":"t","rows":[],"maxBatchSize":{number}}}]'))
+        for number in NO_NUMBERS
+    ),
+    refused("table Shape", *tables_file(2, '[{"name":"t","rows":[],"maxCells":1}]')),
+    refused("table BadKey", *tables_file(2, '[{"name":"","rows":[],"maxBatchSize":0}]')),
+    refused("table NotWhole", *tables_file(2, '[{"name":"t","rows":[["a",1.5]],"maxBatchSize":0}]')),
+    refused(
+        "table DuplicateTable", *tables_file(2, '[{"name":"t","rows":[],"maxBatchSize":0},{"name":"t","rows":[],"maxBatchSize":0}]')
+    ),
+    *(
+        refused("limit BatchLimit", *tables_file(2, f'[{{"name":"s","rows":[]}},{{"name":"t","rows":[],"maxBatchSize":{number}}}]'))
+        for number in NO_LIMITS
+    ),
+    answered("the greatest number", document(*tables_file(2, '[{"name":"t","rows":[],"maxBatchSize":65536}]'))),
+    answered(
+        "two tables with a number, and one without",
+        '{"version":2,"tables":[{"maxBatchSize":2,"name":"t","rows":[]},{"name":"s","rows":[]},{"name":"u","rows":[],"maxBatchSize":1}],'
+        '"plans":[[{"eval":{"all":[{"each":[{"value":{"f":["a","b","c"]}},"f","t"]},{"each":[{"value":{"f":["a","b","c"]}},"f","s"]},'
+        '{"each":[{"value":{"f":["a","b"]}},"f","u"]}]}}]]}',
+        '0 0 fault key ["t","a"] "no row"',
+        "rounds 1",
+        'batch 0 [["t","a"],["t","b"]] settled',
+        'batch 1 [["t","c"]] settled',
+        'batch 2 [["s","a"],["s","b"],["s","c"]] settled',
+        'batch 3 [["u","a"]] settled',
+        'batch 4 [["u","b"]] settled',
+        command_lines=BATCHES,
+    ),
+]
+
 # ---- both kinds
 
 ROWS["a refusal tells the place"] = [
@@ -827,11 +1004,102 @@ ROWS["a document has a most of bytes"] = [
     refused("too large", (" ", 1_048_577), about="1,048,577 spaces"),
     refused("not json", b"\xff", (" ", 1_048_575), about="1,048,576 bytes, of which the first is no UTF-8"),
     refused("too large", b"\xff", (" ", 1_048_576), about="1,048,577 bytes, of which the first is no UTF-8"),
+    refused("too large", (" ", 2_000_000), about="2,000,000 spaces"),
 ]
 
 ROWS["a front of a document is refused"] = [
     *(refused("not json", PLAN_FILE[:count], about=f"{count} bytes") for count in range(len(PLAN_FILE))),
     refused("not json", PLAN_FILE[1:], about="a document without its first byte"),
+]
+
+# ---- the largest arguments
+
+MOST = 65_536
+
+# As many ids, which are as short as may be: of signs that need no escape.
+SIGNS = [chr(code) for code in range(33, 127) if chr(code) not in '"\\']
+SHORT = ["".join(signs) for count in (1, 2, 3) for signs in itertools.product(SIGNS, repeat=count)][:MOST]
+
+
+def most_loads(about, members, jobs):
+    """The row of a script of these members that loads as many keys by one call, and sends them in these jobs."""
+    keys = [key for job in jobs for key in job]
+    last = len(jobs) - 1
+    calls = f'{{"loadMany":[{",".join(keys)}]}},{{"dispatch":true}},{{"settle":{last}}},{{"settle":{last + 1}}}'
+    cells = itertools.count()
+    return answered(
+        about,
+        f'{{{members},"calls":[{calls}]}}',
+        f"many {len(keys)}",
+        *(f"fresh {next(cells)} {batch}" for batch, job in enumerate(jobs) for _ in job),
+        f"sent {len(jobs)}",
+        *(f"job {batch} {' '.join(job)}" for batch, job in enumerate(jobs)),
+        "ok",
+        "refused NoBatch",
+        is_checked=False,
+    )
+
+
+def listed(texts):
+    """The JSON list of these texts."""
+    return f"[{','.join(texts)}]"
+
+
+KEYS = [f'["t","{key}"]' for key in SHORT]
+TABLES_OF_SCRIPT = listed(f'["{table}",1]' for table in SHORT)
+ROOM = SHORT[:41_000]
+TABLES_OF_FILE = listed(f'{{"name":"{table}","rows":[]}}' for table in ROOM)
+
+
+def most_rows(about, count, limits, jobs):
+    """The row of a plan file with these limits that loads so many rows in one round, each of which is 7, in these jobs."""
+    rows = listed(f'["{key}",7]' for key in SHORT[:count])
+    # An each has 1,024 items at most.
+    parts = [SHORT[at : min(at + 1_024, count)] for at in range(0, count, 1_024)]
+    items = [listed(f'"{key}"' for key in part) for part in parts]
+    eaches = listed(f'{{"each":[{{"value":{{"f":{texts}}}}},"f","t"]}}' for texts in items)
+    return answered(
+        about,
+        f'{{"version":1,{limits}"tables":[{{"name":"t","rows":{rows}}}],"plans":[[{{"eval":{{"all":{eaches}}}}}]]}}',
+        f"0 0 ok {listed(listed(['7'] * len(part)) for part in parts)}",
+        "rounds 1",
+        *(f"batch {number} {listed(job)} settled" for number, job in enumerate(jobs)),
+        command_lines=("--batches",),
+        is_checked=False,
+    )
+
+
+ROWS["the most that may be"] = [
+    most_loads("as many keys in one batch", '"script":1', [KEYS]),
+    most_loads("as many keys in as many batches", '"script":1,"maxBatchSize":1', [[key] for key in KEYS]),
+    most_loads("a key of each of as many tables", '"script":2', [[f'["{table}","a"]'] for table in SHORT]),
+    answered(
+        "a limit of each of as many tables",
+        f'{{"script":2,"tableLimits":{TABLES_OF_SCRIPT},"calls":[{{"loadMany":'
+        f'[["{SHORT[-1]}","a"],["{SHORT[0]}","a"],["{SHORT[-1]}","b"],["other","a"],["other","b"]]}},{{"dispatch":true}}]}}',
+        "many 5",
+        "fresh 0 0",
+        "fresh 1 1",
+        "fresh 2 2",
+        "fresh 3 3",
+        "fresh 4 3",
+        "sent 4",
+        f'job 0 ["{SHORT[-1]}","a"]',
+        f'job 1 ["{SHORT[0]}","a"]',
+        f'job 2 ["{SHORT[-1]}","b"]',
+        'job 3 ["other","a"] ["other","b"]',
+        is_checked=False,
+    ),
+    most_rows("as many rows in one batch", MOST, "", [KEYS]),
+    # Two calls, and the end of each batch: these are as many as there may be.
+    most_rows("as many rows in batches of one as there are calls for", MOST - 2, '"maxBatchSize":1,', [[key] for key in KEYS[:-2]]),
+    most_rows("one row more", MOST - 1, '"maxBatchSize":1,', [])._replace(status=3, output="", error="failed: Stopped\n"),
+    answered(
+        "as many tables as there is room for",
+        f'{{"version":2,"tables":{TABLES_OF_FILE},"plans":[[{{"eval":{{"load":["{ROOM[-1]}","a"]}}}}]]}}',
+        f'0 0 fault key ["{ROOM[-1]}","a"] "no row"',
+        is_checked=False,
+    ),
 ]
 
 # ---- migration

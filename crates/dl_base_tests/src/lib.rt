@@ -1,5 +1,5 @@
 //! Tests of the crates below the shared loader, and worked rows of their calls: one file for each crate that it
-//! exercises, and one for calls at their largest arguments.
+//! exercises. What tables and terms give is asked from outside, as a document of the program.
 #![tactic(auto)]
 
 #[cfg(test)]
@@ -9,10 +9,4 @@ mod comparison;
 #[cfg(test)]
 mod desk;
 #[cfg(test)]
-mod largest;
-#[cfg(test)]
 mod source;
-#[cfg(test)]
-mod table_numbers;
-#[cfg(test)]
-mod terms;

@@ -1,8 +1,7 @@
 //! The shared loader of `dl_loader`: worked rows of its calls, each on a loader of its own.
 
-mod by_law;
 mod closed_history;
-mod hand;
+mod held;
 mod keys;
 mod largest;
 mod player;
@@ -13,12 +12,13 @@ mod threads;
 mod usage;
 mod waits;
 
-use crate::loader::largest::{Load, MOST, Then};
-use crate::loader::step::Row;
+use crate::loader::largest::MOST;
+use crate::loader::step::Step::{ByLaw, Dispatch, Fail};
+use crate::loader::step::{Asked, Row};
 use crate::loader::waits::{CALLERS, Crowd, Release};
 use dl_desk::Limits;
 use dl_fixtures::{ADA, USERS, tables};
-use dl_loader::{CloseFault, MOST_CALLERS, Opening, StartFault};
+use dl_loader::{GiveUp, MOST_CALLERS, Opening, StartFault};
 use dl_source::Tables;
 use std::alloc::Global;
 use std::hash::RandomState;
@@ -37,6 +37,14 @@ fn users<R: Abort + RandomSource>(rt: &R, alloc: Global) -> Tables {
 /// A hash by random numbers.
 fn hashing<R: Abort + RandomSource>(rt: &R) -> RandomState {
     RandomState::new(rt).expect(rt, "no random numbers")
+}
+
+/// Makes the calls and the closes of rows.
+fn play_rows<R: Abort + Eprint + RandomSource + Wait>(rt: &R, alloc: Global, rows: &[Row]) {
+    let users = users(rt, alloc);
+    for row in rows {
+        play_over(rt, alloc, &users, row);
+    }
 }
 
 /// Makes the calls and the closes of a row on a loader of its own over these tables. What the row is about is told first,
@@ -76,19 +84,10 @@ fn numbers_of_callers_out_of_range(rt: HostRuntime) {
 #[test]
 fn two_callers_of_one_key(rt: HostRuntime) {
     let users = users(&rt, rt.alloc());
-    two_callers(&rt, rt.alloc(), hashing(&rt), &users);
-}
-
-/// Two callers of a loader over these tables load one key.
-fn two_callers<R: Abort + Threads + Wait + Sync>(
-    rt: &R,
-    alloc: Global,
-    hashing: RandomState,
-    users: &Tables,
-) {
-    let limits = Limits::new(2, 8, 16).expect(rt, "no limits");
-    let opening = Opening::new(alloc, hashing, users, limits, 2).expect(rt, "no opening");
-    threads::load_by_two::<Brand, _, _>(rt, alloc, users, opening);
+    let limits = Limits::new(2, 8, 16).expect(&rt, "no limits");
+    let opening = Opening::new(rt.alloc(), hashing(&rt), &users, limits, 2);
+    let opening = opening.expect(&rt, "no opening");
+    threads::load_by_two::<Brand, _, _>(&rt, rt.alloc(), &users, opening);
 }
 
 #[test]
@@ -113,7 +112,7 @@ fn callers_on_threads<R: Abort + Threads + Wait + Sync>(
 
 // Callers that wait for one batch that ends or fails, by a call or by the law, for several that end one after another, at a loader that is
 // stopped, and once all is over.
-static CROWDS: [Crowd; 9] = [
+static CROWDS: [Crowd; 8] = [
     Crowd {
         max_batch: 2,
         loads: &[("u1", ADA)],
@@ -135,25 +134,19 @@ static CROWDS: [Crowd; 9] = [
     Crowd {
         max_batch: 1,
         loads: &[("u1", ADA)],
-        release: Release::EndsByLaw,
+        release: Release::By(&[Dispatch(Ok("0: u1")), ByLaw(Asked::Settle(0, "u1"), None)]),
         is_late: false,
     },
     Crowd {
         max_batch: 1,
         loads: &[("u1", "memory")],
-        release: Release::GivesUpByLaw,
+        release: Release::By(&[Dispatch(Ok("0: u1")), ByLaw(Asked::Fail(0, "u1"), None)]),
         is_late: false,
     },
     Crowd {
         max_batch: 1,
         loads: &[("u1", "memory")],
-        release: Release::GivesUp,
-        is_late: false,
-    },
-    Crowd {
-        max_batch: 2,
-        loads: &[("u1", "memory"), ("u2", "memory")],
-        release: Release::GivesUp,
+        release: Release::By(&[Dispatch(Ok("0: u1")), Fail(0, "u1", GiveUp::Memory, Ok(1))]),
         is_late: false,
     },
     Crowd {
@@ -193,61 +186,20 @@ fn wait_by<R: Abort + Threads + Wait + Sync>(
     waits::wait_at_once::<Brand, _, _>(rt, alloc, users, opening, crowd);
 }
 
-/// The most keys in one batch.
-const MOST_KEYS: Load = Load {
-    max_batch: MOST,
-    keys: MOST,
-    batches: 1,
-    then: Then::Reads,
-    close: Ok(4),
-};
-
-#[test]
-fn the_most_keys_of_one_batch(rt: HostRuntime) {
-    let users = users(&rt, rt.alloc());
-    load_most(&rt, rt.alloc(), hashing(&rt), &users, &MOST_KEYS);
-}
-
-/// As many batches of one key as the log has room for the ends of.
-const MOST_CALLS: Load = Load {
-    max_batch: 1,
-    keys: MOST - 2,
-    batches: MOST - 2,
-    then: Then::Fills,
-    close: Ok(65_536),
-};
-
+// The first of as many callers as there may be makes as many calls as there may be, on a loader of the greatest limits.
 #[test]
 fn the_most_calls_of_one_log(rt: HostRuntime) {
     let users = users(&rt, rt.alloc());
-    load_most(&rt, rt.alloc(), hashing(&rt), &users, &MOST_CALLS);
-}
-
-/// As many batches as there may be.
-const MOST_BATCHES: Load = Load {
-    max_batch: 1,
-    keys: MOST,
-    batches: MOST,
-    then: Then::Ends,
-    close: Err(CloseFault::Unsettled { batch: 0 }),
-};
-
-#[test]
-fn the_most_batches_of_one_dispatch(rt: HostRuntime) {
-    let users = users(&rt, rt.alloc());
-    load_most(&rt, rt.alloc(), hashing(&rt), &users, &MOST_BATCHES);
-}
-
-/// The first of as many callers as there may be loads keys on a loader of the greatest limits over these tables.
-fn load_most<R: Abort + Wait>(
-    rt: &R,
-    alloc: Global,
-    hashing: RandomState,
-    users: &Tables,
-    load: &Load,
-) {
-    let limits = Limits::new(load.max_batch, MOST, MOST).expect(rt, "no limits");
-    let opening = Opening::new(alloc, hashing, users, limits, MOST_CALLERS);
-    let opening = opening.expect(rt, "no opening");
-    largest::load_most::<Brand, _, _>(rt, alloc, users, opening, load);
+    let limits = Limits::new(MOST, MOST, MOST).expect(&rt, "no limits");
+    let opening = Opening::new(rt.alloc(), hashing(&rt), &users, limits, MOST_CALLERS);
+    let opening = opening.expect(&rt, "no opening");
+    let history = largest::fill::<Brand, _, _>(&rt, rt.alloc(), opening);
+    let places = history.of_caller(rt.alloc(), 0).expect(&rt, "no memory");
+    let told = (history.events().len(), places.len());
+    keys::assert_same(
+        &rt,
+        "events, and those of the caller",
+        told,
+        (65_536, 65_536),
+    );
 }

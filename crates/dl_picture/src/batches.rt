@@ -13,7 +13,7 @@ use dl_loader::Batches;
 use std::alloc::AllocError;
 
 /// How many batches there are, how many keys they have together, and how many the largest has.
-#[derive(Clone, Copy, Debug, PartialEq, Eq)]
+#[derive(Clone, Copy)]
 pub struct BatchNumbers {
     pub batches: u64,
     pub keys: u64,
@@ -21,7 +21,7 @@ pub struct BatchNumbers {
 }
 
 /// How many keys a batch has on the average: so many, and a rest that is shared by so many batches.
-#[derive(Clone, Copy, Debug, PartialEq, Eq)]
+#[derive(Clone, Copy)]
 pub struct Mean {
     pub whole: u64,
     pub rest: u64,

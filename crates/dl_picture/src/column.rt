@@ -1,8 +1,7 @@
 //! Columns: what a call did to its keys, which keys a batch has, or which batches a worker ended.
 
 use crate::cut_text::{CHARACTER, push_cut_text};
-use crate::elements::{Frame, push_phrase, push_rectangle, push_words};
-use crate::lines::{Label, Line, Lines};
+use crate::lines::{Line, Lines};
 use crate::mark::{MARKS, Mark};
 use crate::phrase::Phrase;
 use crate::xml;
@@ -47,20 +46,20 @@ pub(crate) struct Column<'a> {
 impl Column<'_> {
     /// How high it is.
     pub(crate) fn height(&self) -> usize {
-        drawn_lines(self.lines)
+        drawn_lines(self.lines, &MARKS)
             .saturating_mul(LINE_HEIGHT)
             .saturating_add(HEADING_HEIGHT + FOOT_HEIGHT)
     }
 }
 
 /// How many lines are drawn of these.
-fn drawn_lines(lines: Lines<'_>) -> usize {
+fn drawn_lines(lines: Lines<'_>, marks: &[Mark]) -> usize {
     let count = lines.count();
     if count <= MOST_LINES {
         return count;
     }
     let mut sums: usize = 0;
-    for mark in &MARKS {
+    for mark in marks {
         if lines.marked(*mark) > 0 {
             sums = sums.saturating_add(1);
         }
@@ -77,34 +76,37 @@ pub(crate) fn push_column(
     height: usize,
     column: &Column<'_>,
 ) -> Result<(), AllocError> {
-    write!(
-        out,
-        "<svg x='{x}' y='{y}' width='{COLUMN_WIDTH}' height='{height}'>\n"
-    )?;
-    push_heading(out, height, column)?;
+    push_heading(out, x, y, height, column)?;
     push_lines(alloc, out, column.lines)?;
     out.push_str("</svg>\n")
 }
 
-/// The card of a column that is so high, and what stands above its lines.
-fn push_heading(out: &mut String, height: usize, column: &Column<'_>) -> Result<(), AllocError> {
-    let card = Frame {
-        x: 1,
-        y: 1,
-        width: COLUMN_WIDTH - 2,
-        height: height.saturating_sub(2),
-    };
-    push_rectangle(out, "card", card, 6)?;
-    out.push('\n')?;
-    push_phrase(out, "head", PADDING, 17, column.heading)?;
-    push_phrase(out, "side", COLUMN_WIDTH - PADDING, 17, column.side)?;
-    out.push('\n')
+/// The front of a column that is so high, whose corner stands at x and y: its card, and what stands above its lines.
+fn push_heading(
+    out: &mut String,
+    x: usize,
+    y: usize,
+    height: usize,
+    column: &Column<'_>,
+) -> Result<(), AllocError> {
+    let Column { heading, side, .. } = *column;
+    let (width, inner, right) = (
+        COLUMN_WIDTH - 2,
+        height.saturating_sub(2),
+        COLUMN_WIDTH - PADDING,
+    );
+    write!(
+        out,
+        "<svg x='{x}' y='{y}' width='{COLUMN_WIDTH}' height='{height}'>\n\
+        <rect class='card' x='1' y='1' width='{width}' height='{inner}' rx='6'/>\n\
+        <text class='head' x='{PADDING}' y='17'>{heading}</text><text class='side' x='{right}' y='17'>{side}</text>\n"
+    )
 }
 
 /// The lines of a column, or their sums where they are too many.
 fn push_lines(alloc: Global, out: &mut String, lines: Lines<'_>) -> Result<(), AllocError> {
     if lines.count() > MOST_LINES {
-        return push_sums(alloc, out, lines);
+        return push_sums(alloc, out, lines, &MARKS);
     }
     let mut y = HEADING_HEIGHT;
     for place in 0..lines.places() {
@@ -117,12 +119,17 @@ fn push_lines(alloc: Global, out: &mut String, lines: Lines<'_>) -> Result<(), A
 }
 
 /// How many of the lines have each mark.
-fn push_sums(alloc: Global, out: &mut String, lines: Lines<'_>) -> Result<(), AllocError> {
+fn push_sums(
+    alloc: Global,
+    out: &mut String,
+    lines: Lines<'_>,
+    marks: &[Mark],
+) -> Result<(), AllocError> {
     let mut y = HEADING_HEIGHT;
-    for mark in &MARKS {
+    for mark in marks {
         let count = lines.marked(*mark);
         if count > 0 {
-            let words = Phrase::count(count, "key", "keys");
+            let words = Phrase::count(count, " key", " keys");
             push_line(alloc, out, y, &Line::of_words(words, *mark))?;
             y = y.saturating_add(LINE_HEIGHT);
         }
@@ -132,57 +139,48 @@ fn push_sums(alloc: Global, out: &mut String, lines: Lines<'_>) -> Result<(), Al
 
 /// A line of a column, at a height.
 fn push_line(alloc: Global, out: &mut String, y: usize, line: &Line<'_>) -> Result<(), AllocError> {
-    let label = label_text(alloc, line.label)?;
+    let label = format!(in alloc; "{}", line.label)?;
     push_labelled(out, y, line, label.as_str())
 }
 
-/// The text of a label.
-fn label_text(alloc: Global, label: Label<'_>) -> Result<String, AllocError> {
-    match label {
-        Label::Key(key) => format!(in alloc; "{}/{}", key.table(), key.id()),
-        Label::Words(words) => words.text(alloc),
-    }
-}
-
-/// A line whose label has this text, at a height.
+/// A line at a height, whose label has this text.
 fn push_labelled(
     out: &mut String,
     y: usize,
     line: &Line<'_>,
     label: &str,
 ) -> Result<(), AllocError> {
-    write!(out, "<g transform='translate({PADDING} {y})'>")?;
-    push_title(out, line, label)?;
+    push_title(out, y, line, label)?;
     push_badge(out, 0, 0, line.mark)?;
-    push_label(out, line, label)?;
-    out.push_str("</g>\n")
+    push_label(out, line.batch, label)
 }
 
-/// The title of a line: its whole label, and what became of it.
-fn push_title(out: &mut String, line: &Line<'_>, label: &str) -> Result<(), AllocError> {
-    out.push_str("<title>")?;
+/// The front of a line at a height, with its title: its whole label, and what became of it.
+fn push_title(out: &mut String, y: usize, line: &Line<'_>, label: &str) -> Result<(), AllocError> {
+    write!(out, "<g transform='translate({PADDING} {y})'><title>")?;
     xml::push_text(out, label)?;
-    out.push_str(": ")?;
-    out.push_str(line.mark.meaning())?;
-    if let Some(batch) = line.batch {
-        write!(out, ", batch {batch}")?;
+    let meaning = line.mark.meaning();
+    match line.batch {
+        Some(batch) => write!(out, ": {meaning}, batch {batch}</title>"),
+        None => write!(out, ": {meaning}</title>"),
     }
-    out.push_str("</title>")
 }
 
-/// What a line says behind its badge.
-fn push_label(out: &mut String, line: &Line<'_>, label: &str) -> Result<(), AllocError> {
-    let x = BADGE + CHARACTER;
-    match line.batch {
+/// What a line says behind its badge, and its end.
+fn push_label(out: &mut String, batch: Option<u32>, label: &str) -> Result<(), AllocError> {
+    match batch {
         Some(batch) => {
-            push_cut_text(out, x, FOOT, label, LINE_ROOM - BATCH_ROOM)?;
+            push_cut_text(out, BADGE + CHARACTER, FOOT, label, LINE_ROOM - BATCH_ROOM)?;
             let end = COLUMN_WIDTH - PADDING - PADDING;
             write!(
                 out,
-                "<text class='side' x='{end}' y='{FOOT}'>b{batch}</text>"
+                "<text class='side' x='{end}' y='{FOOT}'>b{batch}</text></g>\n"
             )
         }
-        None => push_cut_text(out, x, FOOT, label, LINE_ROOM),
+        None => {
+            push_cut_text(out, BADGE + CHARACTER, FOOT, label, LINE_ROOM)?;
+            out.push_str("</g>\n")
+        }
     }
 }
 
@@ -193,18 +191,11 @@ pub(crate) fn push_badge(
     y: usize,
     mark: Mark,
 ) -> Result<(), AllocError> {
-    let square = Frame {
-        x,
-        y,
-        width: BADGE,
-        height: BADGE,
-    };
-    push_rectangle(out, mark.class(), square, 3)?;
-    push_words(
+    let (class, letter) = (mark.class(), mark.letter());
+    let (middle, foot) = (x.saturating_add(BADGE / 2), y.saturating_add(FOOT));
+    write!(
         out,
-        "letter",
-        x.saturating_add(BADGE / 2),
-        y.saturating_add(FOOT),
-        mark.letter(),
+        "<rect class='{class}' x='{x}' y='{y}' width='{BADGE}' height='{BADGE}' rx='3'/>\
+        <text class='letter' x='{middle}' y='{foot}'>{letter}</text>"
     )
 }

@@ -26,7 +26,12 @@ fn room_for(text: &str) -> usize {
 
 /// Whether a character of the text may be wide.
 fn is_wide(text: &str) -> bool {
-    text.chars().any(|c| c >= FIRST_WIDE)
+    for c in text.chars() {
+        if c >= FIRST_WIDE {
+            return true;
+        }
+    }
+    false
 }
 
 /// A `text` element at x and y: the text, which is cut in its middle where it needs more room than that of so many narrow
@@ -38,12 +43,15 @@ pub(crate) fn push_cut_text(
     text: &str,
     room: usize,
 ) -> Result<(), AllocError> {
-    write!(out, "<text x='{x}' y='{y}'")?;
     if is_wide(text) {
         let width = room_for(text).min(room).saturating_mul(CHARACTER);
-        write!(out, " textLength='{width}' lengthAdjust='spacingAndGlyphs'")?;
+        write!(
+            out,
+            "<text x='{x}' y='{y}' textLength='{width}' lengthAdjust='spacingAndGlyphs'>"
+        )?;
+    } else {
+        write!(out, "<text x='{x}' y='{y}'>")?;
     }
-    out.push('>')?;
     push_cut(out, text, room)?;
     out.push_str("</text>")
 }

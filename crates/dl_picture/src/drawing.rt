@@ -1,7 +1,6 @@
 //! Drawings: elements of SVG one under another, in rows of columns.
 
 use crate::column::{COLUMN_WIDTH, Column, push_column};
-use crate::elements::push_words;
 use crate::style::STYLE;
 use std::alloc::{AllocError, Global};
 use std::fmt::Write;
@@ -55,10 +54,11 @@ impl Drawing {
     pub(crate) fn add_words(&mut self, class: &str, words: &str) -> Result<(), AllocError> {
         self.end_row();
         let foot = self.height.saturating_add(WORDS_FOOT);
-        push_words(&mut self.elements, class, MARGIN, foot, words)?;
-        self.elements.push('\n')?;
         self.add_height(WORDS_HEIGHT);
-        Ok(())
+        write!(
+            self.elements,
+            "<text class='{class}' x='{MARGIN}' y='{foot}'>{words}</text>\n"
+        )
     }
 
     /// A column, in the row that is begun, or in the next one where that is full.
@@ -68,10 +68,9 @@ impl Drawing {
         }
         let before = self.columns.saturating_mul(COLUMN_WIDTH + GAP);
         let (x, y, height) = (before.saturating_add(MARGIN), self.height, column.height());
-        push_column(self.alloc, &mut self.elements, x, y, height, column)?;
         self.columns = self.columns.saturating_add(1);
         self.tallest = self.tallest.max(height);
-        Ok(())
+        push_column(self.alloc, &mut self.elements, x, y, height, column)
     }
 
     /// Ends the row that is begun, if there is one.
@@ -89,23 +88,15 @@ impl Drawing {
     pub(crate) fn finish(&mut self) -> Result<String, AllocError> {
         self.end_row();
         let height = self.height.saturating_add(MARGIN);
-        let mut out = String::new(self.alloc);
-        push_document(&mut out, height, self.elements.as_str())?;
-        Ok(out)
+        document(self.alloc, height, self.elements.as_str())
     }
 }
 
 /// A document of these elements, which are so high together.
-fn push_document(out: &mut String, height: usize, elements: &str) -> Result<(), AllocError> {
-    write!(
-        out,
-        "<svg xmlns='http://www.w3.org/2000/svg' width='{WIDTH}' height='{height}' viewBox='0 0 {WIDTH} {height}'>\n"
-    )?;
-    out.push_str(STYLE)?;
-    write!(
-        out,
-        "<rect class='ground' width='{WIDTH}' height='{height}'/>\n"
-    )?;
-    out.push_str(elements)?;
-    out.push_str("</svg>\n")
+fn document(alloc: Global, height: usize, elements: &str) -> Result<String, AllocError> {
+    format!(in alloc;
+        "<svg xmlns='http://www.w3.org/2000/svg' width='{WIDTH}' height='{height}' viewBox='0 0 {WIDTH} {height}'>\n\
+        {STYLE}<rect class='ground' width='{WIDTH}' height='{height}'/>\n\
+        {elements}</svg>\n"
+    )
 }

@@ -4,10 +4,9 @@ use crate::batches::{BatchNumbers, Mean};
 use crate::column::push_badge;
 use crate::cut_text::CHARACTER;
 use crate::drawing::{Drawing, MARGIN};
-use crate::elements::{Frame, push_rectangle, push_words};
-use crate::mark::MARKS;
+use crate::mark::{MARKS, Mark};
 use std::alloc::AllocError;
-use std::fmt::Write;
+use std::fmt::{self, Write};
 
 /// How wide and how high a tile with a number is, and how far the next one stands.
 const TILE_WIDTH: usize = 157;
@@ -27,8 +26,20 @@ const MARK_STEP: usize = 46;
 pub(crate) enum Figure {
     /// How many there are.
     Count(u64),
-    /// How many there are on the average, if there is anything to share.
-    Mean(Option<Mean>),
+    /// How many there are on the average.
+    Mean(Mean),
+    /// There is nothing to share.
+    None,
+}
+
+impl fmt::Display for Figure {
+    fn fmt<W: fmt::Write>(&self, f: &mut fmt::Formatter<W>) -> fmt::Result {
+        match self {
+            Figure::Count(count) => write!(f, "{count}"),
+            Figure::Mean(mean) => write!(f, "{} {}/{}", mean.whole, mean.rest, mean.of),
+            Figure::None => f.write_str("none"),
+        }
+    }
 }
 
 /// A number, the name by which a program finds it in the picture, and what it is, in words.
@@ -49,12 +60,16 @@ impl Tile {
         }
     }
 
-    /// The tile of a mean.
+    /// The tile of a mean: a whole number, and a fraction behind it where it isn't whole.
     pub(crate) fn mean(batches: &BatchNumbers) -> Tile {
         Tile {
             name: "mean",
             words: "mean batch",
-            figure: Figure::Mean(batches.mean()),
+            figure: match batches.mean() {
+                Some(mean) if mean.rest == 0 => Figure::Count(mean.whole),
+                Some(mean) => Figure::Mean(mean),
+                None => Figure::None,
+            },
         }
     }
 }
@@ -67,12 +82,13 @@ pub(crate) fn add_head(
 ) -> Result<(), AllocError> {
     drawing.add_words("title", title)?;
     let y = drawing.height;
+    drawing.add_height(TILE_HEIGHT + ROOM + ROOM + ROOM);
     push_tiles(&mut drawing.elements, y, tiles)?;
-    drawing.add_height(TILE_HEIGHT + ROOM);
-    let y = drawing.height;
-    push_marks(&mut drawing.elements, y)?;
-    drawing.add_height(ROOM + ROOM);
-    Ok(())
+    push_marks(
+        &mut drawing.elements,
+        y.saturating_add(TILE_HEIGHT + ROOM),
+        &MARKS,
+    )
 }
 
 /// Tiles beside one another, at a height.
@@ -87,54 +103,42 @@ fn push_tiles(out: &mut String, y: usize, tiles: &[Tile]) -> Result<(), AllocErr
 
 /// A tile, whose corner stands at x and y.
 fn push_tile(out: &mut String, x: usize, y: usize, tile: &Tile) -> Result<(), AllocError> {
-    let card = Frame {
-        x,
-        y,
-        width: TILE_WIDTH,
-        height: TILE_HEIGHT,
-    };
-    push_rectangle(out, "card", card, 6)?;
-    let (name, left, top) = (tile.name, x.saturating_add(10), y.saturating_add(22));
+    let Tile {
+        name,
+        words,
+        figure,
+    } = *tile;
+    let (left, top, foot) = (
+        x.saturating_add(10),
+        y.saturating_add(22),
+        y.saturating_add(40),
+    );
     write!(
         out,
-        "<text class='figure' id='{name}' x='{left}' y='{top}'>"
-    )?;
-    push_figure(out, tile.figure)?;
-    out.push_str("</text>")?;
-    push_words(out, "soft", left, y.saturating_add(40), tile.words)?;
-    out.push('\n')
-}
-
-/// A number.
-fn push_figure(out: &mut String, figure: Figure) -> Result<(), AllocError> {
-    match figure {
-        Figure::Count(count) => write!(out, "{count}"),
-        Figure::Mean(Some(mean)) => push_mean(out, mean),
-        Figure::Mean(None) => out.push_str("none"),
-    }
-}
-
-/// A mean: a whole number, and a fraction behind it where it isn't whole.
-fn push_mean(out: &mut String, mean: Mean) -> Result<(), AllocError> {
-    let Mean { whole, rest, of } = mean;
-    if rest == 0 {
-        write!(out, "{whole}")
-    } else {
-        write!(out, "{whole} {rest}/{of}")
-    }
+        "<rect class='card' x='{x}' y='{y}' width='{TILE_WIDTH}' height='{TILE_HEIGHT}' rx='6'/>\
+        <text class='figure' id='{name}' x='{left}' y='{top}'>{figure}</text>\
+        <text class='soft' x='{left}' y='{foot}'>{words}</text>\n"
+    )
 }
 
 /// What the marks mean, in one line at a height.
-fn push_marks(out: &mut String, y: usize) -> Result<(), AllocError> {
-    let foot = y.saturating_add(12);
+fn push_marks(out: &mut String, y: usize, marks: &[Mark]) -> Result<(), AllocError> {
     let mut x = MARGIN;
-    for mark in &MARKS {
-        push_badge(out, x, y, *mark)?;
-        let words = mark.meaning();
-        push_words(out, "soft", x.saturating_add(22), foot, words)?;
-        out.push('\n')?;
-        let width = words.len().saturating_mul(CHARACTER);
+    for mark in marks {
+        push_meaning(out, x, y, *mark)?;
+        let width = mark.meaning().len().saturating_mul(CHARACTER);
         x = x.saturating_add(width).saturating_add(MARK_STEP);
     }
     Ok(())
+}
+
+/// A mark with what it means, whose corner stands at x and y.
+fn push_meaning(out: &mut String, x: usize, y: usize, mark: Mark) -> Result<(), AllocError> {
+    push_badge(out, x, y, mark)?;
+    let (left, foot) = (x.saturating_add(22), y.saturating_add(12));
+    write!(
+        out,
+        "<text class='soft' x='{left}' y='{foot}'>{}</text>\n",
+        mark.meaning()
+    )
 }

@@ -24,70 +24,72 @@ pub(crate) fn add_calls(
             if let Call::LoadMany(_) = &event.call {
                 rounds = rounds.saturating_add(1);
             }
-            if let Some(column) = call_column(scene, event, rounds) {
-                drawing.add_column(&column)?;
-            }
+            add_call(drawing, scene, event, rounds)?;
         }
     }
     Ok(())
 }
 
 /// The column of a call, which is of the round of a number if it loads, and none of a dispatch or of the end of a batch.
-fn call_column<'a>(scene: Scene<'a>, event: &'a Event, round: u64) -> Option<Column<'a>> {
-    let (heading, lines) = match &event.call {
-        Call::LoadMany(keys) => (
-            Phrase::Numbered("round", round),
-            load_lines(scene, keys.as_slice(), &event.reply),
-        ),
-        Call::Load(key) => (
-            Phrase::Words("load"),
-            load_lines(scene, std::slice::from_ref(key), &event.reply),
-        ),
-        Call::Prime(key, _) => (
-            Phrase::Words("prime"),
-            key_line(key, prime_mark(&event.reply)),
-        ),
-        Call::Clear(key) => (Phrase::Words("clear"), key_line(key, Mark::Cleared)),
-        Call::ClearAll => (Phrase::Words("clear all"), no_lines()),
-        Call::Dispatch | Call::Settle { .. } | Call::Fail { .. } => return None,
+fn add_call(
+    drawing: &mut Drawing,
+    scene: Scene<'_>,
+    event: &Event,
+    round: u64,
+) -> Result<(), AllocError> {
+    let Some(heading) = call_name(&event.call, round) else {
+        return Ok(());
     };
-    Some(Column {
+    let lines = call_lines(scene, event);
+    drawing.add_column(&Column {
         heading,
-        side: Phrase::count(lines.count(), "key", "keys"),
+        side: Phrase::count(lines.count(), " key", " keys"),
         lines,
     })
 }
 
-/// A line for each load of a call.
-fn load_lines<'a>(scene: Scene<'a>, keys: &'a [FetchKey], reply: &'a Reply) -> Lines<'a> {
-    Lines::Loads {
-        scene,
-        keys,
-        replies: replies_of(reply),
+/// What stands above a call.
+fn call_name(call: &Call, round: u64) -> Option<Phrase> {
+    match call {
+        Call::LoadMany(_) => Some(Phrase::Numbered("round ", round, "")),
+        Call::Load(_) => Some(Phrase::Words("load")),
+        Call::Prime(_, _) => Some(Phrase::Words("prime")),
+        Call::Clear(_) => Some(Phrase::Words("clear")),
+        Call::ClearAll => Some(Phrase::Words("clear all")),
+        Call::Dispatch | Call::Settle { .. } | Call::Fail { .. } => None,
     }
 }
 
-/// A line of one key.
-fn key_line<'a>(key: &'a FetchKey, mark: Mark) -> Lines<'a> {
-    Lines::Keys {
-        keys: std::slice::from_ref(key),
-        mark,
+/// A line for each key of a call.
+fn call_lines<'a>(scene: Scene<'a>, event: &'a Event) -> Lines<'a> {
+    let keys = keys_of(&event.call);
+    match &event.reply {
+        Reply::Loaded(_) | Reply::Many(_) => Lines::Loads {
+            scene: Some(scene),
+            keys,
+            replies: replies_of(&event.reply),
+        },
+        Reply::Primed(_) => Lines::Keys {
+            keys,
+            mark: Mark::Primed,
+        },
+        Reply::Kept => Lines::Keys {
+            keys,
+            mark: Mark::Kept,
+        },
+        Reply::Done | Reply::Sent(_) => Lines::Keys {
+            keys,
+            mark: Mark::Cleared,
+        },
     }
 }
 
-/// No line.
-fn no_lines<'a>() -> Lines<'a> {
-    Lines::Keys {
-        keys: &[],
-        mark: Mark::Cleared,
-    }
-}
-
-/// The mark of a prime.
-fn prime_mark(reply: &Reply) -> Mark {
-    match reply {
-        Reply::Primed(_) => Mark::Primed,
-        _ => Mark::Kept,
+/// The keys that a call names.
+fn keys_of(call: &Call) -> &[FetchKey] {
+    match call {
+        Call::Load(key) | Call::Prime(key, _) | Call::Clear(key) => std::slice::from_ref(key),
+        Call::LoadMany(keys) => keys.as_slice(),
+        Call::ClearAll | Call::Dispatch | Call::Settle { .. } | Call::Fail { .. } => &[],
     }
 }
 
@@ -98,45 +100,42 @@ pub(crate) fn add_batches(drawing: &mut Drawing, scene: Scene<'_>) -> Result<(),
     let events = scene.history.events();
     for at in 0..events.len() {
         if let Some(event) = events.get(at) {
-            if let Some(column) = end_column(scene, event) {
-                drawing.add_column(&column)?;
-            }
+            add_end(drawing, scene, event)?;
         }
     }
     Ok(())
 }
 
 /// The column of the batch that an event ends, if it ends one.
-fn end_column<'a>(scene: Scene<'a>, event: &'a Event) -> Option<Column<'a>> {
-    let (heading, lines) = match &event.call {
-        Call::Settle { batch, outcomes } => (
-            Phrase::Batch(*batch, "settled"),
-            Lines::Settled {
+fn add_end(drawing: &mut Drawing, scene: Scene<'_>, event: &Event) -> Result<(), AllocError> {
+    let side = caller_name(scene.plans, event.caller);
+    match &event.call {
+        Call::Settle { batch, outcomes } => drawing.add_column(&Column {
+            heading: Phrase::Numbered("batch ", u64::from(*batch), " settled"),
+            side,
+            lines: Lines::Settled {
                 keys: scene.members(*batch),
                 outcomes: outcomes.as_slice(),
             },
-        ),
-        Call::Fail { batch, .. } => (
-            Phrase::Batch(*batch, "failed"),
-            Lines::Keys {
+        }),
+        Call::Fail { batch, .. } => drawing.add_column(&Column {
+            heading: Phrase::Numbered("batch ", u64::from(*batch), " failed"),
+            side,
+            lines: Lines::Keys {
                 keys: scene.members(*batch),
                 mark: Mark::Failed,
             },
-        ),
-        _ => return None,
-    };
-    Some(Column {
-        heading,
-        side: caller_name(scene.plans, event.caller),
-        lines,
-    })
+        }),
+        _ => Ok(()),
+    }
 }
 
 /// Who a caller is: the plans come first, and then the workers.
 fn caller_name(plans: u32, caller: u32) -> Phrase {
-    match caller.checked_sub(plans) {
-        Some(worker) => Phrase::Numbered("worker", u64::from(worker)),
-        None => Phrase::Numbered("plan", u64::from(caller)),
+    if caller < plans {
+        Phrase::Numbered("plan ", u64::from(caller), "")
+    } else {
+        Phrase::Numbered("worker ", u64::from(caller - plans), "")
     }
 }
 
@@ -147,16 +146,24 @@ pub(crate) fn add_workers(
     callers: u32,
 ) -> Result<(), AllocError> {
     for caller in scene.plans..callers {
-        let entries = scene.history.entries(caller);
-        let lines = Lines::Ended { scene, entries };
-        let count = lines.count();
-        if count > 0 {
-            drawing.add_column(&Column {
-                heading: caller_name(scene.plans, caller),
-                side: Phrase::count(count, "batch", "batches"),
-                lines,
-            })?;
-        }
+        add_worker(drawing, scene, caller)?;
     }
     Ok(())
+}
+
+/// A worker, if it ended a batch.
+fn add_worker(drawing: &mut Drawing, scene: Scene<'_>, caller: u32) -> Result<(), AllocError> {
+    let lines = Lines::Ended {
+        scene,
+        entries: scene.history.entries(caller),
+    };
+    let count = lines.count();
+    if count == 0 {
+        return Ok(());
+    }
+    drawing.add_column(&Column {
+        heading: caller_name(scene.plans, caller),
+        side: Phrase::count(count, " batch", " batches"),
+        lines,
+    })
 }

@@ -8,7 +8,6 @@ mod batches;
 mod column;
 mod cut_text;
 mod drawing;
-mod elements;
 mod head;
 mod history;
 mod lanes;

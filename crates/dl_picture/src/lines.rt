@@ -5,6 +5,7 @@ use crate::phrase::Phrase;
 use crate::scene::Scene;
 use dl_desk::{FetchKey, LoadReply, Outcome};
 use dl_loader::{Call, EntryKind};
+use std::fmt;
 
 /// What a line says beside its mark.
 #[derive(Clone, Copy)]
@@ -13,6 +14,15 @@ pub(crate) enum Label<'a> {
     Key(&'a FetchKey),
     /// Words of the program.
     Words(Phrase),
+}
+
+impl fmt::Display for Label<'_> {
+    fn fmt<W: fmt::Write>(&self, f: &mut fmt::Formatter<W>) -> fmt::Result {
+        match self {
+            Label::Key(key) => write!(f, "{}/{}", key.table(), key.id()),
+            Label::Words(words) => write!(f, "{words}"),
+        }
+    }
 }
 
 /// A line of a column: a mark, what it is of, and the batch that a fresh load's key was put into.
@@ -26,14 +36,9 @@ pub(crate) struct Line<'a> {
 /// The lines of a column. Each is made when it is drawn.
 #[derive(Clone, Copy)]
 pub(crate) enum Lines<'a> {
-    /// A line for each load of a history, by its key and its reply.
+    /// A line for each load, by its key and its reply, and by what the history says of it where there is one.
     Loads {
-        scene: Scene<'a>,
-        keys: &'a [FetchKey],
-        replies: &'a [LoadReply],
-    },
-    /// A line for each load of a script, by its key and its reply.
-    Replies {
+        scene: Option<Scene<'a>>,
         keys: &'a [FetchKey],
         replies: &'a [LoadReply],
     },
@@ -57,28 +62,6 @@ pub(crate) enum Lines<'a> {
 }
 
 impl<'a> Line<'a> {
-    /// The line of a key alone.
-    fn of_key(key: &'a FetchKey, mark: Mark) -> Line<'a> {
-        Line {
-            mark,
-            label: Label::Key(key),
-            batch: None,
-        }
-    }
-
-    /// The line of a load.
-    fn of_load(key: &'a FetchKey, reply: LoadReply, mark: Mark) -> Line<'a> {
-        let batch = match reply {
-            LoadReply::Fresh { batch, .. } => Some(batch),
-            LoadReply::Hit(_) => None,
-        };
-        Line {
-            mark,
-            label: Label::Key(key),
-            batch,
-        }
-    }
-
     /// A line of the program's own words.
     pub(crate) fn of_words(words: Phrase, mark: Mark) -> Line<'a> {
         Line {
@@ -88,15 +71,46 @@ impl<'a> Line<'a> {
         }
     }
 
-    /// The line of the batch that a call ends, if it ends one.
-    fn of_end(call: &Call) -> Option<Line<'a>> {
-        let (mark, batch) = match call {
-            Call::Settle { batch, .. } => (Mark::Settled, *batch),
-            Call::Fail { batch, .. } => (Mark::Failed, *batch),
-            _ => return None,
+    /// The line of a key, if there is one.
+    fn of_key(key: Option<&'a FetchKey>, mark: Mark, batch: Option<u32>) -> Option<Line<'a>> {
+        let label = Label::Key(key?);
+        Some(Line { mark, label, batch })
+    }
+
+    /// The line of a load, if there is one.
+    fn of_load(
+        scene: Option<Scene<'a>>,
+        key: Option<&'a FetchKey>,
+        reply: Option<&LoadReply>,
+    ) -> Option<Line<'a>> {
+        let reply = *reply?;
+        let mark = match scene {
+            Some(scene) => scene.load_mark(reply),
+            None => Mark::of_load(reply),
         };
-        let words = Phrase::Numbered("batch", u64::from(batch));
-        Some(Line::of_words(words, mark))
+        match reply {
+            LoadReply::Fresh { batch, .. } => Line::of_key(key, mark, Some(batch)),
+            LoadReply::Hit(_) => Line::of_key(key, mark, None),
+        }
+    }
+
+    /// The line of a key that was given an outcome, if there is one.
+    fn of_outcome(key: Option<&'a FetchKey>, outcome: Option<&Outcome>) -> Option<Line<'a>> {
+        Line::of_key(key, Mark::of_outcome(outcome?), None)
+    }
+
+    /// The line of the batch that an entry ends, if it ends one.
+    fn of_end(scene: Scene<'_>, entry: Option<&EntryKind>) -> Option<Line<'a>> {
+        match &scene.event(*entry?)?.call {
+            Call::Settle { batch, .. } => Some(Line::of_batch(*batch, Mark::Settled)),
+            Call::Fail { batch, .. } => Some(Line::of_batch(*batch, Mark::Failed)),
+            _ => None,
+        }
+    }
+
+    /// The line of a batch.
+    fn of_batch(batch: u32, mark: Mark) -> Line<'a> {
+        Line::of_words(Phrase::Numbered("batch ", u64::from(batch), ""), mark)
     }
 }
 
@@ -104,10 +118,9 @@ impl<'a> Lines<'a> {
     /// How many places there are, each with a line or with none.
     pub(crate) fn places(self) -> usize {
         match self {
-            Lines::Loads { keys, .. }
-            | Lines::Replies { keys, .. }
-            | Lines::Keys { keys, .. }
-            | Lines::Settled { keys, .. } => keys.len(),
+            Lines::Loads { keys, .. } | Lines::Keys { keys, .. } | Lines::Settled { keys, .. } => {
+                keys.len()
+            }
             Lines::Ended { entries, .. } => entries.len(),
             Lines::Refused(_) => 1,
         }
@@ -120,23 +133,12 @@ impl<'a> Lines<'a> {
                 scene,
                 keys,
                 replies,
-            } => {
-                let reply = *replies.get(place)?;
-                Some(Line::of_load(keys.get(place)?, reply, scene.load_mark(reply)))
-            }
-            Lines::Replies { keys, replies } => {
-                let reply = *replies.get(place)?;
-                Some(Line::of_load(keys.get(place)?, reply, Mark::of_load(reply)))
-            }
-            Lines::Keys { keys, mark } => Some(Line::of_key(keys.get(place)?, mark)),
+            } => Line::of_load(scene, keys.get(place), replies.get(place)),
+            Lines::Keys { keys, mark } => Line::of_key(keys.get(place), mark, None),
             Lines::Settled { keys, outcomes } => {
-                let mark = Mark::of_outcome(outcomes.get(place)?);
-                Some(Line::of_key(keys.get(place)?, mark))
+                Line::of_outcome(keys.get(place), outcomes.get(place))
             }
-            Lines::Ended { scene, entries } => {
-                let event = scene.event(*entries.get(place)?)?;
-                Line::of_end(&event.call)
-            }
+            Lines::Ended { scene, entries } => Line::of_end(scene, entries.get(place)),
             Lines::Refused(name) => Some(Line::of_words(Phrase::Words(name), Mark::Refused)),
         }
     }

@@ -11,7 +11,7 @@ use dl_loader::{Call, Event, Events, Reply};
 use std::alloc::AllocError;
 
 /// How many loads there are, and how many of them are hits.
-#[derive(Clone, Copy, Debug, PartialEq, Eq)]
+#[derive(Clone, Copy)]
 pub struct LoadNumbers {
     /// The loads asked for. Without a loader each of them is a fetch of its own.
     pub loads: u64,

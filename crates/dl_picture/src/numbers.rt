@@ -13,7 +13,7 @@ use dl_loader::History;
 use std::alloc::AllocError;
 
 /// The numbers of a history.
-#[derive(Clone, Copy, Debug, PartialEq, Eq)]
+#[derive(Clone, Copy)]
 pub struct HistoryNumbers {
     /// Of all its loads.
     pub loads: LoadNumbers,
@@ -22,7 +22,7 @@ pub struct HistoryNumbers {
 }
 
 /// The numbers of one plan of a history.
-#[derive(Clone, Copy, Debug, PartialEq, Eq)]
+#[derive(Clone, Copy)]
 pub struct PlanNumbers {
     /// How many rounds it took.
     pub rounds: usize,

@@ -70,7 +70,7 @@ fn add_calls<'a>(
     let mut number: u64 = 0;
     for (call, answer) in calls.iter().zip(answers) {
         drawing.add_column(&Column {
-            heading: Phrase::Counted(number, name_of(call)),
+            heading: Phrase::Numbered("", number, name_of(call)),
             side: side_of(call, answer),
             lines: call_lines(call, answer),
         })?;
@@ -82,14 +82,14 @@ fn add_calls<'a>(
 /// The name of a call, as a script has it.
 fn name_of(call: &ScriptCall) -> &'static str {
     match call {
-        ScriptCall::Load(_) => "load",
-        ScriptCall::LoadMany(_) => "loadMany",
-        ScriptCall::Prime(_) => "prime",
-        ScriptCall::Clear(_) => "clear",
-        ScriptCall::ClearAll => "clearAll",
-        ScriptCall::Dispatch => "dispatch",
-        ScriptCall::Settle(_) => "settle",
-        ScriptCall::Fail(_) => "fail",
+        ScriptCall::Load(_) => " load",
+        ScriptCall::LoadMany(_) => " loadMany",
+        ScriptCall::Prime(_) => " prime",
+        ScriptCall::Clear(_) => " clear",
+        ScriptCall::ClearAll => " clearAll",
+        ScriptCall::Dispatch => " dispatch",
+        ScriptCall::Settle(_) => " settle",
+        ScriptCall::Fail(_) => " fail",
     }
 }
 
@@ -97,10 +97,10 @@ fn name_of(call: &ScriptCall) -> &'static str {
 fn side_of(call: &ScriptCall, answer: &CallAnswer) -> Phrase {
     match call {
         ScriptCall::Settle(batch) | ScriptCall::Fail(batch) => {
-            Phrase::Numbered("batch", u64::from(*batch))
+            Phrase::Numbered("batch ", u64::from(*batch), "")
         }
         _ => match answer {
-            CallAnswer::Sent(count) => Phrase::Counted(*count as u64, "sent"),
+            CallAnswer::Sent(count) => Phrase::Numbered("", *count as u64, " sent"),
             _ => Phrase::Words(""),
         },
     }
@@ -110,11 +110,13 @@ fn side_of(call: &ScriptCall, answer: &CallAnswer) -> Phrase {
 fn call_lines<'a>(call: &'a ScriptCall, answer: &'a CallAnswer) -> Lines<'a> {
     let keys = keys_of(call);
     match answer {
-        CallAnswer::Load(reply) => Lines::Replies {
+        CallAnswer::Load(reply) => Lines::Loads {
+            scene: None,
             keys,
             replies: std::slice::from_ref(reply),
         },
-        CallAnswer::Many(replies) => Lines::Replies {
+        CallAnswer::Many(replies) => Lines::Loads {
+            scene: None,
             keys,
             replies: replies.as_slice(),
         },
@@ -173,15 +175,15 @@ fn add_batches(drawing: &mut Drawing, desk: &Desk) -> Result<(), AllocError> {
 /// The column of a batch.
 fn batch_column<'a>(number: u32, batch: &BatchView<'a>) -> Column<'a> {
     let (state, mark) = match batch.state() {
-        BatchState::Collecting => ("collecting", Mark::Fresh),
-        BatchState::Sent => ("sent", Mark::Fresh),
-        BatchState::Settled => ("settled", Mark::Fresh),
-        BatchState::Failed => ("failed", Mark::Failed),
+        BatchState::Collecting => (" collecting", Mark::Fresh),
+        BatchState::Sent => (" sent", Mark::Fresh),
+        BatchState::Settled => (" settled", Mark::Fresh),
+        BatchState::Failed => (" failed", Mark::Failed),
     };
     let keys = batch.keys();
     Column {
-        heading: Phrase::Batch(number, state),
-        side: Phrase::count(keys.len(), "key", "keys"),
+        heading: Phrase::Numbered("batch ", u64::from(number), state),
+        side: Phrase::count(keys.len(), " key", " keys"),
         lines: Lines::Keys { keys, mark },
     }
 }

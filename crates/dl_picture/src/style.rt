@@ -1,7 +1,7 @@
 //! How a picture looks: its colours, by light and by dark, are those that most who are colour-blind tell apart (Okabe and Ito).
 
 /// The style of every picture.
-pub(crate) const STYLE: &str = "<style>
+pub(crate) static STYLE: &str = "<style>
 text{font-family:ui-monospace,'DejaVu Sans Mono',Menlo,Consolas,monospace;font-size:12px;fill:#1b1f24}
 .title{font-size:18px;font-weight:bold}
 .lane{font-size:14px;font-weight:bold}

@@ -1,17 +1,14 @@
-//! `run` and `run_migrate` over readers and writers, the lines of their failures, and the command line.
+//! `run` and `run_migrate` over readers and writers, and the lines of failures.
 
 use crate::comparison::assert_is;
-use dl_documents::PlanFault;
-use dl_haxl::RunFault;
-use dl_loader::{CallFault, CloseFault, StartFault};
-use dl_plans::{Options, RunError, options, run, run_migrate};
+use dl_loader::{CloseFault, StartFault};
+use dl_plans::{Options, RunError, run, run_migrate};
 use dl_scope::ScopeFault;
 use dl_workers::QueueFault;
 use std::alloc::Global;
 use std::hash::RandomState;
 use std::io::{self, ErrorKind, Read, Write};
 use std::process::Abort;
-use std::random::RandomSource;
 use std::sync::Wait;
 use std::thread::Threads;
 
@@ -33,16 +30,11 @@ const MIGRATED: &str = concat!(
     r#"["u3",{"name":"Cy"}]]}],"version":2}"#
 );
 
-/// The options of no words, and those with batches.
-const OPTIONS: Options = Options {
-    workers: 3,
-    batches: false,
-    migrate: false,
-};
-
+/// The options with batches.
 const BATCHES: Options = Options {
+    workers: 3,
     batches: true,
-    ..OPTIONS
+    migrate: false,
 };
 
 /// A reader that gives at most 100 bytes a read, and fails once so many reads were good.
@@ -122,22 +114,24 @@ enum Mode {
     Migrating,
 }
 
-static MODES: [Mode; 2] = [Mode::Answering, Mode::Migrating];
-
-/// A writer that takes so many bytes of what the document gives in the mode, and then ends so.
-fn writer(mode: Mode, room: usize, ends: Ends) -> Cut {
-    let text = match mode {
-        Mode::Answering => TEXT,
-        Mode::Migrating => MIGRATED,
-    };
-    Cut {
-        text,
-        rest: text.as_bytes(),
-        room,
-        ends,
-        differs: false,
+impl Mode {
+    /// A writer that takes so many bytes of what the document gives in the mode, and then ends so.
+    fn writer(self, room: usize, ends: Ends) -> Cut {
+        let text = match self {
+            Mode::Answering => TEXT,
+            Mode::Migrating => MIGRATED,
+        };
+        Cut {
+            text,
+            rest: text.as_bytes(),
+            room,
+            ends,
+            differs: false,
+        }
     }
 }
+
+static MODES: [Mode; 2] = [Mode::Answering, Mode::Migrating];
 
 /// What the program is run with, and in which mode.
 #[derive(Drop)]
@@ -149,15 +143,6 @@ struct Scene<'a, R: Abort + Threads + Wait + Sync> {
 }
 
 impl<'a, R: Abort + Threads + Wait + Sync> Scene<'a, R> {
-    /// Runs the program on a reader and a writer.
-    fn run_on<I: Read>(&self, reader: &mut I, writer: &mut Cut) -> Result<(), RunError> {
-        let (alloc, hashing) = (self.alloc, self.hashing);
-        match self.mode {
-            Mode::Answering => run(self.rt, alloc, hashing, reader, writer, BATCHES),
-            Mode::Migrating => run_migrate(alloc, hashing, reader, writer),
-        }
-    }
-
     /// A run of the program on a reader and a writer ends so, and so many bytes of the text are written and nothing else.
     fn assert_run(
         &self,
@@ -166,7 +151,11 @@ impl<'a, R: Abort + Threads + Wait + Sync> Scene<'a, R> {
         want: Result<(), RunError>,
         written: usize,
     ) {
-        let ran = self.run_on(&mut reader, &mut writer);
+        let (alloc, hashing) = (self.alloc, self.hashing);
+        let ran = match self.mode {
+            Mode::Answering => run(self.rt, alloc, hashing, &mut reader, &mut writer, BATCHES),
+            Mode::Migrating => run_migrate(alloc, hashing, &mut reader, &mut writer),
+        };
         assert_is(self.rt, &ran, &want, "how it ends");
         assert!(self.rt; !writer.differs, "another text");
         let all = writer.rest.len().saturating_add(written);
@@ -174,53 +163,33 @@ impl<'a, R: Abort + Threads + Wait + Sync> Scene<'a, R> {
         assert_is(self.rt, &all, &writer.text.len(), about);
     }
 
-    /// A writer fails, or takes nothing more, once it took so many bytes, which are the front of the text.
-    fn assert_front(&self, room: usize) {
-        let want = Err(RunError::Write);
-        let failing = writer(self.mode, room, Ends::Failing);
-        self.assert_run(whole(), failing, want, room);
-        let full = writer(self.mode, room, Ends::TakingNothing);
-        self.assert_run(whole(), full, want, room);
-    }
-
-    /// A writer fails after each number of bytes of the text, and then in its flush, and then it doesn't fail.
+    /// A writer fails, or takes nothing more, after each number of bytes of the text; and then in its flush; and then it doesn't
+    /// fail.
     fn assert_fronts(&self) {
-        let unflushed = writer(self.mode, usize::MAX, Ends::FailingToFlush);
-        let all = unflushed.text.len();
+        let failed = Err(RunError::Write);
+        let all = self.mode.writer(0, Ends::Failing).text.len();
         for room in 0..all {
-            self.assert_front(room);
+            for ends in [Ends::Failing, Ends::TakingNothing] {
+                self.assert_run(whole(), self.mode.writer(room, ends), failed, room);
+            }
         }
-        self.assert_run(whole(), unflushed, Err(RunError::Write), all);
-        let good = writer(self.mode, usize::MAX, Ends::TakingNothing);
+        let unflushed = self.mode.writer(usize::MAX, Ends::FailingToFlush);
+        self.assert_run(whole(), unflushed, failed, all);
+        let good = self.mode.writer(usize::MAX, Ends::TakingNothing);
         self.assert_run(whole(), good, Ok(()), all);
     }
 
-    /// A run ends with all of the text written, or out of memory with nothing written.
-    fn assert_whole_or_nothing(&self) {
-        let mut reader = whole();
-        let mut writer = writer(self.mode, usize::MAX, Ends::TakingNothing);
-        let ran = self.run_on(&mut reader, &mut writer);
-        let left = if ran.is_ok() { 0 } else { writer.text.len() };
-        assert_is(self.rt, &writer.rest.len(), &left, "what isn't written");
-        assert!(self.rt; !writer.differs, "another text");
-        if let Err(error) = ran {
-            assert!(self.rt; is_for_want_of_memory(error), "a run met {error:?}");
+    /// A reader fails after two good reads, after one, and at once.
+    fn assert_unread(&self) {
+        for (good_reads, kind) in &READS {
+            let reader = Drip {
+                good_reads: *good_reads,
+                kind: *kind,
+                ..whole()
+            };
+            let writer = self.mode.writer(usize::MAX, Ends::TakingNothing);
+            self.assert_run(reader, writer, Err(RunError::Read), 0);
         }
-    }
-}
-
-/// What a test runs the program with, in the mode.
-fn make_scene<R: Abort + RandomSource + Threads + Wait + Sync>(
-    rt: &R,
-    alloc: Global,
-    mode: Mode,
-) -> Scene<'_, R> {
-    let hashing = RandomState::new(rt).expect(rt, "no random numbers");
-    Scene {
-        rt,
-        alloc,
-        hashing,
-        mode,
     }
 }
 
@@ -232,59 +201,8 @@ static READS: [(usize, ErrorKind); 3] = [
 ];
 
 #[test]
-fn a_reader_that_fails_leaves_nothing_written(rt: HostRuntime) {
-    for mode in &MODES {
-        let scene = make_scene(&rt, rt.alloc(), *mode);
-        for (good_reads, kind) in &READS {
-            let reader = Drip {
-                good_reads: *good_reads,
-                kind: *kind,
-                ..whole()
-            };
-            let writer = writer(*mode, usize::MAX, Ends::TakingNothing);
-            let want = Err(RunError::Read);
-            scene.assert_run(reader, writer, want, 0);
-        }
-    }
-}
-
-/// Spaces that a reader has, how many of them a run leaves, and why it refuses the others.
-static SPACES: [(u64, u64, PlanFault); 3] = [
-    (1_048_576, 0, PlanFault::NotJson),
-    (1_048_577, 0, PlanFault::TooLarge),
-    (2_000_000, 951_423, PlanFault::TooLarge),
-];
-
-#[test]
-fn one_byte_more_than_a_document_is_read(rt: HostRuntime) {
-    for mode in &MODES {
-        let scene = make_scene(&rt, rt.alloc(), *mode);
-        for (spaces, left, want) in &SPACES {
-            let mut reader = io::repeat(b' ').take(*spaces);
-            let mut writer = writer(*mode, usize::MAX, Ends::TakingNothing);
-            let ran = scene.run_on(&mut reader, &mut writer);
-            assert_is(&rt, &ran, &Err(RunError::Refused(*want)), "how it ends");
-            assert_is(&rt, &reader.limit(), left, "the spaces that are left");
-            let unwritten = writer.rest.len();
-            assert_is(&rt, &unwritten, &writer.text.len(), "what isn't written");
-        }
-    }
-}
-
-#[test]
-fn a_writer_that_fails_has_a_front(rt: HostRuntime) {
-    for mode in &MODES {
-        make_scene(&rt, rt.alloc(), *mode).assert_fronts();
-    }
-}
-
-// Under `rt try --test --fail-alloc N` each growth is refused in turn. Where that isn't one of `run` or `run_migrate` the test
-// ends.
-#[test]
-fn a_refused_growth(rt: HostRuntime) {
-    let Ok(hashing) = RandomState::new(&rt) else {
-        return;
-    };
+fn readers_and_writers_fail(rt: HostRuntime) {
+    let hashing = RandomState::new(&rt).expect(&rt, "no random numbers");
     for mode in &MODES {
         let scene = Scene {
             rt: &rt,
@@ -292,143 +210,53 @@ fn a_refused_growth(rt: HostRuntime) {
             hashing,
             mode: *mode,
         };
-        scene.assert_whole_or_nothing();
+        scene.assert_unread();
+        scene.assert_fronts();
     }
 }
 
-/// Whether a run may fail so where a growth is refused.
-fn is_for_want_of_memory(error: RunError) -> bool {
-    match error {
-        RunError::OutOfMemory => true,
-        RunError::Run(fault) => matches!(
-            fault,
-            ScopeFault::OutOfMemory
-                | ScopeFault::Start(StartFault::OutOfMemory)
-                | ScopeFault::Queue(QueueFault::OutOfMemory)
-                | ScopeFault::Close(CloseFault::OutOfMemory)
-                | ScopeFault::Run {
-                    fault: RunFault::OutOfMemory | RunFault::Call(CallFault::OutOfMemory),
-                    ..
-                }
-                | ScopeFault::Stopped
-                | ScopeFault::Unfetched { .. }
-        ),
-        RunError::Read | RunError::Refused(_) | RunError::Write | RunError::NotVersion1 => false,
-    }
-}
-
-/// How a run fails that no row of `tests/documents.py` meets, its line, and the status of the program.
-static LINES: [(RunError, &str, u8); 12] = [
-    (RunError::Read, "failed: read", 3),
-    (RunError::OutOfMemory, "failed: memory", 3),
-    (RunError::Run(ScopeFault::NoPlans), "failed: NoPlans", 3),
+/// How a run fails that no row of `tests/documents.py` meets, and its line.
+static LINES: [(RunError, &str); 10] = [
+    (RunError::Read, "failed: read"),
+    (RunError::OutOfMemory, "failed: memory"),
+    (RunError::Run(ScopeFault::NoPlans), "failed: NoPlans"),
     (
         RunError::Run(ScopeFault::TooManyPlans),
         "failed: TooManyPlans",
-        3,
     ),
-    (
-        RunError::Run(ScopeFault::BadWorkers),
-        "failed: BadWorkers",
-        3,
-    ),
+    (RunError::Run(ScopeFault::BadWorkers), "failed: BadWorkers"),
     (
         RunError::Run(ScopeFault::Start(StartFault::OutOfMemory)),
         "failed: Start",
-        3,
     ),
     (
         RunError::Run(ScopeFault::Queue(QueueFault::OutOfMemory)),
         "failed: Queue",
-        3,
-    ),
-    (
-        RunError::Run(ScopeFault::Run {
-            plan: 2,
-            fault: RunFault::Stopped,
-        }),
-        "failed: Run",
-        3,
     ),
     (
         RunError::Run(ScopeFault::Close(CloseFault::OutOfMemory)),
         "failed: Close",
-        3,
-    ),
-    (
-        RunError::Run(ScopeFault::Close(CloseFault::Unsettled { batch: 4 })),
-        "failed: Close",
-        3,
     ),
     (
         RunError::Run(ScopeFault::Unfetched { batch: 1 }),
         "failed: Unfetched",
-        3,
     ),
     (
         RunError::Run(ScopeFault::OutOfMemory),
         "failed: OutOfMemory",
-        3,
     ),
 ];
 
-/// A failure has this line and this status.
-fn assert_line(rt: &impl Abort, alloc: Global, error: &RunError, line: &str, status: u8) {
+/// A failure has this line, and the status 3.
+fn assert_line(rt: &impl Abort, alloc: Global, error: &RunError, line: &str) {
     let shown = format!(in alloc; "{error}").expect(rt, "no memory");
     assert_is(rt, &shown.as_str(), &line, "the line");
-    assert_is(rt, &error.status(), &status, line);
+    assert_is(rt, &error.status(), &3, line);
 }
 
 #[test]
 fn failures_have_lines_and_statuses(rt: HostRuntime) {
-    for (error, line, status) in &LINES {
-        assert_line(&rt, rt.alloc(), error, line, *status);
-    }
-}
-
-/// Words of a command line, and the options that they are, or the status with which they end the program.
-static WORDS: [(&[&str], Result<Options, i32>); 8] = [
-    (&[], Ok(OPTIONS)),
-    (
-        &["--batches", "--workers", "16"],
-        Ok(Options {
-            workers: 16,
-            ..BATCHES
-        }),
-    ),
-    (
-        &["--workers", "1"],
-        Ok(Options {
-            workers: 1,
-            ..OPTIONS
-        }),
-    ),
-    (
-        &["--workers", "1", "--batches", "migrate"],
-        Ok(Options {
-            workers: 1,
-            migrate: true,
-            ..BATCHES
-        }),
-    ),
-    (&["--workers", "0"], Err(2)),
-    (&["--workers", "17"], Err(2)),
-    (&["migrate", "--batches"], Err(2)),
-    (&["--help"], Err(0)),
-];
-
-/// The options of words, or the status with which clap ends a program of them.
-fn asked(alloc: Global, words: &[&str]) -> Result<Options, i32> {
-    match options(alloc, words) {
-        Ok(options) => Ok(options),
-        Err(error) => Err(error.exit_code()),
-    }
-}
-
-#[test]
-fn the_command_line_is_read(rt: HostRuntime) {
-    for (words, want) in &WORDS {
-        let got = asked(rt.alloc(), words);
-        assert_is(&rt, &got, want, format_args!("{words:?}"));
+    for (error, line) in &LINES {
+        assert_line(&rt, rt.alloc(), error, line);
     }
 }

@@ -1,16 +1,15 @@
 //! The reference loader: it prints the texts of the worked scripts.
 
 use crate::comparison::assert_is;
-use crate::lines::lines_of;
-use dl_desk::{Limits, Text};
-use dl_documents::{Input, Script, read_input};
-use dl_reference::Rules;
-use std::alloc::Global;
+use dl_desk::{DeskFault, DeskPrime, Job, LoadReply, Text};
+use dl_documents::{Input, Script, ScriptCall, read_input};
+use dl_reference::{Atom, Call, Reply, Rules, reply_to};
+use std::alloc::{AllocError, Global};
 use std::hash::RandomState;
 use std::process::Abort;
 
 /// Scripts that the program is run on too, by `tests/program`: what each shows, its document, and the text that it gives.
-static ROWS: [(&str, &str, &str); 17] = [
+static ROWS: [(&str, &str, &str); 18] = [
     (
         "a second load hits",
         r#"{"script":1,"maxBatchSize":2,"calls":[{"load":["t","a"]},{"load":["t","a"]}]}"#,
@@ -102,38 +101,36 @@ static ROWS: [(&str, &str, &str); 17] = [
         "refused NoBatch\nrefused NoBatch\n",
     ),
     ("no calls give nothing", r#"{"script":1,"calls":[]}"#, ""),
+    (
+        "a table with a limit of its own",
+        concat!(
+            r#"{"script":2,"maxBatchSize":2,"tableLimits":[["s",1]],"calls":[{"load":["t","a"]},{"load":["s","x"]},{"load":["t","b"]},"#,
+            r#"{"load":["s","y"]},{"load":["t","c"]},{"dispatch":true}]}"#
+        ),
+        concat!(
+            "fresh 0 0\nfresh 1 1\nfresh 2 0\nfresh 3 2\nfresh 4 3\nsent 4\njob 0 [\"t\",\"a\"] [\"t\",\"b\"]\n",
+            "job 1 [\"s\",\"x\"]\njob 2 [\"s\",\"y\"]\njob 3 [\"t\",\"c\"]\n"
+        ),
+    ),
 ];
 
-/// Loads of the tables t and s in turn, and a dispatch.
-const TWO_TABLES: &str = concat!(
-    r#"{"script":1,"maxBatchSize":2,"calls":[{"load":["t","a"]},{"load":["s","x"]},{"load":["t","b"]},"#,
-    r#"{"load":["s","y"]},{"load":["t","c"]},{"dispatch":true}]}"#
-);
-
-/// What they print where each batch is of one table, and those of s have one key.
-const BY_TABLE: &str = concat!(
-    "fresh 0 0\nfresh 1 1\nfresh 2 0\nfresh 3 2\nfresh 4 3\nsent 4\njob 0 [\"t\",\"a\"] [\"t\",\"b\"]\n",
-    "job 1 [\"s\",\"x\"]\njob 2 [\"s\",\"y\"]\njob 3 [\"t\",\"c\"]\n"
-);
-
 /// The script that a document is, if it is one.
-pub(crate) fn script(alloc: Global, hashing: RandomState, document: &str) -> Option<Script> {
+fn script(alloc: Global, hashing: RandomState, document: &str) -> Option<Script> {
     match read_input(alloc, hashing, document.as_bytes()) {
         Ok(Input::Script(script)) => Some(script),
         Ok(Input::Plans(_)) | Err(_) => None,
     }
 }
 
-/// Rules of a loader whose batches may mix tables.
-pub(crate) fn mixed(limits: Limits) -> Rules {
-    Rules {
-        limits,
-        tables: None,
+/// The rules of a script. Where its batches are of one table each, those of s have one key.
+fn rules(rt: &impl Abort, alloc: Global, script: &Script) -> Rules {
+    let limits = script.limits;
+    if script.table_limits.is_none() {
+        return Rules {
+            limits,
+            tables: None,
+        };
     }
-}
-
-/// Rules of a loader whose batches have one table each, and those of s one key.
-pub(crate) fn by_table(rt: &impl Abort, alloc: Global, limits: Limits) -> Rules {
     let table = Text::new(alloc, "s").expect(rt, "no memory");
     let tables = vec![in alloc; (table, 1)].expect(rt, "no memory");
     Rules {
@@ -142,25 +139,81 @@ pub(crate) fn by_table(rt: &impl Abort, alloc: Global, limits: Limits) -> Rules 
     }
 }
 
-/// The reference loader gives a script this text.
-fn assert_lines(rt: &impl Abort, alloc: Global, rules: &Rules, script: &Script, want: &str) {
-    let text = lines_of(alloc, rules, script).expect(rt, "no memory");
-    assert_is(rt, &text.as_str(), &want, "a script");
+/// A call of a script, as the reference loader has it.
+fn call_of(alloc: Global, call: &ScriptCall) -> Result<Call, AllocError> {
+    match call {
+        ScriptCall::Load(key) => key.try_copy().map(Call::Load),
+        ScriptCall::LoadMany(keys) => keys.as_slice().to_vec(alloc).map(Call::LoadMany),
+        ScriptCall::Prime(key) => key.try_copy().map(Call::Prime),
+        ScriptCall::Clear(key) => key.try_copy().map(Call::Clear),
+        ScriptCall::ClearAll => Ok(Call::ClearAll),
+        ScriptCall::Dispatch => Ok(Call::Dispatch),
+        ScriptCall::Settle(batch) => Ok(Call::Settle(*batch)),
+        ScriptCall::Fail(batch) => Ok(Call::Fail(*batch)),
+    }
+}
+
+/// Makes the calls of a script in order, from the empty history on, and answers the lines of their replies.
+fn lines_of(rt: &impl Abort, alloc: Global, rules: &Rules, script: &Script) -> String {
+    let mut history: Vec<Atom> = Vec::new(alloc);
+    let mut text = String::new(alloc);
+    for call in script.calls.as_slice() {
+        let call = call_of(alloc, call).expect(rt, "no memory");
+        let reply = reply_to(alloc, rules, &mut history, &call);
+        let reply = reply.expect(rt, "no memory");
+        write_reply(&mut text, &reply).expect(rt, "no memory");
+    }
+    text
+}
+
+fn write_reply(text: &mut String, reply: &Reply) -> Result<(), AllocError> {
+    match reply {
+        Reply::Loaded(reply) => write_load(text, *reply),
+        Reply::Many(replies) => {
+            writeln!(text, "many {}", replies.len())?;
+            for reply in replies {
+                write_load(text, *reply)?;
+            }
+            Ok(())
+        }
+        Reply::Primed(DeskPrime::Primed(cell)) => writeln!(text, "primed {cell}"),
+        Reply::Primed(DeskPrime::Kept) => writeln!(text, "kept"),
+        Reply::Done => writeln!(text, "ok"),
+        Reply::Sent(jobs) => write_sent(text, jobs),
+        Reply::Refused(DeskFault::CellsFull { limit }) => {
+            writeln!(text, "refused CellsFull {limit}")
+        }
+        Reply::Refused(fault) => writeln!(text, "refused {fault:?}"),
+    }
+}
+
+fn write_load(text: &mut String, reply: LoadReply) -> Result<(), AllocError> {
+    match reply {
+        LoadReply::Hit(cell) => writeln!(text, "hit {cell}"),
+        LoadReply::Fresh { cell, batch } => writeln!(text, "fresh {cell} {batch}"),
+    }
+}
+
+/// Writes jobs of keys whose texts need no escape in JSON.
+fn write_sent(text: &mut String, jobs: &[Job]) -> Result<(), AllocError> {
+    writeln!(text, "sent {}", jobs.len())?;
+    for job in jobs {
+        write!(text, "job {}", job.batch)?;
+        for key in job.keys.as_slice() {
+            write!(text, " [\"{}\",\"{}\"]", key.table(), key.id())?;
+        }
+        writeln!(text, "")?;
+    }
+    Ok(())
 }
 
 #[test]
 fn the_reference_loader_gives_a_script_its_text(rt: HostRuntime) {
     let hashing = RandomState::new(&rt).expect(&rt, "no random numbers");
-    for (_about, document, want) in &ROWS {
+    for (about, document, want) in &ROWS {
         let script = script(rt.alloc(), hashing, document).expect(&rt, "no script");
-        assert_lines(&rt, rt.alloc(), &mixed(script.limits), &script, want);
+        let rules = rules(&rt, rt.alloc(), &script);
+        let text = lines_of(&rt, rt.alloc(), &rules, &script);
+        assert_is(&rt, &text.as_str(), want, about);
     }
-}
-
-#[test]
-fn batches_by_table_hold_one_table_each(rt: HostRuntime) {
-    let hashing = RandomState::new(&rt).expect(&rt, "no random numbers");
-    let script = script(rt.alloc(), hashing, TWO_TABLES).expect(&rt, "no script");
-    let rules = by_table(&rt, rt.alloc(), script.limits);
-    assert_lines(&rt, rt.alloc(), &rules, &script, BY_TABLE);
 }

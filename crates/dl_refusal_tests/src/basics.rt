@@ -1,14 +1,14 @@
 //! The calls that need no loader.
 
 use crate::stage::Stage;
-use dl_refusals::{MOST_GROWTHS, Refusal};
+use dl_refusals::{Kind, MOST_GROWTHS, Refusal};
 use std::hash::RandomState;
 
 #[test]
 fn calls_without_a_loader(rt: HostRuntime) {
     let hashing = RandomState::new(&rt).expect(&rt, "no random numbers");
     for nth in 1..MOST_GROWTHS {
-        let refusal = Refusal::of_growths(rt.alloc(), nth);
+        let refusal = Refusal::of_each(rt.alloc(), Kind::Growth, nth);
         let stage = Stage {
             rt: &rt,
             alloc: rt.alloc(),

@@ -6,12 +6,11 @@ ghost use Rattle.dl_workers.specs.Seats.{AreSeatsOf, IsSenderOf, IsTakerOf};
 
 use crate::evaluations::FRIENDS_GIVE;
 use crate::scene::Scene;
-use dl_desk::{FetchKey, Job};
 use dl_fixtures::{ADA, FRIENDS, outcome_text};
 use dl_haxl::{RunFault, run_term};
 use dl_loader::{Loader, LoaderName, Pass, Ticket};
 use dl_source::Source;
-use dl_terms::{Answer, Term};
+use dl_terms::Answer;
 use dl_workers::{JobQueue, NoGate, QueueFault, Sender, Taker, WorkerEnd, work};
 use std::alloc::Global;
 use std::io::Eprint;
@@ -19,38 +18,14 @@ use std::process::Abort;
 use std::sync::Wait;
 use std::thread::{Threads, join};
 
-/// Where the worker works.
-#[derive(Clone, Copy)]
-pub(crate) enum Place {
-    /// On a thread of its own, while the caller evaluates the term and then shuts the queue.
-    Beside,
-    /// Nowhere: the caller shuts the queue and evaluates the term.
-    Nowhere,
-}
+/// What the friends of `u1` give over a queue that was shut, and what else may come where a growth is refused.
+static UNSENT_GIVE: [&str; 3] = ["batch of u1: unsent", "Call(OutOfMemory)", "OutOfMemory"];
 
-/// What a term gives over a queue that was shut, and what else may come where a growth is refused.
-static UNSENT_GIVE: [&str; 4] = [
-    "batch of u1: unsent",
-    "Call(OutOfMemory)",
-    "Stopped",
-    "OutOfMemory",
-];
-
-/// A caller with the seat of its queue's sender and a term, and what that gave with the number of rounds.
-#[derive(Drop)]
-struct Caller<L: LoaderName> {
-    pass: Pass<L>,
-    seats: Vec<Sender>,
-    term: Option<Term>,
-    given: Option<Result<(Answer, u32), RunFault>>,
-}
-
-/// A worker with the seat of its queue's taker, and how it ended.
+/// A worker with the seat of its queue's taker.
 #[derive(Drop)]
 struct Worker<L: LoaderName> {
     pass: Pass<L>,
     seats: Vec<Taker>,
-    end: Option<WorkerEnd>,
 }
 
 impl<
@@ -59,58 +34,52 @@ impl<
     S: Source + Sync,
     R: Abort + Eprint + Threads + Wait + Sync,
 > Scene<'a, L, S, R> {
-    /// Evaluates all friends of a user, whose jobs a worker ends or nobody does.
-    pub(crate) fn hand_over(&self, passes: &mut Vec<Pass<L>>, place: Place)
+    /// Evaluates all friends of a user, over a queue that was shut before or was not.
+    pub(crate) fn hand_over(&self, passes: &mut Vec<Pass<L>>, is_shut: bool)
         requires { Answers (S.answer self.now.source.now) L.service }
     {
         let rt = self.stage.rt;
-        let (queue, senders, takers) = self.queue();
-        let worker = Worker {
-            pass: passes.pop().expect(rt, "no pass"),
-            seats: takers,
-            end: None,
-        };
-        let caller = Caller {
-            pass: passes.pop().expect(rt, "no pass"),
-            seats: senders,
-            term: Some(self.stage.term(&FRIENDS)),
-            given: None,
-        };
-        let caller = match place {
-            Place::Beside => self.beside(&queue, caller, worker),
-            Place::Nowhere => self.unsent(&queue, caller),
-        };
-        let given = caller.given.expect(rt, "no answer");
-        match place {
-            Place::Beside => self
-                .stage
-                .assert_evaluated("run_term", given, 2, &FRIENDS_GIVE),
-            Place::Nowhere => self
-                .stage
-                .assert_evaluated("run_term", given, 1, &UNSENT_GIVE),
+        let (queue, senders, seats) = self.queue();
+        let senders = shut_where(rt, &queue, senders, is_shut);
+        let pass = passes.pop().expect(rt, "no pass");
+        let worker = Worker { pass, seats };
+        let pass = passes.pop().expect(rt, "no pass");
+        let given = self.beside(&queue, senders, pass, worker);
+        if is_shut {
+            self.stage
+                .assert_evaluated("run_term", given, 1, &UNSENT_GIVE);
+        } else {
+            self.stage
+                .assert_evaluated("run_term", given, 2, &FRIENDS_GIVE);
         }
     }
 
     /// Plays the worker on a thread of its own. Growths are refused once that thread has started.
-    fn beside(&self, queue: &JobQueue, caller: Caller<L>, worker: Worker<L>) -> Caller<L>
+    fn beside(
+        &self,
+        queue: &JobQueue,
+        senders: Vec<Sender>,
+        pass: Pass<L>,
+        worker: Worker<L>,
+    ) -> Result<(Answer, u32), RunFault>
         requires source { Answers (S.answer self.now.source.now) L.service }
-        requires senders { All (IsSenderOf queue.now) caller.seats.items × (length caller.seats.items ≡ 1) }
+        requires senders { All (IsSenderOf queue.now) senders.items × (length senders.items ≡ 1) }
         requires takers { All (IsTakerOf queue.now) worker.seats.items × (length worker.seats.items ≡ 1) }
     {
         let (rt, alloc) = (self.stage.rt, self.stage.alloc);
         let (loader, source) = (self.loader, self.source);
-        let (worker, caller) = join(
+        let (worker, given) = join(
             rt,
-            move || -> Worker<L>
+            move || -> WorkerEnd
                 requires { Answers (S.answer source.now) L.service
                     × All (IsTakerOf queue.now) worker.seats.items × (length worker.seats.items ≡ 1) }
             { work_until_shut(rt, alloc, loader, source, queue, worker) },
-            move || -> Caller<L>
-                requires { All (IsSenderOf queue.now) caller.seats.items × (length caller.seats.items ≡ 1) }
-            { self.evaluate_and_shut(queue, caller) },
+            move || -> Result<(Answer, u32), RunFault>
+                requires { All (IsSenderOf queue.now) senders.items × (length senders.items ≡ 1) }
+            { self.evaluate_over(queue, senders, pass) },
         );
-        assert!(rt; worker.end.is_some(), "the worker has not ended");
-        caller
+        assert!(rt; matches!(worker, WorkerEnd::Done { .. }), "{worker:?}");
+        given
     }
 }
 
@@ -123,56 +92,40 @@ impl<'a, L: LoaderName, S: Source, R: Abort + Eprint + Wait> Scene<'a, L, S, R> 
     {
         let (rt, alloc) = (self.stage.rt, self.stage.alloc);
         self.stage.refusal.begin();
-        match JobQueue::new(alloc, 2, 1, 1) {
-            Ok(queue) => {
-                self.stage.is_again("JobQueue::new", false);
-                queue
-            }
-            Err(fault) => {
-                let is_out_of_memory = fault == QueueFault::OutOfMemory;
-                let is_again = self.stage.is_again("JobQueue::new", is_out_of_memory);
-                assert!(rt; is_again, "{fault:?}");
-                JobQueue::new(alloc, 2, 1, 1).expect(rt, "no queue")
-            }
+        let first = JobQueue::new(alloc, 2, 1, 1);
+        let is_out_of_memory = matches!(first, Err(QueueFault::OutOfMemory));
+        if self.stage.is_again("JobQueue::new", is_out_of_memory) {
+            let again = JobQueue::new(alloc, 2, 1, 1);
+            return again.expect(rt, "no queue");
         }
+        first.expect(rt, "no queue")
     }
 
-    /// Has the caller evaluate its term over a queue that it shut before.
-    fn unsent(&self, queue: &JobQueue, mut caller: Caller<L>) -> Caller<L>
-        requires { All (IsSenderOf queue.now) caller.seats.items × (length caller.seats.items ≡ 1) }
-    {
-        queue.shut(self.stage.rt, &mut caller.seats[0]);
-        self.evaluate_over(queue, caller)
-    }
-
-    /// Has the caller evaluate its term, and shut the queue.
-    fn evaluate_and_shut(&self, queue: &JobQueue, caller: Caller<L>) -> Caller<L>
-        requires { All (IsSenderOf queue.now) caller.seats.items × (length caller.seats.items ≡ 1) }
-    {
-        let mut caller = self.evaluate_over(queue, caller);
-        queue.shut(self.stage.rt, &mut caller.seats[0]);
-        caller
-    }
-
-    /// Has the caller evaluate its term, with a growth refused from here on.
-    fn evaluate_over(&self, queue: &JobQueue, mut caller: Caller<L>) -> Caller<L>
-        requires { All (IsSenderOf queue.now) caller.seats.items × (length caller.seats.items ≡ 1) }
-        ensures { All (IsSenderOf queue.now) result.seats.items × (length result.seats.items ≡ 1) }
+    /// Evaluates all friends of a user with a growth refused, and then shuts the queue, which a second time does nothing.
+    fn evaluate_over(
+        &self,
+        queue: &JobQueue,
+        mut senders: Vec<Sender>,
+        mut pass: Pass<L>,
+    ) -> Result<(Answer, u32), RunFault>
+        requires { All (IsSenderOf queue.now) senders.items × (length senders.items ≡ 1) }
     {
         let stage = self.stage;
-        let term = caller.term.take().expect(stage.rt, "no term");
+        let term = stage.term(&FRIENDS);
+        let sender = &mut senders[0];
         stage.refusal.begin();
-        caller.given = Some(run_term(
+        let given = run_term(
             stage.rt,
             stage.alloc,
             stage.hashing,
             self.loader,
-            &mut caller.pass,
+            &mut pass,
             queue,
-            &mut caller.seats[0],
+            sender,
             term,
-        ));
-        caller
+        );
+        queue.shut(stage.rt, sender);
+        given
     }
 
     /// Has a worker end the job of a load, on the caller's thread and by the caller's own pass.
@@ -181,8 +134,14 @@ impl<'a, L: LoaderName, S: Source, R: Abort + Eprint + Wait> Scene<'a, L, S, R> 
     {
         let (rt, alloc) = (self.stage.rt, self.stage.alloc);
         let (queue, mut senders, mut takers) = self.queue();
-        let (mut ticket, job) = self.load_first(pass);
-        send_and_shut(rt, &queue, &mut senders[0], job);
+        let key = self.stage.key("user", "u1");
+        let ticket = self.loader.load(rt, alloc, pass, &key);
+        let mut jobs = self.loader.dispatch(rt, alloc, pass).expect(rt, "no jobs");
+        let job = jobs.pop().expect(rt, "no job");
+        let sender = &mut senders[0];
+        let sent = queue.send(rt, sender, job);
+        assert!(rt; sent.is_ok(), "not sent");
+        queue.shut(rt, sender);
         self.stage.refusal.begin();
         let end = work(
             rt,
@@ -195,30 +154,15 @@ impl<'a, L: LoaderName, S: Source, R: Abort + Eprint + Wait> Scene<'a, L, S, R> 
             &NoGate,
         );
         let was_refused = self.stage.refusal.end(rt, "work");
+        let mut ticket = ticket.expect(rt, "no ticket");
         self.assert_worked(&mut ticket, end, was_refused);
     }
 
-    /// The ticket of a load, and its job.
-    fn load_first(&self, pass: &mut Pass<L>) -> (Ticket<'a, L>, Job) {
-        let (rt, alloc) = (self.stage.rt, self.stage.alloc);
-        let key = FetchKey::new(alloc, "user", "u1").expect(rt, "no key");
-        let ticket = self.loader.load(rt, alloc, pass, &key);
-        let mut jobs = self.loader.dispatch(rt, alloc, pass).expect(rt, "no jobs");
-        let job = jobs.pop().expect(rt, "no job");
-        (ticket.expect(rt, "no ticket"), job)
-    }
-
-    /// The worker has ended the batch as the source answers; or, where a growth was refused, as one without memory, or it gave up.
+    /// The worker has ended the batch as the source answers; or, where a growth was refused, as one without memory.
     fn assert_worked(&self, ticket: &mut Ticket<'a, L>, end: WorkerEnd, was_refused: bool) {
         let (rt, alloc) = (self.stage.rt, self.stage.alloc);
-        let Some(outcome) = ticket.look() else {
-            assert!(rt;
-                was_refused && end == WorkerEnd::GaveUp { batch: 0 },
-                "{end:?}"
-            );
-            return;
-        };
         assert!(rt; end == WorkerEnd::Done { batches: 1 }, "{end:?}");
+        let outcome = ticket.look().expect(rt, "no outcome");
         let text = outcome_text(alloc, outcome).expect(rt, "no memory");
         let is_own = text.as_str() == ADA;
         assert!(rt;
@@ -228,13 +172,21 @@ impl<'a, L: LoaderName, S: Source, R: Abort + Eprint + Wait> Scene<'a, L, S, R> 
     }
 }
 
-/// Sends a job, and shuts the queue.
-fn send_and_shut<R: Abort + Wait>(rt: &R, queue: &JobQueue, sender: &mut Sender, job: Job)
-    requires { IsSenderOf queue.now sender.old }
+/// The senders of a queue, which the first of them shuts or doesn't.
+fn shut_where<R: Wait>(
+    rt: &R,
+    queue: &JobQueue,
+    mut senders: Vec<Sender>,
+    is_shut: bool,
+) -> Vec<Sender>
+    requires { All (IsSenderOf queue.now) senders.items × (length senders.items ≡ 1) }
+    ensures { All (IsSenderOf queue.now) result.items × (length result.items ≡ 1) }
 {
-    let sent = queue.send(rt, sender, job);
-    assert!(rt; sent.is_ok(), "not sent");
-    queue.shut(rt, sender);
+    if !is_shut {
+        return senders;
+    }
+    queue.shut(rt, &mut senders[0]);
+    senders
 }
 
 /// Has the worker work until the queue is shut and empty.
@@ -245,11 +197,11 @@ fn work_until_shut<L: LoaderName, S: Source, R: Wait>(
     source: &S,
     queue: &JobQueue,
     mut worker: Worker<L>,
-) -> Worker<L>
+) -> WorkerEnd
     requires source { Answers (S.answer source.now) L.service }
     requires takers { All (IsTakerOf queue.now) worker.seats.items × (length worker.seats.items ≡ 1) }
 {
-    worker.end = Some(work(
+    work(
         rt,
         alloc,
         loader,
@@ -258,6 +210,5 @@ fn work_until_shut<L: LoaderName, S: Source, R: Wait>(
         queue,
         &mut worker.seats[0],
         &NoGate,
-    ));
-    worker
+    )
 }

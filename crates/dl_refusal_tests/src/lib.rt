@@ -18,6 +18,8 @@ mod handovers;
 #[cfg(test)]
 mod loader;
 #[cfg(test)]
+mod plays;
+#[cfg(test)]
 mod polls;
 #[cfg(test)]
 mod requests;

@@ -1,12 +1,13 @@
 //! Plans that are served: whose growths and threads are refused in turn, whose limits are small, and by a source without memory.
 
 use crate::comparison::{assert_ids, assert_is};
+use crate::plays::{Play, play_over};
 use crate::stage::Stage;
 use dl_desk::Limits;
 use dl_fixtures::{ADA, FRIENDS, Shape, U1, U2, USERS, answer_text, tables};
 use dl_haxl::RunFault;
 use dl_loader::{CallFault, CloseFault, History, StartFault};
-use dl_refusals::{MOST_GROWTHS, NoRoom, Refusal};
+use dl_refusals::{Kind, MOST_GROWTHS, NoRoom, Refusal};
 use dl_scope::{Plan, Report, ScopeFault, Setup, Step, StepAnswer, serve};
 use dl_source::{Source, Tables};
 use dl_workers::{NoGate, QueueFault, Tally};
@@ -108,69 +109,63 @@ const STARVED: Row = Row {
 impl<R: Abort + Eprint + Threads + Wait + Sync> Stage<'_, R> {
     /// Serves the plans of a row as it says, or, where something was refused, is out of memory, and serves them again then.
     fn serve<S: Source + Sync>(&self, source: &S, row: &Row) {
-        let (setup, plans) = (self.setup(row), self.plans(row.plans));
-        self.refusal.begin();
-        let served = serve(
-            self.rt,
-            self.alloc,
-            self.hashing,
-            source,
-            setup,
-            plans,
-            &NoGate,
-        );
+        let served = self.served(source, row, true);
         let was_refused = self.refusal.end(self.rt, "serve");
-        if was_refused && is_out_of_memory(&served) {
-            return self.serve_again(source, row);
-        }
-        self.assert_served(served, row);
-    }
-
-    /// Serves the plans of a row with nothing refused.
-    fn serve_again<S: Source + Sync>(&self, source: &S, row: &Row) {
-        let (setup, plans) = (self.setup(row), self.plans(row.plans));
-        let served = serve(
-            self.rt,
-            self.alloc,
-            self.hashing,
-            source,
-            setup,
-            plans,
-            &NoGate,
+        let is_again = was_refused && is_out_of_memory(&served);
+        self.assert_served(
+            if is_again {
+                self.served(source, row, false)
+            } else {
+                served
+            },
+            row,
         );
-        self.assert_served(served, row);
     }
-}
 
-impl<R: Abort + Eprint> Stage<'_, R> {
-    fn setup(&self, row: &Row) -> Setup {
+    /// What the plans of a row give, refused or not.
+    fn served<S: Source + Sync>(
+        &self,
+        source: &S,
+        row: &Row,
+        is_refused: bool,
+    ) -> Result<Report, ScopeFault> {
         let (max_batch, max_cells, max_calls) = row.limits;
         let limits = Limits::new(max_batch, max_cells, max_calls);
-        Setup {
+        let setup = Setup {
             limits: limits.expect(self.rt, "no limits"),
             tables: None,
             workers: row.workers,
             queue: row.queue,
+        };
+        let plans = self.plans(row.plans);
+        if is_refused {
+            self.refusal.begin();
         }
+        serve(
+            self.rt,
+            self.alloc,
+            self.hashing,
+            source,
+            setup,
+            plans,
+            &NoGate,
+        )
     }
+}
 
+impl<R: Abort + Eprint> Stage<'_, R> {
     /// The plans of these terms.
     fn plans(&self, terms: &[&[Shape]]) -> Vec<Plan> {
         let mut plans = Vec::new(self.alloc);
         for terms in terms {
-            let plan = self.plan(terms);
-            plans.push(plan).expect(self.rt, "no memory");
+            let mut steps = Vec::new(self.alloc);
+            for shape in *terms {
+                let step = Step::Eval(self.term(shape));
+                steps.push(step).expect(self.rt, "no memory");
+            }
+            plans.push(Plan { steps }).expect(self.rt, "no memory");
         }
         plans
-    }
-
-    fn plan(&self, terms: &[Shape]) -> Plan {
-        let mut steps = Vec::new(self.alloc);
-        for shape in terms {
-            let step = Step::Eval(self.term(shape));
-            steps.push(step).expect(self.rt, "no memory");
-        }
-        Plan { steps }
     }
 
     fn assert_served(&self, served: Result<Report, ScopeFault>, row: &Row) {
@@ -233,77 +228,52 @@ fn is_out_of_memory(served: &Result<Report, ScopeFault>) -> bool {
                     fault: RunFault::OutOfMemory | RunFault::Call(CallFault::OutOfMemory),
                     ..
                 }
-                | ScopeFault::Stopped
                 | ScopeFault::Unfetched { .. }
         )
     )
 }
 
-/// Serves the plans under a refusal, by so many workers. Whether something was refused.
-fn is_refused<R: Abort + Eprint + Threads + Wait + Sync>(
+/// Serves the plans by so many workers, with their first growth or thread refused, then with the second, and so on until none is.
+fn sweep<R: Abort + Eprint + Threads + Wait + Sync>(
     rt: &R,
-    refusal: &Refusal,
     alloc: Global,
     hashing: RandomState,
     users: &Tables,
     workers: u32,
-) -> bool {
-    let stage = Stage {
-        rt,
-        alloc,
-        hashing,
-        refusal,
-    };
+    kind: Kind,
+) {
     let row = Row { workers, ..STARVED };
-    stage.serve(users, &row);
-    refusal.has_met()
+    for nth in 1..MOST_GROWTHS {
+        let refusal = Refusal::of_each(alloc, kind, nth);
+        let stage = Stage {
+            rt,
+            alloc,
+            hashing,
+            refusal: &refusal,
+        };
+        stage.serve(users, &row);
+        if !refusal.has_met() {
+            return;
+        }
+    }
+    panic!(rt; "refusals without end");
 }
 
 /// By how many workers the plans are served.
 static WORKERS: [u32; 3] = [1, 2, 3];
 
 #[test]
-fn plans_whose_growths_are_refused(rt: HostRuntime) {
-    let (alloc, hashing) = (
-        rt.alloc(),
-        RandomState::new(&rt).expect(&rt, "no random numbers"),
-    );
-    let users = tables(alloc, hashing, USERS).expect(&rt, "no tables");
+fn plans_whose_growths_or_threads_are_refused(rt: HostRuntime) {
+    let hashing = RandomState::new(&rt).expect(&rt, "no random numbers");
+    let users = tables(rt.alloc(), hashing, USERS).expect(&rt, "no tables");
     for workers in &WORKERS {
-        let mut has_met = true;
-        for nth in 1..MOST_GROWTHS {
-            let refusal = Refusal::of_growths(alloc, nth);
-            has_met = is_refused(&rt, &refusal, alloc, hashing, &users, *workers);
-            if !has_met {
-                break;
-            }
-        }
-        assert!(rt; !has_met, "growths without end");
+        sweep(&rt, rt.alloc(), hashing, &users, *workers, Kind::Growth);
+        sweep(&rt, rt.alloc(), hashing, &users, *workers, Kind::Thread);
     }
 }
 
 #[test]
-fn plans_whose_threads_are_refused(rt: HostRuntime) {
-    let (alloc, hashing) = (
-        rt.alloc(),
-        RandomState::new(&rt).expect(&rt, "no random numbers"),
-    );
-    let users = tables(alloc, hashing, USERS).expect(&rt, "no tables");
-    for workers in &WORKERS {
-        let mut has_met = true;
-        for nth in 1..MOST_GROWTHS {
-            let refusal = Refusal::of_threads(alloc, nth);
-            has_met = is_refused(&rt, &refusal, alloc, hashing, &users, *workers);
-            if !has_met {
-                break;
-            }
-        }
-        assert!(rt; !has_met, "threads without end");
-    }
-}
-
-#[test]
-fn plans_at_small_limits(rt: HostRuntime) {
+fn small_limits_and_a_source_without_memory(rt: HostRuntime) {
     let hashing = RandomState::new(&rt).expect(&rt, "no random numbers");
     let users = tables(rt.alloc(), hashing, USERS).expect(&rt, "no tables");
     let nothing = Refusal::of_nothing(rt.alloc());
@@ -316,5 +286,7 @@ fn plans_at_small_limits(rt: HostRuntime) {
     for row in &ROWS {
         stage.serve(&users, row);
     }
-    stage.serve(&NoRoom::new(users), &SHOP);
+    let shop = NoRoom::new(users);
+    stage.serve(&shop, &SHOP);
+    play_over(&stage, &shop, Play::Shop);
 }

@@ -3,11 +3,10 @@
 use crate::comparison::assert_is;
 use crate::stage::Stage;
 use dl_desk::{Job, Keys, Outcome};
-use dl_fixtures::USERS;
+use dl_fixtures::{USERS, outcome_text};
 use dl_refusals::made;
 use dl_source::{BatchAnswer, Fetched, TableFault, Tables, fetch_job};
 use serde_json::Value;
-use std::alloc::AllocError;
 use std::io::Eprint;
 use std::process::Abort;
 
@@ -28,16 +27,8 @@ impl<R: Abort + Eprint> Stage<'_, R> {
             Tables::from_value(self.alloc, self.hashing, &value)
         );
         let tables = tables.expect(self.rt, "no tables");
-        let job = self.job(0, "u9", "u4");
-        self.fetch(&tables, job);
+        self.fetch(&tables);
         self.number_tables();
-    }
-
-    /// The job of a batch of two users.
-    pub(crate) fn job(&self, batch: u32, first: &str, second: &str) -> Job {
-        let keys = [self.key("user", first), self.key("user", second)];
-        let keys = Keys::copy_of(self.alloc, &keys).expect(self.rt, "no memory");
-        Job { batch, keys }
     }
 
     fn number_tables(&self) {
@@ -55,24 +46,23 @@ impl<R: Abort + Eprint> Stage<'_, R> {
         }
     }
 
-    fn fetch(&self, tables: &Tables, job: Job) {
+    /// Fetches two users.
+    fn fetch(&self, tables: &Tables) {
+        let keys = [self.key("user", "u9"), self.key("user", "u4")];
+        let keys = Keys::copy_of(self.alloc, &keys).expect(self.rt, "no memory");
         self.refusal.begin();
-        match fetch_job(self.alloc, tables, job) {
+        match fetch_job(self.alloc, tables, Job { batch: 0, keys }) {
             Ok(fetched) => {
                 self.is_again("fetch_job", false);
                 self.assert_fetched(&fetched);
             }
             Err((job, _)) => {
                 self.is_again("fetch_job", true);
-                self.fetch_again(tables, job);
+                match fetch_job(self.alloc, tables, job) {
+                    Ok(fetched) => self.assert_fetched(&fetched),
+                    Err(_) => panic!(self.rt; "no memory"),
+                }
             }
-        }
-    }
-
-    fn fetch_again(&self, tables: &Tables, job: Job) {
-        match fetch_job(self.alloc, tables, job) {
-            Ok(fetched) => self.assert_fetched(&fetched),
-            Err((_, AllocError)) => panic!(self.rt; "no memory"),
         }
     }
 
@@ -86,7 +76,8 @@ impl<R: Abort + Eprint> Stage<'_, R> {
     fn assert_outcomes(&self, outcomes: &[Outcome]) {
         assert_is(self.rt, &outcomes.len(), &OUTCOMES.len(), "outcomes");
         for (outcome, want) in outcomes.iter().zip(OUTCOMES.iter()) {
-            self.copy_outcome(outcome, want);
+            let text = outcome_text(self.alloc, outcome).expect(self.rt, "no memory");
+            assert_is(self.rt, &text.as_str(), want, "an outcome");
         }
     }
 }

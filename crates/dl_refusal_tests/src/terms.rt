@@ -3,9 +3,9 @@
 use crate::comparison::{assert_ids, assert_is};
 use crate::stage::Stage;
 use dl_desk::{FetchKey, Outcome};
-use dl_fixtures::{ADA, BOB, FRIENDS, answer_text, json, term};
+use dl_fixtures::{ADA, BOB, FRIENDS, answer_text, json};
 use dl_refusals::made;
-use dl_terms::{Known, Node, Term, Wanted, explore, unexplored};
+use dl_terms::{Known, Node, Wanted, explore, unexplored};
 use indexmap::{IndexMap, IndexSet};
 use std::io::Eprint;
 use std::process::Abort;
@@ -23,16 +23,10 @@ impl<R: Abort + Eprint> Stage<'_, R> {
     /// The rounds of the friends of `u1`. A round that was out of memory has ended its node, and is made again with another.
     pub(crate) fn use_terms(&self) {
         let outcomes = self.outcomes();
-        for (round, (_, want)) in ROUNDS.iter().enumerate() {
-            let mut node = self.node_before(&outcomes, round);
-            let mut wanted: Wanted = IndexSet::with_hasher(self.alloc, self.hashing);
-            if !self.is_explored(&outcomes, round, &mut node, &mut wanted) {
-                node = self.node_before(&outcomes, round);
-                wanted = IndexSet::with_hasher(self.alloc, self.hashing);
-                self.explore(&outcomes, round, &mut node, &mut wanted);
+        for round in 0..ROUNDS.len() {
+            if !self.is_explored(&outcomes, round, true) {
+                self.is_explored(&outcomes, round, false);
             }
-            assert_ids(self.rt, wanted.as_slice(), want);
-            self.assert_answer(node);
         }
     }
 
@@ -47,11 +41,36 @@ impl<R: Abort + Eprint> Stage<'_, R> {
         outcomes
     }
 
-    /// What is known in a round.
-    fn known<'a>(&self, outcomes: &'a [(FetchKey, Outcome)], round: usize) -> Known<'a> {
-        let (count, _) = ROUNDS.get(round).expect(self.rt, "no such round");
+    /// Makes a round, refused or not. Whether it wasn't out of memory.
+    fn is_explored(
+        &self,
+        outcomes: &[(FetchKey, Outcome)],
+        round: usize,
+        is_refused: bool,
+    ) -> bool {
+        let (count, want) = ROUNDS.get(round).expect(self.rt, "no such round");
+        let mut node = self.node_before(outcomes, round);
+        let known = self.known(outcomes, *count);
+        let mut wanted: Wanted = IndexSet::with_hasher(self.alloc, self.hashing);
+        if is_refused {
+            self.refusal.begin();
+        }
+        let explored = explore(self.alloc, &mut node, &known, &mut wanted);
+        if self.is_again("explore", explored.is_err()) {
+            return false;
+        }
+        assert_ids(self.rt, wanted.as_slice(), want);
+        if let Some(answer) = node.into_answer() {
+            let text = answer_text(self.alloc, &answer).expect(self.rt, "no memory");
+            assert_is(self.rt, &text.as_str(), &ANSWER, "the answer");
+        }
+        true
+    }
+
+    /// So many of the outcomes, known.
+    fn known<'a>(&self, outcomes: &'a [(FetchKey, Outcome)], count: usize) -> Known<'a> {
         let mut known: Known<'_> = IndexMap::with_hasher(self.alloc, self.hashing);
-        for (key, outcome) in outcomes.iter().take(*count) {
+        for (key, outcome) in outcomes.iter().take(count) {
             let key = key.try_copy().expect(self.rt, "no memory");
             known.insert(key, outcome).expect(self.rt, "no memory");
         }
@@ -60,62 +79,21 @@ impl<R: Abort + Eprint> Stage<'_, R> {
 
     /// The node, explored in the rounds before this one.
     fn node_before(&self, outcomes: &[(FetchKey, Outcome)], round: usize) -> Node {
-        let mut terms = self.terms();
+        let term = self.term(&FRIENDS);
         let node = made!(
             self,
             "unexplored",
             Err(_),
-            unexplored(self.alloc, terms.pop().expect(self.rt, "no term"))
+            unexplored(self.alloc, term),
+            unexplored(self.alloc, self.term(&FRIENDS))
         );
         let mut node = node.expect(self.rt, "no node");
-        for before in 0..round {
+        for (count, _) in ROUNDS.iter().take(round) {
+            let known = self.known(outcomes, *count);
             let mut wanted: Wanted = IndexSet::with_hasher(self.alloc, self.hashing);
-            self.explore(outcomes, before, &mut node, &mut wanted);
+            let explored = explore(self.alloc, &mut node, &known, &mut wanted);
+            explored.expect(self.rt, "no memory");
         }
         node
-    }
-
-    /// The term, twice.
-    fn terms(&self) -> Vec<Term> {
-        let mut terms = Vec::new(self.alloc);
-        for _ in 0..2 {
-            let term = term(self.alloc, &FRIENDS).expect(self.rt, "no term");
-            terms.push(term).expect(self.rt, "no memory");
-        }
-        terms
-    }
-
-    fn explore(
-        &self,
-        outcomes: &[(FetchKey, Outcome)],
-        round: usize,
-        node: &mut Node,
-        wanted: &mut Wanted,
-    ) {
-        let known = self.known(outcomes, round);
-        let explored = explore(self.alloc, node, &known, wanted);
-        explored.expect(self.rt, "no memory");
-    }
-
-    /// Makes a round. Whether it wasn't out of memory.
-    fn is_explored(
-        &self,
-        outcomes: &[(FetchKey, Outcome)],
-        round: usize,
-        node: &mut Node,
-        wanted: &mut Wanted,
-    ) -> bool {
-        let known = self.known(outcomes, round);
-        self.refusal.begin();
-        let explored = explore(self.alloc, node, &known, wanted);
-        !self.is_again("explore", explored.is_err())
-    }
-
-    /// A node that has ended has the answer.
-    fn assert_answer(&self, node: Node) {
-        if let Some(answer) = node.into_answer() {
-            let text = answer_text(self.alloc, &answer).expect(self.rt, "no memory");
-            assert_is(self.rt, &text.as_str(), &ANSWER, "the answer");
-        }
     }
 }

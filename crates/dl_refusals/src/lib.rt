@@ -37,7 +37,7 @@ pub struct Refusal {
 
 /// What is refused.
 #[derive(Clone, Copy)]
-enum Kind {
+pub enum Kind {
     Growth,
     Thread,
 }
@@ -65,19 +65,14 @@ impl Refusal {
         Refusal::by(alloc, Kind::Growth, 1, Some(usize::MAX))
     }
 
-    /// Each call is refused its n-th growth, from 1 on.
-    pub fn of_growths(alloc: Global, nth: usize) -> Refusal {
-        Refusal::by(alloc, Kind::Growth, nth, None)
+    /// Each call is refused its n-th growth or thread, from 1 on.
+    pub fn of_each(alloc: Global, kind: Kind, nth: usize) -> Refusal {
+        Refusal::by(alloc, kind, nth, None)
     }
 
     /// The call of a number, from 0 on, is refused its n-th growth, and no other is.
     pub fn of_growths_of_call(alloc: Global, nth: usize, call: usize) -> Refusal {
         Refusal::by(alloc, Kind::Growth, nth, Some(call))
-    }
-
-    /// Each call is refused its n-th thread, from 1 on.
-    pub fn of_threads(alloc: Global, nth: usize) -> Refusal {
-        Refusal::by(alloc, Kind::Thread, nth, None)
     }
 
     fn by(alloc: Global, kind: Kind, nth: usize, only: Option<usize>) -> Refusal {
@@ -130,7 +125,8 @@ fn room(alloc: Global, bytes: usize) -> Result<Vec<u8>, AllocError> {
     Vec::with_capacity(alloc, bytes)
 }
 
-/// Makes a call of a name under the refusal of a stage, which has the method `is_again`, and makes it again where it is refused so.
+/// Makes a call of a name under the refusal of a stage, which has the method `is_again`, and makes it again where it is refused so; by
+/// another expression, where one is given.
 #[macro_export]
 macro_rules! made {
     ($stage:expr, $name:literal, $refused:pat, $call:expr) => {{
@@ -141,5 +137,25 @@ macro_rules! made {
         } else {
             answer
         }
+    }};
+    ($stage:expr, $name:literal, $refused:pat, $call:expr, $again:expr) => {{
+        $stage.refusal.begin();
+        let answer = $call;
+        if $stage.is_again($name, matches!(answer, $refused)) {
+            $again
+        } else {
+            answer
+        }
+    }};
+}
+
+/// Makes a call that meets no growth under the refusal of a stage. It isn't made again.
+#[macro_export]
+macro_rules! made_once {
+    ($stage:expr, $name:literal, $call:expr) => {{
+        $stage.refusal.begin();
+        let answer = $call;
+        $stage.is_again($name, false);
+        answer
     }};
 }

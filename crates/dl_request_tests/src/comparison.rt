@@ -1,5 +1,6 @@
-//! The comparison that the tests share.
+//! The comparisons that the tests share.
 
+use dl_loader::History;
 use std::fmt::{Debug, Display};
 use std::process::Abort;
 
@@ -11,4 +12,23 @@ pub(crate) fn assert_is<T: PartialEq + Debug, D: Display + Drop>(
     about: D,
 ) {
     assert_eq!(rt; *got, *want, "{about}");
+}
+
+/// The ids of a batch's keys, with `true` where the batch was settled.
+pub(crate) type Batch = (&'static [&'static str], bool);
+
+/// The history has these batches and no others.
+pub(crate) fn assert_batches(rt: &impl Abort, history: &History, want: &[Batch], about: &str) {
+    let batches = history.batches();
+    let mut number = 0;
+    for (ids, is_settled) in want {
+        let batch = batches.get(number).expect(rt, "a batch too few");
+        assert_is(rt, &batch.keys().len(), &ids.len(), about);
+        for (key, id) in batch.keys().iter().zip(ids.iter()) {
+            assert_is(rt, &key.id(), id, about);
+        }
+        assert_is(rt, &batch.is_settled(), is_settled, about);
+        number = number.saturating_add(1);
+    }
+    assert_is(rt, &batches.get(number).is_none(), &true, about);
 }

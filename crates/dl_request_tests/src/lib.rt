@@ -1,5 +1,5 @@
 //! Tests of requests over the shared loader: worked rows of terms that are evaluated on the caller's own thread, of terms whose
-//! jobs are handed over to a worker on a thread of its own, of futures that are polled by hand, and of plans that are served.
+//! jobs are handed over to a worker on a thread of its own, of a future that is polled by hand, and of plans that are served.
 #![tactic(auto)]
 
 #[cfg(test)]
@@ -11,14 +11,6 @@ mod evaluations;
 #[cfg(test)]
 mod handovers;
 #[cfg(test)]
-mod polls;
-#[cfg(test)]
-mod queue_player;
+mod player;
 #[cfg(test)]
 mod requests;
-#[cfg(test)]
-mod rows;
-#[cfg(test)]
-mod scene;
-#[cfg(test)]
-mod texts;

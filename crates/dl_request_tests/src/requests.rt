@@ -3,11 +3,8 @@
 //! with room for one job.
 
 mod held_workers;
-mod many;
 mod plans;
 mod refusals;
-mod reports;
+mod row;
 mod rows;
-mod service;
 mod stops;
-mod users;

@@ -3,12 +3,13 @@
 ghost use Rattle.std.specs.Prelude.{◌≡◌, All, length};
 ghost use Rattle.dl_workers.specs.Seats.{AreSeatsOf, IsSenderOf, IsTakerOf};
 
+use crate::comparison::assert_is;
 use dl_desk::{FetchKey, Job, Keys};
 use dl_workers::{JobQueue, MOST_SEATS, Sender, Taker, Tally};
-use std::alloc::{AllocError, Global};
+use std::alloc::Global;
 use std::process::Abort;
 use std::sync::Wait;
-use std::sync::atomic::{AtomicU32, Ordering};
+use std::sync::atomic::{AtomicBool, AtomicU32, Ordering};
 use std::thread::{self, Threads, join};
 
 /// How a queue is used: its room and its seats, and how many jobs each sender means to send.
@@ -24,62 +25,59 @@ struct Exchange {
     times: u32,
 }
 
-/// The jobs of an exchange, and how often each of them was taken or came back. The jobs are told apart by their numbers:
-/// each sender has the same many, and those of the first sender come first.
+/// The jobs of an exchange, and which of them were taken or came back. The jobs are told apart by their numbers: each sender has
+/// the same many, and those of the first sender come first.
 #[derive(Drop)]
 struct Jobs {
     keys: Keys,
-    seen: Vec<AtomicU32>,
+    is_noted: Vec<AtomicBool>,
+    noted: AtomicU32,
 }
 
 impl Jobs {
-    /// So many jobs. The error is a failed allocation.
-    fn new(alloc: Global, keys: Keys, count: u32) -> Result<Jobs, AllocError> {
-        let mut seen = Vec::new(alloc);
+    /// So many jobs of one key.
+    fn new(rt: &impl Abort, alloc: Global, count: u32) -> Jobs {
+        let key = FetchKey::new(alloc, "t", "a").expect(rt, "no key");
+        let mut is_noted = Vec::new(alloc);
         for _ in 0..count {
-            seen.push(AtomicU32::new(0))?;
+            let pushed = is_noted.push(AtomicBool::new(false));
+            pushed.expect(rt, "no memory");
         }
-        Ok(Jobs { keys, seen })
-    }
-
-    /// The job of a number.
-    fn numbered(&self, batch: u32) -> Option<Job> {
-        let keys = self.keys.try_copy().ok()?;
-        Some(Job { batch, keys })
-    }
-
-    /// Notes that a job was taken or came back.
-    fn note(&self, job: &Job) {
-        if let Some(times) = self.seen.get(job.batch as usize) {
-            times.fetch_add(1, Ordering::SeqCst);
+        Jobs {
+            keys: Keys::copy_of(alloc, &[key]).expect(rt, "no memory"),
+            is_noted,
+            noted: AtomicU32::new(0),
         }
     }
 
-    /// How many jobs were noted so often.
-    fn noted(&self, times: u32) -> u64 {
-        let mut count: u64 = 0;
-        for seen in self.seen.iter() {
-            if seen.load(Ordering::SeqCst) == times {
-                count = count.saturating_add(1);
+    /// Notes that a job was taken or came back, which it did not before.
+    fn note(&self, rt: &impl Abort, job: &Job) {
+        let is_noted = self.is_noted.get(job.batch as usize);
+        let was_noted = is_noted
+            .expect(rt, "no such job")
+            .swap(true, Ordering::SeqCst);
+        assert!(rt; !was_noted, "a job twice");
+        self.noted.fetch_add(1, Ordering::SeqCst);
+    }
+
+    /// Sends the job of a number. Where it comes back it is noted, and the answer is `true`.
+    fn send<R: Abort + Wait>(
+        &self,
+        rt: &R,
+        queue: &JobQueue,
+        sender: &mut Sender,
+        batch: u32,
+    ) -> bool
+        requires { IsSenderOf queue.now sender.old }
+        ensures { IsSenderOf queue.now sender.new }
+    {
+        let keys = self.keys.try_copy().expect(rt, "no memory");
+        match queue.send(rt, sender, Job { batch, keys }) {
+            Ok(()) => false,
+            Err(job) => {
+                self.note(rt, &job);
+                true
             }
-        }
-        count
-    }
-}
-
-/// Sends the job of a number. Where it comes back it is noted, and the answer is `true`.
-fn send_one<R: Wait>(rt: &R, queue: &JobQueue, sender: &mut Sender, batch: u32, jobs: &Jobs) -> bool
-    requires { IsSenderOf queue.now sender.old }
-    ensures { IsSenderOf queue.now sender.new }
-{
-    let Some(job) = jobs.numbered(batch) else {
-        return false;
-    };
-    match queue.send(rt, sender, job) {
-        Ok(()) => false,
-        Err(job) => {
-            jobs.note(&job);
-            true
         }
     }
 }
@@ -104,19 +102,19 @@ fn send_all<R: Abort + Wait>(
     let number = u32::try_from(number).expect(rt, "no number of a sender");
     let least = number.saturating_mul(exchange.jobs);
     for turn in 0..first {
-        send_one(rt, queue, sender, least.saturating_add(turn), jobs);
+        jobs.send(rt, queue, sender, least.saturating_add(turn));
     }
     if first < exchange.jobs {
         queue.shut(rt, sender);
     }
     for turn in first..exchange.jobs {
-        let back = send_one(rt, queue, sender, least.saturating_add(turn), jobs);
+        let back = jobs.send(rt, queue, sender, least.saturating_add(turn));
         assert!(rt; back);
     }
 }
 
 /// Takes jobs until the queue is shut and empty.
-fn take_all<R: Wait>(rt: &R, queue: &JobQueue, taker: &mut Taker, jobs: &Jobs)
+fn take_all<R: Abort + Wait>(rt: &R, queue: &JobQueue, taker: &mut Taker, jobs: &Jobs)
     requires { IsTakerOf queue.now taker.old }
     ensures { IsTakerOf queue.now taker.new }
 {
@@ -124,7 +122,7 @@ fn take_all<R: Wait>(rt: &R, queue: &JobQueue, taker: &mut Taker, jobs: &Jobs)
         let Some(job) = queue.take(rt, taker) else {
             return;
         };
-        jobs.note(&job);
+        jobs.note(rt, &job);
     }
 }
 
@@ -156,7 +154,7 @@ fn send_by_each<R: Abort + Threads + Wait + Sync>(
 }
 
 /// Each taker takes jobs on a thread of its own, until the queue is shut and empty.
-fn take_by_each<R: Threads + Wait + Sync>(
+fn take_by_each<R: Abort + Threads + Wait + Sync>(
     rt: &R,
     queue: &JobQueue,
     mut takers: Vec<Taker>,
@@ -203,32 +201,18 @@ fn use_seats<R: Abort + Threads + Wait + Sync>(
     )
 }
 
-/// Makes an exchange. Each of its jobs is taken or comes back once, but for those that are left.
+/// Makes an exchange on a queue of its own. Each of its jobs is taken or comes back once, but for those that are left.
 fn make<R: Abort + Threads + Wait + Sync>(rt: &R, alloc: Global, exchange: &Exchange) -> Tally {
-    let key = FetchKey::new(alloc, "t", "a").expect(rt, "no key");
-    let keys = Keys::copy_of(alloc, &[key]).expect(rt, "no memory");
     let count = exchange.senders.saturating_mul(exchange.jobs);
-    let jobs = Jobs::new(alloc, keys, count).expect(rt, "no memory");
-    let tally = run(rt, alloc, exchange, &jobs);
-    let (none, once) = (jobs.noted(0), jobs.noted(1));
-    assert_eq!(rt;
-        (none, none.saturating_add(once)),
-        (tally.left, u64::from(count))
-    );
-    tally
-}
-
-/// Runs an exchange of these jobs on a queue of its own.
-fn run<R: Abort + Threads + Wait + Sync>(
-    rt: &R,
-    alloc: Global,
-    exchange: &Exchange,
-    jobs: &Jobs,
-) -> Tally {
+    let jobs = Jobs::new(rt, alloc, count);
     let made = JobQueue::new(alloc, exchange.capacity, exchange.senders, exchange.takers);
     let (queue, senders, takers) = made.expect(rt, "no queue");
-    let (senders, takers) = use_seats(rt, &queue, senders, takers, exchange, jobs);
-    queue.finish(rt, senders, takers)
+    let (senders, takers) = use_seats(rt, &queue, senders, takers, exchange, &jobs);
+    let tally = queue.finish(rt, senders, takers);
+    let noted = jobs.noted.load(Ordering::SeqCst);
+    let all = u64::from(noted).saturating_add(tally.left);
+    assert_is(rt, &all, &u64::from(count), "jobs");
+    tally
 }
 
 /// The queue is shut once all jobs are sent.
@@ -277,7 +261,12 @@ fn each_job_is_taken_once(rt: HostRuntime) {
             left: 0,
         };
         for _ in 0..exchange.times {
-            assert_eq!(rt; make(&rt, rt.alloc(), exchange), want);
+            assert_is(
+                &rt,
+                &make(&rt, rt.alloc(), exchange),
+                &want,
+                "all jobs are taken",
+            );
         }
     }
 }

@@ -1,5 +1,5 @@
 //! Tests of the job queue and of fetch workers: worked rows of calls on one thread, exchanges of jobs between many
-//! threads, and workers that end the jobs of a caller, on its thread and on one of their own.
+//! threads, and a worker that ends the jobs of a caller.
 #![tactic(auto)]
 
 #[cfg(test)]
@@ -7,10 +7,6 @@ mod comparison;
 #[cfg(test)]
 mod exchanges;
 #[cfg(test)]
-mod play;
-#[cfg(test)]
 mod queue;
-#[cfg(test)]
-mod steps;
 #[cfg(test)]
 mod work;

@@ -1,7 +1,8 @@
 //! The job queue of `dl_workers` on one thread: the worked rows, and what no clause says of a call that waits.
 
-ghost use Rattle.dl_workers.specs.Seats.{AreSeatsOf};
+ghost use Rattle.dl_workers.specs.Seats.{IsSenderOf, IsTakerOf};
 
+use crate::comparison::assert_is;
 use dl_desk::{FetchKey, Job, Keys};
 use dl_workers::{JobQueue, QueueFault, Sender, Taker, Tally};
 use std::alloc::Global;
@@ -16,7 +17,7 @@ fn job(rt: &impl Abort, alloc: Global, batch: u32) -> Job {
 }
 
 /// Capacities and numbers of senders and takers: the bounds, and what lies past them.
-const NUMBERS: [(u32, u32, u32, Option<QueueFault>); 12] = [
+static NUMBERS: [(u32, u32, u32, Option<QueueFault>); 12] = [
     (0, 1, 1, Some(QueueFault::BadCapacity)),
     (1_025, 1, 1, Some(QueueFault::BadCapacity)),
     (0, 0, 0, Some(QueueFault::BadCapacity)),
@@ -33,140 +34,113 @@ const NUMBERS: [(u32, u32, u32, Option<QueueFault>); 12] = [
 
 #[test]
 fn numbers_out_of_range(rt: HostRuntime) {
-    for (capacity, senders, takers, fault) in NUMBERS {
-        let made = JobQueue::new(rt.alloc(), capacity, senders, takers);
-        assert_eq!(rt; made.err(), fault);
+    for (capacity, senders, takers, fault) in &NUMBERS {
+        let made = JobQueue::new(rt.alloc(), *capacity, *senders, *takers);
+        assert_is(&rt, &made.err(), fault, "the numbers of a queue");
     }
 }
 
-/// A call of a queue on one thread, and what it must answer. Seats are counted from 0.
-enum Turn {
-    /// A sender sends the job of a number. The number is that of the job that must come back.
-    Send(usize, u32, Option<u32>),
-    /// A taker takes the job of this number.
-    Take(usize, Option<u32>),
-    /// A sender shuts the queue.
-    Shut(usize),
-}
-
-/// A queue with all of its seats.
-#[derive(Drop)]
-struct Seats {
-    queue: JobQueue,
-    senders: Vec<Sender>,
-    takers: Vec<Taker>,
-    ghost all: { AreSeatsOf queue senders.items takers.items },
-}
-
-impl Seats {
-    /// Takes a turn.
-    fn turn<R: Abort + Wait>(&mut self, rt: &R, alloc: Global, turn: &Turn) {
-        match turn {
-            Turn::Send(sender, batch, want) => {
-                let back = self.send(rt, *sender, job(rt, alloc, *batch));
-                assert_eq!(rt; back, *want);
-            }
-            Turn::Take(taker, want) => assert_eq!(rt; self.take(rt, *taker), *want),
-            Turn::Shut(sender) => self.shut(rt, *sender),
-        }
-    }
-
-    /// Sends a job. The answer is the number of the job that came back.
-    fn send<R: Abort + Wait>(&mut self, rt: &R, sender: usize, job: Job) -> Option<u32> {
-        assert!(rt; sender < self.senders.len());
-        let back = self.queue.send(rt, &mut self.senders[sender], job).err()?;
-        Some(back.batch)
-    }
-
-    /// Takes a job. The answer is its number.
-    fn take<R: Abort + Wait>(&mut self, rt: &R, taker: usize) -> Option<u32> {
-        assert!(rt; taker < self.takers.len());
-        let job = self.queue.take(rt, &mut self.takers[taker])?;
-        Some(job.batch)
-    }
-
-    /// Shuts the queue.
-    fn shut<R: Abort + Wait>(&mut self, rt: &R, sender: usize) {
-        assert!(rt; sender < self.senders.len());
-        self.queue.shut(rt, &mut self.senders[sender]);
-    }
-}
-
-/// Takes turns at a queue of this capacity with so many senders and takers. At the end it has this tally.
-fn play<R: Abort + Wait>(
+/// A sender sends the job of a number. Whether it comes back is as it is said.
+fn send<R: Abort + Wait>(
     rt: &R,
     alloc: Global,
-    (capacity, senders, takers): (u32, u32, u32),
-    turns: &[Turn],
-    tally: Tally,
-) {
-    let made = JobQueue::new(alloc, capacity, senders, takers);
-    let (queue, senders, takers) = made.expect(rt, "no queue");
-    let mut seats = Seats {
-        queue,
-        senders,
-        takers,
-    };
-    for turn in turns {
-        seats.turn(rt, alloc, turn);
-    }
-    assert_eq!(rt; seats.queue.finish(rt, seats.senders, seats.takers), tally);
+    queue: &JobQueue,
+    sender: &mut Sender,
+    batch: u32,
+    is_back: bool,
+)
+    requires { IsSenderOf queue.now sender.old }
+    ensures { IsSenderOf queue.now sender.new }
+{
+    let back = queue.send(rt, sender, job(rt, alloc, batch)).err();
+    let want = if is_back { Some(batch) } else { None };
+    assert_is(
+        rt,
+        &back.map(|job| job.batch),
+        &want,
+        "the job that came back",
+    );
 }
 
-const ONE_JOB: [Turn; 5] = [
-    Turn::Send(0, 0, None),
-    Turn::Take(0, Some(0)),
-    Turn::Shut(0),
-    Turn::Send(0, 1, Some(1)),
-    Turn::Take(0, None),
-];
+/// A taker takes the job of this number.
+fn take<R: Abort + Wait>(rt: &R, queue: &JobQueue, taker: &mut Taker, want: Option<u32>)
+    requires { IsTakerOf queue.now taker.old }
+    ensures { IsTakerOf queue.now taker.new }
+{
+    let job = queue.take(rt, taker);
+    assert_is(
+        rt,
+        &job.map(|job| job.batch),
+        &want,
+        "the job that was taken",
+    );
+}
 
 #[test]
 fn one_job_and_then_shut(rt: HostRuntime) {
+    let alloc = rt.alloc();
+    let (queue, mut senders, mut takers) = JobQueue::new(alloc, 1, 1, 1).expect(&rt, "no queue");
+    send(&rt, alloc, &queue, &mut senders[0], 0, false);
+    take(&rt, &queue, &mut takers[0], Some(0));
+    queue.shut(&rt, &mut senders[0]);
+    send(&rt, alloc, &queue, &mut senders[0], 1, true);
+    take(&rt, &queue, &mut takers[0], None);
     let tally = Tally {
         sent: 1,
         taken: 1,
         left: 0,
     };
-    play(&rt, rt.alloc(), (1, 1, 1), &ONE_JOB, tally);
+    assert_is(&rt, &queue.finish(&rt, senders, takers), &tally, "one job");
 }
 
 #[test]
 fn one_job_left(rt: HostRuntime) {
+    let alloc = rt.alloc();
+    let (queue, mut senders, takers) = JobQueue::new(alloc, 2, 1, 1).expect(&rt, "no queue");
+    send(&rt, alloc, &queue, &mut senders[0], 0, false);
     let tally = Tally {
         sent: 1,
         taken: 0,
         left: 1,
     };
-    play(&rt, rt.alloc(), (2, 1, 1), &[Turn::Send(0, 0, None)], tally);
+    assert_is(
+        &rt,
+        &queue.finish(&rt, senders, takers),
+        &tally,
+        "a job is left",
+    );
 }
 
 /// Three jobs and two end marks fill the queue: a second `shut` that sent marks would wait for ever. Each sender's
 /// jobs come back then, and the takers first get what is left, and then the end, which comes again.
-const FULL: [Turn; 13] = [
-    Turn::Send(0, 0, None),
-    Turn::Send(1, 1, None),
-    Turn::Send(0, 2, None),
-    Turn::Shut(1),
-    Turn::Shut(0),
-    Turn::Send(0, 3, Some(3)),
-    Turn::Send(1, 4, Some(4)),
-    Turn::Take(0, Some(0)),
-    Turn::Take(0, Some(1)),
-    Turn::Take(1, Some(2)),
-    Turn::Take(1, None),
-    Turn::Take(1, None),
-    Turn::Take(0, None),
-];
-
 #[test]
 fn what_is_left_comes_before_the_end(rt: HostRuntime) {
+    let alloc = rt.alloc();
+    let (queue, mut senders, mut takers) = JobQueue::new(alloc, 3, 2, 2).expect(&rt, "no queue");
+    send(&rt, alloc, &queue, &mut senders[0], 0, false);
+    send(&rt, alloc, &queue, &mut senders[1], 1, false);
+    send(&rt, alloc, &queue, &mut senders[0], 2, false);
+    queue.shut(&rt, &mut senders[1]);
+    queue.shut(&rt, &mut senders[0]);
+    send(&rt, alloc, &queue, &mut senders[0], 3, true);
+    send(&rt, alloc, &queue, &mut senders[1], 4, true);
+    take(&rt, &queue, &mut takers[0], Some(0));
+    take(&rt, &queue, &mut takers[0], Some(1));
+    take(&rt, &queue, &mut takers[1], Some(2));
+    take(&rt, &queue, &mut takers[1], None);
+    take(&rt, &queue, &mut takers[1], None);
+    take(&rt, &queue, &mut takers[0], None);
     let tally = Tally {
         sent: 3,
         taken: 3,
         left: 0,
     };
-    play(&rt, rt.alloc(), (3, 2, 2), &FULL, tally);
+    assert_is(
+        &rt,
+        &queue.finish(&rt, senders, takers),
+        &tally,
+        "three jobs",
+    );
 }
 
 /// One sender sends a job and shuts the queue, and one taker takes it.
@@ -182,14 +156,4 @@ fn a_job_goes_through(rt: HostRuntime) {
     assert!(rt; sent.is_ok());
     assert_eq!(rt; taken.map(|job| job.batch), Some(7));
     assert_eq!(rt; tally.left, 0);
-}
-
-/// Under `rt try --test --fail-alloc N` each growth of `new` is refused in turn.
-#[test]
-fn a_refused_growth(rt: HostRuntime) {
-    let alloc = rt.alloc();
-    if let Err(fault) = JobQueue::new(alloc, 2, 1, 1) {
-        assert_eq!(rt; fault, QueueFault::OutOfMemory);
-        assert!(rt; JobQueue::new(alloc, 2, 1, 1).is_ok());
-    }
 }

@@ -1,212 +1,163 @@
-//! Fetch workers: worked rows of the jobs that one takes, and growths that are refused meanwhile.
+//! Fetch workers: worked rows of the jobs that one takes.
+
+ghost use Rattle.std.specs.Prelude.{◌≡◌, false};
+ghost use Rattle.dl_history.specs.Service.{Answers};
+ghost use Rattle.dl_loader.specs.Opening.{Names};
+ghost use Rattle.dl_loader.specs.Pass.{GaveTicket};
+ghost use Rattle.dl_workers.specs.Seats.{IsSenderOf};
 
 use crate::comparison::assert_is;
-use crate::play::{Loads, Place, Script, play_over};
-use crate::steps::{MOST_NOTED, Steps};
-use dl_fixtures::{ADA, BOB, USERS, tables};
-use dl_loader::{CallFault, CloseFault, Stopped};
-use dl_source::Tables;
-use dl_workers::{Tally, WorkerEnd};
+use dl_desk::{FetchKey, Limits};
+use dl_fixtures::{ADA, BOB, USERS, numbered_keys, outcome_text, tables};
+use dl_loader::{CallFault, CloseFault, History, Loader, LoaderName, Opening, Pass, Ticket};
+use dl_source::{Source, Tables};
+use dl_workers::{Gate, JobQueue, Sender, Tally, WorkerEnd, work};
 use std::alloc::Global;
 use std::hash::RandomState;
+use std::marker::Brand;
 use std::process::Abort;
 use std::sync::Wait;
-use std::thread::Threads;
+use std::sync::atomic::{AtomicU32, Ordering};
 
 /// A caller loads, dispatches and sends its jobs, and shuts the queue. Then a worker works, the caller waits for the
 /// outcome of its last load, and makes one more call.
 struct Row {
     about: &'static str,
-    loads: Loads,
+    /// How many jobs the queue has room for.
+    capacity: u32,
+    /// The most keys of a batch, cells and calls.
+    most: (u32, u32, u32),
+    /// How many keys of no table are loaded first.
+    crowd: u32,
+    /// The users that are loaded then.
+    ids: &'static [&'static str],
     /// How many jobs these are. All of them are taken.
     jobs: u64,
     end: WorkerEnd,
-    /// For each batch from the first on, at which step of the gate it was to be fetched, and at which it had ended.
-    told: &'static [(u32, u32)],
-    waited: Result<&'static str, Stopped>,
+    /// What the gate is told, by a digit for each call: 2 b + 1 before batch b is fetched, and 2 b + 2 once it has ended.
+    told: u32,
+    /// The text of the outcome that the caller waits for, or that it was stopped.
+    waited: &'static str,
     /// What a clear of all keys answers in the end.
     next: Result<(), CallFault>,
-    /// The worker's calls, in order, if the loader can be closed.
-    history: Result<&'static str, CloseFault>,
+    /// For each batch whether it was settled, or why the loader can't be closed.
+    closed: Result<&'static [bool], CloseFault>,
 }
 
+/// A row of one load, from which the others differ.
+const ROW: Row = Row {
+    about: "a batch of one key",
+    capacity: 2,
+    most: (2, 8, 32),
+    crowd: 0,
+    ids: &["u1"],
+    jobs: 1,
+    end: WorkerEnd::Done { batches: 1 },
+    told: 12,
+    waited: ADA,
+    next: Ok(()),
+    closed: Ok(&[true]),
+};
+
 static ROWS: [Row; 8] = [
-    Row {
-        about: "a batch of one key",
-        loads: Loads {
-            capacity: 2,
-            max_batch: 2,
-            max_calls: 16,
-            crowd: 0,
-            ids: &["u1"],
-        },
-        jobs: 1,
-        end: WorkerEnd::Done { batches: 1 },
-        told: &[(1, 2)],
-        waited: Ok(ADA),
-        next: Ok(()),
-        history: Ok("0 settled; "),
-    },
+    ROW,
     Row {
         about: "a batch of two keys",
-        loads: Loads {
-            capacity: 2,
-            max_batch: 2,
-            max_calls: 16,
-            crowd: 0,
-            ids: &["u1", "u2"],
-        },
-        jobs: 1,
-        end: WorkerEnd::Done { batches: 1 },
-        told: &[(1, 2)],
-        waited: Ok(BOB),
-        next: Ok(()),
-        history: Ok("0 settled; "),
+        ids: &["u1", "u2"],
+        waited: BOB,
+        ..ROW
     },
     Row {
         about: "a batch that breaks the source",
-        loads: Loads {
-            capacity: 2,
-            max_batch: 2,
-            max_calls: 16,
-            crowd: 0,
-            ids: &["u1", "u13"],
-        },
-        jobs: 1,
-        end: WorkerEnd::Done { batches: 1 },
-        told: &[(1, 2)],
-        waited: Ok("batch db down"),
-        next: Ok(()),
-        history: Ok("0 failed, batch db down; "),
+        ids: &["u1", "u13"],
+        waited: "batch db down",
+        closed: Ok(&[false]),
+        ..ROW
     },
     Row {
         about: "three batches, of which one breaks the source",
-        loads: Loads {
-            capacity: 4,
-            max_batch: 1,
-            max_calls: 16,
-            crowd: 0,
-            ids: &["u1", "u13", "u2"],
-        },
+        capacity: 4,
+        most: (1, 8, 32),
+        ids: &["u1", "u13", "u2"],
         jobs: 3,
         end: WorkerEnd::Done { batches: 3 },
-        told: &[(1, 2), (3, 4), (5, 6)],
-        waited: Ok(BOB),
-        next: Ok(()),
-        history: Ok("0 settled; 1 failed, batch db down; 2 settled; "),
+        told: 123_456,
+        waited: BOB,
+        closed: Ok(&[true, false, true]),
+        ..ROW
     },
     Row {
         about: "a log that is full",
-        loads: Loads {
-            capacity: 2,
-            max_batch: 2,
-            max_calls: 2,
-            crowd: 0,
-            ids: &["u1"],
-        },
-        jobs: 1,
+        most: (2, 8, 2),
         end: WorkerEnd::GaveUp { batch: 0 },
-        told: &[(1, 0)],
-        waited: Err(Stopped),
+        told: 1,
+        waited: "stopped",
         next: Err(CallFault::Stopped),
-        history: Err(CloseFault::Unsettled { batch: 0 }),
+        closed: Err(CloseFault::Unsettled { batch: 0 }),
+        ..ROW
     },
     Row {
         about: "a log that is full after one of three batches",
-        loads: Loads {
-            capacity: 4,
-            max_batch: 1,
-            max_calls: 5,
-            crowd: 0,
-            ids: &["u1", "u2", "u3"],
-        },
+        capacity: 4,
+        most: (1, 8, 5),
+        ids: &["u1", "u2", "u3"],
         jobs: 3,
         end: WorkerEnd::GaveUp { batch: 1 },
-        told: &[(1, 2), (3, 0)],
-        waited: Err(Stopped),
+        told: 123,
+        waited: "stopped",
         next: Err(CallFault::Stopped),
-        history: Err(CloseFault::Unsettled { batch: 1 }),
+        closed: Err(CloseFault::Unsettled { batch: 1 }),
+        ..ROW
     },
     Row {
         about: "a log that the last end fills",
-        loads: Loads {
-            capacity: 2,
-            max_batch: 1,
-            max_calls: 5,
-            crowd: 0,
-            ids: &["u1", "u2"],
-        },
+        most: (1, 8, 5),
+        ids: &["u1", "u2"],
         jobs: 2,
         end: WorkerEnd::Done { batches: 2 },
-        told: &[(1, 2), (3, 4)],
-        waited: Ok(BOB),
+        told: 1_234,
+        waited: BOB,
         next: Err(CallFault::LogFull { limit: 5 }),
-        history: Ok("0 settled; 1 settled; "),
+        closed: Ok(&[true, true]),
+        ..ROW
     },
     Row {
         about: "forty jobs behind one that can't be ended",
-        loads: Loads {
-            capacity: 64,
-            max_batch: 1,
-            max_calls: 3,
-            crowd: 40,
-            ids: &["u1"],
-        },
+        capacity: 64,
+        most: (1, 64, 42),
+        crowd: 40,
         jobs: 41,
         end: WorkerEnd::GaveUp { batch: 0 },
-        told: &[(1, 0)],
-        waited: Err(Stopped),
+        told: 1,
+        waited: "stopped",
         next: Err(CallFault::Stopped),
-        history: Err(CloseFault::Unsettled { batch: 0 }),
+        closed: Err(CloseFault::Unsettled { batch: 0 }),
+        ..ROW
     },
 ];
 
-/// Plays a row, which is seen to be as it says.
-fn try_row<R: Abort + Threads + Wait + Sync>(
-    rt: &R,
-    alloc: Global,
-    users: &Tables,
-    hashing: RandomState,
-    place: Place,
-    row: &Row,
-) {
-    let gate = Steps::new();
-    let script = Script {
-        loads: &row.loads,
-        place,
-        gate: &gate,
-    };
-    let played = play_over(rt, alloc, users, hashing, script);
-    let (seen, history) = played.expect(rt, "a growth was refused");
-    let tally = Tally {
-        sent: row.jobs,
-        taken: row.jobs,
-        left: 0,
-    };
-    assert_is(rt, &seen.end, &row.end, row.about);
-    assert_is(rt, &seen.tally, &tally, row.about);
-    assert_is(rt, &text_of(&seen.waited), &row.waited, row.about);
-    assert_is(rt, &seen.next, &row.next, row.about);
-    assert_is(rt, &text_of(&history), &row.history, row.about);
-    assert_told(rt, &gate, seen.calls, row);
+/// A gate that notes what it is told, as the rows write it.
+#[derive(Drop)]
+struct Told {
+    digits: AtomicU32,
 }
 
-/// The text, or why there is none.
-fn text_of<E: Copy>(text: &Result<String, E>) -> Result<&str, E> {
-    match text {
-        Ok(text) => Ok(text.as_str()),
-        Err(fault) => Err(*fault),
+impl Told {
+    fn note(&self, digit: u32) {
+        let digits = self.digits.load(Ordering::SeqCst);
+        let noted = digits.saturating_mul(10).saturating_add(digit);
+        self.digits.store(noted, Ordering::SeqCst);
     }
 }
 
-/// The gate was told what the row says, and the worker made a call for each batch that ended.
-fn assert_told(rt: &impl Abort, gate: &Steps, calls: usize, row: &Row) {
-    for batch in 0..MOST_NOTED {
-        let told = row.told.get(batch).copied().unwrap_or((0, 0));
-        assert_is(rt, &gate.noted(batch), &told, row.about);
+impl Gate for Told {
+    fn before_fetch(&self, batch: u32) {
+        self.note(batch.saturating_mul(2).saturating_add(1));
     }
-    let ended = row.told.iter().filter(|told| told.1 > 0).count();
-    assert_is(rt, &calls, &ended, row.about);
+
+    fn after_settle(&self, batch: u32) {
+        self.note(batch.saturating_mul(2).saturating_add(2));
+    }
 }
 
 #[test]
@@ -215,79 +166,161 @@ fn jobs_and_their_ends(rt: HostRuntime) {
     let hashing = RandomState::new(&rt).expect(&rt, "no random numbers");
     let users = tables(alloc, hashing, USERS).expect(&rt, "no tables");
     for row in &ROWS {
-        try_row(&rt, alloc, &users, hashing, Place::Here, row);
+        try_row(&rt, alloc, hashing, &users, row);
     }
 }
 
-/// How often each row is played by two threads.
-const TIMES: u32 = 100;
-
-#[test]
-fn a_worker_beside_its_caller(rt: HostRuntime) {
-    let alloc = rt.alloc();
-    let hashing = RandomState::new(&rt).expect(&rt, "no random numbers");
-    let users = tables(alloc, hashing, USERS).expect(&rt, "no tables");
-    for row in &ROWS {
-        for _ in 0..TIMES {
-            try_row(&rt, alloc, &users, hashing, Place::Beside, row);
-        }
-    }
-}
-
-/// How a worker may end where a growth is refused, and what the caller then waits for.
-static STARVED: [(WorkerEnd, Result<&str, Stopped>); 3] = [
-    (WorkerEnd::Done { batches: 1 }, Ok(ADA)),
-    (WorkerEnd::Done { batches: 1 }, Ok("memory")),
-    (WorkerEnd::GaveUp { batch: 0 }, Err(Stopped)),
-];
-
-/// Under `rt try --test --fail-alloc N` each growth is refused in turn. Where that isn't one of `work` the test ends.
-#[test]
-fn a_refused_growth(rt: HostRuntime) {
-    let alloc = rt.alloc();
-    let Ok(hashing) = RandomState::new(&rt) else {
-        return;
-    };
-    if let Some(users) = tables(alloc, hashing, USERS) {
-        starve(&rt, alloc, &users, hashing);
-    }
-}
-
-/// Plays the load of one user, where a growth may be refused.
-fn starve<R: Abort + Threads + Wait + Sync>(
+/// Plays a row on a loader of two callers over these tables.
+fn try_row<R: Abort + Wait>(
     rt: &R,
     alloc: Global,
-    users: &Tables,
     hashing: RandomState,
+    users: &Tables,
+    row: &Row,
 ) {
-    let loads = Loads {
-        capacity: 2,
-        max_batch: 2,
-        max_calls: 16,
-        crowd: 0,
-        ids: &["u1"],
+    let (max_batch, max_cells, max_calls) = row.most;
+    let limits = Limits::new(max_batch, max_cells, max_calls).expect(rt, "no limits");
+    let opening = Opening::new(alloc, hashing, users, limits, 2).expect(rt, "no opening");
+    play::<Brand, _, _>(rt, alloc, users, opening, row);
+}
+
+/// Plays a row on the loader of an opening, which `L` stands for, and closes it.
+fn play<L: LoaderName, S: Source, R: Abort + Wait>(
+    rt: &R,
+    alloc: Global,
+    source: &S,
+    opening: Opening<'_, S>,
+    row: &Row,
+)
+    requires source { opening.source ≡ source.now }
+    requires names { Names S.answer opening L.service L.parts L.log L.outcomes L.name }
+{
+    let (loader, mut passes) = Loader::<L>::start(alloc, opening).expect(rt, "no loader");
+    use_loader(rt, alloc, &loader, source, &mut passes, row);
+    match loader.close(alloc, passes) {
+        Ok(history) => assert_batches(rt, &history, row),
+        Err((fault, _, _)) => assert_is(rt, &Some(fault), &row.closed.err(), row.about),
+    }
+}
+
+/// The history has the batches of the row, each of which was settled or not, as the row says.
+fn assert_batches(rt: &impl Abort, history: &History, row: &Row) {
+    let want = row.closed.expect(rt, row.about);
+    let batches = history.batches();
+    for (number, is_settled) in want.iter().enumerate() {
+        let number = u32::try_from(number).expect(rt, "no number of a batch");
+        let batch = batches.get(number).expect(rt, "a batch too few");
+        assert_is(rt, &batch.is_settled(), is_settled, row.about);
+    }
+}
+
+/// Plays a caller and a worker by these passes, with a queue of one sender and one taker.
+fn use_loader<L: LoaderName, S: Source, R: Abort + Wait>(
+    rt: &R,
+    alloc: Global,
+    loader: &Loader<L>,
+    source: &S,
+    passes: &mut Vec<Pass<L>>,
+    row: &Row,
+)
+    requires { Answers (S.answer source.now) L.service }
+{
+    let made = JobQueue::new(alloc, row.capacity, 1, 1);
+    let (queue, mut senders, mut takers) = made.expect(rt, "no queue");
+    let mut worker = passes.pop().expect(rt, "no pass");
+    let mut caller = passes.pop().expect(rt, "no pass");
+    let ticket = load(rt, alloc, loader, &mut caller, row);
+    send(rt, alloc, loader, &mut caller, &queue, &mut senders[0]);
+    queue.shut(rt, &mut senders[0]);
+    let gate = Told {
+        digits: AtomicU32::new(0),
     };
-    let gate = Steps::new();
-    let script = Script {
-        loads: &loads,
-        place: Place::Here,
-        gate: &gate,
-    };
-    let played = play_over(rt, alloc, users, hashing, script);
-    let Some((seen, _)) = played else {
-        return;
-    };
-    let given = (seen.end, text_of(&seen.waited));
+    let end = work(
+        rt,
+        alloc,
+        loader,
+        source,
+        &mut worker,
+        &queue,
+        &mut takers[0],
+        &gate,
+    );
+    assert_is(rt, &end, &row.end, row.about);
     assert_is(
         rt,
-        &STARVED.contains(&given),
-        &true,
-        "where a growth is refused",
+        &gate.digits.load(Ordering::SeqCst),
+        &row.told,
+        row.about,
     );
-    let all = Tally {
-        sent: 1,
-        taken: 1,
+    wait(rt, alloc, loader, &mut caller, ticket, row);
+    let next = loader.clear_all(rt, alloc, &mut caller);
+    assert_is(rt, &next, &row.next, row.about);
+    let tally = Tally {
+        sent: row.jobs,
+        taken: row.jobs,
         left: 0,
     };
-    assert_is(rt, &seen.tally, &all, "where a growth is refused");
+    assert_is(rt, &queue.finish(rt, senders, takers), &tally, row.about);
+    passes.push(caller).expect(rt, "no room");
+    passes.push(worker).expect(rt, "no room");
+}
+
+/// Loads the crowd and the users, each by a call of its own. The ticket is that of the last user.
+fn load<'a, L: LoaderName, R: Abort + Wait>(
+    rt: &R,
+    alloc: Global,
+    loader: &'a Loader<L>,
+    pass: &mut Pass<L>,
+    row: &Row,
+) -> Ticket<'a, L>
+    ensures { GaveTicket pass.new.trace result false }
+{
+    let mut keys = numbered_keys(alloc, row.crowd).expect(rt, "no keys");
+    for id in row.ids {
+        let key = FetchKey::new(alloc, "user", id).expect(rt, "no key");
+        keys.push(key).expect(rt, "no room");
+    }
+    let last = keys.pop().expect(rt, "no user");
+    for key in keys.iter() {
+        drop(loader.load(rt, alloc, pass, key).expect(rt, "no ticket"));
+    }
+    loader.load(rt, alloc, pass, &last).expect(rt, "no ticket")
+}
+
+/// Dispatches, and sends each job. Each of them is taken by the queue.
+fn send<L: LoaderName, R: Abort + Wait>(
+    rt: &R,
+    alloc: Global,
+    loader: &Loader<L>,
+    pass: &mut Pass<L>,
+    queue: &JobQueue,
+    sender: &mut Sender,
+)
+    requires { IsSenderOf queue.now sender.old }
+    ensures seat { IsSenderOf queue.now sender.new }
+    ensures tickets { pass.new.trace.tickets ≡ pass.old.trace.tickets }
+{
+    for job in loader.dispatch(rt, alloc, pass).expect(rt, "no jobs") {
+        assert!(rt; queue.send(rt, sender, job).is_ok(), "a job came back");
+    }
+}
+
+/// Waits for a ticket's outcome, which has the text of the row, or is stopped, as the row says.
+fn wait<L: LoaderName, R: Abort + Wait>(
+    rt: &R,
+    alloc: Global,
+    loader: &Loader<L>,
+    pass: &mut Pass<L>,
+    mut ticket: Ticket<'_, L>,
+    row: &Row,
+)
+    requires { GaveTicket pass.old.trace ticket false }
+{
+    if loader.wait(rt, pass, &mut ticket).is_err() {
+        assert_is(rt, &"stopped", &row.waited, row.about);
+        return;
+    }
+    let outcome = ticket.look().expect(rt, "no outcome");
+    let text = outcome_text(alloc, outcome).expect(rt, "no memory");
+    assert_is(rt, &text.as_str(), &row.waited, row.about);
 }

@@ -5,9 +5,9 @@ ghost use Rattle.std.specs.Prelude.{◌≡◌, IfOk};
 ghost use Rattle.example_own_source.specs.Domains.{outcome_of};
 
 use dl_desk::{FetchKey, Json, Limits, Message, Outcome, Outcomes, Text};
-use dl_scope::{Plan, Setup, Step, serve};
+use dl_scope::{Plan, Report, Setup, Step, serve};
 use dl_source::{BatchAnswer, Source};
-use dl_terms::Term;
+use dl_terms::{Answer, EvalFault, Term};
 use dl_workers::NoGate;
 use serde_json::json;
 use std::alloc::{AllocError, Global};
@@ -76,6 +76,21 @@ fn main(rt: HostRuntime) -> anyhow::Result<()> {
         queue: 16,
     };
     let report = serve(&rt, alloc, hashing, &Domains, setup, plans, &NoGate)?;
-    print!(rt; "{}", dl_plans::report_text(alloc, &report, false)?)?;
+    print_answers(&rt, &report)
+}
+
+/// Prints each answer: the number of its request, and the value or what is at fault.
+fn print_answers(rt: &impl Print, report: &Report) -> anyhow::Result<()> {
+    for (request, answers) in report.answers().iter().enumerate() {
+        for given in answers {
+            match &given.answer {
+                Answer::Value(value) => println!(rt; "{request} {}", value.value())?,
+                Answer::Fault(EvalFault::Key { key, text }) => {
+                    println!(rt; "{request} {}: {}", key.id(), text.as_str())?;
+                }
+                Answer::Fault(fault) => println!(rt; "{request} {fault:?}")?,
+            }
+        }
+    }
     Ok(())
 }

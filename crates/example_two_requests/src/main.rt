@@ -26,6 +26,10 @@ fn main(rt: HostRuntime) -> anyhow::Result<()> {
         queue: 16,
     };
     let report = serve(&rt, alloc, hashing, &users, setup, plans, &NoGate)?;
-    print!(rt; "{}", dl_plans::report_text(alloc, &report, false)?)?;
+    for (request, answers) in report.answers().iter().enumerate() {
+        for given in answers {
+            println!(rt; "{request} {:?}", given.answer)?;
+        }
+    }
     Ok(())
 }

@@ -1,13 +1,14 @@
 //! Running the program over a reader and a writer.
 
-ghost use Rattle.std.specs.Prelude.{◌≡◌, ◌≢◌, ◌+◌, IfErr, IfSome};
+ghost use Rattle.std.specs.Prelude.{◌≡◌, ◌≢◌, ◌+◌, ℕ, List, IfErr, IfSome};
 ghost use Rattle.std.specs.Io.KnownBytes.{Keeps};
 ghost use Rattle.dl_documents.specs.Faults.{most_bytes};
 ghost use Rattle.dl_plans.specs.Run.{IsRefused, ReadsAtMost};
+ghost use Rattle.dl_plans.specs.declared.settings.Options.{Options};
 
 use dl_picture::{report_picture, script_picture};
 use dl_plans::{Input, Options, PlanFault, RunError, read_all, read_input, served, write_all};
-use std::alloc::Global;
+use std::alloc::{AllocError, Global};
 use std::hash::RandomState;
 use std::io::{Read, Write};
 use std::sync::Wait;
@@ -47,18 +48,23 @@ fn picture<T: Threads + Wait + Sync>(
     ensures kept { IfErr result (λ e. e ≢ RunError.Write) }
 {
     match read_input(alloc, hashing, bytes) {
-        Ok(Input::Script(script)) => match script_picture(alloc, hashing, &script) {
-            Ok(text) => Ok(text),
-            Err(_) => Err(RunError::OutOfMemory),
-        },
-        Ok(Input::Plans(file)) => match served(rt, alloc, hashing, file, options) {
-            Ok(report) => match report_picture(alloc, &report) {
-                Ok(text) => Ok(text),
-                Err(_) => Err(RunError::OutOfMemory),
-            },
-            Err(fault) => Err(RunError::Run(fault)),
-        },
         Err(PlanFault::OutOfMemory) => Err(RunError::OutOfMemory),
         Err(fault) => Err(RunError::Refused(fault)),
+        Ok(Input::Script(script)) => made(script_picture(alloc, hashing, &script)),
+        Ok(Input::Plans(file)) => match served(rt, alloc, hashing, file, options) {
+            Ok(report) => made(report_picture(alloc, &report)),
+            Err(fault) => Err(RunError::Run(fault)),
+        },
+    }
+}
+
+/// A picture, unless memory ran out.
+fn made(picture: Result<String, AllocError>) -> Result<String, RunError>
+    ensures err { (options : Options) (bytes : List ℕ) → IfErr result (IsRefused options bytes) }
+    ensures kept { IfErr result (λ e. e ≢ RunError.Write) }
+{
+    match picture {
+        Ok(text) => Ok(text),
+        Err(_) => Err(RunError::OutOfMemory),
     }
 }

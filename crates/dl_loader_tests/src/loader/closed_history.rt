@@ -1,84 +1,91 @@
-//! What is asked of the history that a closed loader leaves.
+//! What the history tells that a closed loader leaves, as text.
 
-use super::keys::{assert_keys, assert_same, assert_shows};
-use super::step::{Closed, Ids};
-use dl_loader::{Batches, Call, EntryKind, History};
+use super::keys::write_ids;
+use dl_fixtures::{ADA, outcome_text};
+use dl_loader::{Call, EntryKind, History, MOST_CALLERS};
 use std::alloc::Global;
 use std::process::Abort;
 
-/// The history tells this, and nothing beyond.
-pub(super) fn assert_closed(rt: &impl Abort, alloc: Global, history: &History, want: &Closed) {
-    history.keeps();
-    let events = history.events();
-    assert_same(rt, "number of events", events.len(), want.events);
-    assert!(rt; events.get(want.events).is_none());
-    for (caller, entries) in want.callers {
-        assert_caller(rt, alloc, history, *caller, entries);
+/// What a history tells: the number of its events and the batches that they end, in order; the entries of each caller that has some,
+/// with the places of its events; the batches with their keys; and the outcomes.
+pub(super) fn history_text(rt: &impl Abort, alloc: Global, history: &History) -> String {
+    let mut text = String::new(alloc);
+    write_events(rt, &mut text, history);
+    for caller in 0..=MOST_CALLERS {
+        write_caller(rt, alloc, &mut text, history, caller);
     }
-    assert_ends(rt, alloc, history, want.ends);
-    assert_batches(rt, &history.batches(), want.batches);
-    assert_outcomes(rt, alloc, history, want.outcomes);
+    write_batches(rt, &mut text, history);
+    write_outcomes(rt, alloc, &mut text, history);
+    text
 }
 
-/// The caller has these entries, and its events stand at the places of those that are calls.
-fn assert_caller(
-    rt: &impl Abort,
-    alloc: Global,
-    history: &History,
-    caller: u32,
-    entries: &[EntryKind],
-) {
-    assert_same(rt, "entries", history.entries(caller), entries);
-    let mut places = Vec::new(alloc);
-    for entry in entries {
-        if let EntryKind::Call { at } = entry {
-            places.push(*at).expect(rt, "no memory");
-        }
-    }
-    let found = history.of_caller(alloc, caller).expect(rt, "no memory");
-    assert_same(rt, "places", found.as_slice(), places.as_slice());
-}
-
-/// The events end these batches, in this order, where `true` says that a batch is settled.
-pub(super) fn assert_ends(rt: &impl Abort, alloc: Global, history: &History, want: &[(u32, bool)]) {
-    let mut ends = Vec::new(alloc);
+fn write_events(rt: &impl Abort, text: &mut String, history: &History) {
     let events = history.events();
+    write!(text, "{} events", events.len()).expect(rt, "no memory");
+    assert!(rt; events.get(events.len()).is_none());
     for at in 0..events.len() {
         let event = events.get(at).expect(rt, "no event");
-        if let Some(end) = end_of(&event.call) {
-            ends.push(end).expect(rt, "no memory");
-        }
+        let written = match &event.call {
+            Call::Settle { batch, .. } => write!(text, ", settles {batch}"),
+            Call::Fail { batch, .. } => write!(text, ", fails {batch}"),
+            _ => Ok(()),
+        };
+        written.expect(rt, "no memory");
     }
-    assert_same(rt, "ends", ends.as_slice(), want);
+    writeln!(text, "").expect(rt, "no memory");
 }
 
-/// The batch that a call ends, if it ends one, and whether it settles it.
-fn end_of(call: &Call) -> Option<(u32, bool)> {
-    match call {
-        Call::Settle { batch, .. } => Some((*batch, true)),
-        Call::Fail { batch, .. } => Some((*batch, false)),
-        _ => None,
+fn write_caller(rt: &impl Abort, alloc: Global, text: &mut String, history: &History, caller: u32) {
+    let places = history.of_caller(alloc, caller).expect(rt, "no memory");
+    let entries = history.entries(caller);
+    if entries.is_empty() {
+        assert!(rt; places.is_empty());
+        return;
+    }
+    write!(text, "caller {caller}:").expect(rt, "no memory");
+    for entry in entries {
+        write_entry(rt, text, *entry);
+    }
+    writeln!(text, " of {:?}", places.as_slice()).expect(rt, "no memory");
+}
+
+/// Writes an entry, behind a space: the place of a call, or the cell that was read.
+pub(super) fn write_entry(rt: &impl Abort, text: &mut String, entry: EntryKind) {
+    let written = match entry {
+        EntryKind::Call { at } => write!(text, " {at}"),
+        EntryKind::Saw { cell, at } => write!(text, " saw {cell} at {at}"),
+    };
+    written.expect(rt, "no memory");
+}
+
+fn write_batches(rt: &impl Abort, text: &mut String, history: &History) {
+    let batches = history.batches();
+    for number in 0..u32::MAX {
+        let Some(batch) = batches.get(number) else {
+            return;
+        };
+        let end = if batch.is_settled() {
+            "settled"
+        } else {
+            "failed"
+        };
+        write!(text, "batch {number} {end}:").expect(rt, "no memory");
+        write_ids(rt, text, batch.keys());
+        writeln!(text, "").expect(rt, "no memory");
     }
 }
 
-/// The batches have these keys, and there is no other.
-pub(super) fn assert_batches(rt: &impl Abort, batches: &Batches<'_>, want: &[(Ids, bool)]) {
-    let mut number: u32 = 0;
-    for (ids, is_settled) in want {
-        let batch = batches.get(number).expect(rt, "no batch");
-        assert_keys(rt, batch.keys(), ids);
-        assert_same(rt, "end of a batch", batch.is_settled(), *is_settled);
-        number = number.saturating_add(1);
+fn write_outcomes(rt: &impl Abort, alloc: Global, text: &mut String, history: &History) {
+    for cell in 0..u32::MAX {
+        let Some(outcome) = history.outcome(cell) else {
+            return;
+        };
+        let shown = outcome_text(alloc, outcome).expect(rt, "no memory");
+        let shown = if shown.as_str() == ADA {
+            "Ada"
+        } else {
+            shown.as_str()
+        };
+        writeln!(text, "cell {cell}: {shown}").expect(rt, "no memory");
     }
-    assert!(rt; batches.get(number).is_none());
-}
-
-/// The cells have outcomes of these texts, and there is no other cell.
-pub(super) fn assert_outcomes(rt: &impl Abort, alloc: Global, history: &History, want: &[&str]) {
-    let mut cell: u32 = 0;
-    for text in want {
-        assert_shows(rt, alloc, history.outcome(cell), Some(text));
-        cell = cell.saturating_add(1);
-    }
-    assert_shows(rt, alloc, history.outcome(cell), None);
 }

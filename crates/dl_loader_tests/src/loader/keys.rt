@@ -1,8 +1,9 @@
 //! Keys, jobs and outcomes, made from data and held against it.
 
-use super::step::{Ids, Primed};
+use super::step::Primed;
 use dl_desk::{BatchFault, FetchKey, Job, Keys, Message, Outcome};
 use dl_fixtures::{json, outcome_text};
+use dl_loader::CallFault;
 use std::alloc::Global;
 use std::fmt::Debug;
 use std::process::Abort;
@@ -17,47 +18,55 @@ pub(super) fn assert_same<T: Debug + Drop + PartialEq>(
     assert_eq!(rt; found, want, "{about}");
 }
 
+/// A call has answered this text, or was refused so.
+pub(super) fn assert_text(
+    rt: &impl Abort,
+    about: &str,
+    found: Result<String, CallFault>,
+    want: Result<&str, CallFault>,
+) {
+    match found {
+        Ok(text) => assert_same(rt, about, Ok(text.as_str()), want),
+        Err(fault) => assert_same(rt, about, Err(fault), want),
+    }
+}
+
 /// The key of a user.
 pub(super) fn user(rt: &impl Abort, alloc: Global, id: &str) -> FetchKey {
     FetchKey::new(alloc, "user", id).expect(rt, "no key")
 }
 
 /// The keys of users.
-pub(super) fn users(rt: &impl Abort, alloc: Global, ids: &[&str]) -> Vec<FetchKey> {
+pub(super) fn users(rt: &impl Abort, alloc: Global, ids: &str) -> Vec<FetchKey> {
     let mut keys = Vec::new(alloc);
-    for id in ids {
+    for id in ids.split_whitespace() {
         keys.push(user(rt, alloc, id)).expect(rt, "no memory");
     }
     keys
 }
 
 /// The job of a batch with the keys of users.
-pub(super) fn job(rt: &impl Abort, alloc: Global, batch: u32, ids: &[&str]) -> Job {
+pub(super) fn job(rt: &impl Abort, alloc: Global, batch: u32, ids: &str) -> Job {
     let keys = Keys::new(alloc, users(rt, alloc, ids)).expect(rt, "no memory");
     Job { batch, keys }
 }
 
-/// The keys are those of these users.
-pub(super) fn assert_keys(rt: &impl Abort, keys: &[FetchKey], ids: &[&str]) {
-    assert_same(rt, "number of keys", keys.len(), ids.len());
-    for (key, id) in keys.iter().zip(ids.iter()) {
-        assert_same(rt, "table", key.table(), "user");
-        assert_same(rt, "id", key.id(), *id);
+/// Writes the ids of keys, each behind a space.
+pub(super) fn write_ids(rt: &impl Abort, text: &mut String, keys: &[FetchKey]) {
+    for key in keys {
+        write!(text, " {}", key.id()).expect(rt, "no memory");
     }
 }
 
-/// The job is of this batch, with the keys of these users.
-pub(super) fn assert_job(rt: &impl Abort, job: &Job, batch: u32, ids: &[&str]) {
-    assert_same(rt, "batch of a job", job.batch, batch);
-    assert_keys(rt, job.keys.as_slice(), ids);
-}
-
-/// The jobs of a dispatch are of these batches, with the keys of these users.
-pub(super) fn assert_jobs(rt: &impl Abort, jobs: &[Job], want: &[(u32, Ids)]) {
-    assert_same(rt, "number of jobs", jobs.len(), want.len());
-    for (job, (batch, ids)) in jobs.iter().zip(want.iter()) {
-        assert_job(rt, job, *batch, ids);
+/// The batch and the ids of each job.
+pub(super) fn jobs_text(rt: &impl Abort, alloc: Global, jobs: &[Job]) -> String {
+    let mut text = String::new(alloc);
+    for job in jobs {
+        let comma = if text.is_empty() { "" } else { ", " };
+        write!(text, "{comma}{}:", job.batch).expect(rt, "no memory");
+        write_ids(rt, &mut text, job.keys.as_slice());
     }
+    text
 }
 
 /// The outcome that a key is primed with.
@@ -71,7 +80,7 @@ pub(super) fn outcome(rt: &impl Abort, alloc: Global, primed: Primed) -> Outcome
     }
 }
 
-/// An outcome of this text is shown.
+/// An outcome of this text is shown, or none.
 pub(super) fn assert_shows(
     rt: &impl Abort,
     alloc: Global,

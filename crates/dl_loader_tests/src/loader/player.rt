@@ -1,14 +1,17 @@
 //! The player of rows: it makes their calls, and asserts what they answer.
 
+ghost use Rattle.std.specs.Prelude.{◌≡◌, false, IfSome};
 ghost use Rattle.dl_history.specs.Service.{Answers};
+ghost use Rattle.dl_loader.specs.Asks.{source_asked};
+ghost use Rattle.dl_loader.specs.Pass.{GaveTicket};
 ghost use Rattle.dl_source.specs.Fetched.{source_of};
 
-use super::hand::Hand;
-use super::keys::{assert_job, assert_jobs, assert_same, assert_shows, job, outcome, user, users};
-use super::step::{Ids, Primed, Step};
-use dl_desk::{Job, LoadReply, Outcome};
+use super::closed_history::write_entry;
+use super::keys::{assert_same, assert_shows, assert_text, job, jobs_text, outcome, user, users};
+use super::step::{Asked, How, Primed, Step};
+use dl_desk::{Job, LoadReply};
 use dl_loader::{
-    CallFault, EntryKind, GiveUp, Loader, LoaderName, Pass, PrimeReply, Settled, Stopped, Ticket,
+    Ask, CallFault, GiveUp, Loader, LoaderName, Pass, PrimeReply, Settled, Ticket, laws,
 };
 use dl_source::{Fetched, Source, fetch_job};
 use std::alloc::Global;
@@ -26,107 +29,175 @@ pub(super) struct Scene<'a, L: LoaderName, S: Source, R: Abort + Wait> {
 
 impl<'a, L: LoaderName, S: Source, R: Abort + Wait> Scene<'a, L, S, R> {
     /// Makes the calls in order, each by its caller.
-    pub(super) fn play(&self, hands: &mut [Hand<'a, L>], steps: &[(usize, Step)])
+    pub(super) fn play(&self, passes: &mut [Pass<L>], steps: &[(usize, Step)])
         requires { Answers (S.answer self.now.source.now) L.service }
     {
         for (caller, step) in steps {
-            let hand = hands.get_mut(*caller).expect(self.rt, "no such caller");
-            assert_same(self.rt, "caller", hand.pass.caller() as usize, *caller);
-            self.make(hand, *step);
+            if let Step::Held(held) = step {
+                self.hold(passes, *held);
+                continue;
+            }
+            let pass = passes.get_mut(*caller).expect(self.rt, "no such caller");
+            assert_same(self.rt, "caller", pass.caller() as usize, *caller);
+            self.make(pass, *step);
         }
     }
 
     /// Makes one call.
-    fn make(&self, hand: &mut Hand<'a, L>, step: Step)
+    pub(super) fn make(&self, pass: &mut Pass<L>, step: Step)
         requires { Answers (S.answer self.now.source.now) L.service }
     {
         match step {
-            Step::Load(id, want) => self.load(hand, id, want),
-            Step::LoadMany(ids, want) => self.load_many(hand, ids, want),
-            Step::ByLaw(asked, want) => self.by_law(hand, asked, want),
-            Step::Prime(id, primed, want) => self.prime(hand, id, primed, want),
-            Step::Clear(id, want) => self.clear(hand, id, want),
+            Step::Load(id, want) => self.load(pass, id, want),
+            Step::Read(id, cell, how, want) => self.read_held(pass, (id, cell), how, want),
+            Step::LoadMany(ids, want) => self.load_many(pass, ids, want),
+            Step::ByLaw(asked, want) => self.by_law(pass, asked, want),
+            Step::Prime(id, primed, want) => self.prime(pass, id, primed, want),
+            Step::Clear(id, want) => self.clear(pass, id, want),
             Step::ClearAll(want) => {
-                let reply = self.loader.clear_all(self.rt, self.alloc, &mut hand.pass);
-                assert_same(self.rt, "clear_all", reply, want);
+                let fault = self.loader.clear_all(self.rt, self.alloc, pass).err();
+                assert_same(self.rt, "clear_all", fault, want);
             }
-            Step::Dispatch(want) => self.dispatch(hand, want),
-            Step::Settle(batch, ids, want) => self.settle(hand, batch, ids, want),
-            Step::Fail(batch, ids, why, want) => self.fail(hand, batch, ids, why, want),
-            Step::Look(cell, want) => self.look(hand, cell, want),
-            Step::Saw(want) => assert_shows(self.rt, self.alloc, hand.see(), Some(want)),
-            Step::Wait(want) => self.assert_waited(hand.wait(self.rt, self.loader), want),
-            Step::WaitWithBook(want) => {
-                self.assert_waited(hand.wait_with_book(self.rt, self.loader), Ok(want))
-            }
+            Step::Dispatch(want) => self.dispatch(pass, want),
+            Step::Settle(batch, ids, want) => self.settle(pass, batch, ids, want),
+            Step::Fail(batch, ids, why, want) => self.fail(pass, batch, ids, why, want),
+            Step::Held(_) => panic!(self.rt; "a call of two callers"),
             Step::Stop => self.loader.stop(self.rt),
-            Step::Entries {
-                kinds,
-                calls,
-                front,
-            } => self.entries(&hand.pass, kinds, (calls, front)),
+            Step::Tells(want) => self.assert_tells(pass, want),
         }
     }
 
-    fn load(&self, hand: &mut Hand<'a, L>, id: &str, want: Result<LoadReply, CallFault>) {
+    pub(super) fn load(&self, pass: &mut Pass<L>, id: &str, want: Result<LoadReply, CallFault>) {
         let key = user(self.rt, self.alloc, id);
-        let reply = hand.load(self.rt, self.alloc, self.loader, &key);
+        let reply = match self.loader.load(self.rt, self.alloc, pass, &key) {
+            Ok(ticket) => Ok(ticket.reply()),
+            Err(fault) => Err(fault),
+        };
         assert_same(self.rt, "load", reply, want);
     }
 
-    fn load_many(
-        &self,
-        hand: &mut Hand<'a, L>,
-        ids: &[&str],
-        want: Result<&[LoadReply], CallFault>,
-    ) {
+    /// Loads a key that is held by the cell, and reads its outcome.
+    fn read_held(&self, pass: &mut Pass<L>, (id, cell): (&str, u32), how: How, want: Option<&str>) {
+        let key = user(self.rt, self.alloc, id);
+        let ticket = self.loader.load(self.rt, self.alloc, pass, &key);
+        let mut ticket = ticket.expect(self.rt, "no ticket");
+        let told = (ticket.reply(), ticket.cell());
+        assert_same(self.rt, "reply", told, (LoadReply::Hit(cell), cell));
+        match how {
+            How::Look => assert_shows(self.rt, self.alloc, ticket.look(), want),
+            How::Wait => self.read(pass, &mut ticket, want),
+            How::WaitWithBook => {
+                let book = self.loader.lock(self.rt);
+                self.read(pass, &mut ticket, want);
+                drop(book);
+            }
+        }
+    }
+
+    /// Waits for the ticket's outcome, which is of this text, or there is none.
+    pub(super) fn read(&self, pass: &mut Pass<L>, ticket: &mut Ticket<'_, L>, want: Option<&str>)
+        requires { GaveTicket pass.old.trace ticket.old false }
+    {
+        let is_stopped = self.loader.wait(self.rt, pass, ticket).is_err();
+        assert_same(self.rt, "wait", is_stopped, want.is_none());
+        assert_shows(self.rt, self.alloc, ticket.look(), want);
+    }
+
+    fn load_many(&self, pass: &mut Pass<L>, ids: &str, want: Result<&str, CallFault>) {
         let keys = users(self.rt, self.alloc, ids);
-        let tickets = hand.load_many(self.rt, self.alloc, self.loader, keys.as_slice());
-        let (tickets, fault) = parted(self.alloc, tickets);
-        assert_same(self.rt, "load_many", fault, want.err());
-        assert_replies(self.rt, tickets.as_slice(), want.unwrap_or(&[]));
+        let tickets = self
+            .loader
+            .load_many(self.rt, self.alloc, pass, keys.as_slice());
+        let replies = match tickets {
+            Ok(tickets) => Ok(replies_text(self.rt, self.alloc, tickets.as_slice())),
+            Err(fault) => Err(fault),
+        };
+        assert_text(self.rt, "load_many", replies, want);
+    }
+
+    /// Makes a call by the law. No cell refuses its outcome.
+    fn by_law(&self, pass: &mut Pass<L>, asked: Asked, want: Option<CallFault>)
+        requires { Answers (S.answer self.now.source.now) L.service }
+    {
+        match asked {
+            Asked::Load(id) => {
+                let key = user(self.rt, self.alloc, id);
+                self.ask(pass, Ask::Load(&key), want);
+            }
+            Asked::Settle(batch, ids) => {
+                let fetched = self.fetch(job(self.rt, self.alloc, batch, ids));
+                self.ask_owned(pass, Ask::Settle(fetched), want);
+            }
+            Asked::Fail(batch, ids) => {
+                let job = job(self.rt, self.alloc, batch, ids);
+                self.ask_owned(pass, Ask::Fail(job, GiveUp::Memory), want);
+            }
+        }
+    }
+
+    /// Makes a call, which may borrow keys, by the law.
+    fn ask(&self, pass: &mut Pass<L>, ask: Ask<'_, S>, want: Option<CallFault>)
+        requires { IfSome (source_asked ask) (λ source. Answers (S.answer source) L.service) }
+    {
+        let mut book = self.loader.lock(self.rt);
+        match laws::event(self.alloc, self.loader, &mut *book, pass, ask) {
+            Ok((_, refused)) => assert_same(self.rt, "by law", (None, refused), (want, 0)),
+            Err((fault, _)) => assert_same(self.rt, "by law", Some(fault), want),
+        }
+    }
+
+    /// As `ask`, of a call that borrows nothing but the source.
+    fn ask_owned(&self, pass: &mut Pass<L>, ask: Ask<'a, S>, want: Option<CallFault>)
+        requires { IfSome (source_asked ask) (λ source. Answers (S.answer source) L.service) }
+    {
+        self.ask(pass, ask, want);
     }
 
     fn prime(
         &self,
-        hand: &mut Hand<'a, L>,
+        pass: &mut Pass<L>,
         id: &str,
         primed: Primed,
         want: Result<PrimeReply, CallFault>,
     ) {
         let key = user(self.rt, self.alloc, id);
         let outcome = outcome(self.rt, self.alloc, primed);
-        let reply = self
-            .loader
-            .prime(self.rt, self.alloc, &mut hand.pass, &key, outcome);
+        let reply = self.loader.prime(self.rt, self.alloc, pass, &key, outcome);
         assert_same(self.rt, "prime", reply, want);
     }
 
-    fn clear(&self, hand: &mut Hand<'a, L>, id: &str, want: Result<(), CallFault>) {
+    pub(super) fn clear(&self, pass: &mut Pass<L>, id: &str, want: Option<CallFault>) {
         let key = user(self.rt, self.alloc, id);
-        let reply = self.loader.clear(self.rt, self.alloc, &mut hand.pass, &key);
-        assert_same(self.rt, "clear", reply, want);
+        let fault = self.loader.clear(self.rt, self.alloc, pass, &key).err();
+        assert_same(self.rt, "clear", fault, want);
     }
 
-    fn dispatch(&self, hand: &mut Hand<'a, L>, want: Result<&[(u32, Ids)], CallFault>) {
-        let jobs = self.loader.dispatch(self.rt, self.alloc, &mut hand.pass);
-        let (jobs, fault) = parted(self.alloc, jobs);
-        assert_same(self.rt, "dispatch", fault, want.err());
-        assert_jobs(self.rt, jobs.as_slice(), want.unwrap_or(&[]));
+    pub(super) fn dispatch(&self, pass: &mut Pass<L>, want: Result<&str, CallFault>)
+        ensures { pass.new.trace.tickets ≡ pass.old.trace.tickets }
+    {
+        let jobs = match self.loader.dispatch(self.rt, self.alloc, pass) {
+            Ok(jobs) => Ok(jobs_text(self.rt, self.alloc, jobs.as_slice())),
+            Err(fault) => Err(fault),
+        };
+        assert_text(self.rt, "dispatch", jobs, want);
     }
 
-    fn settle(&self, hand: &mut Hand<'a, L>, batch: u32, ids: &[&str], want: Result<u32, CallFault>)
+    pub(super) fn settle(
+        &self,
+        pass: &mut Pass<L>,
+        batch: u32,
+        ids: &str,
+        want: Result<u32, CallFault>,
+    )
         requires { Answers (S.answer self.now.source.now) L.service }
+        ensures { pass.new.trace.tickets ≡ pass.old.trace.tickets }
     {
         let fetched = self.fetch(job(self.rt, self.alloc, batch, ids));
-        let settled = match self
-            .loader
-            .settle(self.rt, self.alloc, &mut hand.pass, fetched)
-        {
+        let ended = match self.loader.settle(self.rt, self.alloc, pass, fetched) {
             Ok(settled) => Ok(settled),
             Err((fault, fetched)) => Err((fault, fetched.into_job())),
         };
-        assert_end(self.rt, settled, (batch, ids), want);
+        self.assert_end(ended, (batch, ids), want);
     }
 
     /// What the source answers to a job.
@@ -139,87 +210,65 @@ impl<'a, L: LoaderName, S: Source, R: Abort + Wait> Scene<'a, L, S, R> {
 
     fn fail(
         &self,
-        hand: &mut Hand<'a, L>,
+        pass: &mut Pass<L>,
         batch: u32,
-        ids: &[&str],
+        ids: &str,
         why: GiveUp,
         want: Result<u32, CallFault>,
     ) {
         let job = job(self.rt, self.alloc, batch, ids);
-        let failed = self
-            .loader
-            .fail(self.rt, self.alloc, &mut hand.pass, job, why);
-        assert_end(self.rt, failed, (batch, ids), want);
+        let ended = self.loader.fail(self.rt, self.alloc, pass, job, why);
+        self.assert_end(ended, (batch, ids), want);
     }
 
-    fn look(&self, hand: &mut Hand<'a, L>, cell: u32, want: Option<&str>) {
-        let Some(ticket) = hand.ticket.as_mut() else {
-            panic!(self.rt; "no ticket");
-        };
-        assert_same(self.rt, "cell", ticket.cell(), cell);
-        assert_shows(self.rt, self.alloc, ticket.look(), want);
-    }
-
-    fn assert_waited(
+    /// The end of a batch of these keys has this answer: so many cells show it, or it is refused and the job comes back.
+    fn assert_end(
         &self,
-        waited: Result<Option<&'a Outcome>, Stopped>,
-        want: Result<&str, Stopped>,
+        ended: Result<Settled, (CallFault, Job)>,
+        (batch, ids): (u32, &str),
+        want: Result<u32, CallFault>,
     ) {
-        match waited {
-            Ok(outcome) => {
-                assert_same(self.rt, "wait", None, want.err());
-                assert_shows(self.rt, self.alloc, outcome, want.ok());
+        match ended {
+            Ok(Settled { shown, refused }) => {
+                assert_same(self.rt, "end of a batch", Ok(shown), want);
+                assert_same(self.rt, "cells that refuse", refused, 0);
             }
-            Err(stopped) => assert_same(self.rt, "wait", Err(stopped), want),
+            Err((fault, back)) => {
+                assert_same(self.rt, "end of a batch", Err(fault), want);
+                let given = job(self.rt, self.alloc, batch, ids);
+                assert!(self.rt; back.batch == batch);
+                assert!(self.rt; back.keys.as_slice() == given.keys.as_slice());
+            }
         }
     }
 
-    fn entries(&self, pass: &Pass<L>, kinds: &[EntryKind], (calls, front): (usize, u32)) {
-        assert_same(self.rt, "calls of a pass", pass.calls(), calls);
-        assert_same(self.rt, "front of a pass", pass.front(), front);
-        assert_same(
-            self.rt,
-            "number of entries",
-            pass.entries().len(),
-            kinds.len(),
-        );
-        for (entry, kind) in pass.entries().iter().zip(kinds.iter()) {
-            assert_same(self.rt, "entry", entry.kind(), *kind);
+    /// The pass tells this.
+    fn assert_tells(&self, pass: &Pass<L>, want: &str) {
+        let mut text = String::new(self.alloc);
+        for entry in pass.entries() {
+            write_entry(self.rt, &mut text, entry.kind());
         }
+        let (calls, front) = (pass.calls(), pass.front());
+        let written = write!(text, ", {calls} calls, front {front}");
+        written.expect(self.rt, "no memory");
+        assert_same(self.rt, "what a pass tells", text.as_str(), want);
     }
 }
 
-/// The list that a call answered, or none, and the fault by which it was refused.
-fn parted<T>(alloc: Global, answer: Result<Vec<T>, CallFault>) -> (Vec<T>, Option<CallFault>) {
-    match answer {
-        Ok(list) => (list, None),
-        Err(fault) => (Vec::new(alloc), Some(fault)),
-    }
-}
-
-/// The tickets of a load have these replies.
-fn assert_replies<L: LoaderName>(rt: &impl Abort, tickets: &[Ticket<'_, L>], want: &[LoadReply]) {
-    assert_same(rt, "number of tickets", tickets.len(), want.len());
-    for (ticket, want) in tickets.iter().zip(want.iter()) {
-        assert_same(rt, "reply", ticket.reply(), *want);
-    }
-}
-
-/// The end of a batch of these keys has this answer: so many cells show it, or it is refused and the job comes back.
-fn assert_end(
+/// The replies of tickets.
+fn replies_text<L: LoaderName>(
     rt: &impl Abort,
-    end: Result<Settled, (CallFault, Job)>,
-    (batch, ids): (u32, &[&str]),
-    want: Result<u32, CallFault>,
-) {
-    match end {
-        Ok(Settled { shown, refused }) => {
-            assert_same(rt, "end of a batch", Ok(shown), want);
-            assert_same(rt, "cells that refuse", refused, 0);
-        }
-        Err((fault, job)) => {
-            assert_same(rt, "end of a batch", Err(fault), want);
-            assert_job(rt, &job, batch, ids);
-        }
+    alloc: Global,
+    tickets: &[Ticket<'_, L>],
+) -> String {
+    let mut text = String::new(alloc);
+    for ticket in tickets {
+        let comma = if text.is_empty() { "" } else { ", " };
+        let written = match ticket.reply() {
+            LoadReply::Hit(cell) => write!(text, "{comma}hit {cell}"),
+            LoadReply::Fresh { cell, batch } => write!(text, "{comma}fresh {cell} {batch}"),
+        };
+        written.expect(rt, "no memory");
     }
+    text
 }

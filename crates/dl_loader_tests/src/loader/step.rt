@@ -1,72 +1,57 @@
-//! Rows of calls as data: each call of a shared loader with its arguments, and what it must answer.
+//! Rows of calls as data: each call of a shared loader with its arguments, and what it must answer. Several ids of users, each of which
+//! stands for its key, are one text with a space between them, and so is what a list or a history tells.
 
 use dl_desk::LoadReply;
-use dl_loader::{CallFault, CloseFault, EntryKind, GiveUp, PrimeReply, Stopped};
-
-/// The ids of users, each of which stands for its key.
-pub(super) type Ids = &'static [&'static str];
+use dl_loader::{CallFault, CloseFault, GiveUp, PrimeReply};
 
 /// A call of one caller, and what it must answer.
 #[derive(Clone, Copy)]
 pub(super) enum Step {
-    /// The load of a key. The caller keeps its ticket, and lets go of the one before.
+    /// The load of a key, whose ticket is let go.
     Load(&'static str, Result<LoadReply, CallFault>),
-    /// The load of several keys. Its tickets are let go.
-    LoadMany(Ids, Result<&'static [LoadReply], CallFault>),
+    /// The load of a key that is held by this cell, and how its outcome is read then, which has this text, or there is none.
+    Read(&'static str, u32, How, Option<&'static str>),
+    /// The load of several keys, with the replies.
+    LoadMany(&'static str, Result<&'static str, CallFault>),
     /// A call by the law of one event, on the locked book.
-    ByLaw(Asked, Result<Told, CallFault>),
+    ByLaw(Asked, Option<CallFault>),
     /// The prime of a key.
     Prime(&'static str, Primed, Result<PrimeReply, CallFault>),
     /// The clear of a key.
-    Clear(&'static str, Result<(), CallFault>),
+    Clear(&'static str, Option<CallFault>),
     /// The clear of all keys.
-    ClearAll(Result<(), CallFault>),
+    ClearAll(Option<CallFault>),
     /// The dispatch, with the batch and the keys of each job.
-    Dispatch(Result<&'static [(u32, Ids)], CallFault>),
+    Dispatch(Result<&'static str, CallFault>),
     /// The settle of a batch by what the source answers to these keys, with the number of cells that show it.
-    Settle(u32, Ids, Result<u32, CallFault>),
+    Settle(u32, &'static str, Result<u32, CallFault>),
     /// The fail of a batch of these keys, with the number of cells that show it.
-    Fail(u32, Ids, GiveUp, Result<u32, CallFault>),
-    /// A look at the caller's ticket, which is of this cell, with the text of the outcome that it shows.
-    Look(u32, Option<&'static str>),
-    /// A look that adds the outcome of this text to the pass. The ticket is let go.
-    Saw(&'static str),
-    /// A wait for the outcome of this text. The ticket is let go.
-    Wait(Result<&'static str, Stopped>),
-    /// A wait for the outcome of this text, which is shown, while the caller has the book. The ticket is let go.
-    WaitWithBook(&'static str),
+    Fail(u32, &'static str, GiveUp, Result<u32, CallFault>),
+    /// Calls of two callers while the first has a ticket.
+    Held(Held),
     /// The stop of the loader.
     Stop,
     /// What the caller's pass tells: its entries, how many of them are calls, and its front.
-    Entries {
-        kinds: &'static [EntryKind],
-        calls: usize,
-        front: u32,
-    },
+    Tells(&'static str),
+}
+
+/// How an outcome is read by its ticket.
+#[derive(Clone, Copy)]
+pub(super) enum How {
+    /// By a look.
+    Look,
+    /// By a wait.
+    Wait,
+    /// By a wait while the caller itself has the book.
+    WaitWithBook,
 }
 
 /// A call as a value, with its arguments.
 #[derive(Clone, Copy)]
 pub(super) enum Asked {
     Load(&'static str),
-    LoadMany(Ids),
-    Prime(&'static str, Primed),
-    Clear(&'static str),
-    ClearAll,
-    Dispatch,
-    Settle(u32, Ids),
-    Fail(u32, Ids, GiveUp),
-}
-
-/// The reply to a call as the history tells it.
-#[derive(Clone, Copy)]
-pub(super) enum Told {
-    Loaded(LoadReply),
-    Many(&'static [LoadReply]),
-    Primed(u32),
-    Kept,
-    Done,
-    Sent(&'static [(u32, Ids)]),
+    Settle(u32, &'static str),
+    Fail(u32, &'static str),
 }
 
 /// What a key is primed with.
@@ -78,6 +63,28 @@ pub(super) enum Primed {
     KeyError(&'static str),
     /// The failure of a whole batch, since memory ran out.
     NoMemory,
+}
+
+/// Calls that are made while a caller has a ticket of the first cell, whose key is loaded first.
+#[derive(Clone, Copy)]
+pub(super) enum Held {
+    /// The user `u1`, whose batch then is ended or not, before the loader is stopped or not.
+    First { is_ended: bool, is_stopped: bool },
+    /// Another caller clears the key and loads it anew while its batch is sent.
+    Renewed(Renewal),
+}
+
+/// A key that is loaded anew while its batch is sent.
+#[derive(Clone, Copy)]
+pub(super) struct Renewal {
+    /// The user.
+    pub(super) id: &'static str,
+    /// The job of its batch.
+    pub(super) job: &'static str,
+    /// What the batch gives then.
+    pub(super) text: &'static str,
+    /// Whether the other caller loads the key once more, and the first adds what it is shown to its pass.
+    pub(super) is_seen: bool,
 }
 
 /// The calls on one loader over the tables of users.
@@ -98,20 +105,6 @@ pub(super) struct Part {
     pub(super) steps: &'static [(usize, Step)],
     /// How many of the passes are handed to the close, from the first caller on.
     pub(super) passes: usize,
-    /// What the close must answer.
-    pub(super) close: Result<&'static Closed, CloseFault>,
-}
-
-/// What the history of a closed loader must tell.
-pub(super) struct Closed {
-    /// The number of events.
-    pub(super) events: usize,
-    /// Callers, with their entries.
-    pub(super) callers: &'static [(u32, &'static [EntryKind])],
-    /// The ends in order, with `true` where the batch was settled.
-    pub(super) ends: &'static [(u32, bool)],
-    /// The batches, in order, with `true` where the batch was settled.
-    pub(super) batches: &'static [(Ids, bool)],
-    /// The outcomes of the cells, in order.
-    pub(super) outcomes: &'static [&'static str],
+    /// What the close must answer: what the history tells, or why it is refused.
+    pub(super) close: Result<&'static str, CloseFault>,
 }

@@ -4,7 +4,7 @@ ghost use Rattle.std.specs.Prelude.{◌≡◌};
 ghost use Rattle.dl_history.specs.Service.{Answers};
 ghost use Rattle.dl_loader.specs.Opening.{Names};
 
-use super::closed_history::{assert_batches, assert_outcomes};
+use super::keys::assert_shows;
 use dl_desk::FetchKey;
 use dl_fixtures::ADA;
 use dl_loader::{CallFault, EntryKind, History, Loader, LoaderName, MOST_CALLERS, Opening, Pass};
@@ -27,8 +27,10 @@ pub(super) fn load_by_each<
 {
     let (loader, mut passes) = Loader::<L>::start(alloc, opening).expect(rt, "no loader");
     start_threads(rt, alloc, source, &loader, passes.as_mut_slice(), key);
-    let closed = loader.close(alloc, passes).map_err(|(fault, _, _)| fault);
-    closed.expect(rt, "no history")
+    match loader.close(alloc, passes) {
+        Ok(history) => history,
+        Err((fault, _, _)) => panic!(rt; "{fault:?}"),
+    }
 }
 
 /// Each caller loads the key on a thread of its own.
@@ -86,10 +88,12 @@ fn load<L: LoaderName, S: Source, R: Wait>(
     Ok(())
 }
 
-/// The history has one batch, which has the user `u1` alone and is settled, and both callers have read the outcome.
+/// The history has one batch, which is settled, and both callers have read the outcome.
 pub(super) fn assert_history(rt: &impl Abort, alloc: Global, history: &History) {
-    assert_batches(rt, &history.batches(), &[(&["u1"], true)]);
-    assert_outcomes(rt, alloc, history, &[ADA]);
+    let batches = history.batches();
+    let batch = batches.get(0).expect(rt, "no batch");
+    assert!(rt; batch.is_settled() && batches.get(1).is_none());
+    assert_shows(rt, alloc, history.outcome(0), Some(ADA));
     for caller in 0..2 {
         let last = history.entries(caller).last().expect(rt, "no entry");
         assert!(rt; matches!(last, EntryKind::Saw { cell: 0, .. }));

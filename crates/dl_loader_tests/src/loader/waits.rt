@@ -1,18 +1,14 @@
 //! Callers that wait at once, each on a thread of its own: for one batch or for several, while batches are ended or the
 //! loader is stopped, and after that.
 
-ghost use Rattle.std.specs.Prelude.{◌≡◌, false, IfSome};
+ghost use Rattle.std.specs.Prelude.{◌≡◌};
 ghost use Rattle.dl_history.specs.Service.{Answers};
-ghost use Rattle.dl_loader.specs.Asks.{source_asked};
 ghost use Rattle.dl_loader.specs.Opening.{Names};
-ghost use Rattle.dl_loader.specs.Pass.{GaveTicket};
 
 use super::keys::{assert_same, assert_shows, user};
 use super::player::Scene;
-use dl_desk::Job;
-use dl_loader::{
-    Ask, CloseFault, GiveUp, Loader, LoaderName, MOST_CALLERS, Opening, Pass, Ticket, laws,
-};
+use super::step::Step;
+use dl_loader::{CloseFault, Loader, LoaderName, MOST_CALLERS, Opening, Pass};
 use dl_source::Source;
 use dl_workers::end_jobs;
 use std::alloc::Global;
@@ -30,14 +26,10 @@ const MOST_LOOKS: u32 = 10_000_000;
 
 /// How the first caller releases the others from their waiting.
 pub(super) enum Release {
-    /// It ends each batch by what the source answers.
+    /// It sends the batches, and ends each by what the source answers.
     Ends,
-    /// It ends the only batch so, by the law of one event on the book that is lent.
-    EndsByLaw,
-    /// It fails the only batch so, by the law.
-    GivesUpByLaw,
-    /// It fails the only batch as one that is out of memory.
-    GivesUp,
+    /// It makes these calls.
+    By(&'static [Step]),
     /// It stops the loader.
     Stops,
 }
@@ -99,12 +91,15 @@ pub(super) fn wait_at_once<
         steps: AtomicU32::new(0),
     };
     start_threads(rt, alloc, source, &loader, passes.as_mut_slice(), &meeting);
-    let closed = loader.close(alloc, passes).map_err(|(fault, _, _)| fault);
+    let fault = match loader.close(alloc, passes) {
+        Ok(_) => None,
+        Err((fault, _, _)) => Some(fault),
+    };
     let want = match crowd.release {
         Release::Stops => Some(CloseFault::Unsettled { batch: 0 }),
         _ => None,
     };
-    assert_same(rt, "close", closed.err(), want);
+    assert_same(rt, "close", fault, want);
 }
 
 /// Each caller takes part on a thread of its own.
@@ -152,7 +147,7 @@ fn take_part<L: LoaderName, S: Source, R: Abort + Wait>(
     let mut ticket = loader.load(rt, alloc, pass, &key).expect(rt, "no ticket");
     if caller == 0 {
         meeting.await_steps(rt, CALLERS - 1);
-        scene.release(pass, crowd);
+        let_go(&scene, pass, &crowd.release);
         meeting.steps.fetch_add(1, Ordering::SeqCst);
         return assert_shows(rt, alloc, ticket.look(), crowd.shown(text));
     }
@@ -163,71 +158,25 @@ fn take_part<L: LoaderName, S: Source, R: Abort + Wait>(
     scene.read(pass, &mut ticket, crowd.shown(text));
 }
 
-impl<'a, L: LoaderName, S: Source, R: Abort + Wait> Scene<'a, L, S, R> {
-    /// Waits for the ticket's outcome, which is of this text, or there is none.
-    pub(super) fn read(&self, pass: &mut Pass<L>, ticket: &mut Ticket<'_, L>, text: Option<&str>)
-        requires { GaveTicket pass.old.trace ticket.old false }
-    {
-        let is_stopped = self.loader.wait(self.rt, pass, ticket).is_err();
-        assert_same(self.rt, "wait", is_stopped, text.is_none());
-        assert_shows(self.rt, self.alloc, ticket.look(), text);
-    }
-
-    /// Releases the other callers.
-    fn release(&self, pass: &mut Pass<L>, crowd: &Crowd)
-        requires { Answers (S.answer self.now.source.now) L.service }
-    {
-        let (rt, alloc, loader) = (self.rt, self.alloc, self.loader);
-        match crowd.release {
-            Release::Ends => {
-                let jobs = loader.dispatch(rt, alloc, pass).expect(rt, "no jobs");
-                end_jobs(rt, alloc, loader, self.source, pass, jobs).expect(rt, "no end");
-            }
-            Release::EndsByLaw => self.settle_by_law(pass),
-            Release::GivesUpByLaw => self.fail_by_law(pass),
-            Release::GivesUp => self.give_up(pass),
-            Release::Stops => loader.stop(rt),
+/// Lets the other callers go on.
+fn let_go<L: LoaderName, S: Source, R: Abort + Wait>(
+    scene: &Scene<'_, L, S, R>,
+    pass: &mut Pass<L>,
+    release: &Release,
+)
+    requires { Answers (S.answer scene.now.source.now) L.service }
+{
+    let (rt, alloc, loader) = (scene.rt, scene.alloc, scene.loader);
+    match release {
+        Release::Ends => {
+            let jobs = loader.dispatch(rt, alloc, pass).expect(rt, "no jobs");
+            end_jobs(rt, alloc, loader, scene.source, pass, jobs).expect(rt, "no end");
         }
-    }
-
-    /// Sends the only batch, and ends it by the law with what the source answers.
-    fn settle_by_law(&self, pass: &mut Pass<L>)
-        requires { Answers (S.answer self.now.source.now) L.service }
-    {
-        let fetched = self.fetch(self.send(pass));
-        self.make_by_law(pass, Ask::Settle(fetched));
-    }
-
-    /// Sends the only batch, and fails it by the law.
-    fn fail_by_law(&self, pass: &mut Pass<L>) {
-        let ask: Ask<'a, S> = Ask::Fail(self.send(pass), GiveUp::Memory);
-        self.make_by_law(pass, ask);
-    }
-
-    /// Makes a call by the law of one event, on the book that is lent.
-    fn make_by_law(&self, pass: &mut Pass<L>, ask: Ask<'a, S>)
-        requires { IfSome (source_asked ask) (λ source. Answers (S.answer source) L.service) }
-    {
-        let mut book = self.loader.lock(self.rt);
-        let made = laws::event(self.alloc, self.loader, &mut *book, pass, ask);
-        assert!(self.rt; made.is_ok());
-    }
-
-    /// Sends the only batch, and fails it as one that is out of memory.
-    fn give_up(&self, pass: &mut Pass<L>) {
-        let job = self.send(pass);
-        let failed = self
-            .loader
-            .fail(self.rt, self.alloc, pass, job, GiveUp::Memory);
-        assert!(self.rt; failed.is_ok());
-    }
-
-    /// Sends the only batch: its job.
-    fn send(&self, pass: &mut Pass<L>) -> Job {
-        let jobs = self.loader.dispatch(self.rt, self.alloc, pass);
-        let mut jobs = jobs.expect(self.rt, "no jobs");
-        let job = jobs.pop().expect(self.rt, "no job");
-        assert!(self.rt; jobs.is_empty());
-        job
+        Release::By(steps) => {
+            for step in *steps {
+                scene.make(pass, *step);
+            }
+        }
+        Release::Stops => loader.stop(rt),
     }
 }

@@ -2,10 +2,11 @@
 
 use crate::comparison::assert_is;
 use crate::requests::plans::StepShape::{Clear, Eval};
-use crate::requests::rows::{Row, try_row};
-use crate::requests::users::users;
-use dl_fixtures::{ADA, BOB, Shape, U1, U2};
+use crate::requests::row::{Row, try_row};
+use crate::requests::rows::ROW;
+use dl_fixtures::{ADA, BOB, Shape, U1, U2, USERS, tables};
 use dl_workers::Gate;
+use std::hash::RandomState;
 use std::sync::atomic::{AtomicBool, Ordering};
 use std::thread::yield_now;
 
@@ -19,9 +20,11 @@ struct Held {
     gave_up: AtomicBool,
 }
 
-impl Held {
-    /// Holds the worker, for so many looks.
-    fn hold(&self) {
+impl Gate for Held {
+    fn before_fetch(&self, batch: u32) {
+        if batch != 0 {
+            return;
+        }
         for _ in 0..MOST_LOOKS {
             if self.has_ended.load(Ordering::SeqCst) {
                 return;
@@ -29,14 +32,6 @@ impl Held {
             yield_now();
         }
         self.gave_up.store(true, Ordering::SeqCst);
-    }
-}
-
-impl Gate for Held {
-    fn before_fetch(&self, batch: u32) {
-        if batch == 0 {
-            self.hold();
-        }
     }
 
     fn after_settle(&self, batch: u32) {
@@ -52,35 +47,41 @@ static ROWS: [Row; 2] = [
         about: "two workers for one plan",
         most: (1, 8, 32),
         queue: 4,
+        workers: &[2],
+        times: 1,
         plans: &[&[Eval(Shape::All(&[U1, U2]))]],
         answers: &[&[(
             0,
             r#"[{"best":"u2","friends":["u2","u3"],"name":"Ada"},{"best":"u1","friends":[],"name":"Bob"}]"#,
         )]],
-        rounds: &[1],
         batches: None,
+        ..ROW
     },
     Row {
         about: "two workers for two plans, of which none waits for the other to end",
         most: (1, 8, 32),
         queue: 4,
+        workers: &[2],
+        times: 1,
         plans: &[&[Eval(U1)], &[Clear("u1"), Eval(U2)]],
         answers: &[&[(0, ADA)], &[(1, BOB)]],
         rounds: &[1, 1],
         batches: None,
+        ..ROW
     },
 ];
 
 #[test]
 fn batches_that_are_fetched_at_once(rt: HostRuntime) {
-    let users = users(&rt, rt.alloc());
+    let alloc = rt.alloc();
+    let hashing = RandomState::new(&rt).expect(&rt, "no random numbers");
+    let users = tables(alloc, hashing, USERS).expect(&rt, "no tables");
     for row in &ROWS {
         let gate = Held {
             has_ended: AtomicBool::new(false),
             gave_up: AtomicBool::new(false),
         };
-        try_row(&rt, rt.alloc(), &users, &gate, 2, row);
-        let gave_up = gate.gave_up.load(Ordering::SeqCst);
-        assert_is(&rt, &gave_up, &false, row.about);
+        try_row(&rt, alloc, &users, &gate, row);
+        assert_is(&rt, &gate.gave_up.load(Ordering::SeqCst), &false, row.about);
     }
 }

@@ -3,28 +3,27 @@
 
 use crate::comparison::assert_is;
 use crate::requests::plans::PlanShape;
-use crate::requests::plans::StepShape::{Eval, Users};
-use crate::requests::service::{served, setup};
-use crate::requests::users::users;
-use dl_fixtures::{Shape, U1, U2};
+use crate::requests::plans::StepShape::Eval;
+use crate::requests::row::{Row, try_row};
+use crate::requests::rows::ROW;
+use dl_fixtures::{Shape, U1, U2, USERS, tables};
 use dl_haxl::RunFault;
 use dl_loader::CallFault;
-use dl_scope::{ScopeFault, Setup};
-use dl_source::Tables;
-use dl_workers::{Gate, NoGate};
-use std::alloc::Global;
-use std::process::Abort;
-use std::random::RandomSource;
-use std::sync::Wait;
+use dl_scope::ScopeFault;
+use dl_workers::Gate;
+use std::hash::RandomState;
 use std::sync::atomic::{AtomicU32, Ordering};
-use std::thread::{Threads, sleep};
+use std::thread::sleep;
 use std::time::{Clock, Duration};
 
 /// How many cells there may be.
 const MOST_CELLS: u32 = 6;
 
 /// A plan that needs more cells than there may be.
-const FAULTY: PlanShape = &[Users(7)];
+const FAULTY: PlanShape = &[Eval(Shape::Each(
+    &Shape::Value(r#"{"f":["a","b","c","d","e","f","g"]}"#),
+    "f",
+))];
 
 /// A plan of six batches, one after another, which then needs more cells than there may be.
 const LATER: PlanShape = &[
@@ -34,7 +33,7 @@ const LATER: PlanShape = &[
     Eval(Shape::Load("user", "u4")),
     Eval(Shape::Load("user", "u5")),
     Eval(Shape::Load("user", "u6")),
-    Users(7),
+    Eval(Shape::Load("user", "u7")),
 ];
 
 /// For how many milliseconds a worker is held before it fetches.
@@ -57,94 +56,47 @@ impl<'a, R: Clock> Gate for Slow<'a, R> {
     }
 }
 
-/// Two plans, of which one waits while the other meets its fault, and the number of that one.
-struct Row {
-    about: &'static str,
-    plans: &'static [PlanShape],
-    plan: u32,
-}
-
+/// Two plans, of which one waits while the other meets its fault.
 static ROWS: [Row; 2] = [
     Row {
         about: "the first plan meets its fault while the second waits",
+        most: (1, MOST_CELLS, 64),
+        queue: 1,
+        times: 1,
         plans: &[FAULTY, LATER],
-        plan: 0,
+        fault: Some(ScopeFault::Run {
+            plan: 0,
+            fault: RunFault::Call(CallFault::CellsFull { limit: MOST_CELLS }),
+        }),
+        ..ROW
     },
     Row {
         about: "the second plan meets its fault while the first waits",
+        most: (1, MOST_CELLS, 64),
+        queue: 1,
+        times: 1,
         plans: &[LATER, FAULTY],
-        plan: 1,
+        fault: Some(ScopeFault::Run {
+            plan: 1,
+            fault: RunFault::Call(CallFault::CellsFull { limit: MOST_CELLS }),
+        }),
+        ..ROW
     },
 ];
 
-/// By how many workers the plans are served.
-const WORKERS: [u32; 3] = [1, 2, 3];
-
-/// What the plans are served with, by so many workers.
-fn setup_of(rt: &impl Abort, workers: u32) -> Setup {
-    setup(rt, (1, MOST_CELLS, 64), workers, 1)
-}
-
 #[test]
 fn a_plan_that_waits_is_stopped_by_the_fault_of_another(rt: HostRuntime) {
-    let users = users(&rt, rt.alloc());
+    let alloc = rt.alloc();
+    let hashing = RandomState::new(&rt).expect(&rt, "no random numbers");
+    let users = tables(alloc, hashing, USERS).expect(&rt, "no tables");
     for row in &ROWS {
-        for workers in WORKERS {
-            try_row(&rt, rt.alloc(), &users, workers, row);
-        }
-    }
-}
-
-/// The plans of a row leave no report, since one met its fault, and not all batches of the other were fetched.
-fn try_row<R: Abort + Clock + RandomSource + Threads + Wait + Sync>(
-    rt: &R,
-    alloc: Global,
-    users: &Tables,
-    workers: u32,
-    row: &Row,
-) {
-    let gate = Slow {
-        rt,
-        ended: AtomicU32::new(0),
-    };
-    let setup = setup_of(rt, workers);
-    let fault = served(rt, alloc, users, &gate, setup, row.plans).err();
-    assert_is(rt, &fault, &Some(full(row.plan)), row.about);
-    let ended = gate.ended.load(Ordering::SeqCst);
-    assert_is(rt, &(ended < MOST_CELLS), &true, row.about);
-}
-
-/// How often plans are served that meet their faults at once.
-const TIMES: u32 = 50;
-
-#[test]
-fn two_plans_that_meet_faults_at_once(rt: HostRuntime) {
-    let users = users(&rt, rt.alloc());
-    for workers in WORKERS {
-        for _ in 0..TIMES {
-            try_both(&rt, rt.alloc(), &users, workers);
-        }
-    }
-}
-
-/// Of two plans that meet their faults at once, one is named.
-fn try_both<R: Abort + RandomSource + Threads + Wait + Sync>(
-    rt: &R,
-    alloc: Global,
-    users: &Tables,
-    workers: u32,
-) {
-    let setup = setup_of(rt, workers);
-    let fault = served(rt, alloc, users, &NoGate, setup, &[FAULTY, FAULTY]).err();
-    let is_one = fault == Some(full(0)) || fault == Some(full(1));
-    assert_is(rt, &is_one, &true, "one of the plans is named");
-}
-
-/// The fault of the plan, which needed more cells than there may be.
-fn full(plan: u32) -> ScopeFault {
-    let limit = MOST_CELLS;
-    ScopeFault::Run {
-        plan,
-        fault: RunFault::Call(CallFault::CellsFull { limit }),
+        let gate = Slow {
+            rt: &rt,
+            ended: AtomicU32::new(0),
+        };
+        try_row(&rt, alloc, &users, &gate, row);
+        // By each of three numbers of workers fewer than all batches of the plan that waits have ended.
+        let ended = gate.ended.load(Ordering::SeqCst);
+        assert_is(&rt, &(ended < 3 * MOST_CELLS), &true, row.about);
     }
 }
