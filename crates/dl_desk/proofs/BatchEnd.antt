@@ -15,6 +15,7 @@ use Rattle.dl_desk.specs.declared.reply.End.{End}
 use Rattle.dl_desk.proofs.Tails.{get-set_same, get-set_other}
 use Rattle.dl_desk.proofs.DispatchJobs.{get-take}
 use Rattle.dl_desk.proofs.TableLemmas.{fit_same, alike_set, touched_by}
+use Rattle.dl_desk.proofs.MemoMembers.{held_marked}
 
 -- ---- small ones
 
@@ -125,6 +126,10 @@ desk_marked d n x y e is m = record {
     | inr other ↦ is.same b outside z (sym (get-set_other d.batches n b y other) ∙ at)
   ];
   unmarked = λ e. let s = is.unmarked e in record { extent = s.extent; all_memo = s.all_memo; none_touched = s.none_touched };
+  prepared_held = rw map-set (held_marked d.forgotten d.memo (map prepared_batch d.batches) n (prepared_batch x) (prepared_batch y)
+      (rw (slice_get-map prepared_batch d.batches n, m.at) refl) (ap (λ (b : Batch). b.members) m.prepared_end) is.prepared_held);
+  shown_held = rw map-set (held_marked d.forgotten (take d.shown_memo d.memo) (map shown_batch d.batches) n (shown_batch x) (shown_batch y)
+      (rw (slice_get-map shown_batch d.batches n, m.at) refl) (ap (λ (b : Batch). b.members) m.shown_end) is.shown_held);
 }
 
 pub batches_marked : (prepared shown n : ℕ) (xs : List StoredBatch) (x y : StoredBatch) (e : End) → IsMarked prepared shown n xs x y e

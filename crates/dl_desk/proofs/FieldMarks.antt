@@ -1,20 +1,22 @@
 -- What cutting, showing and preparing leave of a desk's fields.
-use Rattle.std.proofs.Common.{◌≡◌, ◌∙◌, sym, true, false, ℕ, zero, suc, ◌+◌, ◌<◌, ◌≤◌, inl, inr, min, max, List, [], ◌∷◌, ◌++◌, length, map, set, take}
-use Rattle.std.proofs.Common.{Bool, nat_eq, ◌||◌, Option, Some, None, option_map, slice_get, refl, arith, length-append}
+use Rattle.std.proofs.Common.{◌≡◌, ◌∙◌, sym, ap, true, false, ℕ, zero, suc, ◌+◌, ◌<◌, ◌≤◌, inl, inr, min, max, List, [], ◌∷◌, ◌++◌, length, map, set, take}
+use Rattle.std.proofs.Common.{Bool, nat_eq, ◌||◌, Option, Some, None, IsSome, option_map, slice_get, refl, arith, length-append}
 use Rattle.std.specs.List.{list_any}
 use Rattle.std.proofs.lemmas.List.Folds.{list_any-append}
 use Rattle.std.proofs.lemmas.Bool.{cases_lt, cases_eq, true≢false, eq-eqb, or_parts}
 use Rattle.std.proofs.lemmas.Option.{slice_get-map, slice_get_past}
-use Rattle.std.proofs.lemmas.List.{map-append, map-set, length-set, length-map, take_all}
-use Rattle.dl_values.specs.Key.{Key}
+use Rattle.std.specs.Map.{lookup}
+use Rattle.std.proofs.lemmas.List.{map-append, map-set, length-set, length-map, length-take, take_all, take-take, take-append-le}
+use Rattle.dl_values.specs.Key.{Key, key_eq}
 use Rattle.dl_desk.specs.StoredBatch.{StoredBatch, blank}
 use Rattle.dl_desk.specs.BatchBook.{Batch}
 use Rattle.dl_desk.specs.Preparation.{prepared_batch, shown_batch, empty, Same, members_of}
 use Rattle.dl_desk.specs.Marks.{DeskFields, IsStored, IsShown, IsDesk, MakesRoom, IsAdded}
 use Rattle.dl_desk.specs.TableBook.{TableBook, untouched, AreTouched, both, FitTables}
 use Rattle.dl_desk.specs.declared.desk.Extent.{Extent}
-use Rattle.dl_desk.proofs.Tails.{get-set_other, map-set_unseen, same_all}
+use Rattle.dl_desk.proofs.Tails.{get-append_left, get-append_last, get-set_other, map-set_unseen, same_all}
 use Rattle.dl_desk.proofs.TableLemmas.{fit_cut, fit_shown, one_of}
+use Rattle.dl_desk.proofs.MemoMembers.{held_none, held_more, held_whole, held_same, held_grows, put_held, put_unseen}
 
 -- ---- cutting and showing
 
@@ -28,17 +30,23 @@ none_prepared xs same b x at =
     cc
 
 pub desk_cut : (d : DeskFields) (left : List (Key × ℕ)) (ys : List StoredBatch) → IsDesk d → map prepared_batch ys ≡ map shown_batch d.batches
-    → map shown_batch ys ≡ map shown_batch d.batches → length left ≡ d.shown_memo
+    → map shown_batch ys ≡ map shown_batch d.batches → left ≡ take d.shown_memo d.memo
     → IsDesk (record d { tables = option_map untouched d.tables; memo = left; batches = ys; prepared = d.shown; is_prepared = false; touched = d.shown.begun })
-desk_cut d left ys is w f all = record {
+desk_cut d left ys is w f front = record {
   prepared_book = rw w is.shown_book;
   shown_book = rw f is.shown_book;
   later = omega arith;
   tables = rw (w, f) (fit_cut d.max_batch (both d.shown.begun d.prepared.begun d.batches) ys d.tables (none_prepared ys (f ∙ sym w)) is.tables);
-  memo = omega arith;
+  memo = omega (arith, all);
   same = λ b outside x at. none_prepared ys (f ∙ sym w) b x at;
   unmarked = λ _. record { extent = refl; all_memo = all; none_touched = refl };
+  prepared_held = held_same d.forgotten (take d.shown_memo d.memo) left (map shown_batch d.batches) (map prepared_batch ys) front w is.shown_held;
+  shown_held = held_same d.forgotten (take d.shown_memo d.memo) (take d.shown_memo left) (map shown_batch d.batches) (map shown_batch ys)
+      (ap (take d.shown_memo) front ∙ take-take d.shown_memo d.shown_memo d.memo (omega arith)) f is.shown_held;
 }
+  where
+    all : length left ≡ d.shown_memo
+    all = rw (front, length-take) (let m = is.memo in omega arith)
 
 pub desk_shown : (d : DeskFields) (ys : List StoredBatch) → IsDesk d → map prepared_batch ys ≡ map prepared_batch d.batches
     → map shown_batch ys ≡ map prepared_batch d.batches
@@ -51,20 +59,66 @@ desk_shown d ys is w f = record {
   memo = omega arith;
   same = λ b outside x at. none_prepared ys (f ∙ sym w) b x at;
   unmarked = λ _. record { extent = refl; all_memo = refl; none_touched = refl };
+  prepared_held = held_same d.forgotten d.memo d.memo (map prepared_batch d.batches) (map prepared_batch ys) refl w is.prepared_held;
+  shown_held = held_same d.forgotten d.memo (take (length d.memo) d.memo) (map prepared_batch d.batches) (map shown_batch ys)
+      (take_all (length d.memo) d.memo (omega arith)) f is.prepared_held;
+}
+
+-- ---- the memo
+
+-- it holds one key more, of the cell that is begun next
+pub desk_noted : (d : DeskFields) (e : Key × ℕ) → IsDesk d → d.prepared.cells < d.max_cells
+    → IsDesk (record d { memo = d.memo ++ e ∷ []; prepared = record d.prepared { cells = d.prepared.cells + 1 }; is_prepared = true })
+desk_noted d e is room = record {
+  prepared_book = record {
+    all_sent = is.prepared_book.all_sent;
+    all_stored = is.prepared_book.all_stored;
+    few = let f = is.prepared_book.few in omega arith;
+    within = omega arith;
+    spare = is.prepared_book.spare;
+  };
+  shown_book = is.shown_book;
+  later = is.later;
+  tables = is.tables;
+  memo = rw length-append (let m = is.memo in omega arith);
+  same = is.same;
+  unmarked = λ marked. absurd (true≢false marked);
+  prepared_held = held_more d.forgotten d.memo e (map prepared_batch d.batches) is.prepared_held;
+  shown_held = held_same d.forgotten (take d.shown_memo d.memo) (take d.shown_memo (d.memo ++ e ∷ [])) (map shown_batch d.batches) (map shown_batch d.batches)
+      (take-append-le d.shown_memo d.memo (e ∷ []) is.memo) refl is.shown_held;
+}
+
+-- all of it is shown, also what was prepared
+pub desk_memo : (d : DeskFields) → IsDesk d → IsDesk (record d { shown_memo = length d.memo })
+desk_memo d is = record {
+  prepared_book = is.prepared_book;
+  shown_book = is.shown_book;
+  later = is.later;
+  tables = is.tables;
+  memo = omega arith;
+  same = is.same;
+  unmarked = λ marked. let s = is.unmarked marked in record { extent = s.extent; all_memo = refl; none_touched = s.none_touched };
+  prepared_held = is.prepared_held;
+  shown_held = held_same d.forgotten d.memo (take (length d.memo) d.memo) (map shown_batch d.batches) (map shown_batch d.batches)
+      (take_all (length d.memo) d.memo (omega arith)) refl (held_whole d.forgotten d.shown_memo d.memo (map shown_batch d.batches) is.shown_held);
+}
+
+-- keys were forgotten
+pub desk_forgot : (d : DeskFields) (left : List (Key × ℕ)) → IsDesk d
+    → IsDesk (record d { memo = left; shown_memo = length left; forgotten = d.prepared.begun })
+desk_forgot d left is = record {
+  prepared_book = is.prepared_book;
+  shown_book = is.shown_book;
+  later = is.later;
+  tables = is.tables;
+  memo = omega arith;
+  same = is.same;
+  unmarked = λ marked. let s = is.unmarked marked in record { extent = s.extent; all_memo = refl; none_touched = s.none_touched };
+  prepared_held = held_none d.prepared d.max_cells d.prepared.begun left (map prepared_batch d.batches) is.prepared_book (omega arith);
+  shown_held = held_none d.shown d.max_cells d.prepared.begun (take (length left) left) (map shown_batch d.batches) is.shown_book is.later;
 }
 
 -- ---- one more batch
-
-get-append_left : {A : Type 0} (xs ys : List A) (b : ℕ) → b < length xs → slice_get (xs ++ ys) b ≡ slice_get xs b
-get-append_left [] ys b low = absurd (omega arith)
-get-append_left (x ∷ xs) ys zero low = refl
-get-append_left (x ∷ xs) ys (suc b) low = get-append_left xs ys b (omega arith)
-
-get-append_last : {A : Type 0} (xs : List A) (y : A) (b : ℕ) → b ≡ length xs → slice_get (xs ++ y ∷ []) b ≡ Some y
-get-append_last [] y zero is = refl
-get-append_last [] y (suc b) is = absurd (omega arith)
-get-append_last (x ∷ xs) y zero is = absurd (omega arith)
-get-append_last (x ∷ xs) y (suc b) is = get-append_last xs y b (omega arith)
 
 pub stored_grown : (e : Extent) (most : ℕ) (xs : List Batch) → IsStored e most xs → IsStored e most (xs ++ empty ∷ [])
 stored_grown e most xs is = record {
@@ -113,6 +167,8 @@ desk_grown d tables ys is room fit = record {
   memo = is.memo;
   same = same_grows d.touched d.prepared.begun d.batches ys is.same room;
   unmarked = λ e. absurd (true≢false e);
+  prepared_held = held_grows prepared_batch d.forgotten d.memo d.batches ys refl is.prepared_held room;
+  shown_held = held_grows shown_batch d.forgotten (take d.shown_memo d.memo) d.batches ys refl is.shown_held room;
 }
 
 -- ---- the batches that are touched
@@ -166,10 +222,10 @@ stored_put e most n xs y is low next room = record {
 }
 
 pub desk_put : (d : DeskFields) (tables : Option TableBook) (n : ℕ) (m : Key × ℕ) (ys : List StoredBatch) → IsDesk d → IsAdded d.batches n m ys
-    → n ≤ d.prepared.begun → d.prepared.begun < d.prepared.cells
+    → n ≤ d.prepared.begun → d.prepared.begun < d.prepared.cells → IsSome (lookup (key_eq m.0) d.memo)
     → FitTables d.max_batch (both d.shown.begun (max d.prepared.begun (n + 1)) ys) tables
     → IsDesk (record d { tables = tables; batches = ys; prepared = with_member d.prepared n; is_prepared = true; touched = min d.touched n })
-desk_put d tables n m ys is added next room fit = record {
+desk_put d tables n m ys is added next room some fit = record {
   prepared_book
       = rw (
         added.is,
@@ -188,6 +244,8 @@ desk_put d tables n m ys is added next room fit = record {
       (elim outside [ inl below ↦ inl (omega arith) | inr above ↦ inr (omega arith) ]) x
       (sym (get-set_other added.grown n b added.then ne) ∙ (let here : slice_get (set added.grown n added.then) b ≡ Some x = rw added.is at at in here));
   unmarked = λ e. absurd (true≢false e);
+  prepared_held = put_held d.forgotten n d.memo m d.batches ys added some is.prepared_held;
+  shown_held = put_unseen d.forgotten n (take d.shown_memo d.memo) m d.batches ys added is.shown_held;
 }
 
 -- the members of a batch, of which the next one has none before it is added

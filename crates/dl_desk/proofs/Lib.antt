@@ -7,6 +7,7 @@ pub mod OpenBatch
 pub mod DispatchJobs
 pub mod Steps
 pub mod Tails
+pub mod MemoMembers
 pub mod TableNames
 pub mod TableLemmas
 pub mod FieldMarks

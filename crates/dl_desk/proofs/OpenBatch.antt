@@ -1,5 +1,5 @@
 -- The batch that a fresh load goes into, as the book and as the history have it.
-use Rattle.std.proofs.Common.{◌≡◌, ◌∙◌, sym, ap, cond, ℕ, zero, suc, ◌<◌, Bool, true, false, List, length, Option, Some, None, refl, arith}
+use Rattle.std.proofs.Common.{◌≡◌, ◌∙◌, sym, ap, cond, ℕ, zero, suc, ◌<◌, Bool, true, false, not, List, length, Option, Some, None, refl, arith}
 use Rattle.dl_values.specs.Key.{Key}
 use Rattle.dl_desk.specs.History.{Atom, begun, has_member, members, serves, greatest, is_open, room_in, room}
 use Rattle.dl_desk.specs.BatchBook.{BatchBook, StandsFor}
@@ -31,6 +31,22 @@ book_room-is book history stands k =
     let same : greatest f (length book.batches) ≡ greatest g (begun history) =
     rw stands.count (greatest-same f g (begun history) (λ b low. ap (serves book.rules k) (members_at-are book history stands b low))) in
     ap (room_of book k) same ∙ room_of-is book history stands k (greatest g (begun history)) (λ b is. greatest-below g (begun history) b is)
+
+-- ---- a book whose last batch takes one more
+
+either_open : (has : Bool) (next b : ℕ) → cond has next b ≡ cond (not has) b next
+either_open true next b = refl
+either_open false next b = refl
+
+last_is_open : (book : BatchBook) (k : Key) (n : ℕ) → book.rules.tables ≡ None → has_room_in book n ≡ true
+    → cond (has_member (members_at book n) k) (length book.batches) n ≡ room_of book k (greatest (λ b. serves book.rules k (members_at book b)) (suc n))
+last_is_open book k n mixes room = rw (mixes, room) (either_open (has_member (members_at book n) k) (length book.batches) n)
+
+-- a key goes there, unless a member has it
+pub last_room : (book : BatchBook) (n : ℕ) → book.rules.tables ≡ None → length book.batches ≡ suc n → has_room_in book n ≡ true
+    → (k : Key) → cond (has_member (members_at book n) k) (length book.batches) n ≡ book_room book k
+last_room book n mixes len room k = last_is_open book k n mixes room
+    ∙ ap (λ c. room_of book k (greatest (λ b. serves book.rules k (members_at book b)) c)) (sym len)
 
 -- ---- a book whose last batch takes no more
 

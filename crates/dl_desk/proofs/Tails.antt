@@ -1,5 +1,5 @@
 -- What is prepared in the stored batches, and what is shown of them.
-use Rattle.std.proofs.Common.{◌≡◌, ◌∙◌, sym, ap, ℕ, zero, suc, ◌+◌, ◌<◌, ◌≤◌, inl, inr, List, [], ◌∷◌, length, map, set, Option, Some, slice_get, get_or}
+use Rattle.std.proofs.Common.{◌≡◌, ◌∙◌, sym, ap, ℕ, zero, suc, ◌+◌, ◌<◌, ◌≤◌, inl, inr, List, [], ◌∷◌, ◌++◌, length, map, set, Option, Some, slice_get, get_or}
 use Rattle.std.proofs.Common.{refl, arith}
 use Rattle.std.proofs.lemmas.Bool.{cases_lt, cases_eq}
 use Rattle.std.proofs.lemmas.List.{length-map}
@@ -9,6 +9,17 @@ use Rattle.dl_desk.specs.BatchBook.{Batch}
 use Rattle.dl_desk.specs.Preparation.{prepared_batch, shown_batch, Same}
 
 -- ---- one place of a list
+
+pub get-append_left : {A : Type 0} (xs ys : List A) (b : ℕ) → b < length xs → slice_get (xs ++ ys) b ≡ slice_get xs b
+get-append_left [] ys b low = absurd (omega arith)
+get-append_left (x ∷ xs) ys zero low = refl
+get-append_left (x ∷ xs) ys (suc b) low = get-append_left xs ys b (omega arith)
+
+pub get-append_last : {A : Type 0} (xs : List A) (y : A) (b : ℕ) → b ≡ length xs → slice_get (xs ++ y ∷ []) b ≡ Some y
+get-append_last [] y zero is = refl
+get-append_last [] y (suc b) is = absurd (omega arith)
+get-append_last (x ∷ xs) y zero is = absurd (omega arith)
+get-append_last (x ∷ xs) y (suc b) is = get-append_last xs y b (omega arith)
 
 pub get-set_same : {A : Type 0} (xs : List A) (n : ℕ) (x : A) → n < length xs → slice_get (set xs n x) n ≡ Some x
 get-set_same [] n x low = absurd (omega arith)

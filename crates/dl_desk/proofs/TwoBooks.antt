@@ -9,13 +9,14 @@ use Rattle.dl_values.specs.Key.{Key, key_eq}
 use Rattle.dl_desk.specs.StoredBatch.{StoredBatch, blank}
 use Rattle.dl_values.specs.Limits.{Rules}
 use Rattle.dl_desk.specs.BatchBook.{Batch, BatchBook}
-use Rattle.dl_desk.specs.Preparation.{prepared_batch, shown_batch, empty, members_of, put_member}
-use Rattle.dl_desk.specs.Marks.{IsStored, MakesRoom, more, IsAdded}
+use Rattle.dl_desk.specs.Preparation.{prepared_batch, shown_batch, empty, members_of, MayJoin, put_member}
+use Rattle.dl_desk.specs.Marks.{DeskFields, IsStored, IsDesk, MakesRoom, more, IsAdded}
 use Rattle.dl_desk.specs.declared.desk.Extent.{Extent}
-use Rattle.dl_values.proofs.KeyLemmas.{key_eq-sym, key_eq-same}
+use Rattle.dl_values.proofs.KeyLemmas.{key_eq-refl, key_eq-sym, key_eq-same}
 use Rattle.dl_desk.proofs.NewMember.{first_member}
 use Rattle.dl_desk.proofs.DispatchJobs.{get-take}
 use Rattle.dl_desk.proofs.Tails.{map-set_unseen}
+use Rattle.dl_desk.proofs.MemoMembers.{none_taken}
 use Rattle.dl_desk.proofs.FieldMarks.{stored_grows}
 
 -- ---- the memo
@@ -97,6 +98,17 @@ put_batches e most n m xs ys is added next =
 -- as many batches are taken as were begun
 pub length-begun : (e : Extent) (most : ℕ) (xs : List Batch) → IsStored e most xs → length (take e.begun xs) ≡ e.begun
 length-begun e most xs is = rw length-take (let s = is.all_stored in omega arith)
+
+-- a member of a key may join once the memo holds its cell, which it didn't before
+pub may_join : (d : DeskFields) (k : Key) (book : BatchBook) → IsDesk d → lookup (key_eq k) d.memo ≡ None
+    → book.batches ≡ take d.prepared.begun (map prepared_batch d.batches) → book.cells ≡ d.prepared.cells + 1
+    → book.memo ≡ d.memo ++ (k, d.prepared.cells) ∷ [] → MayJoin book k d.forgotten
+may_join d k book is none batches cells memo = record {
+  next = rw (batches, length-begun d.prepared d.max_cells (map prepared_batch d.batches) is.prepared_book)
+      (let f = is.prepared_book.few in omega arith);
+  held = rw (memo, lookup-noted d.memo k k d.prepared.cells none, key_eq-refl k) refl;
+  none = rw batches (none_taken d.prepared.begun d.forgotten (map prepared_batch d.batches) k (is.prepared_held k none));
+}
 
 -- the members of a batch up to the next one, which has none
 pub members-taken : (e : Extent) (most n : ℕ) (xs : List Batch) → IsStored e most xs → n ≤ e.begun

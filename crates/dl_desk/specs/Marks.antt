@@ -1,9 +1,9 @@
 -- What holds of the fields of a desk: of what is shown, of what is prepared, and of both.
-use Rattle.std.specs.Prelude.{◌≡◌, ℕ, Bool, false, ◌<◌, ◌≤◌, List, [], ◌∷◌, ◌++◌, ◌⊎◌, length, map, set, slice_get, Option, Some}
+use Rattle.std.specs.Prelude.{◌≡◌, ℕ, Bool, false, ◌<◌, ◌≤◌, List, [], ◌∷◌, ◌++◌, ◌⊎◌, length, map, set, take, slice_get, Option, Some}
 use Rattle.dl_values.specs.Key.{Key}
 use Rattle.dl_desk.specs.StoredBatch.{StoredBatch, blank}
 use Rattle.dl_desk.specs.BatchBook.{Batch}
-use Rattle.dl_desk.specs.Preparation.{prepared_batch, shown_batch, empty, Same}
+use Rattle.dl_desk.specs.Preparation.{prepared_batch, shown_batch, empty, Same, AllHeld}
 use Rattle.dl_desk.specs.TableBook.{TableBook, FitTables, both}
 use Rattle.dl_desk.specs.declared.desk.Extent.{Extent}
 
@@ -19,6 +19,7 @@ pub record DeskFields : Type 0 where
   pub shown_memo : ℕ
   pub is_prepared : Bool
   pub touched : ℕ
+  pub forgotten : ℕ
 
 -- Of the stored batches those that were begun are the book's. The others are empty, and wait to be begun.
 pub record IsStored (extent : Extent) (max_cells : ℕ) (stored : List Batch) : Type 0 where
@@ -35,7 +36,8 @@ pub record IsShown (d : DeskFields) : Type 0 where
   pub none_touched : d.touched ≡ d.prepared.begun
 
 -- Both books are stored rightly, what is kept of tables tells of both, what is shown of the memo is there, nothing is
--- prepared in batches that are not touched, and without the mark nothing is prepared at all.
+-- prepared in batches that are not touched, and without the mark nothing is prepared at all. Both memos hold the keys of all
+-- batches that were begun since something was forgotten.
 pub record IsDesk (d : DeskFields) : Type 0 where
   pub prepared_book : IsStored d.prepared d.max_cells (map prepared_batch d.batches)
   pub shown_book : IsStored d.shown d.max_cells (map shown_batch d.batches)
@@ -44,6 +46,8 @@ pub record IsDesk (d : DeskFields) : Type 0 where
   pub memo : d.shown_memo ≤ length d.memo
   pub same : Same d.touched d.prepared.begun d.batches
   pub unmarked : d.is_prepared ≡ false → IsShown d
+  pub prepared_held : AllHeld d.forgotten d.memo (map prepared_batch d.batches)
+  pub shown_held : AllHeld d.forgotten (take d.shown_memo d.memo) (map shown_batch d.batches)
 
 -- the batches stay, or an empty one is added
 abbrev pub MakesRoom : List StoredBatch → List StoredBatch → Type 0

@@ -34,6 +34,20 @@ empty = record { members = []; end = None }
 abbrev pub Same : (from to : ℕ) → List StoredBatch → Type 0
 Same from to stored = (b : ℕ) → (b < from) ⊎ (to ≤ b) → (x : StoredBatch) → slice_get stored b ≡ Some x → shown_batch x ≡ prepared_batch x
 
+-- ---- members of a key
+
+abbrev pub members_of : Option Batch → List (Key × ℕ)
+members_of None = []
+members_of (Some x) = x.members
+
+-- no batch from the number on has a member of the key
+abbrev pub NoneFrom : ℕ → List Batch → Key → Type 0
+NoneFrom n xs k = (b : ℕ) → n ≤ b → has_member (members_of (slice_get xs b)) k ≡ false
+
+-- no batch from the number on has a member of a key that the memo doesn't hold
+abbrev pub AllHeld : ℕ → List (Key × ℕ) → List Batch → Type 0
+AllHeld n memo xs = (k : Key) → lookup (key_eq k) memo ≡ None → NoneFrom n xs k
+
 -- ---- what steps do to a book
 
 -- the batches with one more member in the batch, which is new where it is none of them
@@ -41,10 +55,6 @@ abbrev pub put_member : List Batch → ℕ → Key × ℕ → List Batch
 put_member [] b m = record { members = m ∷ []; end = None } ∷ []
 put_member (x ∷ xs) zero m = record { members = x.members ++ m ∷ []; end = x.end } ∷ xs
 put_member (x ∷ xs) (suc b) m = x ∷ put_member xs b m
-
-abbrev pub members_of : Option Batch → List (Key × ℕ)
-members_of None = []
-members_of (Some x) = x.members
 
 -- the members of a batch of the book
 abbrev pub members_at : BatchBook → ℕ → List (Key × ℕ)
@@ -77,6 +87,12 @@ pub record Begins (old : BatchBook) (k : Key) (batch : Option ℕ) (new : BatchB
   pub sent : new.sent ≡ old.sent
   pub memo : (q : Key) → lookup (key_eq q) new.memo ≡ (if key_eq k q then Some old.cells else lookup (key_eq q) old.memo)
   pub batches : new.batches ≡ put_in old.batches batch (k, old.cells)
+
+-- A member of the key may be put into a batch: a cell of it is begun and held, and no batch from the number on has a member of it.
+pub record MayJoin (book : BatchBook) (k : Key) (forgotten : ℕ) : Type 0 where
+  pub next : length book.batches < book.cells
+  pub held : IsSome (lookup (key_eq k) book.memo)
+  pub none : NoneFrom forgotten book.batches k
 
 -- a member of the key was put into the batch that has room for it
 pub record Joins (old : BatchBook) (k : Key) (cell batch : ℕ) (new : BatchBook) : Type 0 where

@@ -1,9 +1,9 @@
 //! Batches as a desk stores them: members, of which the last may be prepared.
 
-ghost use Rattle.std.specs.Prelude.{◌≡◌, Some, Ok, true, false, not, ◌<◌, slice_get, [], ◌∷◌, ◌++◌, length, take, map, OnErr, IfOk};
+ghost use Rattle.std.specs.Prelude.{◌≡◌, Some, false, ◌<◌, slice_get, [], ◌∷◌, ◌++◌, length, take, map, OnOk, OnErr, IfOk};
 ghost use Rattle.std.specs.List.{zip};
 ghost use Rattle.dl_desk.specs.History.{has_member, is_of_table};
-ghost use Rattle.dl_desk.specs.StoredBatch.{StoredBatch, blank, is_first_of};
+ghost use Rattle.dl_desk.specs.StoredBatch.{StoredBatch, blank, is_first_of, AreApart};
 ghost use Rattle.dl_desk.specs.Preparation.{prepared_batch, shown_batch};
 
 use crate::reply::End;
@@ -13,26 +13,30 @@ use std::alloc::{AllocError, Global};
 use std::hash::RandomState;
 use std::marker::Model;
 
+/// A batch of so many members at most is asked for a key by a look at each member, and a larger one by an index.
+const SCANNED: usize = 8;
+
 /// A batch: the keys of its members, each once and in order, with the cell of each, and how it
 /// ended. The first `seen` members are shown, the others are prepared.
 #[derive(Drop)]
 pub(crate) struct StoredBatch {
-    keys: IndexSet<FetchKey, RandomState>,
+    keys: Vec<FetchKey>,
     cells: Vec<u32>,
+    // The first of the keys once more, as many as there were when it was asked last whether a member has a key.
+    index: IndexSet<FetchKey, RandomState>,
     seen: usize,
     end: Option<End>,
 }
 
 impl Model for StoredBatch {
-    ghost use Rattle.std.specs.Prelude.{◌≡◌, ◌≤◌, length};
     ghost use Rattle.std.specs.List.{zip};
-    ghost use Rattle.dl_desk.specs.StoredBatch.{StoredBatch};
+    ghost use Rattle.dl_desk.specs.StoredBatch.{StoredBatch, AreMembers};
 
     ghost Value = { StoredBatch };
 
-    ghost view = { λ b. record { members = zip b.keys.keys b.cells.items; seen = b.seen; end = b.end } };
+    ghost view = { λ b. record { members = zip b.keys.items b.cells.items; seen = b.seen; end = b.end } };
 
-    ghost invariant = { λ b. (length b.keys.keys ≡ length b.cells.items) × (b.seen ≤ length b.cells.items) };
+    ghost invariant = { λ b. AreMembers b.keys.items b.cells.items b.seen b.index.keys };
 }
 
 impl StoredBatch {
@@ -41,8 +45,9 @@ impl StoredBatch {
         ensures { result ≡ blank }
     {
         StoredBatch {
-            keys: IndexSet::with_hasher(alloc, hashing),
+            keys: Vec::new(alloc),
             cells: Vec::new(alloc),
+            index: IndexSet::with_hasher(alloc, hashing),
             seen: 0,
             end: None,
         }
@@ -67,8 +72,7 @@ impl StoredBatch {
         requires { place < length self.now.members }
         ensures { slice_get self.now.members place ≡ Some (result.0.now, result.1) }
     {
-        let keys = self.keys.as_slice();
-        (&keys[place], self.cells[place])
+        (&self.keys[place], self.cells[place])
     }
 
     /// Whether the first member is of the table.
@@ -92,21 +96,33 @@ impl StoredBatch {
         self.end
     }
 
-    /// Prepares one more member, where none has the key, and answers whether none has it. The error is a failed
-    /// allocation, and leaves the batch as it was.
-    pub(crate) fn push(&mut self, key: FetchKey, cell: u32) -> Result<bool, AllocError>
-        ensures is_new { IfOk result (λ is_new. is_new ≡ not (has_member self.old.members key)) }
+    /// Whether a member has the key, shown or prepared. The error is a failed allocation.
+    // Out of line, so that a member that nobody asks for costs nothing of it.
+    #[cold]
+    #[inline(never)]
+    pub(crate) fn has(&mut self, key: &FetchKey) -> Result<bool, AllocError>
+        ensures has { IfOk result (λ has. has ≡ has_member self.old.members key.now) }
+        ensures kept { self.new ≡ self.old }
+    {
+        if self.keys.len() <= SCANNED {
+            return Ok(self.keys.contains(key));
+        }
+        index_keys(&mut self.index, self.keys.as_slice())?;
+        Ok(self.index.contains(key))
+    }
+
+    /// Prepares one more member, of a key that none has. The error is a failed allocation, and leaves the batch as it was.
+    pub(crate) fn push(&mut self, key: &FetchKey, cell: u32) -> Result<(), AllocError>
+        requires { has_member self.old.members key.now ≡ false }
         ensures shown { shown_batch self.new ≡ shown_batch self.old }
-        ensures added { result ≡ Ok true → prepared_batch self.new ≡ record { members = self.old.members ++ (key, cell) ∷ []; end = self.old.end } }
-        ensures kept { result ≡ Ok false → self.new ≡ self.old }
+        ensures added { OnOk result (prepared_batch self.new ≡ record { members = self.old.members ++ (key.now, cell) ∷ []; end = self.old.end }) }
         ensures err { OnErr result (self.new ≡ self.old) }
     {
+        self.keys.reserve(1)?;
         self.cells.reserve(1)?;
-        if !self.keys.insert(key)? {
-            return Ok(false);
-        }
-        self.cells.push(cell).unwrap();
-        Ok(true)
+        self.keys.push_reserved(key.try_copy()?);
+        self.cells.push_reserved(cell);
+        Ok(())
     }
 
     /// Takes back what is prepared.
@@ -114,6 +130,7 @@ impl StoredBatch {
         ensures prepared { prepared_batch self.new ≡ shown_batch self.old }
         ensures shown { shown_batch self.new ≡ shown_batch self.old }
     {
+        self.index.truncate(self.seen);
         self.keys.truncate(self.seen);
         self.cells.truncate(self.seen);
     }
@@ -139,9 +156,25 @@ impl StoredBatch {
         ensures members { zip result.0.now result.1.now ≡ (shown_batch self.now).members }
         ensures as_many { length result.0.now ≡ length result.1.now }
     {
-        let keys = self.keys.as_slice();
-        (&keys[..self.seen], &self.cells[..self.seen])
+        (&self.keys[..self.seen], &self.cells[..self.seen])
     }
+}
+
+/// Puts all of the keys into an index that has the first of them. The error is a failed allocation, and then the index
+/// still has the first of them.
+fn index_keys(
+    index: &mut IndexSet<FetchKey, RandomState>,
+    keys: &[FetchKey],
+) -> Result<(), AllocError>
+    requires once { AreApart keys.now }
+    requires first { index.old.keys ≡ take (length index.old.keys) keys.now }
+    ensures ok { OnOk result (index.new.keys ≡ keys.now) }
+    ensures first { index.new.keys ≡ take (length index.new.keys) keys.now }
+{
+    for place in index.len()..keys.len() {
+        index.insert(keys[place].try_copy()?)?;
+    }
+    Ok(())
 }
 
 /// Whether the first key is of the table.

@@ -9,7 +9,7 @@ ghost use Rattle.dl_values.specs.Limits.{mixed, by_table};
 ghost use Rattle.dl_desk.specs.History.{Atom, Load, Prime, has_member, load_reply, prime_reply};
 ghost use Rattle.dl_desk.specs.BatchBook.{StandsFor};
 ghost use Rattle.dl_desk.specs.TableBook.{rules_of, AreNoTables};
-ghost use Rattle.dl_desk.specs.Preparation.{members_at, has_room_in, book_room, book_jobs, Joins, Puts, PutsAlone, RefusesStep};
+ghost use Rattle.dl_desk.specs.Preparation.{members_at, has_room_in, book_room, book_jobs, MayJoin, Joins, Puts, PutsAlone, RefusesStep};
 
 mod batch_view;
 mod calls;
@@ -70,6 +70,8 @@ pub struct Desk {
     is_prepared: bool,
     // In no batch outside of touched..prepared.begun anything is prepared.
     touched: u32,
+    // How many batches were begun when the memo forgot something last. It holds the keys of all later ones.
+    forgotten: u32,
 }
 
 impl Drop for Desk {
@@ -84,6 +86,7 @@ impl Drop for Desk {
             shown_memo: _,
             is_prepared: _,
             touched: _,
+            forgotten: _,
         } = self;
         drop(tables);
         drop(memo);
@@ -128,6 +131,7 @@ impl Model for Desk {
       shown_memo = d.shown_memo;
       is_prepared = d.is_prepared;
       touched = d.touched;
+      forgotten = d.forgotten;
     }) };
 }
 
@@ -176,6 +180,7 @@ impl Desk {
             shown_memo: 0,
             is_prepared: false,
             touched: 0,
+            forgotten: 0,
         }
     }
 
@@ -286,27 +291,39 @@ impl Desk {
         }
     }
 
-    /// Prepares a member of the key in the batch that has room for it, and answers which. The error is a failed
-    /// allocation, and part of the step may be prepared then.
+    /// Prepares a member of the key in the batch that has room for it, and answers which. No batch from `forgotten` on
+    /// has a member of the key. The error is a failed allocation, and part of the step may be prepared then.
     // Inlined, as is the next one, so that batches that may mix tables cost nothing more for those of one table.
     #[inline(always)]
-    fn join(&mut self, alloc: Global, key: &FetchKey, cell: u32) -> Result<u32, AllocError>
-        requires next { length self.old.prepared.batches < self.old.prepared.cells }
+    fn join(
+        &mut self,
+        alloc: Global,
+        key: &FetchKey,
+        cell: u32,
+        forgotten: u32,
+    ) -> Result<u32, AllocError>
+        requires may { MayJoin self.old.prepared key.now forgotten }
         ensures book { self.new.book ≡ self.old.book }
         ensures rules { self.new.prepared.rules ≡ self.old.prepared.rules }
         ensures joins { IfOk result (λ batch. Joins self.old.prepared key.now cell batch self.new.prepared) }
     {
         match &self.tables {
-            None => self.join_newest(alloc, key, cell),
-            Some(_) => self.join_of_table(alloc, key, cell),
+            None => self.join_newest(alloc, key, cell, forgotten),
+            Some(_) => self.join_of_table(alloc, key, cell, forgotten),
         }
     }
 
     /// The same, where batches may mix tables.
     #[inline(always)]
-    fn join_newest(&mut self, alloc: Global, key: &FetchKey, cell: u32) -> Result<u32, AllocError>
+    fn join_newest(
+        &mut self,
+        alloc: Global,
+        key: &FetchKey,
+        cell: u32,
+        forgotten: u32,
+    ) -> Result<u32, AllocError>
         requires mixes { self.old.prepared.rules.tables ≡ None }
-        requires next { length self.old.prepared.batches < self.old.prepared.cells }
+        requires may { MayJoin self.old.prepared key.now forgotten }
         ensures book { self.new.book ≡ self.old.book }
         ensures rules { self.new.prepared.rules ≡ self.old.prepared.rules }
         ensures joins { IfOk result (λ batch. Joins self.old.prepared key.now cell batch self.new.prepared) }
@@ -320,6 +337,7 @@ impl Desk {
             BatchChoice {
                 newest,
                 next: self.prepared.begun,
+                forgotten,
             },
             key,
             cell,
@@ -333,9 +351,15 @@ impl Desk {
     // Out of line, so that the steps of batches that may mix tables stay as short as they are without it.
     #[cold]
     #[inline(never)]
-    fn join_of_table(&mut self, alloc: Global, key: &FetchKey, cell: u32) -> Result<u32, AllocError>
+    fn join_of_table(
+        &mut self,
+        alloc: Global,
+        key: &FetchKey,
+        cell: u32,
+        forgotten: u32,
+    ) -> Result<u32, AllocError>
         requires by_table { IsSome self.old.prepared.rules.tables }
-        requires next { length self.old.prepared.batches < self.old.prepared.cells }
+        requires may { MayJoin self.old.prepared key.now forgotten }
         ensures book { self.new.book ≡ self.old.book }
         ensures rules { self.new.prepared.rules ≡ self.old.prepared.rules }
         ensures joins { IfOk result (λ batch. Joins self.old.prepared key.now cell batch self.new.prepared) }
@@ -352,6 +376,7 @@ impl Desk {
                 limits: self.limits,
                 prepared: self.prepared,
                 shown: self.shown,
+                forgotten,
             },
             key,
             cell,
@@ -377,7 +402,8 @@ impl Desk {
         }
         self.is_prepared = true;
         self.prepared.cells += 1;
-        let batch = self.join(alloc, key, cell)?;
+        let forgotten = self.forgotten;
+        let batch = self.join(alloc, key, cell, forgotten)?;
         Ok(LoadReply::Fresh { cell, batch })
     }
 

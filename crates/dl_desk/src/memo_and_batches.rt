@@ -1,10 +1,10 @@
 //! Steps on the parts of a desk: its memo and its stored batches.
 
-ghost use Rattle.std.specs.Prelude.{◌≡◌, ◌≤◌, Ok, None, true, false, not, if◌then◌else◌, [], ◌∷◌, ◌++◌, map, vec_len, slice_get, IsSome, OnErr, IfOk};
+ghost use Rattle.std.specs.Prelude.{◌≡◌, ◌≤◌, Ok, None, if◌then◌else◌, [], ◌∷◌, ◌++◌, map, vec_len, slice_get, IsSome, OnErr, IfOk};
 ghost use Rattle.std.specs.Map.{lookup};
 ghost use Rattle.dl_values.specs.Key.{Key, key_eq};
 ghost use Rattle.dl_desk.specs.History.{has_member};
-ghost use Rattle.dl_desk.specs.Preparation.{prepared_batch, shown_batch, Same, members_of, without};
+ghost use Rattle.dl_desk.specs.Preparation.{prepared_batch, shown_batch, Same, members_of, NoneFrom, without};
 ghost use Rattle.dl_desk.specs.Marks.{IsAdded, MakesRoom};
 
 use crate::batch::StoredBatch;
@@ -60,33 +60,39 @@ pub(crate) fn hold(
     }
 }
 
-/// Prepares one more member in a batch, which may be the next one, where no member of it has the key, and
-/// answers whether none has it. The error is a failed allocation, and then an empty batch may have been added.
-fn add(
-    batches: &mut Vec<StoredBatch>,
-    alloc: Global,
-    hashing: RandomState,
-    number: usize,
-    key: FetchKey,
-    cell: u32,
-) -> Result<bool, AllocError>
-    requires number { number ≤ vec_len batches.old }
-    ensures is_new { IfOk result (λ is_new. is_new ≡ not (has_member (members_of (slice_get (map prepared_batch batches.old.items) number)) key)) }
-    ensures added { result ≡ Ok true → IsAdded batches.old.items number (key, cell) batches.new.items }
-    ensures kept { result ≡ Ok false → batches.new.items ≡ batches.old.items }
-    ensures err { OnErr result (MakesRoom batches.old.items batches.new.items) }
-{
-    if number == batches.len() {
-        batches.push(StoredBatch::new(alloc, hashing))?;
-    }
-    batches[number].push(key, cell)
-}
-
-/// The batches that one more member may go into: the newest one, and the next one.
+/// The batches that one more member may go into: the newest one, and the next one. No batch from `forgotten` on has a
+/// member of its key.
 #[derive(Clone, Copy)]
 pub(crate) struct BatchChoice {
     pub(crate) newest: u32,
     pub(crate) next: u32,
+    pub(crate) forgotten: u32,
+}
+
+/// The newest batch or, where a member of it has the key, the next one. The error is a failed allocation.
+fn choose(
+    batches: &mut Vec<StoredBatch>,
+    choice: BatchChoice,
+    key: &FetchKey,
+) -> Result<u32, AllocError>
+    requires newest { choice.newest ≤ choice.next }
+    requires next { choice.next ≤ vec_len batches.old }
+    requires none { NoneFrom choice.forgotten (map prepared_batch batches.old.items) key.now }
+    requires next_is_empty { members_of (slice_get (map prepared_batch batches.old.items) choice.next) ≡ [] }
+    ensures number { IfOk result (λ number. number
+        ≡ (if has_member (members_of (slice_get (map prepared_batch batches.old.items) choice.newest)) key.now then choice.next else choice.newest)) }
+    ensures kept { batches.new.items ≡ batches.old.items }
+{
+    let BatchChoice {
+        newest,
+        next,
+        forgotten,
+    } = choice;
+    // Below `next` too, since that one may not be there yet.
+    if newest < forgotten && newest < next && batches[newest as usize].has(key)? {
+        return Ok(next);
+    }
+    Ok(newest)
 }
 
 /// Prepares a member of the key in the newest batch, or in the next one where a member of the newest has the
@@ -99,34 +105,21 @@ pub(crate) fn join(
     key: &FetchKey,
     cell: u32,
 ) -> Result<u32, AllocError>
-    requires newest { choice.newest ≤ vec_len batches.old }
+    requires newest { choice.newest ≤ choice.next }
     requires next { choice.next ≤ vec_len batches.old }
+    requires none { NoneFrom choice.forgotten (map prepared_batch batches.old.items) key.now }
     requires next_is_empty { members_of (slice_get (map prepared_batch batches.old.items) choice.next) ≡ [] }
     ensures number { IfOk result (λ number. number
         ≡ (if has_member (members_of (slice_get (map prepared_batch batches.old.items) choice.newest)) key.now then choice.next else choice.newest)) }
     ensures added { IfOk result (λ number. IsAdded batches.old.items number (key.now, cell) batches.new.items) }
     ensures err { OnErr result (MakesRoom batches.old.items batches.new.items) }
 {
-    let BatchChoice { newest, next } = choice;
-    if add(
-        batches,
-        alloc,
-        hashing,
-        newest as usize,
-        key.try_copy()?,
-        cell,
-    )? {
-        return Ok(newest);
+    let number = choose(batches, choice, key)?;
+    if number as usize == batches.len() {
+        batches.push(StoredBatch::new(alloc, hashing))?;
     }
-    add(
-        batches,
-        alloc,
-        hashing,
-        next as usize,
-        key.try_copy()?,
-        cell,
-    )?;
-    Ok(next)
+    batches[number as usize].push(key, cell)?;
+    Ok(number)
 }
 
 /// Forgets each member's key that is held with the member's own cell.

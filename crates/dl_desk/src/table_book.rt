@@ -2,7 +2,7 @@
 
 ghost use Rattle.std.specs.Prelude.{◌≡◌, ℕ, ◌<◌, ◌≤◌, ◌+◌, List, [], length, map, take, max, vec_len, option_map, Some, None, IsSome, IfOk, IfSome, OnErr};
 ghost use Rattle.dl_values.specs.Limits.{limit_by};
-ghost use Rattle.dl_desk.specs.Preparation.{prepared_batch, shown_batch, book_room, Same};
+ghost use Rattle.dl_desk.specs.Preparation.{prepared_batch, shown_batch, book_room, Same, NoneFrom};
 ghost use Rattle.dl_desk.specs.Marks.{IsStored, IsAdded, MakesRoom};
 ghost use Rattle.dl_desk.specs.BatchBook.{BatchBook};
 ghost use Rattle.dl_desk.specs.TableBook.{told, newest_at, open_at, open_for, untouched, both, renewed, AreTables, AreTouched, TouchedBy, Renews, IsNewest, IsOf};
@@ -27,12 +27,14 @@ pub(crate) struct Newest {
     before: Option<u32>,
 }
 
-/// How a desk's batches stand: the limits, how far they have come with what is prepared, and how far what is shown has.
+/// How a desk's batches stand: the limits, how far they have come with what is prepared, how far what is shown has, and
+/// from which on all were begun since something was forgotten.
 #[derive(Clone, Copy)]
 pub(crate) struct Standing {
     pub(crate) limits: Limits,
     pub(crate) prepared: Extent,
     pub(crate) shown: Extent,
+    pub(crate) forgotten: u32,
 }
 
 /// What a new batch is made with.
@@ -193,6 +195,7 @@ impl TableBook {
         requires stored { IsStored standing.prepared standing.limits.max_cells (map prepared_batch batches.old.items) }
         requires shown { standing.shown.begun ≤ standing.prepared.begun }
         requires fits { AreTables standing.limits.max_batch (both standing.shown.begun standing.prepared.begun batches.old.items) self.old }
+        requires none { NoneFrom standing.forgotten (map prepared_batch batches.old.items) key.now }
         ensures room { IfOk result (λ number. (book : BatchBook)
             → IsOf standing.limits.max_batch standing.prepared.sent (take standing.prepared.begun (map prepared_batch batches.old.items)) self.old.limits book
             → number ≡ book_room book key.now) }
@@ -211,7 +214,11 @@ impl TableBook {
         let last = newest_in(batches.as_slice(), next, newest, table);
         let open = with_room(batches.as_slice(), standing.prepared, newest.most, last);
         self.touched.reserve(1)?;
-        let choice = BatchChoice { newest: open, next };
+        let choice = BatchChoice {
+            newest: open,
+            next,
+            forgotten: standing.forgotten,
+        };
         let number = memo_and_batches::join(
             batches,
             means.alloc,

@@ -182,7 +182,9 @@ impl Desk {
             → StandsFor self.new.book (after self.old.book.rules history (Clears key.now)) }
     {
         self.discard();
-        let _ = self.memo.swap_remove(key);
+        if self.memo.swap_remove(key).is_some() {
+            self.forgotten = self.prepared.begun;
+        }
         self.shown_memo = self.memo.len();
     }
 
@@ -194,5 +196,6 @@ impl Desk {
         self.discard();
         self.memo.truncate(0);
         self.shown_memo = 0;
+        self.forgotten = self.prepared.begun;
     }
 }

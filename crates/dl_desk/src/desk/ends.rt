@@ -71,6 +71,7 @@ impl Desk {
     {
         memo_and_batches::forget(&mut self.memo, &self.batches[number as usize]);
         self.shown_memo = self.memo.len();
+        self.forgotten = self.prepared.begun;
     }
 
     /// Marks a batch as ended.

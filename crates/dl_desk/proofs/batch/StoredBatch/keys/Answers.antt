@@ -3,4 +3,4 @@ use Rattle.std.proofs.lemmas.Slice.Zip.{firsts-zip}
 use Rattle.dl_desk.proofs.batch.StoredBatch.keys.Goals as goal
 
 pub returns : goal.returns
-returns c = rw (← c.self.view_is) (c.as_slice.ensures.keys ∙ sym (firsts-zip _ _ (sym c.self.invariant.0)))
+returns c = rw (← c.self.view_is) (c.as_slice.ensures.value ∙ sym (firsts-zip _ _ (sym c.self.invariant.same)))

@@ -5,12 +5,20 @@ use Rattle.dl_desk.specs.BatchBook.{Batch}
 use Rattle.dl_desk.specs.Preparation.{prepared_batch, members_of, book_room}
 use Rattle.dl_desk.proofs.FieldMarks.{desk_grown, desk_put}
 use Rattle.dl_desk.proofs.TableLemmas.{no_tables, fit_none}
+use Rattle.dl_desk.proofs.MemoMembers.{none_stored}
 use Rattle.dl_desk.proofs.TwoBooks.{members-taken, length-begun, low_choice, put_batches, below_begun, batches_shown, same_book}
 use Rattle.dl_desk.proofs.desk.Desk.join_newest.Goals as goal
 
 pub invariant_of-self-in_err-batch : goal.invariant_of-self-in_err-batch
 invariant_of-self-in_err-batch c = desk_grown _ c.self.inside.tables _ c.self.invariant c.in_err-batch.ensures.err
     (fit_none _ _ c.self.inside.tables (no_tables c.self.inside.tables (rw (← c.self.view_is) at c.requires.mixes)))
+
+pub join-requires-clause-newest : goal.join-requires-clause-newest
+join-requires-clause-newest c = below_begun c.self.inside.prepared _ _ c.newest-newest.ensures.low
+
+pub join-requires-clause-none : goal.join-requires-clause-none
+join-requires-clause-none c = none_stored c.self.inside.prepared _ c.args.forgotten _ c.args.key.now c.self.invariant.prepared_book
+    (rw (← c.self.view_is) at c.requires.may.none)
 
 newest_low : (c : goal.After-self-3-1) → c.newest-newest.result ≤ c.self.inside.prepared.begun
 newest_low c = below_begun c.self.inside.prepared _ _ c.newest-newest.ensures.low
@@ -38,7 +46,7 @@ room c =
 pub invariant_of-self-2 : goal.invariant_of-self-2
 invariant_of-self-2 c = rw (c.max-self-inside.ensures, c.min-self-inside.ensures)
     (desk_put _ c.self.inside.tables _ (c.args.key.now, c.args.cell) _ c.self.invariant c.in_ok-batch.ensures.added (next c)
-    (rw (length-begun _ _ _ c.self.invariant.prepared_book) at (rw (← c.self.view_is) at c.requires.next))
+    (rw (length-begun _ _ _ c.self.invariant.prepared_book) at (rw (← c.self.view_is) at c.requires.may.next)) (rw (← c.self.view_is) at c.requires.may.held)
     (fit_none _ _ c.self.inside.tables (no_tables c.self.inside.tables (rw (← c.self.view_is) at c.requires.mixes))))
 
 pub returns-clause-book : goal.returns-clause-book

@@ -2,11 +2,16 @@ use Rattle.std.proofs.Common.{◌≡◌, map, take, Some, refl}
 use Rattle.dl_desk.specs.Preparation.{prepared_batch, book_room}
 use Rattle.dl_desk.specs.TableBook.{IsOf}
 use Rattle.dl_desk.proofs.FieldMarks.{desk_grown, desk_put}
+use Rattle.dl_desk.proofs.MemoMembers.{none_stored}
 use Rattle.dl_desk.proofs.TwoBooks.{length-begun, put_batches, batches_shown, same_book}
 use Rattle.dl_desk.proofs.desk.Desk.join_of_table.Goals as goal
 
 pub invariant_of-self : goal.invariant_of-self
 invariant_of-self c = desk_grown _ (Some c.join.new.self) _ c.self.invariant c.in_err-batch.ensures.err_batches c.in_err-batch.ensures.err_fits
+
+pub join-requires-clause-none : goal.join-requires-clause-none
+join-requires-clause-none c = none_stored c.self.inside.prepared _ c.args.forgotten _ c.args.key.now c.self.invariant.prepared_book
+    (rw (← c.self.view_is) at c.requires.may.none)
 
 is_of : (c : goal.After-self-4-1) → IsOf c.self.inside.limits.max_batch c.self.inside.prepared.sent
     (take c.self.inside.prepared.begun (map prepared_batch c.self.inside.batches.items)) c.in-Some.tables.limits c.args.self.now.prepared
@@ -23,7 +28,7 @@ room c = c.in_ok-batch.ensures.room c.args.self.now.prepared (is_of c)
 pub invariant_of-self-2 : goal.invariant_of-self-2
 invariant_of-self-2 c = rw (c.max-self-inside.ensures, c.min-self-inside.ensures)
     (desk_put _ (Some c.join.new.self) _ (c.args.key.now, c.args.cell) _ c.self.invariant c.in_ok-batch.ensures.added c.in_ok-batch.ensures.next
-    (rw (length-begun _ _ _ c.self.invariant.prepared_book) at (rw (← c.self.view_is) at c.requires.next))
+    (rw (length-begun _ _ _ c.self.invariant.prepared_book) at (rw (← c.self.view_is) at c.requires.may.next)) (rw (← c.self.view_is) at c.requires.may.held)
     c.in_ok-batch.ensures.fits)
 
 pub returns-clause-book : goal.returns-clause-book

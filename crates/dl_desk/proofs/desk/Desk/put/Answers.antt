@@ -2,7 +2,8 @@ use Rattle.std.proofs.Common.{◌≡◌, ◌∙◌, ap, sym, Ok, None, ◌++◌,
 use Rattle.std.specs.Map.{lookup}
 use Rattle.std.proofs.lemmas.Result.{IfOk-from_err}
 use Rattle.dl_values.specs.Key.{key_eq}
-use Rattle.dl_desk.proofs.TwoBooks.{lookup-noted}
+use Rattle.dl_desk.proofs.FieldMarks.{desk_noted}
+use Rattle.dl_desk.proofs.TwoBooks.{lookup-noted, may_join}
 use Rattle.dl_desk.proofs.desk.Desk.put.Goals as goal
 
 noted : (c : goal.In_ok-batch) → c.hold.new.memo.entries ≡ c.self.inside.memo.entries ++ (c.args.key.now, c.self.inside.prepared.cells) ∷ []
@@ -10,6 +11,17 @@ noted c = rw c.in_ok-try_copy.ensures at (c.in_ok-held.ensures.noted (ap Ok c.in
 
 not_held : (c : goal.In_ok-batch) → lookup (key_eq c.args.key.now) c.self.inside.memo.entries ≡ None
 not_held c = rw c.in_ok-try_copy.ensures at (sym c.in_ok-held.ensures.held ∙ c.in_default.is)
+
+pub invariant_of-self-2 : goal.invariant_of-self-2
+invariant_of-self-2 c =
+    let noted = rw c.in_ok-try_copy.ensures at (c.in_ok-held.ensures.noted (ap Ok c.in_default.is)) in
+    rw noted (desk_noted _ (c.args.key.now, c.self.inside.prepared.cells) c.self.invariant (rw (← c.self.view_is) at c.requires.not_full))
+
+pub join-requires : goal.join-requires
+join-requires c = record {
+  may = may_join _ c.args.key.now _ c.self.invariant (rw c.in_ok-try_copy.ensures at (sym c.in_ok-held.ensures.held ∙ c.in_default.is)) refl refl
+      (rw c.in_ok-try_copy.ensures at (c.in_ok-held.ensures.noted (ap Ok c.in_default.is)));
+}
 
 pub returns-clause-put : goal.returns-clause-put
 returns-clause-put c =

@@ -2,8 +2,14 @@ use Rattle.std.proofs.Common.{◌≡◌, ◌∙◌, ap, sym, Ok, None, refl}
 use Rattle.std.specs.Map.{lookup}
 use Rattle.std.proofs.lemmas.Result.{IfOk-from_err}
 use Rattle.dl_values.specs.Key.{key_eq}
+use Rattle.dl_desk.proofs.FieldMarks.{desk_noted}
 use Rattle.dl_desk.proofs.TwoBooks.{lookup-noted}
 use Rattle.dl_desk.proofs.desk.Desk.put_alone.Goals as goal
+
+pub invariant_of-self-2 : goal.invariant_of-self-2
+invariant_of-self-2 c =
+    let noted = rw c.in_ok-try_copy.ensures at (c.in_ok-hold.ensures.noted (ap Ok c.in_default.is)) in
+    rw noted (desk_noted _ (c.args.key.now, c.self.inside.prepared.cells) c.self.invariant (rw (← c.self.view_is) at c.requires.not_full))
 
 pub returns-clause-put : goal.returns-clause-put
 returns-clause-put c =

@@ -1,7 +1,6 @@
-use Rattle.std.proofs.Common.{length-take, arith}
 use Rattle.dl_desk.proofs.FieldMarks.{desk_cut}
 use Rattle.dl_desk.proofs.desk.Desk.take_back.Goals as goal
 
 pub invariant_of-self : goal.invariant_of-self
 invariant_of-self c = rw c.cut.ensures.tables (desk_cut _ _ _ c.self.invariant c.cut.ensures.prepared c.cut.ensures.shown
-    (rw (c.truncate.ensures.entries, length-take) (let m = c.self.invariant.memo in omega arith)))
+    c.truncate.ensures.entries)
