@@ -9,7 +9,7 @@ ghost use Rattle.dl_picture.specs.Numbers.{AreBatchNumbers, AreSizes};
 
 use crate::loads::sum;
 use dl_desk::Desk;
-use dl_loader::Batches;
+use dl_history::Batches;
 use std::alloc::AllocError;
 
 /// How many batches there are, how many keys they have together, and how many the largest has.

@@ -4,9 +4,7 @@ use crate::cut_text::{CHARACTER, push_cut_text};
 use crate::lines::{Line, Lines};
 use crate::mark::{MARKS, Mark};
 use crate::phrase::Phrase;
-use crate::xml;
-use std::alloc::{AllocError, Global};
-use std::fmt::Write;
+use crate::sheet::Sheet;
 
 /// A column with more lines than this is summed up by counts.
 const MOST_LINES: usize = 200;
@@ -20,6 +18,9 @@ const LINE_HEIGHT: usize = 18;
 const HEADING_HEIGHT: usize = 26;
 
 const FOOT_HEIGHT: usize = 6;
+
+/// How far below the top of a column the foot of its heading is.
+const HEADING_FOOT: usize = 17;
 
 /// How wide a badge with a mark is.
 const BADGE: usize = 15;
@@ -69,133 +70,116 @@ fn drawn_lines(lines: Lines<'_>, marks: &[Mark]) -> usize {
 
 /// A column that is so high, whose corner stands at x and y.
 pub(crate) fn push_column(
-    alloc: Global,
-    out: &mut String,
+    sheet: &mut Sheet,
     x: usize,
     y: usize,
     height: usize,
     column: &Column<'_>,
-) -> Result<(), AllocError> {
-    push_heading(out, x, y, height, column)?;
-    push_lines(alloc, out, column.lines)?;
-    out.push_str("</svg>\n")
+) {
+    push_card(sheet, x, y, height);
+    sheet.push_words("head", PADDING, HEADING_FOOT, column.heading);
+    sheet.push_words("side", COLUMN_WIDTH - PADDING, HEADING_FOOT, column.side);
+    sheet.push("\n");
+    push_lines(sheet, column.lines);
+    sheet.push("</svg>\n");
 }
 
-/// The front of a column that is so high, whose corner stands at x and y: its card, and what stands above its lines.
-fn push_heading(
-    out: &mut String,
-    x: usize,
-    y: usize,
-    height: usize,
-    column: &Column<'_>,
-) -> Result<(), AllocError> {
-    let Column { heading, side, .. } = *column;
-    let (width, inner, right) = (
-        COLUMN_WIDTH - 2,
-        height.saturating_sub(2),
-        COLUMN_WIDTH - PADDING,
-    );
-    write!(
-        out,
-        "<svg x='{x}' y='{y}' width='{COLUMN_WIDTH}' height='{height}'>\n\
-        <rect class='card' x='1' y='1' width='{width}' height='{inner}' rx='6'/>\n\
-        <text class='head' x='{PADDING}' y='17'>{heading}</text><text class='side' x='{right}' y='17'>{side}</text>\n"
-    )
+/// The front of a column that is so high, whose corner stands at x and y, and its card.
+fn push_card(sheet: &mut Sheet, x: usize, y: usize, height: usize) {
+    sheet.push("<svg");
+    sheet.push_place(x, y);
+    sheet.push_size(COLUMN_WIDTH, height);
+    sheet.push(">\n<rect class='card'");
+    sheet.push_place(1, 1);
+    sheet.push_size(COLUMN_WIDTH - 2, height.saturating_sub(2));
+    sheet.push(" rx='6'/>\n");
 }
 
 /// The lines of a column, or their sums where they are too many.
-fn push_lines(alloc: Global, out: &mut String, lines: Lines<'_>) -> Result<(), AllocError> {
+fn push_lines(sheet: &mut Sheet, lines: Lines<'_>) {
     if lines.count() > MOST_LINES {
-        return push_sums(alloc, out, lines, &MARKS);
+        return push_sums(sheet, lines, &MARKS);
     }
     let mut y = HEADING_HEIGHT;
     for place in 0..lines.places() {
         if let Some(line) = lines.line(place) {
-            push_line(alloc, out, y, &line)?;
+            push_line(sheet, y, &line);
             y = y.saturating_add(LINE_HEIGHT);
         }
     }
-    Ok(())
 }
 
 /// How many of the lines have each mark.
-fn push_sums(
-    alloc: Global,
-    out: &mut String,
-    lines: Lines<'_>,
-    marks: &[Mark],
-) -> Result<(), AllocError> {
+fn push_sums(sheet: &mut Sheet, lines: Lines<'_>, marks: &[Mark]) {
     let mut y = HEADING_HEIGHT;
     for mark in marks {
         let count = lines.marked(*mark);
         if count > 0 {
             let words = Phrase::count(count, " key", " keys");
-            push_line(alloc, out, y, &Line::of_words(words, *mark))?;
+            push_line(sheet, y, &Line::of_words(words, *mark));
             y = y.saturating_add(LINE_HEIGHT);
         }
     }
-    Ok(())
 }
 
 /// A line of a column, at a height.
-fn push_line(alloc: Global, out: &mut String, y: usize, line: &Line<'_>) -> Result<(), AllocError> {
-    let label = format!(in alloc; "{}", line.label)?;
-    push_labelled(out, y, line, label.as_str())
+fn push_line(sheet: &mut Sheet, y: usize, line: &Line<'_>) {
+    match line.label.text(sheet.alloc()) {
+        Ok(label) => push_labelled(sheet, y, line, label.as_str()),
+        Err(error) => sheet.note(Err(error)),
+    }
 }
 
 /// A line at a height, whose label has this text.
-fn push_labelled(
-    out: &mut String,
-    y: usize,
-    line: &Line<'_>,
-    label: &str,
-) -> Result<(), AllocError> {
-    push_title(out, y, line, label)?;
-    push_badge(out, 0, 0, line.mark)?;
-    push_label(out, line.batch, label)
+fn push_labelled(sheet: &mut Sheet, y: usize, line: &Line<'_>, label: &str) {
+    push_title(sheet, y, line, label);
+    push_badge(sheet, 0, 0, line.mark);
+    push_label(sheet, line.batch, label);
 }
 
 /// The front of a line at a height, with its title: its whole label, and what became of it.
-fn push_title(out: &mut String, y: usize, line: &Line<'_>, label: &str) -> Result<(), AllocError> {
-    write!(out, "<g transform='translate({PADDING} {y})'><title>")?;
-    xml::push_text(out, label)?;
-    let meaning = line.mark.meaning();
-    match line.batch {
-        Some(batch) => write!(out, ": {meaning}, batch {batch}</title>"),
-        None => write!(out, ": {meaning}</title>"),
+fn push_title(sheet: &mut Sheet, y: usize, line: &Line<'_>, label: &str) {
+    sheet.push("<g transform='translate(");
+    sheet.push_number(PADDING as u64);
+    sheet.push(" ");
+    sheet.push_number(y as u64);
+    sheet.push(")'><title>");
+    sheet.push_escaped(label);
+    sheet.push(": ");
+    sheet.push(line.mark.meaning());
+    if let Some(batch) = line.batch {
+        sheet.push_phrase(Phrase::Numbered(", batch ", u64::from(batch), ""));
     }
+    sheet.push("</title>");
 }
 
 /// What a line says behind its badge, and its end.
-fn push_label(out: &mut String, batch: Option<u32>, label: &str) -> Result<(), AllocError> {
+fn push_label(sheet: &mut Sheet, batch: Option<u32>, label: &str) {
     match batch {
         Some(batch) => {
-            push_cut_text(out, BADGE + CHARACTER, FOOT, label, LINE_ROOM - BATCH_ROOM)?;
-            let end = COLUMN_WIDTH - PADDING - PADDING;
-            write!(
-                out,
-                "<text class='side' x='{end}' y='{FOOT}'>b{batch}</text></g>\n"
-            )
+            push_cut_text(
+                sheet,
+                BADGE + CHARACTER,
+                FOOT,
+                label,
+                LINE_ROOM - BATCH_ROOM,
+            );
+            let number = Phrase::Numbered("b", u64::from(batch), "");
+            sheet.push_words("side", COLUMN_WIDTH - PADDING - PADDING, FOOT, number);
         }
-        None => {
-            push_cut_text(out, BADGE + CHARACTER, FOOT, label, LINE_ROOM)?;
-            out.push_str("</g>\n")
-        }
+        None => push_cut_text(sheet, BADGE + CHARACTER, FOOT, label, LINE_ROOM),
     }
+    sheet.push("</g>\n");
 }
 
 /// The badge of a mark, whose corner stands at x and y: a square of its colour with its letter.
-pub(crate) fn push_badge(
-    out: &mut String,
-    x: usize,
-    y: usize,
-    mark: Mark,
-) -> Result<(), AllocError> {
-    let (class, letter) = (mark.class(), mark.letter());
+pub(crate) fn push_badge(sheet: &mut Sheet, x: usize, y: usize, mark: Mark) {
+    sheet.push("<rect class='");
+    sheet.push(mark.class());
+    sheet.push("'");
+    sheet.push_place(x, y);
+    sheet.push_size(BADGE, BADGE);
+    sheet.push(" rx='3'/>");
     let (middle, foot) = (x.saturating_add(BADGE / 2), y.saturating_add(FOOT));
-    write!(
-        out,
-        "<rect class='{class}' x='{x}' y='{y}' width='{BADGE}' height='{BADGE}' rx='3'/>\
-        <text class='letter' x='{middle}' y='{foot}'>{letter}</text>"
-    )
+    sheet.push_words("letter", middle, foot, Phrase::Words(mark.letter()));
 }

@@ -1,8 +1,6 @@
 //! Texts that are cut in their middle where they need more room than there is.
 
-use crate::xml;
-use std::alloc::AllocError;
-use std::fmt::Write;
+use crate::sheet::Sheet;
 
 /// The first character that may be wider than one of the Latin, Greek and Cyrillic ones.
 const FIRST_WIDE: char = '\u{590}';
@@ -26,41 +24,30 @@ fn room_for(text: &str) -> usize {
 
 /// Whether a character of the text may be wide.
 fn is_wide(text: &str) -> bool {
-    for c in text.chars() {
-        if c >= FIRST_WIDE {
-            return true;
-        }
-    }
-    false
+    room_for(text) > text.chars().count()
 }
 
 /// A `text` element at x and y: the text, which is cut in its middle where it needs more room than that of so many narrow
 /// characters. One with wide characters is fitted to its room, whatever the font is.
-pub(crate) fn push_cut_text(
-    out: &mut String,
-    x: usize,
-    y: usize,
-    text: &str,
-    room: usize,
-) -> Result<(), AllocError> {
+pub(crate) fn push_cut_text(sheet: &mut Sheet, x: usize, y: usize, text: &str, room: usize) {
+    sheet.push("<text");
+    sheet.push_place(x, y);
     if is_wide(text) {
         let width = room_for(text).min(room).saturating_mul(CHARACTER);
-        write!(
-            out,
-            "<text x='{x}' y='{y}' textLength='{width}' lengthAdjust='spacingAndGlyphs'>"
-        )?;
-    } else {
-        write!(out, "<text x='{x}' y='{y}'>")?;
+        sheet.push(" textLength='");
+        sheet.push_number(width as u64);
+        sheet.push("' lengthAdjust='spacingAndGlyphs'");
     }
-    push_cut(out, text, room)?;
-    out.push_str("</text>")
+    sheet.push(">");
+    push_cut(sheet, text, room);
+    sheet.push("</text>");
 }
 
 /// The text, without its middle where it needs more room than there is.
-fn push_cut(out: &mut String, text: &str, room: usize) -> Result<(), AllocError> {
+fn push_cut(sheet: &mut Sheet, text: &str, room: usize) {
     let whole = room_for(text);
     if whole <= room {
-        return xml::push_text(out, text);
+        return sheet.push_escaped(text);
     }
     let half = room.saturating_sub(1) / 2;
     let mut passed: usize = 0;
@@ -68,12 +55,11 @@ fn push_cut(out: &mut String, text: &str, room: usize) -> Result<(), AllocError>
     for c in text.chars() {
         let end = passed.saturating_add(room_of(c));
         if end <= half || whole.saturating_sub(passed) <= half {
-            xml::push_char(out, c)?;
+            sheet.push_escaped_char(c);
         } else if !is_cut {
-            out.push('…')?;
+            sheet.push("…");
             is_cut = true;
         }
         passed = end;
     }
-    Ok(())
 }

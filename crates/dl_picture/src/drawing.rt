@@ -1,9 +1,10 @@
 //! Drawings: elements of SVG one under another, in rows of columns.
 
 use crate::column::{COLUMN_WIDTH, Column, push_column};
+use crate::phrase::Phrase;
+use crate::sheet::Sheet;
 use crate::style::STYLE;
 use std::alloc::{AllocError, Global};
-use std::fmt::Write;
 
 /// How wide a drawing is, in pixels.
 const WIDTH: usize = 1200;
@@ -22,12 +23,11 @@ const WORDS_FOOT: usize = 18;
 
 const WORDS_HEIGHT: usize = 26;
 
-/// What is drawn so far: elements of SVG, and how high they are together; and of the row that is begun, how many columns it has
+/// What is drawn so far: a sheet with elements of SVG, and how high they are together; and of the row that is begun, how many columns it has
 /// and how high the highest of them is.
 #[derive(Drop)]
 pub(crate) struct Drawing {
-    pub(crate) alloc: Global,
-    pub(crate) elements: String,
+    pub(crate) sheet: Sheet,
     pub(crate) height: usize,
     columns: usize,
     tallest: usize,
@@ -37,8 +37,7 @@ impl Drawing {
     /// A drawing of nothing.
     pub(crate) fn new(alloc: Global) -> Drawing {
         Drawing {
-            alloc,
-            elements: String::new(alloc),
+            sheet: Sheet::new(alloc),
             height: MARGIN,
             columns: 0,
             tallest: 0,
@@ -51,18 +50,22 @@ impl Drawing {
     }
 
     /// A line of the program's own words, in a class of the style, below the row that is begun.
-    pub(crate) fn add_words(&mut self, class: &str, words: &str) -> Result<(), AllocError> {
+    pub(crate) fn add_words(&mut self, class: &str, words: Phrase) {
+        self.begin_words(class);
+        self.sheet.push_phrase(words);
+        self.sheet.push("</text>\n");
+    }
+
+    /// The front of such a line.
+    pub(crate) fn begin_words(&mut self, class: &str) {
         self.end_row();
         let foot = self.height.saturating_add(WORDS_FOOT);
         self.add_height(WORDS_HEIGHT);
-        write!(
-            self.elements,
-            "<text class='{class}' x='{MARGIN}' y='{foot}'>{words}</text>\n"
-        )
+        self.sheet.begin_text(class, MARGIN, foot);
     }
 
     /// A column, in the row that is begun, or in the next one where that is full.
-    pub(crate) fn add_column(&mut self, column: &Column<'_>) -> Result<(), AllocError> {
+    pub(crate) fn add_column(&mut self, column: &Column<'_>) {
         if self.columns >= COLUMNS {
             self.end_row();
         }
@@ -70,7 +73,7 @@ impl Drawing {
         let (x, y, height) = (before.saturating_add(MARGIN), self.height, column.height());
         self.columns = self.columns.saturating_add(1);
         self.tallest = self.tallest.max(height);
-        push_column(self.alloc, &mut self.elements, x, y, height, column)
+        push_column(&mut self.sheet, x, y, height, column);
     }
 
     /// Ends the row that is begun, if there is one.
@@ -84,19 +87,34 @@ impl Drawing {
         }
     }
 
-    /// The drawing as a document.
+    /// The drawing as a document. The error is that memory ran out.
     pub(crate) fn finish(&mut self) -> Result<String, AllocError> {
         self.end_row();
         let height = self.height.saturating_add(MARGIN);
-        document(self.alloc, height, self.elements.as_str())
+        document(self.sheet.alloc(), height, self.sheet.written()?)
     }
 }
 
 /// A document of these elements, which are so high together.
 fn document(alloc: Global, height: usize, elements: &str) -> Result<String, AllocError> {
-    format!(in alloc;
-        "<svg xmlns='http://www.w3.org/2000/svg' width='{WIDTH}' height='{height}' viewBox='0 0 {WIDTH} {height}'>\n\
-        {STYLE}<rect class='ground' width='{WIDTH}' height='{height}'/>\n\
-        {elements}</svg>\n"
-    )
+    let mut sheet = Sheet::new(alloc);
+    push_document(&mut sheet, height, elements);
+    sheet.finish()
+}
+
+/// Appends a document of these elements, which are so high together.
+fn push_document(sheet: &mut Sheet, height: usize, elements: &str) {
+    sheet.push("<svg xmlns='http://www.w3.org/2000/svg'");
+    sheet.push_size(WIDTH, height);
+    sheet.push(" viewBox='0 0 ");
+    sheet.push_number(WIDTH as u64);
+    sheet.push(" ");
+    sheet.push_number(height as u64);
+    sheet.push("'>\n");
+    sheet.push(STYLE);
+    sheet.push("<rect class='ground'");
+    sheet.push_size(WIDTH, height);
+    sheet.push("/>\n");
+    sheet.push(elements);
+    sheet.push("</svg>\n");
 }

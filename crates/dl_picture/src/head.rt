@@ -5,8 +5,8 @@ use crate::column::push_badge;
 use crate::cut_text::CHARACTER;
 use crate::drawing::{Drawing, MARGIN};
 use crate::mark::{MARKS, Mark};
-use std::alloc::AllocError;
-use std::fmt::{self, Write};
+use crate::phrase::Phrase;
+use crate::sheet::Sheet;
 
 /// How wide and how high a tile with a number is, and how far the next one stands.
 const TILE_WIDTH: usize = 157;
@@ -30,16 +30,6 @@ pub(crate) enum Figure {
     Mean(Mean),
     /// There is nothing to share.
     None,
-}
-
-impl fmt::Display for Figure {
-    fn fmt<W: fmt::Write>(&self, f: &mut fmt::Formatter<W>) -> fmt::Result {
-        match self {
-            Figure::Count(count) => write!(f, "{count}"),
-            Figure::Mean(mean) => write!(f, "{} {}/{}", mean.whole, mean.rest, mean.of),
-            Figure::None => f.write_str("none"),
-        }
-    }
 }
 
 /// A number, the name by which a program finds it in the picture, and what it is, in words.
@@ -75,70 +65,77 @@ impl Tile {
 }
 
 /// The head of a picture.
-pub(crate) fn add_head(
-    drawing: &mut Drawing,
-    title: &str,
-    tiles: &[Tile],
-) -> Result<(), AllocError> {
-    drawing.add_words("title", title)?;
+pub(crate) fn add_head(drawing: &mut Drawing, title: &'static str, tiles: &[Tile]) {
+    drawing.add_words("title", Phrase::Words(title));
     let y = drawing.height;
     drawing.add_height(TILE_HEIGHT + ROOM + ROOM + ROOM);
-    push_tiles(&mut drawing.elements, y, tiles)?;
-    push_marks(
-        &mut drawing.elements,
-        y.saturating_add(TILE_HEIGHT + ROOM),
-        &MARKS,
-    )
+    push_tiles(&mut drawing.sheet, y, tiles);
+    let below = y.saturating_add(TILE_HEIGHT + ROOM);
+    push_marks(&mut drawing.sheet, below, &MARKS);
 }
 
 /// Tiles beside one another, at a height.
-fn push_tiles(out: &mut String, y: usize, tiles: &[Tile]) -> Result<(), AllocError> {
+fn push_tiles(sheet: &mut Sheet, y: usize, tiles: &[Tile]) {
     let mut x = MARGIN;
     for tile in tiles {
-        push_tile(out, x, y, tile)?;
+        push_tile(sheet, x, y, tile);
         x = x.saturating_add(TILE_STEP);
     }
-    Ok(())
 }
 
 /// A tile, whose corner stands at x and y.
-fn push_tile(out: &mut String, x: usize, y: usize, tile: &Tile) -> Result<(), AllocError> {
-    let Tile {
-        name,
-        words,
-        figure,
-    } = *tile;
-    let (left, top, foot) = (
-        x.saturating_add(10),
-        y.saturating_add(22),
+fn push_tile(sheet: &mut Sheet, x: usize, y: usize, tile: &Tile) {
+    sheet.push("<rect class='card'");
+    sheet.push_place(x, y);
+    sheet.push_size(TILE_WIDTH, TILE_HEIGHT);
+    sheet.push(" rx='6'/>");
+    let left = x.saturating_add(10);
+    push_figure(sheet, left, y.saturating_add(22), tile);
+    sheet.push_words(
+        "soft",
+        left,
         y.saturating_add(40),
+        Phrase::Words(tile.words),
     );
-    write!(
-        out,
-        "<rect class='card' x='{x}' y='{y}' width='{TILE_WIDTH}' height='{TILE_HEIGHT}' rx='6'/>\
-        <text class='figure' id='{name}' x='{left}' y='{top}'>{figure}</text>\
-        <text class='soft' x='{left}' y='{foot}'>{words}</text>\n"
-    )
+    sheet.push("\n");
+}
+
+/// The number of a tile, whose foot stands at x and y.
+fn push_figure(sheet: &mut Sheet, x: usize, y: usize, tile: &Tile) {
+    sheet.push("<text class='figure' id='");
+    sheet.push(tile.name);
+    sheet.push("'");
+    sheet.push_place(x, y);
+    sheet.push(">");
+    match tile.figure {
+        Figure::Count(count) => sheet.push_number(count),
+        Figure::Mean(mean) => push_mean(sheet, mean),
+        Figure::None => sheet.push("none"),
+    }
+    sheet.push("</text>");
+}
+
+/// A mean: a whole number, and a fraction behind it.
+fn push_mean(sheet: &mut Sheet, mean: Mean) {
+    sheet.push_number(mean.whole);
+    sheet.push_phrase(Phrase::Numbered(" ", mean.rest, "/"));
+    sheet.push_number(mean.of);
 }
 
 /// What the marks mean, in one line at a height.
-fn push_marks(out: &mut String, y: usize, marks: &[Mark]) -> Result<(), AllocError> {
+fn push_marks(sheet: &mut Sheet, y: usize, marks: &[Mark]) {
     let mut x = MARGIN;
     for mark in marks {
-        push_meaning(out, x, y, *mark)?;
+        push_meaning(sheet, x, y, *mark);
         let width = mark.meaning().len().saturating_mul(CHARACTER);
         x = x.saturating_add(width).saturating_add(MARK_STEP);
     }
-    Ok(())
 }
 
 /// A mark with what it means, whose corner stands at x and y.
-fn push_meaning(out: &mut String, x: usize, y: usize, mark: Mark) -> Result<(), AllocError> {
-    push_badge(out, x, y, mark)?;
+fn push_meaning(sheet: &mut Sheet, x: usize, y: usize, mark: Mark) {
+    push_badge(sheet, x, y, mark);
     let (left, foot) = (x.saturating_add(22), y.saturating_add(12));
-    write!(
-        out,
-        "<text class='soft' x='{left}' y='{foot}'>{}</text>\n",
-        mark.meaning()
-    )
+    sheet.push_words("soft", left, foot, Phrase::Words(mark.meaning()));
+    sheet.push("\n");
 }

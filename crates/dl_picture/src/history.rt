@@ -3,18 +3,15 @@
 use crate::drawing::Drawing;
 use crate::head::{Tile, add_head};
 use crate::lanes::{add_batches, add_calls, add_workers};
-use crate::loads::LoadNumbers;
 use crate::numbers::{HistoryNumbers, PlanNumbers, history_numbers, plan_numbers};
+use crate::phrase::Phrase;
 use crate::scene::{Scene, primed_cells};
-use dl_loader::{History, MOST_CALLERS};
-use dl_scope::{MOST_PLANS, Report};
+use crate::sheet::Sheet;
+use dl_history::History;
 use std::alloc::{AllocError, Global};
 
-/// The picture of what serving plans left, as SVG. The error is a failed allocation.
-pub fn report_picture(alloc: Global, report: &Report) -> Result<String, AllocError> {
-    let plans = report.rounds().len().min(MOST_PLANS) as u32;
-    history_picture(alloc, report.history(), plans)
-}
+/// How many callers are drawn at most: no loader has more.
+const MOST_CALLERS: u32 = 32;
 
 /// The picture of a history, as SVG, whose first callers are so many plans, at most 32, and the others workers. Each plan has a lane with a
 /// column for each of its rounds, primes and clears; below them are the batches, in the order in which they ended, and the
@@ -32,26 +29,28 @@ pub fn history_picture(alloc: Global, history: &History, plans: u32) -> Result<S
 
 /// The picture of a scene.
 fn scene_picture(alloc: Global, scene: Scene<'_>) -> Result<String, AllocError> {
+    let numbers = history_numbers(scene.history)?;
     let mut drawing = Drawing::new(alloc);
-    add_scene(&mut drawing, scene)?;
+    add_history_head(&mut drawing, &numbers);
+    add_lanes(&mut drawing, scene);
     drawing.finish()
 }
 
-/// The head of a scene and its lanes.
-fn add_scene(drawing: &mut Drawing, scene: Scene<'_>) -> Result<(), AllocError> {
-    add_history_head(drawing, &history_numbers(scene.history)?)?;
+/// The lanes of a scene: its plans, its batches and its workers.
+fn add_lanes(drawing: &mut Drawing, scene: Scene<'_>) {
     for plan in 0..scene.plans {
-        add_plan_words(drawing, plan, &plan_numbers(scene.history, plan)?)?;
-        add_calls(drawing, scene, plan)?;
+        add_plan_words(drawing, scene, plan);
+        add_calls(drawing, scene, plan);
     }
-    drawing.add_words("lane", "batches, in the order in which they ended")?;
-    add_batches(drawing, scene)?;
-    drawing.add_words("lane", "workers")?;
-    add_workers(drawing, scene, MOST_CALLERS)
+    let batches = "batches, in the order in which they ended";
+    drawing.add_words("lane", Phrase::Words(batches));
+    add_batches(drawing, scene);
+    drawing.add_words("lane", Phrase::Words("workers"));
+    add_workers(drawing, scene, MOST_CALLERS);
 }
 
 /// The head: the numbers of the history.
-fn add_history_head(drawing: &mut Drawing, numbers: &HistoryNumbers) -> Result<(), AllocError> {
+fn add_history_head(drawing: &mut Drawing, numbers: &HistoryNumbers) {
     let tiles = [
         Tile::count("loads", "loads", numbers.loads.loads),
         Tile::count("hits", "hits", numbers.loads.hits),
@@ -61,18 +60,23 @@ fn add_history_head(drawing: &mut Drawing, numbers: &HistoryNumbers) -> Result<(
         Tile::mean(&numbers.batches),
         Tile::count("alone", "fetches, no loader", numbers.fetches_alone()),
     ];
-    add_head(drawing, "What the requests did", &tiles)
+    add_head(drawing, "What the requests did", &tiles);
 }
 
 /// The words above the lane of a plan.
-fn add_plan_words(
-    drawing: &mut Drawing,
-    plan: u32,
-    numbers: &PlanNumbers,
-) -> Result<(), AllocError> {
-    let PlanNumbers { rounds, loads } = *numbers;
-    let LoadNumbers { loads, hits } = loads;
-    let alloc = drawing.alloc;
-    let words = format!(in alloc; "plan {plan}: rounds {rounds}, loads {loads}, hits {hits}")?;
-    drawing.add_words("lane", words.as_str())
+fn add_plan_words(drawing: &mut Drawing, scene: Scene<'_>, plan: u32) {
+    drawing.begin_words("lane");
+    match plan_numbers(scene.history, plan) {
+        Ok(numbers) => push_plan(&mut drawing.sheet, plan, &numbers),
+        Err(error) => drawing.sheet.note(Err(error)),
+    }
+    drawing.sheet.push("</text>\n");
+}
+
+/// A plan and its numbers, in words.
+fn push_plan(sheet: &mut Sheet, plan: u32, numbers: &PlanNumbers) {
+    sheet.push_phrase(Phrase::Numbered("plan ", u64::from(plan), ": "));
+    sheet.push_phrase(Phrase::Numbered("rounds ", numbers.rounds as u64, ", "));
+    sheet.push_phrase(Phrase::Numbered("loads ", numbers.loads.loads, ", "));
+    sheet.push_phrase(Phrase::Numbered("hits ", numbers.loads.hits, ""));
 }

@@ -7,45 +7,34 @@ use crate::mark::Mark;
 use crate::phrase::Phrase;
 use crate::scene::{Scene, replies_of};
 use dl_desk::FetchKey;
-use dl_loader::{Call, Event, Reply};
-use std::alloc::AllocError;
+use dl_history::{Call, Event, Reply};
 
 // ---- plans
 
 /// The calls of a plan: its rounds, and its primes and clears.
-pub(crate) fn add_calls(
-    drawing: &mut Drawing,
-    scene: Scene<'_>,
-    plan: u32,
-) -> Result<(), AllocError> {
+pub(crate) fn add_calls(drawing: &mut Drawing, scene: Scene<'_>, plan: u32) {
     let mut rounds: u64 = 0;
     for entry in scene.history.entries(plan) {
         if let Some(event) = scene.event(*entry) {
             if let Call::LoadMany(_) = &event.call {
                 rounds = rounds.saturating_add(1);
             }
-            add_call(drawing, scene, event, rounds)?;
+            add_call(drawing, scene, event, rounds);
         }
     }
-    Ok(())
 }
 
 /// The column of a call, which is of the round of a number if it loads, and none of a dispatch or of the end of a batch.
-fn add_call(
-    drawing: &mut Drawing,
-    scene: Scene<'_>,
-    event: &Event,
-    round: u64,
-) -> Result<(), AllocError> {
-    let Some(heading) = call_name(&event.call, round) else {
-        return Ok(());
-    };
-    let lines = call_lines(scene, event);
-    drawing.add_column(&Column {
-        heading,
-        side: Phrase::count(lines.count(), " key", " keys"),
-        lines,
-    })
+fn add_call(drawing: &mut Drawing, scene: Scene<'_>, event: &Event, round: u64) {
+    if let Some(heading) = call_name(&event.call, round) {
+        let lines = call_lines(scene, event);
+        let side = Phrase::count(lines.count(), " key", " keys");
+        drawing.add_column(&Column {
+            heading,
+            side,
+            lines,
+        });
+    }
 }
 
 /// What stands above a call.
@@ -96,18 +85,17 @@ fn keys_of(call: &Call) -> &[FetchKey] {
 // ---- batches and workers
 
 /// The batches of a history, in the order in which they ended.
-pub(crate) fn add_batches(drawing: &mut Drawing, scene: Scene<'_>) -> Result<(), AllocError> {
+pub(crate) fn add_batches(drawing: &mut Drawing, scene: Scene<'_>) {
     let events = scene.history.events();
     for at in 0..events.len() {
         if let Some(event) = events.get(at) {
-            add_end(drawing, scene, event)?;
+            add_end(drawing, scene, event);
         }
     }
-    Ok(())
 }
 
 /// The column of the batch that an event ends, if it ends one.
-fn add_end(drawing: &mut Drawing, scene: Scene<'_>, event: &Event) -> Result<(), AllocError> {
+fn add_end(drawing: &mut Drawing, scene: Scene<'_>, event: &Event) {
     let side = caller_name(scene.plans, event.caller);
     match &event.call {
         Call::Settle { batch, outcomes } => drawing.add_column(&Column {
@@ -126,7 +114,7 @@ fn add_end(drawing: &mut Drawing, scene: Scene<'_>, event: &Event) -> Result<(),
                 mark: Mark::Failed,
             },
         }),
-        _ => Ok(()),
+        _ => {}
     }
 }
 
@@ -140,30 +128,24 @@ fn caller_name(plans: u32, caller: u32) -> Phrase {
 }
 
 /// The workers that ended batches: of each, which ones in order.
-pub(crate) fn add_workers(
-    drawing: &mut Drawing,
-    scene: Scene<'_>,
-    callers: u32,
-) -> Result<(), AllocError> {
+pub(crate) fn add_workers(drawing: &mut Drawing, scene: Scene<'_>, callers: u32) {
     for caller in scene.plans..callers {
-        add_worker(drawing, scene, caller)?;
+        add_worker(drawing, scene, caller);
     }
-    Ok(())
 }
 
 /// A worker, if it ended a batch.
-fn add_worker(drawing: &mut Drawing, scene: Scene<'_>, caller: u32) -> Result<(), AllocError> {
+fn add_worker(drawing: &mut Drawing, scene: Scene<'_>, caller: u32) {
     let lines = Lines::Ended {
         scene,
         entries: scene.history.entries(caller),
     };
     let count = lines.count();
-    if count == 0 {
-        return Ok(());
+    if count > 0 {
+        drawing.add_column(&Column {
+            heading: caller_name(scene.plans, caller),
+            side: Phrase::count(count, " batch", " batches"),
+            lines,
+        });
     }
-    drawing.add_column(&Column {
-        heading: caller_name(scene.plans, caller),
-        side: Phrase::count(count, " batch", " batches"),
-        lines,
-    })
 }

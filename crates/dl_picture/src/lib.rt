@@ -1,6 +1,6 @@
 //! Pictures of what requests did, as SVG: the rounds of plans, their batches and their hits; and the numbers of a history.
 //!
-//! [`report_picture`] draws what serving plans left, and [`script_picture`] what the calls of a script are answered. A picture
+//! [`history_picture`] draws what serving plans left, and [`script_picture`] what the calls of a script are answered. A picture
 //! has its numbers at its head; [`history_numbers`] and [`plan_numbers`] give those of any history.
 #![tactic(auto)]
 
@@ -19,11 +19,12 @@ mod phrase;
 mod scene;
 mod script;
 mod script_run;
+mod sheet;
 mod style;
 mod xml;
 
 pub use batches::{BatchNumbers, Mean, batch_numbers};
-pub use history::{history_picture, report_picture};
+pub use history::history_picture;
 pub use loads::{LoadNumbers, load_numbers, rounds};
 pub use numbers::{HistoryNumbers, PlanNumbers, history_numbers, plan_numbers, script_numbers};
 pub use script::script_picture;

@@ -3,9 +3,10 @@
 use crate::mark::Mark;
 use crate::phrase::Phrase;
 use crate::scene::Scene;
+use crate::sheet::Sheet;
 use dl_desk::{FetchKey, LoadReply, Outcome};
-use dl_loader::{Call, EntryKind};
-use std::fmt;
+use dl_history::{Call, EntryKind};
+use std::alloc::{AllocError, Global};
 
 /// What a line says beside its mark.
 #[derive(Clone, Copy)]
@@ -16,12 +17,19 @@ pub(crate) enum Label<'a> {
     Words(Phrase),
 }
 
-impl fmt::Display for Label<'_> {
-    fn fmt<W: fmt::Write>(&self, f: &mut fmt::Formatter<W>) -> fmt::Result {
+impl Label<'_> {
+    /// Its text. The error is that memory ran out.
+    pub(crate) fn text(self, alloc: Global) -> Result<String, AllocError> {
+        let mut sheet = Sheet::new(alloc);
         match self {
-            Label::Key(key) => write!(f, "{}/{}", key.table(), key.id()),
-            Label::Words(words) => write!(f, "{words}"),
+            Label::Key(key) => {
+                sheet.push(key.table());
+                sheet.push("/");
+                sheet.push(key.id());
+            }
+            Label::Words(words) => sheet.push_phrase(words),
         }
+        sheet.finish()
     }
 }
 

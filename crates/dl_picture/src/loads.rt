@@ -7,7 +7,7 @@ ghost use Rattle.dl_history.specs.declared.event.Event.{Event};
 ghost use Rattle.dl_picture.specs.Numbers.{AreLoadNumbers, events_by, is_by, is_hit, is_round, load_replies, replies_in, round_events};
 
 use dl_desk::LoadReply;
-use dl_loader::{Call, Event, Events, Reply};
+use dl_history::{Call, Event, Events, Reply};
 use std::alloc::AllocError;
 
 /// How many loads there are, and how many of them are hits.

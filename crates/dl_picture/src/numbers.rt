@@ -9,7 +9,7 @@ ghost use Rattle.dl_picture.specs.Script.{AreScriptNumbers, IsRunOf};
 use crate::batches::{BatchNumbers, batch_numbers, desk_numbers};
 use crate::loads::{LoadNumbers, load_numbers, rounds};
 use crate::script_run::{ScriptRun, answer_numbers};
-use dl_loader::History;
+use dl_history::History;
 use std::alloc::AllocError;
 
 /// The numbers of a history.

@@ -1,7 +1,5 @@
 //! Phrases: words of the program, alone or about a number.
 
-use std::fmt;
-
 /// Words of the program, alone or about a number.
 #[derive(Clone, Copy)]
 pub(crate) enum Phrase {
@@ -16,14 +14,5 @@ impl Phrase {
     pub(crate) fn count(count: usize, one: &'static str, several: &'static str) -> Phrase {
         let noun = if count == 1 { one } else { several };
         Phrase::Numbered("", count as u64, noun)
-    }
-}
-
-impl fmt::Display for Phrase {
-    fn fmt<W: fmt::Write>(&self, f: &mut fmt::Formatter<W>) -> fmt::Result {
-        match self {
-            Phrase::Words(words) => f.write_str(words),
-            Phrase::Numbered(front, number, back) => write!(f, "{front}{number}{back}"),
-        }
     }
 }

@@ -2,7 +2,7 @@
 
 use crate::mark::Mark;
 use dl_desk::{FetchKey, LoadReply, Outcome};
-use dl_loader::{EntryKind, Event, Events, History, Reply};
+use dl_history::{EntryKind, Event, Events, History, Reply};
 use std::alloc::{AllocError, Global};
 
 /// A history that is drawn.

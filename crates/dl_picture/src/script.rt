@@ -27,26 +27,23 @@ pub fn script_picture(
 
 /// The picture of what calls left.
 fn run_picture(alloc: Global, calls: &[ScriptCall], run: &ScriptRun) -> Result<String, AllocError> {
+    let numbers = script_numbers(run)?;
     let mut drawing = Drawing::new(alloc);
-    add_run(&mut drawing, calls, run)?;
+    add_script_head(&mut drawing, run.answers.len(), &numbers);
+    add_lanes(&mut drawing, calls, run);
     drawing.finish()
 }
 
-/// The head, the calls and the batches.
-fn add_run(drawing: &mut Drawing, calls: &[ScriptCall], run: &ScriptRun) -> Result<(), AllocError> {
-    add_script_head(drawing, run.answers.len(), &script_numbers(run)?)?;
-    drawing.add_words("lane", "calls")?;
-    add_calls(drawing, calls, run.answers.as_slice())?;
-    drawing.add_words("lane", "batches")?;
-    add_batches(drawing, &run.desk)
+/// The calls and the batches.
+fn add_lanes(drawing: &mut Drawing, calls: &[ScriptCall], run: &ScriptRun) {
+    drawing.add_words("lane", Phrase::Words("calls"));
+    add_calls(drawing, calls, run.answers.as_slice());
+    drawing.add_words("lane", Phrase::Words("batches"));
+    add_batches(drawing, &run.desk);
 }
 
 /// The head: the numbers of the script.
-fn add_script_head(
-    drawing: &mut Drawing,
-    calls: usize,
-    numbers: &HistoryNumbers,
-) -> Result<(), AllocError> {
+fn add_script_head(drawing: &mut Drawing, calls: usize, numbers: &HistoryNumbers) {
     let tiles = [
         Tile::count("calls", "calls", calls as u64),
         Tile::count("loads", "loads", numbers.loads.loads),
@@ -56,27 +53,27 @@ fn add_script_head(
         Tile::count("largest", "largest batch", numbers.batches.largest),
         Tile::mean(&numbers.batches),
     ];
-    add_head(drawing, "What the calls were answered", &tiles)
+    add_head(drawing, "What the calls were answered", &tiles);
 }
 
 // ---- calls
 
 /// A column for each call, with what it is answered.
-fn add_calls<'a>(
-    drawing: &mut Drawing,
-    calls: &'a [ScriptCall],
-    answers: &'a [CallAnswer],
-) -> Result<(), AllocError> {
+fn add_calls<'a>(drawing: &mut Drawing, calls: &'a [ScriptCall], answers: &'a [CallAnswer]) {
     let mut number: u64 = 0;
     for (call, answer) in calls.iter().zip(answers) {
-        drawing.add_column(&Column {
-            heading: Phrase::Numbered("", number, name_of(call)),
-            side: side_of(call, answer),
-            lines: call_lines(call, answer),
-        })?;
+        drawing.add_column(&call_column(number, call, answer));
         number = number.saturating_add(1);
     }
-    Ok(())
+}
+
+/// The column of a call, which has a number.
+fn call_column<'a>(number: u64, call: &'a ScriptCall, answer: &'a CallAnswer) -> Column<'a> {
+    Column {
+        heading: Phrase::Numbered("", number, name_of(call)),
+        side: side_of(call, answer),
+        lines: call_lines(call, answer),
+    }
 }
 
 /// The name of a call, as a script has it.
@@ -162,14 +159,13 @@ fn fault_name(fault: DeskFault) -> &'static str {
 // ---- batches
 
 /// A column for each batch, with its keys and how far it has come.
-fn add_batches(drawing: &mut Drawing, desk: &Desk) -> Result<(), AllocError> {
+fn add_batches(drawing: &mut Drawing, desk: &Desk) {
     for number in 0..u32::MAX {
         match desk.batch(number) {
-            Some(batch) => drawing.add_column(&batch_column(number, &batch))?,
-            None => return Ok(()),
+            Some(batch) => drawing.add_column(&batch_column(number, &batch)),
+            None => return,
         }
     }
-    Ok(())
 }
 
 /// The column of a batch.

@@ -6,8 +6,9 @@ ghost use Rattle.dl_documents.specs.Faults.{most_bytes};
 ghost use Rattle.dl_plans.specs.Run.{IsRefused, ReadsAtMost};
 ghost use Rattle.dl_plans.specs.declared.settings.Options.{Options};
 
-use dl_picture::{report_picture, script_picture};
+use dl_picture::{history_picture, script_picture};
 use dl_plans::{Input, Options, PlanFault, RunError, read_all, read_input, served, write_all};
+use dl_scope::{MOST_PLANS, Report};
 use std::alloc::{AllocError, Global};
 use std::hash::RandomState;
 use std::io::{Read, Write};
@@ -56,6 +57,12 @@ fn picture<T: Threads + Wait + Sync>(
             Err(fault) => Err(RunError::Run(fault)),
         },
     }
+}
+
+/// The picture of what serving plans left. The error is a failed allocation.
+fn report_picture(alloc: Global, report: &Report) -> Result<String, AllocError> {
+    let plans = report.rounds().len().min(MOST_PLANS) as u32;
+    history_picture(alloc, report.history(), plans)
 }
 
 /// A picture, unless memory ran out.

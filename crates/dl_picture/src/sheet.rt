@@ -1,0 +1,116 @@
+//! Sheets: texts that are being written.
+
+use crate::phrase::Phrase;
+use crate::xml;
+use std::alloc::{AllocError, Global};
+use std::fmt::Write;
+
+/// A text that is being written. Where memory runs out, no more than a part of what is pushed stands in it, and `finish` tells.
+#[derive(Drop)]
+pub(crate) struct Sheet {
+    alloc: Global,
+    text: String,
+    is_whole: bool,
+}
+
+impl Sheet {
+    /// A sheet with no text.
+    pub(crate) fn new(alloc: Global) -> Sheet {
+        Sheet {
+            alloc,
+            text: String::new(alloc),
+            is_whole: true,
+        }
+    }
+
+    /// What it allocates by.
+    pub(crate) fn alloc(&self) -> Global {
+        self.alloc
+    }
+
+    /// Notes whether memory ran out.
+    pub(crate) fn note(&mut self, pushed: Result<(), AllocError>) {
+        if pushed.is_err() {
+            self.is_whole = false;
+        }
+    }
+
+    /// Appends a text as it stands.
+    pub(crate) fn push(&mut self, text: &str) {
+        let pushed = self.text.push_str(text);
+        self.note(pushed);
+    }
+
+    /// Appends a number.
+    pub(crate) fn push_number(&mut self, number: u64) {
+        let pushed = write!(self.text, "{number}");
+        self.note(pushed);
+    }
+
+    /// Appends a phrase.
+    pub(crate) fn push_phrase(&mut self, phrase: Phrase) {
+        match phrase {
+            Phrase::Words(words) => self.push(words),
+            Phrase::Numbered(front, number, back) => {
+                self.push(front);
+                self.push_number(number);
+                self.push(back);
+            }
+        }
+    }
+
+    /// Appends a stranger's text as XML.
+    pub(crate) fn push_escaped(&mut self, text: &str) {
+        let pushed = xml::push_text(&mut self.text, text);
+        self.note(pushed);
+    }
+
+    /// Appends a character of a stranger's text as XML.
+    pub(crate) fn push_escaped_char(&mut self, c: char) {
+        let pushed = xml::push_char(&mut self.text, c);
+        self.note(pushed);
+    }
+
+    /// Appends the attributes of a place.
+    pub(crate) fn push_place(&mut self, x: usize, y: usize) {
+        let pushed = write!(self.text, " x='{x}' y='{y}'");
+        self.note(pushed);
+    }
+
+    /// Appends the attributes of a size.
+    pub(crate) fn push_size(&mut self, width: usize, height: usize) {
+        let pushed = write!(self.text, " width='{width}' height='{height}'");
+        self.note(pushed);
+    }
+
+    /// Appends the front of a `text` element in a class of the style, whose foot stands at x and y.
+    pub(crate) fn begin_text(&mut self, class: &str, x: usize, y: usize) {
+        self.push("<text class='");
+        self.push(class);
+        self.push("'");
+        self.push_place(x, y);
+        self.push(">");
+    }
+
+    /// Appends a phrase as a `text` element in a class of the style, whose foot stands at x and y.
+    pub(crate) fn push_words(&mut self, class: &str, x: usize, y: usize, words: Phrase) {
+        self.begin_text(class, x, y);
+        self.push_phrase(words);
+        self.push("</text>");
+    }
+
+    /// What is written so far. The error is that memory ran out.
+    pub(crate) fn written(&self) -> Result<&str, AllocError> {
+        if self.is_whole {
+            Ok(self.text.as_str())
+        } else {
+            Err(AllocError)
+        }
+    }
+
+    /// The text. The error is that memory ran out.
+    pub(crate) fn finish(self) -> Result<String, AllocError> {
+        let Sheet { text, is_whole, .. } = self;
+        if is_whole { Ok(text) } else { Err(AllocError) }
+    }
+}
