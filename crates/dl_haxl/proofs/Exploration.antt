@@ -1,11 +1,10 @@
 -- What a run is after a poll that explored its term.
 use Rattle.std.proofs.Common.{◌≡◌, ◌≢◌, ◌∙◌, ap, sym, subst, refl, Bool, true, false, List, [], ◌∷◌, ◌++◌, Option, Some, None, if◌then◌else◌}
-use Rattle.std.specs.Prelude.{All, IfNone, IfOk, IfSome, ◌⊎◌, Result, Ok, Err}
+use Rattle.std.specs.Prelude.{IfNone, IfOk, IfSome, ◌⊎◌, Result, Ok, Err}
 use Rattle.std.proofs.Common.{inl, inr}
 use Rattle.futures.specs.Poll.{OnPending}
 use Rattle.futures.specs.declared.task.Poll.{Poll}
 use Rattle.futures.specs.declared.task.Poll.TheVariants.{Ready, Pending}
-use Rattle.std.proofs.lemmas.List.Elements.{All-from_recursion}
 use Rattle.indexmap.specs.IndexSet.{insert_all}
 use Rattle.dl_values.specs.Key.{Key, key_eq}
 use Rattle.dl_values.specs.declared.outcome.Outcome.{Outcome}
@@ -15,7 +14,7 @@ use Rattle.dl_terms.specs.TermAnswers.{Pairs, outcome_in, answer, waits, firsts,
 use Rattle.dl_terms.specs.Node.{result_of}
 use Rattle.dl_terms.specs.Reduction.{Reduces}
 use Rattle.dl_terms.specs.Rounds.{KnowsMore}
-use Rattle.dl_terms.proofs.WaitingKeys.{all_firsts, inserted_none, waits_unknown}
+use Rattle.dl_terms.proofs.WaitingKeys.{inserted_none}
 use Rattle.dl_terms.proofs.Options.{none_absurd}
 use Rattle.dl_terms.proofs.AnswersWithoutWaits.{unblocked}
 use Rattle.dl_haxl.specs.Pairs.{paired, all_show, outcomes_shown}
@@ -70,13 +69,6 @@ pub wants_some : (q : Pairs) (u v : Tree) (keys : List Key) → Reduces (outcome
 wants_some q u v keys reduces is none empty =
     let given = unblocked (outcome_in q) u (sym (wants q u v keys reduces is) ∙ empty) in
     none_absurd given.0 (sym none ∙ (reduces.ending ∙ given.1))
-
--- none of them has an outcome yet
-pub wanted_unknown : (p : Pairs) (u : Tree) (keys : List Key) → keys ≡ frontier u p → All (λ k. outcome_in p k ≡ None) keys
-wanted_unknown p u keys is =
-    subst (λ ks. All (λ k. outcome_in p k ≡ None) ks) (sym is)
-    (All-from_recursion (λ k. outcome_in p k ≡ None) (frontier u p)
-    (all_firsts (λ k. outcome_in p k ≡ None) (waits (outcome_in p) u) (waits_unknown (outcome_in p) u)))
 
 -- ---- the run
 

@@ -1,17 +1,10 @@
--- The pairs that the tickets of keys give.
+-- The outcomes that the tickets of keys show.
+pub use Rattle.dl_terms.specs.Asked.{paired}
 use Rattle.std.specs.Prelude.{◌≡◌, Bool, List, [], ◌∷◌, Option, Some, None, IfSome, is_some}
 use Rattle.std.specs.List.{list_all, AllZip}
-use Rattle.dl_values.specs.Key.{Key}
 use Rattle.dl_values.specs.declared.outcome.Outcome.{Outcome}
 use Rattle.dl_history.specs.declared.event.Ending.{Ending}
 use Rattle.dl_loader.specs.Pass.{Ticket}
-use Rattle.dl_terms.specs.TermAnswers.{Pairs}
-
--- each key with the outcome in its place
-abbrev pub paired : List Key → List Outcome → Pairs
-paired [] os = []
-paired (k ∷ ks) [] = []
-paired (k ∷ ks) (o ∷ os) = (k, o) ∷ paired ks os
 
 -- the ticket later: the same load, and what it showed it shows
 pub record Later (t u : Ticket) : Type 0 where

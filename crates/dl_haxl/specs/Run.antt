@@ -1,5 +1,5 @@
 -- What contracts see of a run of a term, and what its polls do.
-use Rattle.std.specs.Prelude.{◌≡◌, ◌≢◌, ◌⊎◌, true, false, List, [], ◌++◌, length, Option, Some, None, Result, IfOk, All}
+use Rattle.std.specs.Prelude.{◌≡◌, ◌≢◌, ◌⊎◌, true, false, List, [], ◌++◌, length, Option, Some, None, Result, IfOk}
 use Rattle.dl_values.specs.Key.{Key}
 use Rattle.dl_values.specs.declared.outcome.Outcome.{Outcome}
 use Rattle.dl_loader.specs.Pass.{Ticket}
@@ -82,10 +82,9 @@ pub record Finishes (old new : Run) (a : Answer) : Type 0 where
 
 -- ---- what holds of the fields of a run, by its stage
 
--- tickets were supplied, one for each key, of which none was learned before
+-- tickets were supplied, one for each key
 pub record Supplied (r : Run) : Type 0 where
   pub each : length r.keys ≡ length r.tickets
-  pub unknown : All (λ k. outcome_in r.learned k ≡ None) r.keys
 
 -- the keys are all that is waited for, and the tickets before were learned
 pub record Waiting (r : Run) : Type 0 where

@@ -1,8 +1,8 @@
 //! The answer of a term as a future.
 
 ghost use Rattle.std.specs.Prelude.{◌≡◌};
+ghost use Rattle.dl_terms.specs.Asked.{pairs_of, wanted_of};
 ghost use Rattle.dl_terms.specs.Node.{node_view};
-ghost use Rattle.dl_terms.specs.Reduction.{pairs_of};
 ghost use Rattle.dl_haxl.specs.Run.{Supplied, Waiting, run_at};
 ghost use Rattle.dl_haxl.specs.declared.stage.Stage.TheVariants.{Learning, Wanting};
 
@@ -11,10 +11,9 @@ use crate::stage::Stage;
 use crate::ticket_outcomes::{all_shown, learn};
 use dl_desk::FetchKey;
 use dl_loader::{LoaderName, Ticket};
-use dl_terms::{Answer, Known, Node, Term, Wanted, explore, unexplored};
+use dl_terms::{Answer, Asked, Node, Term, explore, unexplored};
 use futures::future::Future;
 use futures::task::{Context, Poll};
-use indexmap::{IndexMap, IndexSet};
 use std::alloc::{AllocError, Global};
 use std::hash::RandomState;
 
@@ -27,15 +26,13 @@ pub struct TermRun<'l, L: LoaderName> {
     alloc: Global,
     // What is left of the term.
     root: Node,
-    // The outcomes that were learned.
-    known: Known<'l>,
-    // The keys that are wanted, or whose tickets were supplied.
-    keys: Wanted,
+    // The keys that were asked for, with the outcomes that were learned. The others are wanted, or their tickets were supplied.
+    asked: Asked<'l>,
     // The tickets that were supplied last.
     tickets: Vec<Ticket<'l, L>>,
     stage: Stage,
-    ghost supplied: { stage ≡ Learning → Supplied (run_at stage (node_view root) (pairs_of known) keys.keys tickets.items) },
-    ghost waiting: { stage ≡ Wanting → Waiting (run_at stage (node_view root) (pairs_of known) keys.keys tickets.items) },
+    ghost supplied: { stage ≡ Learning → Supplied (run_at stage (node_view root) (pairs_of asked) (wanted_of asked) tickets.items) },
+    ghost waiting: { stage ≡ Wanting → Waiting (run_at stage (node_view root) (pairs_of asked) (wanted_of asked) tickets.items) },
 }
 
 impl<'l, L: LoaderName> TermRun<'l, L> {
@@ -68,8 +65,7 @@ impl<'l, L: LoaderName> TermRun<'l, L> {
         Ok(TermRun {
             alloc,
             root: unexplored(alloc, term)?,
-            known: IndexMap::with_hasher(alloc, hashing),
-            keys: IndexSet::with_hasher(alloc, hashing),
+            asked: Asked::new(alloc, hashing),
             tickets: Vec::new(alloc),
             stage: Stage::Learning,
         })
@@ -82,7 +78,7 @@ impl<'l, L: LoaderName> TermRun<'l, L> {
         ensures { result.now ≡ wanted_by (seen self.now) }
     {
         match self.stage {
-            Stage::Wanting => self.keys.as_slice(),
+            Stage::Wanting => self.asked.wanted(),
             Stage::Learning | Stage::Ended(_) => &[],
         }
     }
@@ -138,13 +134,8 @@ impl<'l, L: LoaderName> TermRun<'l, L> {
             return Ok(None);
         }
         self.stage = Stage::Ended(PollFault::OutOfMemory);
-        learn(
-            &mut self.known,
-            self.keys.as_slice(),
-            self.tickets.as_mut_slice(),
-        )?;
-        self.keys.clear();
-        explore(self.alloc, &mut self.root, &self.known, &mut self.keys)?;
+        learn(&mut self.asked, self.tickets.as_mut_slice())?;
+        explore(self.alloc, &mut self.root, &mut self.asked)?;
         let answer = self.root.take_answer();
         self.stage = match answer {
             Some(_) => Stage::Ended(PollFault::Finished),
@@ -159,14 +150,12 @@ impl<L: LoaderName> Drop for TermRun<'_, L> {
         let TermRun {
             alloc: _,
             root,
-            known,
-            keys,
+            asked,
             tickets,
             stage: _,
         } = self;
         drop(root);
-        drop(known);
-        drop(keys);
+        drop(asked);
         drop(tickets);
     }
 }

@@ -1,15 +1,11 @@
 //! What the tickets of keys show.
 
-ghost use Rattle.std.specs.Prelude.{◌≡◌, ◌++◌, true, All, None, OnOk, length};
-ghost use Rattle.std.specs.List.{IsDistinct};
-ghost use Rattle.dl_values.specs.Key.{key_eq};
-ghost use Rattle.dl_terms.specs.TermAnswers.{outcome_in};
-ghost use Rattle.dl_terms.specs.Reduction.{pairs_of};
-ghost use Rattle.dl_haxl.specs.Pairs.{AllLater, all_show, outcomes_shown, paired};
+ghost use Rattle.std.specs.Prelude.{◌≡◌, ◌++◌, [], true, OnOk, length};
+ghost use Rattle.dl_terms.specs.Asked.{paired, pairs_of, wanted_of};
+ghost use Rattle.dl_haxl.specs.Pairs.{AllLater, all_show, outcomes_shown};
 
-use dl_desk::FetchKey;
 use dl_loader::{LoaderName, Ticket};
-use dl_terms::Known;
+use dl_terms::Asked;
 use std::alloc::AllocError;
 
 /// Whether each of the tickets shows its outcome.
@@ -25,25 +21,23 @@ pub(crate) fn all_shown<L: LoaderName>(tickets: &mut [Ticket<'_, L>]) -> bool
     true
 }
 
-/// Puts each key with the outcome that its ticket shows among those that are known.
+/// Learns what the tickets of the wanted keys show.
 pub(crate) fn learn<'l, L: LoaderName>(
-    known: &mut Known<'l>,
-    keys: &[FetchKey],
+    asked: &mut Asked<'l>,
     tickets: &mut [Ticket<'l, L>],
 ) -> Result<(), AllocError>
-    requires each { length keys.now ≡ length tickets.old }
+    requires each { length (wanted_of asked.old) ≡ length tickets.old }
     requires shown { all_show tickets.old ≡ true }
-    requires unknown { All (λ k. outcome_in (pairs_of known.old) k ≡ None) keys.now }
-    requires distinct { IsDistinct key_eq keys.now }
     ensures same { tickets.new ≡ tickets.old }
-    ensures learned { OnOk result (pairs_of known.new ≡ pairs_of known.old ++ paired keys.now (outcomes_shown tickets.old)) }
+    ensures learned { OnOk result (pairs_of asked.new
+        ≡ pairs_of asked.old ++ paired (wanted_of asked.old) (outcomes_shown tickets.old)) }
+    ensures wanted { OnOk result (wanted_of asked.new ≡ []) }
 {
-    for (place, key) in keys.iter().enumerate() {
-        let outcome = match tickets[place].look() {
-            Some(outcome) => outcome,
+    for ticket in tickets.iter_mut() {
+        match ticket.look() {
+            Some(outcome) => asked.learn(outcome)?,
             None => unreachable!(),
-        };
-        known.insert(key.try_copy()?, outcome)?;
+        }
     }
     Ok(())
 }

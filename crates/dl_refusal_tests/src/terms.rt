@@ -5,8 +5,7 @@ use crate::stage::Stage;
 use dl_desk::{FetchKey, Outcome};
 use dl_fixtures::{ADA, BOB, FRIENDS, answer_text, json};
 use dl_refusals::made;
-use dl_terms::{Known, Node, Wanted, explore, unexplored};
-use indexmap::{IndexMap, IndexSet};
+use dl_terms::{Asked, Node, explore, unexplored};
 use std::io::Eprint;
 use std::process::Abort;
 
@@ -15,6 +14,22 @@ static USERS: [(&str, &str); 3] = [("u1", ADA), ("u2", BOB), ("u3", r#"{"name":"
 
 /// How many of the users are known in each round of the friends of `u1`, and the ids that are wanted then.
 static ROUNDS: [(usize, &[&str]); 3] = [(0, &["u1"]), (1, &["u2", "u3"]), (3, &[])];
+
+/// What is left of a term, and the keys that it has asked for.
+struct Left<'a> {
+    node: Node,
+    asked: Asked<'a>,
+    // How many of the users are known.
+    known: usize,
+}
+
+impl Drop for Left<'_> {
+    fn drop(self) {
+        let Left { node, asked, known: _ } = self;
+        drop(node);
+        drop(asked);
+    }
+}
 
 /// What the friends of `u1` give.
 const ANSWER: &str = r#"[{"best":"u1","friends":[],"name":"Bob"},{"name":"Cy"}]"#;
@@ -49,36 +64,44 @@ impl<R: Abort + Eprint> Stage<'_, R> {
         is_refused: bool,
     ) -> bool {
         let (count, want) = ROUNDS.get(round).expect(self.rt, "no such round");
-        let mut node = self.node_before(outcomes, round);
-        let known = self.known(outcomes, *count);
-        let mut wanted: Wanted = IndexSet::with_hasher(self.alloc, self.hashing);
+        let mut left = self.left_before(outcomes, round);
+        self.learn(&mut left, outcomes, *count);
         if is_refused {
             self.refusal.begin();
         }
-        let explored = explore(self.alloc, &mut node, &known, &mut wanted);
+        let explored = explore(self.alloc, &mut left.node, &mut left.asked);
         if self.is_again("explore", explored.is_err()) {
             return false;
         }
-        assert_ids(self.rt, wanted.as_slice(), want);
-        if let Some(answer) = node.into_answer() {
+        assert_ids(self.rt, left.asked.wanted(), want);
+        if let Some(answer) = left.node.take_answer() {
             let text = answer_text(self.alloc, &answer).expect(self.rt, "no memory");
             assert_is(self.rt, &text.as_str(), &ANSWER, "the answer");
         }
         true
     }
 
-    /// So many of the outcomes, known.
-    fn known<'a>(&self, outcomes: &'a [(FetchKey, Outcome)], count: usize) -> Known<'a> {
-        let mut known: Known<'_> = IndexMap::with_hasher(self.alloc, self.hashing);
-        for (key, outcome) in outcomes.iter().take(count) {
-            let key = key.try_copy().expect(self.rt, "no memory");
-            known.insert(key, outcome).expect(self.rt, "no memory");
+    /// Learns outcomes until so many are known.
+    fn learn<'a>(&self, left: &mut Left<'a>, outcomes: &'a [(FetchKey, Outcome)], count: usize) {
+        for (_, outcome) in outcomes.iter().take(count).skip(left.known) {
+            self.learn_one(&mut left.asked, outcome);
         }
-        known
+        left.known = count;
     }
 
-    /// The node, explored in the rounds before this one.
-    fn node_before(&self, outcomes: &[(FetchKey, Outcome)], round: usize) -> Node {
+    /// Learns the outcome of the first wanted key.
+    fn learn_one<'a>(&self, asked: &mut Asked<'a>, outcome: &'a Outcome) {
+        assert!(self.rt; !asked.wanted().is_empty(), "no key is wanted");
+        self.refusal.begin();
+        let learned = asked.learn(outcome);
+        if self.is_again("Asked::learn", learned.is_err()) {
+            assert!(self.rt; !asked.wanted().is_empty(), "the key isn't wanted any more");
+            asked.learn(outcome).expect(self.rt, "no memory");
+        }
+    }
+
+    /// The term, explored in the rounds before this one.
+    fn left_before<'a>(&self, outcomes: &'a [(FetchKey, Outcome)], round: usize) -> Left<'a> {
         let term = self.term(&FRIENDS);
         let node = made!(
             self,
@@ -87,13 +110,16 @@ impl<R: Abort + Eprint> Stage<'_, R> {
             unexplored(self.alloc, term),
             unexplored(self.alloc, self.term(&FRIENDS))
         );
-        let mut node = node.expect(self.rt, "no node");
+        let mut left = Left {
+            node: node.expect(self.rt, "no node"),
+            asked: Asked::new(self.alloc, self.hashing),
+            known: 0,
+        };
         for (count, _) in ROUNDS.iter().take(round) {
-            let known = self.known(outcomes, *count);
-            let mut wanted: Wanted = IndexSet::with_hasher(self.alloc, self.hashing);
-            let explored = explore(self.alloc, &mut node, &known, &mut wanted);
+            self.learn(&mut left, outcomes, *count);
+            let explored = explore(self.alloc, &mut left.node, &mut left.asked);
             explored.expect(self.rt, "no memory");
         }
-        node
+        left
     }
 }

@@ -4,7 +4,7 @@ pub mod AnswersWithoutWaits
 mod RuleAnswers
 mod DepthBound
 mod Views
-pub mod OutcomeMap
+pub mod AskedKeys
 pub mod Reductions
 mod WholeNumbers
 mod PartAnswers

@@ -3,6 +3,7 @@ pub mod View
 pub mod TermAnswers
 pub mod Relation
 pub mod Rounds
+pub mod Asked
 pub mod Node
 pub mod Plans
 pub mod Reduction

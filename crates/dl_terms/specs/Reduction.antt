@@ -1,22 +1,12 @@
 -- What a round makes of a term: a tree that stands for it from then on.
-use Rattle.std.specs.Prelude.{◌≡◌, List, Option, map}
-use Rattle.std.specs.Borrow.{Bor}
-use Rattle.indexmap.specs.IndexMap.{IndexMap}
+use Rattle.std.specs.Prelude.{◌≡◌, List, Option}
 use Rattle.dl_values.specs.Key.{Key}
 use Rattle.dl_values.specs.declared.outcome.Outcome.{Outcome}
 use Rattle.dl_terms.specs.declared.answer.Answer.{Answer}
 use Rattle.dl_terms.specs.Tree.{Tree}
-use Rattle.dl_terms.specs.TermAnswers.{Pairs, outcome_in, answer, waits}
+use Rattle.dl_terms.specs.TermAnswers.{answer, waits}
 use Rattle.dl_terms.specs.Rounds.{KnowsMore}
 use Rattle.dl_terms.specs.Node.{result_of}
-
--- the pairs that a map holds, in order
-abbrev pub pairs_of : {S : Type 0} → IndexMap Key (Bor Outcome) S → Pairs
-pairs_of m = map (λ e. (e.0, e.1.now)) m.entries
-
--- the outcome of each key that is in the map
-abbrev pub known_of : {S : Type 0} → IndexMap Key (Bor Outcome) S → Key → Option Outcome
-known_of m = outcome_in (pairs_of m)
 
 -- Wherever p and more is known, the tree u answers and waits as is said; where p suffices for the
 -- answer, u is that answer.

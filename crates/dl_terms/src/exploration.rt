@@ -7,14 +7,16 @@ ghost use Rattle.dl_values.specs.Key.{key_eq};
 ghost use Rattle.indexmap.specs.IndexSet.{insert_all};
 ghost use Rattle.dl_terms.specs.TermAnswers.{picked, gathered, waits, all_wait, waits_after, target_in, target_waits, targets_in, targets_waits};
 ghost use Rattle.dl_terms.specs.Node.{node_view, nodes_view, result_of, results_of};
-ghost use Rattle.dl_terms.specs.Reduction.{known_of, Reduces};
+ghost use Rattle.dl_terms.specs.Asked.{known_of, pairs_of, wanted_of};
+ghost use Rattle.dl_terms.specs.Reduction.{Reduces};
 ghost use Rattle.dl_terms.specs.Inside.Exploration.{ReduceAll, PartsReduce, parts_wait, GoesOn, own_waits, stays};
 ghost use Rattle.dl_terms.specs.Inside.Exploration.{LoadsTargets, PicksOn, FollowsOn, EachOn, GathersOn};
 ghost use Rattle.dl_terms.specs.declared.answer.Answer.TheVariants as answer;
 
 use crate::answer::{Answer, EvalFault};
+use crate::asked::Asked;
 use crate::node::{HOLLOW, Node};
-use crate::target::{Known, Wanted, load, load_id, load_ids};
+use crate::target::{load_again, load_id, load_ids};
 use dl_values::{Json, Text};
 use serde_json::Value;
 use std::alloc::{AllocError, Global};
@@ -33,18 +35,18 @@ const MOST_ITEMS: usize = 1_024;
 pub fn explore(
     alloc: Global,
     node: &mut Node,
-    known: &Known<'_>,
-    wanted: &mut Wanted,
+    asked: &mut Asked<'_>,
 ) -> Result<(), AllocError>
-    ensures reduces { OnOk result (Reduces (known_of known.now) (node_view node.old) (node_view node.new)) }
-    ensures wanted { OnOk result (wanted.new.keys
-        ≡ insert_all key_eq wanted.old.keys (waits (known_of known.now) (node_view node.old))) }
+    ensures reduces { OnOk result (Reduces (known_of asked.old) (node_view node.old) (node_view node.new)) }
+    ensures wanted { OnOk result (wanted_of asked.new
+        ≡ insert_all key_eq (wanted_of asked.old) (waits (known_of asked.old) (node_view node.old))) }
+    ensures pairs { OnOk result (pairs_of asked.new ≡ pairs_of asked.old) }
 {
-    explore_parts(alloc, node, known, wanted)?;
+    explore_parts(alloc, node, asked)?;
     if stays(node) {
         return Ok(());
     }
-    rewrite(alloc, node, known, wanted)?;
+    rewrite(alloc, node, asked)?;
     Ok(())
 }
 
@@ -53,19 +55,19 @@ pub fn explore(
 fn explore_parts(
     alloc: Global,
     node: &mut Node,
-    known: &Known<'_>,
-    wanted: &mut Wanted,
+    asked: &mut Asked<'_>,
 ) -> Result<(), AllocError>
-    ensures reduce { OnOk result (PartsReduce (known_of known.now) (node_view node.old) (node_view node.new)) }
-    ensures wanted { OnOk result (wanted.new.keys
-        ≡ insert_all key_eq wanted.old.keys (parts_wait (known_of known.now) (node_view node.old))) }
+    ensures reduce { OnOk result (PartsReduce (known_of asked.old) (node_view node.old) (node_view node.new)) }
+    ensures wanted { OnOk result (wanted_of asked.new
+        ≡ insert_all key_eq (wanted_of asked.old) (parts_wait (known_of asked.old) (node_view node.old))) }
+    ensures pairs { OnOk result (pairs_of asked.new ≡ pairs_of asked.old) }
 {
     match node {
         Node::Done(_) | Node::Load { .. } => Ok(()),
-        Node::Pick { part, .. } => explore(alloc, part, known, wanted),
-        Node::Follow { part, .. } => explore(alloc, part, known, wanted),
-        Node::Each { part, .. } => explore(alloc, part, known, wanted),
-        Node::All(parts) => explore_all(alloc, parts, known, wanted),
+        Node::Pick { part, .. } => explore(alloc, part, asked),
+        Node::Follow { part, .. } => explore(alloc, part, asked),
+        Node::Each { part, .. } => explore(alloc, part, asked),
+        Node::All(parts) => explore_all(alloc, parts, asked),
     }
 }
 
@@ -74,15 +76,15 @@ fn explore_parts(
 fn explore_all(
     alloc: Global,
     parts: &mut Vec<Node>,
-    known: &Known<'_>,
-    wanted: &mut Wanted,
+    asked: &mut Asked<'_>,
 ) -> Result<(), AllocError>
-    ensures reduce { OnOk result (ReduceAll (known_of known.now) (nodes_view parts.old.items) (nodes_view parts.new.items)) }
-    ensures wanted { OnOk result (wanted.new.keys
-        ≡ insert_all key_eq wanted.old.keys (all_wait (known_of known.now) (nodes_view parts.old.items))) }
+    ensures reduce { OnOk result (ReduceAll (known_of asked.old) (nodes_view parts.old.items) (nodes_view parts.new.items)) }
+    ensures wanted { OnOk result (wanted_of asked.new
+        ≡ insert_all key_eq (wanted_of asked.old) (all_wait (known_of asked.old) (nodes_view parts.old.items))) }
+    ensures pairs { OnOk result (pairs_of asked.new ≡ pairs_of asked.old) }
 {
     for place in 0..parts.len() {
-        explore(alloc, &mut parts[place], known, wanted)?;
+        explore(alloc, &mut parts[place], asked)?;
     }
     Ok(())
 }
@@ -107,14 +109,14 @@ fn stays(node: &Node) -> bool
 fn rewrite(
     alloc: Global,
     node: &mut Node,
-    known: &Known<'_>,
-    wanted: &mut Wanted,
+    asked: &mut Asked<'_>,
 ) -> Result<(), AllocError>
-    ensures stands { OnOk result (GoesOn (known_of known.now) (node_view node.old) (node_view node.new)) }
-    ensures wanted { OnOk result (wanted.new.keys
-        ≡ insert_all key_eq wanted.old.keys (own_waits (known_of known.now) (node_view node.old))) }
+    ensures stands { OnOk result (GoesOn (known_of asked.old) (node_view node.old) (node_view node.new)) }
+    ensures wanted { OnOk result (wanted_of asked.new
+        ≡ insert_all key_eq (wanted_of asked.old) (own_waits (known_of asked.old) (node_view node.old))) }
+    ensures pairs { OnOk result (pairs_of asked.new ≡ pairs_of asked.old) }
 {
-    let next = advance(alloc, mem::replace(node, HOLLOW), known, wanted)?;
+    let next = advance(alloc, mem::replace(node, HOLLOW), asked)?;
     // An assignment would spell out here how each form of the old node is let go.
     drop(mem::replace(node, next));
     Ok(())
@@ -124,19 +126,19 @@ fn rewrite(
 fn advance(
     alloc: Global,
     node: Node,
-    known: &Known<'_>,
-    wanted: &mut Wanted,
+    asked: &mut Asked<'_>,
 ) -> Result<Node, AllocError>
-    ensures stands { IfOk result (λ n. GoesOn (known_of known.now) (node_view node) (node_view n)) }
-    ensures wanted { OnOk result (wanted.new.keys
-        ≡ insert_all key_eq wanted.old.keys (own_waits (known_of known.now) (node_view node))) }
+    ensures stands { IfOk result (λ n. GoesOn (known_of asked.old) (node_view node) (node_view n)) }
+    ensures wanted { OnOk result (wanted_of asked.new
+        ≡ insert_all key_eq (wanted_of asked.old) (own_waits (known_of asked.old) (node_view node))) }
+    ensures pairs { OnOk result (pairs_of asked.new ≡ pairs_of asked.old) }
 {
     match node {
         Node::Done(answer) => Ok(Node::Done(answer)),
-        Node::Load { key, place } => load(key, place, known, wanted),
+        Node::Load { key, place } => load_again(key, place, asked),
         Node::Pick { part, field } => pick(alloc, part, field),
-        Node::Follow { part, field, table } => follow(alloc, part, field, table, known, wanted),
-        Node::Each { part, field, table } => each(alloc, part, field, table, known, wanted),
+        Node::Follow { part, field, table } => follow(alloc, part, field, table, asked),
+        Node::Each { part, field, table } => each(alloc, part, field, table, asked),
         Node::All(parts) => gather(alloc, parts),
     }
 }
@@ -168,20 +170,20 @@ fn follow(
     mut part: Box<Node>,
     field: Text,
     table: Text,
-    known: &Known<'_>,
-    wanted: &mut Wanted,
+    asked: &mut Asked<'_>,
 ) -> Result<Node, AllocError>
-    ensures stands { IfOk result (λ n. FollowsOn (known_of known.now) (node_view part.value) field table (node_view n)) }
-    ensures wanted { OnOk result (wanted.new.keys ≡ insert_all key_eq wanted.old.keys
+    ensures stands { IfOk result (λ n. FollowsOn (known_of asked.old) (node_view part.value) field table (node_view n)) }
+    ensures wanted { OnOk result (wanted_of asked.new ≡ insert_all key_eq (wanted_of asked.old)
         (waits_after (result_of (node_view part.value))
-        (λ a. target_waits (known_of known.now) (target_in table (picked field a))))) }
+        (λ a. target_waits (known_of asked.old) (target_in table (picked field a))))) }
+    ensures pairs { OnOk result (pairs_of asked.new ≡ pairs_of asked.old) }
 {
     match part.take_answer() {
         None => Ok(Node::Follow { part, field, table }),
         Some(Answer::Fault(fault)) => Ok(Node::Done(Answer::Fault(fault))),
         Some(Answer::Value(value)) => match value.value().get(field.as_str()) {
             None => Ok(Node::Done(Answer::Fault(EvalFault::NoField))),
-            Some(id) => load_id(alloc, &table, id, known, wanted),
+            Some(id) => load_id(alloc, &table, id, asked),
         },
     }
 }
@@ -192,20 +194,20 @@ fn each(
     mut part: Box<Node>,
     field: Text,
     table: Text,
-    known: &Known<'_>,
-    wanted: &mut Wanted,
+    asked: &mut Asked<'_>,
 ) -> Result<Node, AllocError>
-    ensures stands { IfOk result (λ n. EachOn (known_of known.now) (node_view part.value) field table (node_view n)) }
-    ensures wanted { OnOk result (wanted.new.keys ≡ insert_all key_eq wanted.old.keys
+    ensures stands { IfOk result (λ n. EachOn (known_of asked.old) (node_view part.value) field table (node_view n)) }
+    ensures wanted { OnOk result (wanted_of asked.new ≡ insert_all key_eq (wanted_of asked.old)
         (waits_after (result_of (node_view part.value))
-        (λ a. targets_waits (known_of known.now) (targets_in table (picked field a))))) }
+        (λ a. targets_waits (known_of asked.old) (targets_in table (picked field a))))) }
+    ensures pairs { OnOk result (pairs_of asked.new ≡ pairs_of asked.old) }
 {
     match part.take_answer() {
         None => Ok(Node::Each { part, field, table }),
         Some(Answer::Fault(fault)) => Ok(Node::Done(Answer::Fault(fault))),
         Some(Answer::Value(value)) => match value.value().get(field.as_str()) {
             None => Ok(Node::Done(Answer::Fault(EvalFault::NoField))),
-            Some(ids) => load_list(alloc, &table, ids, known, wanted),
+            Some(ids) => load_list(alloc, &table, ids, asked),
         },
     }
 }
@@ -215,13 +217,13 @@ fn load_list(
     alloc: Global,
     table: &Text,
     ids: &Value,
-    known: &Known<'_>,
-    wanted: &mut Wanted,
+    asked: &mut Asked<'_>,
 ) -> Result<Node, AllocError>
-    ensures stands { IfOk result (λ n. LoadsTargets (known_of known.now)
+    ensures stands { IfOk result (λ n. LoadsTargets (known_of asked.old)
         (targets_in table.now (answer.Value (view ids.now))) (node_view n)) }
-    ensures wanted { OnOk result (wanted.new.keys ≡ insert_all key_eq wanted.old.keys
-        (targets_waits (known_of known.now) (targets_in table.now (answer.Value (view ids.now))))) }
+    ensures wanted { OnOk result (wanted_of asked.new ≡ insert_all key_eq (wanted_of asked.old)
+        (targets_waits (known_of asked.old) (targets_in table.now (answer.Value (view ids.now))))) }
+    ensures pairs { OnOk result (pairs_of asked.new ≡ pairs_of asked.old) }
 {
     match ids.as_array() {
         None => Ok(Node::Done(Answer::Fault(EvalFault::NotAList))),
@@ -229,7 +231,7 @@ fn load_list(
             if ids.len() > MOST_ITEMS {
                 return Ok(Node::Done(Answer::Fault(EvalFault::TooMany)));
             }
-            let nodes = load_ids(alloc, table, ids.as_slice(), known, wanted)?;
+            let nodes = load_ids(alloc, table, ids.as_slice(), asked)?;
             gather(alloc, nodes)
         }
     }

@@ -7,6 +7,7 @@
 #![tactic(auto)]
 
 mod answer;
+mod asked;
 mod exploration;
 pub mod laws;
 mod node;
@@ -15,8 +16,8 @@ mod target;
 mod term;
 
 pub use answer::{Answer, EvalFault};
+pub use asked::Asked;
 pub use exploration::explore;
 pub use node::{Node, unexplored};
 pub use plan::{MOST_PLANS, Plan, Step};
-pub use target::{Known, Wanted};
 pub use term::Term;

@@ -5,13 +5,15 @@ use Rattle.indexmap.specs.IndexSet.{insert_all}
 use Rattle.dl_values.specs.Key.{key_eq}
 use Rattle.dl_terms.specs.TermAnswers.{all_wait}
 use Rattle.dl_terms.specs.Node.{node_view, nodes_view}
-use Rattle.dl_terms.specs.Reduction.{known_of, Reduces}
+use Rattle.dl_terms.specs.Asked.{known_of, pairs_of, wanted_of}
+use Rattle.dl_terms.specs.Reduction.{Reduces}
 use Rattle.dl_terms.proofs.exploration.+exploring.Given as goal
 
 abbrev pub invariant-explore_all-loop-place : goal.invariant-explore_all-loop-place
 invariant-explore_all-loop-place l = record {
   unvisited : goal.unvisited-explore_all-loop-place l;
-  reduced : AllZip (λ n m. Reduces (known_of l.known) (node_view n) (node_view m)) (take l.place l.initial.parts.items) (take l.place l.parts.items);
-  wanted : insert_all key_eq l.wanted.keys (all_wait (known_of l.known) (nodes_view (drop l.place l.initial.parts.items)))
-      ≡ insert_all key_eq l.initial.wanted.keys (all_wait (known_of l.known) (nodes_view l.initial.parts.items));
+  pairs : pairs_of l.asked ≡ pairs_of l.initial.asked;
+  reduced : AllZip (λ n m. Reduces (known_of l.initial.asked) (node_view n) (node_view m)) (take l.place l.initial.parts.items) (take l.place l.parts.items);
+  wanted : insert_all key_eq (wanted_of l.asked) (all_wait (known_of l.initial.asked) (nodes_view (drop l.place l.initial.parts.items)))
+      ≡ insert_all key_eq (wanted_of l.initial.asked) (all_wait (known_of l.initial.asked) (nodes_view l.initial.parts.items));
 }

@@ -8,7 +8,7 @@ use Rattle.dl_terms.specs.declared.answer.Answer.TheVariants.{Fault}
 use Rattle.dl_terms.specs.declared.answer.EvalFault.TheVariants.{TooMany}
 use Rattle.dl_terms.specs.TermAnswers.{Targets, targets_waits, item_targets, list_targets, target_answers, each_target_waits}
 use Rattle.dl_terms.specs.Node.{node_view, nodes_view}
-use Rattle.dl_terms.specs.Reduction.{known_of}
+use Rattle.dl_terms.specs.Asked.{known_of, wanted_of}
 use Rattle.dl_terms.specs.Inside.Exploration.{LoadsTargets, LoadsEach, GathersOn}
 use Rattle.dl_terms.proofs.Views.{node_view-Done}
 use Rattle.dl_terms.proofs.Reductions.{fault_loads, too_many, not_many, gathers_on}
@@ -26,17 +26,17 @@ pub returns-then-len-gt-MOST_ITEMS-clause-stands : goal.returns-then-len-gt-MOST
 returns-then-len-gt-MOST_ITEMS-clause-stands c =
     let is = too_many c.args.table.now (as_array (view c.args.ids.now)) c.in-Some.ids.now.items c.in-Some.ensures
     (omega (arith, c.len.ensures, c.in-Some.ids.now.ok.0, c.if-len-gt-MOST_ITEMS.true)) in
-    fault_loads (known_of c.args.known.now) (list_targets c.args.table.now (as_array (view c.args.ids.now))) TooMany _ is (node_view-Done (Fault TooMany))
+    fault_loads (known_of c.args.asked.now) (list_targets c.args.table.now (as_array (view c.args.ids.now))) TooMany _ is (node_view-Done (Fault TooMany))
 
 pub returns-then-len-gt-MOST_ITEMS-clause-wanted : goal.returns-then-len-gt-MOST_ITEMS-clause-wanted
 returns-then-len-gt-MOST_ITEMS-clause-wanted c =
     let is = too_many c.args.table.now (as_array (view c.args.ids.now)) c.in-Some.ids.now.items c.in-Some.ensures
     (omega (arith, c.len.ensures, c.in-Some.ids.now.ok.0, c.if-len-gt-MOST_ITEMS.true)) in
-    ap (λ x. insert_all key_eq c.args.wanted.now.keys (targets_waits (known_of c.args.known.now) x)) (sym is)
+    ap (λ x. insert_all key_eq (wanted_of c.args.asked.now) (targets_waits (known_of c.args.asked.now) x)) (sym is)
 
 pub returns-in_ok-nodes-in-Some-clause-stands : goal.returns-in_ok-nodes-in-Some-clause-stands
 returns-in_ok-nodes-in-Some-clause-stands c =
-    let p = known_of c.args.known.now in
+    let p = known_of c.args.asked.now in
     let table = c.args.table.now in
     let ids = c.in-Some.ids.now.items in
     let is : list_targets table (as_array (view c.args.ids.now)) ≡ Targets.keys (item_targets table (items_view ids)) =
@@ -52,7 +52,7 @@ returns-in_ok-nodes-in-Some-clause-stands c =
 
 pub returns-in_ok-nodes-in-Some-clause-wanted : goal.returns-in_ok-nodes-in-Some-clause-wanted
 returns-in_ok-nodes-in-Some-clause-wanted c =
-    let p = known_of c.args.known.now in
+    let p = known_of c.args.asked.now in
     let table = c.args.table.now in
     let ids = c.in-Some.ids.now.items in
     let is : list_targets table (as_array (view c.args.ids.now)) ≡ Targets.keys (item_targets table (items_view ids)) =
@@ -60,5 +60,5 @@ returns-in_ok-nodes-in-Some-clause-wanted c =
     in
     on_ok c.gather.result _
     (c.in_ok-nodes-in-Some.ensures.wanted
-    ∙ (ap (λ vs. insert_all key_eq c.args.wanted.now.keys (each_target_waits p (item_targets table (items_view vs)))) c.as_slice.ensures.value
-    ∙ ap (λ x. insert_all key_eq c.args.wanted.now.keys (targets_waits p x)) (sym is)))
+    ∙ (ap (λ vs. insert_all key_eq (wanted_of c.args.asked.now) (each_target_waits p (item_targets table (items_view vs)))) c.as_slice.ensures.value
+    ∙ ap (λ x. insert_all key_eq (wanted_of c.args.asked.now) (targets_waits p x)) (sym is)))

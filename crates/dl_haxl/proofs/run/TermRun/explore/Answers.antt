@@ -1,11 +1,12 @@
-use Rattle.std.proofs.Common.{◌≡◌, ◌∙◌, ap, sym, true, length, [], ◌++◌, None, rules}
+use Rattle.std.proofs.Common.{◌≡◌, ◌∙◌, ap, sym, subst, true, length, [], ◌++◌, None, rules}
 use Rattle.std.proofs.lemmas.List.{with_items_is}
 use Rattle.std.specs.Vec.{with_items}
 use Rattle.indexmap.specs.IndexSet.{insert_all}
 use Rattle.dl_values.specs.Key.{key_eq}
 use Rattle.dl_terms.specs.TermAnswers.{outcome_in, waits}
 use Rattle.dl_terms.specs.Node.{node_view}
-use Rattle.dl_terms.specs.Reduction.{pairs_of, Reduces}
+use Rattle.dl_terms.specs.Asked.{pairs_of, wanted_of}
+use Rattle.dl_terms.specs.Reduction.{Reduces}
 use Rattle.dl_haxl.specs.Pairs.{all_show, outcomes_shown, paired}
 use Rattle.dl_haxl.proofs.TicketLooks.{later_long}
 use Rattle.dl_haxl.proofs.Exploration.{then_answers, then_pends, then_waiting, not_learning, stage_after}
@@ -26,19 +27,20 @@ invariant_of-self-2 g c =
     let shown : all_show now ≡ true = ap all_show items ∙ (sym c.all_shown.ensures.all ∙ search rules) in
     let stage : c.match-answer.self ≡ stage_after c.take_answer-answer.result =
     elim c.match-answer.branch [ in-Some w ↦ w.self-is ∙ ap stage_after (sym w.in-Some.is) | in-None w ↦ w.self-is ∙ ap stage_after (sym w.in-None.is) ] in
-    let p = pairs_of c.args.self.now.known in
-    let q = pairs_of c.learn.new.known in
+    let p = pairs_of c.args.self.now.asked in
+    let q = pairs_of c.explore.new.asked in
     let u = node_view c.args.self.now.root in
     let left = node_view c.explore.new.node in
     let after = node_view c.take_answer-answer.new.self in
-    let keys = c.args.self.now.keys.keys in
-    let next = c.explore.new.wanted.keys in
-    let learned : q ≡ p ++ paired keys (outcomes_shown now) = c.in_ok-learn.ensures.learned
-    ∙ (ap (λ ks. p ++ paired ks (outcomes_shown c.as_mut_slice-2.result.now)) c.as_slice.ensures.keys
+    let keys = wanted_of c.args.self.now.asked in
+    let next = wanted_of c.explore.new.asked in
+    let kept_pairs : q ≡ pairs_of c.learn.new.asked = c.in_ok-explore.ensures.pairs in
+    let learned : q ≡ p ++ paired keys (outcomes_shown now) = kept_pairs ∙ (c.in_ok-learn.ensures.learned
     ∙ ap (λ ts. p ++ paired keys (outcomes_shown ts)) (c.as_mut_slice-2.ensures.value ∙ (shown_items ∙ sym items))) in
-    let reduces : Reduces (outcome_in q) u left = c.in_ok-explore.ensures.reduces in
+    let reduces : Reduces (outcome_in q) u left = subst (λ ps. Reduces (outcome_in ps) u left) (sym kept_pairs) c.in_ok-explore.ensures.reduces in
     let added : next ≡ insert_all key_eq [] (waits (outcome_in q) u) = c.in_ok-explore.ensures.wanted
-    ∙ ap (λ ks. insert_all key_eq ks (waits (outcome_in q) u)) c.clear.ensures.empty in
+    ∙ (ap (λ ks. insert_all key_eq ks (waits (outcome_in (pairs_of c.learn.new.asked)) u)) c.in_ok-learn.ensures.wanted
+    ∙ ap (λ ps. insert_all key_eq [] (waits (outcome_in ps) u)) (sym kept_pairs)) in
     let kept : c.take_answer-answer.result ≡ None → after ≡ left = λ none. ap node_view (c.take_answer-answer.ensures.kept none) in
     record {
       supplied = λ learning. absurd (not_learning c.take_answer-answer.result c.match-answer.self stage learning);
@@ -60,19 +62,20 @@ returns-clause-answer g c =
     let shown : all_show now ≡ true = ap all_show items ∙ (sym c.all_shown.ensures.all ∙ search rules) in
     let stage : c.match-answer.self ≡ stage_after c.take_answer-answer.result =
     elim c.match-answer.branch [ in-Some w ↦ w.self-is ∙ ap stage_after (sym w.in-Some.is) | in-None w ↦ w.self-is ∙ ap stage_after (sym w.in-None.is) ] in
-    let p = pairs_of c.args.self.now.known in
-    let q = pairs_of c.learn.new.known in
+    let p = pairs_of c.args.self.now.asked in
+    let q = pairs_of c.explore.new.asked in
     let u = node_view c.args.self.now.root in
     let left = node_view c.explore.new.node in
     let after = node_view c.take_answer-answer.new.self in
-    let keys = c.args.self.now.keys.keys in
-    let next = c.explore.new.wanted.keys in
-    let learned : q ≡ p ++ paired keys (outcomes_shown now) = c.in_ok-learn.ensures.learned
-    ∙ (ap (λ ks. p ++ paired ks (outcomes_shown c.as_mut_slice-2.result.now)) c.as_slice.ensures.keys
+    let keys = wanted_of c.args.self.now.asked in
+    let next = wanted_of c.explore.new.asked in
+    let kept_pairs : q ≡ pairs_of c.learn.new.asked = c.in_ok-explore.ensures.pairs in
+    let learned : q ≡ p ++ paired keys (outcomes_shown now) = kept_pairs ∙ (c.in_ok-learn.ensures.learned
     ∙ ap (λ ts. p ++ paired keys (outcomes_shown ts)) (c.as_mut_slice-2.ensures.value ∙ (shown_items ∙ sym items))) in
-    let reduces : Reduces (outcome_in q) u left = c.in_ok-explore.ensures.reduces in
+    let reduces : Reduces (outcome_in q) u left = subst (λ ps. Reduces (outcome_in ps) u left) (sym kept_pairs) c.in_ok-explore.ensures.reduces in
     let added : next ≡ insert_all key_eq [] (waits (outcome_in q) u) = c.in_ok-explore.ensures.wanted
-    ∙ ap (λ ks. insert_all key_eq ks (waits (outcome_in q) u)) c.clear.ensures.empty in
+    ∙ (ap (λ ks. insert_all key_eq ks (waits (outcome_in (pairs_of c.learn.new.asked)) u)) c.in_ok-learn.ensures.wanted
+    ∙ ap (λ ps. insert_all key_eq [] (waits (outcome_in ps) u)) (sym kept_pairs)) in
     let kept : c.take_answer-answer.result ≡ None → after ≡ left = λ none. ap node_view (c.take_answer-answer.ensures.kept none) in
     then_answers p q u left keys next c.args.self.now.tickets.items now shown learned reduces c.args.self.now.stage c.requires.learning
     c.take_answer-answer.result c.match-answer.self after c.take_answer-answer.ensures.answer
@@ -91,19 +94,20 @@ returns-clause-waits g c =
     let shown : all_show now ≡ true = ap all_show items ∙ (sym c.all_shown.ensures.all ∙ search rules) in
     let stage : c.match-answer.self ≡ stage_after c.take_answer-answer.result =
     elim c.match-answer.branch [ in-Some w ↦ w.self-is ∙ ap stage_after (sym w.in-Some.is) | in-None w ↦ w.self-is ∙ ap stage_after (sym w.in-None.is) ] in
-    let p = pairs_of c.args.self.now.known in
-    let q = pairs_of c.learn.new.known in
+    let p = pairs_of c.args.self.now.asked in
+    let q = pairs_of c.explore.new.asked in
     let u = node_view c.args.self.now.root in
     let left = node_view c.explore.new.node in
     let after = node_view c.take_answer-answer.new.self in
-    let keys = c.args.self.now.keys.keys in
-    let next = c.explore.new.wanted.keys in
-    let learned : q ≡ p ++ paired keys (outcomes_shown now) = c.in_ok-learn.ensures.learned
-    ∙ (ap (λ ks. p ++ paired ks (outcomes_shown c.as_mut_slice-2.result.now)) c.as_slice.ensures.keys
+    let keys = wanted_of c.args.self.now.asked in
+    let next = wanted_of c.explore.new.asked in
+    let kept_pairs : q ≡ pairs_of c.learn.new.asked = c.in_ok-explore.ensures.pairs in
+    let learned : q ≡ p ++ paired keys (outcomes_shown now) = kept_pairs ∙ (c.in_ok-learn.ensures.learned
     ∙ ap (λ ts. p ++ paired keys (outcomes_shown ts)) (c.as_mut_slice-2.ensures.value ∙ (shown_items ∙ sym items))) in
-    let reduces : Reduces (outcome_in q) u left = c.in_ok-explore.ensures.reduces in
+    let reduces : Reduces (outcome_in q) u left = subst (λ ps. Reduces (outcome_in ps) u left) (sym kept_pairs) c.in_ok-explore.ensures.reduces in
     let added : next ≡ insert_all key_eq [] (waits (outcome_in q) u) = c.in_ok-explore.ensures.wanted
-    ∙ ap (λ ks. insert_all key_eq ks (waits (outcome_in q) u)) c.clear.ensures.empty in
+    ∙ (ap (λ ks. insert_all key_eq ks (waits (outcome_in (pairs_of c.learn.new.asked)) u)) c.in_ok-learn.ensures.wanted
+    ∙ ap (λ ps. insert_all key_eq [] (waits (outcome_in ps) u)) (sym kept_pairs)) in
     let kept : c.take_answer-answer.result ≡ None → after ≡ left = λ none. ap node_view (c.take_answer-answer.ensures.kept none) in
     then_pends p q u left keys next c.args.self.now.tickets.items now shown learned reduces added c.args.self.now.stage c.requires.learning
     c.take_answer-answer.result c.match-answer.self after c.take_answer-answer.ensures.answer kept stage

@@ -1,0 +1,82 @@
+//! The keys that a run of a term has asked for.
+
+ghost use Rattle.std.specs.Prelude.{◌≤◌, length};
+
+use dl_values::{FetchKey, Outcome};
+use indexmap::IndexSet;
+use std::alloc::{AllocError, Global};
+use std::hash::RandomState;
+
+/// The keys that a run of a term has asked for, in the order in which it first did. The first of them have outcomes, which are
+/// lent from where they stand. The others are wanted.
+pub struct Asked<'l> {
+    keys: IndexSet<FetchKey, RandomState>,
+    // Those of the first keys.
+    outcomes: Vec<&'l Outcome>,
+    ghost within: { length outcomes.items ≤ length keys.keys },
+}
+
+impl<'l> Asked<'l> {
+    ghost use Rattle.std.specs.Prelude.{◌≡◌, ◌≢◌, [], IfOk, IfSome, OnOk, Some, option_map};
+    ghost use Rattle.dl_values.specs.Key.{key_eq};
+    ghost use Rattle.indexmap.specs.IndexSet.{insert_all};
+    ghost use Rattle.dl_terms.specs.TermAnswers.{load_waits};
+    ghost use Rattle.dl_terms.specs.Asked.{LearnsFirst, known_of, pairs_of, wanted_of};
+
+    /// No keys yet. They will be hashed by `hashing`, of which nothing is seen.
+    pub fn new(alloc: Global, hashing: RandomState) -> Asked<'l>
+        ensures pairs { pairs_of result ≡ [] }
+        ensures wanted { wanted_of result ≡ [] }
+    {
+        Asked {
+            keys: IndexSet::with_hasher(alloc, hashing),
+            outcomes: Vec::new(alloc),
+        }
+    }
+
+    /// The keys without an outcome, in order.
+    pub fn wanted(&self) -> &[FetchKey]
+        ensures { result.now ≡ wanted_of self.now }
+    {
+        &self.keys.as_slice()[self.outcomes.len()..]
+    }
+
+    /// Takes the outcome of the first wanted key. The error is a failed allocation.
+    pub fn learn(&mut self, outcome: &'l Outcome) -> Result<(), AllocError>
+        requires { wanted_of self.old ≢ [] }
+        ensures { OnOk result (LearnsFirst self.old self.new outcome.now) }
+    {
+        self.outcomes.push(outcome)?;
+        Ok(())
+    }
+
+    /// Asks for a key: its place, and its outcome, if it has one. A key without one is wanted from then on.
+    pub(crate) fn ask(&mut self, key: &FetchKey) -> Result<(usize, Option<&'l Outcome>), AllocError>
+        ensures outcome { IfOk result (λ r. option_map (λ o. o.now) r.1 ≡ known_of self.old key.now) }
+        ensures wanted { OnOk result (wanted_of self.new
+            ≡ insert_all key_eq (wanted_of self.old) (load_waits (known_of self.old) key.now)) }
+        ensures pairs { OnOk result (pairs_of self.new ≡ pairs_of self.old) }
+    {
+        let (place, _) = self.keys.insert_full(key.try_copy()?)?;
+        Ok((place, self.outcomes.get(place).copied()))
+    }
+
+    /// The outcome of a key, if it has one and was asked for in this place. No hash is taken.
+    pub(crate) fn outcome_at(&self, place: usize, key: &FetchKey) -> Option<&'l Outcome>
+        ensures { IfSome result (λ o. known_of self.now key.now ≡ Some o.now) }
+    {
+        let outcome = self.outcomes.get(place).copied()?;
+        match self.keys.as_slice().get(place) {
+            Some(held) if held == key => Some(outcome),
+            _ => None,
+        }
+    }
+}
+
+impl Drop for Asked<'_> {
+    fn drop(self) {
+        let Asked { keys, outcomes } = self;
+        drop(keys);
+        drop(outcomes);
+    }
+}
