@@ -1,10 +1,10 @@
 //! Reading documents from their bytes.
 
-ghost use Rattle.std.specs.Prelude.{◌≡◌, ◌⊎◌, IfOk, IfErr, OnOk};
+ghost use Rattle.std.specs.Prelude.{◌≡◌, ◌⊎◌, ◌≤◌, length, IfOk, IfErr, OnOk};
 ghost use Rattle.serde_json.specs.Data.{Data};
 ghost use Rattle.serde_json.specs.View.{view};
 ghost use Rattle.dl_documents.specs.Document.{IsTextOf, Spells};
-ghost use Rattle.dl_documents.specs.Faults.{Applies, IsLeast};
+ghost use Rattle.dl_documents.specs.Faults.{Applies, IsLeast, most_bytes};
 ghost use Rattle.dl_documents.specs.Inside.Results.{RefusedFor};
 
 use crate::fault::PlanFault;
@@ -28,8 +28,8 @@ pub fn read_input(alloc: Global, hashing: RandomState, bytes: &[u8]) -> Result<I
     ensures passes { OnOk result ((f : PlanFault) → Applies bytes.now f → ⊥) }
     ensures err { IfErr result (λ f. (f ≡ PlanFault.OutOfMemory) ⊎ IsLeast (Applies bytes.now) f) }
 {
-    let (_document, input) = read_document(alloc, hashing, bytes)?;
-    Ok(input)
+    let document = tree(alloc, bytes)?;
+    input(alloc, hashing, document)
 }
 
 /// The tree of a document, and what it says.
@@ -45,19 +45,20 @@ pub fn read_document(
     ensures passes { OnOk result ((f : PlanFault) → Applies bytes.now f → ⊥) }
     ensures err { IfErr result (λ f. (f ≡ PlanFault.OutOfMemory) ⊎ IsLeast (Applies bytes.now) f) }
 {
-    if bytes.len() > MOST_BYTES {
-        return Err(PlanFault::TooLarge);
-    }
     let document = tree(alloc, bytes)?;
-    let input = input(alloc, hashing, &document)?;
+    let input = input(alloc, hashing, document.clone()?)?;
     Ok((document, input))
 }
 
-/// The tree that the bytes are the text of.
+/// The tree that the bytes are the text of, unless they are too many.
 fn tree(alloc: Global, bytes: &[u8]) -> Result<Value, PlanFault>
     ensures ok { IfOk result (λ v. IsTextOf bytes.now (view v)) }
-    ensures err { IfErr result (λ f. (f ≡ PlanFault.OutOfMemory) ⊎ ((f ≡ PlanFault.NotJson) × Applies bytes.now PlanFault.NotJson)) }
+    ensures few { OnOk result (length bytes.now ≤ most_bytes) }
+    ensures err { IfErr result (λ f. (f ≡ PlanFault.OutOfMemory) ⊎ IsLeast (Applies bytes.now) f) }
 {
+    if bytes.len() > MOST_BYTES {
+        return Err(PlanFault::TooLarge);
+    }
     match Value::from_slice(alloc, bytes) {
         Ok(tree) => Ok(tree),
         Err(error) if error.is_memory() => Err(PlanFault::OutOfMemory),
@@ -65,14 +66,14 @@ fn tree(alloc: Global, bytes: &[u8]) -> Result<Value, PlanFault>
     }
 }
 
-/// What a document's tree says.
-fn input(alloc: Global, hashing: RandomState, document: &Value) -> Result<Input, PlanFault>
-    ensures ok { IfOk result (Spells (view document.now)) }
-    ensures err { IfErr result (RefusedFor (view document.now)) }
+/// What a document's tree says. The rows of its tables are moved out of it.
+fn input(alloc: Global, hashing: RandomState, document: Value) -> Result<Input, PlanFault>
+    ensures ok { IfOk result (Spells (view document)) }
+    ensures err { IfErr result (RefusedFor (view document)) }
 {
-    let head = read_head(document)?;
-    if is_script(document) {
-        let script = script(alloc, hashing, document, head)?;
+    let head = read_head(&document)?;
+    if is_script(&document) {
+        let script = script(alloc, hashing, &document, head)?;
         Ok(Input::Script(script))
     } else {
         let plans = plan_file(alloc, hashing, document, head)?;

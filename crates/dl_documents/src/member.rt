@@ -1,6 +1,7 @@
 //! Members of JSON objects.
 
 ghost use Rattle.std.specs.Prelude.{◌≡◌, map, option_map};
+ghost use Rattle.serde_json.specs.Find.{get};
 ghost use Rattle.serde_json.specs.View.{view, items_view};
 ghost use Rattle.dl_documents.specs.Document.{items_at};
 ghost use Rattle.dl_documents.specs.Reading.{one_in};
@@ -26,4 +27,11 @@ pub(crate) fn list<'a>(document: &'a Value, name: &str) -> Option<&'a [Value]>
 {
     let list = document.get(name)?.as_array()?;
     Some(list.as_slice())
+}
+
+/// Takes the value of a member out of a document, where null stays in its place.
+pub(crate) fn take(document: &mut Value, name: &str) -> Option<Value>
+    ensures { option_map view result ≡ get name.now (view document.old) }
+{
+    Some(document.get_mut(name)?.take())
 }

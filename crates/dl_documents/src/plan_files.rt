@@ -2,12 +2,13 @@
 
 ghost use Rattle.std.specs.Prelude.{◌≡◌, ◌⊎◌, false, map, IfOk, IfErr, MatchOption};
 ghost use Rattle.std.specs.List.{position, AllByRecursion};
+ghost use Rattle.serde_json.specs.Data.{Data};
 ghost use Rattle.serde_json.specs.View.{view};
 ghost use Rattle.dl_documents.specs.Document.{SpellsPlans, is_script};
 ghost use Rattle.dl_documents.specs.Faults.{IsBadTop};
 ghost use Rattle.dl_documents.specs.Steps.{plan_view, step_view};
 ghost use Rattle.dl_documents.specs.Inside.Results.{HasHead, RefusedFor};
-ghost use Rattle.dl_documents.specs.Inside.PlanFiles.{rows_view, HasPlans, AreRows, HasOther, IsPlanOf, IsFirstBadIn, AreRead, IsFirstBadStep};
+ghost use Rattle.dl_documents.specs.Inside.PlanFiles.{rows_view, HasPlans, HasTop, IsNoTop, AreRows, HasOther, IsPlanOf, IsFirstBadIn, AreRead, IsFirstBadStep};
 ghost use Rattle.dl_documents.specs.Inside.PlanFiles.{is_high, is_long, AreLow, IsFirstHigh, Fit, IsMisfit, AreTables, IsTableRefusal, AreRest, IsRefusal};
 ghost use Rattle.dl_documents.specs.Tables.{IsTableFault};
 
@@ -37,16 +38,15 @@ pub const MOST_STEPS: usize = 256;
 pub(crate) fn plan_file(
     alloc: Global,
     hashing: RandomState,
-    document: &Value,
+    document: Value,
     head: Head,
 ) -> Result<PlanFile, PlanFault>
-    requires kind { is_script (view document.now) ≡ false }
-    requires head { HasHead (view document.now) head }
-    ensures ok { IfOk result (SpellsPlans (view document.now)) }
-    ensures err { IfErr result (RefusedFor (view document.now)) }
+    requires kind { is_script (view document) ≡ false }
+    requires head { HasHead (view document) head }
+    ensures ok { IfOk result (SpellsPlans (view document)) }
+    ensures err { IfErr result (RefusedFor (view document)) }
 {
-    let (lists, tables) = top(alloc, document)?;
-    let plans = plans(alloc, lists.as_slice())?;
+    let (plans, tables) = plans_and_tables(alloc, document)?;
     let (tables, limits, table_limits) = rest(alloc, hashing, plans.as_slice(), tables, head)?;
     Ok(PlanFile {
         limits,
@@ -58,13 +58,43 @@ pub(crate) fn plan_file(
 
 // ---- the top
 
-/// The lists of steps of a document's plans, and the value of its tables.
-fn top<'a>(alloc: Global, document: &'a Value) -> Result<(Vec<&'a [Value]>, &'a Value), PlanFault>
+/// The plans of a document, and the value of its tables, which is moved out of it.
+///
+/// # Errors
+/// `Top` where one of the two isn't there, `Shape` at the first item that is no step, and `OutOfMemory` where an allocation failed.
+fn plans_and_tables(alloc: Global, mut document: Value) -> Result<(Vec<Plan>, Value), PlanFault>
+    requires { is_script (view document) ≡ false }
+    ensures ok { IfOk result (λ p. HasTop (view document) (map plan_view p.0.items) (view p.1)) }
+    ensures err { IfErr result (λ f. (f ≡ PlanFault.OutOfMemory) ⊎ IsNoTop (view document) f) }
+{
+    let plans = listed_plans(alloc, &document)?;
+    match member::take(&mut document, "tables") {
+        Some(tables) => Ok((plans, tables)),
+        None => Err(PlanFault::Top),
+    }
+}
+
+/// The plans of a document that has tables.
+///
+/// # Errors
+/// Those of [`plans_and_tables`].
+fn listed_plans(alloc: Global, document: &Value) -> Result<Vec<Plan>, PlanFault>
     requires { is_script (view document.now) ≡ false }
-    ensures ok { IfOk result (λ p. HasPlans (view document.entry.now) (rows_view p.0.items) (view p.1.now)) }
+    ensures ok { IfOk result (λ ps. (tree : Data) × HasTop (view document.now) (map plan_view ps.items) tree) }
+    ensures err { IfErr result (λ f. (f ≡ PlanFault.OutOfMemory) ⊎ IsNoTop (view document.now) f) }
+{
+    let lists = top(alloc, document)?;
+    let plans = plans(alloc, lists.as_slice())?;
+    Ok(plans)
+}
+
+/// The lists of steps of the plans of a document that has tables.
+fn top<'a>(alloc: Global, document: &'a Value) -> Result<Vec<&'a [Value]>, PlanFault>
+    requires { is_script (view document.now) ≡ false }
+    ensures ok { IfOk result (λ ls. (tree : Data) × HasPlans (view document.entry.now) (rows_view ls.items) tree) }
     ensures err { IfErr result (λ f. (f ≡ PlanFault.OutOfMemory) ⊎ ((f ≡ PlanFault.Top) × IsBadTop (view document.entry.now))) }
 {
-    let Some(tables) = document.get("tables") else {
+    let Some(_tables) = document.get("tables") else {
         return Err(PlanFault::Top);
     };
     let Some(plans) = member::list(document, "plans") else {
@@ -74,7 +104,7 @@ fn top<'a>(alloc: Global, document: &'a Value) -> Result<(Vec<&'a [Value]>, &'a 
         return Err(PlanFault::Top);
     }
     let lists = lists(alloc, plans)?;
-    Ok((lists, tables))
+    Ok(lists)
 }
 
 /// The lists that the items are.
@@ -135,11 +165,11 @@ fn rest(
     alloc: Global,
     hashing: RandomState,
     plans: &[Plan],
-    tables: &Value,
+    tables: Value,
     head: Head,
 ) -> Result<(Tables, Limits, Option<TableLimits>), PlanFault>
-    ensures ok { IfOk result (λ p. AreRest (map plan_view plans.now) (view tables.now) head p) }
-    ensures err { IfErr result (λ f. (f ≡ PlanFault.OutOfMemory) ⊎ IsRefusal (map plan_view plans.now) (view tables.now) head f) }
+    ensures ok { IfOk result (λ p. AreRest (map plan_view plans.now) (view tables) head p) }
+    ensures err { IfErr result (λ f. (f ≡ PlanFault.OutOfMemory) ⊎ IsRefusal (map plan_view plans.now) (view tables) head f) }
 {
     if let Some(fault) = misfit(plans) {
         return Err(fault);
@@ -210,10 +240,10 @@ fn read_tables(
     alloc: Global,
     hashing: RandomState,
     version: Version,
-    tables: &Value,
+    tables: Value,
 ) -> Result<(Tables, Vec<TableNumber>), PlanFault>
-    ensures ok { IfOk result (λ p. AreTables version (view tables.now) p.0 p.1.items) }
-    ensures err { IfErr result (λ f. (f ≡ PlanFault.OutOfMemory) ⊎ IsTableRefusal version (view tables.now) f) }
+    ensures ok { IfOk result (λ p. AreTables version (view tables) p.0 p.1.items) }
+    ensures err { IfErr result (λ f. (f ≡ PlanFault.OutOfMemory) ⊎ IsTableRefusal version (view tables) f) }
 {
     match spelled(alloc, hashing, version, tables) {
         Ok(tables) => Ok(tables),
@@ -227,18 +257,18 @@ fn spelled(
     alloc: Global,
     hashing: RandomState,
     version: Version,
-    tables: &Value,
+    tables: Value,
 ) -> Result<(Tables, Vec<TableNumber>), TableFault>
-    ensures ok { IfOk result (λ p. AreTables version (view tables.now) p.0 p.1.items) }
-    ensures err { IfErr result (λ f. (f ≡ TableFault.OutOfMemory) ⊎ IsTableFault version (view tables.now) f) }
+    ensures ok { IfOk result (λ p. AreTables version (view tables) p.0 p.1.items) }
+    ensures err { IfErr result (λ f. (f ≡ TableFault.OutOfMemory) ⊎ IsTableFault version (view tables) f) }
 {
     match version {
         Version::First => {
-            let tables = Tables::from_value(alloc, hashing, tables)?;
+            let tables = Tables::from_owned_value(alloc, hashing, tables)?;
             Ok((tables, Vec::new(alloc)))
         }
         Version::Second => {
-            let read = Tables::from_value_2(alloc, hashing, tables)?;
+            let read = Tables::from_owned_value_2(alloc, hashing, tables)?;
             Ok(read)
         }
     }

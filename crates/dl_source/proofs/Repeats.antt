@@ -3,8 +3,9 @@ use Rattle.std.proofs.Common.{◌≡◌, ℕ, List, [], ◌∷◌, ◌++◌, Boo
 use Rattle.std.proofs.Common.{bytes_eq, Bor, Result, Ok, ok_or, if◌then◌else◌, Some, None}
 use Rattle.std.specs.List.{list_any}
 use Rattle.std.proofs.lemmas.List.{map-append}
-use Rattle.dl_values.specs.TableLimits.{lists}
-use Rattle.dl_values.proofs.Repeats.{take_next}
+use Rattle.std.proofs.Common.{append-nil}
+use Rattle.dl_values.specs.TableLimits.{lists, repeats}
+use Rattle.dl_values.proofs.Repeats.{take_next, clashes, clashes_next}
 
 module _ {X : Type 0} where
   -- names by themselves are compared like names of findings
@@ -51,3 +52,25 @@ kept_true false rows x e h = refl
 pub kept_rows : {X E : Type 0} (b : Bool) (rows x : X) (e : E) → ◌≡◌ {A = Result X E} (Ok x) (ok_or (if b then None else Some rows) e) → x ≡ rows
 kept_rows true rows x e h = cc
 kept_rows false rows x e h = cc
+
+-- ---- a walk that takes each item out of its list
+
+module _ {X : Type 0} (front rest all : List (List ℕ × X)) (e : List ℕ × X) (r : Bool) (is : all ≡ e ∷ rest) (walk : clashes front all ≡ r) where
+  next : (lists e.0 front || clashes (front ++ e ∷ []) rest) ≡ r
+  next = sym (clashes_next front rest e) ∙ sym (ap (clashes front) is) ∙ walk
+
+  -- the name stood before
+  pub found_next : lists e.0 front ≡ true → r ≡ true
+  found_next again = sym next ∙ ap (λ b. b || clashes (front ++ e ∷ []) rest) again
+
+  -- the name is new
+  pub goes_on_next : lists e.0 front ≡ false → clashes (front ++ e ∷ []) rest ≡ r
+  goes_on_next new = sym (ap (λ b. b || clashes (front ++ e ∷ []) rest) new) ∙ next
+
+-- after the walk no name stands twice
+pub none_clash : {X : Type 0} (front whole all : List (List ℕ × X)) → all ≡ [] → front ++ all ≡ whole → clashes front all ≡ repeats whole
+    → Some front ≡ (if repeats whole then None else Some whole)
+none_clash front whole all is order walk =
+    let none : repeats whole ≡ false = sym walk ∙ ap (clashes front) is in
+    let same : front ≡ whole = sym (append-nil front) ∙ ap (λ l. front ++ l) (sym is) ∙ order in
+    ap Some same ∙ sym (ap (λ b. if b then None else Some whole) none)

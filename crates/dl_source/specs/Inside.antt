@@ -1,2 +1,3 @@
 pub mod Findings
 pub mod Reading
+pub mod Members

@@ -6,9 +6,11 @@ mod fetch;
 mod fetched;
 mod listed;
 mod source;
+mod table_members;
 mod table_number;
 mod table_reader;
 mod tables;
+mod tree;
 
 pub use dl_values::BatchAnswer;
 pub use fault::TableFault;

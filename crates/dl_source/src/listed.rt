@@ -1,6 +1,6 @@
-//! Tables as their document lists them, borrowed from it.
+//! Tables as their document lists them, taken out of it.
 
-ghost use Rattle.std.specs.Prelude.{◌≡◌, false, option_map, IfOk};
+ghost use Rattle.std.specs.Prelude.{◌≡◌, false, option_map, IfOk, string_bytes};
 ghost use Rattle.std.specs.List.{list_any};
 ghost use Rattle.serde_json.specs.View.{view};
 ghost use Rattle.dl_source.specs.Inside.Findings.{spelled, finding_of};
@@ -10,6 +10,7 @@ ghost use Rattle.dl_source.specs.NumberedTables.{numbered, number_of, table_of};
 use crate::table_number::TableNumber;
 use crate::table_reader::TEXT_BYTES;
 use crate::tables::Finding;
+use crate::tree::into_text;
 use dl_values::{ID_BYTES, Json, Message, TABLE_BYTES, Text, has_float};
 use serde_json::Value;
 use std::alloc::{AllocError, Global};
@@ -25,26 +26,26 @@ pub(crate) enum Kind {
 
 /// What stands beside an id.
 #[derive(Drop)]
-pub(crate) enum Listed<'a> {
-    Row(&'a Value),
-    Error(&'a str),
-    Break(&'a str),
+pub(crate) enum Listed {
+    Row(Value),
+    Error(String),
+    Break(String),
 }
 
 impl Kind {
     /// What stands beside an id in a list of this kind, if it may stand there.
-    pub(crate) fn listed<'a>(self, value: &'a Value) -> Option<Listed<'a>>
-        ensures { option_map spelled result ≡ finding_of self (view value.now) }
+    pub(crate) fn listed(self, value: Value) -> Option<Listed>
+        ensures { option_map spelled result ≡ finding_of self (view value) }
     {
         match self {
             Kind::Row => Some(Listed::Row(value)),
-            Kind::Error => value.as_str().map(Listed::Error),
-            Kind::Break => value.as_str().map(Listed::Break),
+            Kind::Error => Some(Listed::Error(into_text(value)?)),
+            Kind::Break => Some(Listed::Break(into_text(value)?)),
         }
     }
 }
 
-impl Listed<'_> {
+impl Listed {
     fn is_long(&self) -> bool
         ensures { result ≡ is_long (spelled self.now) }
     {
@@ -63,27 +64,28 @@ impl Listed<'_> {
         }
     }
 
-    fn to_finding(&self, alloc: Global) -> Result<Finding, AllocError>
-        requires { is_not_whole (spelled self.now) ≡ false }
-        ensures { IfOk result (λ e. e ≡ spelled self.now) }
+    /// The finding that it spells. The error is a failed allocation.
+    pub(crate) fn into_finding(self, alloc: Global) -> Result<Finding, AllocError>
+        requires { is_not_whole (spelled self) ≡ false }
+        ensures { IfOk result (λ e. e ≡ spelled self) }
     {
         match self {
-            Listed::Row(value) => Ok(Finding::Row(Json::new(alloc, (*value).clone()?)?)),
-            Listed::Error(text) => Ok(Finding::Error(Message::new(alloc, text)?)),
-            Listed::Break(text) => Ok(Finding::Break(Message::new(alloc, text)?)),
+            Listed::Row(value) => Ok(Finding::Row(Json::new(alloc, value)?)),
+            Listed::Error(text) => Ok(Finding::Error(Message::new(alloc, text.as_str())?)),
+            Listed::Break(text) => Ok(Finding::Break(Message::new(alloc, text.as_str())?)),
         }
     }
 }
 
 /// An id and what stands beside it. Contracts see the finding that the two spell.
 #[derive(Drop)]
-pub(crate) struct ListedFinding<'a> {
-    id: &'a str,
-    listed: Listed<'a>,
+pub(crate) struct ListedFinding {
+    id: String,
+    listed: Listed,
 }
 
-impl<'a> Model for ListedFinding<'a> {
-    ghost use Rattle.std.specs.Prelude.{List, ℕ};
+impl Model for ListedFinding {
+    ghost use Rattle.std.specs.Prelude.{List, ℕ, string_bytes};
     ghost use Rattle.dl_source.specs.declared.tables.Finding.{Finding};
     ghost use Rattle.dl_source.specs.Tables.{finding_code};
     ghost use Rattle.dl_source.specs.Inside.Findings.{spelled};
@@ -92,27 +94,29 @@ impl<'a> Model for ListedFinding<'a> {
 
     ghost coded = { finding_code };
 
-    ghost view = { λ e. (e.id.now, spelled e.listed) };
+    ghost view = { λ e. (string_bytes e.id, spelled e.listed) };
 }
 
-impl<'a> ListedFinding<'a> {
-    pub(crate) fn new(id: &'a str, listed: Listed<'a>) -> ListedFinding<'a>
-        ensures { result ≡ (id.entry.now, spelled listed.entry) }
+impl ListedFinding {
+    pub(crate) fn new(id: String, listed: Listed) -> ListedFinding
+        ensures { result ≡ (string_bytes id, spelled listed) }
     {
         ListedFinding { id, listed }
     }
 
-    pub(crate) fn id(&self) -> &'a str
-        ensures { result.now ≡ self.now.0 }
+    /// The id and what stands beside it, to move both on.
+    pub(crate) fn into_parts(self) -> (String, Listed)
+        ensures { self ≡ (string_bytes result.0, spelled result.1) }
     {
-        self.id
+        let ListedFinding { id, listed } = self;
+        (id, listed)
     }
 
     /// Whether no key can have the id.
     pub(crate) fn has_bad_id(&self) -> bool
         ensures { result ≡ has_bad_id self.now }
     {
-        !is_sized(self.id, ID_BYTES)
+        !is_sized(self.id.as_str(), ID_BYTES)
     }
 
     /// Whether it is a text longer than [`TEXT_BYTES`].
@@ -128,41 +132,34 @@ impl<'a> ListedFinding<'a> {
     {
         self.listed.is_not_whole()
     }
-
-    /// A copy with an owner.
-    pub(crate) fn to_finding(&self, alloc: Global) -> Result<Finding, AllocError>
-        requires { is_not_whole self.now.1 ≡ false }
-        ensures { IfOk result (λ e. e ≡ self.now.1) }
-    {
-        self.listed.to_finding(alloc)
-    }
 }
 
 /// A table's name, its number, if it has one, and its findings. Contracts see the table that these spell.
 #[derive(Drop)]
-pub(crate) struct ListedTable<'a> {
-    name: &'a str,
+pub(crate) struct ListedTable {
+    name: String,
     number: Option<i128>,
-    findings: Vec<ListedFinding<'a>>,
+    findings: Vec<ListedFinding>,
 }
 
-impl<'a> Model for ListedTable<'a> {
+impl Model for ListedTable {
+    ghost use Rattle.std.specs.Prelude.{string_bytes};
     ghost use Rattle.dl_source.specs.NumberedTables.{NumberedTable, numbered, numbered_table_code};
 
     ghost Value = { NumberedTable };
 
     ghost coded = { numbered_table_code };
 
-    ghost view = { λ t. numbered t.name.now t.number t.findings.items };
+    ghost view = { λ t. numbered (string_bytes t.name) t.number t.findings.items };
 }
 
-impl<'a> ListedTable<'a> {
+impl ListedTable {
     pub(crate) fn new(
-        name: &'a str,
+        name: String,
         number: Option<i128>,
-        findings: Vec<ListedFinding<'a>>,
-    ) -> ListedTable<'a>
-        ensures { result ≡ numbered name.entry.now number findings.entry.items }
+        findings: Vec<ListedFinding>,
+    ) -> ListedTable
+        ensures { result ≡ numbered (string_bytes name) number findings.items }
     {
         ListedTable {
             name,
@@ -171,25 +168,27 @@ impl<'a> ListedTable<'a> {
         }
     }
 
-    pub(crate) fn name(&self) -> &'a str
+    pub(crate) fn name(&self) -> &str
         ensures { result.now ≡ self.now.name }
     {
-        self.name
+        self.name.as_str()
     }
 
-    pub(crate) fn findings(&self) -> &[ListedFinding<'a>]
-        ensures { result.now ≡ self.now.findings }
+    /// The name and the findings, to move both on.
+    pub(crate) fn into_parts(self) -> (String, Vec<ListedFinding>)
+        ensures { table_of self ≡ (string_bytes result.0, result.1.items) }
     {
-        self.findings.as_slice()
+        let ListedTable { name, findings, .. } = self;
+        (name, findings)
     }
 
-    /// A copy of its number with an owner, beside its name.
+    /// Its number, if it has one, beside a copy of its name. The error is a failed allocation.
     pub(crate) fn to_number(&self, alloc: Global) -> Result<Option<TableNumber>, AllocError>
         ensures { IfOk result (λ n. n ≡ number_of self.now) }
     {
         match self.number {
             Some(number) => {
-                let table = Text::new(alloc, self.name)?;
+                let table = Text::new(alloc, self.name.as_str())?;
                 Ok(Some(TableNumber { table, number }))
             }
             None => Ok(None),
@@ -200,7 +199,7 @@ impl<'a> ListedTable<'a> {
     pub(crate) fn has_bad_name(&self) -> bool
         ensures { result ≡ has_bad_name (table_of self.now) }
     {
-        !is_sized(self.name, TABLE_BYTES)
+        !is_sized(self.name.as_str(), TABLE_BYTES)
     }
 
     /// Whether no key can have one of the ids.

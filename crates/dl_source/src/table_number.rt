@@ -20,7 +20,7 @@ pub struct TableNumber {
 /// The numbers of the tables, in their order. The error is a failed allocation.
 pub(crate) fn numbers_of(
     alloc: Global,
-    tables: &[ListedTable<'_>],
+    tables: &[ListedTable],
 ) -> Result<Vec<TableNumber>, AllocError>
     ensures { IfOk result (λ v. v.items ≡ numbers_of tables.now) }
 {

@@ -1,23 +1,24 @@
-//! Reading tables from a JSON value, in two steps: what the document lists is found and tested
-//! without a copy, and then copied.
+//! Reading tables from a JSON value, in two steps: what the document lists is taken out of it and
+//! tested, and then put into tables.
 
-ghost use Rattle.std.specs.Prelude.{◌≡◌, option_map, IfOk, string_bytes};
-ghost use Rattle.std.specs.List.{list_all};
-ghost use Rattle.std.specs.BTreeMap.{keys};
+ghost use Rattle.std.specs.Prelude.{◌≡◌, option_map, option_and_then, IfOk, string_bytes};
+ghost use Rattle.serde_json.specs.Find.{as_str};
 ghost use Rattle.serde_json.specs.View.{view};
 ghost use Rattle.dl_source.specs.declared.fault.TableFault.TheVariants.{OutOfMemory};
 ghost use Rattle.dl_source.specs.Inside.Findings.{finding_of};
-ghost use Rattle.dl_source.specs.Spelling.{is_table_member, has_only, whole};
+ghost use Rattle.dl_source.specs.Spelling.{whole};
 ghost use Rattle.dl_values.specs.TableLimits.{repeats};
 ghost use Rattle.dl_source.specs.Faults.{has_bad_key, has_long_text, has_other_number};
 ghost use Rattle.dl_source.specs.NumberedTables.{tables_of};
-ghost use Rattle.dl_source.specs.Inside.Reading.{Reads, after, finding_in, list_in, optional_in, findings_in, content_fault};
-ghost use Rattle.dl_source.specs.Inside.Reading.{is_member_of, number_in, number_by, numbered_in, listed_in};
+ghost use Rattle.dl_source.specs.Inside.Reading.{Reads, after, finding_in, list_in, optional_in, findings_given, content_fault};
+ghost use Rattle.dl_source.specs.Inside.Reading.{number_in, number_given, numbered_in, listed_in};
 
 use crate::fault::TableFault;
 use crate::listed::{Kind, ListedFinding, ListedTable};
+use crate::table_members::{TableMembers, table_members};
+use crate::tree::{into_items, into_text};
 use indexmap::IndexSet;
-use serde_json::{Map, Value};
+use serde_json::Value;
 use std::alloc::{AllocError, AllocFailed, Global};
 use std::hash::RandomState;
 
@@ -49,85 +50,59 @@ pub(crate) enum Version {
     Second,
 }
 
-/// The tables that the value lists. The only faults are `Shape` and `OutOfMemory`.
-pub(crate) fn read_tables<'a>(
+/// The tables that the value lists, taken out of it. The only faults are `Shape` and `OutOfMemory`.
+pub(crate) fn read_tables(
     alloc: Global,
     version: Version,
-    value: &'a Value,
-) -> Result<Vec<ListedTable<'a>>, TableFault>
-    ensures { Reads result (λ v. v.items) (listed_in version (view value.entry.now)) }
+    value: Value,
+) -> Result<Vec<ListedTable>, TableFault>
+    ensures { Reads result (λ v. v.items) (listed_in version (view value)) }
 {
-    let mut tables = Vec::new(alloc);
-    for item in value.as_array().ok_or(TableFault::Shape)? {
+    let items = into_items(value).ok_or(TableFault::Shape)?;
+    let mut tables = Vec::with_capacity(alloc, items.len())?;
+    for item in items {
         tables.push(read_table(alloc, version, item)?)?;
     }
     Ok(tables)
 }
 
-fn read_table<'a>(
-    alloc: Global,
-    version: Version,
-    value: &'a Value,
-) -> Result<ListedTable<'a>, TableFault>
-    ensures { Reads result (λ t. t) (numbered_in version (view value.entry.now)) }
+fn read_table(alloc: Global, version: Version, value: Value) -> Result<ListedTable, TableFault>
+    ensures { Reads result (λ t. t) (numbered_in version (view value)) }
 {
-    if !has_only_table_members(version, value) {
-        return Err(TableFault::Shape);
-    }
-    let name = value.get("name").and_then(Value::as_str);
-    let name = name.ok_or(TableFault::Shape)?;
-    let number = read_number(version, value)?;
-    let findings = read_findings(alloc, value)?;
+    let members = table_members(version, value).ok_or(TableFault::Shape)?;
+    let TableMembers {
+        name,
+        number,
+        rows,
+        errors,
+        breaks,
+    } = members;
+    let number = read_number(version, number)?;
+    let findings = read_findings(alloc, rows, errors, breaks)?;
+    let name = read_name(name).ok_or(TableFault::Shape)?;
     Ok(ListedTable::new(name, number, findings))
 }
 
-fn has_only_table_members(version: Version, value: &Value) -> bool
-    ensures { result ≡ has_only (is_member_of version) (view value.now) }
+fn read_name(name: Option<Value>) -> Option<String>
+    ensures { option_map string_bytes result ≡ option_and_then as_str (option_map view name) }
 {
-    match value.as_object() {
-        Some(members) => are_table_members(version, members),
-        None => false,
-    }
+    into_text(name?)
 }
 
-fn are_table_members(version: Version, members: &Map<String, Value>) -> bool
-    ensures { result ≡ list_all (λ k. is_member_of version (string_bytes k)) (keys members.now) }
-{
-    members
-        .keys()
-        .all(|name| is_member_of(version, name.as_str()))
-}
-
-/// Whether a table may have a member of this name.
-fn is_member_of(version: Version, name: &str) -> bool
-    ensures { result ≡ is_member_of version name.now }
-{
-    match version {
-        Version::First => is_table_member(name),
-        Version::Second => is_table_member(name) || name == "maxBatchSize",
-    }
-}
-
-fn is_table_member(name: &str) -> bool
-    ensures { result ≡ is_table_member name.now }
-{
-    matches!(name, "name" | "rows" | "errors" | "breaks")
-}
-
-fn read_number(version: Version, table: &Value) -> Result<Option<i128>, TableFault>
-    ensures { Reads result (λ n. n) (number_by version (view table.now)) }
+fn read_number(version: Version, number: Option<Value>) -> Result<Option<i128>, TableFault>
+    ensures { Reads result (λ n. n) (number_given version (option_map view number)) }
 {
     match version {
         Version::First => Ok(None),
-        Version::Second => read_optional_number(table.get("maxBatchSize")),
+        Version::Second => read_optional_number(number),
     }
 }
 
-fn read_optional_number(number: Option<&Value>) -> Result<Option<i128>, TableFault>
-    ensures { Reads result (λ n. n) (number_in (option_map (λ v. view v.now) number.entry)) }
+fn read_optional_number(number: Option<Value>) -> Result<Option<i128>, TableFault>
+    ensures { Reads result (λ n. n) (number_in (option_map view number)) }
 {
     match number {
-        Some(number) => whole_number(number).map(Some).ok_or(TableFault::Shape),
+        Some(number) => whole_number(&number).map(Some).ok_or(TableFault::Shape),
         None => Ok(None),
     }
 }
@@ -139,24 +114,29 @@ pub fn whole_number(value: &Value) -> Option<i128>
     value.as_number()?.as_i128()
 }
 
-fn read_findings<'a>(alloc: Global, table: &'a Value) -> Result<Vec<ListedFinding<'a>>, TableFault>
-    ensures { Reads result (λ v. v.items) (findings_in (view table.entry.now)) }
+fn read_findings(
+    alloc: Global,
+    rows: Option<Value>,
+    errors: Option<Value>,
+    breaks: Option<Value>,
+) -> Result<Vec<ListedFinding>, TableFault>
+    ensures { Reads result (λ v. v.items) (findings_given (option_map view rows) (option_map view errors) (option_map view breaks)) }
 {
-    let rows = table.get("rows").ok_or(TableFault::Shape)?;
+    let rows = rows.ok_or(TableFault::Shape)?;
     let mut findings = Vec::new(alloc);
     read_list(&mut findings, Kind::Row, rows)?;
-    read_optional(&mut findings, Kind::Error, table.get("errors"))?;
-    read_optional(&mut findings, Kind::Break, table.get("breaks"))?;
+    read_optional(&mut findings, Kind::Error, errors)?;
+    read_optional(&mut findings, Kind::Break, breaks)?;
     Ok(findings)
 }
 
-fn read_optional<'a>(
-    findings: &mut Vec<ListedFinding<'a>>,
+fn read_optional(
+    findings: &mut Vec<ListedFinding>,
     kind: Kind,
-    list: Option<&'a Value>,
+    list: Option<Value>,
 ) -> Result<(), TableFault>
     ensures { Reads result (λ _. findings.new.items)
-        (after findings.old.items (optional_in (finding_in (finding_of kind)) (option_map (λ v. view v.now) list.entry))) }
+        (after findings.old.items (optional_in (finding_in (finding_of kind)) (option_map view list))) }
 {
     match list {
         Some(list) => read_list(findings, kind, list),
@@ -164,34 +144,33 @@ fn read_optional<'a>(
     }
 }
 
-fn read_list<'a>(
-    findings: &mut Vec<ListedFinding<'a>>,
-    kind: Kind,
-    list: &'a Value,
-) -> Result<(), TableFault>
+fn read_list(findings: &mut Vec<ListedFinding>, kind: Kind, list: Value) -> Result<(), TableFault>
     ensures { Reads result (λ _. findings.new.items)
-        (after findings.old.items (list_in (finding_in (finding_of kind)) (view list.entry.now))) }
+        (after findings.old.items (list_in (finding_in (finding_of kind)) (view list))) }
 {
-    for pair in list.as_array().ok_or(TableFault::Shape)? {
+    let pairs = into_items(list).ok_or(TableFault::Shape)?;
+    findings.reserve_exact(pairs.len())?;
+    for pair in pairs {
         let finding = read_finding(kind, pair).ok_or(TableFault::Shape)?;
         findings.push(finding)?;
     }
     Ok(())
 }
 
-fn read_finding<'a>(kind: Kind, pair: &'a Value) -> Option<ListedFinding<'a>>
-    ensures { result ≡ finding_in (finding_of kind) (view pair.entry.now) }
+fn read_finding(kind: Kind, pair: Value) -> Option<ListedFinding>
+    ensures { result ≡ finding_in (finding_of kind) (view pair) }
 {
-    let pair = pair.as_array()?.as_slice();
+    let mut pair = into_items(pair)?;
     if pair.len() != 2 {
         return None;
     }
-    let id = pair[0].as_str()?;
-    Some(ListedFinding::new(id, kind.listed(&pair[1])?))
+    let value = pair.pop()?;
+    let id = into_text(pair.pop()?)?;
+    Some(ListedFinding::new(id, kind.listed(value)?))
 }
 
 /// The least fault of what the tables hold, but for repetitions.
-pub(crate) fn content_fault(tables: &[ListedTable<'_>]) -> Option<TableFault>
+pub(crate) fn content_fault(tables: &[ListedTable]) -> Option<TableFault>
     ensures { result ≡ content_fault (tables_of tables.now) }
 {
     if has_bad_key(tables) {
@@ -205,7 +184,7 @@ pub(crate) fn content_fault(tables: &[ListedTable<'_>]) -> Option<TableFault>
     }
 }
 
-fn has_bad_key(tables: &[ListedTable<'_>]) -> bool
+fn has_bad_key(tables: &[ListedTable]) -> bool
     ensures { result ≡ has_bad_key (tables_of tables.now) }
 {
     tables
@@ -213,13 +192,13 @@ fn has_bad_key(tables: &[ListedTable<'_>]) -> bool
         .any(|table| table.has_bad_name() || table.has_bad_id())
 }
 
-fn has_long_text(tables: &[ListedTable<'_>]) -> bool
+fn has_long_text(tables: &[ListedTable]) -> bool
     ensures { result ≡ has_long_text (tables_of tables.now) }
 {
     tables.iter().any(|table| table.has_long_text())
 }
 
-fn has_other_number(tables: &[ListedTable<'_>]) -> bool
+fn has_other_number(tables: &[ListedTable]) -> bool
     ensures { result ≡ has_other_number (tables_of tables.now) }
 {
     tables.iter().any(|table| table.has_other_number())
@@ -229,7 +208,7 @@ fn has_other_number(tables: &[ListedTable<'_>]) -> bool
 pub(crate) fn repeats_name(
     alloc: Global,
     hashing: RandomState,
-    tables: &[ListedTable<'_>],
+    tables: &[ListedTable],
 ) -> Result<bool, AllocError>
     ensures { IfOk result (λ b. b ≡ repeats (tables_of tables.now)) }
 {

@@ -1,6 +1,6 @@
 //! Tables as a source.
 
-ghost use Rattle.std.specs.Prelude.{◌≡◌, ◌⊎◌, [], ◌∷◌, ◌++◌, true, false, not, if◌then◌else◌, option_copied, IfOk, IfErr, OnOk};
+ghost use Rattle.std.specs.Prelude.{◌≡◌, ◌⊎◌, [], ◌∷◌, ◌++◌, true, false, not, if◌then◌else◌, option_copied, string_bytes, IfOk, IfErr, OnOk};
 ghost use Rattle.std.specs.List.{list_any};
 ghost use Rattle.std.specs.Result.{result_copied};
 ghost use Rattle.dl_source.specs.Answer.{finding_at, found, first_break, outcomes_of};
@@ -88,27 +88,32 @@ impl Model for Tables {
 }
 
 impl Table {
-    fn new(alloc: Global, hashing: RandomState) -> Table
-        ensures { result ≡ [] }
-    {
-        Table {
-            findings: IndexMap::with_hasher(alloc, hashing),
-        }
-    }
-
-    /// A table of these findings, or None where an id is listed twice. The error is a failed allocation.
-    fn copy_of(
+    /// An empty table with room for so many findings. The error is a failed allocation.
+    fn with_capacity(
         alloc: Global,
         hashing: RandomState,
-        findings: &[ListedFinding<'_>],
-    ) -> Result<Option<Table>, AllocError>
-        requires { list_any (λ e. is_not_whole e.1) findings.now ≡ false }
-        ensures { IfOk result (λ t. t ≡ (if repeats findings.now then None else Some findings.now)) }
+        capacity: usize,
+    ) -> Result<Table, AllocError>
+        ensures { IfOk result (λ t. t ≡ []) }
     {
-        let mut table = Table::new(alloc, hashing);
+        let findings = IndexMap::with_capacity_and_hasher(alloc, capacity, hashing)?;
+        Ok(Table { findings })
+    }
+
+    /// The table of these findings, or None where an id is listed twice. The error is a failed allocation.
+    fn from_listed(
+        alloc: Global,
+        hashing: RandomState,
+        findings: Vec<ListedFinding>,
+    ) -> Result<Option<Table>, AllocError>
+        requires { list_any (λ e. is_not_whole e.1) findings.items ≡ false }
+        ensures { IfOk result (λ t. t ≡ (if repeats findings.items then None else Some findings.items)) }
+    {
+        let mut table = Table::with_capacity(alloc, hashing, findings.len())?;
         for listed in findings {
-            let finding = listed.to_finding(alloc)?;
-            if !table.add(alloc, listed.id(), finding)? {
+            let (id, listed) = listed.into_parts();
+            let finding = listed.into_finding(alloc)?;
+            if !table.add(id, finding)? {
                 return Ok(None);
             }
         }
@@ -117,11 +122,10 @@ impl Table {
 
     /// Adds a finding under a new id. Where the id is listed, the finding takes the place of its own,
     /// and the answer is false. The error is a failed allocation.
-    fn add(&mut self, alloc: Global, id: &str, finding: Finding) -> Result<bool, AllocError>
-        ensures found { IfOk result (λ new. new ≡ not (lists id.now self.old)) }
-        ensures added { result ≡ Ok true → self.new ≡ self.old ++ (id.now, finding) ∷ [] }
+    fn add(&mut self, id: String, finding: Finding) -> Result<bool, AllocError>
+        ensures found { IfOk result (λ new. new ≡ not (lists (string_bytes id) self.old)) }
+        ensures added { result ≡ Ok true → self.new ≡ self.old ++ (string_bytes id, finding) ∷ [] }
     {
-        let id = String::from_str(alloc, id)?;
         Ok(self.findings.insert(id, finding)?.is_none())
     }
 
@@ -156,8 +160,25 @@ impl Tables {
         ensures passes { OnOk result ((f : TableFault) → Causes Spells (view value.now) f → ⊥) }
         ensures err { IfErr result (RefusedFor Spells (view value.now)) }
     {
+        Tables::from_owned_value(alloc, hashing, value.clone()?)
+    }
+
+    /// The tables that a JSON value spells, as [`from_value`](Tables::from_value) reads them. Rows and ids are moved out of the
+    /// value, and not copied.
+    ///
+    /// # Errors
+    /// Those of [`from_value`](Tables::from_value).
+    pub fn from_owned_value(
+        alloc: Global,
+        hashing: RandomState,
+        value: Value,
+    ) -> Result<Tables, TableFault>
+        ensures ok { IfOk result (Spells (view value)) }
+        ensures passes { OnOk result ((f : TableFault) → Causes Spells (view value) f → ⊥) }
+        ensures err { IfErr result (RefusedFor Spells (view value)) }
+    {
         let listed = read_tables(alloc, Version::First, value)?;
-        Tables::from_listed(alloc, hashing, &listed)
+        Tables::from_listed(alloc, hashing, listed)
     }
 
     /// The tables that a JSON value spells, as [`from_value`](Tables::from_value) reads them, but for one more member that a
@@ -176,63 +197,81 @@ impl Tables {
         ensures passes { OnOk result ((f : TableFault) → Causes SpellsWithNumbers (view value.now) f → ⊥) }
         ensures err { IfErr result (RefusedFor SpellsWithNumbers (view value.now)) }
     {
+        Tables::from_owned_value_2(alloc, hashing, value.clone()?)
+    }
+
+    /// The tables that a JSON value spells, and their numbers, as [`from_value_2`](Tables::from_value_2) reads them. Rows and ids
+    /// are moved out of the value, and not copied.
+    ///
+    /// # Errors
+    /// Those of [`from_value_2`](Tables::from_value_2).
+    pub fn from_owned_value_2(
+        alloc: Global,
+        hashing: RandomState,
+        value: Value,
+    ) -> Result<(Tables, Vec<TableNumber>), TableFault>
+        ensures ok { IfOk result (λ p. SpellsNumbered (view value) p.0 p.1.items) }
+        ensures passes { OnOk result ((f : TableFault) → Causes SpellsWithNumbers (view value) f → ⊥) }
+        ensures err { IfErr result (RefusedFor SpellsWithNumbers (view value)) }
+    {
         let listed = read_tables(alloc, Version::Second, value)?;
-        let tables = Tables::from_listed(alloc, hashing, &listed)?;
-        let numbers = numbers_of(alloc, &listed)?;
+        let numbers = numbers_of(alloc, listed.as_slice())?;
+        let tables = Tables::from_listed(alloc, hashing, listed)?;
         Ok((tables, numbers))
     }
 
-    /// Copies of the tables that a document lists, or their least fault.
+    /// The tables that a document lists, or their least fault.
     fn from_listed(
         alloc: Global,
         hashing: RandomState,
-        listed: &[ListedTable<'_>],
+        listed: Vec<ListedTable>,
     ) -> Result<Tables, TableFault>
-        ensures ok { IfOk result (λ t. (t ≡ tables_of listed.now) × (fault_of (tables_of listed.now) ≡ None)) }
-        ensures err { IfErr result (λ f. (f ≡ TableFault.OutOfMemory) ⊎ (fault_of (tables_of listed.now) ≡ Some f)) }
+        ensures ok { IfOk result (λ t. (t ≡ tables_of listed.items) × (fault_of (tables_of listed.items) ≡ None)) }
+        ensures err { IfErr result (λ f. (f ≡ TableFault.OutOfMemory) ⊎ (fault_of (tables_of listed.items) ≡ Some f)) }
     {
-        if let Some(fault) = content_fault(listed) {
+        if let Some(fault) = content_fault(listed.as_slice()) {
             return Err(fault);
         }
-        if repeats_name(alloc, hashing, listed)? {
+        if repeats_name(alloc, hashing, listed.as_slice())? {
             return Err(TableFault::DuplicateTable);
         }
-        Tables::copy_of(alloc, hashing, listed)
+        Tables::from_tested(alloc, hashing, listed)
     }
 
-    /// Copies of these tables, or the one fault that is found only now, that an id is listed twice.
-    fn copy_of(
+    /// These tables, which passed the other tests, or the one fault that is found only now, that an id is listed twice.
+    fn from_tested(
         alloc: Global,
         hashing: RandomState,
-        listed: &[ListedTable<'_>],
+        listed: Vec<ListedTable>,
     ) -> Result<Tables, TableFault>
-        requires names { repeats (tables_of listed.now) ≡ false }
-        requires whole { has_other_number (tables_of listed.now) ≡ false }
-        ensures ok { IfOk result (λ t. (t ≡ tables_of listed.now) × (has_repeated_key (tables_of listed.now) ≡ false)) }
-        ensures err { IfErr result (λ f. (f ≡ TableFault.OutOfMemory) ⊎ ((f ≡ TableFault.DuplicateKey) × (has_repeated_key (tables_of listed.now) ≡ true))) }
+        requires names { repeats (tables_of listed.items) ≡ false }
+        requires whole { has_other_number (tables_of listed.items) ≡ false }
+        ensures ok { IfOk result (λ t. (t ≡ tables_of listed.items) × (has_repeated_key (tables_of listed.items) ≡ false)) }
+        ensures err { IfErr result (λ f. (f ≡ TableFault.OutOfMemory) ⊎ ((f ≡ TableFault.DuplicateKey) × (has_repeated_key (tables_of listed.items) ≡ true))) }
     {
         let mut tables = Tables::new(alloc, hashing)?;
         for table in listed {
-            tables.add_copy(alloc, hashing, table)?;
+            tables.add_listed(alloc, hashing, table)?;
         }
         Ok(tables)
     }
 
-    /// Adds a copy of a table under a new name, unless the table lists an id twice.
-    fn add_copy(
+    /// Adds a table under a new name, unless the table lists an id twice.
+    fn add_listed(
         &mut self,
         alloc: Global,
         hashing: RandomState,
-        listed: &ListedTable<'_>,
+        listed: ListedTable,
     ) -> Result<(), TableFault>
-        requires name { lists listed.now.name self.old ≡ false }
-        requires whole { list_any (λ e. is_not_whole e.1) listed.now.findings ≡ false }
-        ensures ok { OnOk result ((self.new ≡ self.old ++ table_of listed.now ∷ []) × (repeats listed.now.findings ≡ false)) }
-        ensures err { IfErr result (λ f. (f ≡ TableFault.OutOfMemory) ⊎ ((f ≡ TableFault.DuplicateKey) × (repeats listed.now.findings ≡ true))) }
+        requires name { lists listed.name self.old ≡ false }
+        requires whole { list_any (λ e. is_not_whole e.1) listed.findings ≡ false }
+        ensures ok { OnOk result ((self.new ≡ self.old ++ table_of listed ∷ []) × (repeats listed.findings ≡ false)) }
+        ensures err { IfErr result (λ f. (f ≡ TableFault.OutOfMemory) ⊎ ((f ≡ TableFault.DuplicateKey) × (repeats listed.findings ≡ true))) }
     {
-        let copy = Table::copy_of(alloc, hashing, listed.findings())?;
-        let copy = copy.ok_or(TableFault::DuplicateKey)?;
-        self.add(alloc, listed.name(), copy)?;
+        let (name, findings) = listed.into_parts();
+        let table = Table::from_listed(alloc, hashing, findings)?;
+        let table = table.ok_or(TableFault::DuplicateKey)?;
+        self.add(name, table)?;
         Ok(())
     }
 
@@ -249,11 +288,10 @@ impl Tables {
     }
 
     /// Adds a table under a new name. The error is a failed allocation.
-    fn add(&mut self, alloc: Global, name: &str, table: Table) -> Result<(), AllocError>
-        requires { lists name.now self.old ≡ false }
-        ensures { OnOk result (self.new ≡ self.old ++ (name.now, table) ∷ []) }
+    fn add(&mut self, name: String, table: Table) -> Result<(), AllocError>
+        requires { lists (string_bytes name) self.old ≡ false }
+        ensures { OnOk result (self.new ≡ self.old ++ (string_bytes name, table) ∷ []) }
     {
-        let name = String::from_str(alloc, name)?;
         self.tables.insert(name, table)?;
         Ok(())
     }

@@ -39,13 +39,16 @@ pair_in finding_of (item k (item v (item w ds))) = None
 abbrev pub finding_in : (Data → Option Finding) → Data → Option (List ℕ × Finding)
 finding_in finding_of d = option_and_then (pair_in finding_of) (as_array d)
 
+-- the findings that the members `rows`, `errors` and `breaks` list, in this order
+abbrev pub findings_given : Option Data → Option Data → Option Data → Option Table
+findings_given rows errors breaks =
+    option_and_then (λ rs. option_and_then (λ es. option_map (λ bs. rs ++ es ++ bs) (optional_in (finding_in break_text_of) breaks))
+    (optional_in (finding_in error_of) errors))
+    (member_in (finding_in row_of) rows)
+
 -- the findings of an object's members, in their order
 abbrev pub findings_in : Data → Option Table
-findings_in d =
-    option_and_then (λ rows. option_and_then (λ errors. option_map (λ breaks. rows ++ errors ++ breaks)
-    (optional_in (finding_in break_text_of) (get (codes "breaks") d)))
-    (optional_in (finding_in error_of) (get (codes "errors") d)))
-    (member_in (finding_in row_of) (get (codes "rows") d))
+findings_in d = findings_given (get (codes "rows") d) (get (codes "errors") d) (get (codes "breaks") d)
 
 -- the number that a member is, and none where it is absent
 abbrev pub number_in : Option Data → Option (Option ℤ)
@@ -59,10 +62,13 @@ abbrev pub is_member_of : Version → List ℕ → Bool
 is_member_of First = is_table_member
 is_member_of Second = is_numbered_member
 
--- a table's number, which the first version doesn't know
+-- the number that a table's member gives, of which the first version knows none
+abbrev pub number_given : Version → Option Data → Option (Option ℤ)
+number_given First m = Some None
+number_given Second m = number_in m
+
 abbrev pub number_by : Version → Data → Option (Option ℤ)
-number_by First d = Some None
-number_by Second d = number_in (get (codes "maxBatchSize") d)
+number_by version d = number_given version (get (codes "maxBatchSize") d)
 
 abbrev pub numbered_in : Version → Data → Option NumberedTable
 numbered_in version d =

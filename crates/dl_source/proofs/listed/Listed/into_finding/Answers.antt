@@ -1,11 +1,8 @@
 use Rattle.std.proofs.lemmas.Result.{IfOk-from_err}
-use Rattle.dl_source.proofs.listed.Listed.to_finding.Goals as goal
-
-pub returns-in_err-clone-in-Row : goal.returns-in_err-clone-in-Row
-returns-in_err-clone-in-Row c = IfOk-from_err _ _ c.from_residual.ensures.0
+use Rattle.dl_source.proofs.listed.Listed.into_finding.Goals as goal
 
 pub returns-in_err-new-in-Row : goal.returns-in_err-new-in-Row
-returns-in_err-new-in-Row c = IfOk-from_err _ _ c.from_residual-in_err-new-in-Row.ensures.0
+returns-in_err-new-in-Row c = IfOk-from_err _ _ c.from_residual.ensures.0
 
 pub returns-in_err-new-in-Error : goal.returns-in_err-new-in-Error
 returns-in_err-new-in-Error c = IfOk-from_err _ _ c.from_residual-in_err-new-in-Error.ensures.0
