@@ -29,12 +29,8 @@ impl<'a> Watched<'a> {
     }
 
     /// Shows a value in the cell. The answer is the value, where it came back.
-    fn show(&mut self, rt: &impl Abort, alloc: Global, value: u8) -> Option<u8> {
-        let value = Box::new(alloc, value).expect(rt, "no memory");
-        match self.row.show(self.place, &mut self.reader, value) {
-            Ok(()) => None,
-            Err(back) => Some(Box::into_inner(back)),
-        }
+    fn show(&mut self, value: u8) -> Option<u8> {
+        self.row.show(self.place, &mut self.reader, value).err()
     }
 
     /// What the cell shows.
@@ -51,20 +47,15 @@ static ROWS: [(u32, u32, u32, u8); 3] = [
 ];
 
 /// A cell shows nothing, then the value, and no other after it, also to a fresh reader. Another cell stays empty.
-fn assert_answers(rt: &impl Abort, alloc: Global, row: &CellRow<u8>, place: u32, value: u8)
+fn assert_answers(rt: &impl Abort, row: &CellRow<u8>, place: u32, value: u8)
     requires { place < row_len row.now }
 {
     let mut cell = Watched::new(rt, row, place);
     assert_is(rt, &cell.look(), &None, "before it is set");
-    assert_is(rt, &cell.show(rt, alloc, value), &None, "what came back");
+    assert_is(rt, &cell.show(value), &None, "what came back");
     assert_is(rt, &cell.look(), &Some(value), "what is shown");
     let other = value.wrapping_add(1);
-    assert_is(
-        rt,
-        &cell.show(rt, alloc, other),
-        &Some(other),
-        "what came back then",
-    );
+    assert_is(rt, &cell.show(other), &Some(other), "what came back then");
     assert_is(rt, &cell.look(), &Some(value), "what is shown still");
     let fresh = Watched::new(rt, row, place).look();
     assert_is(rt, &fresh, &Some(value), "by a fresh reader");
@@ -77,35 +68,28 @@ fn cells_answer(rt: HostRuntime) {
         assert!(rt; *place < *len && *other < *len);
         let mut beside = Watched::new(&rt, &row, *other);
         assert_is(&rt, &beside.look(), &None, "the other before");
-        assert_answers(&rt, rt.alloc(), &row, *place, *value);
+        assert_answers(&rt, &row, *place, *value);
         let want = (*place == *other).then_some(*value);
         assert_is(&rt, &beside.look(), &want, "the other after");
     }
 }
 
 /// Shows a copy of the value in a cell. The answer is whether it was set.
-fn show_copy(
-    rt: &impl Abort,
-    alloc: Global,
-    row: &CellRow<Arc<u8>>,
-    place: u32,
-    value: &Arc<u8>,
-) -> bool
+fn show_copy(rt: &impl Abort, row: &CellRow<Arc<u8>>, place: u32, value: &Arc<u8>) -> bool
     requires { place < row_len row.now }
 {
     let mut reader = row.reader(place).expect(rt, "no memory");
     let copy = value.clone().expect(rt, "no memory");
-    let copy = Box::new(alloc, copy).expect(rt, "no memory");
     row.show(place, &mut reader, copy).is_ok()
 }
 
 /// Shows copies of the value in a new row: in each of two cells one, and one that comes back.
 fn show_copies(rt: &impl Abort, alloc: Global, value: &Arc<u8>) {
     let row = CellRow::new(alloc, 65).expect(rt, "no memory");
-    assert!(rt; show_copy(rt, alloc, &row, 0, value));
-    assert!(rt; !show_copy(rt, alloc, &row, 0, value));
-    assert!(rt; show_copy(rt, alloc, &row, 64, value));
-    assert!(rt; !show_copy(rt, alloc, &row, 64, value));
+    assert!(rt; show_copy(rt, &row, 0, value));
+    assert!(rt; !show_copy(rt, &row, 0, value));
+    assert!(rt; show_copy(rt, &row, 64, value));
+    assert!(rt; !show_copy(rt, &row, 64, value));
     assert_is(rt, &Arc::strong_count(value), &3, "two that are shown");
 }
 
@@ -126,22 +110,23 @@ fn look_again(cell: &Watched<'_>) -> Option<u8> {
 fn threads_look_by_one_shared_reader(rt: HostRuntime) {
     let row = CellRow::new(rt.alloc(), 1).expect(&rt, "no memory");
     let mut cell = Watched::new(&rt, &row, 0);
-    assert_is(&rt, &cell.show(&rt, rt.alloc(), 3), &None, "what came back");
+    assert_is(&rt, &cell.show(3), &None, "what came back");
     let shared = &cell;
     let seen = thread::join(&rt, move || look_again(shared), move || look_again(shared));
     assert_is(&rt, &seen, &(Some(3), Some(3)), "what is seen");
 }
 
 /// Shows a value in cell 0, and then looks, by a reader of its own: whether the value was set, and what is seen.
-fn show_and_look(rt: &impl Abort, alloc: Global, row: &CellRow<u8>, value: u8) -> (bool, Option<u8>)
+fn show_and_look(rt: &impl Abort, row: &CellRow<u8>, value: u8) -> (bool, Option<u8>)
     requires { 0 < row_len row.now }
 {
     let mut cell = Watched::new(rt, row, 0);
-    let is_set = cell.show(rt, alloc, value).is_none();
+    let is_set = cell.show(value).is_none();
     (is_set, cell.look())
 }
 
-/// Two threads race to set one cell, one to 5 and one to 6. One of them wins, and both see its value.
+/// Two threads race to set one cell, one to 5 and one to 6. One of them wins. Who sees a value sees its value, and the other
+/// thread may look while it is still being set.
 fn race<R: Abort + Threads + Sync>(rt: &R, alloc: Global) {
     let row = CellRow::new(alloc, 1).expect(rt, "no memory");
     let shared = &row;
@@ -149,14 +134,18 @@ fn race<R: Abort + Threads + Sync>(rt: &R, alloc: Global) {
         rt,
         move || -> (bool, Option<u8>)
             requires { 0 < row_len shared.now }
-        { show_and_look(rt, alloc, shared, 5) },
+        { show_and_look(rt, shared, 5) },
         move || -> (bool, Option<u8>)
             requires { 0 < row_len shared.now }
-        { show_and_look(rt, alloc, shared, 6) },
+        { show_and_look(rt, shared, 6) },
     );
     assert!(rt; is_five != is_six);
-    let won = if is_five { Some(5) } else { Some(6) };
-    assert_is(rt, &(first, second), &(won, won), "what is seen");
+    let won = if is_five { 5 } else { 6 };
+    for seen in [first, second] {
+        assert!(rt; seen.is_none_or(|value| value == won));
+    }
+    let fresh = Watched::new(rt, shared, 0).look();
+    assert_is(rt, &fresh, &Some(won), "what is seen after both");
 }
 
 #[test]

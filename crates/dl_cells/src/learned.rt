@@ -1,7 +1,7 @@
 //! What was learned of one `OnceBox`, in a form that can be read through a shared reference.
-ghost use Rattle.std.specs.Prelude.{◌≡◌, ℕ, IfSome, IsSome, MatchOption, MatchResult};
+ghost use Rattle.std.specs.Prelude.{◌≡◌, ℕ, IfSome, IsSome};
 ghost use Rattle.std.specs.declared.option.Option.{Option};
-ghost use Rattle.std.specs.declared.option.Option.TheVariants.{None, Some};
+ghost use Rattle.std.specs.declared.option.Option.TheVariants.{Some};
 ghost use Rattle.std.specs.Coded.{coded_option};
 ghost use denote.Sharing.{said};
 ghost use Rattle.once_cell.specs.Once.{noted, cell_name};
@@ -82,34 +82,6 @@ impl<T> Learned<T> {
             Some(value) => value,
             None => unreachable!(),
         }
-    }
-
-    /// The value of the cell, if it is set, which is known from then on.
-    pub(crate) fn look<'a>(&mut self, cell: &'a OnceBox<T>) -> Option<&'a T>
-        requires { self.old.cell ≡ cell_name cell.now }
-        ensures cell { self.new.cell ≡ self.old.cell }
-        ensures value { MatchOption result ((self.old.known ≡ None) × (self.new.known ≡ None))
-            (λ r. (self.new.known ≡ Some r.now) × Agrees self.old.known r.now) }
-    {
-        let mut note = self.note(cell);
-        let value = cell.get_as(&mut note);
-        *self = Learned::of(&mut note);
-        value
-    }
-}
-
-impl<T: Drop> Learned<T> {
-    /// Sets the cell, or hands `value` back where it was set before. Either way its value is known from then on.
-    pub(crate) fn show(&mut self, cell: &OnceBox<T>, value: Box<T>) -> Result<(), Box<T>>
-        requires { self.old.cell ≡ cell_name cell.now }
-        ensures cell { self.new.cell ≡ self.old.cell }
-        ensures known { (x : T) × (self.new.known ≡ Some x) × Agrees self.old.known x }
-        ensures value { MatchResult result (λ _. (self.new.known ≡ Some value.value) × (self.old.known ≡ None)) (λ b. b.value ≡ value.value) }
-    {
-        let mut note = self.note(cell);
-        let shown = cell.set_as(value, &mut note);
-        *self = Learned::of(&mut note);
-        shown
     }
 }
 

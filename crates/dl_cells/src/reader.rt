@@ -6,29 +6,31 @@ ghost use Rattle.dl_cells.specs.Cells.{Agrees};
 
 use crate::learned::Learned;
 use crate::segment::Segment;
+use boxcar::slot::Written;
 use std::marker::Model;
 
 /// What one holder knows of one cell of a `CellRow`: nothing yet, or the cell's value for good.
 ///
 /// In clauses it is a `Reader`: `cell` says which cell it is of, and `known` is the value, once it
-/// was seen. A reader borrows nothing, and may lie in a struct or go to another thread. It takes the
-/// four bytes of its place.
+/// was seen. A reader borrows nothing, and may lie in a struct or go to another thread. It takes eight
+/// bytes.
 #[derive(Drop)]
 pub struct Reader<T> {
     pub(crate) segment: Learned<Segment<T>>,
     pub(crate) place: u32,
-    pub(crate) value: Learned<T>,
+    // What shows that the cell holds its value, once the holder has seen that.
+    pub(crate) value: Option<Written<T>>,
 }
 
 impl<T> Model for Reader<T> {
-    ghost use Rattle.std.specs.Prelude.{◌≡◌, IsSomeAnd, slice_index};
+    ghost use Rattle.std.specs.Prelude.{◌≡◌, IfSome, IsSomeAnd, option_map, slice_index};
     ghost use Rattle.dl_cells.specs.Cells.{Reader};
 
     ghost Value = { Reader T };
 
-    ghost view = { λ r. record { cell = record { segment = r.segment.cell; place = r.place }; known = r.value.known } };
+    ghost view = { λ r. record { cell = record { segment = r.segment.cell; place = r.place }; known = option_map (λ w. w.value) r.value } };
 
-    ghost invariant = { λ r. IsSomeAnd r.segment.known (λ names. r.value.cell ≡ slice_index names r.place) };
+    ghost invariant = { λ r. IsSomeAnd r.segment.known (λ names. IfSome r.value (λ w. w.of ≡ slice_index names r.place)) };
 }
 
 impl<T> Reader<T> {
@@ -39,7 +41,7 @@ impl<T> Reader<T> {
         Reader {
             segment: self.segment.again(),
             place: self.place,
-            value: self.value.again(),
+            value: self.value.as_ref().map(|written| written.again()),
         }
     }
 
@@ -49,6 +51,8 @@ impl<T> Reader<T> {
         ensures { IfSome other.now.known (Agrees self.now.known) }
     {
         self.segment.agrees(&other.segment);
-        self.value.agrees(&other.value);
+        if let (Some(own), Some(others)) = (&self.value, &other.value) {
+            own.agrees(others);
+        }
     }
 }

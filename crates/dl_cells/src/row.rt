@@ -60,36 +60,36 @@ impl<T: Drop> CellRow<T> {
         let alloc = *self.segments.allocator();
         let home = self.home(i);
         let mut note = home.note();
-        let place = i % SEGMENT;
-        let segment = match home.get_as(&mut note) {
-            Some(segment) => segment,
-            None => {
-                let make = move || -> Result<Box<Segment<T>>, AllocError> {
-                    Ok(Box::new(alloc, Segment::new(alloc))?)
-                };
-                home.get_or_try_init_as(make, &mut note)?
-            }
-        };
-        let cell = segment.cell(place);
+        if home.get_as(&mut note).is_none() {
+            let make = move || -> Result<Box<Segment<T>>, AllocError> {
+                Ok(Box::new(alloc, Segment::new(alloc)?)?)
+            };
+            home.get_or_try_init_as(make, &mut note)?;
+        }
         Ok(Reader {
             segment: Learned::of(&mut note),
-            place,
-            value: Learned::of(&mut cell.note()),
+            place: i % SEGMENT,
+            value: None,
         })
     }
 
     /// Sets cell `i` to `value`: the reader then knows that value, and knew nothing before. Where the
-    /// cell was set before, hands `value` back: the reader then knows the value that is there.
-    pub fn show(&self, i: u32, reader: &mut Reader<T>, value: Box<T>) -> Result<(), Box<T>>
+    /// cell was set before, or another thread is setting it, hands `value` back.
+    pub fn show(&self, i: u32, reader: &mut Reader<T>, value: T) -> Result<(), T>
         requires in_row { i < row_len self.now }
         requires of_cell { reader.old.cell ≡ cell_of self.now i }
         ensures cell { reader.new.cell ≡ reader.old.cell }
-        ensures known { (x : T) × (reader.new.known ≡ Some x) × Agrees reader.old.known x }
-        ensures ok { OnOk result ((reader.new.known ≡ Some value.value) × (reader.old.known ≡ None)) }
-        ensures err { IfErr result (λ back. back.value ≡ value.value) }
+        ensures ok { OnOk result ((reader.new.known ≡ Some value) × (reader.old.known ≡ None)) }
+        ensures err { IfErr result (λ back. (back ≡ value) × (reader.new.known ≡ reader.old.known)) }
     {
         let segment = reader.segment.get(self.home(i));
-        reader.value.show(segment.cell(i % SEGMENT), value)
+        let cell = segment.cell(i % SEGMENT);
+        let shown = match &reader.value {
+            Some(written) => cell.set_seen(value, written),
+            None => cell.set_written(value),
+        };
+        reader.value = Some(shown?);
+        Ok(())
     }
 }
 
@@ -104,7 +104,14 @@ impl<T> CellRow<T> {
         ensures empty { IfNone result ((reader.old.known ≡ None) × (reader.new.known ≡ None)) }
     {
         let segment = reader.segment.get(self.home(i));
-        reader.value.look(segment.cell(i % SEGMENT))
+        let cell = segment.cell(i % SEGMENT);
+        if reader.value.is_none() {
+            reader.value = cell.witness();
+        }
+        match &reader.value {
+            Some(written) => Some(cell.value(written)),
+            None => None,
+        }
     }
 
     /// The cell that the segment of cell `i` is kept in.

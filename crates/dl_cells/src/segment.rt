@@ -1,42 +1,54 @@
 //! Sixty-four cells that are made together.
-ghost use Rattle.std.specs.Prelude.{◌≡◌, ◌<◌, ℕ, slice_index};
-ghost use Rattle.once_cell.specs.Once.{cell_name};
+ghost use Rattle.std.specs.Prelude.{◌≡◌, ◌<◌, slice_index, ⊤};
 
-use once_cell::race::OnceBox;
-use std::alloc::Global;
-use std::array;
+use boxcar::slot::{OnceSlot, SlotRule};
+use boxcar::tag::Tag;
+use std::alloc::{AllocError, Global};
 use std::marker::Model;
 
 /// How many cells a segment has. The definitions of specs/ write the number.
 pub(crate) const SEGMENT: u32 = 64;
 
+/// The rule that every value keeps.
+pub(crate) struct AnyValue;
+
+impl<T> SlotRule<T> for AnyValue {
+    ghost holds = { λ _ _. ⊤ };
+}
+
+/// A cell, which holds its value in place.
+pub(crate) type Cell<T> = OnceSlot<T, AnyValue>;
+
 /// Sixty-four cells, in clauses the list of their names.
 #[derive(Drop)]
 pub(crate) struct Segment<T> {
-    cells: [OnceBox<T>; SEGMENT as usize],
+    cells: Vec<Cell<T>>,
 }
 
 impl<T> Model for Segment<T> {
-    ghost use Rattle.std.specs.Prelude.{List, ℕ, map};
-    ghost use Rattle.once_cell.specs.Once.{cell_name};
+    ghost use Rattle.std.specs.Prelude.{◌≡◌, List, ℕ, map, length};
 
     ghost Value = { List ℕ };
 
-    ghost view = { λ s. map cell_name s.cells };
+    ghost view = { λ s. map (λ cell. cell.id) s.cells.items };
+
+    ghost invariant = { λ s. length s.cells.items ≡ 64 };
+}
+
+impl<T: Drop> Segment<T> {
+    /// A segment of empty cells. The error is a failed allocation.
+    pub(crate) fn new(alloc: Global) -> Result<Segment<T>, AllocError> {
+        let mut cells = Vec::new(alloc);
+        cells.resize_with(SEGMENT as usize, || OnceSlot::new(&Tag::empty()))?;
+        Ok(Segment { cells })
+    }
 }
 
 impl<T> Segment<T> {
-    /// A segment of empty cells.
-    pub(crate) fn new(alloc: Global) -> Segment<T> {
-        Segment {
-            cells: array::from_fn(|_| OnceBox::new(alloc)),
-        }
-    }
-
     /// The cell at a place.
-    pub(crate) fn cell(&self, place: u32) -> &OnceBox<T>
+    pub(crate) fn cell(&self, place: u32) -> &Cell<T>
         requires { place < SEGMENT }
-        ensures { cell_name result.now ≡ slice_index self.now place }
+        ensures { result.now.id ≡ slice_index self.now place }
     {
         &self.cells[place as usize]
     }

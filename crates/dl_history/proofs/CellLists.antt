@@ -1,7 +1,6 @@
 -- Lists of cells: with more that wait, and with one that is set.
 use Rattle.std.proofs.Common.{◌≡◌, ◌∙◌, sym, ap, subst, ℕ, zero, suc, ◌-◌, ◌<◌, ◌≤◌, ◌⊎◌, inl, inr, Bool, true, false, List, [], ◌∷◌, ◌++◌, length, set, Option}
 use Rattle.std.proofs.Common.{Some, None, MatchBool, slice_get, refl, arith}
-use Rattle.std.specs.Global.{Box}
 use Rattle.std.specs.List.{repeat}
 use Rattle.dl_history.specs.declared.event.Ending.{Ending}
 use Rattle.dl_history.specs.declared.cell_state.Mark.{Mark}
@@ -62,9 +61,8 @@ pub ended_shows : (end : Ending) → ShowsEnd (Some end) (showing end).mark (sho
 ended_shows end = (refl, refl)
 
 -- and one that refused it keeps it, whatever else it shows
-pub refused_shows : (end : Ending) (kept : Box Ending) (other : Option Ending) → kept.value ≡ end
-    → ShowsEnd (Some end) (refused kept other).mark (refused kept other).shows
-refused_shows end kept other same = ap (λ (e : Ending). Some e) (sym same)
+pub refused_shows : (end : Ending) (other : Option Ending) → ShowsEnd (Some end) (refused end other).mark (refused end other).shows
+refused_shows end other = refl
 
 -- a cell that shows an end shows an equal one
 pub shows_same : (old new : Option Ending) (x : Cell) → new ≡ old → ShowsEnd old x.mark x.shows → ShowsEnd new x.mark x.shows
@@ -76,7 +74,7 @@ cell mark shows = record { mark = mark; shows = shows }
 open_at : (mark : Mark) (shows : Option Ending) → ShowsEnd None mark shows → cell mark shows ≡ waiting
 open_at Waiting shows is = ap (cell Waiting) is.1
 open_at Ended shows is = absurd (let bad : false ≡ true = is.0 in cc)
-open_at (Refused kept) shows is = absurd (let bad : ◌≡◌ {A = Option Ending} None (Some kept.value) = is in cc)
+open_at (Refused kept) shows is = absurd (let bad : ◌≡◌ {A = Option Ending} None (Some kept) = is in cc)
 
 -- a cell that shows that it has no end waits
 pub open_waits : (x : Cell) → ShowsEnd None x.mark x.shows → x ≡ waiting
@@ -86,4 +84,4 @@ open_waits x shows = open_at x.mark x.shows shows
 pub gets_end : (took : Bool) (old new : List Cell) (c : ℕ) (end : Ending) → MatchBool took (new ≡ set old c (showing end)) (Refuses old new c end)
     → (x : Cell) × (new ≡ set old c x) × ShowsEnd (Some end) x.mark x.shows
 gets_end true old new c end is = (showing end, is, ended_shows end)
-gets_end false old new c end is = (refused is.0 is.1, is.3, refused_shows end is.0 is.1 is.2)
+gets_end false old new c end is = (refused end is.0, is.1, refused_shows end is.0)

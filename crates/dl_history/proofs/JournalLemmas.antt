@@ -2,7 +2,6 @@
 use Rattle.std.proofs.Common.{◌≡◌, ◌∙◌, sym, ap, ℕ, ◌+◌, ◌<◌, ◌⊎◌, Bool, true, false, List, [], ◌∷◌, ◌++◌, length, set, Some, MatchBool, slice_get, nat_lt}
 use Rattle.std.proofs.Common.{Option, None, IfSome, IfNone, option_map, refl, arith}
 use Rattle.std.proofs.Common.{inl, inr, length-append}
-use Rattle.std.specs.Global.{Box}
 use Rattle.std.proofs.lemmas.List.{map-set}
 use Rattle.std.proofs.lemmas.Bool.{ltb-false}
 use Rattle.std.proofs.lemmas.Option.{slice_get-map, slice_get_past}
@@ -84,11 +83,11 @@ journal_event {log} {outcomes} {fields} counted readers r old grown count new = 
 
 -- the cells, once a state has its end
 pub cells_ended : (states : List CellState) (c : ℕ) (s : CellState) (e : Ending) (took : Bool)
-    → MatchBool took ((s.mark ≡ Ended) × (s.reader.known ≡ Some e)) ((kept : Box Ending) × (s.mark ≡ Refused kept) × (kept.value ≡ e))
+    → MatchBool took ((s.mark ≡ Ended) × (s.reader.known ≡ Some e)) (s.mark ≡ Refused e)
     → MatchBool took (cells_by (set states c s) ≡ set (cells_by states) c (showing e)) (Refuses (cells_by states) (cells_by (set states c s)) c e)
 cells_ended states c s e true is =
     let cell : cell_by s ≡ showing e = rw (is.0, is.1) refl in
     map-set cell_by states c s ∙ ap (λ (x : Cell). set (cells_by states) c x) cell
 cells_ended states c s e false is =
-    let cell : cell_by s ≡ refused is.0 s.reader.known = rw is.1 refl in
-    (is.0, s.reader.known, is.2, map-set cell_by states c s ∙ ap (λ (x : Cell). set (cells_by states) c x) cell)
+    let cell : cell_by s ≡ refused e s.reader.known = rw is refl in
+    (s.reader.known, map-set cell_by states c s ∙ ap (λ (x : Cell). set (cells_by states) c x) cell)

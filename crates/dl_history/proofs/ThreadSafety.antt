@@ -80,8 +80,11 @@ Event-send = search (Call-field-send, reply.the_field_send, owners_cross, sendab
 pub Event-sync : IsSync Event.the_row
 Event-sync = search (Call-field-sync, reply.the_field_sync, owners_cross, sendable) depth 40
 
+pub Ending-field-send : IsSend Ending.the_field.row
+Ending-field-send = search (Outcome-field-send, owners_cross, sendable) depth 40
+
 pub Mark-field-send : IsSend Mark.the_field.row
-Mark-field-send = search (Ending-send, owners_cross, sendable) depth 40
+Mark-field-send = search (Ending-field-send, owners_cross, sendable) depth 40 fits 20000
 
 pub CellState-send : IsSend CellState.the_row
 CellState-send = search (Mark-field-send, reader.the_send, owners_cross, sendable) depth 40

@@ -1,6 +1,5 @@
 -- What contracts see of the events and the cells of a loader, and what holds of the fields behind them.
 use Rattle.std.specs.Prelude.{◌≡◌, ℕ, Bool, true, false, count_by, ◌+◌, ◌<◌, List, length, map, set, Option, Some, None, slice_get}
-use Rattle.std.specs.Global.{Box}
 use Rattle.dl_cells.specs.Cells.{RowName, cell_of, row_len, Reader}
 use Rattle.dl_history.specs.Entries.{event_known}
 use Rattle.dl_history.specs.declared.event.Event.{Event}
@@ -24,7 +23,7 @@ abbrev pub showing : Ending → Cell
 showing e = record { mark = Ended; shows = Some e }
 
 -- a cell that had something else, with the end that it refused
-abbrev pub refused : Box Ending → Option Ending → Cell
+abbrev pub refused : Ending → Option Ending → Cell
 refused kept other = record { mark = Refused kept; shows = other }
 
 abbrev pub is_refused : Mark → Bool
@@ -42,7 +41,7 @@ refusals cells = count_by (λ x. is_refused x.mark) cells
 
 -- the cells once one of them refused this end
 abbrev pub Refuses : List Cell → List Cell → ℕ → Ending → Type 0
-Refuses before now c end = (kept : Box Ending) × (other : Option Ending) × (kept.value ≡ end) × (now ≡ set before c (refused kept other))
+Refuses before now c end = (other : Option Ending) × (now ≡ set before c (refused end other))
 
 -- the events in order, the cells that were begun, and for how many more of both there is room
 pub record Journal : Type 0 where

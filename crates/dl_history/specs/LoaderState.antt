@@ -24,7 +24,7 @@ loader_state history desk cells = record { history = history; desk = desk; cells
 abbrev pub ShowsEnd : Option Ending → Mark → Option Ending → Type 0
 ShowsEnd end Waiting shows = (end ≡ None) × (shows ≡ None)
 ShowsEnd end Ended shows = IsSome end × (shows ≡ end)
-ShowsEnd end (Refused kept) shows = end ≡ Some kept.value
+ShowsEnd end (Refused kept) shows = end ≡ Some kept
 
 -- the same of a cell that is there, and that is no end where there is none
 abbrev pub ShownAs : Option Cell → Option Ending → Type 0

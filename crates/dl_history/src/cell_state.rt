@@ -1,7 +1,6 @@
 //! What the lock of a loader guards of each cell of an outcome.
 
-ghost use Rattle.std.specs.Prelude.{◌≡◌, ◌<◌, IfSome, IsSome, MatchBool, None, Option, Some, option_copied, option_map};
-ghost use Rattle.std.specs.Global.{Box};
+ghost use Rattle.std.specs.Prelude.{◌≡◌, ◌<◌, IfSome, MatchBool, None, Option, Some, option_copied, option_map};
 ghost use Rattle.dl_cells.specs.Cells.{cell_of, row_len};
 ghost use Rattle.dl_history.specs.declared.event.Ending.{Ending};
 ghost use Rattle.dl_history.specs.declared.cell_state.Mark.TheVariants.{Waiting, Ended, Refused};
@@ -20,8 +19,8 @@ pub enum Mark {
     Waiting,
     /// It took it.
     Ended,
-    /// It held another one, and the end that it refused is kept here.
-    Refused(Box<Ending>),
+    /// It took none, and the end that it refused is kept here.
+    Refused(Ending),
 }
 
 /// A cell of an outcome: a reader of it, and whether it took what it was given.
@@ -43,16 +42,13 @@ impl CellState {
         }
     }
 
-    /// Gives the cell its outcome, and tells whether the cell took it. Either way the reader knows from
-    /// then on what the cell has.
-    pub(crate) fn end(&mut self, row: &CellRow<Ending>, cell: u32, ending: Box<Ending>) -> bool
+    /// Gives the cell its outcome, and tells whether the cell took it. If so, the reader knows it from then on.
+    pub(crate) fn end(&mut self, row: &CellRow<Ending>, cell: u32, ending: Ending) -> bool
         requires in_row { cell < row_len row.now }
         requires of_cell { self.old.reader.cell ≡ cell_of row.now cell }
         requires unknown { self.old.reader.known ≡ None }
         ensures cell { self.new.reader.cell ≡ self.old.reader.cell }
-        ensures known { IsSome self.new.reader.known }
-        ensures ended { MatchBool result ((self.new.mark ≡ Ended) × (self.new.reader.known ≡ Some ending.value))
-            ((kept : Box Ending) × (self.new.mark ≡ Refused kept) × (kept.value ≡ ending.value)) }
+        ensures ended { MatchBool result ((self.new.mark ≡ Ended) × (self.new.reader.known ≡ Some ending)) (self.new.mark ≡ Refused ending) }
     {
         match row.show(cell, &mut self.reader, ending) {
             Ok(()) => {

@@ -1,6 +1,6 @@
 //! The entries of a pass: calls that were made, and outcomes that were read.
 
-ghost use Rattle.std.specs.Prelude.{◌≡◌, ◌<◌, IfErr, IfOk, IfSome, IsSome, IsSomeAnd};
+ghost use Rattle.std.specs.Prelude.{◌≡◌, ◌<◌, IfErr, IfOk, IfSome, IsSomeAnd};
 ghost use Rattle.dl_cells.specs.Cells.{cell_of, row_len};
 ghost use Rattle.dl_history.specs.Agreement.{Meets};
 ghost use Rattle.dl_history.specs.Entries.{event_at, read, event_known, ending_known, kind_of, Called, Saw};
@@ -45,21 +45,19 @@ impl<L: LoaderName> Model for PlacedEvent<L> {
 }
 
 impl<L: LoaderName> PlacedEvent<L> {
-    /// Puts an event into its cell of the log. Where the log has another event there, hands the event
-    /// back. Either way the reader knows from then on what the cell has.
+    /// Puts an event into its cell of the log. Where the log has another event there, hands the event back.
     pub(crate) fn store(
         row: &CellRow<Event>,
         at: u16,
         reader: &mut Reader<Event>,
-        event: Box<Event>,
-    ) -> Result<PlacedEvent<L>, Box<Event>>
+        event: Event,
+    ) -> Result<PlacedEvent<L>, Event>
         requires row { row.now ≡ L.log }
         requires in_row { at < row_len L.log }
         requires of_cell { reader.old.cell ≡ cell_of L.log at }
         ensures cell { reader.new.cell ≡ reader.old.cell }
-        ensures known { IsSome reader.new.known }
-        ensures stored { IfOk result (λ stored. stored ≡ event_at at event.value) }
-        ensures back { IfErr result (λ back. back.value ≡ event.value) }
+        ensures stored { IfOk result (λ stored. stored ≡ event_at at event) }
+        ensures back { IfErr result (λ back. back ≡ event) }
     {
         row.show(u32::from(at), reader, event)?;
         Ok(PlacedEvent {

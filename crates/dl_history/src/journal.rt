@@ -130,12 +130,12 @@ impl<L: LoaderName> Journal<L> {
     }
 
     /// Gives a cell its outcome, and tells whether the cell took it.
-    pub fn end(&mut self, rows: &CellRows<L>, cell: u32, ending: Box<Ending>) -> bool
+    pub fn end(&mut self, rows: &CellRows<L>, cell: u32, ending: Ending) -> bool
         requires in_row { cell < L.service.rules.limits.max_cells }
         requires waits { slice_get self.old.cells cell ≡ Some waiting }
         ensures history { self.new.history ≡ self.old.history }
-        ensures ended { MatchBool result (self.new.cells ≡ set self.old.cells cell (showing ending.value))
-            (Refuses self.old.cells self.new.cells cell ending.value) }
+        ensures ended { MatchBool result (self.new.cells ≡ set self.old.cells cell (showing ending))
+            (Refuses self.old.cells self.new.cells cell ending) }
         ensures room { self.new.spare ≡ self.old.spare }
     {
         self.states[cell as usize].end(rows.outcomes(), cell, ending)

@@ -87,10 +87,10 @@ shows {s} {seen} {e} {dues} {mids} {ys} c x g due more given got = by (due_or_no
         let d : Due = h.1 in
         let cell = ap (λ (cs : List ℕ). slice_get cs h.0) (sym due.cells_are) ∙ get_mapped (λ (y : Due). y.cell) dues h.0 d h.2 in
         let brings = due.ends_are h.0 d h.2 in
-        let is : ending_of (seen.history ++ e ∷ []) d.cell ≡ Some d.ending.value = (gives_ends g).ends h.0 d.cell d.ending.value.outcome cell brings.0
-        ∙ ap (λ (at : ℕ). Some (ending at d.ending.value.outcome)) (sym brings.1) in
-        let here : ending_of (seen.history ++ e ∷ []) c ≡ Some d.ending.value = rw (← h.3) is in
-        shows_same (Some d.ending.value) (ending_of (seen.history ++ e ∷ []) c) x here (given.ended h.0 d x h.2 (ap (slice_get ys) h.3 ∙ got))
+        let is : ending_of (seen.history ++ e ∷ []) d.cell ≡ Some d.ending = (gives_ends g).ends h.0 d.cell d.ending.outcome cell brings.0
+        ∙ ap (λ (at : ℕ). Some (ending at d.ending.outcome)) (sym brings.1) in
+        let here : ending_of (seen.history ++ e ∷ []) c ≡ Some d.ending = rw (← h.3) is in
+        shows_same (Some d.ending) (ending_of (seen.history ++ e ∷ []) c) x here (given.ended h.0 d x h.2 (ap (slice_get ys) h.3 ∙ got))
     by (inr none) = at_last none (get-append_cases seen.cells (repeat (begun_in e.reply) (waiting ∷ [])) c x (rw more at (sym (given.others c none) ∙ got)))
 
 -- A book still keeps what it keeps after an event, with a cell that waits for each that it began, once its dues are given.

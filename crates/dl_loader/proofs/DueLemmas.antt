@@ -32,18 +32,18 @@ map-snoc f [] x = refl
 map-snoc {X} {Y} f (y ∷ xs) x = ap (λ (ys : List Y). f y ∷ ys) (map-snoc f xs x)
 
 due_there : (call : Call) (at : ℕ) (cells : List ℕ) (dues : List Due) (d e : Due) (j : ℕ) → AreDue call at cells dues
-    → outcome_by call (length dues) ≡ Some d.ending.value.outcome → d.ending.value.at ≡ at
+    → outcome_by call (length dues) ≡ Some d.ending.outcome → d.ending.at ≡ at
     → ((j < length dues) × (slice_get dues j ≡ Some e)) ⊎ ((j ≡ length dues) × (e ≡ d))
-    → (outcome_by call j ≡ Some e.ending.value.outcome) × (e.ending.value.at ≡ at)
+    → (outcome_by call j ≡ Some e.ending.outcome) × (e.ending.at ≡ at)
 due_there call at cells dues d e j due brings place (inl old) = due.ends_are j e old.1
 due_there call at cells dues d e j due brings place (inr new) = rw (new.0, new.1) (brings, place)
 
 -- the due of one cell more
 pub due_more : (call : Call) (at n : ℕ) (cells : List ℕ) (dues longer : List Due) (d : Due) → AreDue call at (take n cells) dues → length dues ≡ n
-    → n < length cells → d.cell ≡ get_or cells n 0 → outcome_by call n ≡ Some d.ending.value.outcome → d.ending.value.at ≡ at → longer ≡ dues ++ d ∷ []
+    → n < length cells → d.cell ≡ get_or cells n 0 → outcome_by call n ≡ Some d.ending.outcome → d.ending.at ≡ at → longer ≡ dues ++ d ∷ []
     → AreDue call at (take (n + 1) cells) longer
 due_more call at n cells dues longer d due count low is brings place grown =
-    let own : outcome_by call (length dues) ≡ Some d.ending.value.outcome = ap (outcome_by call) count ∙ brings in
+    let own : outcome_by call (length dues) ≡ Some d.ending.outcome = ap (outcome_by call) count ∙ brings in
     record {
       cells_are = rw (grown, map-snoc (λ (e : Due). e.cell) dues d, due.cells_are, is, take_more cells n 0 low) refl;
       ends_are = λ j e got. due_there call at (take n cells) dues d e j due own place (get-snoc dues d e j (rw grown at got));
@@ -107,25 +107,25 @@ given_none {ds} {xs} none = rw none (record {
 
 given_there : (ys : List Due) (before now : List Cell) (d e : Due) (x y : Cell) (j : ℕ) → AreGiven ys before now
     → ((f : Due) (i : ℕ) → slice_get ys i ≡ Some f → f.cell ≡ d.cell → ⊥)
-    → ShowsEnd (Some d.ending.value) x.mark x.shows → slice_get (set now d.cell x) e.cell ≡ Some y
-    → ((j < length ys) × (slice_get ys j ≡ Some e)) ⊎ ((j ≡ length ys) × (e ≡ d)) → ShowsEnd (Some e.ending.value) y.mark y.shows
+    → ShowsEnd (Some d.ending) x.mark x.shows → slice_get (set now d.cell x) e.cell ≡ Some y
+    → ((j < length ys) × (slice_get ys j ≡ Some e)) ⊎ ((j ≡ length ys) × (e ≡ d)) → ShowsEnd (Some e.ending) y.mark y.shows
 given_there ys before now d e x y j given none shows got (inl old) =
     given.ended j e y old.1 (sym (get-set_other now d.cell e.cell x (none e j old.1)) ∙ got)
 given_there ys before now d e x y j given none shows got (inr new) =
     let at : slice_get (set now d.cell x) d.cell ≡ Some y = ap (λ (f : Due). slice_get (set now d.cell x) f.cell) (sym new.1) ∙ got in
     let same : y ≡ x = get-set_same now d.cell x y at in
-    let P : Cell → Type 0 = λ z. ShowsEnd (Some d.ending.value) z.mark z.shows in
-    let Q : Due → Type 0 = λ f. ShowsEnd (Some f.ending.value) y.mark y.shows in
+    let P : Cell → Type 0 = λ z. ShowsEnd (Some d.ending) z.mark z.shows in
+    let Q : Due → Type 0 = λ f. ShowsEnd (Some f.ending) y.mark y.shows in
     subst Q (sym new.1) (subst P (sym same) shows)
 
 -- one more was given, whether its cell took it or refused it
 pub given_more : (all ys : List Due) (before now then : List Cell) (d : Due) (took : Bool) → CanEnd (map (λ x. x.cell) all) before → ys ≡ take (length ys) all
     → length ys < length all → d ≡ get_or all (length ys) d → AreGiven ys before now
-    → MatchBool took (then ≡ set now d.cell (showing d.ending.value)) (Refuses now then d.cell d.ending.value) → AreGiven (ys ++ d ∷ []) before then
+    → MatchBool took (then ≡ set now d.cell (showing d.ending)) (Refuses now then d.cell d.ending) → AreGiven (ys ++ d ∷ []) before then
 given_more all ys before now then d took can front low is given ends =
-    let got = gets_end took now then d.cell d.ending.value ends in
+    let got = gets_end took now then d.cell d.ending ends in
     let x : Cell = got.0 in
-    let shows : ShowsEnd (Some d.ending.value) x.mark x.shows = got.2 in
+    let shows : ShowsEnd (Some d.ending) x.mark x.shows = got.2 in
     let grown : AreGiven (ys ++ d ∷ []) before (set now d.cell x) = record {
       long = length-set now d.cell x ∙ given.long;
       ended = λ j e y at shown. given_there ys before now d e x y j given (λ f i there same. apart all before ys d f i can front low is there same) shows shown

@@ -12,20 +12,23 @@ use std::alloc::{AllocError, Global};
 #[derive(Drop)]
 pub(crate) struct Due {
     cell: u32,
-    ending: Box<Ending>,
+    ending: Ending,
 }
 
 impl Due {
-    /// The due of a cell: the outcome that a call at a place of the history brings its member. The error is a failed allocation.
-    fn new(alloc: Global, at: u16, cell: u32, call: &Call, place: usize) -> Result<Due, AllocError>
+    /// The due of a cell: the outcome that a call at a place of the history brings its member. The error is that the outcome
+    /// can't be shared.
+    fn new(at: u16, cell: u32, call: &Call, place: usize) -> Result<Due, AllocError>
         requires { IsSome (outcome_by call.now place) }
         ensures cell { IfOk result (λ due. due.cell ≡ cell) }
-        ensures at { IfOk result (λ due. due.ending.value.at ≡ at) }
-        ensures outcome { IfOk result (λ due. outcome_by call.now place ≡ Some due.ending.value.outcome) }
+        ensures at { IfOk result (λ due. due.ending.at ≡ at) }
+        ensures outcome { IfOk result (λ due. outcome_by call.now place ≡ Some due.ending.outcome) }
     {
         let outcome = outcome_at(call, place)?;
-        let ending = Box::new(alloc, Ending { at, outcome }).map_err(AllocError::from)?;
-        Ok(Due { cell, ending })
+        Ok(Due {
+            cell,
+            ending: Ending { at, outcome },
+        })
     }
 }
 
@@ -42,7 +45,7 @@ pub(crate) fn dues(
 {
     let mut dues = Vec::with_capacity(alloc, cells.len())?;
     for place in 0..cells.len() {
-        dues.push_reserved(Due::new(alloc, at, cells[place], call, place)?);
+        dues.push_reserved(Due::new(at, cells[place], call, place)?);
     }
     Ok(dues)
 }

@@ -64,9 +64,6 @@ impl<L: LoaderName> Journal<L> {
     {
         let place = self.next_place(rows);
         let first = self.next_cell(rows, cells);
-        let Ok(event) = Box::new(alloc, event) else {
-            return Err(AppendFault::OutOfMemory);
-        };
         let Ok((mut reader, readers)) = self.grow(alloc, rows, place, first, cells) else {
             return Err(AppendFault::OutOfMemory);
         };

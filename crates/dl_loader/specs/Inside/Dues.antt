@@ -40,7 +40,7 @@ outcome_by call i = None
 -- the dues of cells in order: each is what the call brings its member, with the place of the call
 pub record AreDue (call : Call) (at : ℕ) (cells : List ℕ) (dues : List Due) : Type 0 where
   pub cells_are : map (λ d. d.cell) dues ≡ cells
-  pub ends_are : (j : ℕ) (d : Due) → slice_get dues j ≡ Some d → (outcome_by call j ≡ Some d.ending.value.outcome) × (d.ending.value.at ≡ at)
+  pub ends_are : (j : ℕ) (d : Due) → slice_get dues j ≡ Some d → (outcome_by call j ≡ Some d.ending.outcome) × (d.ending.at ≡ at)
 
 -- each of these cells waits, and none is there twice
 pub record CanEnd (cells : List ℕ) (before : List Cell) : Type 0 where
@@ -50,5 +50,5 @@ pub record CanEnd (cells : List ℕ) (before : List Cell) : Type 0 where
 -- the cells have got their dues, and each other cell is as it was
 pub record AreGiven (dues : List Due) (before now : List Cell) : Type 0 where
   pub long : length now ≡ length before
-  pub ended : (j : ℕ) (d : Due) (x : Cell) → slice_get dues j ≡ Some d → slice_get now d.cell ≡ Some x → ShowsEnd (Some d.ending.value) x.mark x.shows
+  pub ended : (j : ℕ) (d : Due) (x : Cell) → slice_get dues j ≡ Some d → slice_get now d.cell ≡ Some x → ShowsEnd (Some d.ending) x.mark x.shows
   pub others : (c : ℕ) → ((j : ℕ) (d : Due) → slice_get dues j ≡ Some d → d.cell ≡ c → ⊥) → slice_get now c ≡ slice_get before c

@@ -32,7 +32,7 @@ loop-due-preserved-then-not-end g c =
     let waits = next_waits c.args.dues.items c.loop-due.yielded c.args.journal.now.cells c.loop-due.journal.cells c.in-Some.due c.requires.can front turn.0
     turn.1 c.loop-due.invariant.given in
     let longer = length-append c.loop-due.yielded (c.in-Some.due ∷ []) in
-    let step = refused_count c.loop-due.journal.cells c.end.new.self.cells c.in-Some.due.cell c.in-Some.due.ending.value waits c.if-not-end.ensures.ended in
+    let step = refused_count c.loop-due.journal.cells c.end.new.self.cells c.in-Some.due.cell c.in-Some.due.ending waits c.if-not-end.ensures.ended in
     record {
       can_next = tt;
       is_finite = tt;
@@ -52,7 +52,7 @@ loop-due-preserved g c =
     let waits = next_waits c.args.dues.items c.loop-due.yielded c.args.journal.now.cells c.loop-due.journal.cells c.in-Some.due c.requires.can front turn.0
     turn.1 c.loop-due.invariant.given in
     let longer = length-append c.loop-due.yielded (c.in-Some.due ∷ []) in
-    let step = taken_count c.loop-due.journal.cells c.end.new.self.cells c.in-Some.due.cell c.in-Some.due.ending.value waits c.if-not-end.ensures.ended in
+    let step = taken_count c.loop-due.journal.cells c.end.new.self.cells c.in-Some.due.cell c.in-Some.due.ending waits c.if-not-end.ensures.ended in
     record {
       can_next = tt;
       is_finite = tt;
