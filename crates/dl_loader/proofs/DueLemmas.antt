@@ -163,7 +163,7 @@ pub taken_count : (now then : List Cell) (c : ℕ) (end : Ending) → slice_get 
 taken_count now then c end waits is = let step = refusals-set now c waiting (showing end) waits in rw is (omega arith)
 
 pub refused_count : (now then : List Cell) (c : ℕ) (end : Ending) → slice_get now c ≡ Some waiting → Refuses now then c end → refusals then ≡ refusals now + 1
-refused_count now then c end waits is = let step = refusals-set now c waiting (refused is.0 is.1) waits in rw is.3 (omega arith)
+refused_count now then c end waits is = let step = refusals-set now c waiting (refused end is.0) waits in rw is.1 (omega arith)
 
 -- the counts after one more was given
 pub refused_next : (was now then n : ℕ) → now ≡ was + n → then ≡ now + 1 → then ≡ was + (n + 1)
