@@ -1,5 +1,5 @@
 -- What cutting, showing and preparing leave of a desk's fields.
-use Rattle.std.proofs.Common.{◌≡◌, ◌∙◌, sym, ap, true, false, ℕ, zero, suc, ◌+◌, ◌<◌, ◌≤◌, inl, inr, min, max, List, [], ◌∷◌, ◌++◌, length, map, set, take}
+use Rattle.std.proofs.Common.{◌≡◌, ◌∙◌, sym, ap, true, false, ℕ, ◌+◌, ◌<◌, ◌≤◌, inl, inr, min, max, List, [], ◌∷◌, ◌++◌, length, map, set, take}
 use Rattle.std.proofs.Common.{Bool, nat_eq, ◌||◌, Option, Some, None, IsSome, option_map, slice_get, refl, arith, length-append}
 use Rattle.std.specs.List.{list_any}
 use Rattle.std.proofs.lemmas.List.Folds.{list_any-append}
@@ -16,7 +16,7 @@ use Rattle.dl_desk.specs.TableBook.{TableBook, untouched, AreTouched, both, FitT
 use Rattle.dl_desk.specs.declared.desk.Extent.{Extent}
 use Rattle.dl_desk.proofs.Tails.{get-append_left, get-append_last, get-set_other, map-set_unseen, same_all}
 use Rattle.dl_desk.proofs.TableLemmas.{fit_cut, fit_shown, one_of}
-use Rattle.dl_desk.proofs.MemoMembers.{held_none, held_more, held_whole, held_same, held_grows, put_held, put_unseen}
+use Rattle.dl_desk.proofs.MemoMembers.{held_none, held_more, held_same, held_grows, put_held, put_unseen}
 
 -- ---- cutting and showing
 
@@ -86,21 +86,6 @@ desk_noted d e is room = record {
   prepared_held = held_more d.forgotten d.memo e (map prepared_batch d.batches) is.prepared_held;
   shown_held = held_same d.forgotten (take d.shown_memo d.memo) (take d.shown_memo (d.memo ++ e ∷ [])) (map shown_batch d.batches) (map shown_batch d.batches)
       (take-append-le d.shown_memo d.memo (e ∷ []) is.memo) refl is.shown_held;
-}
-
--- all of it is shown, also what was prepared
-pub desk_memo : (d : DeskFields) → IsDesk d → IsDesk (record d { shown_memo = length d.memo })
-desk_memo d is = record {
-  prepared_book = is.prepared_book;
-  shown_book = is.shown_book;
-  later = is.later;
-  tables = is.tables;
-  memo = omega arith;
-  same = is.same;
-  unmarked = λ marked. let s = is.unmarked marked in record { extent = s.extent; all_memo = refl; none_touched = s.none_touched };
-  prepared_held = is.prepared_held;
-  shown_held = held_same d.forgotten d.memo (take (length d.memo) d.memo) (map shown_batch d.batches) (map shown_batch d.batches)
-      (take_all (length d.memo) d.memo (omega arith)) refl (held_whole d.forgotten d.shown_memo d.memo (map shown_batch d.batches) is.shown_held);
 }
 
 -- keys were forgotten

@@ -1,11 +1,10 @@
 -- Which batches have members only of keys that the memo holds.
-use Rattle.std.proofs.Common.{◌≡◌, ◌∙◌, sym, ap, subst, ℕ, zero, suc, ◌<◌, ◌≤◌, inl, inr, Bool, true, false, ◌||◌, cond, true≢false, List, [], ◌∷◌, ◌++◌, length}
+use Rattle.std.proofs.Common.{◌≡◌, ◌∙◌, sym, ap, subst, ℕ, zero, suc, ◌≤◌, inl, inr, Bool, true, false, ◌||◌, cond, true≢false, List, [], ◌∷◌, ◌++◌, length}
 use Rattle.std.proofs.Common.{map, set, take, Option, Some, None, IsSome, slice_get, refl, arith}
 use Rattle.std.specs.Map.{lookup}
 use Rattle.std.proofs.lemmas.Bool.{cases_lt, cases_eq}
 use Rattle.std.proofs.lemmas.Option.{slice_get-map, slice_get_past, slice_get_within}
 use Rattle.std.proofs.lemmas.List.{map-append, map-set}
-use Rattle.std.proofs.lemmas.List.Folds.{list_any-append}
 use Rattle.dl_values.specs.Key.{Key, key_eq}
 use Rattle.dl_values.proofs.KeyLemmas.{key_eq-same}
 use Rattle.dl_desk.specs.History.{has_member}
@@ -16,7 +15,6 @@ use Rattle.dl_desk.specs.Marks.{IsStored, MakesRoom, more, IsAdded}
 use Rattle.dl_desk.specs.declared.desk.Extent.{Extent}
 use Rattle.dl_desk.proofs.DispatchJobs.{get-take}
 use Rattle.dl_desk.proofs.Tails.{get-set_same, get-set_other, map-set_unseen}
-use Rattle.dl_desk.proofs.MemoView.{lookup-take_none}
 
 -- ---- batches that aren't begun
 
@@ -63,10 +61,6 @@ not_in_front test (f ∷ es) e none = front_step (test f.0) f.1 (lookup test (es
 -- the memo holds one key more
 pub held_more : (n : ℕ) (memo : List (Key × ℕ)) (e : Key × ℕ) (xs : List Batch) → AllHeld n memo xs → AllHeld n (memo ++ e ∷ []) xs
 held_more n memo e xs all k none = all k (not_in_front (key_eq k) memo e none)
-
--- the memo holds what its front does
-pub held_whole : (n c : ℕ) (memo : List (Key × ℕ)) (xs : List Batch) → AllHeld n (take c memo) xs → AllHeld n memo xs
-held_whole n c memo xs all k none = all k (lookup-take_none (key_eq k) memo c none)
 
 pub held_same : (n : ℕ) (memo memo' : List (Key × ℕ)) (xs ys : List Batch) → memo' ≡ memo → ys ≡ xs → AllHeld n memo xs → AllHeld n memo' ys
 held_same n memo memo' xs ys m x all = rw (m, x) all
@@ -142,11 +136,3 @@ pub put_unseen : (n c : ℕ) (memo : List (Key × ℕ)) (m : Key × ℕ) (xs ys 
     → AllHeld n memo (map shown_batch xs) → AllHeld n memo (map shown_batch ys)
 put_unseen n c memo m xs ys added all = rw (added.is, map-set_unseen shown_batch added.grown c added.before added.then added.at added.shown)
     (held_grows shown_batch n memo xs added.grown refl all added.grows)
-
--- ---- the batch that is chosen
-
--- where a member has the key, the next batch is chosen, which has none
-pub chosen_none : (has : Bool) (xs : List Batch) (k : Key) (newest next n : ℕ) → has_member (members_of (slice_get xs newest)) k ≡ has
-    → members_of (slice_get xs next) ≡ [] → n ≡ cond has next newest → has_member (members_of (slice_get xs n)) k ≡ false
-chosen_none true xs k newest next n has none is = rw (is, none) refl
-chosen_none false xs k newest next n has none is = rw is has

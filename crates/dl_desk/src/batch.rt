@@ -22,7 +22,7 @@ const SCANNED: usize = 8;
 pub(crate) struct StoredBatch {
     keys: Vec<FetchKey>,
     cells: Vec<u32>,
-    // The first of the keys once more, as many as there were when it was asked last whether a member has a key.
+    // The first of the keys once more: all that there were when the batch was asked last, if they were many.
     index: IndexSet<FetchKey, RandomState>,
     seen: usize,
     end: Option<End>,

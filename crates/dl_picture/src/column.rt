@@ -125,30 +125,24 @@ fn push_sums(sheet: &mut Sheet, lines: Lines<'_>, marks: &[Mark]) {
 /// A line of a column, at a height.
 fn push_line(sheet: &mut Sheet, y: usize, line: &Line<'_>) {
     match line.label.text(sheet.alloc()) {
-        Ok(label) => push_labelled(sheet, y, line, label.as_str()),
+        Ok(label) => {
+            push_title(sheet, y, line, label.as_str());
+            push_badge(sheet, 0, 0, line.mark);
+            push_label(sheet, line.batch, label.as_str());
+        }
         Err(error) => sheet.note(Err(error)),
     }
 }
 
-/// A line at a height, whose label has this text.
-fn push_labelled(sheet: &mut Sheet, y: usize, line: &Line<'_>, label: &str) {
-    push_title(sheet, y, line, label);
-    push_badge(sheet, 0, 0, line.mark);
-    push_label(sheet, line.batch, label);
-}
-
 /// The front of a line at a height, with its title: its whole label, and what became of it.
 fn push_title(sheet: &mut Sheet, y: usize, line: &Line<'_>, label: &str) {
-    sheet.push("<g transform='translate(");
-    sheet.push_number(PADDING as u64);
-    sheet.push(" ");
-    sheet.push_number(y as u64);
-    sheet.push(")'><title>");
+    sheet.push_number("<g transform='translate(", PADDING as u64, " ");
+    sheet.push_number("", y as u64, ")'><title>");
     sheet.push_escaped(label);
     sheet.push(": ");
     sheet.push(line.mark.meaning());
     if let Some(batch) = line.batch {
-        sheet.push_phrase(Phrase::Numbered(", batch ", u64::from(batch), ""));
+        sheet.push_number(", batch ", u64::from(batch), "");
     }
     sheet.push("</title>");
 }

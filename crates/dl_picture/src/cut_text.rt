@@ -34,9 +34,11 @@ pub(crate) fn push_cut_text(sheet: &mut Sheet, x: usize, y: usize, text: &str, r
     sheet.push_place(x, y);
     if is_wide(text) {
         let width = room_for(text).min(room).saturating_mul(CHARACTER);
-        sheet.push(" textLength='");
-        sheet.push_number(width as u64);
-        sheet.push("' lengthAdjust='spacingAndGlyphs'");
+        sheet.push_number(
+            " textLength='",
+            width as u64,
+            "' lengthAdjust='spacingAndGlyphs'",
+        );
     }
     sheet.push(">");
     push_cut(sheet, text, room);

@@ -91,26 +91,19 @@ impl Drawing {
     pub(crate) fn finish(&mut self) -> Result<String, AllocError> {
         self.end_row();
         let height = self.height.saturating_add(MARGIN);
-        document(self.sheet.alloc(), height, self.sheet.written()?)
+        let elements = self.sheet.written()?;
+        let mut document = Sheet::new(self.sheet.alloc());
+        push_document(&mut document, height, elements);
+        document.finish()
     }
-}
-
-/// A document of these elements, which are so high together.
-fn document(alloc: Global, height: usize, elements: &str) -> Result<String, AllocError> {
-    let mut sheet = Sheet::new(alloc);
-    push_document(&mut sheet, height, elements);
-    sheet.finish()
 }
 
 /// Appends a document of these elements, which are so high together.
 fn push_document(sheet: &mut Sheet, height: usize, elements: &str) {
     sheet.push("<svg xmlns='http://www.w3.org/2000/svg'");
     sheet.push_size(WIDTH, height);
-    sheet.push(" viewBox='0 0 ");
-    sheet.push_number(WIDTH as u64);
-    sheet.push(" ");
-    sheet.push_number(height as u64);
-    sheet.push("'>\n");
+    sheet.push_number(" viewBox='0 0 ", WIDTH as u64, " ");
+    sheet.push_number("", height as u64, "'>\n");
     sheet.push(STYLE);
     sheet.push("<rect class='ground'");
     sheet.push_size(WIDTH, height);

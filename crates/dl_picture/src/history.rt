@@ -1,7 +1,7 @@
 //! The picture of a history.
 
 use crate::drawing::Drawing;
-use crate::head::{Tile, add_head};
+use crate::head::{add_count, add_mean, end_head};
 use crate::lanes::{add_batches, add_calls, add_workers};
 use crate::numbers::{HistoryNumbers, PlanNumbers, history_numbers, plan_numbers};
 use crate::phrase::Phrase;
@@ -51,16 +51,22 @@ fn add_lanes(drawing: &mut Drawing, scene: Scene<'_>) {
 
 /// The head: the numbers of the history.
 fn add_history_head(drawing: &mut Drawing, numbers: &HistoryNumbers) {
-    let tiles = [
-        Tile::count("loads", "loads", numbers.loads.loads),
-        Tile::count("hits", "hits", numbers.loads.hits),
-        Tile::count("keys", "keys fetched", numbers.batches.keys),
-        Tile::count("batches", "batches", numbers.batches.batches),
-        Tile::count("largest", "largest batch", numbers.batches.largest),
-        Tile::mean(&numbers.batches),
-        Tile::count("alone", "fetches, no loader", numbers.fetches_alone()),
-    ];
-    add_head(drawing, "What the requests did", &tiles);
+    drawing.add_words("title", Phrase::Words("What the requests did"));
+    add_count(drawing, 0, "loads", "loads", numbers.loads.loads);
+    add_count(drawing, 1, "hits", "hits", numbers.loads.hits);
+    add_count(drawing, 2, "keys", "keys fetched", numbers.batches.keys);
+    add_count(drawing, 3, "batches", "batches", numbers.batches.batches);
+    add_count(
+        drawing,
+        4,
+        "largest",
+        "largest batch",
+        numbers.batches.largest,
+    );
+    add_mean(drawing, 5, numbers.batches.mean());
+    let alone = numbers.fetches_alone();
+    add_count(drawing, 6, "alone", "fetches, no loader", alone);
+    end_head(drawing);
 }
 
 /// The words above the lane of a plan.
@@ -75,8 +81,8 @@ fn add_plan_words(drawing: &mut Drawing, scene: Scene<'_>, plan: u32) {
 
 /// A plan and its numbers, in words.
 fn push_plan(sheet: &mut Sheet, plan: u32, numbers: &PlanNumbers) {
-    sheet.push_phrase(Phrase::Numbered("plan ", u64::from(plan), ": "));
-    sheet.push_phrase(Phrase::Numbered("rounds ", numbers.rounds as u64, ", "));
-    sheet.push_phrase(Phrase::Numbered("loads ", numbers.loads.loads, ", "));
-    sheet.push_phrase(Phrase::Numbered("hits ", numbers.loads.hits, ""));
+    sheet.push_number("plan ", u64::from(plan), ": ");
+    sheet.push_number("rounds ", numbers.rounds as u64, ", ");
+    sheet.push_number("loads ", numbers.loads.loads, ", ");
+    sheet.push_number("hits ", numbers.loads.hits, "");
 }

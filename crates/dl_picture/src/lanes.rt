@@ -96,26 +96,22 @@ pub(crate) fn add_batches(drawing: &mut Drawing, scene: Scene<'_>) {
 
 /// The column of the batch that an event ends, if it ends one.
 fn add_end(drawing: &mut Drawing, scene: Scene<'_>, event: &Event) {
-    let side = caller_name(scene.plans, event.caller);
-    match &event.call {
-        Call::Settle { batch, outcomes } => drawing.add_column(&Column {
-            heading: Phrase::Numbered("batch ", u64::from(*batch), " settled"),
-            side,
-            lines: Lines::Settled {
-                keys: scene.members(*batch),
-                outcomes: outcomes.as_slice(),
-            },
-        }),
-        Call::Fail { batch, .. } => drawing.add_column(&Column {
-            heading: Phrase::Numbered("batch ", u64::from(*batch), " failed"),
-            side,
-            lines: Lines::Keys {
-                keys: scene.members(*batch),
-                mark: Mark::Failed,
-            },
-        }),
-        _ => {}
-    }
+    let (batch, state, lines) = match &event.call {
+        Call::Settle { batch, outcomes } => {
+            let (keys, outcomes) = (scene.members(*batch), outcomes.as_slice());
+            (*batch, " settled", Lines::Settled { keys, outcomes })
+        }
+        Call::Fail { batch, .. } => {
+            let (keys, mark) = (scene.members(*batch), Mark::Failed);
+            (*batch, " failed", Lines::Keys { keys, mark })
+        }
+        _ => return,
+    };
+    drawing.add_column(&Column {
+        heading: Phrase::Numbered("batch ", u64::from(batch), state),
+        side: caller_name(scene.plans, event.caller),
+        lines,
+    });
 }
 
 /// Who a caller is: the plans come first, and then the workers.

@@ -1,12 +1,16 @@
-//! Phrases: words of the program, alone or about a number.
+//! Phrases: words of the program, alone or about numbers.
 
-/// Words of the program, alone or about a number.
+use crate::batches::Mean;
+
+/// Words of the program, alone or about numbers.
 #[derive(Clone, Copy)]
 pub(crate) enum Phrase {
     /// Words alone.
     Words(&'static str),
     /// Words before a number, the number, and words behind it.
     Numbered(&'static str, u64, &'static str),
+    /// A whole number and a fraction.
+    Mean(Mean),
 }
 
 impl Phrase {

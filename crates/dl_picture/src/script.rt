@@ -2,7 +2,7 @@
 
 use crate::column::Column;
 use crate::drawing::Drawing;
-use crate::head::{Tile, add_head};
+use crate::head::{add_count, add_mean, end_head};
 use crate::lines::Lines;
 use crate::mark::Mark;
 use crate::numbers::{HistoryNumbers, script_numbers};
@@ -44,16 +44,21 @@ fn add_lanes(drawing: &mut Drawing, calls: &[ScriptCall], run: &ScriptRun) {
 
 /// The head: the numbers of the script.
 fn add_script_head(drawing: &mut Drawing, calls: usize, numbers: &HistoryNumbers) {
-    let tiles = [
-        Tile::count("calls", "calls", calls as u64),
-        Tile::count("loads", "loads", numbers.loads.loads),
-        Tile::count("hits", "hits", numbers.loads.hits),
-        Tile::count("keys", "keys in batches", numbers.batches.keys),
-        Tile::count("batches", "batches", numbers.batches.batches),
-        Tile::count("largest", "largest batch", numbers.batches.largest),
-        Tile::mean(&numbers.batches),
-    ];
-    add_head(drawing, "What the calls were answered", &tiles);
+    drawing.add_words("title", Phrase::Words("What the calls were answered"));
+    add_count(drawing, 0, "calls", "calls", calls as u64);
+    add_count(drawing, 1, "loads", "loads", numbers.loads.loads);
+    add_count(drawing, 2, "hits", "hits", numbers.loads.hits);
+    add_count(drawing, 3, "keys", "keys in batches", numbers.batches.keys);
+    add_count(drawing, 4, "batches", "batches", numbers.batches.batches);
+    add_count(
+        drawing,
+        5,
+        "largest",
+        "largest batch",
+        numbers.batches.largest,
+    );
+    add_mean(drawing, 6, numbers.batches.mean());
+    end_head(drawing);
 }
 
 // ---- calls

@@ -41,9 +41,9 @@ impl Sheet {
         self.note(pushed);
     }
 
-    /// Appends a number.
-    pub(crate) fn push_number(&mut self, number: u64) {
-        let pushed = write!(self.text, "{number}");
+    /// Appends a number between two texts.
+    pub(crate) fn push_number(&mut self, front: &str, number: u64, back: &str) {
+        let pushed = write!(self.text, "{front}{number}{back}");
         self.note(pushed);
     }
 
@@ -51,10 +51,11 @@ impl Sheet {
     pub(crate) fn push_phrase(&mut self, phrase: Phrase) {
         match phrase {
             Phrase::Words(words) => self.push(words),
-            Phrase::Numbered(front, number, back) => {
-                self.push(front);
-                self.push_number(number);
-                self.push(back);
+            Phrase::Numbered(front, number, back) => self.push_number(front, number, back),
+            Phrase::Mean(mean) => {
+                self.push_number("", mean.whole, " ");
+                self.push_number("", mean.rest, "/");
+                self.push_number("", mean.of, "");
             }
         }
     }

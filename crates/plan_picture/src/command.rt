@@ -20,23 +20,38 @@ pub(crate) fn options<'a, S: AsStr>(alloc: Global, words: &'a [S]) -> Result<Opt
     ensures { IfOk result (AreGiven (matches_of picture_app (map S.text words.entry.now))) }
 {
     let mut command = command(alloc)?;
-    match read(&mut command, words)? {
-        Some(options) => Ok(options),
-        None => Err(command.error(ErrorKind::ValueValidation, "N is not 1 to 16")?),
-    }
+    options_by(&mut command, words)
 }
 
 /// The refusal of words of which one is no UTF-8, with the usage in its text.
 pub(crate) fn unreadable(alloc: Global) -> Error {
-    match refusal(alloc, "invalid UTF-8 was detected in one or more arguments") {
-        Ok(error) | Err(error) => error,
+    let message = "invalid UTF-8 was detected in one or more arguments";
+    match command(alloc) {
+        Ok(mut command) => refused(&mut command, ErrorKind::InvalidValue, message),
+        Err(error) => Error::from(error),
     }
 }
 
-/// A refusal of the command line that says this.
-fn refusal(alloc: Global, message: &str) -> Result<Error, Error> {
-    let mut command = command(alloc)?;
-    Ok(command.error(ErrorKind::InvalidValue, message)?)
+/// The error of words that the command line refuses, with the usage in its text, or that memory ran out.
+fn refused(command: &mut Command<'_>, kind: ErrorKind, message: &str) -> Error {
+    match command.error(kind, message) {
+        Ok(error) => error,
+        Err(error) => Error::from(error),
+    }
+}
+
+/// The options that the words give by the command line.
+fn options_by<'a, S: AsStr>(command: &mut Command<'a>, words: &'a [S]) -> Result<Options, Error>
+    requires { app_of command.old ≡ picture_app }
+    ensures { IfOk result (AreGiven (matches_of picture_app (map S.text words.entry.now))) }
+{
+    match read(command, words)? {
+        Some(options) => Ok(options),
+        None => {
+            let message = "N is not 1 to 16";
+            Err(refused(command, ErrorKind::ValueValidation, message))
+        }
+    }
 }
 
 /// The options that the words give by the command line, if the number of workers is in range.

@@ -1,4 +1,4 @@
-use Rattle.std.proofs.Common.{◌∙◌, sym}
+use Rattle.std.proofs.Common.{◌∙◌}
 use Rattle.dl_desk.proofs.Zips.{has_member-zip, any-key}
 use Rattle.dl_desk.proofs.batch.StoredBatch.has.Goals as goal
 
