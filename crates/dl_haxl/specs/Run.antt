@@ -1,11 +1,12 @@
 -- What contracts see of a run of a term, and what its polls do.
+pub use Rattle.dl_terms.specs.Reduction.{MeansSame}
 use Rattle.std.specs.Prelude.{◌≡◌, ◌≢◌, ◌⊎◌, true, false, List, [], ◌++◌, length, Option, Some, None, Result, IfOk}
 use Rattle.dl_values.specs.Key.{Key}
 use Rattle.dl_values.specs.declared.outcome.Outcome.{Outcome}
 use Rattle.dl_loader.specs.Pass.{Ticket}
 use Rattle.dl_terms.specs.declared.answer.Answer.{Answer}
 use Rattle.dl_terms.specs.Tree.{Tree}
-use Rattle.dl_terms.specs.TermAnswers.{Pairs, outcome_in, answer, waits, gives, frontier}
+use Rattle.dl_terms.specs.TermAnswers.{Pairs, outcome_in, answer, gives, frontier}
 use Rattle.dl_terms.specs.Rounds.{KnowsMore}
 use Rattle.dl_haxl.specs.Pairs.{paired, all_show, outcomes_shown}
 use Rattle.dl_haxl.specs.declared.fault.PollFault.{PollFault}
@@ -47,11 +48,6 @@ asked_by r = asked_at r.stage r.keys
 -- what each poll answers, once the answer was given or an allocation failed
 abbrev pub ended_by : Run → Option PollFault
 ended_by r = ended_at r.stage
-
--- wherever p and more is known, u answers and waits as t does
-pub record MeansSame (p : Key → Option Outcome) (t u : Tree) : Type 0 where
-  pub meaning : (q : Key → Option Outcome) → KnowsMore p q → answer q u ≡ answer q t
-  pub waiting : (q : Key → Option Outcome) → KnowsMore p q → waits q u ≡ waits q t
 
 -- it is a run of the term t
 abbrev pub IsRunOf : Tree → Run → Type 0

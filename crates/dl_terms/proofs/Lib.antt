@@ -4,6 +4,8 @@ pub mod AnswersWithoutWaits
 mod RuleAnswers
 mod DepthBound
 mod Views
+mod Frames
+mod TermViews
 pub mod AskedKeys
 pub mod Reductions
 mod WholeNumbers

@@ -15,6 +15,7 @@ use Rattle.dl_terms.specs.TermAnswers.{Gathered, gather, gathered, ended_as, wit
 use Rattle.dl_terms.specs.Node.{node_view, nodes_view, result_of, results_of}
 use Rattle.dl_terms.specs.Tree.{Tree, Trees, ended, all}
 use Rattle.dl_terms.specs.Inside.Exploration.{GathersOn}
+use Rattle.dl_terms.proofs.Options.{none_absurd, some_same}
 
 -- the nodes have ended with the values
 abbrev pub AreValues : List Node → List Json → Type 0
@@ -123,3 +124,11 @@ none_ended vs u (Some ls) e is = absurd (true≢false e)
 
 pub gathers_none : (vs : Trees) (u : Tree) → is_some (results_of vs) ≡ false → u ≡ all vs → GathersOn vs u
 gathers_none vs u e is = none_ended vs u (results_of vs) e is
+
+some_ended : (vs : Trees) (u : Tree) (a : Answer) (r : Option (List Answer)) → option_map gathered r ≡ Some a → u ≡ ended a
+    → MatchOption r (u ≡ all vs) (λ ls. u ≡ ended (gathered ls))
+some_ended vs u a None e is = absurd (none_absurd a e)
+some_ended vs u a (Some ls) e is = is ∙ ap ended (sym (some_same (gathered ls) a e))
+
+pub gathers_some : (vs : Trees) (u : Tree) (a : Answer) → option_map gathered (results_of vs) ≡ Some a → u ≡ ended a → GathersOn vs u
+gathers_some vs u a e is = some_ended vs u a (results_of vs) e is

@@ -1,7 +1,7 @@
 -- What a round makes of each form stands for it.
 use Rattle.std.proofs.Common.{◌≡◌, ◌∙◌, ap, sym, subst, refl, ℕ, suc, ◌+◌, ◌<◌, ◌≤◌, Bool, true, false, nat_lt, if◌then◌else◌, List, [], ◌∷◌, ◌++◌, take}
 use Rattle.std.proofs.Common.{drop, length, get_or, Option, Some, None, Result, Ok, Err}
-use Rattle.std.specs.Prelude.{MatchOption, OnOk, is_none}
+use Rattle.std.specs.Prelude.{IfOk, MatchOption}
 use Rattle.std.specs.Option.{option_map, option_and_then}
 use Rattle.std.specs.List.{AllZip}
 use Rattle.std.proofs.lemmas.List.{take_more, drop_more}
@@ -17,15 +17,15 @@ use Rattle.dl_terms.specs.declared.answer.Answer.{Answer}
 use Rattle.dl_terms.specs.declared.answer.Answer.TheVariants.{Fault}
 use Rattle.dl_terms.specs.declared.answer.EvalFault.{EvalFault}
 use Rattle.dl_terms.specs.declared.answer.EvalFault.TheVariants as why
+use Rattle.dl_terms.specs.declared.node.Frame.{Frame}
 use Rattle.dl_terms.specs.declared.node.Node.{Node}
 use Rattle.dl_terms.specs.Tree.{Name, Tree, ended, load, pick, follow, each, all, Trees, no_trees, tree}
 use Rattle.dl_terms.specs.TermAnswers.{loaded, picked, gathered, both, load_waits_for, waits_after, Target, value_target, item_targets, target_in, target_answer}
 use Rattle.dl_terms.specs.TermAnswers.{target_answers, target_waits, each_target_waits, Targets, few, list_targets, targets_in, targets_answer, targets_waits}
 use Rattle.dl_terms.specs.TermAnswers.{answer, answers, waits, all_wait, most_items}
-use Rattle.dl_terms.specs.Node.{node_view, nodes_view, result_of, results_of}
+use Rattle.dl_terms.specs.Node.{framed, node_view, nodes_view, result_of, results_of}
 use Rattle.dl_terms.specs.Reduction.{Stands, Reduces}
-use Rattle.dl_terms.specs.Inside.Exploration.{StandAll, ReduceAll, LoadsTarget, LoadsEach, LoadsTargets, PicksOn, FollowsOn, EachOn, GathersOn}
-use Rattle.dl_terms.specs.Inside.Exploration.{PartsReduce, parts_wait, GoesOn, own_waits, stays}
+use Rattle.dl_terms.specs.Inside.Exploration.{Becomes, StandAll, ReduceAll, LoadsTarget, LoadsEach, LoadsTargets, GathersOn}
 use Rattle.dl_terms.proofs.Options.{none_absurd, some_same, from_both}
 
 pub result_is : (v : Tree) (a : Answer) → result_of v ≡ Some a → v ≡ ended a
@@ -48,11 +48,6 @@ results_answer (tree t ts) ls e q =
           ∙ rest.1,
     )
 
--- what follows where there was memory
-on_ok : {X E P Q : Type 0} (r : Result X E) → (P → Q) → OnOk r P → OnOk r Q
-on_ok (Ok x) f h = f h
-on_ok (Err e) f h = tt
-
 module _ (p : Key → Option Outcome) where
   pub load_known : (k : Key) (o : Outcome) → p k ≡ Some o → (u : Tree) → u ≡ ended (loaded k o) → LoadsTarget p (Target.key k) u
   load_known k o e u is = record {
@@ -67,72 +62,6 @@ module _ (p : Key → Option Outcome) where
     waiting = λ q more. ap (waits q) is;
     ending = ap result_of is ∙ ap (option_map (loaded k)) (sym e);
   }
-
-  pick_on : (t v u : Tree) (field : Name) (r : Option Answer) → result_of v ≡ r → Reduces p t v
-      → MatchOption r (u ≡ pick v field) (λ a. u ≡ ended (picked field a)) → Reduces p (pick t field) u
-  pick_on t v u field None e part is = record {
-    meaning = λ q more. ap (answer q) is ∙ ap (option_map (picked field)) (part.meaning q more);
-    waiting = λ q more. ap (waits q) is ∙ part.waiting q more;
-    ending = ap result_of is ∙ ap (option_map (picked field)) (sym e ∙ part.ending);
-  }
-  pick_on t v u field (Some a) e part is =
-      let same : v ≡ ended a = result_is v a e in
-      record {
-        meaning = λ q more. ap (answer q) is ∙ ap (option_map (picked field)) (ap (answer q) (sym same) ∙ part.meaning q more);
-        waiting = λ q more. ap (waits q) is ∙ (ap (waits q) (sym same) ∙ part.waiting q more);
-        ending = ap result_of is ∙ ap (option_map (picked field)) (sym e ∙ part.ending);
-      }
-
-  picks_on : (t v u : Tree) (field : Name) → Reduces p t v → PicksOn v field u → Reduces p (pick t field) u
-  picks_on t v u field part on = pick_on t v u field (result_of v) refl part on
-
-  -- ---- a form that goes on from its part's answer
-
-  module _ (t v u : Tree) (f : (Key → Option Outcome) → Answer → Option Answer) (w : (Key → Option Outcome) → Answer → List Key) (part : Reduces p t v) where
-    goes_on : (a : Answer) → result_of v ≡ Some a → Stands p (λ q. f q a) (λ q. w q a) u
-        → Stands p (λ q. option_and_then (f q) (answer q t)) (λ q. waits q t ++ waits_after (answer q t) (w q)) u
-    goes_on a e s =
-        let same : v ≡ ended a = result_is v a e in
-        record {
-          meaning = λ q more. s.meaning q more ∙ ap (option_and_then (f q)) (ap (answer q) (sym same) ∙ part.meaning q more);
-          waiting = λ q more. s.waiting q more
-              ∙ (ap (λ ks. ks ++ waits_after (Some a) (w q)) (ap (waits q) (sym same) ∙ part.waiting q more)
-              ∙ ap (λ o. waits q t ++ waits_after o (w q)) (ap (answer q) (sym same) ∙ part.meaning q more));
-          ending = s.ending ∙ ap (option_and_then (f p)) (sym e ∙ part.ending);
-        }
-
-    waits_on : result_of v ≡ None → ((q : Key → Option Outcome) → answer q u ≡ option_and_then (f q) (answer q v))
-        → ((q : Key → Option Outcome) → waits q u ≡ waits q v ++ waits_after (answer q v) (w q)) → result_of u ≡ None
-        → Stands p (λ q. option_and_then (f q) (answer q t)) (λ q. waits q t ++ waits_after (answer q t) (w q)) u
-    waits_on e says lacks none = record {
-      meaning = λ q more. says q ∙ ap (option_and_then (f q)) (part.meaning q more);
-      waiting = λ q more. lacks q
-          ∙ (ap (λ ks. ks ++ waits_after (answer q v) (w q)) (part.waiting q more)
-          ∙ ap (λ o. waits q t ++ waits_after o (w q)) (part.meaning q more));
-      ending = none ∙ ap (option_and_then (f p)) (sym e ∙ part.ending);
-    }
-
-  follow_on : (t v u : Tree) (field table : Name) (r : Option Answer) → result_of v ≡ r → Reduces p t v
-      → MatchOption r (u ≡ follow v field table) (λ a. LoadsTarget p (target_in table (picked field a)) u) → Reduces p (follow t field table) u
-  follow_on t v u field table None e part is =
-      waits_on t v u (λ q a. target_answer q (target_in table (picked field a))) (λ q a. target_waits q (target_in table (picked field a))) part e
-      (λ q. ap (answer q) is) (λ q. ap (waits q) is) (ap result_of is)
-  follow_on t v u field table (Some a) e part s =
-      goes_on t v u (λ q b. target_answer q (target_in table (picked field b))) (λ q b. target_waits q (target_in table (picked field b))) part a e s
-
-  follows_on : (t v u : Tree) (field table : Name) → Reduces p t v → FollowsOn p v field table u → Reduces p (follow t field table) u
-  follows_on t v u field table part on = follow_on t v u field table (result_of v) refl part on
-
-  each_goes : (t v u : Tree) (field table : Name) (r : Option Answer) → result_of v ≡ r → Reduces p t v
-      → MatchOption r (u ≡ each v field table) (λ a. LoadsTargets p (targets_in table (picked field a)) u) → Reduces p (each t field table) u
-  each_goes t v u field table None e part is =
-      waits_on t v u (λ q a. targets_answer q (targets_in table (picked field a))) (λ q a. targets_waits q (targets_in table (picked field a))) part e
-      (λ q. ap (answer q) is) (λ q. ap (waits q) is) (ap result_of is)
-  each_goes t v u field table (Some a) e part s =
-      goes_on t v u (λ q b. targets_answer q (targets_in table (picked field b))) (λ q b. targets_waits q (targets_in table (picked field b))) part a e s
-
-  each_on : (t v u : Tree) (field table : Name) → Reduces p t v → EachOn p v field table u → Reduces p (each t field table) u
-  each_on t v u field table part on = each_goes t v u field table (result_of v) refl part on
 
   -- ---- several together
 
@@ -154,86 +83,14 @@ module _ (p : Key → Option Outcome) where
       → StandAll p say lack vs → GathersOn vs u → Stands p (λ q. option_map gathered (say q)) lack u
   gathers_on say lack vs u s on = gather_on say lack vs u (results_of vs) refl s on
 
-  -- ---- the parts, and then the form over them
+  -- ---- a chain that a round has explored in place
 
-  pub parts_go_on : (t v u : Tree) → PartsReduce p t v → GoesOn p v u → Reduces p t u
-  parts_go_on (ended a) v u same on =
-      let is : u ≡ ended a = subst (λ w. GoesOn p w u) same on in
-      record { meaning = λ q more. ap (answer q) is; waiting = λ q more. ap (waits q) is; ending = ap result_of is }
-  parts_go_on (load k) v u same on = subst (λ w. GoesOn p w u) same on
-  parts_go_on (pick t field) v u part on = picks_on t part.0 u field part.1 (subst (λ w. GoesOn p w u) part.2 on)
-  parts_go_on (follow t field table) v u part on = follows_on t part.0 u field table part.1 (subst (λ w. GoesOn p w u) part.2 on)
-  parts_go_on (each t field table) v u part on = each_on t part.0 u field table part.1 (subst (λ w. GoesOn p w u) part.2 on)
-  parts_go_on (all ts) v u parts on =
-      gathers_on (λ q. answers q ts) (λ q. all_wait q ts) parts.0 u parts.1 (subst (λ w. GoesOn p w u) parts.2 on)
-
-  -- ---- a form that stays as it is
-
-  match_none : {A : Type 0} (o : Option A) (P : Type 0) (Q : A → Type 0) → is_none o ≡ true → P → MatchOption o P Q
-  match_none None P Q e h = h
-  match_none (Some a) P Q e h = absurd (let bad : false ≡ true = e in cc)
-
-  after_none : (o : Option Answer) (next : Answer → List Key) → is_none o ≡ true → waits_after o next ≡ []
-  after_none None next e = refl
-  after_none (Some a) next e = absurd (let bad : false ≡ true = e in cc)
-
-  pub stays_on : (v : Tree) → stays v ≡ true → GoesOn p v v
-  stays_on (ended a) e = refl
-  stays_on (load k) e = absurd (let bad : false ≡ true = e in cc)
-  stays_on (pick v field) e = match_none (result_of v) (pick v field ≡ pick v field) (λ a. pick v field ≡ ended (picked field a)) e refl
-  stays_on (follow v field table) e = match_none (result_of v) (follow v field table ≡ follow v field table)
-      (λ a. LoadsTarget p (target_in table (picked field a)) (follow v field table)) e refl
-  stays_on (each v field table) e = match_none (result_of v) (each v field table ≡ each v field table)
-      (λ a. LoadsTargets p (targets_in table (picked field a)) (each v field table)) e refl
-  stays_on (all vs) e = match_none (results_of vs) (all vs ≡ all vs) (λ ls. all vs ≡ ended (gathered ls)) e refl
-
-  pub waits_no_more : (v : Tree) → stays v ≡ true → own_waits p v ≡ []
-  waits_no_more (ended a) e = refl
-  waits_no_more (load k) e = absurd (let bad : false ≡ true = e in cc)
-  waits_no_more (pick v field) e = refl
-  waits_no_more (follow v field table) e = after_none (result_of v) (λ a. target_waits p (target_in table (picked field a))) e
-  waits_no_more (each v field table) e = after_none (result_of v) (λ a. targets_waits p (targets_in table (picked field a))) e
-  waits_no_more (all vs) e = refl
-
-  -- a node whose part a round has explored in place
-  module _ {X E : Type 0} (r : Result X E) (node after part now left : Node) (same : now ≡ part)
-      (explored : OnOk r (Reduces p (node_view now) (node_view left))) (field : Name) where
-    part_stands : Reduces p (node_view now) (node_view left) → Reduces p (node_view part) (node_view left)
-    part_stands h = subst (λ n. Reduces p (node_view n) (node_view left)) same h
-
-    pub pick_left : node_view node ≡ pick (node_view part) field → node_view after ≡ pick (node_view left) field
-        → OnOk r (PartsReduce p (node_view node) (node_view after))
-    pick_left e is = on_ok r (λ h. subst (λ t. PartsReduce p t (node_view after)) (sym e) (node_view left, part_stands h, is)) explored
-
-    pub follow_left : (table : Name) → node_view node ≡ follow (node_view part) field table → node_view after ≡ follow (node_view left) field table
-        → OnOk r (PartsReduce p (node_view node) (node_view after))
-    follow_left table e is = on_ok r (λ h. subst (λ t. PartsReduce p t (node_view after)) (sym e) (node_view left, part_stands h, is)) explored
-
-    pub each_left : (table : Name) → node_view node ≡ each (node_view part) field table → node_view after ≡ each (node_view left) field table
-        → OnOk r (PartsReduce p (node_view node) (node_view after))
-    each_left table e is = on_ok r (λ h. subst (λ t. PartsReduce p t (node_view after)) (sym e) (node_view left, part_stands h, is)) explored
-
-  -- what the form adds behind its part
-  adds_own : (t w : Tree) (next : Answer → List Key) (keys : List Key) → Reduces p t w
-      → insert_all key_eq (insert_all key_eq keys (waits p t)) (waits_after (result_of w) next)
-      ≡ insert_all key_eq keys (waits p t ++ waits_after (answer p t) next)
-  adds_own t w next keys part =
-      ap (λ o. insert_all key_eq (insert_all key_eq keys (waits p t)) (waits_after o next)) part.ending
-      ∙ sym (fold-append (insert_key key_eq) keys (waits p t) (waits_after (answer p t) next))
-
-  -- what the parts add, and behind it what the form adds, is all that it waits for
-  pub adds_all : (t v : Tree) (keys : List Key) → PartsReduce p t v
-      → insert_all key_eq (insert_all key_eq keys (parts_wait p t)) (own_waits p v) ≡ insert_all key_eq keys (waits p t)
-  adds_all (ended a) v keys same = ap (λ w. insert_all key_eq keys (own_waits p w)) same
-  adds_all (load k) v keys same = ap (λ w. insert_all key_eq keys (own_waits p w)) same
-  adds_all (pick t field) v keys part = ap (λ w. insert_all key_eq (insert_all key_eq keys (waits p t)) (own_waits p w)) part.2
-  adds_all (follow t field table) v keys part =
-      ap (λ w. insert_all key_eq (insert_all key_eq keys (waits p t)) (own_waits p w)) part.2
-      ∙ adds_own t part.0 (λ a. target_waits p (target_in table (picked field a))) keys part.1
-  adds_all (each t field table) v keys part =
-      ap (λ w. insert_all key_eq (insert_all key_eq keys (waits p t)) (own_waits p w)) part.2
-      ∙ adds_own t part.0 (λ a. targets_waits p (targets_in table (picked field a))) keys part.1
-  adds_all (all ts) v keys parts = ap (λ w. insert_all key_eq (insert_all key_eq keys (all_wait p ts)) (own_waits p w)) parts.2
+  pub chain_left : {E : Type 0} (r : Result (Option Node) E) (node after part now left : Node) (fs gs : List Frame) → now ≡ part
+      → IfOk r (Becomes p (framed fs (node_view now)) (framed gs (node_view left))) → node_view node ≡ framed fs (node_view part)
+      → node_view after ≡ framed gs (node_view left) → IfOk r (Becomes p (node_view node) (node_view after))
+  chain_left r node after part now left fs gs same explored e is =
+      subst (λ v. IfOk r (Becomes p (node_view node) v)) (sym is)
+      (subst (λ t. IfOk r (Becomes p t (framed gs (node_view left)))) (ap (λ n. framed fs (node_view n)) same ∙ sym e) explored)
 
   stand_more : (says : (Key → Option Outcome) → Option Answer) (lacks : (Key → Option Outcome) → List Key) (say : (Key → Option Outcome)
       → Option (List Answer)) (lack : (Key → Option Outcome) → List Key) (u : Tree) (us : Trees)

@@ -4,10 +4,11 @@ use Rattle.std.specs.Prelude.{ℕ, Vec, Box}
 use Rattle.std.specs.declared.alloc.Global.{Global}
 use Rattle.dl_values.specs.Key.{Key}
 use Rattle.dl_terms.specs.declared.answer.Answer.{Answer}
+use Rattle.dl_terms.specs.declared.node.Frame.{Frame}
 use Rattle.dl_terms.specs.declared.node.Node.{Node, the_lemmas}
 use Rattle.dl_terms.specs.declared.node.Node.TheVariants as form
-use Rattle.dl_terms.specs.Tree.{Name, ended, load, pick, follow, each, all}
-use Rattle.dl_terms.specs.Node.{node_view, nodes_view}
+use Rattle.dl_terms.specs.Tree.{ended, load, all}
+use Rattle.dl_terms.specs.Node.{framed, node_view, nodes_view}
 
 pub node_view-Done : (a : Answer) → node_view (form.Done a) ≡ ended a
 node_view-Done a = search (rules, the_lemmas)
@@ -18,11 +19,5 @@ node_view-Load k place = search (rules, the_lemmas)
 pub node_view-All : (v : Vec Node Global) → node_view (form.All v) ≡ all (nodes_view v.items)
 node_view-All v = search (rules, the_lemmas)
 
-pub node_view-Pick : (part : Box Node Global) (field : Name) → node_view (form.Pick part field) ≡ pick (node_view part.value) field
-node_view-Pick part field = search (rules, the_lemmas)
-
-pub node_view-Follow : (part : Box Node Global) (field table : Name) → node_view (form.Follow part field table) ≡ follow (node_view part.value) field table
-node_view-Follow part field table = search (rules, the_lemmas)
-
-pub node_view-Each : (part : Box Node Global) (field table : Name) → node_view (form.Each part field table) ≡ each (node_view part.value) field table
-node_view-Each part field table = search (rules, the_lemmas)
+pub node_view-Chain : (part : Box Node Global) (frames : Vec Frame Global) → node_view (form.Chain part frames) ≡ framed frames.items (node_view part.value)
+node_view-Chain part frames = search (rules, the_lemmas)

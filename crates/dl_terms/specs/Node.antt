@@ -1,6 +1,8 @@
 -- What is left of a term, as a tree.
-use Rattle.std.specs.Prelude.{List, [], map, Option, Some, None}
+use Rattle.std.specs.Prelude.{List, [], ◌∷◌, map, Option, Some, None}
 use Rattle.dl_terms.specs.declared.answer.Answer.{Answer}
+use Rattle.dl_terms.specs.declared.node.Frame.{Frame}
+use Rattle.dl_terms.specs.declared.node.Frame.TheVariants.{Pick, Follow, Each}
 use Rattle.dl_terms.specs.declared.node.Node.{Node}
 use Rattle.dl_terms.specs.declared.node.Node.TheOpen.{Node-F}
 use Rattle.dl_terms.specs.declared.node.Node.TheFolds.{fold-Node}
@@ -8,13 +10,22 @@ use Rattle.dl_terms.specs.Tree.{Tree, ended, load, pick, follow, each, all, Tree
 use Rattle.dl_terms.specs.View.{trees_of}
 use Rattle.dl_terms.specs.TermAnswers.{both}
 
+-- a frame round a tree
+abbrev pub over : Frame → Tree → Tree
+over (Pick field) t = pick t field
+over (Follow field table) t = follow t field table
+over (Each field table) t = each t field table
+
+-- a tree in frames, of which the last is the innermost
+abbrev pub framed : List Frame → Tree → Tree
+framed [] t = t
+framed (f ∷ fs) t = over f (framed fs t)
+
 -- one level, with each part already seen as its tree
 abbrev pub node_step : Node-F Tree → Tree
 node_step (Node-F.Done a) = ended a
 node_step (Node-F.Load k place) = load k
-node_step (Node-F.Pick p field) = pick p.value field
-node_step (Node-F.Follow p field table) = follow p.value field table
-node_step (Node-F.Each p field table) = each p.value field table
+node_step (Node-F.Chain part frames) = framed frames.items part.value
 node_step (Node-F.All v) = all (trees_of v.items)
 
 abbrev pub node_view : Node → Tree

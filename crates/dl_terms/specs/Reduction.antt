@@ -8,6 +8,11 @@ use Rattle.dl_terms.specs.TermAnswers.{answer, waits}
 use Rattle.dl_terms.specs.Rounds.{KnowsMore}
 use Rattle.dl_terms.specs.Node.{result_of}
 
+-- wherever p and more is known, u answers and waits as t does
+pub record MeansSame (p : Key → Option Outcome) (t u : Tree) : Type 0 where
+  pub meaning : (q : Key → Option Outcome) → KnowsMore p q → answer q u ≡ answer q t
+  pub waiting : (q : Key → Option Outcome) → KnowsMore p q → waits q u ≡ waits q t
+
 -- Wherever p and more is known, the tree u answers and waits as is said; where p suffices for the
 -- answer, u is that answer.
 pub record Stands (p : Key → Option Outcome) (says : (Key → Option Outcome) → Option Answer)

@@ -1,21 +1,21 @@
 //! Exploring what is left of a term.
 
-ghost use Rattle.std.specs.Prelude.{◌≡◌, Some, None, IfOk, OnOk, IsSome, is_some, option_map};
+ghost use Rattle.std.specs.Prelude.{◌≡◌, Some, IfOk, OnOk, IsSome, is_some, option_map};
 ghost use Rattle.std.specs.List.{list_all};
 ghost use Rattle.serde_json.specs.View.{view};
 ghost use Rattle.dl_values.specs.Key.{key_eq};
 ghost use Rattle.indexmap.specs.IndexSet.{insert_all};
-ghost use Rattle.dl_terms.specs.TermAnswers.{picked, gathered, waits, all_wait, waits_after, target_in, target_waits, targets_in, targets_waits};
-ghost use Rattle.dl_terms.specs.Node.{node_view, nodes_view, result_of, results_of};
+ghost use Rattle.dl_terms.specs.Tree.{all, ended};
+ghost use Rattle.dl_terms.specs.TermAnswers.{picked, gathered, waits, all_wait, target_in, target_waits, targets_in, targets_waits};
 ghost use Rattle.dl_terms.specs.Asked.{known_of, pairs_of, wanted_of};
+ghost use Rattle.dl_terms.specs.Node.{framed, node_view, nodes_view, over, result_of, results_of};
 ghost use Rattle.dl_terms.specs.Reduction.{Reduces};
-ghost use Rattle.dl_terms.specs.Inside.Exploration.{ReduceAll, PartsReduce, parts_wait, GoesOn, own_waits, stays};
-ghost use Rattle.dl_terms.specs.Inside.Exploration.{LoadsTargets, PicksOn, FollowsOn, EachOn, GathersOn};
+ghost use Rattle.dl_terms.specs.Inside.Exploration.{Becomes, GathersOn, LoadsTarget, LoadsTargets, ReduceAll};
 ghost use Rattle.dl_terms.specs.declared.answer.Answer.TheVariants as answer;
 
 use crate::answer::{Answer, EvalFault};
 use crate::asked::Asked;
-use crate::node::{HOLLOW, Node};
+use crate::node::{Frame, HOLLOW, Node};
 use crate::target::{load_again, load_id, load_ids};
 use dl_values::{Json, Text};
 use serde_json::Value;
@@ -25,54 +25,116 @@ use std::mem;
 /// The most items of a list of ids.
 const MOST_ITEMS: usize = 1_024;
 
-/// A round: takes the node as far as the known outcomes reach, in place, and adds to `wanted` each
-/// key that it then waits for, left to right, each at its first place. The node has ended exactly
-/// if it waits for none. A run of a term calls it once all the keys that it wanted before are known.
+/// A round: takes the node as far as the known outcomes reach, in place, and asks for each key that
+/// it then waits for, left to right. The node has ended exactly if it waits for none. A run of a term
+/// calls it once all the keys that it wanted before have outcomes.
 ///
 /// # Errors
 /// A failed allocation, which leaves a node that is of no more use.
 #[cycle(exploring)]
-pub fn explore(
-    alloc: Global,
-    node: &mut Node,
-    asked: &mut Asked<'_>,
-) -> Result<(), AllocError>
+pub fn explore(alloc: Global, node: &mut Node, asked: &mut Asked<'_>) -> Result<(), AllocError>
     ensures reduces { OnOk result (Reduces (known_of asked.old) (node_view node.old) (node_view node.new)) }
     ensures wanted { OnOk result (wanted_of asked.new
         ≡ insert_all key_eq (wanted_of asked.old) (waits (known_of asked.old) (node_view node.old))) }
     ensures pairs { OnOk result (pairs_of asked.new ≡ pairs_of asked.old) }
 {
-    explore_parts(alloc, node, asked)?;
-    if stays(node) {
-        return Ok(());
+    if let Some(next) = explore_inside(alloc, node, asked)? {
+        // An assignment would spell out here how each form of the old node is let go.
+        drop(mem::replace(node, next));
     }
-    rewrite(alloc, node, asked)?;
     Ok(())
 }
 
-/// A round of the node's parts, in place. The node keeps its form.
+/// A round of the node in its place, and what it becomes, where it becomes another. In this case what is left in the place
+/// is of no use.
 #[cycle(exploring)]
-fn explore_parts(
+fn explore_inside(
     alloc: Global,
     node: &mut Node,
     asked: &mut Asked<'_>,
-) -> Result<(), AllocError>
-    ensures reduce { OnOk result (PartsReduce (known_of asked.old) (node_view node.old) (node_view node.new)) }
+) -> Result<Option<Node>, AllocError>
+    ensures becomes { IfOk result (Becomes (known_of asked.old) (node_view node.old) (node_view node.new)) }
     ensures wanted { OnOk result (wanted_of asked.new
-        ≡ insert_all key_eq (wanted_of asked.old) (parts_wait (known_of asked.old) (node_view node.old))) }
+        ≡ insert_all key_eq (wanted_of asked.old) (waits (known_of asked.old) (node_view node.old))) }
     ensures pairs { OnOk result (pairs_of asked.new ≡ pairs_of asked.old) }
 {
     match node {
-        Node::Done(_) | Node::Load { .. } => Ok(()),
-        Node::Pick { part, .. } => explore(alloc, part, asked),
-        Node::Follow { part, .. } => explore(alloc, part, asked),
-        Node::Each { part, .. } => explore(alloc, part, asked),
-        Node::All(parts) => explore_all(alloc, parts, asked),
+        Node::Done(_) => Ok(None),
+        Node::Load { key, place } => Ok(Some(load_again(key, *place, asked)?)),
+        Node::Chain { part, frames } => explore_chain(alloc, part, frames, asked),
+        Node::All(parts) => explore_list(alloc, parts, asked),
     }
 }
 
+/// A round of a part in frames. Without frames they become the part.
 #[cycle(exploring)]
-#[inline(never)]
+fn explore_chain(
+    alloc: Global,
+    part: &mut Node,
+    frames: &mut Vec<Frame>,
+    asked: &mut Asked<'_>,
+) -> Result<Option<Node>, AllocError>
+    ensures becomes { IfOk result (Becomes (known_of asked.old)
+        (framed frames.old.items (node_view part.old)) (framed frames.new.items (node_view part.new))) }
+    ensures wanted { OnOk result (wanted_of asked.new
+        ≡ insert_all key_eq (wanted_of asked.old) (waits (known_of asked.old) (framed frames.old.items (node_view part.old)))) }
+    ensures pairs { OnOk result (pairs_of asked.new ≡ pairs_of asked.old) }
+{
+    climb(alloc, part, frames, asked)?;
+    if frames.is_empty() {
+        return Ok(Some(mem::replace(part, HOLLOW)));
+    }
+    Ok(None)
+}
+
+/// Explores a part, and takes its answer out through the frames, until there is something to wait for or no frame is left.
+#[cycle(exploring)]
+fn climb(
+    alloc: Global,
+    part: &mut Node,
+    frames: &mut Vec<Frame>,
+    asked: &mut Asked<'_>,
+) -> Result<(), AllocError>
+    ensures reduces { OnOk result (Reduces (known_of asked.old)
+        (framed frames.old.items (node_view part.old)) (framed frames.new.items (node_view part.new))) }
+    ensures wanted { OnOk result (wanted_of asked.new
+        ≡ insert_all key_eq (wanted_of asked.old) (waits (known_of asked.old) (framed frames.old.items (node_view part.old)))) }
+    ensures pairs { OnOk result (pairs_of asked.new ≡ pairs_of asked.old) }
+{
+    explore(alloc, part, asked)?;
+    while let Some(answer) = part.take_answer() {
+        let Some(frame) = frames.pop() else {
+            drop(mem::replace(part, Node::Done(answer)));
+            return Ok(());
+        };
+        let next = go_on(alloc, frame, answer, asked)?;
+        drop(mem::replace(part, next));
+    }
+    Ok(())
+}
+
+/// A round of the parts of an `all`. Once all of them have ended it becomes what they answer together.
+#[cycle(exploring)]
+fn explore_list(
+    alloc: Global,
+    parts: &mut Vec<Node>,
+    asked: &mut Asked<'_>,
+) -> Result<Option<Node>, AllocError>
+    ensures becomes { IfOk result (Becomes (known_of asked.old)
+        (all (nodes_view parts.old.items)) (all (nodes_view parts.new.items))) }
+    ensures wanted { OnOk result (wanted_of asked.new
+        ≡ insert_all key_eq (wanted_of asked.old) (all_wait (known_of asked.old) (nodes_view parts.old.items))) }
+    ensures pairs { OnOk result (pairs_of asked.new ≡ pairs_of asked.old) }
+{
+    explore_all(alloc, parts, asked)?;
+    if !have_ended(parts.as_slice()) {
+        return Ok(None);
+    }
+    let parts = mem::replace(parts, Vec::new(alloc));
+    Ok(Some(Node::Done(answer_all(alloc, parts)?)))
+}
+
+#[cycle(exploring)]
 fn explore_all(
     alloc: Global,
     parts: &mut Vec<Node>,
@@ -89,57 +151,25 @@ fn explore_all(
     Ok(())
 }
 
-/// Whether a node whose parts were explored has ended or waits for a part.
-fn stays(node: &Node) -> bool
-    ensures { result ≡ stays (node_view node.now) }
-{
-    match node {
-        Node::Done(_) => true,
-        Node::Load { .. } => false,
-        Node::Pick { part, .. } | Node::Follow { part, .. } | Node::Each { part, .. } => {
-            !part.has_ended()
-        }
-        Node::All(parts) => !have_ended(parts.as_slice()),
-    }
-}
-
-/// Puts what comes of a node whose parts were explored into its place. Most looks at a node don't come here, so they don't
-/// pay for the room that the old node and the new one take.
-#[inline(never)]
-fn rewrite(
+/// What comes of the answer of a part in a frame.
+fn go_on(
     alloc: Global,
-    node: &mut Node,
-    asked: &mut Asked<'_>,
-) -> Result<(), AllocError>
-    ensures stands { OnOk result (GoesOn (known_of asked.old) (node_view node.old) (node_view node.new)) }
-    ensures wanted { OnOk result (wanted_of asked.new
-        ≡ insert_all key_eq (wanted_of asked.old) (own_waits (known_of asked.old) (node_view node.old))) }
-    ensures pairs { OnOk result (pairs_of asked.new ≡ pairs_of asked.old) }
-{
-    let next = advance(alloc, mem::replace(node, HOLLOW), asked)?;
-    // An assignment would spell out here how each form of the old node is let go.
-    drop(mem::replace(node, next));
-    Ok(())
-}
-
-/// What comes of a node whose parts were explored.
-fn advance(
-    alloc: Global,
-    node: Node,
+    frame: Frame,
+    answer: Answer,
     asked: &mut Asked<'_>,
 ) -> Result<Node, AllocError>
-    ensures stands { IfOk result (λ n. GoesOn (known_of asked.old) (node_view node) (node_view n)) }
+    ensures reduces { IfOk result (λ n. Reduces (known_of asked.old) (over frame (ended answer)) (node_view n)) }
     ensures wanted { OnOk result (wanted_of asked.new
-        ≡ insert_all key_eq (wanted_of asked.old) (own_waits (known_of asked.old) (node_view node))) }
+        ≡ insert_all key_eq (wanted_of asked.old) (waits (known_of asked.old) (over frame (ended answer)))) }
     ensures pairs { OnOk result (pairs_of asked.new ≡ pairs_of asked.old) }
 {
-    match node {
-        Node::Done(answer) => Ok(Node::Done(answer)),
-        Node::Load { key, place } => load_again(key, place, asked),
-        Node::Pick { part, field } => pick(alloc, part, field),
-        Node::Follow { part, field, table } => follow(alloc, part, field, table, asked),
-        Node::Each { part, field, table } => each(alloc, part, field, table, asked),
-        Node::All(parts) => gather(alloc, parts),
+    match answer {
+        Answer::Fault(fault) => Ok(Node::Done(Answer::Fault(fault))),
+        Answer::Value(value) => match frame {
+            Frame::Pick { field } => Ok(Node::Done(pick_value(alloc, &value, &field)?)),
+            Frame::Follow { field, table } => follow(alloc, &value, &field, &table, asked),
+            Frame::Each { field, table } => each(alloc, &value, &field, &table, asked),
+        },
     }
 }
 
@@ -153,62 +183,43 @@ fn pick_value(alloc: Global, value: &Json, field: &Text) -> Result<Answer, Alloc
     }
 }
 
-/// A pick whose part was explored.
-fn pick(alloc: Global, mut part: Box<Node>, field: Text) -> Result<Node, AllocError>
-    ensures { IfOk result (λ n. PicksOn (node_view part.value) field (node_view n)) }
-{
-    match part.take_answer() {
-        None => Ok(Node::Pick { part, field }),
-        Some(Answer::Fault(fault)) => Ok(Node::Done(Answer::Fault(fault))),
-        Some(Answer::Value(value)) => Ok(Node::Done(pick_value(alloc, &value, &field)?)),
-    }
-}
-
-/// A follow whose part was explored.
+/// The load of the id that the field of a value is.
 fn follow(
     alloc: Global,
-    mut part: Box<Node>,
-    field: Text,
-    table: Text,
+    value: &Json,
+    field: &Text,
+    table: &Text,
     asked: &mut Asked<'_>,
 ) -> Result<Node, AllocError>
-    ensures stands { IfOk result (λ n. FollowsOn (known_of asked.old) (node_view part.value) field table (node_view n)) }
+    ensures stands { IfOk result (λ n. LoadsTarget (known_of asked.old)
+        (target_in table.now (picked field.now (answer.Value value.now))) (node_view n)) }
     ensures wanted { OnOk result (wanted_of asked.new ≡ insert_all key_eq (wanted_of asked.old)
-        (waits_after (result_of (node_view part.value))
-        (λ a. target_waits (known_of asked.old) (target_in table (picked field a))))) }
+        (target_waits (known_of asked.old) (target_in table.now (picked field.now (answer.Value value.now))))) }
     ensures pairs { OnOk result (pairs_of asked.new ≡ pairs_of asked.old) }
 {
-    match part.take_answer() {
-        None => Ok(Node::Follow { part, field, table }),
-        Some(Answer::Fault(fault)) => Ok(Node::Done(Answer::Fault(fault))),
-        Some(Answer::Value(value)) => match value.value().get(field.as_str()) {
-            None => Ok(Node::Done(Answer::Fault(EvalFault::NoField))),
-            Some(id) => load_id(alloc, &table, id, asked),
-        },
+    match value.value().get(field.as_str()) {
+        None => Ok(Node::Done(Answer::Fault(EvalFault::NoField))),
+        Some(id) => load_id(alloc, table, id, asked),
     }
 }
 
-/// An each whose part was explored.
+/// The loads of the ids that the field of a value lists.
 fn each(
     alloc: Global,
-    mut part: Box<Node>,
-    field: Text,
-    table: Text,
+    value: &Json,
+    field: &Text,
+    table: &Text,
     asked: &mut Asked<'_>,
 ) -> Result<Node, AllocError>
-    ensures stands { IfOk result (λ n. EachOn (known_of asked.old) (node_view part.value) field table (node_view n)) }
+    ensures stands { IfOk result (λ n. LoadsTargets (known_of asked.old)
+        (targets_in table.now (picked field.now (answer.Value value.now))) (node_view n)) }
     ensures wanted { OnOk result (wanted_of asked.new ≡ insert_all key_eq (wanted_of asked.old)
-        (waits_after (result_of (node_view part.value))
-        (λ a. targets_waits (known_of asked.old) (targets_in table (picked field a))))) }
+        (targets_waits (known_of asked.old) (targets_in table.now (picked field.now (answer.Value value.now))))) }
     ensures pairs { OnOk result (pairs_of asked.new ≡ pairs_of asked.old) }
 {
-    match part.take_answer() {
-        None => Ok(Node::Each { part, field, table }),
-        Some(Answer::Fault(fault)) => Ok(Node::Done(Answer::Fault(fault))),
-        Some(Answer::Value(value)) => match value.value().get(field.as_str()) {
-            None => Ok(Node::Done(Answer::Fault(EvalFault::NoField))),
-            Some(ids) => load_list(alloc, &table, ids, asked),
-        },
+    match value.value().get(field.as_str()) {
+        None => Ok(Node::Done(Answer::Fault(EvalFault::NoField))),
+        Some(ids) => load_list(alloc, table, ids, asked),
     }
 }
 

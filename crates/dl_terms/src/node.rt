@@ -2,7 +2,7 @@
 
 ghost use Rattle.std.specs.Prelude.{◌≡◌, None, IfOk, is_some};
 ghost use Rattle.dl_terms.specs.View.{term_view, terms_view};
-ghost use Rattle.dl_terms.specs.Node.{node_view, nodes_view, result_of};
+ghost use Rattle.dl_terms.specs.Node.{framed, node_view, nodes_view, result_of};
 
 use crate::answer::{Answer, EvalFault};
 use crate::term::Term;
@@ -16,30 +16,29 @@ use std::mem;
 pub enum Node {
     /// It has ended.
     Done(Answer),
-    /// The load of a key, and the place at which to look first for its outcome among those that are known.
+    /// The load of a key, and the place of the key among those that were asked for, where it was.
     Load {
         key: FetchKey,
         place: usize,
     },
-    /// The field of what the part answers.
-    Pick {
+    /// What is made of the part's answer, frame by frame. The last frame is the innermost.
+    Chain {
         part: Box<Node>,
-        field: Text,
-    },
-    /// The load of the id that the part's field is.
-    Follow {
-        part: Box<Node>,
-        field: Text,
-        table: Text,
-    },
-    /// The loads of the ids that the part's field lists.
-    Each {
-        part: Box<Node>,
-        field: Text,
-        table: Text,
+        frames: Vec<Frame>,
     },
     /// What the parts answer together.
     All(Vec<Node>),
+}
+
+/// What is made of the answer of a part.
+#[derive(Drop)]
+pub enum Frame {
+    /// Its field.
+    Pick { field: Text },
+    /// The load of the id that its field is.
+    Follow { field: Text, table: Text },
+    /// The loads of the ids that its field lists.
+    Each { field: Text, table: Text },
 }
 
 /// Stands in a node's place while the node is rewritten.
@@ -64,11 +63,14 @@ impl Node {
     {
         match self {
             Node::Done(answer) => Some(answer),
-            Node::Load { .. }
-            | Node::Pick { .. }
-            | Node::Follow { .. }
-            | Node::Each { .. }
-            | Node::All(_) => None,
+            Node::Chain { part, frames } => {
+                if frames.is_empty() {
+                    Box::into_inner(part).into_answer()
+                } else {
+                    None
+                }
+            }
+            Node::Load { .. } | Node::All(_) => None,
         }
     }
 
@@ -76,7 +78,11 @@ impl Node {
     pub fn has_ended(&self) -> bool
         ensures { result ≡ is_some (result_of (node_view self.now)) }
     {
-        matches!(self, Node::Done(_))
+        match self {
+            Node::Done(_) => true,
+            Node::Chain { part, frames } => frames.is_empty() && part.has_ended(),
+            Node::Load { .. } | Node::All(_) => false,
+        }
     }
 }
 
@@ -86,33 +92,36 @@ impl Node {
 pub fn unexplored(alloc: Global, term: Term) -> Result<Node, AllocError>
     ensures { IfOk result (λ n. node_view n ≡ term_view term) }
 {
-    match term {
-        Term::Value(value) => Ok(Node::Done(Answer::Value(value))),
-        Term::Load(key) => Ok(Node::Load { key, place: 0 }),
-        Term::Pick { part, field } => Ok(Node::Pick {
-            part: unexplored_part(alloc, part)?,
-            field,
-        }),
-        Term::Follow { part, field, table } => Ok(Node::Follow {
-            part: unexplored_part(alloc, part)?,
-            field,
-            table,
-        }),
-        Term::Each { part, field, table } => Ok(Node::Each {
-            part: unexplored_part(alloc, part)?,
-            field,
-            table,
-        }),
-        Term::All(parts) => Ok(Node::All(unexplored_all(alloc, parts)?)),
+    let mut frames = Vec::new(alloc);
+    let mut term = term;
+    loop {
+        let (frame, part) = match term {
+            Term::Value(value) => {
+                return in_frames(alloc, Node::Done(Answer::Value(value)), frames);
+            }
+            Term::Load(key) => return in_frames(alloc, Node::Load { key, place: 0 }, frames),
+            Term::All(parts) => {
+                let parts = unexplored_all(alloc, parts)?;
+                return in_frames(alloc, Node::All(parts), frames);
+            }
+            Term::Pick { part, field } => (Frame::Pick { field }, part),
+            Term::Follow { part, field, table } => (Frame::Follow { field, table }, part),
+            Term::Each { part, field, table } => (Frame::Each { field, table }, part),
+        };
+        frames.push(frame)?;
+        term = Box::into_inner(part);
     }
 }
 
-#[cycle(making)]
-fn unexplored_part(alloc: Global, part: Box<Term>) -> Result<Box<Node>, AllocError>
-    ensures { IfOk result (λ n. node_view n.value ≡ term_view part.value) }
+/// The node of a part in frames.
+fn in_frames(alloc: Global, part: Node, frames: Vec<Frame>) -> Result<Node, AllocError>
+    ensures { IfOk result (λ n. node_view n ≡ framed frames.items (node_view part)) }
 {
-    let node = unexplored(alloc, Box::into_inner(part))?;
-    Ok(Box::new(alloc, node)?)
+    if frames.is_empty() {
+        return Ok(part);
+    }
+    let part = Box::new(alloc, part)?;
+    Ok(Node::Chain { part, frames })
 }
 
 #[cycle(making)]

@@ -17,17 +17,17 @@ use serde_json::Value;
 use std::alloc::{AllocError, Global};
 
 /// What a load of the key answers.
-fn loaded(key: FetchKey, outcome: &Outcome) -> Result<Answer, AllocError>
-    ensures { IfOk result (λ a. a ≡ loaded key outcome.now) }
+fn loaded(key: &FetchKey, outcome: &Outcome) -> Result<Answer, AllocError>
+    ensures { IfOk result (λ a. a ≡ loaded key.now outcome.now) }
 {
     match outcome {
         Outcome::Value(value) => Ok(Answer::Value(value.try_copy()?)),
         Outcome::KeyError(text) => {
-            let text = text.try_copy()?;
+            let (key, text) = (key.try_copy()?, text.try_copy()?);
             Ok(Answer::Fault(EvalFault::Key { key, text }))
         }
         Outcome::BatchFailed(fault) => {
-            let fault = fault.try_copy()?;
+            let (key, fault) = (key.try_copy()?, fault.try_copy()?);
             Ok(Answer::Fault(EvalFault::Batch { key, fault }))
         }
     }
@@ -42,25 +42,25 @@ fn load(key: FetchKey, asked: &mut Asked<'_>) -> Result<Node, AllocError>
 {
     let (place, outcome) = asked.ask(&key)?;
     match outcome {
-        Some(outcome) => Ok(Node::Done(loaded(key, outcome)?)),
+        Some(outcome) => Ok(Node::Done(loaded(&key, outcome)?)),
         None => Ok(Node::Load { key, place }),
     }
 }
 
 /// The load of a key that was asked for in this place, or of one that wasn't asked for yet.
 pub(crate) fn load_again(
-    key: FetchKey,
+    key: &FetchKey,
     place: usize,
     asked: &mut Asked<'_>,
 ) -> Result<Node, AllocError>
-    ensures stands { IfOk result (λ n. LoadsTarget (known_of asked.old) (Target.key key) (node_view n)) }
+    ensures stands { IfOk result (λ n. LoadsTarget (known_of asked.old) (Target.key key.now) (node_view n)) }
     ensures wanted { OnOk result (wanted_of asked.new
-        ≡ insert_all key_eq (wanted_of asked.old) (load_waits (known_of asked.old) key)) }
+        ≡ insert_all key_eq (wanted_of asked.old) (load_waits (known_of asked.old) key.now)) }
     ensures pairs { OnOk result (pairs_of asked.new ≡ pairs_of asked.old) }
 {
-    match asked.outcome_at(place, &key) {
+    match asked.outcome_at(place, key) {
         Some(outcome) => Ok(Node::Done(loaded(key, outcome)?)),
-        None => load(key, asked),
+        None => load(key.try_copy()?, asked),
     }
 }
 

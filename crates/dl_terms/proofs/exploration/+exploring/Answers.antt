@@ -1,77 +1,24 @@
-use Rattle.std.proofs.Common.{◌≡◌, ◌∙◌, ◌<◌, ◌≤◌, ◌+◌, ◌≢◌, length, get_or, set, take, refl, true, ap, sym, subst, arith}
-use Rattle.std.specs.List.{AllZip}
+use Rattle.std.proofs.Common.{◌≡◌, ◌∙◌, ◌<◌, ◌≤◌, ◌+◌, ◌≢◌, length, get_or, set, take, refl, true, false, is_some, Some, None, ap, sym, subst, arith, rules}
+use Rattle.std.specs.Prelude.{IfOk, IsSome, Vec, option_map}
+use Rattle.std.specs.declared.alloc.Global.{Global}
+use Rattle.std.specs.List.{AllZip, list_all}
 use Rattle.std.proofs.lemmas.List.{take_all, drop_all, take_more_set, length-set, get_or-set_other}
 use Rattle.std.proofs.lemmas.Result.{IfOk-from_err}
 use Rattle.indexmap.specs.IndexSet.{insert_all}
 use Rattle.dl_values.specs.Key.{key_eq}
-use Rattle.dl_terms.specs.TermAnswers.{outcome_in, waits, all_wait}
-use Rattle.dl_terms.specs.Node.{node_view, nodes_view}
+use Rattle.dl_terms.specs.declared.node.Frame.{Frame}
+use Rattle.dl_terms.specs.declared.node.Node.{Node}
+use Rattle.dl_terms.specs.Tree.{all, ended}
+use Rattle.dl_terms.specs.TermAnswers.{outcome_in, answer, answers, gathered, waits, all_wait}
+use Rattle.dl_terms.specs.Node.{framed, node_view, nodes_view, over, result_of, results_of}
 use Rattle.dl_terms.specs.Asked.{known_of, wanted_of}
-use Rattle.dl_terms.specs.Reduction.{Reduces}
-use Rattle.dl_terms.specs.Inside.Exploration.{GoesOn, own_waits, parts_wait, stays}
-use Rattle.dl_terms.proofs.Views.{node_view-Pick, node_view-Follow, node_view-Each}
-use Rattle.dl_terms.proofs.Reductions.{parts_go_on, pick_left, follow_left, each_left, adds_all, stays_on, waits_no_more, nodes_reduce, zip_next, wanted_next}
+use Rattle.dl_terms.specs.Reduction.{MeansSame, Reduces}
+use Rattle.dl_terms.specs.Inside.Exploration.{Becomes}
+use Rattle.dl_terms.proofs.Views.{node_view-Chain, node_view-Done}
+use Rattle.dl_terms.proofs.PartAnswers.{all_ended, gathers_none, gathers_some}
+use Rattle.dl_terms.proofs.Frames.{means_framed, settles, still_means, part_waits, part_wants}
+use Rattle.dl_terms.proofs.Reductions.{chain_left, gathers_on, nodes_reduce, result_is, zip_next, wanted_next}
 use Rattle.dl_terms.proofs.exploration.+exploring.Goals as goal
-
-pub explore-returns-then-stays-clause-reduces : goal.explore-returns-then-stays-clause-reduces
-explore-returns-then-stays-clause-reduces t c =
-    let p = known_of c.args.asked.now in
-    let v = node_view c.explore_parts.new.node in
-    let same : stays v ≡ true = sym c.stays.ensures ∙ c.if-stays.true in
-    parts_go_on p (node_view c.args.node.now) v v c.in_ok-explore_parts.ensures.reduce (stays_on p v same)
-
-pub explore-returns-then-stays-clause-wanted : goal.explore-returns-then-stays-clause-wanted
-explore-returns-then-stays-clause-wanted t c =
-    let p = known_of c.args.asked.now in
-    let v = node_view c.explore_parts.new.node in
-    let same : stays v ≡ true = sym c.stays.ensures ∙ c.if-stays.true in
-    let keys = wanted_of c.args.asked.now in
-    let parts = insert_all key_eq keys (parts_wait p (node_view c.args.node.now)) in
-    c.in_ok-explore_parts.ensures.wanted
-    ∙ (ap (insert_all key_eq parts) (sym (waits_no_more p v same)) ∙ adds_all p (node_view c.args.node.now) v keys c.in_ok-explore_parts.ensures.reduce)
-
-pub explore-returns-clause-reduces : goal.explore-returns-clause-reduces
-explore-returns-clause-reduces t c =
-    let v = node_view c.explore_parts.new.node in
-    let u = node_view c.rewrite.new.node in
-    parts_go_on (known_of c.args.asked.now) (node_view c.args.node.now) v u c.in_ok-explore_parts.ensures.reduce
-    (subst (λ ps. GoesOn (outcome_in ps) v u) c.in_ok-explore_parts.ensures.pairs c.in_ok-rewrite.ensures.stands)
-
-pub explore-returns-clause-wanted : goal.explore-returns-clause-wanted
-explore-returns-clause-wanted t c =
-    let p = known_of c.args.asked.now in
-    let v = node_view c.explore_parts.new.node in
-    c.in_ok-rewrite.ensures.wanted
-    ∙ (ap (λ ps. insert_all key_eq (wanted_of c.explore_parts.new.asked) (own_waits (outcome_in ps) v)) c.in_ok-explore_parts.ensures.pairs
-    ∙ (ap (λ ks. insert_all key_eq ks (own_waits p v)) c.in_ok-explore_parts.ensures.wanted
-    ∙ adds_all p (node_view c.args.node.now) v (wanted_of c.args.asked.now) c.in_ok-explore_parts.ensures.reduce))
-
-pub explore_parts-returns-in-Pick-clause-reduce : goal.explore_parts-returns-in-Pick-clause-reduce
-unfolding Rattle.dl_terms.specs.declared.node.Node.TheViews.out-Node denote.Hole.Carrier.out
-explore_parts-returns-in-Pick-clause-reduce t c =
-    let b = c.in-Pick in
-    let e = c.explore in
-    let same : c.deref_mut.result.now ≡ b.part.value = c.deref_mut.ensures.value ∙ ap (λ x. x.value) b.part-is in
-    pick_left (known_of c.args.asked.now) e.result c.args.node.now _ b.part.value _ e.new.node same e.ensures.reduces b.field
-    (ap node_view b.is ∙ node_view-Pick b.part b.field) (rw b.is (node_view-Pick (record b.part { value = e.new.node }) b.field))
-
-pub explore_parts-returns-in-Follow-clause-reduce : goal.explore_parts-returns-in-Follow-clause-reduce
-unfolding Rattle.dl_terms.specs.declared.node.Node.TheViews.out-Node denote.Hole.Carrier.out
-explore_parts-returns-in-Follow-clause-reduce t c =
-    let b = c.in-Follow in
-    let e = c.explore-in-Follow in
-    let same : c.deref_mut-in-Follow.result.now ≡ b.part.value = c.deref_mut-in-Follow.ensures.value ∙ ap (λ x. x.value) b.part-is in
-    follow_left (known_of c.args.asked.now) e.result c.args.node.now _ b.part.value _ e.new.node same e.ensures.reduces b.field b.table
-    (ap node_view b.is ∙ node_view-Follow b.part b.field b.table) (rw b.is (node_view-Follow (record b.part { value = e.new.node }) b.field b.table))
-
-pub explore_parts-returns-in-Each-clause-reduce : goal.explore_parts-returns-in-Each-clause-reduce
-unfolding Rattle.dl_terms.specs.declared.node.Node.TheViews.out-Node denote.Hole.Carrier.out
-explore_parts-returns-in-Each-clause-reduce t c =
-    let b = c.in-Each in
-    let e = c.explore-in-Each in
-    let same : c.deref_mut-in-Each.result.now ≡ b.part.value = c.deref_mut-in-Each.ensures.value ∙ ap (λ x. x.value) b.part-is in
-    each_left (known_of c.args.asked.now) e.result c.args.node.now _ b.part.value _ e.new.node same e.ensures.reduces b.field b.table
-    (ap node_view b.is ∙ node_view-Each b.part b.field b.table) (rw b.is (node_view-Each (record b.part { value = e.new.node }) b.field b.table))
 
 pub explore_all-loop-place-preserved : goal.explore_all-loop-place-preserved
 explore_all-loop-place-preserved t c =
@@ -121,20 +68,106 @@ explore_all-returns-clause-wanted t c =
     ap (λ ns. insert_all key_eq (wanted_of c.loop-place.asked) (all_wait p (nodes_view ns))) (sym (drop_all c.loop-place.place before long))
     ∙ c.loop-place.invariant.wanted
 
-pub explore-returns-in_err-explore_parts-clause-reduces : goal.explore-returns-in_err-explore_parts-clause-reduces
-explore-returns-in_err-explore_parts-clause-reduces t c = IfOk-from_err _ _ c.from_residual.ensures.0
-
-pub explore-returns-in_err-explore_parts-clause-wanted : goal.explore-returns-in_err-explore_parts-clause-wanted
-explore-returns-in_err-explore_parts-clause-wanted t c = IfOk-from_err _ _ c.from_residual.ensures.0
-
-pub explore-returns-in_err-rewrite-clause-reduces : goal.explore-returns-in_err-rewrite-clause-reduces
-explore-returns-in_err-rewrite-clause-reduces t c = IfOk-from_err _ _ c.from_residual-in_err-rewrite.ensures.0
-
-pub explore-returns-in_err-rewrite-clause-wanted : goal.explore-returns-in_err-rewrite-clause-wanted
-explore-returns-in_err-rewrite-clause-wanted t c = IfOk-from_err _ _ c.from_residual-in_err-rewrite.ensures.0
-
 pub explore_all-returns-in_err-explore-clause-reduce : goal.explore_all-returns-in_err-explore-clause-reduce
 explore_all-returns-in_err-explore-clause-reduce t c = IfOk-from_err _ _ c.from_residual.ensures.0
 
 pub explore_all-returns-in_err-explore-clause-wanted : goal.explore_all-returns-in_err-explore-clause-wanted
 explore_all-returns-in_err-explore-clause-wanted t c = IfOk-from_err _ _ c.from_residual.ensures.0
+
+pub climb-loop-answer-init : goal.climb-loop-answer-init
+climb-loop-answer-init t c =
+    let p = known_of c.args.asked.now in
+    let part = node_view c.args.part.now in
+    let left = node_view c.explore.new.node in
+    let explored = c.in_ok-explore.ensures in
+    record {
+      pairs = explored.pairs;
+      means = means_framed p c.args.frames.now.items part left (record { meaning = explored.reduces.meaning; waiting = explored.reduces.waiting });
+      settled = settles p part left explored.reduces;
+      wanted = explored.wanted ∙ ap (insert_all key_eq (wanted_of c.args.asked.now)) (sym (explored.reduces.waiting p (λ k o known. known)));
+    }
+
+pub climb-loop-answer-preserved : goal.climb-loop-answer-preserved
+climb-loop-answer-preserved t c =
+    let p = known_of c.args.asked.now in
+    let keys = wanted_of c.args.asked.now in
+    let whole = framed c.args.frames.now.items (node_view c.args.part.now) in
+    let h = c.loop-answer.invariant in
+    let part = node_view c.loop-answer.part in
+    let a = c.in-Some.answer in
+    let f = c.in-Some-pop.frame in
+    let next = node_view c.in_ok-next.next in
+    let left = node_view c.replace-in-Some.new.dest in
+    let went = c.in_ok-next.ensures in
+    let is : part ≡ ended a = result_is part a (sym c.in-Some.ensures.answer) in
+    let same : left ≡ next = ap node_view c.replace-in-Some.ensures.after in
+    let goes : Reduces p (over f (ended a)) next = subst (λ ps. Reduces (outcome_in ps) (over f (ended a)) next) h.pairs went.reduces in
+    let none : wanted_of c.loop-answer.asked ≡ keys = h.wanted ∙ ap (λ u. insert_all key_eq keys (waits p u)) is in
+    record {
+      pairs = went.pairs ∙ h.pairs;
+      means = subst (λ u. MeansSame p whole (framed c.pop.new.self.items u)) (sym same)
+          (still_means p whole c.loop-answer.frames.items c.pop.new.self.items f part next a c.in-Some-pop.ensures.items is goes h.means);
+      settled = subst (λ u. result_of u ≡ answer p u) (sym same) (settles p (over f (ended a)) next goes);
+      wanted = went.wanted ∙ (ap (λ ps. insert_all key_eq (wanted_of c.loop-answer.asked) (waits (outcome_in ps) (over f (ended a)))) h.pairs
+          ∙ (ap (λ ks. insert_all key_eq ks (waits p (over f (ended a)))) none
+          ∙ (ap (insert_all key_eq keys) (sym (goes.waiting p (λ k o known. known))) ∙ ap (λ u. insert_all key_eq keys (waits p u)) (sym same))));
+    }
+
+pub climb-returns-clause-reduces : goal.climb-returns-clause-reduces
+climb-returns-clause-reduces t c =
+    let p = known_of c.args.asked.now in
+    let whole = framed c.args.frames.now.items (node_view c.args.part.now) in
+    let h = c.loop-answer.invariant in
+    let frames = c.loop-answer.frames.items in
+    let none : result_of (node_view c.loop-answer.part) ≡ None = sym c.take_answer.ensures.answer ∙ c.in_default.is in
+    subst (λ n. Reduces p whole (framed frames (node_view n))) (sym (c.take_answer.ensures.kept c.in_default.is))
+    (part_waits p whole frames (node_view c.loop-answer.part) h.means h.settled none)
+
+pub climb-returns-clause-wanted : goal.climb-returns-clause-wanted
+climb-returns-clause-wanted t c =
+    let p = known_of c.args.asked.now in
+    let whole = framed c.args.frames.now.items (node_view c.args.part.now) in
+    let h = c.loop-answer.invariant in
+    let none : result_of (node_view c.loop-answer.part) ≡ None = sym c.take_answer.ensures.answer ∙ c.in_default.is in
+    h.wanted
+    ∙ ap (insert_all key_eq (wanted_of c.args.asked.now))
+    (sym (part_wants p whole c.loop-answer.frames.items (node_view c.loop-answer.part) h.means h.settled none))
+
+pub explore_inside-returns-in-Chain-clause-becomes : goal.explore_inside-returns-in-Chain-clause-becomes
+unfolding Rattle.dl_terms.specs.declared.node.Node.TheViews.out-Node denote.Hole.Carrier.out
+explore_inside-returns-in-Chain-clause-becomes t c =
+    let b = c.in-Chain in
+    let e = c.explore_chain in
+    let same : c.deref_mut.result.now ≡ b.part.value = c.deref_mut.ensures.value ∙ ap (λ x. x.value) b.part-is in
+    let explored = subst (λ (v : Vec Frame Global). IfOk e.result (Becomes (known_of c.args.asked.now) (framed v.items (node_view c.deref_mut.result.now))
+    (framed e.new.frames.items (node_view e.new.part)))) b.frames-is e.ensures.becomes in
+    chain_left (known_of c.args.asked.now) e.result c.args.node.now _ b.part.value _ e.new.part b.frames.items e.new.frames.items same explored
+    (ap node_view b.is ∙ node_view-Chain b.part b.frames) (rw b.is (node_view-Chain (record b.part { value = e.new.part }) e.new.frames))
+
+pub explore_list-returns-then-not-have_ended-clause-becomes : goal.explore_list-returns-then-not-have_ended-clause-becomes
+explore_list-returns-then-not-have_ended-clause-becomes t c =
+    let before = nodes_view c.args.parts.now.items in
+    let items = c.explore_all.new.parts.items in
+    let parts = nodes_view items in
+    let fails : c.have_ended.result ≡ false = search rules in
+    let none : is_some (results_of parts) ≡ false = sym (all_ended items) ∙ (ap (list_all (λ n. is_some (result_of (node_view n)))) (sym c.as_slice.ensures.value)
+    ∙ (sym c.have_ended.ensures ∙ fails)) in
+    gathers_on (known_of c.args.asked.now) (λ q. answers q before) (λ q. all_wait q before) parts (all parts) c.in_ok-explore_all.ensures.reduce
+    (gathers_none parts (all parts) none refl)
+
+pub explore_list-answer_all-requires : goal.explore_list-answer_all-requires
+explore_list-answer_all-requires t c =
+    let items = c.explore_all.new.parts.items in
+    let holds : c.have_ended.result ≡ true = search rules in
+    subst (λ (v : Vec Node Global). IsSome (results_of (nodes_view v.items))) (sym c.replace-parts.ensures.value)
+    (sym (all_ended items) ∙ (ap (list_all (λ n. is_some (result_of (node_view n)))) (sym c.as_slice.ensures.value) ∙ (sym c.have_ended.ensures ∙ holds)))
+
+pub explore_list-returns-clause-becomes : goal.explore_list-returns-clause-becomes
+explore_list-returns-clause-becomes t c =
+    let before = nodes_view c.args.parts.now.items in
+    let parts = nodes_view c.explore_all.new.parts.items in
+    let a = c.in_ok-answer_all.field-0 in
+    let together : option_map gathered (results_of parts) ≡ Some a =
+    ap (λ (v : Vec Node Global). option_map gathered (results_of (nodes_view v.items))) (sym c.replace-parts.ensures.value) ∙ c.in_ok-answer_all.ensures in
+    gathers_on (known_of c.args.asked.now) (λ q. answers q before) (λ q. all_wait q before) parts _ c.in_ok-explore_all.ensures.reduce
+    (gathers_some parts _ a together (node_view-Done a))
