@@ -54,3 +54,21 @@ pub found_all : {A : Type 0} (read_all : List Value → Option (List A)) → rea
 found_all read_all none xs items place so_far long =
     let end : Some [] ≡ read_all (drop place items) = sym none ∙ ap read_all (sym (drop_all place items long)) in
     ap Some (sym (append-nil xs)) ∙ (ap (option_map (λ ys. xs ++ ys)) end ∙ so_far)
+
+-- ---- items that are taken out of a list
+
+module _ {A : Type 0} (read : Value → Option A) (read_all : List Value → Option (List A))
+    (goes : (v : Value) (vs : List Value) → read_all (v ∷ vs) ≡ both (read v) (read_all vs))
+    (xs : List A) (all rest : List Value) (item : Value) (r : Option (List A)) (cut : all ≡ item ∷ rest)
+    (so_far : option_map (λ ys. xs ++ ys) (read_all all) ≡ r) where
+  -- the next item was read
+  pub found_next : (new : List A) (x : A) → Some x ≡ read item → new ≡ xs ++ x ∷ [] → option_map (λ ys. new ++ ys) (read_all rest) ≡ r
+  found_next new x is pushed =
+      let first : both (Some x) (read_all rest) ≡ read_all (item ∷ rest) = ap (λ (o : Option A). both o (read_all rest)) is ∙ sym (goes item rest) in
+      rw pushed (one_more xs x (read_all rest) ∙ (ap (option_map (λ ys. xs ++ ys)) (first ∙ ap read_all (sym cut)) ∙ so_far))
+
+  -- the next item isn't one of these
+  pub found_none : None ≡ read item → None ≡ r
+  found_none none =
+      let stops : None ≡ read_all (item ∷ rest) = ap (λ (o : Option A). both o (read_all rest)) none ∙ sym (goes item rest) in
+      ap (option_map (λ ys. xs ++ ys)) (stops ∙ ap read_all (sym cut)) ∙ so_far

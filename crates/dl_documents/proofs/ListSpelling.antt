@@ -1,6 +1,7 @@
 -- What a list of values spells, read one by one.
 use Rattle.std.proofs.Common.{◌≡◌, ℕ, zero, suc, ◌+◌, ◌<◌, List, [], ◌∷◌, ◌++◌, length, get_or, take, map, Some, refl, sym, ap, ◌∙◌, arith}
-use Rattle.std.proofs.lemmas.List.{take_more, map-append}
+use Rattle.std.proofs.Common.{subst, append-nil}
+use Rattle.std.proofs.lemmas.List.{take_more, map-append, length-map}
 use Rattle.std.proofs.lemmas.Option.{none-some, same_Some, slice_get-map, slice_get-get_or}
 use Rattle.std.specs.List.{AllByRecursion, slice_get}
 use Rattle.serde_json.specs.Data.{Data}
@@ -62,15 +63,44 @@ pub record Spell {V D A : Type 0} (see : V → D) (spell : A → D) (Is : A → 
   pub trees : map see vs ≡ map spell xs
   pub all : AllByRecursion Is xs
 
+-- as many values as there are things that they spell
+pub spell_size : {V D A : Type 0} (see : V → D) (spell : A → D) (Is : A → Type 0) (vs : List V) (xs : List A) → Spell see spell Is vs xs → length vs ≡ length xs
+spell_size see spell Is vs xs h = sym (length-map vs see) ∙ ap length h.trees ∙ length-map xs spell
+
+-- once nothing is left, what was yielded is the whole list
+pub all_yielded : {V : Type 0} (front rest vs : List V) → front ++ rest ≡ vs → length rest ≡ 0 → front ≡ vs
+all_yielded front [] vs is none = sym (append-nil front) ∙ is
+all_yielded front (v ∷ rest) vs is none = absurd (omega arith)
+
+-- a place in a list: what stands in front of it, and what there
+pub record IsPlace {V : Type 0} (front : List V) (v : V) (vs : List V) : Type 0 where
+  pub low : length front < length vs
+  pub at : v ≡ get_or vs (length front) v
+  pub cut : take (length front) vs ≡ front
+
+place_in : {V : Type 0} (front : List V) (v : V) (rest : List V) → IsPlace front v (front ++ v ∷ rest)
+place_in [] v rest = record { low = omega arith; at = refl; cut = refl }
+place_in (w ∷ front) v rest =
+    let p = place_in front v rest in
+    record { low = (let h = p.low in omega arith); at = p.at; cut = ap (λ l. w ∷ l) p.cut }
+
+pub place_of : {V : Type 0} (front : List V) (v : V) (rest vs : List V) → front ++ v ∷ rest ≡ vs → IsPlace front v vs
+place_of front v rest vs is = subst (IsPlace front v) is (place_in front v rest)
+
 module _ {V D A : Type 0} (see : V → D) (spell : A → D) (Is : A → Type 0) where
   -- one more
+  pub spell_next : (vs : List V) (v : V) (xs : List A) (x : A) → Spell see spell Is vs xs → see v ≡ spell x → Is x → Spell see spell Is (vs ++ v ∷ []) (xs ++ x ∷ [])
+  spell_next vs v xs x so_far tree is = record {
+    trees = map-append see vs (v ∷ []) ∙ rw (so_far.trees, tree) (sym (map-append spell xs (x ∷ [])));
+    all = all_more Is xs x so_far.all is;
+  }
+
+  -- one more, at a place
   pub spell_more : (vs : List V) (i : ℕ) (v : V) (xs : List A) (x : A) → i < length vs → v ≡ get_or vs i v
       → Spell see spell Is (take i vs) xs → see v ≡ spell x → Is x → Spell see spell Is (take (i + 1) vs) (xs ++ x ∷ [])
   spell_more vs i v xs x low at so_far tree is =
       let front : take (i + 1) vs ≡ take i vs ++ v ∷ [] = take_more vs i v low ∙ ap (λ y. take i vs ++ y ∷ []) (sym at) in
-      let trees : map see (take i vs ++ v ∷ []) ≡ map spell (xs ++ x ∷ []) =
-      map-append see (take i vs) (v ∷ []) ∙ rw (so_far.trees, tree) (sym (map-append spell xs (x ∷ []))) in
-      record { trees = ap (map see) front ∙ trees; all = all_more Is xs x so_far.all is }
+      subst (λ l. Spell see spell Is l (xs ++ x ∷ [])) (sym front) (spell_next (take i vs) v xs x so_far tree is)
 
   -- an item among those that were read
   pub spelled_before : (vs : List V) (i m : ℕ) (xs : List A) (d : D) → Spell see spell Is (take i vs) xs → m < i → slice_get (map see vs) m ≡ Some d

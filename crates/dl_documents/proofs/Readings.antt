@@ -1,8 +1,8 @@
 -- Reading lists of calls, of steps, of plans and of lists, one by one.
-use Rattle.std.proofs.Common.{◌≡◌, ℕ, ◌+◌, ◌<◌, List, [], ◌∷◌, ◌++◌, length, get_or, take, map, Some, None, refl, sym, ap, ◌∙◌}
-use Rattle.std.proofs.lemmas.List.{map-append}
+use Rattle.std.proofs.Common.{◌≡◌, ℕ, ◌+◌, ◌<◌, List, [], ◌∷◌, ◌++◌, length, get_or, take, map, Some, None, refl, sym, ap, ◌∙◌, subst, Vec}
+use Rattle.std.proofs.lemmas.List.{map-append, length-map}
 use Rattle.std.proofs.lemmas.Option.{none-some}
-use Rattle.std.specs.Borrow.{Bor}
+use Rattle.std.specs.declared.alloc.Global.{Global}
 use Rattle.std.specs.List.{AllByRecursion}
 use Rattle.serde_json.specs.Data.{Data}
 use Rattle.serde_json.specs.Find.{as_array}
@@ -13,7 +13,7 @@ use Rattle.dl_terms.specs.declared.plan.Plan.{Plan}
 use Rattle.dl_terms.specs.declared.plan.Step.{Step}
 use Rattle.dl_documents.proofs.CallLaws.{call_is, call_again}
 use Rattle.dl_documents.proofs.StepLaws.{step_is, step_again}
-use Rattle.dl_documents.proofs.ListSpelling.{Spell, IsAny, spell_more, spell_stops, spelled_before, item_now, all_at, from_item}
+use Rattle.dl_documents.proofs.ListSpelling.{Spell, IsAny, spell_more, spell_next, spell_size, spell_stops, spelled_before, place_of, item_now, all_at, from_item}
 use Rattle.dl_documents.specs.Faults.{IsNoCall, IsNoStep}
 use Rattle.dl_documents.specs.Inside.Places.{HasOne}
 use Rattle.dl_documents.specs.Inside.Scripts.{IsFirstBadCall}
@@ -46,39 +46,44 @@ calls_stop vs i v cs low at so_far none = record {
 
 -- ---- steps
 
-pub steps_more : (vs : List Value) (i : ℕ) (v : Value) (steps : List Step) (s : Step) → i < length vs → v ≡ get_or vs i v
-    → Spell view step_tree IsPlanStep (take i vs) (map step_view steps) → Some (step_view s) ≡ step_in (view v)
-    → Spell view step_tree IsPlanStep (take (i + 1) vs) (map step_view (steps ++ s ∷ []))
-steps_more vs i v steps s low at so_far found =
+-- steps so far
+abbrev pub SpellSteps : List Value → List Step → Type 0
+SpellSteps vs steps = Spell view step_tree IsPlanStep vs (map step_view steps)
+
+pub steps_more : (vs : List Value) (v : Value) (steps : List Step) (s : Step) → SpellSteps vs steps → Some (step_view s) ≡ step_in (view v)
+    → SpellSteps (vs ++ v ∷ []) (steps ++ s ∷ [])
+steps_more vs v steps s so_far found =
     let p = step_is (view v) (step_view s) (sym found) in
-    rw (map-append step_view steps (s ∷ [])) (spell_more view step_tree IsPlanStep vs i v (map step_view steps) (step_view s) low at so_far p.tree p.is)
+    rw (map-append step_view steps (s ∷ [])) (spell_next view step_tree IsPlanStep vs v (map step_view steps) (step_view s) so_far p.tree p.is)
 
 -- the first item that is no step
-pub steps_stop : (plan : ℕ) (vs : List Value) (i : ℕ) (v : Value) (steps : List Step) → i < length vs → v ≡ get_or vs i v
-    → Spell view step_tree IsPlanStep (take i vs) (map step_view steps) → None ≡ step_in (view v) → IsFirstBadIn plan (map view vs) (Shape plan i)
-steps_stop plan vs i v steps low at so_far none = record {
-  step = i;
-  names = refl;
-  first = spell_stops view step_tree IsPlanStep IsNoStep (λ s is bad. bad s is refl) vs i v (map step_view steps) low at so_far
-      (λ s is e. none-some s (none ∙ (ap step_in e ∙ step_again s is)));
-}
+pub steps_stop : (plan : ℕ) (front : List Value) (v : Value) (rest vs : List Value) (steps : List Step) (n : ℕ) → front ++ v ∷ rest ≡ vs → n ≡ length steps
+    → SpellSteps front steps → None ≡ step_in (view v) → IsFirstBadIn plan (map view vs) (Shape plan n)
+steps_stop plan front v rest vs steps n is size so_far none =
+    let place = place_of front v rest vs is in
+    let long : length front ≡ n = spell_size view step_tree IsPlanStep front (map step_view steps) so_far ∙ length-map steps step_view ∙ sym size in
+    rw (← long) (record {
+      step = length front;
+      names = refl;
+      first = spell_stops view step_tree IsPlanStep IsNoStep (λ s is bad. bad s is refl) vs (length front) v (map step_view steps) place.low place.at
+          (subst (λ l. SpellSteps l steps) (sym place.cut) so_far) (λ s is e. none-some s (none ∙ (ap step_in e ∙ step_again s is)));
+    })
 
 -- ---- plans
 
 -- the trees of a list of values
-abbrev pub trees_of : Bor (List Value) → List Data
-trees_of list = map view list.now
+abbrev pub trees_of : Vec Value Global → List Data
+trees_of list = map view list.items
 
 -- plans so far
-abbrev pub SpellPlans : List (Bor (List Value)) → List Plan → Type 0
+abbrev pub SpellPlans : List (Vec Value Global) → List Plan → Type 0
 SpellPlans lists plans = Spell trees_of (map step_tree) (AllByRecursion IsPlanStep) lists (map plan_view plans)
 
-pub plans_more : (lists : List (Bor (List Value))) (i : ℕ) (list : Bor (List Value)) (plans : List Plan) (p : Plan) → i < length lists
-    → list ≡ get_or lists i list → SpellPlans (take i lists) plans → IsPlanOf (map view list.now) (plan_view p)
-    → SpellPlans (take (i + 1) lists) (plans ++ p ∷ [])
-plans_more lists i list plans p low at so_far is =
+pub plans_more : (lists : List (Vec Value Global)) (list : Vec Value Global) (plans : List Plan) (p : Plan) → SpellPlans lists plans
+    → IsPlanOf (map view list.items) (plan_view p) → SpellPlans (lists ++ list ∷ []) (plans ++ p ∷ [])
+plans_more lists list plans p so_far is =
     rw (map-append plan_view plans (p ∷ []))
-    (spell_more trees_of (map step_tree) (AllByRecursion IsPlanStep) lists i list (map plan_view plans) (plan_view p) low at so_far is.trees is.steps)
+    (spell_next trees_of (map step_tree) (AllByRecursion IsPlanStep) lists list (map plan_view plans) (plan_view p) so_far is.trees is.steps)
 
 -- trees of steps have none that is no step
 no_bad : (steps : List StepTree) → AllByRecursion IsPlanStep steps → HasOne IsNoStep (map step_tree steps) → ⊥
@@ -87,33 +92,40 @@ no_bad steps all has =
     has.3 p.0 (all_at IsPlanStep steps has.0 p.0 all p.1) p.2
 
 -- the first list with an item that is no step
-pub plans_stop : (lists : List (Bor (List Value))) (i : ℕ) (list : Bor (List Value)) (plans : List Plan) (f : PlanFault) → i < length lists
-    → list ≡ get_or lists i list → SpellPlans (take i lists) plans → IsFirstBadIn i (map view list.now) f → IsFirstBadStep (rows_view lists) f
-plans_stop lists i list plans f low at so_far bad = record {
-  plan = i;
-  step = bad.step;
-  names = bad.names;
-  first = record {
-    row = trees_of list;
-    there = item_now trees_of lists i list low at;
-    in_row = bad.first;
-    before = λ k r less there has.
-        (let p = spelled_before trees_of (map step_tree) (AllByRecursion IsPlanStep) lists i k (map plan_view plans) r so_far less there in
-        no_bad p.0 p.2 (rw p.1 at has));
-  };
-}
+pub plans_stop : (front : List (Vec Value Global)) (list : Vec Value Global) (rest lists : List (Vec Value Global)) (plans : List Plan) (n : ℕ) (f : PlanFault)
+    → front ++ list ∷ rest ≡ lists → n ≡ length plans → SpellPlans front plans → IsFirstBadIn n (map view list.items) f → IsFirstBadStep (rows_view lists) f
+plans_stop front list rest lists plans n f is size so_far bad =
+    let place = place_of front list rest lists is in
+    let long : length front ≡ n = spell_size trees_of (map step_tree) (AllByRecursion IsPlanStep) front (map plan_view plans) so_far ∙ length-map plans plan_view
+    ∙ sym size in
+    let read = subst (λ l. SpellPlans l plans) (sym place.cut) so_far in
+    record {
+      plan = n;
+      step = bad.step;
+      names = bad.names;
+      first = record {
+        row = trees_of list;
+        there = rw (← long) (item_now trees_of lists (length front) list place.low place.at);
+        in_row = bad.first;
+        before = λ k r less there has.
+            (let p = spelled_before trees_of (map step_tree) (AllByRecursion IsPlanStep) lists (length front) k (map plan_view plans) r read (rw long less) there in
+            no_bad p.0 p.2 (rw p.1 at has));
+      };
+    }
 
 -- ---- lists
 
 -- lists so far
-abbrev pub SpellLists : List Value → List (Bor (List Value)) → Type 0
+abbrev pub SpellLists : List Value → List (Vec Value Global) → Type 0
 SpellLists vs lists = Spell view row_tree IsAny vs (rows_view lists)
 
-pub lists_more : (vs : List Value) (i : ℕ) (v : Value) (lists : List (Bor (List Value))) (list : Bor (List Value)) → i < length vs → v ≡ get_or vs i v
-    → SpellLists (take i vs) lists → Some (items_view list.now) ≡ as_array (view v) → SpellLists (take (i + 1) vs) (lists ++ list ∷ [])
-lists_more vs i v lists list low at so_far is =
+pub lists_more : (vs : List Value) (v : Value) (lists : List (Vec Value Global)) (list : Vec Value Global) → SpellLists vs lists
+    → Some (items_view list.items) ≡ as_array (view v) → SpellLists (vs ++ v ∷ []) (lists ++ list ∷ [])
+lists_more vs v lists list so_far is =
     rw (map-append trees_of lists (list ∷ []))
-    (spell_more view row_tree IsAny vs i v (rows_view lists) (trees_of list) low at so_far (array_of (view v) (items_view list.now) (sym is)) tt)
+    (spell_next view row_tree IsAny vs v (rows_view lists) (trees_of list) so_far (array_of (view v) (items_view list.items) (sym is)) tt)
 
-pub lists_stop : (vs : List Value) (i : ℕ) (v : Value) → i < length vs → v ≡ get_or vs i v → None ≡ as_array (view v) → HasOther (map view vs)
-lists_stop vs i v low at none = (i, view v, item_now view vs i v low at, sym none)
+pub lists_stop : (front : List Value) (v : Value) (rest vs : List Value) → front ++ v ∷ rest ≡ vs → None ≡ as_array (view v) → HasOther (map view vs)
+lists_stop front v rest vs is none =
+    let place = place_of front v rest vs is in
+    (length front, view v, item_now view vs (length front) v place.low place.at, sym none)

@@ -1,8 +1,8 @@
 -- Values beside the trees that they stand for.
-use Rattle.std.proofs.Common.{◌≡◌, ◌∙◌, sym, ap, ℕ, zero, suc, ◌<◌, ◌≤◌, List, [], ◌∷◌, ◌++◌, length, map, drop, get_or, Some, None, option_map}
+use Rattle.std.proofs.Common.{◌≡◌, ◌∙◌, sym, ap, ℕ, ◌<◌, ◌≤◌, List, [], ◌∷◌, ◌++◌, length, map, Some, None, option_map}
 use Rattle.std.proofs.Common.{String, Vec, Global, string_bytes, refl, arith, rules}
 use Rattle.std.proofs.Math.Nat.{le-max_left, le-max_right}
-use Rattle.std.proofs.lemmas.List.{drop_all, append-nil}
+use Rattle.std.proofs.lemmas.List.{append-nil}
 use Rattle.std.proofs.lemmas.Option.{none-some}
 use Rattle.std.specs.Prelude.{slice_get}
 use Rattle.serde_json.specs.Data.{Data, object, Members, no_members, member, depth, items_depth}
@@ -75,29 +75,28 @@ pub no_term : (d : Data) → None ≡ one_in d → None ≡ term_in d
 no_term (object ms) h = no_term_of ms h
 no_term d h = refl
 
-item_within : (vs : List Value) (i : ℕ) (v : Value) → i < length vs → v ≡ get_or vs i v → depth (view v) ≤ items_depth (items_view vs)
-item_within [] i v h is = absurd (omega arith)
-item_within (w ∷ vs) zero v h is = rw is (le-max_left (depth (view w)) (items_depth (items_view vs)))
-item_within (w ∷ vs) (suc i) v h is =
-    let low : depth (view v) ≤ items_depth (items_view vs) = item_within vs i v (omega arith) is in
-    omega (arith, low, le-max_right (depth (view w)) (items_depth (items_view vs)))
+-- an item and the rest nest as deep as their list at most
+pub item_within : (v : Value) (vs : List Value) → depth (view v) ≤ items_depth (items_view (v ∷ vs))
+item_within v vs = le-max_left (depth (view v)) (items_depth (items_view vs))
 
--- an item nests less deep than its list
-pub item_lower : (d : Data) (vs : List Value) (i : ℕ) (v : Value) → Some (items_view vs) ≡ as_array d → i < length vs → v ≡ get_or vs i v
-    → depth (view v) < depth d
-item_lower d vs i v e h is = rw (array_of d (items_view vs) (sym e)) (omega (arith, item_within vs i v h is))
+pub rest_within : (v : Value) (vs : List Value) → items_depth (items_view vs) ≤ items_depth (items_view (v ∷ vs))
+rest_within v vs = le-max_right (depth (view v)) (items_depth (items_view vs))
+
+-- items nest less deep than their list
+pub items_lower : (d : Data) (vs : List Value) → Some (items_view vs) ≡ as_array d → items_depth (items_view vs) < depth d
+items_lower d vs e = rw (array_of d (items_view vs) (sym e)) (omega arith)
 
 term_view-All : (v : Vec Term Global) → term_view (All v) ≡ all (terms_view v.items)
 term_view-All v = search (rules, the_lemmas)
 
 -- the terms that were read of all items
-pub all_read : (d : Data) (vs : List Value) (parts : Vec Term Global) (i : ℕ) → Some (items_view vs) ≡ as_array d → length vs ≤ i
-    → option_map (λ ts. map term_view parts.items ++ ts) (together (parts_of (items_view (drop i vs)))) ≡ together (parts_of (items_view vs))
+pub all_read : (d : Data) (vs : List Value) (parts : Vec Term Global) (rest : List Value) → Some (items_view vs) ≡ as_array d → length rest ≡ 0
+    → option_map (λ ts. map term_view parts.items ++ ts) (together (parts_of (items_view rest))) ≡ together (parts_of (items_view vs))
     → Some (term_view (All parts)) ≡ gathers (parts_in d) d
-all_read d vs parts i e long read =
-    let none : drop i vs ≡ [] = drop_all i vs long in
+all_read d vs parts (v ∷ rest) e none read = absurd (omega arith)
+all_read d vs parts [] e none read =
     let found : Some (map term_view parts.items) ≡ together (parts_of (items_view vs)) =
-    ap Some (sym (append-nil (map term_view parts.items))) ∙ rw none at read in
+    ap Some (sym (append-nil (map term_view parts.items))) ∙ read in
     rw (array_of d (items_view vs) (sym e), ← found) (ap Some (term_view-All parts))
 
 -- an item was read as no term

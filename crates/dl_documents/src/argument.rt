@@ -5,6 +5,7 @@ ghost use Rattle.serde_json.specs.View.{view};
 ghost use Rattle.dl_documents.specs.Reading.{two_in, three_in, texts_in, key_in, keys_in, is_true};
 ghost use Rattle.dl_documents.specs.TermReading.{value_in};
 
+use dl_source::into_items;
 use dl_values::{FetchKey, Json, KeyFault, Keys, has_float};
 use serde_json::Value;
 use std::alloc::{AllocError, Global};
@@ -20,15 +21,31 @@ pub(crate) fn pair(value: &Value) -> Option<(&Value, &Value)>
     Some((&items[0], &items[1]))
 }
 
-/// The items of a list of three.
-pub(crate) fn triple(value: &Value) -> Option<(&Value, &Value, &Value)>
-    ensures { option_map (λ p. (view p.0.now, view p.1.now, view p.2.now)) result ≡ three_in (view value.now) }
+/// The items of a list of two, taken out of it.
+pub(crate) fn into_pair(value: Value) -> Option<(Value, Value)>
+    ensures { option_map (λ p. (view p.0, view p.1)) result ≡ two_in (view value) }
 {
-    let items = value.as_array()?;
+    let mut items = into_items(value)?;
+    if items.len() != 2 {
+        return None;
+    }
+    let second = items.pop()?;
+    let first = items.pop()?;
+    Some((first, second))
+}
+
+/// The items of a list of three, taken out of it.
+pub(crate) fn into_triple(value: Value) -> Option<(Value, Value, Value)>
+    ensures { option_map (λ p. (view p.0, view p.1, view p.2)) result ≡ three_in (view value) }
+{
+    let mut items = into_items(value)?;
     if items.len() != 3 {
         return None;
     }
-    Some((&items[0], &items[1], &items[2]))
+    let third = items.pop()?;
+    let second = items.pop()?;
+    let first = items.pop()?;
+    Some((first, second, third))
 }
 
 /// The two texts of a list of two.
@@ -72,14 +89,14 @@ pub(crate) fn keys(alloc: Global, value: &Value) -> Result<Option<Keys>, AllocEr
     Ok(Some(Keys::new(alloc, keys)?))
 }
 
-/// A copy of the value, if all its numbers are whole.
-pub(crate) fn json(alloc: Global, value: &Value) -> Result<Option<Json>, AllocError>
-    ensures { IfOk result (λ v. v ≡ value_in (view value.now)) }
+/// The value, if all its numbers are whole.
+pub(crate) fn json(alloc: Global, value: Value) -> Result<Option<Json>, AllocError>
+    ensures { IfOk result (λ v. v ≡ value_in (view value)) }
 {
-    if has_float(value) {
+    if has_float(&value) {
         return Ok(None);
     }
-    Ok(Some(Json::new(alloc, value.clone()?)?))
+    Ok(Some(Json::new(alloc, value)?))
 }
 
 /// Whether the value is `true`.

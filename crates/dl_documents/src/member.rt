@@ -1,11 +1,11 @@
 //! Members of JSON objects.
 
-ghost use Rattle.std.specs.Prelude.{◌≡◌, map, option_map};
-ghost use Rattle.serde_json.specs.Find.{get};
+ghost use Rattle.std.specs.Prelude.{◌≡◌, map, option_map, string_bytes};
 ghost use Rattle.serde_json.specs.View.{view, items_view};
 ghost use Rattle.dl_documents.specs.Document.{items_at};
 ghost use Rattle.dl_documents.specs.Reading.{one_in};
 
+use dl_source::into_members;
 use serde_json::Value;
 
 /// The name and the value of an object's one member.
@@ -29,9 +29,14 @@ pub(crate) fn list<'a>(document: &'a Value, name: &str) -> Option<&'a [Value]>
     Some(list.as_slice())
 }
 
-/// Takes the value of a member out of a document, where null stays in its place.
-pub(crate) fn take(document: &mut Value, name: &str) -> Option<Value>
-    ensures { option_map view result ≡ get name.now (view document.old) }
+/// The name and the value of an object's one member, taken out of it.
+pub(crate) fn into_only(value: Value) -> Option<(String, Value)>
+    ensures { option_map (λ p. (string_bytes p.0, view p.1)) result ≡ one_in (view value) }
 {
-    Some(document.get_mut(name)?.take())
+    let mut members = into_members(value)?;
+    let (name, argument) = members.pop_first()?;
+    if !members.is_empty() {
+        return None;
+    }
+    Some((name, argument))
 }

@@ -2,23 +2,21 @@
 
 ghost use Rattle.std.specs.Prelude.{◌≡◌, ◌⊎◌, false, map, IfOk, IfErr, MatchOption};
 ghost use Rattle.std.specs.List.{position, AllByRecursion};
-ghost use Rattle.serde_json.specs.Data.{Data};
-ghost use Rattle.serde_json.specs.View.{view};
+ghost use Rattle.serde_json.specs.View.{view, items_view};
 ghost use Rattle.dl_documents.specs.Document.{SpellsPlans, is_script};
 ghost use Rattle.dl_documents.specs.Faults.{IsBadTop};
 ghost use Rattle.dl_documents.specs.Steps.{plan_view, step_view};
 ghost use Rattle.dl_documents.specs.Inside.Results.{HasHead, RefusedFor};
-ghost use Rattle.dl_documents.specs.Inside.PlanFiles.{rows_view, HasPlans, HasTop, IsNoTop, AreRows, HasOther, IsPlanOf, IsFirstBadIn, AreRead, IsFirstBadStep};
+ghost use Rattle.dl_documents.specs.Inside.PlanFiles.{rows_view, HasLists, HasPlans, AreRows, HasOther, IsPlanOf, IsFirstBadIn, AreRead, IsFirstBadStep};
 ghost use Rattle.dl_documents.specs.Inside.PlanFiles.{is_high, is_long, AreLow, IsFirstHigh, Fit, IsMisfit, AreTables, IsTableRefusal, AreRest, IsRefusal};
 ghost use Rattle.dl_documents.specs.Tables.{IsTableFault};
 
 use crate::fault::PlanFault;
 use crate::head::{Head, Version};
 use crate::input::PlanFile;
-use crate::member;
 use crate::steps::read_step;
 use crate::table_limits::all_limits;
-use dl_source::{TableFault, TableNumber, Tables};
+use dl_source::{TableFault, TableNumber, Tables, into_items, into_members, take_member};
 use dl_terms::{MOST_PLANS, Plan, Step};
 use dl_values::{Limits, TableLimits};
 use serde_json::Value;
@@ -46,7 +44,8 @@ pub(crate) fn plan_file(
     ensures ok { IfOk result (SpellsPlans (view document)) }
     ensures err { IfErr result (RefusedFor (view document)) }
 {
-    let (plans, tables) = plans_and_tables(alloc, document)?;
+    let (lists, tables) = top(alloc, document)?;
+    let plans = plans(alloc, lists)?;
     let (tables, limits, table_limits) = rest(alloc, hashing, plans.as_slice(), tables, head)?;
     Ok(PlanFile {
         limits,
@@ -58,67 +57,46 @@ pub(crate) fn plan_file(
 
 // ---- the top
 
-/// The plans of a document, and the value of its tables, which is moved out of it.
-///
-/// # Errors
-/// `Top` where one of the two isn't there, `Shape` at the first item that is no step, and `OutOfMemory` where an allocation failed.
-fn plans_and_tables(alloc: Global, mut document: Value) -> Result<(Vec<Plan>, Value), PlanFault>
+/// The lists of steps of a document's plans, and the value of its tables, taken out of it.
+fn top(alloc: Global, document: Value) -> Result<(Vec<Vec<Value>>, Value), PlanFault>
     requires { is_script (view document) ≡ false }
-    ensures ok { IfOk result (λ p. HasTop (view document) (map plan_view p.0.items) (view p.1)) }
-    ensures err { IfErr result (λ f. (f ≡ PlanFault.OutOfMemory) ⊎ IsNoTop (view document) f) }
+    ensures ok { IfOk result (λ p. HasPlans (view document) (rows_view p.0.items) (view p.1)) }
+    ensures err { IfErr result (λ f. (f ≡ PlanFault.OutOfMemory) ⊎ ((f ≡ PlanFault.Top) × IsBadTop (view document))) }
 {
-    let plans = listed_plans(alloc, &document)?;
-    match member::take(&mut document, "tables") {
-        Some(tables) => Ok((plans, tables)),
-        None => Err(PlanFault::Top),
-    }
-}
-
-/// The plans of a document that has tables.
-///
-/// # Errors
-/// Those of [`plans_and_tables`].
-fn listed_plans(alloc: Global, document: &Value) -> Result<Vec<Plan>, PlanFault>
-    requires { is_script (view document.now) ≡ false }
-    ensures ok { IfOk result (λ ps. (tree : Data) × HasTop (view document.now) (map plan_view ps.items) tree) }
-    ensures err { IfErr result (λ f. (f ≡ PlanFault.OutOfMemory) ⊎ IsNoTop (view document.now) f) }
-{
-    let lists = top(alloc, document)?;
-    let plans = plans(alloc, lists.as_slice())?;
-    Ok(plans)
-}
-
-/// The lists of steps of the plans of a document that has tables.
-fn top<'a>(alloc: Global, document: &'a Value) -> Result<Vec<&'a [Value]>, PlanFault>
-    requires { is_script (view document.now) ≡ false }
-    ensures ok { IfOk result (λ ls. (tree : Data) × HasPlans (view document.entry.now) (rows_view ls.items) tree) }
-    ensures err { IfErr result (λ f. (f ≡ PlanFault.OutOfMemory) ⊎ ((f ≡ PlanFault.Top) × IsBadTop (view document.entry.now))) }
-{
-    let Some(_tables) = document.get("tables") else {
-        return Err(PlanFault::Top);
-    };
-    let Some(plans) = member::list(document, "plans") else {
+    let Some((plans, tables)) = plans_and_tables(document) else {
         return Err(PlanFault::Top);
     };
     if plans.is_empty() || plans.len() > MOST_PLANS {
         return Err(PlanFault::Top);
     }
     let lists = lists(alloc, plans)?;
-    Ok(lists)
+    Ok((lists, tables))
+}
+
+/// The list of a document's plans, and the value of its tables, taken out of it.
+fn plans_and_tables(document: Value) -> Option<(Vec<Value>, Value)>
+    requires { is_script (view document) ≡ false }
+    ensures { MatchOption result (IsBadTop (view document)) (λ p. HasLists (view document) (items_view p.0.items) (view p.1)) }
+{
+    let mut members = into_members(document)?;
+    let tables = take_member(&mut members, "tables")?;
+    let plans = take_member(&mut members, "plans")?;
+    let plans = into_items(plans)?;
+    Some((plans, tables))
 }
 
 /// The lists that the items are.
 ///
 /// # Errors
 /// `Top` where one is no list, and `OutOfMemory` where an allocation failed.
-fn lists<'a>(alloc: Global, items: &'a [Value]) -> Result<Vec<&'a [Value]>, PlanFault>
-    ensures ok { IfOk result (λ ls. AreRows (map view items.entry.now) (rows_view ls.items)) }
-    ensures err { IfErr result (λ f. (f ≡ PlanFault.OutOfMemory) ⊎ ((f ≡ PlanFault.Top) × HasOther (map view items.entry.now))) }
+fn lists(alloc: Global, items: Vec<Value>) -> Result<Vec<Vec<Value>>, PlanFault>
+    ensures ok { IfOk result (λ ls. AreRows (map view items.items) (rows_view ls.items)) }
+    ensures err { IfErr result (λ f. (f ≡ PlanFault.OutOfMemory) ⊎ ((f ≡ PlanFault.Top) × HasOther (map view items.items))) }
 {
     let mut lists = Vec::new(alloc);
     'items: for item in items {
-        let list = item.as_array().ok_or(PlanFault::Top)?;
-        lists.push(list.as_slice())?;
+        let list = into_items(item).ok_or(PlanFault::Top)?;
+        lists.push(list)?;
     }
     Ok(lists)
 }
@@ -129,29 +107,29 @@ fn lists<'a>(alloc: Global, items: &'a [Value]) -> Result<Vec<&'a [Value]>, Plan
 ///
 /// # Errors
 /// `Shape` at the first item that is no step, and `OutOfMemory` where an allocation failed.
-fn plans(alloc: Global, lists: &[&[Value]]) -> Result<Vec<Plan>, PlanFault>
-    ensures ok { IfOk result (λ ps. AreRead (rows_view lists.now) (map plan_view ps.items)) }
-    ensures err { IfErr result (λ f. (f ≡ PlanFault.OutOfMemory) ⊎ IsFirstBadStep (rows_view lists.now) f) }
+fn plans(alloc: Global, lists: Vec<Vec<Value>>) -> Result<Vec<Plan>, PlanFault>
+    ensures ok { IfOk result (λ ps. AreRead (rows_view lists.items) (map plan_view ps.items)) }
+    ensures err { IfErr result (λ f. (f ≡ PlanFault.OutOfMemory) ⊎ IsFirstBadStep (rows_view lists.items) f) }
 {
     let mut plans = Vec::new(alloc);
-    'lists: for (index, list) in lists.iter().enumerate() {
-        let plan = plan(alloc, index, list)?;
+    'lists: for list in lists {
+        let plan = plan(alloc, plans.len(), list)?;
         plans.push(plan)?;
     }
     Ok(plans)
 }
 
 /// The plan of this number, whose steps the items are.
-fn plan(alloc: Global, number: usize, items: &[Value]) -> Result<Plan, PlanFault>
-    ensures ok { IfOk result (λ p. IsPlanOf (map view items.now) (plan_view p)) }
-    ensures err { IfErr result (λ f. (f ≡ PlanFault.OutOfMemory) ⊎ IsFirstBadIn number (map view items.now) f) }
+fn plan(alloc: Global, number: usize, items: Vec<Value>) -> Result<Plan, PlanFault>
+    ensures ok { IfOk result (λ p. IsPlanOf (map view items.items) (plan_view p)) }
+    ensures err { IfErr result (λ f. (f ≡ PlanFault.OutOfMemory) ⊎ IsFirstBadIn number (map view items.items) f) }
 {
     let mut steps = Vec::new(alloc);
-    'items: for (index, item) in items.iter().enumerate() {
+    'items: for item in items {
         let step = read_step(alloc, item)?;
         let step = step.ok_or(PlanFault::Shape {
             plan: number,
-            step: index,
+            step: steps.len(),
         })?;
         steps.push(step)?;
     }

@@ -6,7 +6,7 @@ ghost use Rattle.dl_documents.specs.Reading.{two_in};
 ghost use Rattle.dl_documents.specs.Steps.{step_view};
 ghost use Rattle.dl_documents.specs.StepReading.{error_in, primed_named, primed_in, primes, step_named, step_in};
 
-use crate::argument::{self, is_true, json, key, pair};
+use crate::argument::{self, into_pair, is_true, json, key};
 use crate::member;
 use crate::terms::read_term;
 use dl_source::TEXT_BYTES;
@@ -16,36 +16,36 @@ use serde_json::Value;
 use std::alloc::{AllocError, Global};
 
 /// The step that an object with one member is, if it is one. Its term may be of any height.
-pub(crate) fn read_step(alloc: Global, value: &Value) -> Result<Option<Step>, AllocError>
-    ensures { IfOk result (λ s. option_map step_view s ≡ step_in (view value.now)) }
+pub(crate) fn read_step(alloc: Global, value: Value) -> Result<Option<Step>, AllocError>
+    ensures { IfOk result (λ s. option_map step_view s ≡ step_in (view value)) }
 {
-    match member::only(value) {
-        Some((name, argument)) => named(alloc, name, argument),
+    match member::into_only(value) {
+        Some((name, argument)) => named(alloc, name.as_str(), argument),
         None => Ok(None),
     }
 }
 
 /// The step of a name, if the argument is one of it.
-fn named(alloc: Global, name: &str, argument: &Value) -> Result<Option<Step>, AllocError>
-    ensures { IfOk result (λ s. option_map step_view s ≡ step_named name.now (view argument.now)) }
+fn named(alloc: Global, name: &str, argument: Value) -> Result<Option<Step>, AllocError>
+    ensures { IfOk result (λ s. option_map step_view s ≡ step_named name.now (view argument)) }
 {
     Ok(match name {
         "prime" => prime(alloc, argument)?,
-        "clear" => key(alloc, argument)?.map(Step::Clear),
-        "clearAll" if is_true(argument) => Some(Step::ClearAll),
+        "clear" => key(alloc, &argument)?.map(Step::Clear),
+        "clearAll" if is_true(&argument) => Some(Step::ClearAll),
         "eval" => read_term(alloc, argument)?.map(Step::Eval),
         _ => None,
     })
 }
 
 /// The prime of a list of a key and an outcome.
-fn prime(alloc: Global, argument: &Value) -> Result<Option<Step>, AllocError>
-    ensures { IfOk result (λ s. option_map step_view s ≡ option_and_then primes (two_in (view argument.now))) }
+fn prime(alloc: Global, argument: Value) -> Result<Option<Step>, AllocError>
+    ensures { IfOk result (λ s. option_map step_view s ≡ option_and_then primes (two_in (view argument))) }
 {
-    let Some((key, outcome)) = pair(argument) else {
+    let Some((key, outcome)) = into_pair(argument) else {
         return Ok(None);
     };
-    let Some(key) = argument::key(alloc, key)? else {
+    let Some(key) = argument::key(alloc, &key)? else {
         return Ok(None);
     };
     let Some(outcome) = primed(alloc, outcome)? else {
@@ -55,21 +55,21 @@ fn prime(alloc: Global, argument: &Value) -> Result<Option<Step>, AllocError>
 }
 
 /// The outcome that an object with one member primes, if it is one.
-fn primed(alloc: Global, value: &Value) -> Result<Option<Outcome>, AllocError>
-    ensures { IfOk result (λ o. o ≡ primed_in (view value.now)) }
+fn primed(alloc: Global, value: Value) -> Result<Option<Outcome>, AllocError>
+    ensures { IfOk result (λ o. o ≡ primed_in (view value)) }
 {
-    match member::only(value) {
-        Some((name, argument)) => primed_named(alloc, name, argument),
+    match member::into_only(value) {
+        Some((name, argument)) => primed_named(alloc, name.as_str(), argument),
         None => Ok(None),
     }
 }
 
-fn primed_named(alloc: Global, name: &str, argument: &Value) -> Result<Option<Outcome>, AllocError>
-    ensures { IfOk result (λ o. o ≡ primed_named name.now (view argument.now)) }
+fn primed_named(alloc: Global, name: &str, argument: Value) -> Result<Option<Outcome>, AllocError>
+    ensures { IfOk result (λ o. o ≡ primed_named name.now (view argument)) }
 {
     Ok(match name {
         "value" => json(alloc, argument)?.map(Outcome::Value),
-        "error" => error(alloc, argument)?.map(Outcome::KeyError),
+        "error" => error(alloc, &argument)?.map(Outcome::KeyError),
         _ => None,
     })
 }

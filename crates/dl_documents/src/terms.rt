@@ -1,13 +1,14 @@
 //! Reading terms.
 
-ghost use Rattle.std.specs.Prelude.{◌≡◌, IfOk, option_map};
+ghost use Rattle.std.specs.Prelude.{◌≡◌, IfOk, option_map, string_bytes};
 ghost use Rattle.serde_json.specs.View.{view};
 ghost use Rattle.dl_terms.specs.Tree.{follow, each};
 ghost use Rattle.dl_terms.specs.View.{term_view};
 ghost use Rattle.dl_documents.specs.TermReading.{field_in, link_in, picks, links, gathers, term_named, term_in, parts_in};
 
-use crate::argument::{json, key, pair, triple};
+use crate::argument::{into_pair, into_triple, json, key};
 use crate::member;
+use dl_source::{into_items, into_text};
 use dl_terms::Term;
 use dl_values::{TABLE_BYTES, Text};
 use serde_json::Value;
@@ -15,23 +16,23 @@ use std::alloc::{AllocError, Global};
 
 /// The term that an object with one member is, if it is one. It is read to its bottom, however high it is.
 #[cycle(reading)]
-pub(crate) fn read_term(alloc: Global, value: &Value) -> Result<Option<Term>, AllocError>
-    ensures { IfOk result (λ t. option_map term_view t ≡ term_in (view value.now)) }
+pub(crate) fn read_term(alloc: Global, value: Value) -> Result<Option<Term>, AllocError>
+    ensures { IfOk result (λ t. option_map term_view t ≡ term_in (view value)) }
 {
-    match member::only(value) {
-        Some((name, argument)) => named(alloc, name, argument),
+    match member::into_only(value) {
+        Some((name, argument)) => named(alloc, name.as_str(), argument),
         None => Ok(None),
     }
 }
 
 /// The term of a name, if the argument is one of it.
 #[cycle(reading)]
-fn named(alloc: Global, name: &str, argument: &Value) -> Result<Option<Term>, AllocError>
-    ensures { IfOk result (λ t. option_map term_view t ≡ term_named name.now (view argument.now) (parts_in (view argument.now))) }
+fn named(alloc: Global, name: &str, argument: Value) -> Result<Option<Term>, AllocError>
+    ensures { IfOk result (λ t. option_map term_view t ≡ term_named name.now (view argument) (parts_in (view argument))) }
 {
     match name {
         "value" => Ok(json(alloc, argument)?.map(Term::Value)),
-        "load" => Ok(key(alloc, argument)?.map(Term::Load)),
+        "load" => Ok(key(alloc, &argument)?.map(Term::Load)),
         "pick" => pick(alloc, argument),
         "follow" => follow(alloc, argument),
         "each" => each(alloc, argument),
@@ -41,8 +42,8 @@ fn named(alloc: Global, name: &str, argument: &Value) -> Result<Option<Term>, Al
 }
 
 #[cycle(reading)]
-fn pick(alloc: Global, argument: &Value) -> Result<Option<Term>, AllocError>
-    ensures { IfOk result (λ t. option_map term_view t ≡ picks (parts_in (view argument.now)) (view argument.now)) }
+fn pick(alloc: Global, argument: Value) -> Result<Option<Term>, AllocError>
+    ensures { IfOk result (λ t. option_map term_view t ≡ picks (parts_in (view argument)) (view argument)) }
 {
     let Some((part, field)) = field(argument) else {
         return Ok(None);
@@ -50,13 +51,13 @@ fn pick(alloc: Global, argument: &Value) -> Result<Option<Term>, AllocError>
     let Some(part) = read_part(alloc, part)? else {
         return Ok(None);
     };
-    let field = Text::new(alloc, field)?;
+    let field = Text::new(alloc, field.as_str())?;
     Ok(Some(Term::Pick { part, field }))
 }
 
 #[cycle(reading)]
-fn follow(alloc: Global, argument: &Value) -> Result<Option<Term>, AllocError>
-    ensures { IfOk result (λ t. option_map term_view t ≡ links follow (parts_in (view argument.now)) (view argument.now)) }
+fn follow(alloc: Global, argument: Value) -> Result<Option<Term>, AllocError>
+    ensures { IfOk result (λ t. option_map term_view t ≡ links follow (parts_in (view argument)) (view argument)) }
 {
     let Some((part, field, table)) = link(argument) else {
         return Ok(None);
@@ -64,14 +65,14 @@ fn follow(alloc: Global, argument: &Value) -> Result<Option<Term>, AllocError>
     let Some(part) = read_part(alloc, part)? else {
         return Ok(None);
     };
-    let field = Text::new(alloc, field)?;
-    let table = Text::new(alloc, table)?;
+    let field = Text::new(alloc, field.as_str())?;
+    let table = Text::new(alloc, table.as_str())?;
     Ok(Some(Term::Follow { part, field, table }))
 }
 
 #[cycle(reading)]
-fn each(alloc: Global, argument: &Value) -> Result<Option<Term>, AllocError>
-    ensures { IfOk result (λ t. option_map term_view t ≡ links each (parts_in (view argument.now)) (view argument.now)) }
+fn each(alloc: Global, argument: Value) -> Result<Option<Term>, AllocError>
+    ensures { IfOk result (λ t. option_map term_view t ≡ links each (parts_in (view argument)) (view argument)) }
 {
     let Some((part, field, table)) = link(argument) else {
         return Ok(None);
@@ -79,16 +80,16 @@ fn each(alloc: Global, argument: &Value) -> Result<Option<Term>, AllocError>
     let Some(part) = read_part(alloc, part)? else {
         return Ok(None);
     };
-    let field = Text::new(alloc, field)?;
-    let table = Text::new(alloc, table)?;
+    let field = Text::new(alloc, field.as_str())?;
+    let table = Text::new(alloc, table.as_str())?;
     Ok(Some(Term::Each { part, field, table }))
 }
 
 #[cycle(reading)]
-fn all(alloc: Global, argument: &Value) -> Result<Option<Term>, AllocError>
-    ensures { IfOk result (λ t. option_map term_view t ≡ gathers (parts_in (view argument.now)) (view argument.now)) }
+fn all(alloc: Global, argument: Value) -> Result<Option<Term>, AllocError>
+    ensures { IfOk result (λ t. option_map term_view t ≡ gathers (parts_in (view argument)) (view argument)) }
 {
-    let Some(items) = argument.as_array() else {
+    let Some(items) = into_items(argument) else {
         return Ok(None);
     };
     let mut parts = Vec::with_capacity(alloc, items.len())?;
@@ -102,8 +103,8 @@ fn all(alloc: Global, argument: &Value) -> Result<Option<Term>, AllocError>
 }
 
 #[cycle(reading)]
-fn read_part(alloc: Global, value: &Value) -> Result<Option<Box<Term>>, AllocError>
-    ensures { IfOk result (λ t. option_map (λ t. term_view t.value) t ≡ term_in (view value.now)) }
+fn read_part(alloc: Global, value: Value) -> Result<Option<Box<Term>>, AllocError>
+    ensures { IfOk result (λ t. option_map (λ t. term_view t.value) t ≡ term_in (view value)) }
 {
     match read_term(alloc, value)? {
         Some(term) => Ok(Some(Box::new(alloc, term)?)),
@@ -111,22 +112,22 @@ fn read_part(alloc: Global, value: &Value) -> Result<Option<Box<Term>>, AllocErr
     }
 }
 
-/// The part and the field of a list of the two.
-fn field(value: &Value) -> Option<(&Value, &str)>
-    ensures { option_map (λ p. (view p.0.now, p.1.now)) result ≡ field_in (view value.now) }
+/// The part and the field of a list of the two, taken out of it.
+fn field(value: Value) -> Option<(Value, String)>
+    ensures { option_map (λ p. (view p.0, string_bytes p.1)) result ≡ field_in (view value) }
 {
-    let (part, field) = pair(value)?;
-    let field = field.as_str()?;
+    let (part, field) = into_pair(value)?;
+    let field = into_text(field)?;
     Some((part, field))
 }
 
-/// The part, the field and the table of a list of the three, if the table has a table's length.
-fn link(value: &Value) -> Option<(&Value, &str, &str)>
-    ensures { option_map (λ p. (view p.0.now, p.1.now, p.2.now)) result ≡ link_in (view value.now) }
+/// The part, the field and the table of a list of the three, taken out of it, if the table has a table's length.
+fn link(value: Value) -> Option<(Value, String, String)>
+    ensures { option_map (λ p. (view p.0, string_bytes p.1, string_bytes p.2)) result ≡ link_in (view value) }
 {
-    let (part, field, table) = triple(value)?;
-    let field = field.as_str()?;
-    let table = table.as_str()?;
+    let (part, field, table) = into_triple(value)?;
+    let field = into_text(field)?;
+    let table = into_text(table)?;
     if (1..=TABLE_BYTES).contains(&table.len()) {
         Some((part, field, table))
     } else {

@@ -20,3 +20,4 @@ pub use source::Source;
 pub use table_number::TableNumber;
 pub use table_reader::{TEXT_BYTES, whole_number};
 pub use tables::{Finding, Tables};
+pub use tree::{into_items, into_members, into_text, take_member};

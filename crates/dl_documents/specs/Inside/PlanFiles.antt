@@ -1,6 +1,6 @@
 -- What is read of a plan file.
-use Rattle.std.specs.Prelude.{◌≡◌, ◌⊎◌, ℕ, ◌<◌, ◌≤◌, List, length, map, Bool, false, nat_lt, codes, Option, Some, None}
-use Rattle.std.specs.Borrow.{Bor}
+use Rattle.std.specs.Prelude.{◌≡◌, ◌⊎◌, ℕ, ◌<◌, ◌≤◌, List, length, map, Bool, false, nat_lt, codes, Option, Some, None, Vec}
+use Rattle.std.specs.declared.alloc.Global.{Global}
 use Rattle.std.specs.List.{AllByRecursion, slice_get}
 use Rattle.serde_json.specs.Data.{Data, array, Items}
 use Rattle.serde_json.specs.Find.{as_array, get}
@@ -13,13 +13,13 @@ use Rattle.dl_source.specs.declared.table_number.TableNumber.{TableNumber}
 use Rattle.dl_terms.specs.Plans.{ArePlans}
 use Rattle.dl_terms.specs.Tree.{height_of}
 use Rattle.dl_documents.specs.Document.{items_at}
-use Rattle.dl_documents.specs.Faults.{IsNoStep, IsBadTop}
+use Rattle.dl_documents.specs.Faults.{IsNoStep}
 use Rattle.dl_documents.specs.Inside.Places.{IsFirst, IsFirstIn}
 use Rattle.dl_documents.specs.Inside.OwnLimits.{AreAllLimits, IsRefusedNumber}
 use Rattle.dl_documents.specs.OwnLimits.{TableLimits}
 use Rattle.dl_documents.specs.Steps.{StepTree, prime, clear, clear_all, eval, step_tree, IsPlanStep, IsLow, most_height, most_steps}
 use Rattle.dl_documents.specs.declared.fault.PlanFault.{PlanFault}
-use Rattle.dl_documents.specs.declared.fault.PlanFault.TheVariants.{Top, Shape, TooDeep, TooManySteps, Table}
+use Rattle.dl_documents.specs.declared.fault.PlanFault.TheVariants.{Shape, TooDeep, TooManySteps, Table}
 use Rattle.dl_documents.specs.declared.head.Head.{Head}
 use Rattle.dl_documents.specs.declared.head.Version.{Version}
 use Rattle.dl_documents.specs.Tables.{SpellsNumbers, TableCauses, IsTableFault}
@@ -34,8 +34,13 @@ abbrev pub rows_tree : List (List Data) → Items
 rows_tree rows = items_of (map row_tree rows)
 
 -- lists of values, as lists of trees
-abbrev pub rows_view : List (Bor (List Value)) → List (List Data)
-rows_view lists = map (λ l. map view l.now) lists
+abbrev pub rows_view : List (Vec Value Global) → List (List Data)
+rows_view lists = map (λ l. map view l.items) lists
+
+-- the document has this list of plans and this member `tables`
+pub record HasLists (d : Data) (plans : Items) (tree : Data) : Type 0 where
+  pub list : items_at (codes "plans") d ≡ Some plans
+  pub tables : get (codes "tables") d ≡ Some tree
 
 -- the document has 1 to 16 plans, which are these lists, and this member `tables`
 pub record HasPlans (d : Data) (rows : List (List Data)) (tree : Data) : Type 0 where
@@ -75,17 +80,6 @@ pub record IsFirstBadStep (rows : List (List Data)) (f : PlanFault) : Type 0 whe
   pub step : ℕ
   pub names : f ≡ Shape plan step
   pub first : IsFirstIn IsNoStep rows plan step
-
--- the document has this member `tables`, and its plans have these steps
-pub record HasTop (d : Data) (plans : List (List StepTree)) (tree : Data) : Type 0 where
-  pub rows : List (List Data)
-  pub top : HasPlans d rows tree
-  pub read : AreRead rows plans
-
--- the top is bad, or else the fault names the first tree of all plans that spells no step
-pub data IsNoTop (d : Data) (f : PlanFault) : Type 0 where
-  BadTop : f ≡ Top → IsBadTop d → IsNoTop d f
-  BadStep : (rows : List (List Data)) (tree : Data) → HasPlans d rows tree → IsFirstBadStep rows f → IsNoTop d f
 
 -- ---- heights and numbers of steps
 

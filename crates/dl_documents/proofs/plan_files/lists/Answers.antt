@@ -1,18 +1,39 @@
-use Rattle.std.proofs.Common.{rules, ◌≡◌, Some, None, Err, inr, refl}
+use Rattle.std.proofs.Common.{rules, arith, ◌≡◌, ◌∷◌, [], ◌++◌, length, Some, None, Err, inr, refl, ap, sym, ◌∙◌, append_assoc}
+use Rattle.std.specs.Vec.Iter.{into_iter_items}
 use Rattle.serde_json.specs.Find.{as_array}
 use Rattle.serde_json.specs.View.{view, items_view}
-use Rattle.dl_documents.proofs.Readings.{lists_more, lists_stop}
+use Rattle.dl_documents.proofs.Readings.{SpellLists, lists_more, lists_stop}
+use Rattle.dl_documents.proofs.ListSpelling.{all_yielded}
 use Rattle.dl_documents.specs.declared.fault.PlanFault.TheVariants.{Top}
 use Rattle.dl_documents.proofs.plan_files.lists.Goals as goal
 
 pub returns-in_err-list-clause-err : goal.returns-in_err-list-clause-err
 returns-in_err-list-clause-err c =
+    let l = c.items in
+    let rest = into_iter_items c.next.new.self in
+    let is : l.yielded ++ c.in-Some.item ∷ rest ≡ c.args.items.items = rw (← c.in-Some.ensures.steps.0) l.invariant.order in
     let bad : c.from_residual.result ≡ Err Top = search rules in
-    let none : None ≡ as_array (view c.item-item.result) = search rules in
-    rw bad (inr (refl, lists_stop c.args.items.now c.items.item-index c.item-item.result c.items-test.true c.item-item.is none))
+    let none : None ≡ as_array (view c.in-Some.item) = search rules in
+    rw bad (inr (refl, lists_stop l.yielded c.in-Some.item rest c.args.items.items is none))
 
 pub items-preserved : goal.items-preserved
 items-preserved c =
-    let found : Some (items_view c.as_slice.result.now) ≡ as_array (view c.item-item.result) = search rules in
-    rw c.in_ok-push.ensures.items (lists_more c.args.items.now c.items.item-index c.item-item.result c.items.lists.items c.as_slice.result c.items-test.true
-    c.item-item.is c.items.invariant found)
+    let l = c.items in
+    let steps : into_iter_items l.item-iterator ≡ c.in-Some.item ∷ into_iter_items c.next.new.self = c.in-Some.ensures.steps.0 in
+    let found : Some (items_view c.in_ok-list.list.items) ≡ as_array (view c.in-Some.item) = search rules in
+    record {
+      order = append_assoc l.yielded (c.in-Some.item ∷ []) _ ∙ rw (← steps) l.invariant.order;
+      so_far = rw c.in_ok-push.ensures.items (lists_more l.yielded c.in-Some.item l.lists.items c.in_ok-list.list l.invariant.so_far found);
+      count = (
+          let was = l.invariant.count in
+          let gone = c.in-Some.ensures.steps.1 in
+          let short = ap length steps in
+          omega arith);
+    }
+
+pub returns-clause-ok : goal.returns-clause-ok
+returns-clause-ok c =
+    let l = c.items in
+    let all = all_yielded l.yielded (into_iter_items l.item-iterator) c.args.items.items l.invariant.order (sym l.invariant.count ∙ c.in-None.ensures.steps.0) in
+    let read : SpellLists c.args.items.items l.lists.items = rw all at l.invariant.so_far in
+    read.trees

@@ -1,9 +1,12 @@
--- The items so far are the trees of the steps.
-use Rattle.std.proofs.Common.{take, map}
-use Rattle.serde_json.specs.View.{view}
-use Rattle.dl_documents.specs.Steps.{step_tree, step_view, IsPlanStep}
-use Rattle.dl_documents.proofs.ListSpelling.{Spell}
+-- The items so far are the trees of the steps, and the rest of them follows.
+use Rattle.std.proofs.Common.{◌≡◌, ◌++◌, length}
+use Rattle.std.specs.Vec.Iter.{into_iter_items, into_iter_len}
+use Rattle.dl_documents.proofs.Readings.{SpellSteps}
 use Rattle.dl_documents.proofs.plan_files.plan.Given as goal
 
 abbrev pub invariant-items : goal.invariant-items
-invariant-items l = Spell view step_tree IsPlanStep (take l.index l.items) (map step_view l.steps.items)
+invariant-items l = record {
+  order : l.yielded ++ into_iter_items l.item-iterator ≡ l.fn.items.items;
+  so_far : SpellSteps l.yielded l.steps.items;
+  count : into_iter_len l.item-iterator ≡ length (into_iter_items l.item-iterator);
+}

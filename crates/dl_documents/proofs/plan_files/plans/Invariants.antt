@@ -1,7 +1,12 @@
--- The lists so far are the trees of the plans' steps.
-use Rattle.std.proofs.Common.{take}
+-- The lists so far are the trees of the plans' steps, and the rest of them follows.
+use Rattle.std.proofs.Common.{◌≡◌, ◌++◌, length}
+use Rattle.std.specs.Vec.Iter.{into_iter_items, into_iter_len}
 use Rattle.dl_documents.proofs.Readings.{SpellPlans}
 use Rattle.dl_documents.proofs.plan_files.plans.Given as goal
 
 abbrev pub invariant-lists : goal.invariant-lists
-invariant-lists l = SpellPlans (take l.index l.lists) l.plans.items
+invariant-lists l = record {
+  order : l.yielded ++ into_iter_items l.list-iterator ≡ l.fn.lists.items;
+  so_far : SpellPlans l.yielded l.plans.items;
+  count : into_iter_len l.list-iterator ≡ length (into_iter_items l.list-iterator);
+}

@@ -1,33 +1,37 @@
 -- The terms that were read, before those of the rest, are those of the list. Each call looks at a lower tree, or goes on with the same.
-use Rattle.std.proofs.Common.{◌≡◌, ◌+◌, ◌*◌, ◌++◌, drop, map, option_map}
-use Rattle.serde_json.specs.Data.{depth}
+use Rattle.std.proofs.Common.{◌≡◌, ◌≤◌, ◌+◌, ◌*◌, ◌++◌, length, map, option_map}
+use Rattle.std.specs.Vec.Iter.{into_iter_items, into_iter_len}
+use Rattle.serde_json.specs.Data.{depth, items_depth}
 use Rattle.serde_json.specs.View.{view, items_view}
 use Rattle.dl_terms.specs.View.{term_view}
 use Rattle.dl_documents.specs.TermReading.{together, parts_of}
 use Rattle.dl_documents.proofs.terms.+reading.Given as goal
 
 abbrev pub decreases-read_term : goal.decreases-read_term
-decreases-read_term l = 4 * depth (view l.value.now)
+decreases-read_term l = 4 * depth (view l.value)
 
 abbrev pub decreases-named : goal.decreases-named
-decreases-named l = 4 * depth (view l.argument.now) + 3
+decreases-named l = 4 * depth (view l.argument) + 3
 
 abbrev pub decreases-pick : goal.decreases-pick
-decreases-pick l = 4 * depth (view l.argument.now) + 2
+decreases-pick l = 4 * depth (view l.argument) + 2
 
 abbrev pub decreases-follow : goal.decreases-follow
-decreases-follow l = 4 * depth (view l.argument.now) + 2
+decreases-follow l = 4 * depth (view l.argument) + 2
 
 abbrev pub decreases-each : goal.decreases-each
-decreases-each l = 4 * depth (view l.argument.now) + 2
+decreases-each l = 4 * depth (view l.argument) + 2
 
 abbrev pub decreases-all : goal.decreases-all
-decreases-all l = 4 * depth (view l.argument.now) + 2
+decreases-all l = 4 * depth (view l.argument) + 2
 
 abbrev pub decreases-read_part : goal.decreases-read_part
-decreases-read_part l = 4 * depth (view l.value.now) + 1
+decreases-read_part l = 4 * depth (view l.value) + 1
 
 abbrev pub invariant-all-items : goal.invariant-all-items
-invariant-all-items l =
-    option_map (λ ts. map term_view l.parts.items ++ ts) (together (parts_of (items_view (drop l.item-index l.item-items))))
-    ≡ together (parts_of (items_view l.item-items))
+invariant-all-items l = record {
+  read : option_map (λ ts. map term_view l.parts.items ++ ts) (together (parts_of (items_view (into_iter_items l.item-iterator))))
+      ≡ together (parts_of (items_view (into_iter_items l.initial.item-iterator)));
+  low : items_depth (items_view (into_iter_items l.item-iterator)) ≤ items_depth (items_view (into_iter_items l.initial.item-iterator));
+  count : into_iter_len l.item-iterator ≡ length (into_iter_items l.item-iterator);
+}
