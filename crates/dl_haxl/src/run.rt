@@ -21,7 +21,7 @@ use std::hash::RandomState;
 /// pending poll [`TermRun::wanted`] tells the keys to load, and [`TermRun::supply`] takes their tickets. A
 /// key is wanted once in a run: its first outcome serves all of the term.
 ///
-/// A poll walks the term as deep as it is high, as [`Term`] says.
+/// A poll recurses as deep as the lists of the term stand in one another, as [`Term`] says.
 pub struct TermRun<'l, L: LoaderName> {
     alloc: Global,
     // What is left of the term.

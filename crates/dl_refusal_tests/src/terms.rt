@@ -25,7 +25,11 @@ struct Left<'a> {
 
 impl Drop for Left<'_> {
     fn drop(self) {
-        let Left { node, asked, known: _ } = self;
+        let Left {
+            node,
+            asked,
+            known: _,
+        } = self;
         drop(node);
         drop(asked);
     }

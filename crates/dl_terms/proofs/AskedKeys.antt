@@ -151,8 +151,7 @@ first_learned ks bs after o some pushed =
     let first = first_of (drop (length bs) ks) some in
     let long : length after ≡ length bs + 1 = ap length pushed ∙ length-append bs (o ∷ []) in
     let rest : drop (length after) ks ≡ first.1 = ap (λ n. drop n ks) long ∙ drop_next (length bs) ks first.0 first.1 first.2 in
-    let front : drop (length (map now_of bs)) ks ≡ first.0 ∷ first.1 = ap (λ n. drop n ks) (length-map bs now_of) ∙ first.2 in
-    (
+    let front : drop (length (map now_of bs)) ks ≡ first.0 ∷ first.1 = ap (λ n. drop n ks) (length-map bs now_of) ∙ first.2 in (
       first.0,
       first.2 ∙ ap (λ r. first.0 ∷ r) (sym rest),
       ap (λ xs. paired ks (map now_of xs)) pushed

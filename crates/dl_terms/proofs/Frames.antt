@@ -1,6 +1,6 @@
 -- What a tree in frames answers and waits for.
 use Rattle.std.proofs.Common.{◌≡◌, ◌∙◌, ap, sym, subst, refl, ℕ, zero, suc, ◌<◌, ◌==◌, Bool, false, true≢false, List, [], ◌∷◌, ◌++◌, length, vec_len}
-use Rattle.std.proofs.Common.{Option, Some, None, arith}
+use Rattle.std.proofs.Common.{Option, None, arith}
 use Rattle.std.specs.Prelude.{Vec}
 use Rattle.std.specs.declared.alloc.Global.{Global}
 use Rattle.std.specs.Option.{option_map, option_and_then}

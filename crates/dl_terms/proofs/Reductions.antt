@@ -1,8 +1,8 @@
 -- What a round makes of each form stands for it.
 use Rattle.std.proofs.Common.{◌≡◌, ◌∙◌, ap, sym, subst, refl, ℕ, suc, ◌+◌, ◌<◌, ◌≤◌, Bool, true, false, nat_lt, if◌then◌else◌, List, [], ◌∷◌, ◌++◌, take}
-use Rattle.std.proofs.Common.{drop, length, get_or, Option, Some, None, Result, Ok, Err}
+use Rattle.std.proofs.Common.{drop, length, get_or, Option, Some, None, Result}
 use Rattle.std.specs.Prelude.{IfOk, MatchOption}
-use Rattle.std.specs.Option.{option_map, option_and_then}
+use Rattle.std.specs.Option.{option_map}
 use Rattle.std.specs.List.{AllZip}
 use Rattle.std.proofs.lemmas.List.{take_more, drop_more}
 use Rattle.std.proofs.lemmas.List.Sums.{fold-append}
@@ -20,8 +20,8 @@ use Rattle.dl_terms.specs.declared.answer.EvalFault.TheVariants as why
 use Rattle.dl_terms.specs.declared.node.Frame.{Frame}
 use Rattle.dl_terms.specs.declared.node.Node.{Node}
 use Rattle.dl_terms.specs.Tree.{Name, Tree, ended, load, pick, follow, each, all, Trees, no_trees, tree}
-use Rattle.dl_terms.specs.TermAnswers.{loaded, picked, gathered, both, load_waits_for, waits_after, Target, value_target, item_targets, target_in, target_answer}
-use Rattle.dl_terms.specs.TermAnswers.{target_answers, target_waits, each_target_waits, Targets, few, list_targets, targets_in, targets_answer, targets_waits}
+use Rattle.dl_terms.specs.TermAnswers.{loaded, gathered, both, load_waits_for, Target, value_target, item_targets, target_answer}
+use Rattle.dl_terms.specs.TermAnswers.{target_answers, target_waits, each_target_waits, Targets, few, list_targets, targets_answer, targets_waits}
 use Rattle.dl_terms.specs.TermAnswers.{answer, answers, waits, all_wait, most_items}
 use Rattle.dl_terms.specs.Node.{framed, node_view, nodes_view, result_of, results_of}
 use Rattle.dl_terms.specs.Reduction.{Stands, Reduces}

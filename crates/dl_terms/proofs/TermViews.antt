@@ -1,5 +1,5 @@
 -- The trees of terms, form by form, and how high they are.
-use Rattle.std.proofs.Common.{◌≡◌, ◌∙◌, ap, refl, ◌+◌, ◌≤◌, List, [], ◌∷◌, ◌++◌, max, arith}
+use Rattle.std.proofs.Common.{◌≡◌, ◌∙◌, ap, refl, ◌+◌, ◌≤◌, List, [], ◌∷◌, ◌++◌, arith}
 use Rattle.std.specs.Prelude.{Vec, Box}
 use Rattle.std.specs.declared.alloc.Global.{Global}
 use Rattle.dl_terms.specs.declared.node.Frame.{Frame}

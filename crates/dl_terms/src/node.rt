@@ -17,15 +17,9 @@ pub enum Node {
     /// It has ended.
     Done(Answer),
     /// The load of a key, and the place of the key among those that were asked for, where it was.
-    Load {
-        key: FetchKey,
-        place: usize,
-    },
+    Load { key: FetchKey, place: usize },
     /// What is made of the part's answer, frame by frame. The last frame is the innermost.
-    Chain {
-        part: Box<Node>,
-        frames: Vec<Frame>,
-    },
+    Chain { part: Box<Node>, frames: Vec<Frame> },
     /// What the parts answer together.
     All(Vec<Node>),
 }

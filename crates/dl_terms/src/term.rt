@@ -11,9 +11,9 @@ use dl_values::{FetchKey, Json, Text};
 ///
 /// The text of a `table` has 1 to 64 bytes.
 ///
-/// Whatever walks a term recurses as deep as the term is high, and a term is as high as its maker
-/// wants. With 8 MiB of stack and an unoptimised build, making the node of a chain of picks held at a height of
-/// 1,500, exploring and dropping it at 5,000, and counting its depth and height at 7,000. Whoever
+/// What counts a term's depth and height recurses as deep as the term is high, and so does dropping one. Making its node
+/// and exploring that recurse as deep as its lists stand in one another. A term is as high as its maker wants. With 8 MiB
+/// of stack and an unoptimised build, counting the depth and height of a chain of picks held at a height of 7,000. Whoever
 /// takes terms from strangers bounds their height.
 ///
 /// # Examples

@@ -1,4 +1,4 @@
-use Rattle.std.proofs.Common.{◌≡◌, ◌∙◌, ◌+◌, ◌≤◌, ap, sym, append_assoc, List, [], ◌∷◌, ◌++◌, map, arith}
+use Rattle.std.proofs.Common.{◌≡◌, ◌∙◌, ◌+◌, ◌≤◌, ap, sym, append_assoc, [], ◌∷◌, ◌++◌, map, arith}
 use Rattle.std.specs.Prelude.{Box}
 use Rattle.std.specs.declared.alloc.Global.{Global}
 use Rattle.std.specs.Vec.Iter.{into_iter_items}
@@ -27,15 +27,15 @@ unexplored-loop-term-preserved t c =
     let taken = c.match-term.frame in
     let inner = term_view c.into_inner-term.result in
     let is : over taken.0 (term_view taken.1.value) ≡ term_view c.loop-term.term = elim c.match-term.branch [
-      unexplored-in-Pick w ↦
-        ap (λ (x : Frame × Box Term Global). over x.0 (term_view x.1.value)) w.frame-is
-        ∙ sym (ap term_view w.in-Pick.is ∙ term_view-Pick w.in-Pick.part w.in-Pick.field)
-    | unexplored-in-Follow w ↦
-        ap (λ (x : Frame × Box Term Global). over x.0 (term_view x.1.value)) w.frame-is
-        ∙ sym (ap term_view w.in-Follow.is ∙ term_view-Follow w.in-Follow.part w.in-Follow.field w.in-Follow.table)
-    | unexplored-in-Each w ↦
-        ap (λ (x : Frame × Box Term Global). over x.0 (term_view x.1.value)) w.frame-is
-        ∙ sym (ap term_view w.in-Each.is ∙ term_view-Each w.in-Each.part w.in-Each.field w.in-Each.table)
+      | unexplored-in-Pick w ↦
+          ap (λ (x : Frame × Box Term Global). over x.0 (term_view x.1.value)) w.frame-is
+          ∙ sym (ap term_view w.in-Pick.is ∙ term_view-Pick w.in-Pick.part w.in-Pick.field)
+      | unexplored-in-Follow w ↦
+          ap (λ (x : Frame × Box Term Global). over x.0 (term_view x.1.value)) w.frame-is
+          ∙ sym (ap term_view w.in-Follow.is ∙ term_view-Follow w.in-Follow.part w.in-Follow.field w.in-Follow.table)
+      | unexplored-in-Each w ↦
+          ap (λ (x : Frame × Box Term Global). over x.0 (term_view x.1.value)) w.frame-is
+          ∙ sym (ap term_view w.in-Each.is ∙ term_view-Each w.in-Each.part w.in-Each.field w.in-Each.table)
     ] in
     frame_next c.loop-term.frames.items c.push.new.self.items taken.0 inner (term_view c.args.term) (term_view c.loop-term.term) c.in_ok-push.ensures.items
     (ap (λ x. over taken.0 (term_view x)) c.into_inner-term.ensures ∙ is) c.loop-term.invariant

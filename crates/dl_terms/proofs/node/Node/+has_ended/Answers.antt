@@ -1,4 +1,4 @@
-use Rattle.std.proofs.Common.{◌≡◌, ◌∙◌, is_some, ap, sym}
+use Rattle.std.proofs.Common.{◌∙◌, is_some, ap, sym}
 use Rattle.dl_terms.specs.Node.{node_view, result_of}
 use Rattle.dl_terms.proofs.Views.{node_view-Chain}
 use Rattle.dl_terms.proofs.Frames.{not_empty, not_ended}
