@@ -40,9 +40,9 @@ abbrev pub IsNamesFault : List ℕ → List NamedLimit → ℕ → Type 0
 IsNamesFault names ls code = ((code ≡ BAD_LENGTHS) × ¬ (total_by name_width ls ≡ length names))
     ⊎ (((code ≡ BAD_TEXT) × ¬ (All IsNamed (tables_of names ls))) ⊎ (code ≡ OUT_OF_MEMORY))
 
--- Why tables have no limits of their own: the names aren't cut into tables, or the tables with their limits are refused.
+-- Why tables have no limits of their own: the names aren't cut into tables, or they are, and the tables with their limits are refused.
 abbrev pub IsTablesFault : List ℕ → List NamedLimit → ℕ → Type 0
-IsTablesFault names ls code = IsNamesFault names ls code ⊎ (code ≡ table_code_by (fault_of (tables_of names ls)))
+IsTablesFault names ls code = IsNamesFault names ls code ⊎ (AreNames names ls × (code ≡ table_code_by (fault_of (tables_of names ls))))
 
 -- each batch is of one table, and the tables have these limits of their own
 abbrev pub AreLimitsOf : Option (List (List ℕ × ℕ)) → List TableLimit → Type 0
