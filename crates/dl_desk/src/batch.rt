@@ -13,7 +13,7 @@ use std::alloc::{AllocError, Global};
 use std::hash::RandomState;
 use std::marker::Model;
 
-/// A batch of so many members at most is asked for a key by a look at each member, and a larger one by an index.
+/// How many members a batch may have to be asked for a key by a look at each. A larger one is asked by its index.
 const SCANNED: usize = 8;
 
 /// A batch: the keys of its members, each once and in order, with the cell of each, and how it
@@ -97,7 +97,7 @@ impl StoredBatch {
     }
 
     /// Whether a member has the key, shown or prepared. The error is a failed allocation.
-    // Out of line, so that a member that nobody asks for costs nothing of it.
+    // Out of line, so that a load whose batch isn't asked costs nothing of it.
     #[cold]
     #[inline(never)]
     pub(crate) fn has(&mut self, key: &FetchKey) -> Result<bool, AllocError>

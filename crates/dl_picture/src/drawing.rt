@@ -23,12 +23,13 @@ const WORDS_FOOT: usize = 18;
 
 const WORDS_HEIGHT: usize = 26;
 
-/// What is drawn so far: a sheet with elements of SVG, and how high they are together; and of the row that is begun, how many columns it has
-/// and how high the highest of them is.
+/// What is drawn so far: a sheet with elements of SVG, and how high they are together; how many tiles the head has; and of the
+/// row that is begun, how many columns it has and how high the highest of them is.
 #[derive(Drop)]
 pub(crate) struct Drawing {
     pub(crate) sheet: Sheet,
     pub(crate) height: usize,
+    pub(crate) tiles: usize,
     columns: usize,
     tallest: usize,
 }
@@ -39,6 +40,7 @@ impl Drawing {
         Drawing {
             sheet: Sheet::new(alloc),
             height: MARGIN,
+            tiles: 0,
             columns: 0,
             tallest: 0,
         }

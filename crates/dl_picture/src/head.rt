@@ -5,6 +5,7 @@ use crate::column::push_badge;
 use crate::cut_text::CHARACTER;
 use crate::drawing::{Drawing, MARGIN};
 use crate::mark::{MARKS, Mark};
+use crate::numbers::HistoryNumbers;
 use crate::phrase::Phrase;
 use crate::sheet::Sheet;
 
@@ -21,32 +22,37 @@ const ROOM: usize = 20;
 /// The room between what two marks mean, with a badge.
 const MARK_STEP: usize = 46;
 
-/// A tile with a count, in a place from the left.
-pub(crate) fn add_count(
-    drawing: &mut Drawing,
-    place: usize,
-    name: &str,
-    words: &'static str,
-    count: u64,
-) {
-    add_tile(drawing, place, name, words, Phrase::Numbered("", count, ""));
+/// The tiles of the loads and batches of a history, whose keys are told in these words.
+pub(crate) fn add_numbers(drawing: &mut Drawing, numbers: &HistoryNumbers, keys: &'static str) {
+    add_count(drawing, "loads", "loads", numbers.loads.loads);
+    add_count(drawing, "hits", "hits", numbers.loads.hits);
+    add_count(drawing, "keys", keys, numbers.batches.keys);
+    add_count(drawing, "batches", "batches", numbers.batches.batches);
+    add_count(drawing, "largest", "largest batch", numbers.batches.largest);
+    let mean = mean_phrase(numbers.batches.mean());
+    add_tile(drawing, "mean", "mean batch", mean);
 }
 
-/// A tile with a mean, in a place from the left: a whole number, and a fraction behind it where it isn't whole.
-pub(crate) fn add_mean(drawing: &mut Drawing, place: usize, mean: Option<Mean>) {
-    let figure = match mean {
+/// A mean: a whole number, and a fraction behind it where it isn't whole.
+fn mean_phrase(mean: Option<Mean>) -> Phrase {
+    match mean {
         Some(mean) if mean.rest == 0 => Phrase::Numbered("", mean.whole, ""),
         Some(mean) => Phrase::Mean(mean),
         None => Phrase::Words("none"),
-    };
-    add_tile(drawing, place, "mean", "mean batch", figure);
+    }
 }
 
-/// A tile in a place from the left: a number, the name by which a program finds it in the picture, and what it is, in words.
-fn add_tile(drawing: &mut Drawing, place: usize, name: &str, words: &'static str, figure: Phrase) {
-    let y = drawing.height;
-    let sheet = &mut drawing.sheet;
+/// A tile with a count.
+pub(crate) fn add_count(drawing: &mut Drawing, name: &str, words: &'static str, count: u64) {
+    add_tile(drawing, name, words, Phrase::Numbered("", count, ""));
+}
+
+/// A tile beside the others: a number, the name by which a program finds it in the picture, and what it is, in words.
+fn add_tile(drawing: &mut Drawing, name: &str, words: &'static str, figure: Phrase) {
+    let (place, y) = (drawing.tiles, drawing.height);
+    drawing.tiles = place.saturating_add(1);
     let x = place.saturating_mul(TILE_STEP).saturating_add(MARGIN);
+    let sheet = &mut drawing.sheet;
     push_figure(sheet, x, y, name, figure);
     let (left, foot) = (x.saturating_add(10), y.saturating_add(40));
     sheet.push_words("soft", left, foot, Phrase::Words(words));

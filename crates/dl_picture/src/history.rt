@@ -1,7 +1,7 @@
 //! The picture of a history.
 
 use crate::drawing::Drawing;
-use crate::head::{add_count, add_mean, end_head};
+use crate::head::{add_count, add_numbers, end_head};
 use crate::lanes::{add_batches, add_calls, add_workers};
 use crate::numbers::{HistoryNumbers, PlanNumbers, history_numbers, plan_numbers};
 use crate::phrase::Phrase;
@@ -52,20 +52,9 @@ fn add_lanes(drawing: &mut Drawing, scene: Scene<'_>) {
 /// The head: the numbers of the history.
 fn add_history_head(drawing: &mut Drawing, numbers: &HistoryNumbers) {
     drawing.add_words("title", Phrase::Words("What the requests did"));
-    add_count(drawing, 0, "loads", "loads", numbers.loads.loads);
-    add_count(drawing, 1, "hits", "hits", numbers.loads.hits);
-    add_count(drawing, 2, "keys", "keys fetched", numbers.batches.keys);
-    add_count(drawing, 3, "batches", "batches", numbers.batches.batches);
-    add_count(
-        drawing,
-        4,
-        "largest",
-        "largest batch",
-        numbers.batches.largest,
-    );
-    add_mean(drawing, 5, numbers.batches.mean());
+    add_numbers(drawing, numbers, "keys fetched");
     let alone = numbers.fetches_alone();
-    add_count(drawing, 6, "alone", "fetches, no loader", alone);
+    add_count(drawing, "alone", "fetches, no loader", alone);
     end_head(drawing);
 }
 

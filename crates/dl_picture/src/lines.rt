@@ -102,23 +102,15 @@ impl<'a> Line<'a> {
         }
     }
 
-    /// The line of a key that was given an outcome, if there is one.
-    fn of_outcome(key: Option<&'a FetchKey>, outcome: Option<&Outcome>) -> Option<Line<'a>> {
-        Line::of_key(key, Mark::of_outcome(outcome?), None)
-    }
-
     /// The line of the batch that an entry ends, if it ends one.
     fn of_end(scene: Scene<'_>, entry: Option<&EntryKind>) -> Option<Line<'a>> {
-        match &scene.event(*entry?)?.call {
-            Call::Settle { batch, .. } => Some(Line::of_batch(*batch, Mark::Settled)),
-            Call::Fail { batch, .. } => Some(Line::of_batch(*batch, Mark::Failed)),
-            _ => None,
-        }
-    }
-
-    /// The line of a batch.
-    fn of_batch(batch: u32, mark: Mark) -> Line<'a> {
-        Line::of_words(Phrase::Numbered("batch ", u64::from(batch), ""), mark)
+        let (batch, mark) = match &scene.event(*entry?)?.call {
+            Call::Settle { batch, .. } => (*batch, Mark::Settled),
+            Call::Fail { batch, .. } => (*batch, Mark::Failed),
+            _ => return None,
+        };
+        let words = Phrase::Numbered("batch ", u64::from(batch), "");
+        Some(Line::of_words(words, mark))
     }
 }
 
@@ -144,7 +136,8 @@ impl<'a> Lines<'a> {
             } => Line::of_load(scene, keys.get(place), replies.get(place)),
             Lines::Keys { keys, mark } => Line::of_key(keys.get(place), mark, None),
             Lines::Settled { keys, outcomes } => {
-                Line::of_outcome(keys.get(place), outcomes.get(place))
+                let mark = Mark::of_outcome(outcomes.get(place)?);
+                Line::of_key(keys.get(place), mark, None)
             }
             Lines::Ended { scene, entries } => Line::of_end(scene, entries.get(place)),
             Lines::Refused(name) => Some(Line::of_words(Phrase::Words(name), Mark::Refused)),

@@ -36,18 +36,14 @@ impl<'a> Scene<'a> {
 
     /// What became of the key of a load.
     pub(crate) fn load_mark(self, reply: LoadReply) -> Mark {
-        match self.history.outcome(cell_of(reply)) {
+        let cell = cell_of(reply);
+        match self.history.outcome(cell) {
             Some(Outcome::KeyError(_)) => Mark::KeyError,
             Some(Outcome::BatchFailed(_)) => Mark::Failed,
-            Some(Outcome::Value(_)) | None => self.held_mark(reply),
-        }
-    }
-
-    /// What became of the key of a load whose outcome is a value.
-    fn held_mark(self, reply: LoadReply) -> Mark {
-        match self.primed.get(cell_of(reply) as usize) {
-            Some(true) => Mark::Primed,
-            _ => Mark::of_load(reply),
+            Some(Outcome::Value(_)) | None => match self.primed.get(cell as usize) {
+                Some(true) => Mark::Primed,
+                _ => Mark::of_load(reply),
+            },
         }
     }
 }

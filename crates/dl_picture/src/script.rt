@@ -2,7 +2,7 @@
 
 use crate::column::Column;
 use crate::drawing::Drawing;
-use crate::head::{add_count, add_mean, end_head};
+use crate::head::{add_count, add_numbers, end_head};
 use crate::lines::Lines;
 use crate::mark::Mark;
 use crate::numbers::{HistoryNumbers, script_numbers};
@@ -45,19 +45,8 @@ fn add_lanes(drawing: &mut Drawing, calls: &[ScriptCall], run: &ScriptRun) {
 /// The head: the numbers of the script.
 fn add_script_head(drawing: &mut Drawing, calls: usize, numbers: &HistoryNumbers) {
     drawing.add_words("title", Phrase::Words("What the calls were answered"));
-    add_count(drawing, 0, "calls", "calls", calls as u64);
-    add_count(drawing, 1, "loads", "loads", numbers.loads.loads);
-    add_count(drawing, 2, "hits", "hits", numbers.loads.hits);
-    add_count(drawing, 3, "keys", "keys in batches", numbers.batches.keys);
-    add_count(drawing, 4, "batches", "batches", numbers.batches.batches);
-    add_count(
-        drawing,
-        5,
-        "largest",
-        "largest batch",
-        numbers.batches.largest,
-    );
-    add_mean(drawing, 6, numbers.batches.mean());
+    add_count(drawing, "calls", "calls", calls as u64);
+    add_numbers(drawing, numbers, "keys in batches");
     end_head(drawing);
 }
 

@@ -20,23 +20,46 @@ pub fn options<'a, S: AsStr>(alloc: Global, words: &'a [S]) -> Result<Options, E
         IfOk result (AreGiven (matches_of plans_app texts) (subcommand_of plans_app texts)) }
 {
     let mut command = command(alloc)?;
-    match read(&mut command, words)? {
-        Some(options) => Ok(options),
-        None => Err(command.error(ErrorKind::ValueValidation, "N is not 1 to 16")?),
-    }
+    options_by(&mut command, words)
 }
 
 /// The refusal of words of which one is no UTF-8, with the usage in its text.
 pub(crate) fn unreadable(alloc: Global) -> Error {
-    match refusal(alloc, "invalid UTF-8 was detected in one or more arguments") {
-        Ok(error) | Err(error) => error,
+    match command(alloc) {
+        Ok(mut command) => not_text(&mut command),
+        Err(error) => Error::from(error),
     }
 }
 
-/// A refusal of the command line that says this.
-fn refusal(alloc: Global, message: &str) -> Result<Error, Error> {
-    let mut command = command(alloc)?;
-    Ok(command.error(ErrorKind::InvalidValue, message)?)
+/// The refusal by a command line of words of which one is no UTF-8, with the usage in its text.
+pub fn not_text(command: &mut Command<'_>) -> Error {
+    let message = "invalid UTF-8 was detected in one or more arguments";
+    refused(command, ErrorKind::InvalidValue, message)
+}
+
+/// The refusal by a command line of a number of workers that is out of range, with the usage in its text.
+pub fn out_of_range(command: &mut Command<'_>) -> Error {
+    refused(command, ErrorKind::ValueValidation, "N is not 1 to 16")
+}
+
+/// An error of a command line that says this, or that memory ran out.
+fn refused(command: &mut Command<'_>, kind: ErrorKind, message: &str) -> Error {
+    match command.error(kind, message) {
+        Ok(error) => error,
+        Err(error) => Error::from(error),
+    }
+}
+
+/// The options that the words give by the command line.
+fn options_by<'a, S: AsStr>(command: &mut Command<'a>, words: &'a [S]) -> Result<Options, Error>
+    requires { app_of command.old ≡ plans_app }
+    ensures { let texts = map S.text words.entry.now in
+        IfOk result (AreGiven (matches_of plans_app texts) (subcommand_of plans_app texts)) }
+{
+    match read(command, words)? {
+        Some(options) => Ok(options),
+        None => Err(out_of_range(command)),
+    }
 }
 
 /// The options that the words give by the command line, if the number of workers is in range.
@@ -65,7 +88,7 @@ fn command<'a>(alloc: Global) -> Result<Command<'a>, AllocError>
 }
 
 /// `--workers N`.
-fn workers<'a>(alloc: Global) -> Arg<'a>
+pub fn workers<'a>(alloc: Global) -> Arg<'a>
     ensures rule { rule_of result ≡ workers_rule }
     ensures local { result.global ≡ false }
 {

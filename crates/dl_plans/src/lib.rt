@@ -16,7 +16,7 @@ mod script_text;
 mod settings;
 mod status;
 
-pub use command::options;
+pub use command::{not_text, options, out_of_range, workers};
 pub use dl_documents::{
     Calls, Input, MOST_BYTES, PlanFault, PlanFile, Script, ScriptCall, read_input,
 };

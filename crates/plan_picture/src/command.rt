@@ -1,13 +1,11 @@
 //! The command line.
 
-ghost use Rattle.std.specs.Prelude.{◌≡◌, IfOk, IfSome, map, false};
-ghost use Rattle.clap.specs.Words.{app_of, rule_of, found_of, matches_of, rows_of};
-ghost use Rattle.dl_plans.specs.Options.{workers_rule};
+ghost use Rattle.std.specs.Prelude.{◌≡◌, IfOk, IfSome, map};
+ghost use Rattle.clap.specs.Words.{app_of, found_of, matches_of, rows_of};
 ghost use Rattle.plan_picture.specs.Options.{AreGiven, picture_app};
 
-use clap::error::ErrorKind;
-use clap::{Arg, ArgMatches, Command, Error, value_parser};
-use dl_plans::Options;
+use clap::{ArgMatches, Command, Error};
+use dl_plans::{Options, not_text, out_of_range, workers};
 use std::alloc::{AllocError, Global};
 use std::convert::AsStr;
 
@@ -25,17 +23,8 @@ pub(crate) fn options<'a, S: AsStr>(alloc: Global, words: &'a [S]) -> Result<Opt
 
 /// The refusal of words of which one is no UTF-8, with the usage in its text.
 pub(crate) fn unreadable(alloc: Global) -> Error {
-    let message = "invalid UTF-8 was detected in one or more arguments";
     match command(alloc) {
-        Ok(mut command) => refused(&mut command, ErrorKind::InvalidValue, message),
-        Err(error) => Error::from(error),
-    }
-}
-
-/// The error of words that the command line refuses, with the usage in its text, or that memory ran out.
-fn refused(command: &mut Command<'_>, kind: ErrorKind, message: &str) -> Error {
-    match command.error(kind, message) {
-        Ok(error) => error,
+        Ok(mut command) => not_text(&mut command),
         Err(error) => Error::from(error),
     }
 }
@@ -47,10 +36,7 @@ fn options_by<'a, S: AsStr>(command: &mut Command<'a>, words: &'a [S]) -> Result
 {
     match read(command, words)? {
         Some(options) => Ok(options),
-        None => {
-            let message = "N is not 1 to 16";
-            Err(refused(command, ErrorKind::ValueValidation, message))
-        }
+        None => Err(out_of_range(command)),
     }
 }
 
@@ -71,19 +57,6 @@ fn command<'a>(alloc: Global) -> Result<Command<'a>, AllocError>
         .about("Draws as SVG what a document that stands on standard input did")
         .no_binary_name(true)
         .arg(workers(alloc))
-}
-
-/// `--workers N`.
-fn workers<'a>(alloc: Global) -> Arg<'a>
-    ensures rule { rule_of result ≡ workers_rule }
-    ensures local { result.global ≡ false }
-{
-    Arg::new(alloc, "workers")
-        .long("workers")
-        .value_name("N")
-        .value_parser(value_parser!(u32).range(1..=16))
-        .default_value("3")
-        .help("How many workers fetch for a plan file, 1 to 16")
 }
 
 /// The options of the matches, if the number of workers is in range.
