@@ -59,7 +59,7 @@ fn tables_of(
     keys: u32,
 ) -> Result<Tables> {
     let tree = tree_of(alloc, front, keys)?;
-    Ok(Tables::from_value(alloc, hashing, &tree)?)
+    Ok(Tables::from_owned_value(alloc, hashing, tree)?)
 }
 
 /// A tree of one table, with a row for each key, read from its text.
