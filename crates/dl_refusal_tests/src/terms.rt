@@ -15,26 +15,6 @@ static USERS: [(&str, &str); 3] = [("u1", ADA), ("u2", BOB), ("u3", r#"{"name":"
 /// How many of the users are known in each round of the friends of `u1`, and the ids that are wanted then.
 static ROUNDS: [(usize, &[&str]); 3] = [(0, &["u1"]), (1, &["u2", "u3"]), (3, &[])];
 
-/// What is left of a term, and the keys that it has asked for.
-struct Left<'a> {
-    node: Node,
-    asked: Asked<'a>,
-    // How many of the users are known.
-    known: usize,
-}
-
-impl Drop for Left<'_> {
-    fn drop(self) {
-        let Left {
-            node,
-            asked,
-            known: _,
-        } = self;
-        drop(node);
-        drop(asked);
-    }
-}
-
 /// What the friends of `u1` give.
 const ANSWER: &str = r#"[{"best":"u1","friends":[],"name":"Bob"},{"name":"Cy"}]"#;
 
@@ -68,29 +48,34 @@ impl<R: Abort + Eprint> Stage<'_, R> {
         is_refused: bool,
     ) -> bool {
         let (count, want) = ROUNDS.get(round).expect(self.rt, "no such round");
-        let mut left = self.left_before(outcomes, round);
-        self.learn(&mut left, outcomes, *count);
+        let (mut node, mut asked, known) = self.left_before(outcomes, round);
+        self.learn(&mut asked, outcomes, known, *count);
         if is_refused {
             self.refusal.begin();
         }
-        let explored = explore(self.alloc, &mut left.node, &mut left.asked);
+        let explored = explore(self.alloc, &mut node, &mut asked);
         if self.is_again("explore", explored.is_err()) {
             return false;
         }
-        assert_ids(self.rt, left.asked.wanted(), want);
-        if let Some(answer) = left.node.take_answer() {
+        assert_ids(self.rt, asked.wanted(), want);
+        if let Some(answer) = node.take_answer() {
             let text = answer_text(self.alloc, &answer).expect(self.rt, "no memory");
             assert_is(self.rt, &text.as_str(), &ANSWER, "the answer");
         }
         true
     }
 
-    /// Learns outcomes until so many are known.
-    fn learn<'a>(&self, left: &mut Left<'a>, outcomes: &'a [(FetchKey, Outcome)], count: usize) {
-        for (_, outcome) in outcomes.iter().take(count).skip(left.known) {
-            self.learn_one(&mut left.asked, outcome);
+    /// Learns outcomes, behind those that are known, until so many are.
+    fn learn<'a>(
+        &self,
+        asked: &mut Asked<'a>,
+        outcomes: &'a [(FetchKey, Outcome)],
+        known: usize,
+        count: usize,
+    ) {
+        for (_, outcome) in outcomes.iter().take(count).skip(known) {
+            self.learn_one(asked, outcome);
         }
-        left.known = count;
     }
 
     /// Learns the outcome of the first wanted key.
@@ -104,8 +89,13 @@ impl<R: Abort + Eprint> Stage<'_, R> {
         }
     }
 
-    /// The term, explored in the rounds before this one.
-    fn left_before<'a>(&self, outcomes: &'a [(FetchKey, Outcome)], round: usize) -> Left<'a> {
+    /// What is left of the term after the rounds before this one, the keys that it has asked for, and of how many of the users
+    /// the outcome is known.
+    fn left_before<'a>(
+        &self,
+        outcomes: &'a [(FetchKey, Outcome)],
+        round: usize,
+    ) -> (Node, Asked<'a>, usize) {
         let term = self.term(&FRIENDS);
         let node = made!(
             self,
@@ -114,16 +104,14 @@ impl<R: Abort + Eprint> Stage<'_, R> {
             unexplored(self.alloc, term),
             unexplored(self.alloc, self.term(&FRIENDS))
         );
-        let mut left = Left {
-            node: node.expect(self.rt, "no node"),
-            asked: Asked::new(self.alloc, self.hashing),
-            known: 0,
-        };
+        let mut node = node.expect(self.rt, "no node");
+        let mut asked = Asked::new(self.alloc, self.hashing);
+        let mut known = 0;
         for (count, _) in ROUNDS.iter().take(round) {
-            self.learn(&mut left, outcomes, *count);
-            let explored = explore(self.alloc, &mut left.node, &mut left.asked);
-            explored.expect(self.rt, "no memory");
+            self.learn(&mut asked, outcomes, known, *count);
+            known = *count;
+            explore(self.alloc, &mut node, &mut asked).expect(self.rt, "no memory");
         }
-        left
+        (node, asked, known)
     }
 }
