@@ -16,6 +16,9 @@ use std::marker::Model;
 /// How many members a batch may have to be asked for a key by a look at each. A larger one is asked by its index.
 const SCANNED: usize = 8;
 
+/// How many members a batch has room for when it is begun.
+const ROOM: usize = 8;
+
 /// A batch: the keys of its members, each once and in order, with the cell of each, and how it
 /// ended. The first `seen` members are shown, the others are prepared.
 #[derive(Drop)]
@@ -40,17 +43,19 @@ impl Model for StoredBatch {
 }
 
 impl StoredBatch {
-    /// A batch with no members.
-    pub(crate) fn new(alloc: Global, hashing: RandomState) -> StoredBatch
-        ensures { result ≡ blank }
+    /// A batch with no members. The error is a failed allocation.
+    pub(crate) fn new(alloc: Global, hashing: RandomState) -> Result<StoredBatch, AllocError>
+        ensures { IfOk result (λ batch. batch ≡ blank) }
     {
-        StoredBatch {
-            keys: Vec::new(alloc),
-            cells: Vec::new(alloc),
+        let keys = Vec::with_capacity(alloc, ROOM)?;
+        let cells = Vec::with_capacity(alloc, ROOM)?;
+        Ok(StoredBatch {
+            keys,
+            cells,
             index: IndexSet::with_hasher(alloc, hashing),
             seen: 0,
             end: None,
-        }
+        })
     }
 
     /// How many members it has, shown and prepared.

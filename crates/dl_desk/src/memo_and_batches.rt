@@ -116,7 +116,7 @@ pub(crate) fn join(
 {
     let number = choose(batches, choice, key)?;
     if number as usize == batches.len() {
-        batches.push(StoredBatch::new(alloc, hashing))?;
+        batches.push(StoredBatch::new(alloc, hashing)?)?;
     }
     batches[number as usize].push(key, cell)?;
     Ok(number)

@@ -3,7 +3,7 @@ use Rattle.std.proofs.lemmas.Option.{slice_get_read}
 use Rattle.dl_desk.specs.Marks.{MakesRoom}
 use Rattle.dl_desk.proofs.TwoBooks.{low_choice}
 use Rattle.dl_desk.proofs.memo_and_batches.join.Goals as goal
-use Rattle.dl_desk.proofs.memo_and_batches.join.Goals.{then-number-len+in_ok-push, else-number-len}
+use Rattle.dl_desk.proofs.memo_and_batches.join.Goals.{then-number-len+in_ok-new+in_ok-push, else-number-len}
 
 pub returns-clause-added : goal.returns-clause-added
 returns-clause-added c = record {
@@ -20,8 +20,8 @@ returns-clause-added c = record {
   where
     grows : MakesRoom c.args.batches.now.items c.if-number-len.batches.items
     grows = elim c.if-number-len.branch [
-      | then-number-len+in_ok-push w ↦ inr (rw w.batches-is (w.in_ok-push.ensures.items
-          ∙ (rw (w.new.ensures, c.choose.ensures.kept) refl)))
+      | then-number-len+in_ok-new+in_ok-push w ↦ inr (rw w.batches-is (w.in_ok-push.ensures.items
+          ∙ (rw (w.in_ok-new.ensures, c.choose.ensures.kept) refl)))
       | else-number-len w ↦ inl (rw w.batches-is c.choose.ensures.kept)
     ]
 
@@ -34,6 +34,6 @@ returns-clause-added c = record {
 
     low : c.in_ok-number.number < length c.if-number-len.batches.items
     low = elim c.if-number-len.branch [
-      | then-number-len+in_ok-push w ↦ rw (w.batches-is, w.in_ok-push.ensures.items, length-append) (omega arith)
+      | then-number-len+in_ok-new+in_ok-push w ↦ rw (w.batches-is, w.in_ok-push.ensures.items, length-append) (omega arith)
       | else-number-len w ↦ rw w.batches-is (let l = below in omega (arith, c.choose.new.batches.ok.0))
     ]
