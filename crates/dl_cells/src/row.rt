@@ -68,7 +68,7 @@ impl<T: Drop> CellRow<T> {
         }
         Ok(Reader {
             segment: Learned::of(&mut note),
-            place: i % SEGMENT,
+            place: (i % SEGMENT) as u8,
             value: None,
         })
     }
