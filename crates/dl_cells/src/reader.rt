@@ -12,12 +12,13 @@ use std::marker::Model;
 /// What one holder knows of one cell of a `CellRow`: nothing yet, or the cell's value for good.
 ///
 /// In clauses it is a `Reader`: `cell` says which cell it is of, and `known` is the value, once it
-/// was seen. A reader borrows nothing, and may lie in a struct or go to another thread. It takes eight
+/// was seen. A reader borrows nothing, and may lie in a struct or go to another thread. It takes two
 /// bytes.
 #[derive(Drop)]
 pub struct Reader<T> {
     pub(crate) segment: Learned<Segment<T>>,
-    pub(crate) place: u32,
+    // The place in the segment, which has 64 cells.
+    pub(crate) place: u8,
     // What shows that the cell holds its value, once the holder has seen that.
     pub(crate) value: Option<Written<T>>,
 }

@@ -68,13 +68,15 @@ impl<T: Drop> CellRow<T> {
         }
         Ok(Reader {
             segment: Learned::of(&mut note),
-            place: i % SEGMENT,
+            place: (i % SEGMENT) as u8,
             value: None,
         })
     }
 
     /// Sets cell `i` to `value`: the reader then knows that value, and knew nothing before. Where the
     /// cell was set before, or another thread is setting it, hands `value` back.
+    // Inlined, so that a value is made where it will lie, and not moved there.
+    #[inline(always)]
     pub fn show(&self, i: u32, reader: &mut Reader<T>, value: T) -> Result<(), T>
         requires in_row { i < row_len self.now }
         requires of_cell { reader.old.cell ≡ cell_of self.now i }

@@ -1,5 +1,5 @@
 -- What holds of a journal once it has one event more, or a cell has its end.
-use Rattle.std.proofs.Common.{◌≡◌, ◌∙◌, sym, ap, ℕ, ◌+◌, ◌<◌, ◌⊎◌, Bool, true, false, List, [], ◌∷◌, ◌++◌, length, set, Some, MatchBool, slice_get, nat_lt}
+use Rattle.std.proofs.Common.{◌≡◌, ◌∙◌, sym, ap, ℕ, zero, suc, ◌+◌, ◌<◌, ◌⊎◌, Bool, true, false, List, [], ◌∷◌, ◌++◌, length, set, take, Some, MatchBool, slice_get, nat_lt}
 use Rattle.std.proofs.Common.{Option, None, IfSome, IfNone, option_map, refl, arith}
 use Rattle.std.proofs.Common.{inl, inr, length-append}
 use Rattle.std.proofs.lemmas.List.{map-set}
@@ -79,6 +79,24 @@ journal_event {log} {outcomes} {fields} counted readers r old grown count new = 
       omega arith;
   known = record { at = λ k u got. known_more log fields.readers r old.known new k u (get-snoc fields.readers r u k (rw grown at got)) };
   own = old.own;
+}
+
+-- ---- cells
+
+-- what stands in the front of a list stands there in all of it
+got_taken : {X : Type 0} (n : ℕ) (xs : List X) (i : ℕ) (x : X) → slice_get (take n xs) i ≡ Some x → slice_get xs i ≡ Some x
+got_taken {X} zero xs i x got = absurd (let bad : ◌≡◌ {A = Option X} None (Some x) = got in cc)
+got_taken (suc n) [] i x got = got
+got_taken (suc n) (y ∷ xs) zero x got = got
+got_taken (suc n) (y ∷ xs) (suc i) x got = got_taken n xs i x got
+
+-- a journal whose cells are taken back from one on
+pub journal_cut : {log outcomes : RowName} {fields : JournalFields} (states : List CellState) (n : ℕ) → IsJournal log outcomes fields
+    → states ≡ take n fields.states → IsJournal log outcomes (record fields { states = states })
+journal_cut {log} {outcomes} {fields} states n old cut = record {
+  counted_is = old.counted_is;
+  known = old.known;
+  own = record { at = λ c s got. old.own.at c s (got_taken n fields.states c s (rw cut at got)) };
 }
 
 -- the cells, once a state has its end

@@ -8,7 +8,7 @@ pub mod BatchEndings
 pub mod Outcomes
 mod JournalLemmas
 pub mod CellLists
-pub mod BlankReaders
+mod BegunCells
 pub mod CellsOfCalls
 pub mod AllCellsEnd
 mod CellOutcomes

@@ -86,7 +86,3 @@ pub record IsJournal (log outcomes : RowName) (fields : JournalFields) : Type 0 
   pub counted_is : fields.counted ≡ length fields.readers
   pub known : AreKnown log fields.readers
   pub own : AreOwn outcomes fields.states
-
--- readers, in order, of the cells from one on, of which they know nothing
-pub record AreBlank (outcomes : RowName) (from : ℕ) (readers : List (Reader Ending)) : Type 0 where
-  pub at : (k : ℕ) (r : Reader Ending) → slice_get readers k ≡ Some r → (r.cell ≡ cell_of outcomes (from + k)) × (r.known ≡ None)

@@ -46,6 +46,8 @@ impl<L: LoaderName> Model for PlacedEvent<L> {
 
 impl<L: LoaderName> PlacedEvent<L> {
     /// Puts an event into its cell of the log. Where the log has another event there, hands the event back.
+    // Inlined, so that an event is made where it will lie, and not moved there.
+    #[inline(always)]
     pub(crate) fn store(
         row: &CellRow<Event>,
         at: u16,

@@ -1,9 +1,8 @@
 //! The history and the cells of a loader, as they are known under its lock.
 
 ghost use Rattle.std.specs.Prelude.{◌≡◌, ◌+◌, ◌<◌, ◌≤◌, ◌∷◌, ◌++◌, [], MatchBool, None, OnOk, Some, length, set, slice_get};
-ghost use Rattle.std.specs.List.{repeat};
 ghost use Rattle.dl_cells.specs.Cells.{cell_of};
-ghost use Rattle.dl_history.specs.Journal.{AreBlank, Refuses, waiting, showing};
+ghost use Rattle.dl_history.specs.Journal.{Refuses, waiting, showing};
 
 mod append;
 mod view;
@@ -115,18 +114,6 @@ impl<L: LoaderName> Journal<L> {
         ensures room { self.old.spare ≤ self.new.spare + 1 }
     {
         self.states.push_reserved(CellState::new(reader));
-    }
-
-    /// Adds the next cells, which have no end yet.
-    fn add_cells(&mut self, readers: Vec<Reader<Ending>>)
-        requires blank { AreBlank L.outcomes (length self.old.cells) readers.items }
-        requires room { length readers.items ≤ self.old.spare }
-        ensures history { self.new.history ≡ self.old.history }
-        ensures cells { self.new.cells ≡ self.old.cells ++ repeat (length readers.items) (waiting ∷ []) }
-    {
-        for reader in readers {
-            self.add_cell(reader);
-        }
     }
 
     /// Gives a cell its outcome, and tells whether the cell took it.

@@ -1,12 +1,12 @@
 //! One event more in a journal.
 
-ghost use Rattle.std.specs.Prelude.{◌≡◌, ◌+◌, ◌<◌, ◌≤◌, ◌∷◌, ◌++◌, [], IfOk, OnErr, OnOk, length};
+ghost use Rattle.std.specs.Prelude.{◌≡◌, ◌+◌, ◌<◌, ◌≤◌, ◌∷◌, ◌++◌, [], IfOk, OnErr, OnOk, length, take};
 ghost use Rattle.std.specs.List.{repeat};
 ghost use Rattle.dl_cells.specs.Cells.{cell_of, row_len};
 ghost use Rattle.dl_values.specs.Limits.{largest_limit};
 ghost use Rattle.dl_history.specs.declared.journal.append.AppendFault.TheVariants.{OutOfMemory};
 ghost use Rattle.dl_history.specs.Entries.{event_at};
-ghost use Rattle.dl_history.specs.Journal.{AreBlank, waiting};
+ghost use Rattle.dl_history.specs.Journal.{waiting};
 
 use crate::cell_rows::CellRows;
 use crate::entry::PlacedEvent;
@@ -14,7 +14,7 @@ use crate::event::{Ending, Event};
 use crate::journal::Journal;
 use crate::name::LoaderName;
 use dl_cells::{CellRow, Reader};
-use std::alloc::{AllocError, Global};
+use std::alloc::AllocError;
 use std::sync::ledger::Share;
 
 /// Why a journal takes no event.
@@ -46,7 +46,6 @@ impl<L: LoaderName> Journal<L> {
     #[inline(always)]
     pub fn append(
         &mut self,
-        alloc: Global,
         rows: &CellRows<L>,
         share: &mut Share<L>,
         event: Event,
@@ -64,42 +63,78 @@ impl<L: LoaderName> Journal<L> {
     {
         let place = self.next_place(rows);
         let first = self.next_cell(rows, cells);
-        let Ok((mut reader, readers)) = self.grow(alloc, rows, place, first, cells) else {
+        let Ok(mut reader) = self.grow(rows, place, first, cells) else {
             return Err(AppendFault::OutOfMemory);
         };
         let Ok(stored) = PlacedEvent::store(rows.log(), place, &mut reader, event) else {
+            self.cut_cells(first);
             return Err(AppendFault::LogRefused);
         };
         self.add(&stored, share);
-        self.add_cells(readers);
         Ok(stored)
     }
 
-    /// Makes the allocations of an event at a place that begins so many cells from one on, and answers readers of the event's
-    /// cell and of those cells, which know nothing of them. The error is a failed allocation.
+    /// Makes the allocations of an event at a place, begins as many cells as it does, of which `first` is the next, and
+    /// answers a reader of the event's cell, which knows nothing of it. The error is a failed allocation, and changes nothing.
     #[inline(always)]
     fn grow(
         &mut self,
-        alloc: Global,
         rows: &CellRows<L>,
         place: u16,
         first: u32,
         cells: u32,
-    ) -> Result<(Reader<Event>, Vec<Reader<Ending>>), AllocError>
+    ) -> Result<Reader<Event>, AllocError>
         requires place { place < L.service.rules.limits.max_calls }
+        requires first { first ≡ length self.old.cells }
         requires in_row { first + cells ≤ L.service.rules.limits.max_cells }
         requires fits { first + cells ≤ largest_limit }
         ensures history { self.new.history ≡ self.old.history }
-        ensures cells { self.new.cells ≡ self.old.cells }
-        ensures room { OnOk result (cells + 1 ≤ self.new.spare) }
-        ensures cell { IfOk result (λ readers. readers.0.cell ≡ cell_of L.log place) }
-        ensures count { IfOk result (λ readers. length readers.1.items ≡ cells) }
-        ensures blank { IfOk result (λ readers. AreBlank L.outcomes first readers.1.items) }
+        ensures cells { OnOk result (self.new.cells ≡ self.old.cells ++ repeat cells (waiting ∷ [])) }
+        ensures room { OnOk result (0 < self.new.spare) }
+        ensures cell { IfOk result (λ reader. reader.cell ≡ cell_of L.log place) }
+        ensures unchanged { OnErr result (self.new.cells ≡ self.old.cells) }
     {
         self.reserve(cells as usize)?;
         let reader = rows.log().reader(u32::from(place))?;
-        let readers = blank_readers(alloc, rows.outcomes(), first, cells)?;
-        Ok((reader, readers))
+        self.begin_cells(rows.outcomes(), first, cells)?;
+        Ok(reader)
+    }
+
+    /// Begins so many cells, which have no end yet, of which `first` is the next. The error is a failed allocation, and changes
+    /// nothing.
+    #[inline(always)]
+    fn begin_cells(
+        &mut self,
+        row: &CellRow<Ending>,
+        first: u32,
+        cells: u32,
+    ) -> Result<(), AllocError>
+        requires row { row.now ≡ L.outcomes }
+        requires first { first ≡ length self.old.cells }
+        requires in_row { first + cells ≤ row_len L.outcomes }
+        requires fits { first + cells ≤ largest_limit }
+        requires room { cells + 1 ≤ self.old.spare }
+        ensures history { self.new.history ≡ self.old.history }
+        ensures cells { OnOk result (self.new.cells ≡ self.old.cells ++ repeat cells (waiting ∷ [])) }
+        ensures room { OnOk result (0 < self.new.spare) }
+        ensures unchanged { OnErr result (self.new.cells ≡ self.old.cells) }
+    {
+        for more in 0..cells {
+            let Ok(reader) = row.reader(first + more) else {
+                self.cut_cells(first);
+                return Err(AllocError);
+            };
+            self.add_cell(reader);
+        }
+        Ok(())
+    }
+
+    /// Takes back all cells from one on.
+    fn cut_cells(&mut self, first: u32)
+        ensures history { self.new.history ≡ self.old.history }
+        ensures cells { self.new.cells ≡ take first self.old.cells }
+    {
+        self.states.truncate(first as usize);
     }
 
     /// The place of the next event.
@@ -124,24 +159,4 @@ impl<L: LoaderName> Journal<L> {
         prove!(first <= most);
         first as u32
     }
-}
-
-/// Readers, in order, of so many cells from one on, which know nothing of them. Most calls begin no cell.
-#[inline(always)]
-fn blank_readers(
-    alloc: Global,
-    row: &CellRow<Ending>,
-    from: u32,
-    count: u32,
-) -> Result<Vec<Reader<Ending>>, AllocError>
-    requires in_row { from + count ≤ row_len row.now }
-    requires fits { from + count ≤ largest_limit }
-    ensures count { IfOk result (λ readers. length readers.items ≡ count) }
-    ensures blank { IfOk result (λ readers. AreBlank row.now from readers.items) }
-{
-    let mut readers = Vec::with_capacity(alloc, count as usize)?;
-    for more in 0..count {
-        readers.push(row.reader(from + more)?)?;
-    }
-    Ok(readers)
 }

@@ -60,7 +60,7 @@ impl<L: LoaderName> Book<L> {
         };
         let loads = C::loads(&answer);
         pass.reserve(loads.len())?;
-        pass.add_event(alloc, rows, &mut self.journal, event, cells)?;
+        pass.add_event(rows, &mut self.journal, event, cells)?;
         call.show(&mut self.desk);
         pass.add_tickets(&self.journal, loads);
         let ended = dues.len();

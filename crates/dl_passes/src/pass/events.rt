@@ -8,7 +8,6 @@ ghost use Rattle.dl_passes.specs.Record.{NothingMade, Recorded};
 use crate::fault::CallFault;
 use crate::pass::Pass;
 use dl_history::{CellRows, Entry, Event, Journal, LoaderName};
-use std::alloc::Global;
 
 impl<L: LoaderName> Pass<L> {
     /// Adds an event of this caller, for which the pass has room, to the journal, with as many cells as it begins, and to
@@ -22,7 +21,6 @@ impl<L: LoaderName> Pass<L> {
     #[inline(always)]
     pub fn add_event(
         &mut self,
-        alloc: Global,
         rows: &CellRows<L>,
         journal: &mut Journal<L>,
         event: Event,
@@ -38,7 +36,7 @@ impl<L: LoaderName> Pass<L> {
         ensures unchanged { OnErr result (NothingMade journal.old journal.new self.old.trace self.new.trace) }
         ensures fault { IfErr result (λ fault. (fault ≡ OutOfMemory) ⊎ (fault ≡ LogRefused)) }
     {
-        let stored = journal.append(alloc, rows, &mut self.share, event, cells)?;
+        let stored = journal.append(rows, &mut self.share, event, cells)?;
         self.front = u32::from(stored.at()) + 1;
         self.calls += 1;
         self.entries.push_reserved(Entry::call(stored));
