@@ -4,5 +4,5 @@ use Rattle.dl_values.specs.declared.joined_text.JoinedText.{JoinedText}
 use Rattle.dl_values.specs.declared.joined_text.JoinedText.TheVariants as text
 
 abbrev pub bytes_of : JoinedText → List ℕ
-bytes_of (text.Short t) = t.bytes
+bytes_of (text.Short t) = t
 bytes_of (text.Long t) = t
