@@ -1,8 +1,9 @@
 //! Two texts as one, which stands in its own value where it is short.
 
-ghost use Rattle.std.specs.Prelude.{◌≡◌, ◌<◌, ◌∷◌, ◌++◌, IfOk, OnErr, IfSome, IfNone};
+ghost use Rattle.std.specs.Prelude.{◌≡◌, ◌+◌, ◌<◌, ◌∷◌, ◌++◌, length, IfOk, OnErr, IfSome, IfNone};
 ghost use Rattle.dl_values.specs.KeyTexts.{AreTexts};
-ghost use Rattle.dl_values.specs.Inside.JoinedText.{bytes_of};
+ghost use Rattle.dl_values.specs.Inside.JoinedText.{bytes_of, IsPlaced};
+ghost use Rattle.dl_values.specs.Inside.ShortText.{short_bytes, hashed};
 
 use crate::short_text::{SHORT_BYTES, ShortText};
 use crate::text::Text;
@@ -25,7 +26,8 @@ impl JoinedText {
         second: &str,
     ) -> Result<JoinedText, AllocError>
         requires { mark < 128 }
-        ensures { IfOk result (λ t. bytes_of t ≡ mark ∷ (first.now ++ second.now)) }
+        ensures text { IfOk result (λ t. bytes_of t ≡ mark ∷ (first.now ++ second.now)) }
+        ensures placed { IfOk result IsPlaced }
     {
         if 1 + first.len() + second.len() > SHORT_BYTES {
             return Ok(JoinedText::Long(Text::marked(alloc, mark, first, second)?));
@@ -42,6 +44,7 @@ impl JoinedText {
     ) -> Result<Option<JoinedText>, AllocError>
         requires { mark < 128 }
         ensures some { IfOk result (λ text. IfSome text (λ t. (bytes_of t ≡ mark ∷ (first.now ++ second.now)) × AreTexts first.now second.now)) }
+        ensures placed { IfOk result (λ text. IfSome text IsPlaced) }
         ensures none { IfOk result (λ text. IfNone text (¬ (AreTexts first.now second.now))) }
         ensures err { OnErr result (AreTexts first.now second.now) }
     {
@@ -62,8 +65,10 @@ impl JoinedText {
         first: &[u8],
         second: &[u8],
     ) -> Result<Option<JoinedText>, AllocError>
-        requires { mark < 128 }
+        requires mark { mark < 128 }
+        requires long { short_bytes < 1 + length first.now + length second.now }
         ensures some { IfOk result (λ text. IfSome text (λ t. (bytes_of t ≡ mark ∷ (first.now ++ second.now)) × AreTexts first.now second.now)) }
+        ensures placed { IfOk result (λ text. IfSome text IsPlaced) }
         ensures none { IfOk result (λ text. IfNone text (¬ (AreTexts first.now second.now))) }
         ensures err { OnErr result (AreTexts first.now second.now) }
     {
@@ -85,6 +90,18 @@ impl JoinedText {
         match self {
             JoinedText::Short(text) => text.as_str(),
             JoinedText::Long(text) => text.as_str(),
+        }
+    }
+
+    /// What is hashed of the text.
+    #[inline(always)]
+    pub(crate) fn hashed(&self) -> &[u8]
+        requires { IsPlaced self.now }
+        ensures { result.now ≡ hashed (bytes_of self.now) }
+    {
+        match self {
+            JoinedText::Short(text) => text.words(),
+            JoinedText::Long(text) => text.as_str().as_bytes(),
         }
     }
 }

@@ -28,7 +28,7 @@ pub const TABLE_BYTES: usize = 64;
 pub const ID_BYTES: usize = 256;
 
 /// The two texts of a key as one: a character whose code is how many bytes the table has, then the table, then the id.
-/// So no two keys have one text, and a hash reads both in one piece.
+/// So no two keys have one text, and a hash reads both in one piece: up to the end of a word of eight bytes where it is short.
 #[derive(Drop)]
 struct KeyText {
     text: JoinedText,
@@ -36,14 +36,14 @@ struct KeyText {
 
 impl Model for KeyText {
     ghost use Rattle.dl_values.specs.Key.{Key};
-    ghost use Rattle.dl_values.specs.Inside.JoinedText.{bytes_of};
+    ghost use Rattle.dl_values.specs.Inside.JoinedText.{bytes_of, IsPlaced};
     ghost use Rattle.dl_values.specs.Inside.KeyText.{unmarked, IsMarked};
 
     ghost Value = { Key };
 
     ghost view = { λ k. unmarked (bytes_of k.text) };
 
-    ghost invariant = { λ k. IsMarked (bytes_of k.text) };
+    ghost invariant = { λ k. IsMarked (bytes_of k.text) × IsPlaced k.text };
 }
 
 impl KeyText {
@@ -103,7 +103,7 @@ impl Hash for KeyText {
     ghost respects_eq = { Prim.search (hashing, rules) };
 
     fn hash<H: Hasher>(&self, state: &mut H) {
-        state.write(self.text.as_str().as_bytes());
+        state.write(self.text.hashed());
     }
 }
 

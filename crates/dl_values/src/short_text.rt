@@ -2,30 +2,34 @@
 
 ghost use Rattle.std.specs.Prelude.{◌≡◌, ◌+◌, ◌<◌, ◌≤◌, ◌↔◌, ◌∷◌, ◌++◌, length, IfSome, IfNone, IsTrue};
 ghost use Rattle.std.specs.Str.{IsUtf8, IsCharBoundary};
-ghost use Rattle.dl_values.specs.KeyTexts.{AreTexts, short_bytes};
+ghost use Rattle.dl_values.specs.KeyTexts.{AreTexts};
+ghost use Rattle.dl_values.specs.Inside.ShortText.{short_bytes, padded, hashed};
 
-use arrayvec::ArrayVec;
 use std::marker::Model;
 use std::str;
 
 /// The most bytes of a text that stands in its own value: with the counts of an `Arc` it takes a block of 80 bytes.
 pub(crate) const SHORT_BYTES: usize = 40;
 
+/// What stands behind a text. No text has this byte.
+const PAD: u8 = 0xFF;
+
 /// A text of at most [`SHORT_BYTES`] bytes. Contracts see them.
 #[derive(Drop)]
 pub(crate) struct ShortText {
-    bytes: ArrayVec<u8, SHORT_BYTES>,
+    bytes: [u8; SHORT_BYTES],
+    len: usize,
 }
 
 impl Model for ShortText {
-    ghost use Rattle.std.specs.Prelude.{List, ℕ};
-    ghost use Rattle.std.specs.Str.{IsUtf8};
+    ghost use Rattle.std.specs.Prelude.{List, ℕ, take};
+    ghost use Rattle.dl_values.specs.Inside.ShortText.{IsShort};
 
     ghost Value = { List ℕ };
 
-    ghost view = { λ t. t.bytes.items };
+    ghost view = { λ t. take t.len t.bytes };
 
-    ghost invariant = { λ t. ∥ IsUtf8 t.bytes.items ∥₁ };
+    ghost invariant = { λ t. IsShort t.bytes t.len };
 }
 
 impl ShortText {
@@ -37,6 +41,7 @@ impl ShortText {
     {
         ShortText {
             bytes: joined(mark, first.as_bytes(), second.as_bytes()),
+            len: 1 + first.len() + second.len(),
         }
     }
 
@@ -48,8 +53,9 @@ impl ShortText {
         ensures none { IfNone result (¬ (AreTexts first.now second.now)) }
     {
         let bytes = joined(mark, first, second);
-        if is_cut(bytes.as_slice(), 1 + first.len()) {
-            Some(ShortText { bytes })
+        let len = 1 + first.len() + second.len();
+        if is_cut(&bytes[..len], 1 + first.len()) {
+            Some(ShortText { bytes, len })
         } else {
             None
         }
@@ -60,19 +66,29 @@ impl ShortText {
     pub(crate) fn as_str(&self) -> &str
         ensures { result.now ≡ self.now }
     {
-        unsafe { str::from_utf8_unchecked(self.bytes.as_slice()) }
+        unsafe { str::from_utf8_unchecked(&self.bytes[..self.len]) }
+    }
+
+    /// The text up to the end of a word of eight bytes, with what stands behind it.
+    #[inline(always)]
+    pub(crate) fn words(&self) -> &[u8]
+        ensures { result.now ≡ hashed self.now }
+    {
+        &self.bytes[..(self.len + 7) / 8 * 8]
     }
 }
 
-/// A byte, and right after it those of two pieces.
-fn joined(mark: u8, first: &[u8], second: &[u8]) -> ArrayVec<u8, SHORT_BYTES>
+/// A byte, right after it those of two pieces, and what stands behind a text.
+fn joined(mark: u8, first: &[u8], second: &[u8]) -> [u8; SHORT_BYTES]
     requires { 1 + length first.now + length second.now ≤ short_bytes }
-    ensures { result.items ≡ mark ∷ (first.now ++ second.now) }
+    ensures { result ≡ padded (mark ∷ (first.now ++ second.now)) }
 {
-    let mut bytes = ArrayVec::new();
-    bytes.push(mark);
-    bytes.try_extend_from_slice(first).unwrap();
-    bytes.try_extend_from_slice(second).unwrap();
+    let seam = 1 + first.len();
+    let end = seam + second.len();
+    let mut bytes = [PAD; SHORT_BYTES];
+    bytes[0] = mark;
+    bytes[1..seam].copy_from_slice(first);
+    bytes[seam..end].copy_from_slice(second);
     bytes
 }
 
