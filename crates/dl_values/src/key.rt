@@ -15,11 +15,10 @@ use crate::fault::KeyFault;
 use crate::joined_text::JoinedText;
 use std::alloc::{AllocError, Global};
 use std::cmp::Ordering;
-use std::fmt;
 use std::hash::{Hash, Hasher};
 use std::marker::Model;
-use std::mem;
 use std::sync::Arc;
+use std::{fmt, mem};
 
 /// The most bytes of a key's table.
 pub const TABLE_BYTES: usize = 64;
@@ -196,11 +195,7 @@ impl FetchKey {
     }
 
     /// The key of a text, in the memory of the spare key if there is one that nobody shares. The error is a failed allocation.
-    fn of(
-        alloc: Global,
-        spare: Option<FetchKey>,
-        both: KeyText,
-    ) -> Result<FetchKey, AllocError>
+    fn of(alloc: Global, spare: Option<FetchKey>, both: KeyText) -> Result<FetchKey, AllocError>
         requires { IsKey both }
         ensures { IfOk result (λ k. k ≡ both) }
     {

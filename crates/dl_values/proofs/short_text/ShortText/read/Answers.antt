@@ -24,14 +24,18 @@ invariant_of-result c =
 pub returns-then-is_cut-clause-some : goal.returns-then-is_cut-clause-some
 returns-then-is_cut-clause-some c =
     let is = same c.args.mark c.args.first.now c.args.second.now _ c.joined-bytes.ensures in
-    let cut = c.is_cut.ensures.0 c.if-is_cut.true in
-    (is, pair_of_text c.args.mark c.args.first.now c.args.second.now c.requires.mark (subst IsUtf8 is cut.0)
-    (subst (λ (bytes : List ℕ). IsCharBoundary bytes (1 + length c.args.first.now)) is cut.1))
+    let cut = c.is_cut.ensures.0 c.if-is_cut.true in (
+      is,
+      pair_of_text c.args.mark c.args.first.now c.args.second.now c.requires.mark (subst IsUtf8 is cut.0)
+          (subst (λ (bytes : List ℕ). IsCharBoundary bytes (1 + length c.args.first.now)) is cut.1),
+    )
 
 pub returns-else-is_cut-clause-none : goal.returns-else-is_cut-clause-none
 returns-else-is_cut-clause-none c are =
     let is = same c.args.mark c.args.first.now c.args.second.now _ c.joined-bytes.ensures in
     let text = text_of_pair c.args.mark c.args.first.now c.args.second.now c.requires.mark are in
     let seam = seam_of_pair c.args.mark c.args.first.now c.args.second.now c.requires.mark are in
-    false≢true (sym c.if-is_cut.false ∙ c.is_cut.ensures.1 (subst IsUtf8 (sym is) text,
-    subst (λ (bytes : List ℕ). IsCharBoundary bytes (1 + length c.args.first.now)) (sym is) seam))
+    false≢true (sym c.if-is_cut.false ∙ c.is_cut.ensures.1 (
+      subst IsUtf8 (sym is) text,
+      subst (λ (bytes : List ℕ). IsCharBoundary bytes (1 + length c.args.first.now)) (sym is) seam,
+    ))
