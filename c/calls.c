@@ -197,6 +197,9 @@ static void tables_with_a_fault_are_refused(void)
         {"\xff", {{1, 1}}, 1, DL_BAD_TEXT},
         /* A name is cut within a character. */
         {"\xc3\xa9", {{1, 1}, {1, 1}}, 2, DL_BAD_TEXT},
+        /* The first name that can't be read tells. */
+        {"\xff", {{1, 1}, {1, 1}}, 2, DL_BAD_TEXT},
+        {"s\xff", {{1, 1}, {2, 1}}, 2, DL_BAD_LENGTHS},
         {"", {{0, 1}}, 1, DL_EMPTY_TABLE},
         {long_name, {{65, 1}}, 1, DL_TABLE_TOO_LONG},
         {"t", {{1, 0}}, 1, DL_BAD_TABLE_LIMIT},
@@ -268,6 +271,7 @@ static void texts_that_are_no_key_are_refused(void)
     CHECK(is(dl_desk_load(&desk, KEY("user", "")), DL_BAD_KEY, 0, 0));
     CHECK(is(dl_desk_load(&desk, KEY("user", "\xff")), DL_BAD_KEY, 0, 0));
     CHECK(is(dl_desk_load(&desk, KEY("\xc3", "a")), DL_BAD_KEY, 0, 0));
+    CHECK(is(dl_desk_load(&desk, KEY("\xc3", "\xa9")), DL_BAD_KEY, 0, 0));
     CHECK(is(dl_desk_load(&desk, long_text, 65, long_text, 1), DL_BAD_KEY, 0, 0));
     CHECK(is(dl_desk_load(&desk, long_text, 1, long_text, 257), DL_BAD_KEY, 0, 0));
     CHECK(is(dl_desk_prime(&desk, KEY("", "a")), DL_BAD_KEY, 0, 0));
@@ -386,6 +390,9 @@ static void several_keys_are_loaded_as_one(void)
     CHECK(dl_desk_load_many(&desk, (const uint8_t *)"userauser", 9, lengths, 2, answers, 2) == DL_BAD_KEY);
     lengths[1].id = UINT32_MAX;
     CHECK(dl_desk_load_many(&desk, texts, 22, lengths, 2, answers, 2) == DL_BAD_LENGTHS);
+    /* The first key that can't be read tells. */
+    lengths[0].id = 0;
+    CHECK(dl_desk_load_many(&desk, texts, 22, lengths, 2, answers, 2) == DL_BAD_KEY);
     CHECK(answers[0].code == 0x2a2a2a2a);
     CHECK(dl_desk_load_many(&desk, texts, 0, lengths, 0, answers, 0) == DL_DONE);
     CHECK(dl_desk_close(&desk) == DL_DONE);

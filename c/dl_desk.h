@@ -123,7 +123,7 @@ dl_loaded dl_desk_load(dl_desk *desk, DL_KEY);
 /* Loads several keys in their order as one call, all or none (DataLoader: loadMany). The texts are those of all keys, each table
  * before its id, with nothing between them; the lengths are those of each key. There are as many answers as lengths, and each is
  * written as dl_desk_load would answer it, where the call is made; else none is.
- * DL_DONE. DL_CLOSED, DL_BAD_LENGTHS, DL_BAD_KEY, DL_CELLS_FULL, DL_OUT_OF_MEMORY. */
+ * DL_DONE. DL_CLOSED; DL_BAD_LENGTHS or DL_BAD_KEY, by the first key that can't be read; DL_CELLS_FULL, DL_OUT_OF_MEMORY. */
 uint32_t dl_desk_load_many(dl_desk *desk, const uint8_t *texts, size_t texts_len, const dl_key_lengths *lengths,
                            size_t lengths_len, dl_loaded *answers, size_t answers_len);
 

@@ -126,8 +126,9 @@ static const call CALLS[] = {
     {OPEN, "", 0, {DL_DONE, 0, 0, 0}, true},
     {LOAD, "a", 0, {DL_FRESH, 0, 0, 0}, true},
     {LOAD, "b", 0, {DL_FRESH, 1, 0, 0}, true},
-    {LOAD, "a", 0, {DL_HIT, 0, 0, 0}, true},
+    /* A call on a key takes memory for it where the last one's is shared, as here. */
     {HELD, "a", 0, {DL_HIT, 0, 0, 0}, true},
+    {LOAD, "a", 0, {DL_HIT, 0, 0, 0}, true},
     {HELD, "z", 0, {DL_FRESH, 0, 0, 0}, true},
     {PRIME, "c", 0, {DL_FRESH, 2, 0, 0}, true},
     {PRIME, "c", 0, {DL_HIT, 0, 0, 0}, true},
@@ -142,6 +143,7 @@ static const call CALLS[] = {
     {KEY, "", 2, {DL_DONE, 4, 1, 'f'}, false},
     {SETTLE, "", 0, {DL_DONE, 0, 0, 0}, false},
     {LOAD, "d", 0, {DL_FRESH, 7, 3, 0}, true},
+    {CLEAR, "y", 0, {DL_DONE, 0, 0, 0}, true},
     {FAIL, "", 1, {DL_DONE, 0, 0, 0}, false},
     {FAIL, "", 1, {DL_ENDED_BEFORE, 0, 0, 0}, false},
     {HELD, "d", 0, {DL_HIT, 7, 0, 0}, true},

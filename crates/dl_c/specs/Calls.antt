@@ -8,7 +8,8 @@ use Rattle.dl_c.specs.declared.codes.TheConstants.{DONE, FRESH, OUT_OF_MEMORY}
 use Rattle.dl_c.specs.declared.answers.Loaded.{Loaded}
 use Rattle.dl_c.specs.Codes.{code_by}
 use Rattle.dl_c.specs.Answers.{loaded_as, primed_as, held_as, refused_as}
-use Rattle.dl_c.specs.Keys.{IsKeyText, IsKeyFault}
+use Rattle.dl_values.specs.KeyTexts.{IsKeyText}
+use Rattle.dl_c.specs.Keys.{IsKeyFault}
 
 -- A call is made. Whatever history the book stood for, it refuses nothing, and the new book stands for the one after the call.
 pub record Makes (old : BatchBook) (call : DeskCall) (new : BatchBook) : Type 0 where

@@ -5,7 +5,7 @@ use Rattle.dl_c.specs.declared.handle.Handle.{Handle}
 
 -- the book of the desk of a handle, where it is open
 abbrev pub book_of : Handle → BatchBook
-book_of h = h.held.desk.book
+book_of h = h.held.kept.desk.book
 
 -- The call is made on the desk of an open handle, which stays open: the books before and after it are told.
 abbrev pub OnDesk : Handle → Handle → (BatchBook → BatchBook → Type 0) → Type 0

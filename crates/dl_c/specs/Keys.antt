@@ -1,15 +1,9 @@
 -- The texts of keys as C hands them in and reads them back.
 use Rattle.std.specs.Prelude.{◌≡◌, ℕ, ◌⊎◌, List, length, take}
-use Rattle.std.specs.Str.{IsUtf8}
-use Rattle.dl_values.specs.Key.{Key, IsKey}
+use Rattle.dl_values.specs.Key.{Key}
+use Rattle.dl_values.specs.KeyTexts.{IsKeyText}
 use Rattle.dl_c.specs.declared.codes.TheConstants.{OUT_OF_MEMORY, BAD_KEY}
 use Rattle.dl_c.specs.declared.key_texts.KeyTexts.{KeyTexts}
-
--- two texts of UTF-8 with the lengths of a key's
-pub record IsKeyText (k : Key) : Type 0 where
-  pub table : IsUtf8 k.table
-  pub id : IsUtf8 k.id
-  pub lengths : IsKey k
 
 -- Why no key is made of two texts: they are none, or memory is short.
 abbrev pub IsKeyFault : Key → ℕ → Type 0

@@ -9,8 +9,8 @@ use Rattle.dl_c.specs.declared.codes.TheConstants.{DONE, OUT_OF_MEMORY, BAD_KEY,
 use Rattle.dl_c.specs.declared.answers.Loaded.{Loaded}
 use Rattle.dl_c.specs.declared.key_texts.KeyLengths.{KeyLengths}
 use Rattle.dl_c.specs.Answers.{loaded_as}
-use Rattle.dl_c.specs.Cuts.{parts, total_by}
-use Rattle.dl_c.specs.Keys.{IsKeyText}
+use Rattle.dl_c.specs.Cuts.{parts, total_by, IsFirstFault}
+use Rattle.dl_values.specs.KeyTexts.{IsKeyText}
 use Rattle.dl_c.specs.Calls.{Makes, Refuses}
 
 -- the key at the front of the bytes
@@ -32,12 +32,21 @@ total ls = total_by key_width ls
 -- Why there is no key at the front of the bytes: they are too few for the lengths, it is none, or memory is short.
 abbrev pub IsFrontFault : List ℕ → KeyLengths → ℕ → Type 0
 IsFrontFault bytes l code = ((code ≡ BAD_LENGTHS) × (length bytes < l.table + l.id))
-    ⊎ (((code ≡ BAD_KEY) × ¬ (IsKeyText (front_key bytes l))) ⊎ (code ≡ OUT_OF_MEMORY))
+    ⊎ (((l.table + l.id ≤ length bytes) × (code ≡ BAD_KEY) × ¬ (IsKeyText (front_key bytes l))) ⊎ (code ≡ OUT_OF_MEMORY))
 
--- Why bytes aren't cut into keys: the lengths don't take them all and no more, one of the keys is none, or memory is short.
+-- Why bytes aren't cut into keys: the first of them that can't be read tells, or memory is short.
 abbrev pub IsCutFault : List ℕ → List KeyLengths → ℕ → Type 0
-IsCutFault bytes ls code = ((code ≡ BAD_LENGTHS) × ¬ (total ls ≡ length bytes))
-    ⊎ (((code ≡ BAD_KEY) × ¬ (All IsKeyText (cut bytes ls))) ⊎ (code ≡ OUT_OF_MEMORY))
+IsCutFault bytes ls code = IsFirstFault key_width front_key IsKeyText BAD_KEY bytes ls code ⊎ (code ≡ OUT_OF_MEMORY)
+
+-- The lengths take all bytes and no more, and each key is one.
+pub record AreKeys (bytes : List ℕ) (ls : List KeyLengths) : Type 0 where
+  pub whole : total ls ≡ length bytes
+  pub are_keys : All IsKeyText (cut bytes ls)
+
+-- Why no keys are loaded: there are not as many answers as lengths; else no keys are cut; else the call is refused.
+abbrev pub IsManyFault : List ℕ → List KeyLengths → ℕ → List Loaded → BatchBook → BatchBook → Type 0
+IsManyFault bytes ls code before old new = ((code ≡ BAD_LENGTHS) × ¬ (length ls ≡ length before))
+    ⊎ ((length ls ≡ length before) × (IsCutFault bytes ls code ⊎ (AreKeys bytes ls × Refuses old (Loads (cut bytes ls)) code new)))
 
 -- The answer to a load of the keys that the bytes are cut into.
 pub record AnswersMany (bytes : List ℕ) (ls : List KeyLengths) (code : ℕ) (before answers : List Loaded) (old new : BatchBook) : Type 0 where
@@ -46,4 +55,4 @@ pub record AnswersMany (bytes : List ℕ) (ls : List KeyLengths) (code : ℕ) (b
   pub made : code ≡ DONE → Makes old (Loads (cut bytes ls)) new
   pub cells : code ≡ DONE → (history : List Atom) → StandsFor old history → answers ≡ map loaded_as (load_replies old.rules history (cut bytes ls))
   pub refused : DONE < code → (answers ≡ before) × (new ≡ old)
-  pub cause : DONE < code → ((code ≡ BAD_LENGTHS) × ¬ (length ls ≡ length before)) ⊎ (IsCutFault bytes ls code ⊎ Refuses old (Loads (cut bytes ls)) code new)
+  pub cause : DONE < code → IsManyFault bytes ls code before old new

@@ -5,14 +5,14 @@ use denote.RawPtr.{Ptr}
 use Rattle.std.specs.Box.Ownership.{box_owns}
 use Rattle.std.specs.Global.{Global}
 use Rattle.std.specs.contracts.impls.GlobalAllocator.TheImpl.{ghosts}
-use Rattle.dl_desk.specs.BatchBook as Book
-use Rattle.dl_desk.specs.contracts.desk.Desk.{the_row}
+use Rattle.dl_c.specs.declared.kept_desk.KeptDesk.{KeptDesk}
+use Rattle.dl_c.specs.contracts.kept_desk.KeptDesk.{the_row}
 
 -- what a place owns where it is filled, and nothing where it is not
 abbrev pub owned_if : Bool → Fml → Fml
 owned_if true owned = owned
 owned_if false owned = ftrue
 
--- a box of the desk, as a box owns it
-abbrev pub desk_at : Global → Ptr → Book.Desk → Fml
+-- a box of the desk that is kept, as a box owns it
+abbrev pub desk_at : Global → Ptr → KeptDesk → Fml
 desk_at alloc = box_owns (ghosts.dealloc_token alloc) the_row

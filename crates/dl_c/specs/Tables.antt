@@ -1,5 +1,5 @@
 -- Tables with limits of their own as C hands them in.
-use Rattle.std.specs.Prelude.{◌≡◌, ℕ, ◌<◌, ◌⊎◌, List, length, take, Option, Some, None}
+use Rattle.std.specs.Prelude.{◌≡◌, ℕ, ◌<◌, ◌≤◌, ◌⊎◌, List, length, take, Option, Some, None}
 use Rattle.std.specs.List.{All}
 use Rattle.std.specs.Str.{IsUtf8}
 use Rattle.dl_values.specs.TableLimits.{pairs, GiveTheSame, fault_of}
@@ -7,7 +7,7 @@ use Rattle.dl_values.specs.declared.table_limits.TableLimit.{TableLimit}
 use Rattle.dl_c.specs.declared.codes.TheConstants.{OUT_OF_MEMORY, BAD_LENGTHS, BAD_TEXT}
 use Rattle.dl_c.specs.declared.tables.NamedLimit.{NamedLimit}
 use Rattle.dl_c.specs.Codes.{table_code_by}
-use Rattle.dl_c.specs.Cuts.{parts, total_by}
+use Rattle.dl_c.specs.Cuts.{parts, total_by, IsFirstFault}
 
 -- the table at the front of the names
 abbrev pub front_table : List ℕ → NamedLimit → TableLimit
@@ -33,12 +33,11 @@ pub record AreNames (names : List ℕ) (ls : List NamedLimit) : Type 0 where
 -- Why there is no table at the front of the names: they are too few for its length, its name is none, or memory is short.
 abbrev pub IsFrontFault : List ℕ → NamedLimit → ℕ → Type 0
 IsFrontFault names l code = ((code ≡ BAD_LENGTHS) × (length names < l.name_len))
-    ⊎ (((code ≡ BAD_TEXT) × ¬ (IsNamed (front_table names l))) ⊎ (code ≡ OUT_OF_MEMORY))
+    ⊎ (((l.name_len ≤ length names) × (code ≡ BAD_TEXT) × ¬ (IsNamed (front_table names l))) ⊎ (code ≡ OUT_OF_MEMORY))
 
--- Why names aren't cut into tables: the lengths don't take them all and no more, one of the names is none, or memory is short.
+-- Why names aren't cut into tables: the first of them that can't be read tells, or memory is short.
 abbrev pub IsNamesFault : List ℕ → List NamedLimit → ℕ → Type 0
-IsNamesFault names ls code = ((code ≡ BAD_LENGTHS) × ¬ (total_by name_width ls ≡ length names))
-    ⊎ (((code ≡ BAD_TEXT) × ¬ (All IsNamed (tables_of names ls))) ⊎ (code ≡ OUT_OF_MEMORY))
+IsNamesFault names ls code = IsFirstFault name_width front_table IsNamed BAD_TEXT names ls code ⊎ (code ≡ OUT_OF_MEMORY)
 
 -- Why tables have no limits of their own: the names aren't cut into tables, or they are, and the tables with their limits are refused.
 abbrev pub IsTablesFault : List ℕ → List NamedLimit → ℕ → Type 0

@@ -25,11 +25,11 @@ pub extern "C" fn dl_desk_dispatch(alloc: Global, handle: &mut Handle) -> Dispat
     ensures closed { OnClosed handle.old handle.new (result ≡ record { code = CLOSED; first = 0; count = 0 }) }
     ensures desk { OnDesk handle.old handle.new (AnswersDispatch result) }
 {
-    let Some(mut desk) = take(alloc, handle) else {
+    let Some(mut kept) = take(alloc, handle) else {
         return Dispatched::refused(CLOSED);
     };
-    let answer = dispatch(alloc, &mut desk);
-    *handle = Handle::opened(desk);
+    let answer = dispatch(alloc, &mut kept.desk);
+    *handle = Handle::opened(kept);
     answer
 }
 
@@ -56,11 +56,11 @@ pub extern "C" fn dl_desk_member(
     ensures closed { OnClosed handle.old handle.new (result ≡ refused_as CLOSED) }
     ensures desk { OnDesk handle.old handle.new (AnswersMember batch index result) }
 {
-    let Some(desk) = take(alloc, handle) else {
+    let Some(kept) = take(alloc, handle) else {
         return Loaded::refused(CLOSED);
     };
-    let answer = member(&desk, batch, index);
-    *handle = Handle::opened(desk);
+    let answer = member(&kept.desk, batch, index);
+    *handle = Handle::opened(kept);
     answer
 }
 
@@ -91,11 +91,11 @@ pub extern "C" fn dl_desk_key(
     ensures closed { OnClosed handle.old handle.new ((result ≡ CLOSED) × (texts.new ≡ texts.old)) }
     ensures desk { OnDesk handle.old handle.new (AnswersKey batch index result texts.old texts.new) }
 {
-    let Some(desk) = take(alloc, handle) else {
+    let Some(kept) = take(alloc, handle) else {
         return CLOSED;
     };
-    let code = spell(&desk, batch, index, texts);
-    *handle = Handle::opened(desk);
+    let code = spell(&kept.desk, batch, index, texts);
+    *handle = Handle::opened(kept);
     code
 }
 
@@ -125,11 +125,11 @@ pub extern "C" fn dl_desk_settle(alloc: Global, handle: &mut Handle, batch: u32)
     ensures closed { OnClosed handle.old handle.new (result ≡ CLOSED) }
     ensures desk { OnDesk handle.old handle.new (AnswersEnd (Settles batch) result) }
 {
-    let Some(mut desk) = take(alloc, handle) else {
+    let Some(mut kept) = take(alloc, handle) else {
         return CLOSED;
     };
-    let code = settle(&mut desk, batch);
-    *handle = Handle::opened(desk);
+    let code = settle(&mut kept.desk, batch);
+    *handle = Handle::opened(kept);
     code
 }
 
@@ -150,11 +150,11 @@ pub extern "C" fn dl_desk_fail(alloc: Global, handle: &mut Handle, batch: u32) -
     ensures closed { OnClosed handle.old handle.new (result ≡ CLOSED) }
     ensures desk { OnDesk handle.old handle.new (AnswersEnd (Fails batch) result) }
 {
-    let Some(mut desk) = take(alloc, handle) else {
+    let Some(mut kept) = take(alloc, handle) else {
         return CLOSED;
     };
-    let code = fail(&mut desk, batch);
-    *handle = Handle::opened(desk);
+    let code = fail(&mut kept.desk, batch);
+    *handle = Handle::opened(kept);
     code
 }
 

@@ -12,6 +12,7 @@ ghost use Rattle.dl_c.specs.Handles.{OnDesk, OnClosed};
 use crate::answers::Loaded;
 use crate::codes::{CLOSED, DONE, code_of};
 use crate::handle::{Handle, take};
+use crate::kept_desk::KeptDesk;
 use crate::key_texts::key_of;
 use dl_desk::{Desk, FetchKey};
 use std::alloc::Global;
@@ -29,19 +30,23 @@ pub extern "C" fn dl_desk_load(
     ensures closed { OnClosed handle.old handle.new (result ≡ refused_as CLOSED) }
     ensures desk { OnDesk handle.old handle.new (AnswersLoad (record { table = table.now; id = id.now }) result) }
 {
-    let Some(mut desk) = take(alloc, handle) else {
+    let Some(mut kept) = take(alloc, handle) else {
         return Loaded::refused(CLOSED);
     };
-    let answer = load(alloc, &mut desk, table, id);
-    *handle = Handle::opened(desk);
+    let answer = load(alloc, &mut kept, table, id);
+    *handle = Handle::opened(kept);
     answer
 }
 
-fn load(alloc: Global, desk: &mut Desk, table: &[u8], id: &[u8]) -> Loaded
-    ensures { AnswersLoad (record { table = table.now; id = id.now }) result desk.old.book desk.new.book }
+fn load(alloc: Global, kept: &mut KeptDesk, table: &[u8], id: &[u8]) -> Loaded
+    ensures { AnswersLoad (record { table = table.now; id = id.now }) result kept.old.desk.book kept.new.desk.book }
 {
-    match key_of(alloc, table, id) {
-        Ok(key) => load_key(alloc, desk, &key),
+    match key_of(alloc, kept.spare.take(), table, id) {
+        Ok(key) => {
+            let answer = load_key(alloc, &mut kept.desk, &key);
+            kept.spare = Some(key);
+            answer
+        }
         Err(code) => Loaded::refused(code),
     }
 }
@@ -73,19 +78,23 @@ pub extern "C" fn dl_desk_prime(
     ensures closed { OnClosed handle.old handle.new (result ≡ refused_as CLOSED) }
     ensures desk { OnDesk handle.old handle.new (AnswersPrime (record { table = table.now; id = id.now }) result) }
 {
-    let Some(mut desk) = take(alloc, handle) else {
+    let Some(mut kept) = take(alloc, handle) else {
         return Loaded::refused(CLOSED);
     };
-    let answer = prime(alloc, &mut desk, table, id);
-    *handle = Handle::opened(desk);
+    let answer = prime(alloc, &mut kept, table, id);
+    *handle = Handle::opened(kept);
     answer
 }
 
-fn prime(alloc: Global, desk: &mut Desk, table: &[u8], id: &[u8]) -> Loaded
-    ensures { AnswersPrime (record { table = table.now; id = id.now }) result desk.old.book desk.new.book }
+fn prime(alloc: Global, kept: &mut KeptDesk, table: &[u8], id: &[u8]) -> Loaded
+    ensures { AnswersPrime (record { table = table.now; id = id.now }) result kept.old.desk.book kept.new.desk.book }
 {
-    match key_of(alloc, table, id) {
-        Ok(key) => prime_key(desk, &key),
+    match key_of(alloc, kept.spare.take(), table, id) {
+        Ok(key) => {
+            let answer = prime_key(&mut kept.desk, &key);
+            kept.spare = Some(key);
+            answer
+        }
         Err(code) => Loaded::refused(code),
     }
 }
@@ -115,15 +124,25 @@ pub extern "C" fn dl_desk_held(
     ensures closed { OnClosed handle.old handle.new (result ≡ refused_as CLOSED) }
     ensures desk { OnDesk handle.old handle.new (AnswersHeld (record { table = table.now; id = id.now }) result) }
 {
-    let Some(desk) = take(alloc, handle) else {
+    let Some(mut kept) = take(alloc, handle) else {
         return Loaded::refused(CLOSED);
     };
-    let answer = match key_of(alloc, table, id) {
-        Ok(key) => Loaded::of_held(desk.held(&key)),
-        Err(code) => Loaded::refused(code),
-    };
-    *handle = Handle::opened(desk);
+    let answer = held(alloc, &mut kept, table, id);
+    *handle = Handle::opened(kept);
     answer
+}
+
+fn held(alloc: Global, kept: &mut KeptDesk, table: &[u8], id: &[u8]) -> Loaded
+    ensures { AnswersHeld (record { table = table.now; id = id.now }) result kept.old.desk.book kept.new.desk.book }
+{
+    match key_of(alloc, kept.spare.take(), table, id) {
+        Ok(key) => {
+            let answer = Loaded::of_held(kept.desk.held(&key));
+            kept.spare = Some(key);
+            answer
+        }
+        Err(code) => Loaded::refused(code),
+    }
 }
 
 /// Forgets the key, if it is held (DataLoader: `clear`).
@@ -134,20 +153,21 @@ pub extern "C" fn dl_desk_clear(alloc: Global, handle: &mut Handle, table: &[u8]
     ensures closed { OnClosed handle.old handle.new (result ≡ CLOSED) }
     ensures desk { OnDesk handle.old handle.new (AnswersClear (record { table = table.now; id = id.now }) result) }
 {
-    let Some(mut desk) = take(alloc, handle) else {
+    let Some(mut kept) = take(alloc, handle) else {
         return CLOSED;
     };
-    let code = clear(alloc, &mut desk, table, id);
-    *handle = Handle::opened(desk);
+    let code = clear(alloc, &mut kept, table, id);
+    *handle = Handle::opened(kept);
     code
 }
 
-fn clear(alloc: Global, desk: &mut Desk, table: &[u8], id: &[u8]) -> u32
-    ensures { AnswersClear (record { table = table.now; id = id.now }) result desk.old.book desk.new.book }
+fn clear(alloc: Global, kept: &mut KeptDesk, table: &[u8], id: &[u8]) -> u32
+    ensures { AnswersClear (record { table = table.now; id = id.now }) result kept.old.desk.book kept.new.desk.book }
 {
-    match key_of(alloc, table, id) {
+    match key_of(alloc, kept.spare.take(), table, id) {
         Ok(key) => {
-            desk.clear(&key);
+            kept.desk.clear(&key);
+            kept.spare = Some(key);
             DONE
         }
         Err(code) => code,
@@ -163,10 +183,10 @@ pub extern "C" fn dl_desk_clear_all(alloc: Global, handle: &mut Handle) -> u32
     ensures done { OnDesk handle.old handle.new (λ _ _. result ≡ DONE) }
     ensures desk { OnDesk handle.old handle.new (λ old new. Makes old ClearsAll new) }
 {
-    let Some(mut desk) = take(alloc, handle) else {
+    let Some(mut kept) = take(alloc, handle) else {
         return CLOSED;
     };
-    desk.clear_all();
-    *handle = Handle::opened(desk);
+    kept.desk.clear_all();
+    *handle = Handle::opened(kept);
     DONE
 }

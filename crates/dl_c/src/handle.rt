@@ -1,28 +1,28 @@
 //! The handle that a host keeps of its desk.
 
 ghost use Rattle.std.specs.Prelude.{◌≡◌, Bool, true, false, IfSome, IfNone};
-ghost use Rattle.dl_desk.specs.BatchBook as Book;
+ghost use Rattle.dl_c.specs.declared.kept_desk.KeptDesk.{KeptDesk};
 ghost use Rattle.dl_c.specs.Ownership.{owned_if, desk_at};
 
 use crate::box_parts::BoxParts;
-use dl_desk::Desk;
+use crate::kept_desk::KeptDesk;
 use std::alloc::Global;
 use std::marker::Model;
 use std::{mem, ptr};
 
-/// A place for a desk: a pointer to it, or nothing. A pointer to a desk can't cross to C, since a desk has parts that
-/// can't, so this one says nothing of what it points to.
+/// A place for a desk that is kept: a pointer to it, or nothing. A pointer to a desk can't cross to C, since a desk has parts
+/// that can't, so this one says nothing of what it points to.
 #[repr(C)]
 #[derive(Drop)]
 pub struct Held {
     at: *mut (),
     alloc: Global,
     pub ghost filled: { Bool },
-    pub ghost desk: { Book.Desk },
+    pub ghost kept: { KeptDesk },
 }
 
 impl Model for Held {
-    ghost also_owns = { λ h. owned_if h.filled (desk_at h.alloc h.at h.desk) };
+    ghost also_owns = { λ h. owned_if h.filled (desk_at h.alloc h.at h.kept) };
 }
 
 // A desk may cross threads, and a pointer alone says nothing of it. So a host may make the calls of a handle from one thread
@@ -41,8 +41,8 @@ impl Held {
     }
 
     /// A place with the desk of a box.
-    fn hold(parts: BoxParts<Desk, Global>) -> Held
-        ensures { (result.filled ≡ true) × (result.desk ≡ parts.value) }
+    fn hold(parts: BoxParts<KeptDesk, Global>) -> Held
+        ensures { (result.filled ≡ true) × (result.kept ≡ parts.value) }
     {
         let BoxParts { ptr, alloc } = parts;
         Held {
@@ -52,13 +52,13 @@ impl Held {
     }
 
     /// The parts of the box of the desk.
-    fn release(self) -> BoxParts<Desk, Global>
+    fn release(self) -> BoxParts<KeptDesk, Global>
         requires { self.filled ≡ true }
-        ensures { result.value ≡ self.desk }
+        ensures { result.value ≡ self.kept }
     {
         let Held { at, alloc } = self;
         BoxParts {
-            ptr: at as *mut Desk,
+            ptr: at as *mut KeptDesk,
             alloc,
         }
     }
@@ -85,13 +85,13 @@ impl Handle {
     }
 
     /// A handle of the desk.
-    pub fn opened(desk: Box<Desk>) -> Handle
+    pub fn opened(kept: Box<KeptDesk>) -> Handle
         ensures is_open { result.is_open ≡ true }
-        ensures desk { result.held.desk ≡ desk.value }
+        ensures kept { result.held.kept ≡ kept.value }
     {
         crossing(Handle {
             is_open: true,
-            held: Held::hold(BoxParts::of(desk)),
+            held: Held::hold(BoxParts::of(kept)),
         })
     }
 }
@@ -104,8 +104,8 @@ fn crossing<T: Send>(value: T) -> T
 }
 
 /// The desk of a handle, which is closed then. A closed one has none, and stays as it is.
-pub fn take(alloc: Global, handle: &mut Handle) -> Option<Box<Desk>>
-    ensures taken { IfSome result (λ desk. (handle.old.is_open ≡ true) × (desk.value ≡ handle.old.held.desk)) }
+pub fn take(alloc: Global, handle: &mut Handle) -> Option<Box<KeptDesk>>
+    ensures taken { IfSome result (λ kept. (handle.old.is_open ≡ true) × (kept.value ≡ handle.old.held.kept)) }
     ensures left { IfSome result (λ _. handle.new.is_open ≡ false) }
     ensures none { IfNone result ((handle.old.is_open ≡ false) × (handle.new ≡ handle.old)) }
 {

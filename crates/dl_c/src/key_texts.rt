@@ -1,12 +1,12 @@
 //! Keys as C hands them in and reads them back.
 
 ghost use Rattle.std.specs.Prelude.{◌≡◌, IfOk, OnOk, IfErr};
-ghost use Rattle.dl_c.specs.Keys.{IsKeyText, IsKeyFault, Spells};
+ghost use Rattle.dl_c.specs.Keys.{IsKeyFault, Spells};
+ghost use Rattle.dl_values.specs.KeyTexts.{IsKeyText};
 
 use crate::codes::{BAD_KEY, OUT_OF_MEMORY};
-use dl_desk::{FetchKey, ID_BYTES, KeyFault, TABLE_BYTES};
+use dl_desk::{FetchKey, ID_BYTES, TABLE_BYTES};
 use std::alloc::Global;
-use std::str;
 
 /// A key's two texts with their lengths in bytes. What stands behind them means nothing.
 #[repr(C)]
@@ -25,19 +25,25 @@ pub struct KeyLengths {
     pub id: u32,
 }
 
-/// The key of a table and an id. The error is a code: `BAD_KEY` where a text is no UTF-8, is empty or is too long, else
-/// `OUT_OF_MEMORY`.
-pub fn key_of(alloc: Global, table: &[u8], id: &[u8]) -> Result<FetchKey, u32>
+/// The key of a table and an id, in the memory of the spare key if nobody shares that. The error is a code: `BAD_KEY` where a
+/// text is no UTF-8, is empty or is too long, else `OUT_OF_MEMORY`.
+// Inlined for the sake of loads that find their key.
+#[inline(always)]
+pub fn key_of(
+    alloc: Global,
+    spare: Option<FetchKey>,
+    table: &[u8],
+    id: &[u8],
+) -> Result<FetchKey, u32>
     ensures key { IfOk result (λ key. key ≡ record { table = table.now; id = id.now }) }
     ensures is_key { OnOk result (IsKeyText (record { table = table.now; id = id.now })) }
     ensures fault { IfErr result (λ code. IsKeyFault (record { table = table.now; id = id.now }) code) }
 {
-    let table = str::from_utf8(table).map_err(|_| BAD_KEY)?;
-    let id = str::from_utf8(id).map_err(|_| BAD_KEY)?;
-    FetchKey::new(alloc, table, id).map_err(|fault| match fault {
-        KeyFault::OutOfMemory => OUT_OF_MEMORY,
-        _ => BAD_KEY,
-    })
+    match FetchKey::read(alloc, spare, table, id) {
+        Ok(Some(key)) => Ok(key),
+        Ok(None) => Err(BAD_KEY),
+        Err(_) => Err(OUT_OF_MEMORY),
+    }
 }
 
 impl KeyTexts {

@@ -11,6 +11,7 @@ mod box_parts;
 mod calls;
 mod codes;
 mod handle;
+mod kept_desk;
 mod key_texts;
 mod lives;
 mod many;

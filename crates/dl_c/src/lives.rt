@@ -6,6 +6,7 @@ ghost use Rattle.dl_c.specs.Lives.{AnswersOpen, AnswersByTable, limits_of};
 
 use crate::codes::{BAD_LIMIT, CLOSED, DONE, OPEN, OUT_OF_MEMORY};
 use crate::handle::{Handle, take};
+use crate::kept_desk::KeptDesk;
 use crate::seed::hashing;
 use crate::tables::{NamedLimit, limits_of_tables};
 use dl_desk::{Desk, LARGEST_LIMIT, Limits};
@@ -87,13 +88,13 @@ pub extern "C" fn dl_desk_open_by_table(
 /// Keeps a desk in a closed handle. A code.
 fn keep(alloc: Global, handle: &mut Handle, desk: Desk) -> u32
     requires { handle.old.is_open ≡ false }
-    ensures kept { result ≡ DONE → (handle.new.is_open ≡ true) × (handle.new.held.desk ≡ desk) }
+    ensures kept { result ≡ DONE → (handle.new.is_open ≡ true) × (handle.new.held.kept.desk ≡ desk) }
     ensures refused { DONE < result → (result ≡ OUT_OF_MEMORY) × (handle.new ≡ handle.old) }
 {
-    let Ok(desk) = Box::new(alloc, desk) else {
+    let Ok(kept) = Box::new(alloc, KeptDesk { desk, spare: None }) else {
         return OUT_OF_MEMORY;
     };
-    *handle = Handle::opened(desk);
+    *handle = Handle::opened(kept);
     DONE
 }
 
@@ -105,9 +106,9 @@ pub extern "C" fn dl_desk_close(alloc: Global, handle: &mut Handle) -> u32
     ensures closed { OnClosed handle.old handle.new (result ≡ CLOSED) }
     ensures close { handle.old.is_open ≡ true → (result ≡ DONE) × (handle.new.is_open ≡ false) }
 {
-    let Some(desk) = take(alloc, handle) else {
+    let Some(kept) = take(alloc, handle) else {
         return CLOSED;
     };
-    drop(desk);
+    drop(kept);
     DONE
 }

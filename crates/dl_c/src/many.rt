@@ -6,7 +6,7 @@ ghost use Rattle.dl_desk.specs.History.{Atom, load_replies};
 ghost use Rattle.dl_desk.specs.Calls.{Loads};
 ghost use Rattle.dl_desk.specs.BatchBook.{StandsFor};
 ghost use Rattle.dl_c.specs.Answers.{loaded_as};
-ghost use Rattle.dl_c.specs.Keys.{IsKeyText};
+ghost use Rattle.dl_values.specs.KeyTexts.{IsKeyText};
 ghost use Rattle.dl_c.specs.Calls.{Makes, Refuses};
 ghost use Rattle.dl_c.specs.Many.{AnswersMany, IsCutFault, IsFrontFault, front_key, cut, total};
 ghost use Rattle.dl_c.specs.Handles.{OnDesk, OnClosed};
@@ -34,11 +34,11 @@ pub extern "C" fn dl_desk_load_many(
     ensures closed { OnClosed handle.old handle.new ((result ≡ CLOSED) × (answers.new ≡ answers.old)) }
     ensures desk { OnDesk handle.old handle.new (AnswersMany texts.now lengths.now result answers.old answers.new) }
 {
-    let Some(mut desk) = take(alloc, handle) else {
+    let Some(mut kept) = take(alloc, handle) else {
         return CLOSED;
     };
-    let code = load_many(alloc, &mut desk, texts, lengths, answers);
-    *handle = Handle::opened(desk);
+    let code = load_many(alloc, &mut kept.desk, texts, lengths, answers);
+    *handle = Handle::opened(kept);
     code
 }
 
@@ -100,7 +100,7 @@ fn next_key(alloc: Global, texts: &[u8], lengths: KeyLengths) -> Result<(FetchKe
     let Some((id, rest)) = rest.split_at_checked(lengths.id as usize) else {
         return Err(BAD_LENGTHS);
     };
-    Ok((key_of(alloc, table, id)?, rest))
+    Ok((key_of(alloc, None, table, id)?, rest))
 }
 
 fn load_keys(alloc: Global, desk: &mut Desk, keys: &[FetchKey], answers: &mut [Loaded]) -> u32

@@ -1,3 +1,4 @@
 pub mod JoinedText
+pub mod ShortText
 pub mod Json
 pub mod KeyText

@@ -1,6 +1,6 @@
 //! Keys, and lists of them that several places share.
 
-ghost use Rattle.std.specs.Prelude.{◌≡◌, ◌<◌, ◌≤◌, IfOk, IfErr, length};
+ghost use Rattle.std.specs.Prelude.{◌≡◌, ◌<◌, ◌≤◌, IfOk, IfErr, OnErr, IfSome, IfNone, length, IsTrue, ◌↔◌};
 ghost use Rattle.std.proofs.Common.{rules};
 ghost use Rattle.std.specs.Ordering.{as_partial_cmp};
 ghost use Rattle.std.specs.Cmp.{partial_order_from_own_ties};
@@ -8,15 +8,17 @@ ghost use Rattle.std.specs.Cmp.Rules.{comparing, hashing};
 ghost use Rattle.dl_values.specs.Key.{IsKey, key_eq};
 ghost use Rattle.dl_values.specs.KeyOrder.{key_cmp, key_input};
 ghost use Rattle.dl_values.specs.KeyFaults.{RefusedAs};
+ghost use Rattle.dl_values.specs.KeyTexts.{IsKeyText};
+ghost use Rattle.std.specs.Arc.{arc_value};
 
 use crate::fault::KeyFault;
 use crate::joined_text::JoinedText;
 use std::alloc::{AllocError, Global};
 use std::cmp::Ordering;
-use std::fmt;
 use std::hash::{Hash, Hasher};
 use std::marker::Model;
 use std::sync::Arc;
+use std::{fmt, mem};
 
 /// The most bytes of a key's table.
 pub const TABLE_BYTES: usize = 64;
@@ -25,7 +27,7 @@ pub const TABLE_BYTES: usize = 64;
 pub const ID_BYTES: usize = 256;
 
 /// The two texts of a key as one: a character whose code is how many bytes the table has, then the table, then the id.
-/// So no two keys have one text, and a hash reads both in one piece.
+/// So no two keys have one text, and a hash reads both in one piece: up to the end of a word of eight bytes where it is short.
 #[derive(Drop)]
 struct KeyText {
     text: JoinedText,
@@ -33,14 +35,14 @@ struct KeyText {
 
 impl Model for KeyText {
     ghost use Rattle.dl_values.specs.Key.{Key};
-    ghost use Rattle.dl_values.specs.Inside.JoinedText.{bytes_of};
+    ghost use Rattle.dl_values.specs.Inside.JoinedText.{bytes_of, IsPlaced};
     ghost use Rattle.dl_values.specs.Inside.KeyText.{unmarked, IsMarked};
 
     ghost Value = { Key };
 
     ghost view = { λ k. unmarked (bytes_of k.text) };
 
-    ghost invariant = { λ k. IsMarked (bytes_of k.text) };
+    ghost invariant = { λ k. IsMarked (bytes_of k.text) × IsPlaced k.text };
 }
 
 impl KeyText {
@@ -51,6 +53,21 @@ impl KeyText {
     {
         let text = JoinedText::new(alloc, table.len() as u8, table, id)?;
         Ok(KeyText { text })
+    }
+
+    /// The table and the id as one text, if these bytes are a key's. The error is a failed allocation.
+    fn read(alloc: Global, table: &[u8], id: &[u8]) -> Result<Option<KeyText>, AllocError>
+        ensures some { IfOk result (λ text. IfSome text (λ k. (k ≡ record { table = table.now; id = id.now }) × IsKeyText k)) }
+        ensures none { IfOk result (λ text. IfNone text (¬ (IsKeyText (record { table = table.now; id = id.now })))) }
+        ensures err { OnErr result (IsKeyText (record { table = table.now; id = id.now })) }
+    {
+        if !have_lengths(table, id) {
+            return Ok(None);
+        }
+        match JoinedText::read(alloc, table.len() as u8, table, id)? {
+            Some(text) => Ok(Some(KeyText { text })),
+            None => Ok(None),
+        }
     }
 
     /// The table and the id.
@@ -85,7 +102,7 @@ impl Hash for KeyText {
     ghost respects_eq = { Prim.search (hashing, rules) };
 
     fn hash<H: Hasher>(&self, state: &mut H) {
-        state.write(self.text.as_str().as_bytes());
+        state.write(self.text.hashed());
     }
 }
 
@@ -97,6 +114,13 @@ impl fmt::Debug for KeyText {
             .field("id", &id)
             .finish()
     }
+}
+
+/// Whether the bytes have the lengths of a key's texts.
+fn have_lengths(table: &[u8], id: &[u8]) -> bool
+    ensures { IsTrue result ↔ IsKey (record { table = table.now; id = id.now }) }
+{
+    !table.is_empty() && table.len() <= TABLE_BYTES && !id.is_empty() && id.len() <= ID_BYTES
 }
 
 /// What a loader is asked for: a table and an id in it. A copy shares the texts and costs one
@@ -148,6 +172,40 @@ impl FetchKey {
         }
         let both = KeyText::new(alloc, table, id).map_err(|_| KeyFault::OutOfMemory)?;
         let both = Arc::new(alloc, both).map_err(|_| KeyFault::OutOfMemory)?;
+        Ok(FetchKey { both })
+    }
+
+    /// The key of two texts that are these bytes, or none where they are no key's. It takes the memory of the spare key, if
+    /// there is one that nobody shares. The error is a failed allocation.
+    pub fn read(
+        alloc: Global,
+        spare: Option<FetchKey>,
+        table: &[u8],
+        id: &[u8],
+    ) -> Result<Option<FetchKey>, AllocError>
+        ensures some { IfOk result (λ key. IfSome key (λ k. (k ≡ record { table = table.now; id = id.now }) × IsKeyText k)) }
+        ensures none { IfOk result (λ key. IfNone key (¬ (IsKeyText (record { table = table.now; id = id.now })))) }
+        ensures err { OnErr result (IsKeyText (record { table = table.now; id = id.now })) }
+    {
+        let Some(both) = KeyText::read(alloc, table, id)? else {
+            return Ok(None);
+        };
+        let key = FetchKey::of(alloc, spare, both)?;
+        Ok(Some(key))
+    }
+
+    /// The key of a text, in the memory of the spare key if there is one that nobody shares. The error is a failed allocation.
+    fn of(alloc: Global, spare: Option<FetchKey>, both: KeyText) -> Result<FetchKey, AllocError>
+        requires { IsKey both }
+        ensures { IfOk result (λ k. k ≡ both) }
+    {
+        if let Some(mut key) = spare {
+            if let Some(place) = Arc::get_mut(&mut key.both) {
+                drop(mem::replace(place, both));
+                return Ok(key);
+            }
+        }
+        let both = Arc::new(alloc, both)?;
         Ok(FetchKey { both })
     }
 

@@ -13,6 +13,7 @@ mod limits;
 mod list;
 mod message;
 mod outcome;
+mod short_text;
 mod table_limits;
 mod text;
 

@@ -13,8 +13,8 @@ use denote.Struct.Owning.{shape, fields, to}
 use denote.Param.Send.{IsSend, AllSend, Quiet, part_keyless, owning_send, struct_send, sendable}
 use Rattle.std.proofs.Crossing as heap
 use Rattle.std.proofs.alloc.Global.TheSendSync as handle
-use Rattle.dl_desk.specs.contracts.desk.Desk as Desk
-use Rattle.dl_desk.proofs.desk.Desk.TheSendSync.{the_send as desk}
+use Rattle.dl_c.specs.contracts.kept_desk.KeptDesk as Kept
+use Rattle.dl_c.proofs.kept_desk.KeptDesk.TheSendSync.{the_send as kept}
 use Rattle.dl_c.specs.Ownership.{owned_if, desk_at}
 use Rattle.dl_c.specs.contracts.handle.Held.{the_row, the_type}
 
@@ -33,6 +33,6 @@ where_filled false owned keyless = tt
 pub send : IsSend the_row
 send =
     let all : AllSend (fields the_type) = (search sendable, (handle.the_field_send, tt)) in
-    owning_send the_type all (λ d. where_filled d.filled (desk_at d.alloc d.at d.desk)
-    (lies Desk.the_row desk d.at d.desk, heap.frees.frees d.alloc (raw (lone Desk.the_row.mir)) d.at))
+    owning_send the_type all (λ d. where_filled d.filled (desk_at d.alloc d.at d.kept)
+    (lies Kept.the_row kept d.at d.kept, heap.frees.frees d.alloc (raw (lone Kept.the_row.mir)) d.at))
     (λ k. quiet (to the_type) (exits_of k (fields the_type)) ((struct_send (shape the_type) all).leaving k))

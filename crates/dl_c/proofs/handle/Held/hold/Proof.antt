@@ -44,7 +44,7 @@ module _ {M : Type 1} {𝓤 : Ura M} (𝓛 : Logic 𝓤) (at_mem : Memory → SP
       let Post = (walk_of 𝓛 F.ended stayed (F.clauses 𝓛 at_mem run)).post z in
       let v : D E = record { ptr = z.0.3.0.ptr; alloc = z.0.3.0.alloc; value = z.0.3.0.value } in
       let To = type_at (F.signature).result tt in
-      let made : To.Denot = record { at = v.ptr; alloc = v.alloc; filled = true; desk = v.value } in
+      let made : To.Denot = record { at = v.ptr; alloc = v.alloc; filled = true; kept = v.value } in
       qed 𝓛 ((‵ ftrue ⊛ ‵ (fsep ((B E).own_val v z.0.4.0) ftrue)) ∷ raw (emp 𝓤) ∷ []) ∵ split ! $ drop ! $ fsplit ! $
       box_out E ! v z.0.4.0 (λ b o hv e ws fa. box_in E ! v b o v.value e refl $ use1 𝓛 (‵ (To.own_val made (word E hv b o ∷ []))) (id⊢ 𝓤 _) $ move !
       (1 ∷ 2 ∷ []) $ drop ! $ drop ! $

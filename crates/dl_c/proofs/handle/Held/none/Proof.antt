@@ -31,7 +31,7 @@ use denote.Triple.Walked.{says, Stays, stay_dropped, walk_of, ends_at, Goes-drop
 use Rattle.std.proofs.alloc.Calls.{α, handle_tells}
 use Rattle.std.proofs.BoxSteps.Form.{box_ty}
 use Rattle.std.proofs.ResultValues.{and_tt}
-use Rattle.dl_c.proofs.DeskBox.{E, FromHeap as From, no_desk}
+use Rattle.dl_c.proofs.DeskBox.{E, FromHeap as From, none_kept}
 use Rattle.dl_c.specs.contracts.handle.Held as Held
 use Rattle.dl_c.specs.contracts.handle.Held.none as F
 use Rattle.dl_c.specs.contracts.handle.Held.none.Key.{name as #self}
@@ -54,7 +54,7 @@ module _ {M : Type 1} {𝓤 : Ura M} (𝓛 : Logic 𝓤) (at_mem : Memory → SP
       let Post = (walk_of 𝓛 F.ended stayed (F.clauses 𝓛 at_mem run)).post z in
       let a = z.0.3.0 in
       let To = type_at (F.signature).result tt in
-      let made : To.Denot = record { at = null_ptr; alloc = a; filled = false; desk = no_desk } in
+      let made : To.Denot = record { at = null_ptr; alloc = a; filled = false; kept = none_kept } in
       qed 𝓛 ((‵ ftrue ⊛ ‵ (fsep (Z.own_val a z.0.4.0) ftrue)) ∷ raw (emp 𝓤) ∷ []) ∵ split ! $ drop ! $ fsplit ! $
       handle_tells E.al ! a z.0.4.0 (λ hv eh fa.
       let w : Val = vstruct (vcons vnull (vcons hv vnil)) in

@@ -43,7 +43,7 @@ module _ {M : Type 1} {𝓤 : Ura M} (𝓛 : Logic 𝓤) (at_mem : Memory → SP
       (WpFn 𝓤 H 𝓣.C 𝓣.Λ code.function (z.0.4.0 ++ []) ((walk_of 𝓛 F.ended stayed (F.clauses 𝓛 at_mem run)).post z))
   walk z =
       let Post = (walk_of 𝓛 F.ended stayed (F.clauses 𝓛 at_mem run)).post z in
-      let v : D E = record { ptr = z.0.3.0.at; alloc = z.0.3.0.alloc; value = z.0.3.0.desk } in
+      let v : D E = record { ptr = z.0.3.0.at; alloc = z.0.3.0.alloc; value = z.0.3.0.kept } in
       let To = type_at (F.signature).result tt in
       let made : To.Denot = record { ptr = v.ptr; alloc = v.alloc; value = v.value } in
       qed 𝓛 ((‵ ftrue ⊛ ‵ (fsep (Held.the_row.own_val z.0.3.0 z.0.4.0) ftrue)) ∷ raw (fact 𝓤 (z.0.3.0.filled ≡ true)) ∷ []) ∵ move ! (1 ∷ []) $ heard
