@@ -1,7 +1,7 @@
 -- What a list of values spells, read one by one.
-use Rattle.std.proofs.Common.{◌≡◌, ℕ, zero, suc, ◌+◌, ◌<◌, List, [], ◌∷◌, ◌++◌, length, get_or, take, map, Some, refl, sym, ap, ◌∙◌, arith}
+use Rattle.std.proofs.Common.{◌≡◌, ℕ, zero, suc, ◌<◌, List, [], ◌∷◌, ◌++◌, length, get_or, take, map, Some, refl, sym, ap, ◌∙◌, arith}
 use Rattle.std.proofs.Common.{subst, append-nil}
-use Rattle.std.proofs.lemmas.List.{take_more, map-append, length-map}
+use Rattle.std.proofs.lemmas.List.{map-append, length-map}
 use Rattle.std.proofs.lemmas.Option.{none-some, same_Some, slice_get-map, slice_get-get_or}
 use Rattle.std.specs.List.{AllByRecursion, slice_get}
 use Rattle.serde_json.specs.Data.{Data}
@@ -94,13 +94,6 @@ module _ {V D A : Type 0} (see : V → D) (spell : A → D) (Is : A → Type 0) 
     trees = map-append see vs (v ∷ []) ∙ rw (so_far.trees, tree) (sym (map-append spell xs (x ∷ [])));
     all = all_more Is xs x so_far.all is;
   }
-
-  -- one more, at a place
-  pub spell_more : (vs : List V) (i : ℕ) (v : V) (xs : List A) (x : A) → i < length vs → v ≡ get_or vs i v
-      → Spell see spell Is (take i vs) xs → see v ≡ spell x → Is x → Spell see spell Is (take (i + 1) vs) (xs ++ x ∷ [])
-  spell_more vs i v xs x low at so_far tree is =
-      let front : take (i + 1) vs ≡ take i vs ++ v ∷ [] = take_more vs i v low ∙ ap (λ y. take i vs ++ y ∷ []) (sym at) in
-      subst (λ l. Spell see spell Is l (xs ++ x ∷ [])) (sym front) (spell_next (take i vs) v xs x so_far tree is)
 
   -- an item among those that were read
   pub spelled_before : (vs : List V) (i m : ℕ) (xs : List A) (d : D) → Spell see spell Is (take i vs) xs → m < i → slice_get (map see vs) m ≡ Some d

@@ -1,5 +1,5 @@
 -- Reading lists of calls, of steps, of plans and of lists, one by one.
-use Rattle.std.proofs.Common.{◌≡◌, ℕ, ◌+◌, ◌<◌, List, [], ◌∷◌, ◌++◌, length, get_or, take, map, Some, None, refl, sym, ap, ◌∙◌, subst, Vec}
+use Rattle.std.proofs.Common.{◌≡◌, ℕ, List, [], ◌∷◌, ◌++◌, length, map, Some, None, refl, sym, ap, ◌∙◌, subst, Vec}
 use Rattle.std.proofs.lemmas.List.{map-append, length-map}
 use Rattle.std.proofs.lemmas.Option.{none-some}
 use Rattle.std.specs.declared.alloc.Global.{Global}
@@ -13,7 +13,7 @@ use Rattle.dl_terms.specs.declared.plan.Plan.{Plan}
 use Rattle.dl_terms.specs.declared.plan.Step.{Step}
 use Rattle.dl_documents.proofs.CallLaws.{call_is, call_again}
 use Rattle.dl_documents.proofs.StepLaws.{step_is, step_again}
-use Rattle.dl_documents.proofs.ListSpelling.{Spell, IsAny, spell_more, spell_next, spell_size, spell_stops, spelled_before, place_of, item_now, all_at, from_item}
+use Rattle.dl_documents.proofs.ListSpelling.{Spell, IsAny, spell_next, spell_size, spell_stops, spelled_before, place_of, item_now, all_at, from_item}
 use Rattle.dl_documents.specs.Faults.{IsNoCall, IsNoStep}
 use Rattle.dl_documents.specs.Inside.Places.{HasOne}
 use Rattle.dl_documents.specs.Inside.Scripts.{IsFirstBadCall}
@@ -28,21 +28,28 @@ use Rattle.dl_documents.specs.declared.input.ScriptCall.{ScriptCall}
 
 -- ---- calls
 
-pub calls_more : (vs : List Value) (i : ℕ) (v : Value) (cs : List ScriptCall) (c : ScriptCall) → i < length vs → v ≡ get_or vs i v
-    → Spell view call_tree IsScriptCall (take i vs) cs → Some c ≡ call_in (view v) → Spell view call_tree IsScriptCall (take (i + 1) vs) (cs ++ c ∷ [])
-calls_more vs i v cs c low at so_far found =
+-- calls so far
+abbrev pub SpellCalls : List Value → List ScriptCall → Type 0
+SpellCalls vs calls = Spell view call_tree IsScriptCall vs calls
+
+pub calls_more : (vs : List Value) (v : Value) (calls : List ScriptCall) (c : ScriptCall) → SpellCalls vs calls → Some c ≡ call_in (view v)
+    → SpellCalls (vs ++ v ∷ []) (calls ++ c ∷ [])
+calls_more vs v calls c so_far found =
     let p = call_is (view v) c (sym found) in
-    spell_more view call_tree IsScriptCall vs i v cs c low at so_far p.tree p.is
+    spell_next view call_tree IsScriptCall vs v calls c so_far p.tree p.is
 
 -- the first item that is no call
-pub calls_stop : (vs : List Value) (i : ℕ) (v : Value) (cs : List ScriptCall) → i < length vs → v ≡ get_or vs i v
-    → Spell view call_tree IsScriptCall (take i vs) cs → None ≡ call_in (view v) → IsFirstBadCall (map view vs) (BadCall i)
-calls_stop vs i v cs low at so_far none = record {
-  call = i;
-  names = refl;
-  first = spell_stops view call_tree IsScriptCall IsNoCall (λ c is bad. bad c is refl) vs i v cs low at so_far
-      (λ c is e. none-some c (none ∙ (ap call_in e ∙ call_again c is)));
-}
+pub calls_stop : (front : List Value) (v : Value) (rest vs : List Value) (calls : List ScriptCall) (n : ℕ) → front ++ v ∷ rest ≡ vs → n ≡ length calls
+    → SpellCalls front calls → None ≡ call_in (view v) → IsFirstBadCall (map view vs) (BadCall n)
+calls_stop front v rest vs calls n is size so_far none =
+    let place = place_of front v rest vs is in
+    let long : length front ≡ n = spell_size view call_tree IsScriptCall front calls so_far ∙ sym size in
+    rw (← long) (record {
+      call = length front;
+      names = refl;
+      first = spell_stops view call_tree IsScriptCall IsNoCall (λ c is bad. bad c is refl) vs (length front) v calls place.low place.at
+          (subst (λ l. SpellCalls l calls) (sym place.cut) so_far) (λ c is e. none-some c (none ∙ (ap call_in e ∙ call_again c is)));
+    })
 
 -- ---- steps
 

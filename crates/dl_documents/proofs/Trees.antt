@@ -1,22 +1,32 @@
 -- Values beside the trees that they stand for.
-use Rattle.std.proofs.Common.{◌≡◌, ◌∙◌, sym, ap, ℕ, ◌<◌, ◌≤◌, List, [], ◌∷◌, ◌++◌, length, map, Some, None, option_map}
+use Rattle.std.proofs.Common.{◌≡◌, ◌∙◌, sym, ap, ℕ, ◌<◌, ◌≤◌, List, [], ◌∷◌, ◌++◌, length, map, Some, None, codes, option_map}
 use Rattle.std.proofs.Common.{String, Vec, Global, string_bytes, refl, arith, rules}
 use Rattle.std.proofs.Math.Nat.{le-max_left, le-max_right}
 use Rattle.std.proofs.lemmas.List.{append-nil}
 use Rattle.std.proofs.lemmas.Option.{none-some}
 use Rattle.std.specs.Prelude.{slice_get}
-use Rattle.serde_json.specs.Data.{Data, object, Members, no_members, member, depth, items_depth}
-use Rattle.serde_json.specs.Find.{as_array, as_object}
+use Rattle.serde_json.specs.Data.{Data, null, boolean, number, string, array, object, Members, no_members, member, depth, items_depth}
+use Rattle.serde_json.specs.Find.{get, as_array, as_object}
 use Rattle.serde_json.specs.View.{view, items_view, members_view}
 use Rattle.serde_json.specs.declared.value.Value.{Value}
+use Rattle.dl_values.specs.Key.{Key}
 use Rattle.dl_source.proofs.Spelling.{array_of}
-use Rattle.dl_terms.specs.Tree.{all}
+use Rattle.dl_terms.specs.Tree.{load, all}
 use Rattle.dl_terms.specs.View.{trees_of, term_view, terms_view}
 use Rattle.dl_terms.specs.declared.term.Term.{Term, the_lemmas}
-use Rattle.dl_terms.specs.declared.term.Term.TheVariants.{All}
+use Rattle.dl_terms.specs.declared.term.Term.TheVariants.{Load, All}
 use Rattle.dl_documents.proofs.Findings.{one_found}
 use Rattle.dl_documents.specs.TermReading.{together, gathers, term_named, term_in, term_of, parts_in, parts_of}
-use Rattle.dl_documents.specs.Reading.{one_of, one_in, two_of, two_in, three_of, three_in}
+use Rattle.dl_documents.specs.Reading.{HasKey, one_of, one_in, two_of, two_in, three_of, three_in}
+
+-- what is no object has no member
+pub no_member : (name : List ℕ) (d : Data) → None ≡ as_object d → get name d ≡ None
+no_member name null h = refl
+no_member name (boolean b) h = refl
+no_member name (number n) h = refl
+no_member name (string s) h = refl
+no_member name (array ds) h = refl
+no_member name (object ms) h = cc
 
 two_of-other : (vs : List Value) → (length vs ≡ 2 → ⊥) → two_of (items_view vs) ≡ None
 two_of-other [] h = refl
@@ -64,6 +74,13 @@ one_other d es o h = rw (← o) (one_of-other es h)
 -- the term of an object is that of its one member
 pub one_term : (d : Data) (name : List ℕ) (a : Data) → Some (name, a) ≡ one_in d → term_named name a (parts_in a) ≡ term_in d
 one_term d name a h = rw (one_found d (name, a) (sym h)) refl
+
+term_view-Load : (k : Key) → term_view (Load k) ≡ load k
+term_view-Load k = search (rules, the_lemmas)
+
+-- a key under the name of a load is a load
+pub load_under : (d : Data) (k : Key) → HasKey (codes "load") d k → Some (term_view (Load k)) ≡ term_in d
+load_under d k h = ap Some (term_view-Load k) ∙ (sym (ap (option_map load) h.spelled) ∙ one_term d (codes "load") h.argument (sym h.there))
 
 no_term_of : (ms : Members) → None ≡ one_of ms → None ≡ term_of ms
 no_term_of no_members h = refl

@@ -1,10 +1,11 @@
 //! The arguments of calls and steps.
 
-ghost use Rattle.std.specs.Prelude.{◌≡◌, IfOk, option_map};
+ghost use Rattle.std.specs.Prelude.{◌≡◌, IfOk, IfSome, option_map};
 ghost use Rattle.serde_json.specs.View.{view};
-ghost use Rattle.dl_documents.specs.Reading.{two_in, three_in, texts_in, key_in, keys_in, is_true};
+ghost use Rattle.dl_documents.specs.Reading.{HasKey, two_in, three_in, texts_in, key_in, keys_in, is_true};
 ghost use Rattle.dl_documents.specs.TermReading.{value_in};
 
+use crate::member;
 use dl_source::into_items;
 use dl_values::{FetchKey, Json, KeyFault, Keys, has_float};
 use serde_json::Value;
@@ -69,6 +70,21 @@ pub(crate) fn key(alloc: Global, value: &Value) -> Result<Option<FetchKey>, Allo
         Ok(key) => Ok(Some(key)),
         Err(KeyFault::OutOfMemory) => Err(AllocError),
         Err(_) => Ok(None),
+    }
+}
+
+/// The key that an object's one member is, if it has this name and is one. Nothing is taken out of the object, since a key is
+/// copied anyway.
+pub(crate) fn key_under(
+    alloc: Global,
+    name: &str,
+    value: &Value,
+) -> Result<Option<FetchKey>, AllocError>
+    ensures { IfOk result (λ k. IfSome k (HasKey name.now (view value.now))) }
+{
+    match member::only(value) {
+        Some((given, argument)) if given == name => key(alloc, argument),
+        _ => Ok(None),
     }
 }
 

@@ -66,14 +66,14 @@ fn tree(alloc: Global, bytes: &[u8]) -> Result<Value, PlanFault>
     }
 }
 
-/// What a document's tree says. The rows of its tables are moved out of it.
+/// What a document's tree says. It is taken apart, so that what was read is let go and no value is copied.
 fn input(alloc: Global, hashing: RandomState, document: Value) -> Result<Input, PlanFault>
     ensures ok { IfOk result (Spells (view document)) }
     ensures err { IfErr result (RefusedFor (view document)) }
 {
     let head = read_head(&document)?;
     if is_script(&document) {
-        let script = script(alloc, hashing, &document, head)?;
+        let script = script(alloc, hashing, document, head)?;
         Ok(Input::Script(script))
     } else {
         let plans = plan_file(alloc, hashing, document, head)?;

@@ -5,7 +5,7 @@ ghost use Rattle.serde_json.specs.View.{view, items_view};
 ghost use Rattle.dl_documents.specs.Document.{items_at};
 ghost use Rattle.dl_documents.specs.Reading.{one_in};
 
-use dl_source::into_members;
+use dl_source::{into_items, into_members, take_member};
 use serde_json::Value;
 
 /// The name and the value of an object's one member.
@@ -21,12 +21,13 @@ pub(crate) fn only(value: &Value) -> Option<(&str, &Value)>
     }
 }
 
-/// The list that a member of a document is.
-pub(crate) fn list<'a>(document: &'a Value, name: &str) -> Option<&'a [Value]>
-    ensures { option_map (λ l. items_view l.now) result ≡ items_at name.now (view document.entry.now) }
+/// The list that a member of a document is, taken out of it.
+pub(crate) fn into_list(document: Value, name: &str) -> Option<Vec<Value>>
+    ensures { option_map (λ l. items_view l.items) result ≡ items_at name.now (view document) }
 {
-    let list = document.get(name)?.as_array()?;
-    Some(list.as_slice())
+    let mut members = into_members(document)?;
+    let list = take_member(&mut members, name)?;
+    into_items(list)
 }
 
 /// The name and the value of an object's one member, taken out of it.

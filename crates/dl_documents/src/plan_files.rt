@@ -124,7 +124,7 @@ fn plan(alloc: Global, number: usize, items: Vec<Value>) -> Result<Plan, PlanFau
     ensures ok { IfOk result (λ p. IsPlanOf (map view items.items) (plan_view p)) }
     ensures err { IfErr result (λ f. (f ≡ PlanFault.OutOfMemory) ⊎ IsFirstBadIn number (map view items.items) f) }
 {
-    let mut steps = Vec::new(alloc);
+    let mut steps = Vec::with_capacity(alloc, items.len())?;
     'items: for item in items {
         let step = read_step(alloc, item)?;
         let step = step.ok_or(PlanFault::Shape {

@@ -23,18 +23,18 @@ use std::hash::RandomState;
 pub(crate) fn script(
     alloc: Global,
     hashing: RandomState,
-    document: &Value,
+    document: Value,
     head: Head,
 ) -> Result<Script, PlanFault>
-    requires kind { is_script (view document.now) ≡ true }
-    requires head { HasHead (view document.now) head }
-    ensures ok { IfOk result (SpellsScript (view document.now)) }
-    ensures err { IfErr result (RefusedFor (view document.now)) }
+    requires kind { is_script (view document) ≡ true }
+    requires head { HasHead (view document) head }
+    ensures ok { IfOk result (SpellsScript (view document)) }
+    ensures err { IfErr result (RefusedFor (view document)) }
 {
-    let Some(items) = member::list(document, "calls") else {
+    let numbers = script_numbers(alloc, hashing, head.version, &document)?;
+    let Some(items) = member::into_list(document, "calls") else {
         return Err(PlanFault::Top);
     };
-    let numbers = script_numbers(alloc, hashing, head.version, document)?;
     let calls = calls(alloc, items)?;
     let (limits, table_limits) = all_limits(alloc, head, numbers)?;
     Ok(Script {
@@ -44,18 +44,19 @@ pub(crate) fn script(
     })
 }
 
-/// The calls that the items are.
+/// The calls that the items are. Each item is let go once it is read.
 ///
 /// # Errors
 /// `BadCall` at the first item that is none, and `OutOfMemory` where an allocation failed.
-fn calls(alloc: Global, items: &[Value]) -> Result<Vec<ScriptCall>, PlanFault>
-    ensures ok { IfOk result (λ cs. AreCalls (map view items.now) cs.items) }
-    ensures err { IfErr result (λ f. (f ≡ PlanFault.OutOfMemory) ⊎ IsFirstBadCall (map view items.now) f) }
+fn calls(alloc: Global, items: Vec<Value>) -> Result<Vec<ScriptCall>, PlanFault>
+    ensures ok { IfOk result (λ cs. AreCalls (map view items.items) cs.items) }
+    ensures err { IfErr result (λ f. (f ≡ PlanFault.OutOfMemory) ⊎ IsFirstBadCall (map view items.items) f) }
 {
-    let mut calls = Vec::new(alloc);
-    'items: for (index, item) in items.iter().enumerate() {
-        let call = call::call(alloc, item)?;
-        let call = call.ok_or(PlanFault::BadCall { call: index })?;
+    let mut calls = Vec::with_capacity(alloc, items.len())?;
+    'items: for item in items {
+        let call = call::call(alloc, &item)?;
+        drop(item);
+        let call = call.ok_or(PlanFault::BadCall { call: calls.len() })?;
         calls.push(call)?;
     }
     Ok(calls)

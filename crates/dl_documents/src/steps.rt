@@ -6,7 +6,7 @@ ghost use Rattle.dl_documents.specs.Reading.{two_in};
 ghost use Rattle.dl_documents.specs.Steps.{step_view};
 ghost use Rattle.dl_documents.specs.StepReading.{error_in, primed_named, primed_in, primes, step_named, step_in};
 
-use crate::argument::{self, into_pair, is_true, json, key};
+use crate::argument::{self, into_pair, is_true, json, key, key_under};
 use crate::member;
 use crate::terms::read_term;
 use dl_source::TEXT_BYTES;
@@ -19,6 +19,9 @@ use std::alloc::{AllocError, Global};
 pub(crate) fn read_step(alloc: Global, value: Value) -> Result<Option<Step>, AllocError>
     ensures { IfOk result (λ s. option_map step_view s ≡ step_in (view value)) }
 {
+    if let Some(key) = key_under(alloc, "clear", &value)? {
+        return Ok(Some(Step::Clear(key)));
+    }
     match member::into_only(value) {
         Some((name, argument)) => named(alloc, name.as_str(), argument),
         None => Ok(None),

@@ -6,7 +6,7 @@ ghost use Rattle.dl_terms.specs.Tree.{follow, each};
 ghost use Rattle.dl_terms.specs.View.{term_view};
 ghost use Rattle.dl_documents.specs.TermReading.{field_in, link_in, picks, links, gathers, term_named, term_in, parts_in};
 
-use crate::argument::{into_pair, into_triple, json, key};
+use crate::argument::{into_pair, into_triple, json, key, key_under};
 use crate::member;
 use dl_source::{into_items, into_text};
 use dl_terms::Term;
@@ -19,6 +19,9 @@ use std::alloc::{AllocError, Global};
 pub(crate) fn read_term(alloc: Global, value: Value) -> Result<Option<Term>, AllocError>
     ensures { IfOk result (λ t. option_map term_view t ≡ term_in (view value)) }
 {
+    if let Some(key) = key_under(alloc, "load", &value)? {
+        return Ok(Some(Term::Load(key)));
+    }
     match member::into_only(value) {
         Some((name, argument)) => named(alloc, name.as_str(), argument),
         None => Ok(None),

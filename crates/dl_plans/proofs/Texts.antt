@@ -1,5 +1,5 @@
 -- Texts of keys and of plans' answers, one more at a time.
-use Rattle.std.proofs.Common.{◌≡◌, ◌∙◌, sym, ap, subst, refl, ℕ, ◌+◌, ◌<◌, false, List, [], ◌∷◌, ◌++◌, drop, map}
+use Rattle.std.proofs.Common.{◌≡◌, ◌∙◌, sym, ap, subst, refl, ℕ, ◌+◌, false, List, [], ◌∷◌, ◌++◌, map}
 use Rattle.std.proofs.Common.{add-one, append_assoc}
 use Rattle.std.specs.Prelude.{Option, Some, Result, Ok, Err, IfOk}
 use Rattle.serde_json.specs.Data.{Data, array}

@@ -52,23 +52,25 @@ pub fn run<R: Read, W: Write, T: Threads + Wait + Sync>(
     ensures untouched { IfErr result (λ e. e ≢ RunError.Write → Keeps (W.contents writer.old) (W.contents writer.new)) }
 {
     let bytes = read_all(alloc, reader)?;
-    let text = output(rt, alloc, hashing, &bytes, options)?;
+    let text = output(rt, alloc, hashing, bytes, options)?;
     write_all(writer, text.as_bytes())
 }
 
-/// The text that a document gives.
+/// The text that a document gives. Its bytes are let go once they are read.
 fn output<T: Threads + Wait + Sync>(
     rt: &T,
     alloc: Global,
     hashing: RandomState,
-    bytes: &[u8],
+    bytes: Vec<u8>,
     options: Options,
 ) -> Result<String, RunError>
-    ensures ok { IfOk result (λ text. IsOutput options bytes.now (string_bytes text)) }
-    ensures err { IfErr result (IsRefused options bytes.now) }
+    ensures ok { IfOk result (λ text. IsOutput options bytes.items (string_bytes text)) }
+    ensures err { IfErr result (IsRefused options bytes.items) }
     ensures kept { IfErr result (λ e. e ≢ RunError.Write) }
 {
-    match read_input(alloc, hashing, bytes) {
+    let read = read_input(alloc, hashing, &bytes);
+    drop(bytes);
+    match read {
         Ok(Input::Script(script)) => match run_script(alloc, hashing, &script) {
             Ok(text) => Ok(text),
             Err(_) => Err(RunError::OutOfMemory),

@@ -11,8 +11,8 @@ returns-in_err-step-2-clause-err c =
     let l = c.items in
     let rest = into_iter_items c.next.new.self in
     let is : l.yielded ++ c.in-Some.item ∷ rest ≡ c.args.items.items = rw (← c.in-Some.ensures.steps.0) l.invariant.order in
-    let bad : c.from_residual-in_err-step-2.result ≡ Err (Shape c.args.number c.len.result) = search rules in
-    rw bad (inr (steps_stop c.args.number l.yielded c.in-Some.item rest c.args.items.items l.steps.items c.len.result is (search rules) l.invariant.so_far
+    let bad : c.from_residual-in_err-step-2.result ≡ Err (Shape c.args.number c.len-in-items.result) = search rules in
+    rw bad (inr (steps_stop c.args.number l.yielded c.in-Some.item rest c.args.items.items l.steps.items c.len-in-items.result is (search rules) l.invariant.so_far
     (search rules)))
 
 pub items-preserved : goal.items-preserved
@@ -31,7 +31,7 @@ items-preserved c =
     }
 
 pub returns-in_err-step-clause-ok : goal.returns-in_err-step-clause-ok
-returns-in_err-step-clause-ok c = IfOk-from_err _ _ c.from_residual.ensures.0
+returns-in_err-step-clause-ok c = IfOk-from_err _ _ c.from_residual-in_err-step.ensures.0
 
 pub returns-in_err-step-2-clause-ok : goal.returns-in_err-step-2-clause-ok
 returns-in_err-step-2-clause-ok c = IfOk-from_err _ _ c.from_residual-in_err-step-2.ensures.0

@@ -1,20 +1,12 @@
-use Rattle.std.proofs.Common.{◌≡◌, List, ℕ, Bool, false, None, codes, option_and_then, if◌then◌else◌, ap, sym, ◌∙◌, refl}
-use Rattle.serde_json.specs.Data.{Data, null, boolean, number, string, array, object}
-use Rattle.serde_json.specs.Find.{get, as_array, as_object}
+use Rattle.std.proofs.Common.{◌≡◌, Bool, false, None, codes, option_and_then, if◌then◌else◌, ap, sym, ◌∙◌, refl}
+use Rattle.serde_json.specs.Data.{Data}
+use Rattle.serde_json.specs.Find.{get, as_array}
 use Rattle.serde_json.specs.View.{view, members_view}
 use Rattle.dl_source.proofs.Members.{object_of}
 use Rattle.dl_documents.specs.Document.{is_script, items_at}
 use Rattle.dl_documents.specs.Faults.{IsBadTop, LacksList, LacksTables}
+use Rattle.dl_documents.proofs.Trees.{no_member}
 use Rattle.dl_documents.proofs.plan_files.plans_and_tables.Goals as goal
-
--- what is no object has no member
-no_member : (name : List ℕ) (d : Data) → None ≡ as_object d → get name d ≡ None
-no_member name null h = refl
-no_member name (boolean b) h = refl
-no_member name (number n) h = refl
-no_member name (string s) h = refl
-no_member name (array ds) h = refl
-no_member name (object ms) h = cc
 
 no_list : (d : Data) → is_script d ≡ false → items_at (codes "plans") d ≡ None → IsBadTop d
 no_list d kind none = LacksList (ap (λ (b : Bool). items_at (if b then codes "calls" else codes "plans") d) kind ∙ none)

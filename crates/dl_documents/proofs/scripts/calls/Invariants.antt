@@ -1,9 +1,12 @@
--- The items so far are the trees of the calls.
-use Rattle.std.proofs.Common.{take}
-use Rattle.serde_json.specs.View.{view}
-use Rattle.dl_documents.specs.Script.{call_tree, IsScriptCall}
-use Rattle.dl_documents.proofs.ListSpelling.{Spell}
+-- The items so far are the trees of the calls, and the rest of them follows.
+use Rattle.std.proofs.Common.{◌≡◌, ◌++◌, length}
+use Rattle.std.specs.Vec.Iter.{into_iter_items, into_iter_len}
+use Rattle.dl_documents.proofs.Readings.{SpellCalls}
 use Rattle.dl_documents.proofs.scripts.calls.Given as goal
 
 abbrev pub invariant-items : goal.invariant-items
-invariant-items l = Spell view call_tree IsScriptCall (take l.index l.items) l.calls.items
+invariant-items l = record {
+  order : l.yielded ++ into_iter_items l.item-iterator ≡ l.fn.items.items;
+  so_far : SpellCalls l.yielded l.calls.items;
+  count : into_iter_len l.item-iterator ≡ length (into_iter_items l.item-iterator);
+}

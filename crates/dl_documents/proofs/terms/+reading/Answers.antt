@@ -10,7 +10,7 @@ use Rattle.dl_terms.specs.View.{term_view}
 use Rattle.dl_documents.proofs.FindingLists.{found_first, found_next, found_none}
 use Rattle.dl_documents.proofs.TermParts.{no_list, no_names, other_name, field_lower, link_lower}
 use Rattle.dl_documents.proofs.TermParts.{term_view-Follow, term_view-Each, pick_none, pick_some, link_none, link_some}
-use Rattle.dl_documents.proofs.Trees.{no_term, one_term, all_unread, item_within, rest_within, items_lower, all_read}
+use Rattle.dl_documents.proofs.Trees.{no_term, one_term, load_under, all_unread, item_within, rest_within, items_lower, all_read}
 use Rattle.std.specs.Vec.Iter.{into_iter_items}
 use Rattle.dl_documents.specs.TermReading.{together, term_in, parts_in, parts_of}
 use Rattle.dl_documents.proofs.terms.+reading.Goals as goal
@@ -117,10 +117,13 @@ pub each-read_part-requires : goal.each-read_part-requires
 each-read_part-requires t c = (omega (arith, link_lower (view c.args.argument) _ _ _ c.in-Some.ensures), tt)
 
 pub read_term-returns-in-Some : goal.read_term-returns-in-Some
-read_term-returns-in-Some t c =
-    let name : c.as_str.result.now ≡ string_bytes c.in-Some.name = search rules in
+read_term-returns-in-Some t c = load_under (view c.args.value) c.in-Some.key (rw c.in-Some.is at c.in_ok-key.ensures)
+
+pub read_term-returns-in-Some-into_only : goal.read_term-returns-in-Some-into_only
+read_term-returns-in-Some-into_only t c =
+    let name : c.as_str.result.now ≡ string_bytes c.in-Some-into_only.name = search rules in
     subst (λ (o : Option Tree). IfOk c.named.result (λ t. option_map term_view t ≡ o))
-    (one_term _ (string_bytes c.in-Some.name) (view c.in-Some.argument) c.in-Some.ensures) (rw name at c.named.ensures)
+    (one_term _ (string_bytes c.in-Some-into_only.name) (view c.in-Some-into_only.argument) c.in-Some-into_only.ensures) (rw name at c.named.ensures)
 
 pub pick-returns : goal.pick-returns
 pick-returns t c =

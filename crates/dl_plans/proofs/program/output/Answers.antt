@@ -7,20 +7,20 @@ use Rattle.dl_plans.proofs.program.output.Goals as goal
 pub returns-in-Ok-clause-ok : goal.returns-in-Ok-clause-ok
 returns-in-Ok-clause-ok g c =
     let says = c.in-Ok-Script in
-    let document : IsDocument c.args.bytes.now (input.Script says.script) =
-    subst (IsDocument c.args.bytes.now) says.field-0-is (document_read c.args.bytes.now says.field-0 says.ensures.ok says.ensures.passes) in
+    let document : IsDocument c.args.bytes.items (input.Script says.script) =
+    subst (IsDocument c.args.bytes.items) says.field-0-is (document_read c.args.bytes.items says.field-0 (rw c.deref.ensures.value at says.ensures.ok) (rw c.deref.ensures.value at says.ensures.passes)) in
     (input.Script says.script, document, c.in-Ok.ensures)
 
 pub returns-in-Ok-report_text-clause-ok : goal.returns-in-Ok-report_text-clause-ok
 returns-in-Ok-report_text-clause-ok g c =
     let says = c.in-Ok-Plans in
-    let document : IsDocument c.args.bytes.now (input.Plans says.file) =
-    subst (IsDocument c.args.bytes.now) says.field-0-is (document_read c.args.bytes.now says.field-0 says.ensures.ok says.ensures.passes) in
+    let document : IsDocument c.args.bytes.items (input.Plans says.file) =
+    subst (IsDocument c.args.bytes.items) says.field-0-is (document_read c.args.bytes.items says.field-0 (rw c.deref.ensures.value at says.ensures.ok) (rw c.deref.ensures.value at says.ensures.passes)) in
     (input.Plans says.file, document, (c.in-Ok-served.report, c.in-Ok-served.ensures.headline, c.in-Ok-report_text.ensures))
 
 pub returns-in-Ok-Plans-clause-err : goal.returns-in-Ok-Plans-clause-err
 returns-in-Ok-Plans-clause-err g c =
     let says = c.in-Ok-Plans in
-    let document : IsDocument c.args.bytes.now (input.Plans says.file) =
-    subst (IsDocument c.args.bytes.now) says.field-0-is (document_read c.args.bytes.now says.field-0 says.ensures.ok says.ensures.passes) in
+    let document : IsDocument c.args.bytes.items (input.Plans says.file) =
+    subst (IsDocument c.args.bytes.items) says.field-0-is (document_read c.args.bytes.items says.field-0 (rw c.deref.ensures.value at says.ensures.ok) (rw c.deref.ensures.value at says.ensures.passes)) in
     (says.file, document, c.in-Err-served.ensures.refused)
