@@ -14,9 +14,9 @@ CRATES = [
 # What a signature names that may take memory. A fault of limits names no memory.
 TAKES_MEMORY = re.compile(r"\b(alloc: Global|AllocGlobal|AllocError|(?!Limit)\w+Fault|RunError)\b")
 
-# The head of an impl block at the left, or of a function with its signature, up to its clauses or its body.
+# The head of an impl block at the left, or of a function with its signature, up to its clauses, its body, or its end where it has none.
 ITEM = re.compile(
-    r"^impl\b(?P<impl>[^{]*?)(?:\{|\n\s*ghost)|^ *(?P<visible>pub )?fn (?P<name>\w+)(?P<signature>[^{]*?)(?=\{|\n\s*requires|\n\s*ensures)",
+    r"^impl\b(?P<impl>[^{]*?)(?:\{|\n\s*ghost)|^ *(?P<visible>pub )?fn (?P<name>\w+)(?P<signature>[^{]*?)(?=\{|;\n|\n\s*requires|\n\s*ensures)",
     re.M | re.S,
 )
 

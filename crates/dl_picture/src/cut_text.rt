@@ -22,18 +22,14 @@ fn room_for(text: &str) -> usize {
     room
 }
 
-/// Whether a character of the text may be wide.
-fn is_wide(text: &str) -> bool {
-    room_for(text) > text.chars().count()
-}
-
 /// A `text` element at x and y: the text, which is cut in its middle where it needs more room than that of so many narrow
 /// characters. One with wide characters is fitted to its room, whatever the font is.
 pub(crate) fn push_cut_text(sheet: &mut Sheet, x: usize, y: usize, text: &str, room: usize) {
     sheet.push("<text");
     sheet.push_place(x, y);
-    if is_wide(text) {
-        let width = room_for(text).min(room).saturating_mul(CHARACTER);
+    let whole = room_for(text);
+    if whole > text.chars().count() {
+        let width = whole.min(room).saturating_mul(CHARACTER);
         sheet.push_number(
             " textLength='",
             width as u64,
@@ -41,16 +37,16 @@ pub(crate) fn push_cut_text(sheet: &mut Sheet, x: usize, y: usize, text: &str, r
         );
     }
     sheet.push(">");
-    push_cut(sheet, text, room);
+    if whole > room {
+        push_cut(sheet, text, whole, room);
+    } else {
+        sheet.push_escaped(text);
+    }
     sheet.push("</text>");
 }
 
-/// The text, without its middle where it needs more room than there is.
-fn push_cut(sheet: &mut Sheet, text: &str, room: usize) {
-    let whole = room_for(text);
-    if whole <= room {
-        return sheet.push_escaped(text);
-    }
+/// The text without its middle, which is whole as wide as so many narrow characters, and has room for fewer.
+fn push_cut(sheet: &mut Sheet, text: &str, whole: usize, room: usize) {
     let half = room.saturating_sub(1) / 2;
     let mut passed: usize = 0;
     let mut is_cut = false;

@@ -52,25 +52,20 @@ fn add_tile(drawing: &mut Drawing, name: &str, words: &'static str, figure: Phra
     let (place, y) = (drawing.tiles, drawing.height);
     drawing.tiles = place.saturating_add(1);
     let x = place.saturating_mul(TILE_STEP).saturating_add(MARGIN);
+    let left = x.saturating_add(10);
     let sheet = &mut drawing.sheet;
-    push_figure(sheet, x, y, name, figure);
-    let (left, foot) = (x.saturating_add(10), y.saturating_add(40));
-    sheet.push_words("soft", left, foot, Phrase::Words(words));
-    sheet.push("\n");
-}
-
-/// The card of a tile, whose corner stands at x and y, with its number.
-fn push_figure(sheet: &mut Sheet, x: usize, y: usize, name: &str, figure: Phrase) {
     sheet.push("<rect class='card'");
     sheet.push_place(x, y);
     sheet.push_size(TILE_WIDTH, TILE_HEIGHT);
     sheet.push(" rx='6'/><text class='figure' id='");
     sheet.push(name);
     sheet.push("'");
-    sheet.push_place(x.saturating_add(10), y.saturating_add(22));
+    sheet.push_place(left, y.saturating_add(22));
     sheet.push(">");
     sheet.push_phrase(figure);
     sheet.push("</text>");
+    sheet.push_words("soft", left, y.saturating_add(40), Phrase::Words(words));
+    sheet.push("\n");
 }
 
 /// Ends the head: what the marks mean, below the tiles.
@@ -83,17 +78,13 @@ pub(crate) fn end_head(drawing: &mut Drawing) {
 /// What the marks mean, in one line at a height.
 fn push_marks(sheet: &mut Sheet, y: usize, marks: &[Mark]) {
     let mut x = MARGIN;
+    let foot = y.saturating_add(12);
     for mark in marks {
-        push_meaning(sheet, x, y, *mark);
-        let width = mark.meaning().len().saturating_mul(CHARACTER);
+        let meaning = mark.meaning();
+        push_badge(sheet, x, y, *mark);
+        sheet.push_words("soft", x.saturating_add(22), foot, Phrase::Words(meaning));
+        sheet.push("\n");
+        let width = meaning.len().saturating_mul(CHARACTER);
         x = x.saturating_add(width).saturating_add(MARK_STEP);
     }
-}
-
-/// A mark with what it means, whose corner stands at x and y.
-fn push_meaning(sheet: &mut Sheet, x: usize, y: usize, mark: Mark) {
-    push_badge(sheet, x, y, mark);
-    let (left, foot) = (x.saturating_add(22), y.saturating_add(12));
-    sheet.push_words("soft", left, foot, Phrase::Words(mark.meaning()));
-    sheet.push("\n");
 }

@@ -124,24 +124,19 @@ fn caller_name(plans: u32, caller: u32) -> Phrase {
 }
 
 /// The workers that ended batches: of each, which ones in order.
-pub(crate) fn add_workers(drawing: &mut Drawing, scene: Scene<'_>, callers: u32) {
-    for caller in scene.plans..callers {
-        add_worker(drawing, scene, caller);
-    }
-}
-
-/// A worker, if it ended a batch.
-fn add_worker(drawing: &mut Drawing, scene: Scene<'_>, caller: u32) {
-    let lines = Lines::Ended {
-        scene,
-        entries: scene.history.entries(caller),
-    };
-    let count = lines.count();
-    if count > 0 {
-        drawing.add_column(&Column {
-            heading: caller_name(scene.plans, caller),
-            side: Phrase::count(count, " batch", " batches"),
-            lines,
-        });
+pub(crate) fn add_workers(drawing: &mut Drawing, scene: Scene<'_>) {
+    for caller in scene.plans..scene.callers() {
+        let lines = Lines::Ended {
+            scene,
+            entries: scene.history.entries(caller),
+        };
+        let count = lines.count();
+        if count > 0 {
+            drawing.add_column(&Column {
+                heading: caller_name(scene.plans, caller),
+                side: Phrase::count(count, " batch", " batches"),
+                lines,
+            });
+        }
     }
 }

@@ -16,6 +16,18 @@ pub(crate) struct Scene<'a> {
 }
 
 impl<'a> Scene<'a> {
+    /// How many callers there are up to the last one that made a call.
+    pub(crate) fn callers(self) -> u32 {
+        let events = self.history.events();
+        let mut callers: u32 = 0;
+        for at in 0..events.len() {
+            if let Some(event) = events.get(at) {
+                callers = callers.max(event.caller.saturating_add(1));
+            }
+        }
+        callers
+    }
+
     /// The event of an entry that is a call.
     pub(crate) fn event(self, entry: EntryKind) -> Option<&'a Event> {
         let history = self.history;
@@ -36,7 +48,9 @@ impl<'a> Scene<'a> {
 
     /// What became of the key of a load.
     pub(crate) fn load_mark(self, reply: LoadReply) -> Mark {
-        let cell = cell_of(reply);
+        let cell = match reply {
+            LoadReply::Hit(cell) | LoadReply::Fresh { cell, .. } => cell,
+        };
         match self.history.outcome(cell) {
             Some(Outcome::KeyError(_)) => Mark::KeyError,
             Some(Outcome::BatchFailed(_)) => Mark::Failed,
@@ -45,13 +59,6 @@ impl<'a> Scene<'a> {
                 _ => Mark::of_load(reply),
             },
         }
-    }
-}
-
-/// The cell of a load.
-fn cell_of(reply: LoadReply) -> u32 {
-    match reply {
-        LoadReply::Hit(cell) | LoadReply::Fresh { cell, .. } => cell,
     }
 }
 

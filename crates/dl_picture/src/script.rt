@@ -29,25 +29,20 @@ pub fn script_picture(
 fn run_picture(alloc: Global, calls: &[ScriptCall], run: &ScriptRun) -> Result<String, AllocError> {
     let numbers = script_numbers(run)?;
     let mut drawing = Drawing::new(alloc);
-    add_script_head(&mut drawing, run.answers.len(), &numbers);
-    add_lanes(&mut drawing, calls, run);
+    add_run(&mut drawing, calls, run, &numbers);
     drawing.finish()
 }
 
-/// The calls and the batches.
-fn add_lanes(drawing: &mut Drawing, calls: &[ScriptCall], run: &ScriptRun) {
+/// What calls left: a head with its numbers, the calls, and the batches.
+fn add_run(drawing: &mut Drawing, calls: &[ScriptCall], run: &ScriptRun, numbers: &HistoryNumbers) {
+    drawing.add_words("title", Phrase::Words("What the calls were answered"));
+    add_count(drawing, "calls", "calls", run.answers.len() as u64);
+    add_numbers(drawing, numbers, "keys in batches");
+    end_head(drawing);
     drawing.add_words("lane", Phrase::Words("calls"));
     add_calls(drawing, calls, run.answers.as_slice());
     drawing.add_words("lane", Phrase::Words("batches"));
     add_batches(drawing, &run.desk);
-}
-
-/// The head: the numbers of the script.
-fn add_script_head(drawing: &mut Drawing, calls: usize, numbers: &HistoryNumbers) {
-    drawing.add_words("title", Phrase::Words("What the calls were answered"));
-    add_count(drawing, "calls", "calls", calls as u64);
-    add_numbers(drawing, numbers, "keys in batches");
-    end_head(drawing);
 }
 
 // ---- calls

@@ -1,8 +1,8 @@
-//! The command line.
+//! The command lines.
 
 ghost use Rattle.std.specs.Prelude.{◌≡◌, IfOk, IfSome, map, false};
 ghost use Rattle.clap.specs.Words.{app_of, rule_of, found_of, matches_of, rows_of, subcommand_of, subcommand_rows_of};
-ghost use Rattle.dl_plans.specs.Options.{plans_app, workers_rule, batches_rule, AreGiven};
+ghost use Rattle.dl_plans.specs.Options.{plans_app, picture_app, app_of_program, workers_rule, batches_rule, AreGiven, AreGivenTo, ArePictureOptions};
 
 use crate::settings::Options;
 use clap::error::ErrorKind;
@@ -19,15 +19,89 @@ pub fn options<'a, S: AsStr>(alloc: Global, words: &'a [S]) -> Result<Options, E
     ensures { let texts = map S.text words.entry.now in
         IfOk result (AreGiven (matches_of plans_app texts) (subcommand_of plans_app texts)) }
 {
-    let mut command = command(alloc)?;
-    options_by(&mut command, words)
+    Program::Plans.options(alloc, words)
 }
 
-/// The refusal of words of which one is no UTF-8, with the usage in its text.
-pub(crate) fn unreadable(alloc: Global) -> Error {
-    match command(alloc) {
-        Ok(mut command) => not_text(&mut command),
-        Err(error) => Error::from(error),
+/// A program, which has a command line.
+#[derive(Clone, Copy)]
+pub(crate) enum Program {
+    Plans,
+    PlanPicture,
+}
+
+impl Program {
+    /// The options that the words behind its name give.
+    ///
+    /// # Errors
+    /// A request for help, with the help as its text, and words of another form.
+    pub(crate) fn options<'a, S: AsStr>(
+        self,
+        alloc: Global,
+        words: &'a [S],
+    ) -> Result<Options, Error>
+        ensures { let texts = map S.text words.entry.now in
+            IfOk result (AreGivenTo self (matches_of (app_of_program self) texts) (subcommand_of (app_of_program self) texts)) }
+    {
+        let mut command = self.command(alloc)?;
+        self.options_by(&mut command, words)
+    }
+
+    /// The options that the words give by its command line.
+    fn options_by<'a, S: AsStr>(
+        self,
+        command: &mut Command<'a>,
+        words: &'a [S],
+    ) -> Result<Options, Error>
+        requires { app_of command.old ≡ app_of_program self }
+        ensures { let texts = map S.text words.entry.now in
+            IfOk result (AreGivenTo self (matches_of (app_of_program self) texts) (subcommand_of (app_of_program self) texts)) }
+    {
+        match self.read(command, words)? {
+            Some(options) => Ok(options),
+            None => Err(out_of_range(command)),
+        }
+    }
+
+    /// The options that the words give by its command line, if the number of workers is in range.
+    fn read<'a, S: AsStr>(
+        self,
+        command: &mut Command<'a>,
+        words: &'a [S],
+    ) -> Result<Option<Options>, Error>
+        requires { app_of command.old ≡ app_of_program self }
+        ensures { let texts = map S.text words.entry.now in
+            IfOk result (λ options. IfSome options (AreGivenTo self (matches_of (app_of_program self) texts) (subcommand_of (app_of_program self) texts))) }
+    {
+        let matches = command.try_get_matches_from_mut(words)?;
+        Ok(self.given(&matches))
+    }
+
+    /// The options of the matches, if the number of workers is in range.
+    fn given(self, matches: &ArgMatches) -> Option<Options>
+        ensures { IfSome result (AreGivenTo self (rows_of (found_of matches.now)) (subcommand_rows_of matches.now)) }
+    {
+        match self {
+            Program::Plans => given(matches),
+            Program::PlanPicture => picture_given(matches),
+        }
+    }
+
+    /// The refusal of words of which one is no UTF-8, with the usage in its text.
+    pub(crate) fn unreadable(self, alloc: Global) -> Error {
+        match self.command(alloc) {
+            Ok(mut command) => not_text(&mut command),
+            Err(error) => Error::from(error),
+        }
+    }
+
+    /// Its command line.
+    fn command<'a>(self, alloc: Global) -> Result<Command<'a>, AllocError>
+        ensures { IfOk result (λ c. app_of c ≡ app_of_program self) }
+    {
+        match self {
+            Program::Plans => command(alloc),
+            Program::PlanPicture => picture_command(alloc),
+        }
     }
 }
 
@@ -50,28 +124,6 @@ fn refused(command: &mut Command<'_>, kind: ErrorKind, message: &str) -> Error {
     }
 }
 
-/// The options that the words give by the command line.
-fn options_by<'a, S: AsStr>(command: &mut Command<'a>, words: &'a [S]) -> Result<Options, Error>
-    requires { app_of command.old ≡ plans_app }
-    ensures { let texts = map S.text words.entry.now in
-        IfOk result (AreGiven (matches_of plans_app texts) (subcommand_of plans_app texts)) }
-{
-    match read(command, words)? {
-        Some(options) => Ok(options),
-        None => Err(out_of_range(command)),
-    }
-}
-
-/// The options that the words give by the command line, if the number of workers is in range.
-fn read<'a, S: AsStr>(command: &mut Command<'a>, words: &'a [S]) -> Result<Option<Options>, Error>
-    requires { app_of command.old ≡ plans_app }
-    ensures { let texts = map S.text words.entry.now in
-        IfOk result (λ options. IfSome options (AreGiven (matches_of plans_app texts) (subcommand_of plans_app texts))) }
-{
-    let matches = command.try_get_matches_from_mut(words)?;
-    Ok(given(&matches))
-}
-
 /// The command line of `plans`.
 fn command<'a>(alloc: Global) -> Result<Command<'a>, AllocError>
     ensures { IfOk result (λ c. app_of c ≡ plans_app) }
@@ -85,6 +137,16 @@ fn command<'a>(alloc: Global) -> Result<Command<'a>, AllocError>
         .arg(workers(alloc))?
         .arg(batches(alloc))?
         .subcommand(migrate)
+}
+
+/// The command line of `plan_picture`.
+fn picture_command<'a>(alloc: Global) -> Result<Command<'a>, AllocError>
+    ensures { IfOk result (λ c. app_of c ≡ picture_app) }
+{
+    Command::new(alloc, "plan_picture")
+        .about("Draws as SVG what a document that stands on standard input did")
+        .no_binary_name(true)
+        .arg(workers(alloc))
 }
 
 /// `--workers N`.
@@ -111,7 +173,7 @@ fn batches<'a>(alloc: Global) -> Arg<'a>
         .help("Prints the rounds and batches too, of a plan file with exactly one plan")
 }
 
-/// The options of the matches, if the number of workers is in range.
+/// The options of the matches of `plans`, if the number of workers is in range.
 fn given(matches: &ArgMatches) -> Option<Options>
     ensures { IfSome result (AreGiven (rows_of (found_of matches.now)) (subcommand_rows_of matches.now)) }
 {
@@ -123,5 +185,20 @@ fn given(matches: &ArgMatches) -> Option<Options>
         workers,
         batches: matches.get_flag("batches"),
         migrate: matches.subcommand_matches("migrate").is_some(),
+    })
+}
+
+/// The options of the matches of `plan_picture`, if the number of workers is in range.
+fn picture_given(matches: &ArgMatches) -> Option<Options>
+    ensures { IfSome result (ArePictureOptions (rows_of (found_of matches.now))) }
+{
+    let workers = matches.get_one::<u32>("workers")?;
+    if !(1..=16).contains(&workers) {
+        return None;
+    }
+    Some(Options {
+        workers,
+        batches: false,
+        migrate: false,
     })
 }

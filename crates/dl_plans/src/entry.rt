@@ -1,6 +1,7 @@
-//! The program `plans` over a runtime.
+//! The programs over a runtime.
 
-use crate::command::{options, unreadable};
+use crate::command::Program;
+use crate::draw::{Draw, run_draw};
 use crate::fault::RunError;
 use crate::migration::run_migrate;
 use crate::program::run;
@@ -21,14 +22,57 @@ pub fn plans<
     R: Env + RandomSource + Input + Print + Eprint + AllocGlobal,
     T: Threads + Wait + Sync,
 >(rt: &R, threads: &T) -> ExitCode {
-    let status = match words(rt) {
-        Ok(words) => obey(rt, threads, &words),
-        Err(error) => {
-            tell_unread(rt, &error);
-            words_status(&error)
-        }
+    let status = match asked(rt, Program::Plans) {
+        Ok((options, hashing)) => told(rt, &written(rt, threads, hashing, options)),
+        Err(status) => status,
     };
     ExitCode::from(status)
+}
+
+/// The program `plan_picture`: it draws by `D` what the document on standard input did, by threads of `threads`, and answers
+/// the status with which it ends. Where it fails, a line on standard error says why.
+pub fn plan_picture<
+    D: Draw,
+    R: Env + RandomSource + Input + Print + Eprint + AllocGlobal,
+    T: Threads + Wait + Sync,
+>(rt: &R, threads: &T) -> ExitCode {
+    let status = match asked(rt, Program::PlanPicture) {
+        Ok((options, hashing)) => told(rt, &drawn::<D, R, T>(rt, threads, hashing, options)),
+        Err(status) => status,
+    };
+    ExitCode::from(status)
+}
+
+// ---- what is asked for
+
+/// The options that the command line gives, and random numbers of this run, by which keys are hashed, since they come from
+/// strangers.
+///
+/// # Errors
+/// The status with which the program ends. A line on standard error says why.
+fn asked<R: Env + RandomSource + Print + Eprint + AllocGlobal>(
+    rt: &R,
+    program: Program,
+) -> Result<(Options, RandomState), u8> {
+    let options = given(rt, program)?;
+    match RandomState::new(rt) {
+        Ok(hashing) => Ok((options, hashing)),
+        Err(_) => {
+            let _ = eprintln!(rt; "failed: random numbers");
+            Err(FAILED)
+        }
+    }
+}
+
+/// The options that the command line gives. The error is that of [`asked`].
+fn given<R: Env + Print + Eprint + AllocGlobal>(rt: &R, program: Program) -> Result<Options, u8> {
+    match words(rt) {
+        Ok(words) => given_by(rt, program, &words),
+        Err(error) => {
+            tell_unread(rt, program, &error);
+            Err(words_status(&error))
+        }
+    }
 }
 
 /// The words behind the program's name.
@@ -38,11 +82,26 @@ pub fn words<R: Env + AllocGlobal>(rt: &R) -> io::Result<Vec<String>> {
 }
 
 /// Says why the words can't be read: an allocation failed, or one is no UTF-8.
-fn tell_unread<R: Print + Eprint + AllocGlobal>(rt: &R, error: &io::Error) {
+fn tell_unread<R: Print + Eprint + AllocGlobal>(rt: &R, program: Program, error: &io::Error) {
     let _ = match error.kind() {
         io::ErrorKind::OutOfMemory => eprintln!(rt; "{}", RunError::OutOfMemory),
-        _ => unreadable(rt.alloc()).print(rt),
+        _ => program.unreadable(rt.alloc()).print(rt),
     };
+}
+
+/// The options that words give. The error is that of [`asked`].
+fn given_by<R: Print + Eprint + AllocGlobal>(
+    rt: &R,
+    program: Program,
+    words: &[String],
+) -> Result<Options, u8> {
+    match program.options(rt.alloc(), words) {
+        Ok(options) => Ok(options),
+        Err(error) => {
+            tell_no_options(rt, &error);
+            Err(command_status(&error))
+        }
+    }
 }
 
 /// Says why words give no options: an allocation failed; or clap says that they are refused, or gives the help asked for.
@@ -53,40 +112,7 @@ pub fn tell_no_options<R: Print + Eprint>(rt: &R, error: &clap::Error) {
     };
 }
 
-/// Obeys the command line.
-fn obey<R: RandomSource + Input + Print + Eprint + AllocGlobal, T: Threads + Wait + Sync>(
-    rt: &R,
-    threads: &T,
-    words: &[String],
-) -> u8 {
-    match options(rt.alloc(), words) {
-        Ok(options) => answer(rt, threads, options),
-        Err(error) => {
-            tell_no_options(rt, &error);
-            command_status(&error)
-        }
-    }
-}
-
-/// Answers the document or migrates it, or says on standard error why not. Its keys come from strangers, so they are hashed
-/// by random numbers of this run.
-fn answer<R: RandomSource + Input + Print + Eprint + AllocGlobal, T: Threads + Wait + Sync>(
-    rt: &R,
-    threads: &T,
-    options: Options,
-) -> u8 {
-    let Ok(hashing) = RandomState::new(rt) else {
-        let _ = eprintln!(rt; "failed: random numbers");
-        return FAILED;
-    };
-    match written(rt, threads, hashing, options) {
-        Ok(()) => RAN,
-        Err(error) => {
-            let _ = eprintln!(rt; "{error}");
-            error.status()
-        }
-    }
-}
+// ---- what is done
 
 /// Writes what the options ask for to standard output: the document that stands on standard input as version 2, or what it gives.
 fn written<R: Input + Print + AllocGlobal, T: Threads + Wait + Sync>(
@@ -100,5 +126,27 @@ fn written<R: Input + Print + AllocGlobal, T: Threads + Wait + Sync>(
         run_migrate(alloc, hashing, &mut reader, &mut writer)
     } else {
         run(threads, alloc, hashing, &mut reader, &mut writer, options)
+    }
+}
+
+/// Writes the picture of the document that stands on standard input to standard output.
+fn drawn<D: Draw, R: Input + Print + AllocGlobal, T: Threads + Wait + Sync>(
+    rt: &R,
+    threads: &T,
+    hashing: RandomState,
+    options: Options,
+) -> Result<(), RunError> {
+    let (alloc, mut reader, mut writer) = (rt.alloc(), rt.reader(), io::writer(rt));
+    run_draw::<D, _, _, T>(threads, alloc, hashing, &mut reader, &mut writer, options)
+}
+
+/// The status of a run. Where it failed, a line on standard error says why.
+fn told<R: Eprint>(rt: &R, ran: &Result<(), RunError>) -> u8 {
+    match ran {
+        Ok(()) => RAN,
+        Err(error) => {
+            let _ = eprintln!(rt; "{error}");
+            error.status()
+        }
     }
 }

@@ -1,9 +1,10 @@
-//! The program `plans`: it reads a document, and prints what it gives.
+//! The program `plans`: it reads a document, and prints what it gives; and `plan_picture`, but for what draws: it prints a picture.
 #![tactic(auto)]
 
 mod answer_lines;
 mod batch_lines;
 mod command;
+mod draw;
 mod entry;
 mod fault;
 mod json_text;
@@ -21,7 +22,8 @@ pub use dl_documents::{
     Calls, Input, MOST_BYTES, PlanFault, PlanFile, Script, ScriptCall, read_input,
 };
 pub use dl_migration::{MigrateFault, migrate};
-pub use entry::{plans, tell_no_options, words};
+pub use draw::{Draw, run_draw};
+pub use entry::{plan_picture, plans, tell_no_options, words};
 pub use fault::RunError;
 pub use migration::run_migrate;
 pub use program::{read_all, run, served, write_all};

@@ -10,12 +10,25 @@ use std::marker::Model;
 
 /// What serving plans leaves: the answers of their terms, how many rounds of loads they took, the history that all loads,
 /// ends and reads are told by, and what went through the queue. It names no loader.
-#[derive(Drop)]
 pub struct Report {
     answers: Vec<Vec<StepAnswer>>,
     rounds: Vec<u64>,
     history: History,
     tally: Tally,
+}
+
+impl Drop for Report {
+    fn drop(self) {
+        let Report {
+            answers,
+            rounds,
+            history,
+            tally: _,
+        } = self;
+        drop(answers);
+        drop(rounds);
+        drop(history);
+    }
 }
 
 impl Model for Report {

@@ -3,7 +3,7 @@
 ghost use Rattle.std.specs.Prelude.{[], ◌≡◌, ◌≤◌, ◌++◌, All, Err, IfErr, IfOk, MatchBool, MatchOption, OnOk, length, map};
 ghost use Rattle.dl_terms.specs.Plans.{most_plans};
 ghost use Rattle.dl_scope.specs.Faults.{AnyGaveUp, AnyMet, IsLeastFault, IsStop};
-ghost use Rattle.dl_scope.specs.Inside.Results.{AllGave, AreResults, IsDone, IsFaultOf, MetNoOwn, WasTaken, fault_of};
+ghost use Rattle.dl_scope.specs.Inside.Results.{AllGave, AreResults, IsDone, IsFaultOf, IsNoResult, MetNoOwn, WasTaken, fault_of};
 
 use crate::fault::ScopeFault;
 use crate::tasks::{PlanRun, WorkerRun};
@@ -103,11 +103,6 @@ pub(crate) fn gather<L: LoaderName>(
     requires taken { All WasTaken runs.plans.items }
     ensures { IfOk result (AreResults runs) }
 {
-    let Runs {
-        plans,
-        workers,
-        own,
-    } = runs;
     let mut all = ThreadResults {
         passes: Vec::new(alloc),
         senders: Vec::new(alloc),
@@ -115,13 +110,27 @@ pub(crate) fn gather<L: LoaderName>(
         answers: Vec::new(alloc),
         rounds: Vec::new(alloc),
     };
-    all.add_plans(plans)?;
-    all.senders.push(own)?;
-    all.add_workers(workers)?;
+    all.add(runs)?;
     Ok(all)
 }
 
 impl<L: LoaderName> ThreadResults<L> {
+    /// Adds what all threads gave back to nothing.
+    fn add(&mut self, runs: Runs<L>) -> Result<(), AllocError>
+        requires taken { All WasTaken runs.plans.items }
+        requires none { IsNoResult self.old }
+        ensures { OnOk result (AreResults runs self.new) }
+    {
+        let Runs {
+            plans,
+            workers,
+            own,
+        } = runs;
+        self.add_plans(plans)?;
+        self.senders.push(own)?;
+        self.add_workers(workers)
+    }
+
     /// Adds what the threads of plans gave back.
     fn add_plans(&mut self, plans: Vec<PlanRun<L>>) -> Result<(), AllocError>
         requires taken { All WasTaken plans.items }

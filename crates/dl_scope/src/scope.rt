@@ -1,7 +1,7 @@
 //! Serving plans.
 
-ghost use Rattle.std.specs.Prelude.{◌≡◌, ◌+◌, [], ℕ, All, IfErr, IfOk, OnOk, Some, length, map};
-ghost use Rattle.dl_history.specs.Service.{Answers};
+ghost use Rattle.std.specs.Prelude.{◌≡◌, ◌+◌, [], ℕ, List, All, IfErr, IfOk, OnOk, Some, length, map};
+ghost use Rattle.dl_history.specs.Service.{Answers, Service};
 ghost use Rattle.dl_loader.specs.CloseRefusals.{IsLeastOf};
 ghost use Rattle.dl_loader.specs.Opening.{AreCallers, Names};
 ghost use Rattle.dl_values.specs.Limits.{rules_by};
@@ -13,6 +13,8 @@ ghost use Rattle.dl_scope.specs.Faults.{AreWorkers, MayServe, RefusedAs};
 ghost use Rattle.dl_scope.specs.Headline.{Headline, service_of};
 ghost use Rattle.dl_scope.specs.Report.{report};
 ghost use Rattle.dl_scope.specs.declared.fault.ScopeFault.TheVariants.{Unfetched};
+ghost use Rattle.dl_scope.specs.declared.setup.Setup.{Setup};
+ghost use Rattle.dl_terms.specs.declared.plan.Plan.{Plan};
 ghost use Rattle.dl_scope.specs.Inside.ServedPlans.{AreServed, IsCounted, Ran};
 
 use crate::fault::ScopeFault;
@@ -77,28 +79,38 @@ pub fn serve<S: Source + Sync, G: Gate + Sync, R: Threads + Wait + Sync>(
     ensures accepted { OnOk result (MayServe setup (length plans.items)) }
     ensures refused { IfErr result (RefusedAs (service_of setup (length plans.items) (S.answer source.now)) setup plans.items) }
 {
-    if plans.is_empty() {
+    let callers = callers_of(plans.len(), setup.workers)?;
+    let opening = opening(alloc, hashing, source, &setup, callers)?;
+    let resources = Resources {
+        alloc,
+        hashing,
+        source,
+        gate,
+    };
+    serve_at::<Brand, S, G, R>(rt, &resources, &setup, opening, plans)
+}
+
+/// How many callers so many plans and workers are.
+///
+/// # Errors
+/// `NoPlans`, `TooManyPlans` or `BadWorkers`, the first that applies.
+fn callers_of(plans: usize, workers: u32) -> Result<u32, ScopeFault>
+    ensures plans { OnOk result (ArePlans plans) }
+    ensures workers { OnOk result (AreWorkers workers) }
+    ensures callers { IfOk result (λ callers. callers ≡ plans + workers) }
+    ensures refused { IfErr result (λ fault. (service : Service) (setup : Setup) (served : List Plan)
+        → length served ≡ plans → setup.workers ≡ workers → RefusedAs service setup served fault) }
+{
+    if plans == 0 {
         return Err(ScopeFault::NoPlans);
     }
-    if plans.len() > MOST_PLANS {
+    if plans > MOST_PLANS {
         return Err(ScopeFault::TooManyPlans);
     }
-    if setup.workers == 0 || setup.workers > MOST_WORKERS {
+    if workers == 0 || workers > MOST_WORKERS {
         return Err(ScopeFault::BadWorkers);
     }
-    let callers = plans.len() as u32 + setup.workers;
-    match opening(alloc, hashing, source, &setup, callers) {
-        Ok(opening) => {
-            let resources = Resources {
-                alloc,
-                hashing,
-                source,
-                gate,
-            };
-            serve_at::<Brand, S, G, R>(rt, &resources, &setup, opening, plans)
-        }
-        Err(fault) => Err(ScopeFault::Start(fault)),
-    }
+    Ok(plans as u32 + workers)
 }
 
 /// The opening of a loader by the limits of the setup.

@@ -1,12 +1,11 @@
 //! The program `plan_picture`: it draws what the document that stands on standard input did.
 #![tactic(auto)]
 
-mod command;
-mod entry;
-mod program;
+mod pictures;
 
+use pictures::Pictures;
 use std::process::ExitCode;
 
 fn main(rt: HostRuntime) -> ExitCode {
-    entry::answered(&rt, &rt)
+    dl_plans::plan_picture::<Pictures, _, _>(&rt, &rt)
 }

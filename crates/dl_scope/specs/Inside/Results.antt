@@ -61,6 +61,14 @@ module _ {L : Type 0} where
   AllGave (run ∷ runs) [] rounds = ⊥
   AllGave (run ∷ runs) (a ∷ answers) [] = ⊥
 
+  -- nothing was put together
+  pub record IsNoResult (all : ThreadResults L) : Type 0 where
+    pub no_passes : all.passes.items ≡ []
+    pub no_senders : all.senders.items ≡ []
+    pub no_takers : all.takers.items ≡ []
+    pub no_answers : all.answers.items ≡ []
+    pub no_rounds : all.rounds.items ≡ []
+
   -- passes and seats of all threads, the plans' first, and what the plans gave
   pub record AreResults (runs : Runs L) (all : ThreadResults L) : Type 0 where
     pub passes : all.passes.items ≡ map (λ run. run.pass) runs.plans.items ++ map (λ run. run.pass) runs.workers.items

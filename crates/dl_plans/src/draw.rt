@@ -1,4 +1,4 @@
-//! Running the program over a reader and a writer.
+//! Drawing a document over a reader and a writer.
 
 ghost use Rattle.std.specs.Prelude.{◌≡◌, ◌≢◌, ◌+◌, ℕ, List, IfErr, IfSome};
 ghost use Rattle.std.specs.Io.KnownBytes.{Keeps};
@@ -6,21 +6,34 @@ ghost use Rattle.dl_documents.specs.Faults.{most_bytes};
 ghost use Rattle.dl_plans.specs.Run.{IsRefused, ReadsAtMost};
 ghost use Rattle.dl_plans.specs.declared.settings.Options.{Options};
 
-use dl_picture::{history_picture, script_picture};
-use dl_plans::{Input, Options, PlanFault, RunError, read_all, read_input, served, write_all};
-use dl_scope::{MOST_PLANS, Report};
+use crate::fault::RunError;
+use crate::program::{read_all, served, write_all};
+use crate::settings::Options;
+use dl_documents::{Input, PlanFault, Script, read_input};
+use dl_scope::Report;
 use std::alloc::{AllocError, Global};
 use std::hash::RandomState;
 use std::io::{Read, Write};
 use std::sync::Wait;
 use std::thread::Threads;
 
+/// What draws what documents give.
+pub trait Draw {
+    /// The picture of a script, whose calls are answered by a desk that hashes keys by `hashing`. The error is a failed
+    /// allocation.
+    fn script(alloc: Global, hashing: RandomState, script: &Script) -> Result<String, AllocError>;
+
+    /// The picture of what serving plans left. The error is a failed allocation.
+    fn report(alloc: Global, report: &Report) -> Result<String, AllocError>;
+}
+
 /// Reads a document, and writes its picture once all of it is made: that of a script, or that of what serving the plans of a
-/// plan file left. They are served as [`dl_plans::run`] serves them. Keys are hashed by `hashing`, of which nothing is seen.
+/// plan file left. It reads, serves and writes as [`run`](crate::run) does. Keys are hashed by `hashing`, of which nothing is
+/// seen.
 ///
 /// # Errors
-/// Those of [`dl_plans::run`]. Only after `Write` something may be written: a front of the picture.
-pub(crate) fn run<R: Read, W: Write, T: Threads + Wait + Sync>(
+/// Those of [`run`](crate::run). Only after `Write` something may be written: a front of the picture.
+pub fn run_draw<D: Draw, R: Read, W: Write, T: Threads + Wait + Sync>(
     rt: &T,
     alloc: Global,
     hashing: RandomState,
@@ -33,12 +46,12 @@ pub(crate) fn run<R: Read, W: Write, T: Threads + Wait + Sync>(
     ensures untouched { IfErr result (λ e. e ≢ RunError.Write → Keeps (W.contents writer.old) (W.contents writer.new)) }
 {
     let bytes = read_all(alloc, reader)?;
-    let text = picture(rt, alloc, hashing, &bytes, options)?;
+    let text = picture::<D, T>(rt, alloc, hashing, &bytes, options)?;
     write_all(writer, text.as_bytes())
 }
 
 /// The picture of a document.
-fn picture<T: Threads + Wait + Sync>(
+fn picture<D: Draw, T: Threads + Wait + Sync>(
     rt: &T,
     alloc: Global,
     hashing: RandomState,
@@ -51,18 +64,12 @@ fn picture<T: Threads + Wait + Sync>(
     match read_input(alloc, hashing, bytes) {
         Err(PlanFault::OutOfMemory) => Err(RunError::OutOfMemory),
         Err(fault) => Err(RunError::Refused(fault)),
-        Ok(Input::Script(script)) => made(script_picture(alloc, hashing, &script)),
+        Ok(Input::Script(script)) => made(D::script(alloc, hashing, &script)),
         Ok(Input::Plans(file)) => match served(rt, alloc, hashing, file, options) {
-            Ok(report) => made(report_picture(alloc, &report)),
+            Ok(report) => made(D::report(alloc, &report)),
             Err(fault) => Err(RunError::Run(fault)),
         },
     }
-}
-
-/// The picture of what serving plans left. The error is a failed allocation.
-fn report_picture(alloc: Global, report: &Report) -> Result<String, AllocError> {
-    let plans = report.rounds().len().min(MOST_PLANS) as u32;
-    history_picture(alloc, report.history(), plans)
 }
 
 /// A picture, unless memory ran out.

@@ -1,6 +1,6 @@
 use Rattle.std.proofs.Common.{rules, ◌≡◌, Err}
 use Rattle.dl_plans.proofs.Runs.{run_refused}
-use Rattle.plan_picture.proofs.program.run.Goals as goal
+use Rattle.dl_plans.proofs.draw.run_draw.Goals as goal
 
 pub returns-in_err-text-clause-refused : goal.returns-in_err-text-clause-refused
 returns-in_err-text-clause-refused g c =

@@ -1,7 +1,7 @@
 use Rattle.std.proofs.Common.{rules, codes}
 use Rattle.clap.specs.Words.{found_of}
 use Rattle.dl_plans.proofs.CommandMatches.{number_given}
-use Rattle.plan_picture.proofs.command.given.Goals as goal
+use Rattle.dl_plans.proofs.command.picture_given.Goals as goal
 
 pub returns : goal.returns
 returns c =
