@@ -13,9 +13,14 @@ use std::hash::RandomState;
 
 fn main(rt: HostRuntime) -> Result<()> {
     let (alloc, hashing) = (rt.alloc(), RandomState::new(&rt)?);
-    let limits = Limits::new(64, 1_024, 4_096)?;
     let users = users(alloc, hashing)?;
-    let plans = plans(alloc)?;
+    let mut plans = Vec::new(alloc);
+    for id in ["u1", "u2"] {
+        let user = Term::Load(FetchKey::new(alloc, "user", id)?);
+        let steps = vec![in alloc; Step::Eval(user)]?;
+        plans.push(Plan { steps })?;
+    }
+    let limits = Limits::new(64, 1_024, 4_096)?;
     let setup = Setup {
         limits,
         tables: None,
@@ -30,17 +35,6 @@ fn main(rt: HostRuntime) -> Result<()> {
 fn users(alloc: Global, hashing: RandomState) -> Result<Tables> {
     let rows = json!(in alloc; [{"name": "user", "rows": [["u1", "Ada"], ["u2", "Bob"]]}])?;
     Ok(Tables::from_value(alloc, hashing, &rows)?)
-}
-
-/// The plans of the requests: each loads a user.
-fn plans(alloc: Global) -> Result<Vec<Plan>> {
-    let mut plans = Vec::new(alloc);
-    for id in ["u1", "u2"] {
-        let user = Term::Load(FetchKey::new(alloc, "user", id)?);
-        let steps = vec![in alloc; Step::Eval(user)]?;
-        plans.push(Plan { steps })?;
-    }
-    Ok(plans)
 }
 
 /// Prints each answer with the number of its request.
