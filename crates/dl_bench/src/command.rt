@@ -68,7 +68,7 @@ pub(crate) enum Callers {
 const BATCH: u32 = 64;
 
 /// The word that asks for each workload of N or of two numbers, and the most keys of its batches, where the words don't say it.
-const WORKLOADS: [(&str, Option<u32>, Workload); 13] = [
+static WORKLOADS: [(&str, Option<u32>, Workload); 13] = [
     ("loads", None, Workload::OneByOne(Ids::Short)),
     ("hostile", Some(BATCH), Workload::OneByOne(Ids::Hostile)),
     ("harmless", Some(BATCH), Workload::OneByOne(Ids::Harmless)),
@@ -158,11 +158,11 @@ impl Command {
 
     /// The command of a workload's name, whose batches are limited by the workload or by a word, and not by both.
     fn named(word: &str, keys: u32, most: Option<u32>) -> Result<Command, CommandFault> {
-        for (name, own, workload) in WORKLOADS {
-            if name == word {
+        for (name, own, workload) in &WORKLOADS {
+            if *name == word {
                 let most = own.xor(most).ok_or(CommandFault::Usage)?;
                 return Ok(Command {
-                    workload,
+                    workload: *workload,
                     keys,
                     most,
                 });

@@ -23,16 +23,27 @@ pub(crate) fn one_by_one(
     batch: u32,
 ) -> Result<()> {
     let mut desk = Desk::new(alloc, hashing, limits(batch)?);
+    Ok(load_and_send(alloc, &mut desk, counts, ids, keys)?)
+}
+
+/// Loads keys one by one, then dispatches.
+fn load_and_send(
+    alloc: Global,
+    desk: &mut Desk,
+    counts: &mut Counts,
+    ids: Ids,
+    keys: u32,
+) -> Result<(), DeskFault> {
     match ids.front() {
-        None => loads(alloc, &mut desk, counts, keys)?,
-        Some(front) => fronted(alloc, &mut desk, counts, keys, front)?,
-    }
+        None => loads(alloc, desk, counts, keys),
+        Some(front) => fronted(alloc, desk, counts, keys, front),
+    }?;
     counts.jobs(&desk.dispatch(alloc)?);
     Ok(())
 }
 
 /// Loads the keys of the first numbers.
-fn loads(alloc: Global, desk: &mut Desk, counts: &mut Counts, keys: u32) -> Result<()> {
+fn loads(alloc: Global, desk: &mut Desk, counts: &mut Counts, keys: u32) -> Result<(), DeskFault> {
     for number in 0..keys {
         let key = key_of(alloc, number)?;
         counts.load(desk.load(alloc, &key)?);
@@ -47,7 +58,7 @@ fn fronted(
     counts: &mut Counts,
     keys: u32,
     front: &str,
-) -> Result<()> {
+) -> Result<(), DeskFault> {
     let mut id = String::new(alloc);
     for number in 0..keys {
         let key = fronted_key(alloc, &mut id, front, number)?;
@@ -68,8 +79,7 @@ pub(crate) fn listed(
     let limits = limits(batch)?;
     let keys = keys_of(alloc, keys)?;
     let mut desk = Desk::new(alloc, hashing, limits);
-    make_calls(alloc, &mut desk, counts, calls, &keys, limits)?;
-    Ok(())
+    Ok(make_calls(alloc, &mut desk, counts, calls, &keys, limits)?)
 }
 
 fn make_calls(
@@ -156,7 +166,12 @@ pub(crate) fn clears(
 }
 
 /// Loads, clears and loads again the key of each number in a range.
-fn reloads(alloc: Global, desk: &mut Desk, counts: &mut Counts, numbers: Range<u32>) -> Result<()> {
+fn reloads(
+    alloc: Global,
+    desk: &mut Desk,
+    counts: &mut Counts,
+    numbers: Range<u32>,
+) -> Result<(), DeskFault> {
     for number in numbers {
         let key = key_of(alloc, number)?;
         counts.load(desk.load(alloc, &key)?);

@@ -1,24 +1,23 @@
 //! The keys of numbers, and the limits of a loader for them.
 
 use crate::ids::{push_id, table_of};
-use anyhow::Result;
 use dl_desk::{FetchKey, LARGEST_LIMIT, LimitFault, Limits};
 use itoa::Buffer;
-use std::alloc::Global;
+use std::alloc::{AllocError, Global};
 
 /// The limit of a batch, beside the largest other limits.
 pub(crate) fn limits(batch: u32) -> Result<Limits, LimitFault> {
     Limits::new(batch, LARGEST_LIMIT, LARGEST_LIMIT)
 }
 
-/// The key of a number: its id is the number in decimal.
-pub(crate) fn key_of(alloc: Global, number: u32) -> Result<FetchKey> {
+/// The key of a number: its id is the number in decimal. The error is a failed allocation.
+pub(crate) fn key_of(alloc: Global, number: u32) -> Result<FetchKey, AllocError> {
     let mut buffer = Buffer::new();
-    Ok(FetchKey::new(alloc, "users", buffer.format(number))?)
+    FetchKey::new(alloc, "users", buffer.format(number)).or(Err(AllocError))
 }
 
-/// The keys of the first numbers.
-pub(crate) fn keys_of(alloc: Global, count: u32) -> Result<Vec<FetchKey>> {
+/// The keys of the first numbers. The error is a failed allocation.
+pub(crate) fn keys_of(alloc: Global, count: u32) -> Result<Vec<FetchKey>, AllocError> {
     let mut keys = Vec::with_capacity(alloc, count as usize)?;
     for number in 0..count {
         keys.push(key_of(alloc, number)?)?;
@@ -26,20 +25,25 @@ pub(crate) fn keys_of(alloc: Global, count: u32) -> Result<Vec<FetchKey>> {
     Ok(keys)
 }
 
-/// The key of a front and a number in eight digits, whose id is written in the room of the last one.
+/// The key of a front and a number in eight digits, whose id is written in the room of the last one. The error is a failed
+/// allocation.
 pub(crate) fn fronted_key(
     alloc: Global,
     id: &mut String,
     front: &str,
     number: u32,
-) -> Result<FetchKey> {
+) -> Result<FetchKey, AllocError> {
     id.clear();
     push_id(id, Some(front), number)?;
-    Ok(FetchKey::new(alloc, table_of(Some(front)), id.as_str())?)
+    FetchKey::new(alloc, table_of(Some(front)), id.as_str()).or(Err(AllocError))
 }
 
-/// The keys of a front and the first numbers.
-pub(crate) fn fronted_keys(alloc: Global, front: &str, count: u32) -> Result<Vec<FetchKey>> {
+/// The keys of a front and the first numbers. The error is a failed allocation.
+pub(crate) fn fronted_keys(
+    alloc: Global,
+    front: &str,
+    count: u32,
+) -> Result<Vec<FetchKey>, AllocError> {
     let mut keys = Vec::with_capacity(alloc, count as usize)?;
     let mut id = String::new(alloc);
     for number in 0..count {

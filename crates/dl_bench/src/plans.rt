@@ -8,7 +8,7 @@ use crate::terms::{Terms, term_of};
 use anyhow::Result;
 use dl_scope::{Plan, Setup, Step, serve};
 use dl_workers::NoGate;
-use std::alloc::Global;
+use std::alloc::{AllocError, Global};
 use std::sync::Wait;
 use std::thread::Threads;
 
@@ -23,15 +23,16 @@ pub(crate) fn served<R: Threads + Wait + Sync>(
     workers: u32,
     batch: u32,
 ) -> Result<()> {
+    let alloc = scene.alloc;
+    let limits = limits(batch)?;
+    let source = Alike::row(alloc)?;
+    let plans = plans_of(alloc, terms)?;
     let setup = Setup {
-        limits: limits(batch)?,
+        limits,
         tables: None,
         workers,
         queue: QUEUE,
     };
-    let alloc = scene.alloc;
-    let source = Alike::row(alloc)?;
-    let plans = plans_of(alloc, terms)?;
     let report = serve(
         scene.rt,
         alloc,
@@ -45,8 +46,8 @@ pub(crate) fn served<R: Threads + Wait + Sync>(
     Ok(())
 }
 
-/// A plan for each term.
-fn plans_of(alloc: Global, terms: Terms) -> Result<Vec<Plan>> {
+/// A plan for each term. The error is a failed allocation.
+fn plans_of(alloc: Global, terms: Terms) -> Result<Vec<Plan>, AllocError> {
     let mut plans = Vec::with_capacity(alloc, terms.count as usize)?;
     for number in 0..terms.count {
         plans.push(plan_of(alloc, terms, number)?)?;
@@ -55,8 +56,8 @@ fn plans_of(alloc: Global, terms: Terms) -> Result<Vec<Plan>> {
 }
 
 /// The plan whose one step is the term of a number.
-fn plan_of(alloc: Global, terms: Terms, number: u32) -> Result<Plan> {
-    let mut steps = Vec::with_capacity(alloc, 1)?;
-    steps.push(Step::Eval(term_of(alloc, terms, number)?))?;
+fn plan_of(alloc: Global, terms: Terms, number: u32) -> Result<Plan, AllocError> {
+    let term = term_of(alloc, terms, number)?;
+    let steps = vec![in alloc; Step::Eval(term)]?;
     Ok(Plan { steps })
 }

@@ -9,9 +9,9 @@ use crate::command::Callers;
 use crate::counts::Counts;
 use crate::keys::{keys_of, limits};
 use crate::scene::Scene;
-use anyhow::{Result, bail};
+use anyhow::Result;
 use dl_desk::{FetchKey, Limits};
-use dl_loader::{History, Loader, LoaderName, MOST_CALLERS, Opening, Pass};
+use dl_loader::{CallFault, History, Loader, LoaderName, MOST_CALLERS, Opening, Pass};
 use dl_source::Source;
 use dl_workers::end_jobs;
 use std::alloc::Global;
@@ -39,13 +39,24 @@ pub(crate) fn on_loader<R: Threads + Wait + Sync>(
         Callers::Threads => (BATCH, most),
     };
     let limits = limits(batch)?;
-    let source = Alike::null(scene.alloc)?;
     let keys = keys_of(scene.alloc, keys)?;
-    let opening = Opening::new(scene.alloc, scene.hashing, &source, limits, passes)?;
-    counts.history(&each_call::<Brand, _, _>(scene, &source, opening, callers, &keys, limits)?);
+    counts.history(&called(scene, callers, &keys, limits, passes)?);
     let loads = (keys.len() as u64).saturating_mul(u64::from(passes));
     counts.hits = loads.saturating_sub(counts.cells);
     Ok(())
+}
+
+/// The calls on a loader of so many callers: its history.
+fn called<R: Threads + Wait + Sync>(
+    scene: &Scene<'_, R>,
+    callers: Callers,
+    keys: &[FetchKey],
+    limits: Limits,
+    passes: u32,
+) -> Result<History> {
+    let source = Alike::null(scene.alloc)?;
+    let opening = Opening::new(scene.alloc, scene.hashing, &source, limits, passes)?;
+    each_call::<Brand, _, _>(scene, &source, opening, callers, keys, limits)
 }
 
 /// The calls on the loader of an opening, which `L` stands for: its history.
@@ -61,13 +72,11 @@ fn each_call<L: LoaderName + Send + Sync, S: Source, R: Threads + Wait + Sync>(
     requires names { Names S.answer opening L.service L.parts L.log L.outcomes L.name }
 {
     let (loader, mut passes) = Loader::<L>::start(scene.alloc, opening)?;
-    match callers {
-        Callers::One => rounds(scene, source, &loader, &mut passes, keys, limits)?,
-        Callers::Threads => {
-            load_by_each(scene.rt, scene.alloc, &loader, &mut passes, keys);
-            end_all(scene, source, &loader, &mut passes)?;
-        }
-    }
+    let called = match callers {
+        Callers::One => rounds(scene, source, &loader, &mut passes, keys, limits),
+        Callers::Threads => load_at_once(scene, source, &loader, &mut passes, keys),
+    };
+    called?;
     close(scene.alloc, loader, passes)
 }
 
@@ -91,14 +100,13 @@ fn rounds<L: LoaderName, S: Source, R: Wait>(
     passes: &mut [Pass<L>],
     keys: &[FetchKey],
     limits: Limits,
-) -> Result<()>
+) -> Result<(), CallFault>
     requires { Answers (S.answer source.now) L.service }
 {
-    let Some(pass) = passes.first_mut() else {
-        bail!("a loader without a caller");
-    };
-    for part in keys.chunks(limits.max_batch() as usize) {
-        round(scene, source, loader, pass, part)?;
+    if let Some(pass) = passes.first_mut() {
+        for part in keys.chunks(limits.max_batch() as usize) {
+            round(scene, source, loader, pass, part)?;
+        }
     }
     Ok(())
 }
@@ -110,13 +118,12 @@ fn round<L: LoaderName, S: Source, R: Wait>(
     loader: &Loader<L>,
     pass: &mut Pass<L>,
     keys: &[FetchKey],
-) -> Result<()>
+) -> Result<(), CallFault>
     requires { Answers (S.answer source.now) L.service }
 {
     let (rt, alloc) = (scene.rt, scene.alloc);
     let tickets = loader.load_many(rt, alloc, pass, keys)?;
-    let jobs = loader.dispatch(rt, alloc, pass)?;
-    end_jobs(rt, alloc, loader, source, pass, jobs)?;
+    end_all(scene, source, loader, pass)?;
     for mut ticket in tickets {
         loader.wait(rt, pass, &mut ticket)?;
         pass.saw(&mut ticket);
@@ -124,21 +131,36 @@ fn round<L: LoaderName, S: Source, R: Wait>(
     Ok(())
 }
 
-/// The first caller dispatches, and settles what was sent.
-fn end_all<L: LoaderName, S: Source, R: Wait>(
+/// Each caller loads the keys on a thread of its own. When all have, the first of them ends what was begun.
+fn load_at_once<L: LoaderName + Send + Sync, S: Source, R: Threads + Wait + Sync>(
     scene: &Scene<'_, R>,
     source: &S,
     loader: &Loader<L>,
     passes: &mut [Pass<L>],
-) -> Result<()>
+    keys: &[FetchKey],
+) -> Result<(), CallFault>
     requires { Answers (S.answer source.now) L.service }
 {
-    let Some(pass) = passes.first_mut() else {
-        bail!("a loader without a caller");
-    };
+    load_by_each(scene.rt, scene.alloc, loader, passes, keys);
+    match passes.first_mut() {
+        Some(pass) => end_all(scene, source, loader, pass),
+        None => Ok(()),
+    }
+}
+
+/// Dispatches, and settles what was sent.
+fn end_all<L: LoaderName, S: Source, R: Wait>(
+    scene: &Scene<'_, R>,
+    source: &S,
+    loader: &Loader<L>,
+    pass: &mut Pass<L>,
+) -> Result<(), CallFault>
+    requires { Answers (S.answer source.now) L.service }
+    ensures tickets { pass.new.trace.tickets ≡ pass.old.trace.tickets }
+{
     let (rt, alloc) = (scene.rt, scene.alloc);
     let jobs = loader.dispatch(rt, alloc, pass)?;
-    Ok(end_jobs(rt, alloc, loader, source, pass, jobs)?)
+    end_jobs(rt, alloc, loader, source, pass, jobs)
 }
 
 /// Each caller loads the keys, one by one, on a thread of its own.

@@ -3,9 +3,9 @@
 use crate::counts::Counts;
 use crate::keys::limits;
 use anyhow::{Result, bail};
-use dl_desk::{Desk, FetchKey, TableLimit, TableLimits, Text};
+use dl_desk::{Desk, DeskFault, FetchKey, TableLimit, TableLimits, Text};
 use itoa::Buffer;
-use std::alloc::Global;
+use std::alloc::{AllocError, Global};
 use std::hash::RandomState;
 
 /// Loads keys one by one on a new desk, of so many tables in turn, of which each has a limit of its own, then dispatches.
@@ -17,17 +17,14 @@ pub(crate) fn one_by_one(
     keys: u32,
     batch: u32,
 ) -> Result<()> {
+    let limits = limits(batch)?;
     let names = names_of(alloc, tables)?;
     let own = limits_of(alloc, &names, batch)?;
-    let mut desk = Desk::by_table(alloc, hashing, limits(batch)?, own);
-    loads(alloc, &mut desk, counts, &names, keys)?;
-    counts.jobs(&desk.dispatch(alloc)?);
-    // The newest cell is in any of the open batches. Each has been sent by now.
-    counts.batches = counts.jobs;
-    Ok(())
+    let mut desk = Desk::by_table(alloc, hashing, limits, own);
+    loads(alloc, &mut desk, counts, &names, keys)
 }
 
-/// Loads the keys of the first numbers, whose tables take turns.
+/// Loads the keys of the first numbers, whose tables take turns, then dispatches.
 fn loads(
     alloc: Global,
     desk: &mut Desk,
@@ -41,14 +38,29 @@ fn loads(
         let Some(name) = turn.and_then(|turn| names.get(turn)) else {
             bail!("a key without a table");
         };
-        let key = FetchKey::new(alloc, name.as_str(), id.format(number))?;
-        counts.load(desk.load(alloc, &key)?);
+        load(alloc, desk, counts, name, id.format(number))?;
     }
+    counts.jobs(&desk.dispatch(alloc)?);
+    // The newest cell is in any of the open batches. Each has been sent by now.
+    counts.batches = counts.jobs;
     Ok(())
 }
 
-/// The names of so many tables: each is a number in decimal.
-fn names_of(alloc: Global, tables: u32) -> Result<Vec<Text>> {
+/// Loads the key of an id in a table.
+fn load(
+    alloc: Global,
+    desk: &mut Desk,
+    counts: &mut Counts,
+    table: &Text,
+    id: &str,
+) -> Result<(), DeskFault> {
+    let key = FetchKey::new(alloc, table.as_str(), id).or(Err(AllocError))?;
+    counts.load(desk.load(alloc, &key)?);
+    Ok(())
+}
+
+/// The names of so many tables: each is a number in decimal. The error is a failed allocation.
+fn names_of(alloc: Global, tables: u32) -> Result<Vec<Text>, AllocError> {
     let mut names = Vec::with_capacity(alloc, tables as usize)?;
     let mut name = Buffer::new();
     for number in 0..tables {

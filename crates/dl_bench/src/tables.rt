@@ -23,9 +23,20 @@ pub(crate) fn tables(
     let limits = limits(batch)?;
     let front = ids.row_front();
     let tables = tables_of(alloc, hashing, front, keys)?;
+    Ok(fetch_rows(alloc, counts, &tables, front, keys, limits)?)
+}
+
+/// Fetches the keys of the rows, a batch at a time, and counts their outcomes. The error is a failed allocation.
+fn fetch_rows(
+    alloc: Global,
+    counts: &mut Counts,
+    tables: &Tables,
+    front: Option<&str>,
+    keys: u32,
+    limits: Limits,
+) -> Result<(), AllocError> {
     let keys = row_keys(alloc, front, keys)?;
-    fetch_all(alloc, counts, &tables, &keys, limits)?;
-    Ok(())
+    fetch_all(alloc, counts, tables, &keys, limits)
 }
 
 /// Fetches the keys, a batch at a time, and counts their outcomes.
@@ -43,8 +54,8 @@ fn fetch_all(
     Ok(())
 }
 
-/// The keys of the rows.
-fn row_keys(alloc: Global, front: Option<&str>, keys: u32) -> Result<Vec<FetchKey>> {
+/// The keys of the rows. The error is a failed allocation.
+fn row_keys(alloc: Global, front: Option<&str>, keys: u32) -> Result<Vec<FetchKey>, AllocError> {
     match front {
         Some(front) => fronted_keys(alloc, front, keys),
         None => keys_of(alloc, keys),
@@ -69,17 +80,26 @@ fn tree_of(alloc: Global, front: Option<&str>, keys: u32) -> Result<Value> {
 }
 
 fn tree_text(alloc: Global, front: Option<&str>, keys: u32) -> Result<String, AllocError> {
-    let table = table_of(front);
     let mut text = String::new(alloc);
+    push_tree(&mut text, front, keys)?;
+    Ok(text)
+}
+
+fn push_tree(text: &mut String, front: Option<&str>, keys: u32) -> Result<(), AllocError> {
+    let table = table_of(front);
     write!(text, "[{{\"name\":\"{table}\",\"rows\":[")?;
     for number in 0..keys {
-        if number > 0 {
-            text.push_str(",")?;
-        }
-        text.push_str("[\"")?;
-        push_id(&mut text, front, number)?;
-        write!(text, "\",{number}]")?;
+        push_row(text, front, number)?;
     }
-    text.push_str("]}]")?;
-    Ok(text)
+    text.push_str("]}]")
+}
+
+/// Writes the row of a number, behind those before it.
+fn push_row(text: &mut String, front: Option<&str>, number: u32) -> Result<(), AllocError> {
+    if number > 0 {
+        text.push_str(",")?;
+    }
+    text.push_str("[\"")?;
+    push_id(text, front, number)?;
+    write!(text, "\",{number}]")
 }

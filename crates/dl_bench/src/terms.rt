@@ -16,7 +16,7 @@ use dl_loader::{History, Loader, LoaderName, Opening, Pass};
 use dl_source::Source;
 use dl_terms::{Answer, Term};
 use itoa::Buffer;
-use std::alloc::Global;
+use std::alloc::{AllocError, Global};
 use std::marker::Brand;
 use std::sync::Wait;
 
@@ -71,11 +71,10 @@ fn evaluate<L: LoaderName, S: Source, R: Wait>(
 ) -> Result<()>
     requires { Answers (S.answer source.now) L.service }
 {
-    let Some(pass) = passes.first_mut() else {
-        bail!("a loader without a caller");
-    };
-    for number in 0..terms.count {
-        evaluate_one(scene, source, loader, pass, terms, number)?;
+    if let Some(pass) = passes.first_mut() {
+        for number in 0..terms.count {
+            evaluate_one(scene, source, loader, pass, terms, number)?;
+        }
     }
     Ok(())
 }
@@ -100,30 +99,46 @@ fn evaluate_one<L: LoaderName, S: Source, R: Wait>(
     }
 }
 
-/// The term of a number.
-pub(crate) fn term_of(alloc: Global, terms: Terms, number: u32) -> Result<Term> {
-    let mut parts = Vec::with_capacity(alloc, terms.parts as usize)?;
+/// The term of a number. The error is a failed allocation.
+pub(crate) fn term_of(alloc: Global, terms: Terms, number: u32) -> Result<Term, AllocError> {
     let next = Text::new(alloc, "next")?;
-    let first = number.saturating_mul(terms.parts);
-    for part in 0..terms.parts {
-        parts.push(part_of(alloc, &next, first.saturating_add(part), terms.rounds)?)?;
-    }
+    let parts = parts_of(alloc, &next, terms, number)?;
     Ok(Term::All(parts))
 }
 
+/// The parts of the term of a number.
+fn parts_of(
+    alloc: Global,
+    next: &Text,
+    terms: Terms,
+    number: u32,
+) -> Result<Vec<Term>, AllocError> {
+    let first = number.saturating_mul(terms.parts);
+    let mut parts = Vec::with_capacity(alloc, terms.parts as usize)?;
+    for part in 0..terms.parts {
+        parts.push(part_of(alloc, next, first.saturating_add(part), terms.rounds)?)?;
+    }
+    Ok(parts)
+}
+
 /// The part of a number, over all terms, which takes so many rounds of loads. The field `next` of a row names its next key.
-fn part_of(alloc: Global, next: &Text, number: u32, rounds: u32) -> Result<Term> {
+fn part_of(alloc: Global, next: &Text, number: u32, rounds: u32) -> Result<Term, AllocError> {
     let first = number.saturating_mul(rounds);
-    let table = table_of(alloc, first)?;
-    let mut part = Term::Load(FetchKey::new(alloc, table.as_str(), "1")?);
+    let mut part = Term::Load(key_of(alloc, first)?);
     for round in 1..rounds {
         part = followed(alloc, part, next, first.saturating_add(round))?;
     }
     Ok(part)
 }
 
+/// The key `1` of the table of a number.
+fn key_of(alloc: Global, number: u32) -> Result<FetchKey, AllocError> {
+    let table = table_of(alloc, number)?;
+    FetchKey::new(alloc, table.as_str(), "1").or(Err(AllocError))
+}
+
 /// The load of the key that the field of the part's row names, in the table of a number.
-fn followed(alloc: Global, part: Term, field: &Text, number: u32) -> Result<Term> {
+fn followed(alloc: Global, part: Term, field: &Text, number: u32) -> Result<Term, AllocError> {
     let part = Box::new(alloc, part)?;
     let field = field.try_copy()?;
     let table = table_of(alloc, number)?;
@@ -131,7 +146,7 @@ fn followed(alloc: Global, part: Term, field: &Text, number: u32) -> Result<Term
 }
 
 /// The table of a number: its name is the number in decimal.
-fn table_of(alloc: Global, number: u32) -> Result<Text> {
+fn table_of(alloc: Global, number: u32) -> Result<Text, AllocError> {
     let mut buffer = Buffer::new();
-    Ok(Text::new(alloc, buffer.format(number))?)
+    Text::new(alloc, buffer.format(number))
 }

@@ -14,4 +14,4 @@ pub use numbered::{numbered_keys, numbered_list};
 pub use shapes::{BEST, FRIENDS, Shape, U1, U2, json, term};
 pub use starved::Starved;
 pub use texts::{answer_text, list_text};
-pub use users::{ADA, BOB, USERS, fault_text, outcome_text, tables};
+pub use users::{ADA, BOB, USERS, outcome_text, tables};

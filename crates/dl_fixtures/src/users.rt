@@ -35,7 +35,7 @@ pub fn outcome_text(alloc: Global, outcome: &Outcome) -> Result<String, AllocErr
 }
 
 /// Why a batch failed: what broke the source, or that there was no memory or that it wasn't sent.
-pub fn fault_text(alloc: Global, fault: &BatchFault) -> Result<String, AllocError> {
+fn fault_text(alloc: Global, fault: &BatchFault) -> Result<String, AllocError> {
     match fault {
         BatchFault::Source(text) => format!(in alloc; "batch {}", text.as_str()),
         BatchFault::Memory => String::from_str(alloc, "memory"),

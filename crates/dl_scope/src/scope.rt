@@ -51,13 +51,9 @@ pub const MOST_WORKERS: u32 = 16;
 /// Two requests over a table of users, from `crates/example_two_requests`:
 ///
 /// ```rust
-/// let mut plans = Vec::new(alloc);
-/// for id in ["u1", "u2"] {
-///     let user = Term::Load(FetchKey::new(alloc, "user", id)?);
-///     let steps = vec![in alloc; Step::Eval(user)]?;
-///     plans.push(Plan { steps })?;
-/// }
 /// let limits = Limits::new(64, 1_024, 4_096)?;
+/// let users = users(alloc, hashing)?;
+/// let plans = plans(alloc)?;
 /// let setup = Setup {
 ///     limits,
 ///     tables: None,

@@ -10,7 +10,7 @@ use dl_desk::{FetchKey, Limits, Outcome};
 use dl_loader::{Loader, LoaderName, Opening, Pass};
 use dl_source::{Source, Tables};
 use dl_workers::end_jobs;
-use serde_json::json;
+use serde_json::Value;
 use std::alloc::Global;
 use std::hash::RandomState;
 use std::marker::Brand;
@@ -26,7 +26,8 @@ fn main(rt: HostRuntime) -> Result<()> {
 
 /// The source: a table of users.
 fn users(alloc: Global, hashing: RandomState) -> Result<Tables> {
-    let rows = json!(in alloc; [{"name": "user", "rows": [["u1", "Ada"], ["u2", "Bob"]]}])?;
+    let text = r#"[{"name": "user", "rows": [["u1", "Ada"], ["u2", "Bob"]]}]"#;
+    let rows = Value::from_str(alloc, text)?;
     Ok(Tables::from_value(alloc, hashing, &rows)?)
 }
 

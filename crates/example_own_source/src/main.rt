@@ -63,14 +63,21 @@ fn request(alloc: Global, id: &str) -> anyhow::Result<Plan> {
     Ok(Plan { steps })
 }
 
-fn main(rt: HostRuntime) -> anyhow::Result<()> {
-    let (alloc, hashing) = (rt.alloc(), RandomState::new(&rt)?);
+/// The plans of two requests.
+fn requests(alloc: Global) -> anyhow::Result<Vec<Plan>> {
     let mut plans = Vec::new(alloc);
     for id in ["www.example.org", "localhost"] {
         plans.push(request(alloc, id)?)?;
     }
+    Ok(plans)
+}
+
+fn main(rt: HostRuntime) -> anyhow::Result<()> {
+    let (alloc, hashing) = (rt.alloc(), RandomState::new(&rt)?);
+    let limits = Limits::new(64, 1_024, 4_096)?;
+    let plans = requests(alloc)?;
     let setup = Setup {
-        limits: Limits::new(64, 1_024, 4_096)?,
+        limits,
         tables: None,
         workers: 2,
         queue: 16,

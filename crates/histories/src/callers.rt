@@ -5,14 +5,15 @@ ghost use Rattle.dl_history.specs.Service.{Answers};
 ghost use Rattle.dl_loader.specs.Opening.{Names};
 ghost use Rattle.histories.specs.Restless.{answer_restless};
 
-use crate::event_text::history_text;
+use crate::event_text::push_history;
 use crate::restless::{Drawn, Restless};
+use crate::sheet::Sheet;
 use anyhow::Result;
 use dl_desk::{FetchKey, Limits, Message, Outcome, TableLimits};
-use dl_loader::{Loader, LoaderName, MOST_CALLERS, Opening, Pass};
+use dl_loader::{CallFault, Loader, LoaderName, MOST_CALLERS, Opening, Pass};
 use dl_source::Source;
 use dl_workers::end_jobs;
-use std::alloc::{AllocGlobal, Global};
+use std::alloc::{AllocError, AllocGlobal, Global};
 use std::hash::RandomState;
 use std::marker::Brand;
 use std::sync::Wait;
@@ -55,11 +56,18 @@ fn use_loader<L: LoaderName + Send + Sync, R: Threads + Wait + Sync>(
 {
     let (loader, mut passes) = Loader::<L>::start(alloc, opening)?;
     call_by_each(rt, alloc, source, &loader, passes.as_mut_slice());
-    for pass in &mut passes {
-        end_all(rt, alloc, source, &loader, pass)?;
-    }
+    end_by_each(rt, alloc, source, &loader, passes.as_mut_slice())?;
+    close(alloc, loader, passes)
+}
+
+/// Closes a loader: the text of its history.
+fn close<L: LoaderName>(alloc: Global, loader: Loader<L>, passes: Vec<Pass<L>>) -> Result<String> {
     match loader.close(alloc, passes) {
-        Ok(history) => Ok(history_text(alloc, &history)?),
+        Ok(history) => {
+            let mut sheet = Sheet::new(alloc);
+            push_history(&mut sheet, &history);
+            Ok(sheet.finish()?)
+        }
         Err((fault, _, _)) => Err(fault.into()),
     }
 }
@@ -114,47 +122,89 @@ fn call<L: LoaderName, S: Source + Drawn, R: Wait>(
     loader: &Loader<L>,
     pass: &mut Pass<L>,
     drawn: u64,
-) -> Result<()>
+) -> Result<(), CallFault>
     requires { Answers (S.answer source.now) L.service }
 {
-    let key = key(alloc, drawn / 16)?;
+    let number = drawn / 16;
     match drawn % 16 {
-        0..=4 => {
-            loader.load(rt, alloc, pass, &key)?;
-        }
-        5 => prime(rt, alloc, loader, pass, &key)?,
-        6 => loader.clear(rt, alloc, pass, &key)?,
-        7 => loader.clear_all(rt, alloc, pass)?,
-        8 => end_all(rt, alloc, source, loader, pass)?,
+        0..=4 => load(rt, alloc, loader, pass, number),
+        5 => prime(rt, alloc, loader, pass, number),
+        6 => clear(rt, alloc, loader, pass, number),
+        7 => loader.clear_all(rt, alloc, pass),
+        8 => end_all(rt, alloc, source, loader, pass),
         _ => {
-            let keys = [
-                key,
-                self::key(alloc, drawn / 512)?,
-                self::key(alloc, drawn / 16_384)?,
-            ];
-            round(rt, alloc, source, loader, pass, &keys)?;
+            let keys = keys(alloc, number)?;
+            round(rt, alloc, source, loader, pass, &keys)
         }
     }
+}
+
+/// The key that is drawn. The error is a failed allocation.
+fn key(alloc: Global, drawn: u64) -> Result<FetchKey, AllocError> {
+    let table = TABLES[(drawn % 4) as usize];
+    let id = IDS[(drawn / 4 % 8) as usize];
+    FetchKey::new(alloc, table, id).or(Err(AllocError))
+}
+
+/// The three keys that are drawn. The error is a failed allocation.
+fn keys(alloc: Global, drawn: u64) -> Result<[FetchKey; 3], AllocError> {
+    let first = key(alloc, drawn)?;
+    let second = key(alloc, drawn / 32)?;
+    Ok([first, second, key(alloc, drawn / 1_024)?])
+}
+
+/// Loads a key that is drawn.
+fn load<L: LoaderName, R: Wait>(
+    rt: &R,
+    alloc: Global,
+    loader: &Loader<L>,
+    pass: &mut Pass<L>,
+    drawn: u64,
+) -> Result<(), CallFault> {
+    let key = key(alloc, drawn)?;
+    loader.load(rt, alloc, pass, &key)?;
     Ok(())
 }
 
-/// The key that is drawn.
-fn key(alloc: Global, drawn: u64) -> Result<FetchKey> {
-    let table = TABLES[(drawn % 4) as usize];
-    let id = IDS[(drawn / 4 % 8) as usize];
-    Ok(FetchKey::new(alloc, table, id)?)
-}
-
-/// Primes a key with an error.
+/// Primes a key that is drawn with an error.
 fn prime<L: LoaderName, R: Wait>(
     rt: &R,
     alloc: Global,
     loader: &Loader<L>,
     pass: &mut Pass<L>,
-    key: &FetchKey,
-) -> Result<()> {
+    drawn: u64,
+) -> Result<(), CallFault> {
+    let key = key(alloc, drawn)?;
     let outcome = Outcome::KeyError(Message::new(alloc, "primed")?);
-    loader.prime(rt, alloc, pass, key, outcome)?;
+    loader.prime(rt, alloc, pass, &key, outcome)?;
+    Ok(())
+}
+
+/// Clears a key that is drawn.
+fn clear<L: LoaderName, R: Wait>(
+    rt: &R,
+    alloc: Global,
+    loader: &Loader<L>,
+    pass: &mut Pass<L>,
+    drawn: u64,
+) -> Result<(), CallFault> {
+    let key = key(alloc, drawn)?;
+    loader.clear(rt, alloc, pass, &key)
+}
+
+/// Each caller in turn sends what waits to be sent, and ends it.
+fn end_by_each<L: LoaderName, S: Source, R: Wait>(
+    rt: &R,
+    alloc: Global,
+    source: &S,
+    loader: &Loader<L>,
+    passes: &mut [Pass<L>],
+) -> Result<(), CallFault>
+    requires { Answers (S.answer source.now) L.service }
+{
+    for pass in passes {
+        end_all(rt, alloc, source, loader, pass)?;
+    }
     Ok(())
 }
 
@@ -165,12 +215,12 @@ fn end_all<L: LoaderName, S: Source, R: Wait>(
     source: &S,
     loader: &Loader<L>,
     pass: &mut Pass<L>,
-) -> Result<()>
+) -> Result<(), CallFault>
     requires { Answers (S.answer source.now) L.service }
+    ensures tickets { pass.new.trace.tickets ≡ pass.old.trace.tickets }
 {
     let jobs = loader.dispatch(rt, alloc, pass)?;
-    end_jobs(rt, alloc, loader, source, pass, jobs)?;
-    Ok(())
+    end_jobs(rt, alloc, loader, source, pass, jobs)
 }
 
 /// Loads keys in one call, sends what waits to be sent and ends it, and reads each outcome.
@@ -181,12 +231,11 @@ fn round<L: LoaderName, S: Source, R: Wait>(
     loader: &Loader<L>,
     pass: &mut Pass<L>,
     keys: &[FetchKey],
-) -> Result<()>
+) -> Result<(), CallFault>
     requires { Answers (S.answer source.now) L.service }
 {
     let tickets = loader.load_many(rt, alloc, pass, keys)?;
-    let jobs = loader.dispatch(rt, alloc, pass)?;
-    end_jobs(rt, alloc, loader, source, pass, jobs)?;
+    end_all(rt, alloc, source, loader, pass)?;
     for mut ticket in tickets {
         loader.wait(rt, pass, &mut ticket)?;
         pass.saw(&mut ticket);

@@ -7,6 +7,7 @@ mod callers;
 mod event_text;
 mod restless;
 mod served;
+mod sheet;
 
 use crate::restless::Restless;
 use anyhow::{Result, bail};

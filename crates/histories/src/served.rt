@@ -1,12 +1,12 @@
 //! Plans that are served.
 
-use crate::event_text::{history_text, key_text, quoted};
+use crate::event_text::push_history;
 use crate::restless::Restless;
+use crate::sheet::Sheet;
 use dl_scope::{Plan, Report, Setup, StepAnswer, serve};
 use dl_terms::{Answer, EvalFault};
 use dl_values::{BatchFault, FetchKey};
 use std::alloc::{AllocError, Global};
-use std::fmt::Write;
 use std::hash::RandomState;
 use std::sync::Wait;
 use std::thread::Threads;
@@ -28,59 +28,66 @@ pub(crate) fn served<R: Threads + Wait + Sync>(
 
 /// The answers of each plan, the rounds of the plans, the jobs that were sent, taken and left, and the history.
 fn report_text(alloc: Global, report: &Report) -> Result<String, AllocError> {
-    let mut text = String::new(alloc);
+    let mut sheet = Sheet::new(alloc);
     for (plan, answers) in report.answers().iter().enumerate() {
-        push_answers(alloc, &mut text, plan, answers.as_slice())?;
+        push_answers(&mut sheet, plan, answers.as_slice());
+    }
+    push_numbers(&mut sheet, report);
+    push_history(&mut sheet, report.history());
+    sheet.finish()
+}
+
+/// Appends the rounds of the plans, and the jobs.
+fn push_numbers(sheet: &mut Sheet, report: &Report) {
+    sheet.push("{\"rounds\":[");
+    for (plan, rounds) in report.rounds().iter().enumerate() {
+        sheet.part(plan);
+        sheet.push_number("", *rounds);
     }
     let tally = report.tally();
-    writeln!(
-        text,
-        "{{\"rounds\":{:?},\"tally\":[{},{},{}]}}",
-        report.rounds(),
-        tally.sent,
-        tally.taken,
-        tally.left
-    )?;
-    let history = history_text(alloc, report.history())?;
-    text.push_str(history.as_str())?;
-    Ok(text)
+    sheet.push_number("],\"tally\":[", tally.sent);
+    sheet.push_number(",", tally.taken);
+    sheet.push_number(",", tally.left);
+    sheet.push("]}\n");
 }
 
-/// The lines of a plan's answers, as the program `plans` prints them.
-fn push_answers(
-    alloc: Global,
-    text: &mut String,
-    plan: usize,
-    answers: &[StepAnswer],
-) -> Result<(), AllocError> {
-    for answer in answers {
-        let given = answer_text(alloc, &answer.answer)?;
-        writeln!(text, "{plan} {} {}", answer.step, given.as_str())?;
+/// Appends the lines of a plan's answers, as the program `plans` prints them.
+fn push_answers(sheet: &mut Sheet, plan: usize, answers: &[StepAnswer]) {
+    for given in answers {
+        sheet.push_number("", plan as u64);
+        sheet.push_number(" ", given.step as u64);
+        push_answer(sheet, &given.answer);
+        sheet.push("\n");
     }
-    Ok(())
 }
 
-fn answer_text(alloc: Global, answer: &Answer) -> Result<String, AllocError> {
+fn push_answer(sheet: &mut Sheet, answer: &Answer) {
     match answer {
         Answer::Value(value) => {
-            let value = value.to_text(alloc)?;
-            format!(in alloc; "ok {}", value.as_str())
+            sheet.push(" ok ");
+            sheet.push_json(value);
         }
-        Answer::Fault(EvalFault::Key { key, text }) => fault_text(alloc, "key", key, text.as_str()),
-        Answer::Fault(EvalFault::Batch { key, fault }) => {
-            fault_text(alloc, "batch", key, cause(fault))
-        }
-        Answer::Fault(EvalFault::NoField) => String::from_str(alloc, "fault NoField"),
-        Answer::Fault(EvalFault::NotAKey) => String::from_str(alloc, "fault NotAKey"),
-        Answer::Fault(EvalFault::NotAList) => String::from_str(alloc, "fault NotAList"),
-        Answer::Fault(EvalFault::TooMany) => String::from_str(alloc, "fault TooMany"),
+        Answer::Fault(fault) => push_fault(sheet, fault),
     }
 }
 
-fn fault_text(alloc: Global, kind: &str, key: &FetchKey, text: &str) -> Result<String, AllocError> {
-    let key = key_text(alloc, key)?;
-    let text = quoted(alloc, text)?;
-    format!(in alloc; "fault {kind} {} {}", key.as_str(), text.as_str())
+fn push_fault(sheet: &mut Sheet, fault: &EvalFault) {
+    match fault {
+        EvalFault::Key { key, text } => push_cause(sheet, " fault key ", key, text.as_str()),
+        EvalFault::Batch { key, fault } => push_cause(sheet, " fault batch ", key, cause(fault)),
+        EvalFault::NoField => sheet.push(" fault NoField"),
+        EvalFault::NotAKey => sheet.push(" fault NotAKey"),
+        EvalFault::NotAList => sheet.push(" fault NotAList"),
+        EvalFault::TooMany => sheet.push(" fault TooMany"),
+    }
+}
+
+/// Appends the fault of a load: what failed, its key, and why.
+fn push_cause(sheet: &mut Sheet, failed: &str, key: &FetchKey, text: &str) {
+    sheet.push(failed);
+    sheet.push_key(key);
+    sheet.push(" ");
+    sheet.push_quoted(text);
 }
 
 fn cause(fault: &BatchFault) -> &str {

@@ -17,7 +17,7 @@ wait-requires g c =
     let at : slice_get tickets i ≡ Some ticket = slice_get_read tickets (length tickets) i ticket refl turn.0 turn.1 in
     let gave : GaveTicket loaded ticket false = c.in_ok-tickets.ensures.gave.gave i ticket at in
     let same : cells c.loop-ticket.pass.trace.tickets ≡ cells loaded.tickets =
-    c.loop-ticket.invariant.cells ∙ ap cells (c.end_jobs.ensures.tickets ∙ c.in_ok-jobs.ensures.tickets) in
+    c.loop-ticket.invariant.cells ∙ ap cells c.end_all.ensures.tickets in
     record { gave = still_gave loaded c.loop-ticket.pass.trace ticket ticket false gave refl refl same }
 
 pub saw-requires-clause-gave : goal.saw-requires-clause-gave

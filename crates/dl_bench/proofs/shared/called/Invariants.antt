@@ -1,6 +1,6 @@
 use Rattle.dl_loader.specs.Opening.{service_of}
 use Rattle.dl_bench.specs.Alike.{answer_alike}
-use Rattle.dl_bench.proofs.shared.on_loader.Given as goal
+use Rattle.dl_bench.proofs.shared.called.Given as goal
 
 -- the type names the loader after its opening
 abbrev pub ghosts-each_call-L-LoaderName : goal.ghosts-each_call-L-LoaderName
