@@ -18,8 +18,8 @@ static BATCHES: [(u32, BatchState, &str, u32); 3] = [
 ];
 
 impl<R: Abort + Eprint> Stage<'_, R> {
-    /// The calls of a desk whose batches may mix tables. The second of two batches is settled and then the first fails. So a is loaded anew,
-    /// and b is held still.
+    /// The calls of a desk whose batches may mix tables. The second of two batches is settled and then the first fails. So a is loaded
+    /// anew, and b is held still.
     pub(crate) fn use_mixed_desk(&self) {
         let limits = Limits::new(1, 8, 16).expect(self.rt, "no limits");
         let mut desk = Desk::new(self.alloc, self.hashing, limits);
