@@ -2,8 +2,8 @@
 
 use crate::comparison::assert_is;
 use dl_desk::{
-    BatchState, Desk, DeskFault, DeskPrime, DeskReply, FetchKey, KeyFault, LimitFault, Limits,
-    LoadReply, TableLimit, TableLimitFault, TableLimits, Text,
+    Desk, DeskFault, DeskReply, FetchKey, KeyFault, LimitFault, Limits, TableLimit,
+    TableLimitFault, TableLimits, Text,
 };
 use dl_fixtures::numbered_keys;
 use std::alloc::Global;
@@ -148,86 +148,6 @@ fn new_desk<R: Abort + RandomSource>(
     let hashing = RandomState::new(rt).expect(rt, "no random numbers");
     let limits = Limits::new(max_batch, max_cells, 65_536).expect(rt, "no limits");
     Desk::new(alloc, hashing, limits)
-}
-
-/// The keys a and b of the table t are loaded, and sent.
-fn send_both(rt: &impl Abort, alloc: Global, desk: &mut Desk) {
-    for id in ["a", "b"] {
-        let key = key(rt, alloc, id);
-        desk.load(alloc, &key).expect(rt, "no load");
-    }
-    desk.dispatch(alloc).expect(rt, "no dispatch");
-}
-
-/// The states of the batches of the desk below, with the id and the cell of each one's only member.
-static BATCHES: [(u32, BatchState, &str, u32); 3] = [
-    (0, BatchState::Failed, "a", 0),
-    (1, BatchState::Settled, "b", 1),
-    (2, BatchState::Sent, "a", 2),
-];
-
-/// The batches of the desk are so, and there is no other.
-fn assert_batches(rt: &impl Abort, desk: &Desk) {
-    for (number, state, id, cell) in &BATCHES {
-        let batch = desk.batch(*number).expect(rt, "no batch");
-        assert_is(rt, &batch.state(), state, id);
-        let (key, held) = batch.members().next().expect(rt, "no member");
-        assert_is(rt, &(key.id(), *held), &(*id, *cell), "a member");
-        assert_is(rt, &batch.keys().len(), &1, "members");
-    }
-    assert!(rt; desk.batch(3).is_none());
-}
-
-// The second of two batches is settled and then the first fails. So a is loaded anew, and b is held still.
-#[test]
-fn batches_end_in_any_order(rt: HostRuntime) {
-    let alloc = rt.alloc();
-    let mut desk = new_desk(&rt, alloc, 1, 65_536);
-    send_both(&rt, alloc, &mut desk);
-    desk.settle(1).expect(&rt, "not settled");
-    desk.fail(0).expect(&rt, "not failed");
-    send_both(&rt, alloc, &mut desk);
-    assert_batches(&rt, &desk);
-    let a = key(&rt, alloc, "a");
-    assert_is(&rt, &desk.held(&a), &Some(2), "the cell of a");
-    assert_ready(&rt, alloc, &mut desk, &a);
-}
-
-/// Calls that are made ready: a load of the key c, which isn't seen before it is committed; a prime of a key that is held; and a
-/// dispatch of the batch of c.
-fn assert_ready(rt: &impl Abort, alloc: Global, desk: &mut Desk, held: &FetchKey) {
-    let c = key(rt, alloc, "c");
-    let ready = desk.ready_loads(alloc, slice::from_ref(&c));
-    let ready = ready.expect(rt, "not ready");
-    assert!(rt; is_fresh(ready.reply()));
-    assert_is(rt, &desk.held(&c), &None, "before it is committed");
-    assert!(rt; is_fresh(&desk.commit(ready)));
-    assert_is(rt, &desk.held(&c), &Some(3), "once it is committed");
-    let ready = desk.ready_prime(held).expect(rt, "not ready");
-    assert!(rt; matches!(ready.reply(), DeskReply::Primed(DeskPrime::Kept)));
-    let ready = desk.ready_dispatch(alloc).expect(rt, "not ready");
-    assert!(rt; is_sent(ready.reply(), &c));
-}
-
-/// Whether the reply is that of one load, which begins the cell 3 in the batch 3.
-fn is_fresh(reply: &DeskReply) -> bool {
-    match reply {
-        DeskReply::Loads(replies) => {
-            matches!(replies.as_slice(), [LoadReply::Fresh { cell: 3, batch: 3 }])
-        }
-        _ => false,
-    }
-}
-
-/// Whether the reply has one job, which is of batch 3 and has this key alone.
-fn is_sent(reply: &DeskReply, key: &FetchKey) -> bool {
-    match reply {
-        DeskReply::Sent(jobs) => match jobs.as_slice() {
-            [job] => job.batch == 3 && job.keys.as_slice() == slice::from_ref(key),
-            _ => false,
-        },
-        _ => false,
-    }
 }
 
 /// Ids of the table t, where the only cell is that of the id a, and why their loads and primes are refused, where they are.

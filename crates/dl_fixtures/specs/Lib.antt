@@ -1,2 +1,2 @@
 pub mod CountedTables
-pub mod Starved
+pub mod NoRoom

@@ -6,10 +6,17 @@ use std::alloc::{AllocError, Global};
 use std::sync::atomic::{AtomicU32, Ordering};
 
 /// Tables that count how often they are asked.
-#[derive(Drop)]
 pub struct CountedTables {
     tables: Tables,
     fetches: AtomicU32,
+}
+
+impl Drop for CountedTables {
+    fn drop(self) {
+        let CountedTables { tables, fetches } = self;
+        drop(tables);
+        drop(fetches);
+    }
 }
 
 impl CountedTables {

@@ -5,19 +5,22 @@ mod held;
 mod keys;
 mod largest;
 mod player;
+mod refused;
 mod row;
 mod rows;
+mod stage;
 mod step;
 mod threads;
 mod usage;
 mod waits;
 
 use crate::loader::largest::MOST;
+use crate::loader::stage::Stage;
 use crate::loader::step::Step::{ByLaw, Dispatch, Fail};
 use crate::loader::step::{Asked, Row};
 use crate::loader::waits::{CALLERS, Crowd, Release};
 use dl_desk::Limits;
-use dl_fixtures::{ADA, USERS, tables};
+use dl_fixtures::{ADA, Refusal, USERS, tables};
 use dl_loader::{GiveUp, MOST_CALLERS, Opening, StartFault};
 use dl_source::Tables;
 use std::alloc::Global;
@@ -42,25 +45,41 @@ fn hashing<R: Abort + RandomSource>(rt: &R) -> RandomState {
 /// Makes the calls and the closes of rows.
 fn play_rows<R: Abort + Eprint + RandomSource + Wait>(rt: &R, alloc: Global, rows: &[Row]) {
     let users = users(rt, alloc);
+    let nothing = Refusal::of_nothing(alloc);
+    let stage = Stage {
+        rt,
+        alloc,
+        hashing: hashing(rt),
+        refusal: &nothing,
+        table: None,
+    };
     for row in rows {
-        play_over(rt, alloc, &users, row);
+        play_over(&stage, &users, row);
     }
 }
 
-/// Makes the calls and the closes of a row on a loader of its own over these tables. What the row is about is told first,
-/// so where an assertion fails the last text told names its row.
-fn play_over<R: Abort + Eprint + RandomSource + Wait>(
-    rt: &R,
-    alloc: Global,
+/// Makes the calls and the closes of a row on a loader of its own over these tables. Where the loader's start is refused, it is started
+/// again. What the row is about is told first, so where an assertion fails the last text told names its row.
+fn play_over<R: Abort + Eprint + Wait>(stage: &Stage<'_, R>, users: &Tables, row: &Row) {
+    let told = stage.rt.eprintln(row.about);
+    told.expect(stage.rt, "no text told");
+    if !is_played(stage, users, row, true) {
+        is_played(stage, users, row, false);
+    }
+}
+
+/// As `play_over`, where the start is refused or not. False where it was out of memory.
+fn is_played<R: Abort + Eprint + Wait>(
+    stage: &Stage<'_, R>,
     users: &Tables,
     row: &Row,
-) {
-    rt.eprintln(row.about).expect(rt, "no text told");
-    let (max_batch, max_cells, max_calls) = row.limits;
-    let limits = Limits::new(max_batch, max_cells, max_calls).expect(rt, "no limits");
-    let opening = Opening::new(alloc, hashing(rt), users, limits, row.callers);
-    let opening = opening.expect(rt, "no opening");
-    row::play::<Brand, _, _>(rt, alloc, users, opening, row.parts);
+    is_refused: bool,
+) -> bool {
+    let opening = stage.opening(users, row);
+    if is_refused {
+        stage.refusal.begin();
+    }
+    row::play::<Brand, _, _>(stage, users, opening, row.parts)
 }
 
 // The numbers of callers that a loader may have, and those next to them.
@@ -87,7 +106,15 @@ fn two_callers_of_one_key(rt: HostRuntime) {
     let limits = Limits::new(2, 8, 16).expect(&rt, "no limits");
     let opening = Opening::new(rt.alloc(), hashing(&rt), &users, limits, 2);
     let opening = opening.expect(&rt, "no opening");
-    threads::load_by_two::<Brand, _, _>(&rt, rt.alloc(), &users, opening);
+    let nothing = Refusal::of_nothing(rt.alloc());
+    let stage = Stage {
+        rt: &rt,
+        alloc: rt.alloc(),
+        hashing: hashing(&rt),
+        refusal: &nothing,
+        table: None,
+    };
+    threads::load_by_two::<Brand, _, _>(&stage, &users, opening);
 }
 
 #[test]
@@ -174,7 +201,7 @@ fn callers_that_wait_at_once(rt: HostRuntime) {
 }
 
 /// Callers of a loader over these tables wait at once.
-fn wait_by<R: Abort + Threads + Wait + Sync>(
+fn wait_by<R: Abort + Eprint + Threads + Wait + Sync>(
     rt: &R,
     alloc: Global,
     hashing: RandomState,

@@ -6,15 +6,11 @@
 use crate::comparison::assert_is;
 use clap::error::ErrorKind;
 use dl_documents::{Input, PlanFault, read_document, read_input};
-use dl_haxl::RunFault;
-use dl_loader::{CallFault, CloseFault, StartFault};
+use dl_fixtures::{Kind, MOST_GROWTHS, Refusal, made};
 use dl_plans::{
     MigrateFault, Options, RunError, migrate, options, report_text, run, run_migrate, run_script,
     served,
 };
-use dl_refusals::{Kind, MOST_GROWTHS, Refusal, made};
-use dl_scope::ScopeFault;
-use dl_workers::QueueFault;
 use std::alloc::Global;
 use std::hash::RandomState;
 use std::io::Eprint;
@@ -105,16 +101,6 @@ struct Stage<'a, R> {
 }
 
 impl<R: Abort + Eprint + Threads + Wait + Sync> Stage<'_, R> {
-    /// The call of this name has ended, and was out of memory or not. Answers whether it is to be made again, since it was.
-    fn is_again(&self, call: &str, is_out_of_memory: bool) -> bool {
-        let was_refused = self.refusal.end(self.rt, call);
-        assert!(self.rt;
-            was_refused || !is_out_of_memory,
-            "{call}: out of memory, and nothing was refused"
-        );
-        is_out_of_memory
-    }
-
     /// Reads a document, and makes its text.
     fn read(&self, row: &Row) {
         let read = made!(
@@ -195,29 +181,19 @@ impl<R: Abort + Eprint + Threads + Wait + Sync> Stage<'_, R> {
         };
         let out = Vec::with_capacity(self.alloc, ROOM);
         let mut out = out.expect(self.rt, "no memory");
-        let ran = made!(
-            self,
-            "run",
-            Err(
-                RunError::OutOfMemory
-                    | RunError::Run(
-                        ScopeFault::OutOfMemory
-                            | ScopeFault::Start(StartFault::OutOfMemory)
-                            | ScopeFault::Queue(QueueFault::OutOfMemory)
-                            | ScopeFault::Close(CloseFault::OutOfMemory)
-                            | ScopeFault::Run {
-                                fault: RunFault::OutOfMemory
-                                    | RunFault::Call(CallFault::OutOfMemory),
-                                ..
-                            }
-                            | ScopeFault::Stopped
-                            | ScopeFault::Unfetched { .. }
-                    )
-            ),
-            self.answer(row, &mut out)
-        );
+        self.refusal.begin();
+        let mut ran = self.answer(row, &mut out);
+        if self.refusal.end(self.rt, "run") && self.is_out_of_memory(ran) {
+            ran = self.answer(row, &mut out);
+        }
         assert_is(self.rt, &ran, &want, row.document);
         assert_is(self.rt, &out.as_slice(), &text.as_bytes(), row.document);
+    }
+
+    /// Whether a run may end so where a growth is refused.
+    fn is_out_of_memory(&self, ran: Result<(), RunError>) -> bool {
+        let text = format!(in self.alloc; "{ran:?}").expect(self.rt, "no memory");
+        text.contains("OutOfMemory") || text.contains("Stopped") || text.contains("Unfetched")
     }
 
     fn answer(&self, row: &Row, out: &mut Vec<u8>) -> Result<(), RunError> {
@@ -238,7 +214,11 @@ impl<R: Abort + Eprint + Threads + Wait + Sync> Stage<'_, R> {
         let (mut first, mut again) = (bytes, bytes);
         self.refusal.begin();
         let mut ran = run_migrate(alloc, hashing, &mut first, &mut out);
-        if self.is_again("run_migrate", ran == Err(RunError::OutOfMemory)) {
+        let is_out_of_memory = ran == Err(RunError::OutOfMemory);
+        if self
+            .refusal
+            .is_again(self.rt, "run_migrate", is_out_of_memory)
+        {
             ran = run_migrate(alloc, hashing, &mut again, &mut out);
         }
         assert_is(self.rt, &ran, &want, row.document);

@@ -1,5 +1,6 @@
 //! The comparisons that the tests share.
 
+use dl_desk::FetchKey;
 use dl_loader::History;
 use std::fmt::{Debug, Display};
 use std::process::Abort;
@@ -14,6 +15,14 @@ pub(crate) fn assert_is<T: PartialEq + Debug, D: Display + Drop>(
     assert_eq!(rt; *got, *want, "{about}");
 }
 
+/// The keys have these ids.
+pub(crate) fn assert_ids(rt: &impl Abort, keys: &[FetchKey], want: &[&str]) {
+    assert_is(rt, &keys.len(), &want.len(), "keys");
+    for (key, want) in keys.iter().zip(want.iter()) {
+        assert_is(rt, &key.id(), want, "an id");
+    }
+}
+
 /// The ids of a batch's keys, with `true` where the batch was settled.
 pub(crate) type Batch = (&'static [&'static str], bool);
 
@@ -23,10 +32,7 @@ pub(crate) fn assert_batches(rt: &impl Abort, history: &History, want: &[Batch],
     let mut number = 0;
     for (ids, is_settled) in want {
         let batch = batches.get(number).expect(rt, "a batch too few");
-        assert_is(rt, &batch.keys().len(), &ids.len(), about);
-        for (key, id) in batch.keys().iter().zip(ids.iter()) {
-            assert_is(rt, &key.id(), id, about);
-        }
+        assert_ids(rt, batch.keys(), ids);
         assert_is(rt, &batch.is_settled(), is_settled, about);
         number = number.saturating_add(1);
     }

@@ -1,21 +1,14 @@
 //! Terms whose batches the caller ends on its own thread, or a worker on another: their answers, their rounds, and the batches
-//! that these make.
-
-ghost use Rattle.std.specs.Prelude.{◌≡◌};
-ghost use Rattle.dl_loader.specs.Opening.{Names};
+//! that these make. What else terms give is asked of the program, as rows of `tests/documents.py`.
 
 use crate::comparison::{Batch, assert_batches, assert_is};
-use crate::player::{By, Scene, Turn, play_over};
-use dl_desk::Limits;
-use dl_fixtures::{
-    ADA, BEST, BOB, CountedTables, FRIENDS, Shape, U1, U2, USERS, list_text, tables,
-};
-use dl_loader::{Loader, LoaderName, Opening};
+use crate::player::{By, Turn, play_over};
+use crate::stage::{Setting, Stage};
+use dl_fixtures::{ADA, BOB, CountedTables, FRIENDS, Shape, U1, U2, list_text};
 use dl_source::Source;
 use dl_workers::WorkerEnd;
-use std::alloc::{AllocGlobal, Global};
-use std::hash::RandomState;
-use std::marker::Brand;
+use std::alloc::AllocGlobal;
+use std::io::Eprint;
 use std::process::Abort;
 use std::random::RandomSource;
 use std::sync::Wait;
@@ -28,7 +21,6 @@ struct Row<'a> {
     /// Who ends its batches, one after another, each on a loader of its own.
     by: &'static [By],
     term: Shape,
-    max_batch: u32,
     max_cells: u32,
     /// The text of its answer.
     answer: &'a str,
@@ -43,7 +35,6 @@ const ROW: Row<'static> = Row {
     about: "a value",
     by: &[By::Itself, By::Worker],
     term: Shape::Value("7"),
-    max_batch: 2,
     max_cells: 8,
     answer: "7",
     rounds: 0,
@@ -51,9 +42,9 @@ const ROW: Row<'static> = Row {
 };
 
 /// The rows of the users `u2` and `u3`.
-const TWO_FRIENDS: &str = r#"[{"best":"u1","friends":[],"name":"Bob"},{"name":"Cy"}]"#;
+pub(crate) const TWO_FRIENDS: &str = r#"[{"best":"u1","friends":[],"name":"Bob"},{"name":"Cy"}]"#;
 
-static ROWS: [Row<'static>; 20] = [
+static ROWS: [Row<'static>; 5] = [
     ROW,
     Row {
         about: "a load",
@@ -61,14 +52,6 @@ static ROWS: [Row<'static>; 20] = [
         answer: ADA,
         rounds: 1,
         batches: &[(&["u1"], true)],
-        ..ROW
-    },
-    Row {
-        about: "the name of a friend",
-        term: Shape::Pick(&BEST, "name"),
-        answer: r#""Bob""#,
-        rounds: 2,
-        batches: &[(&["u1"], true), (&["u2"], true)],
         ..ROW
     },
     Row {
@@ -80,48 +63,25 @@ static ROWS: [Row<'static>; 20] = [
         ..ROW
     },
     Row {
-        about: "all friends, in batches of one key",
-        term: FRIENDS,
-        max_batch: 1,
-        answer: TWO_FRIENDS,
-        rounds: 2,
-        batches: &[(&["u1"], true), (&["u2"], true), (&["u3"], true)],
-        ..ROW
-    },
-    Row {
-        about: "no friends",
-        term: Shape::Each(&U2, "friends"),
-        answer: "[]",
+        about: "a key that breaks its batch",
+        term: Shape::All(&[U1, Shape::Load("user", "u13")]),
+        answer: "batch of u1: db down",
         rounds: 1,
-        batches: &[(&["u2"], true)],
+        batches: &[(&["u1", "u13"], false)],
         ..ROW
     },
     Row {
-        about: "nothing at all",
-        term: Shape::All(&[]),
-        answer: "[]",
-        ..ROW
-    },
-    Row {
-        about: "a key twice",
-        term: Shape::All(&[
-            Shape::Pick(&U1, "name"),
-            Shape::Pick(&U2, "name"),
-            Shape::Pick(&U1, "name"),
-        ]),
-        answer: r#"["Ada","Bob","Ada"]"#,
+        about: "another user, while a future of the first is polled",
+        by: &[By::WithFuture],
+        term: U2,
+        answer: BOB,
         rounds: 1,
         batches: &[(&["u1", "u2"], true)],
         ..ROW
     },
-    Row {
-        about: "a key that was loaded before it is followed",
-        term: Shape::All(&[U2, BEST]),
-        answer: r#"[{"best":"u1","friends":[],"name":"Bob"},{"best":"u1","friends":[],"name":"Bob"}]"#,
-        rounds: 1,
-        batches: &[(&["u2", "u1"], true)],
-        ..ROW
-    },
+];
+
+static FAULTS: [Row<'static>; 4] = [
     Row {
         about: "a field of no object beside a load",
         term: Shape::All(&[Shape::Pick(&Shape::Value("1"), "x"), U1]),
@@ -145,85 +105,16 @@ static ROWS: [Row<'static>; 20] = [
         ..ROW
     },
     Row {
-        about: "a field that is no list",
-        term: Shape::Each(&Shape::Load("user", "u3"), "name"),
-        answer: "not a list",
-        rounds: 1,
-        batches: &[(&["u3"], true)],
-        ..ROW
-    },
-    Row {
-        about: "a field that is no id",
-        term: Shape::Follow(&U1, "friends"),
-        answer: "not a key",
-        rounds: 1,
-        batches: &[(&["u1"], true)],
-        ..ROW
-    },
-    Row {
-        about: "a key with an error",
-        term: Shape::Load("user", "u9"),
-        answer: "key u9: gone",
-        rounds: 1,
-        batches: &[(&["u9"], true)],
-        ..ROW
-    },
-    Row {
-        about: "a key with no row",
-        term: Shape::Load("user", "u7"),
-        answer: "key u7: no row",
-        rounds: 1,
-        batches: &[(&["u7"], true)],
-        ..ROW
-    },
-    Row {
-        about: "a key of no table",
-        term: Shape::Load("shop", "s"),
-        answer: "key s: no table",
-        rounds: 1,
-        batches: &[(&["s"], true)],
-        ..ROW
-    },
-    Row {
-        about: "a key that breaks its batch",
-        term: Shape::All(&[U1, Shape::Load("user", "u13")]),
-        answer: "batch of u1: db down",
-        rounds: 1,
-        batches: &[(&["u1", "u13"], false)],
-        ..ROW
-    },
-    Row {
         about: "two cells where there is one",
         term: Shape::All(&[U1, U2]),
         max_cells: 1,
         answer: "Call(CellsFull { limit: 1 })",
         ..ROW
     },
-    Row {
-        about: "another user, while a future of the first is polled",
-        by: &[By::WithFuture],
-        term: U2,
-        answer: BOB,
-        rounds: 1,
-        batches: &[(&["u1", "u2"], true)],
-        ..ROW
-    },
 ];
 
 /// How often each row is played.
 const TIMES: u32 = 20;
-
-#[test]
-fn terms_and_their_batches(rt: HostRuntime) {
-    let alloc = rt.alloc();
-    let hashing = RandomState::new(&rt).expect(&rt, "no random numbers");
-    let users = tables(alloc, hashing, USERS).expect(&rt, "no tables");
-    for row in &ROWS {
-        for _ in 0..TIMES {
-            try_row(&rt, alloc, hashing, &users, row);
-        }
-    }
-}
 
 /// The first user 1,024 times.
 const CROWD: Row<'static> = Row {
@@ -235,85 +126,72 @@ const CROWD: Row<'static> = Row {
 };
 
 #[test]
+fn terms_and_their_batches(rt: HostRuntime) {
+    let setting = Setting::new(&rt, rt.alloc());
+    let stage = setting.stage(&rt);
+    for row in ROWS.iter().chain(FAULTS.iter()) {
+        for _ in 0..TIMES {
+            try_row(&stage, &setting.users, row);
+        }
+    }
+}
+
+#[test]
 fn as_many_items_as_there_may_be(rt: HostRuntime) {
-    let alloc = rt.alloc();
-    let hashing = RandomState::new(&rt).expect(&rt, "no random numbers");
-    let users = tables(alloc, hashing, USERS).expect(&rt, "no tables");
-    let answer = list_text(alloc, ADA, 1_024).expect(&rt, "no memory");
+    let setting = Setting::new(&rt, rt.alloc());
+    let stage = setting.stage(&rt);
+    let answer = list_text(stage.alloc, ADA, 1_024).expect(&rt, "no memory");
     let row = Row {
         answer: answer.as_str(),
         ..CROWD
     };
-    try_row(&rt, alloc, hashing, &users, &row);
+    try_row(&stage, &setting.users, &row);
 }
 
 /// Plays a row, which is seen to be as it says, by each of those who end its batches.
-fn try_row<S: Source + Sync, R: Abort + AllocGlobal + RandomSource + Threads + Wait + Sync>(
-    rt: &R,
-    alloc: Global,
-    hashing: RandomState,
-    source: &S,
-    row: &Row<'_>,
-) {
+fn try_row<
+    S: Source + Sync,
+    R: Abort + AllocGlobal + Eprint + RandomSource + Threads + Wait + Sync,
+>(stage: &Stage<'_, R>, source: &S, row: &Row<'_>) {
     for by in row.by {
-        let batches = u32::try_from(row.batches.len()).expect(rt, "too many batches");
+        let batches = u32::try_from(row.batches.len()).expect(stage.rt, "too many batches");
         let turn = Turn {
             term: row.term,
             by: *by,
             answer: row.answer,
+            refused: &[],
             rounds: row.rounds,
             capacity: 2,
             jobs: u64::from(batches),
             end: WorkerEnd::Done { batches },
         };
-        let most = (row.max_batch, row.max_cells, 16);
-        let closed = play_over(rt, alloc, hashing, source, most, &[turn]);
-        let history = closed.expect(rt, "the loader can't be closed");
-        assert_batches(rt, &history, row.batches, row.about);
+        let closed = play_over(stage, source, (2, row.max_cells, 16), &[turn]);
+        let history = closed.expect(stage.rt, "the loader can't be closed");
+        assert_batches(stage.rt, &history, row.batches, row.about);
     }
 }
 
 #[test]
 fn each_batch_is_fetched_once(rt: HostRuntime) {
-    let alloc = rt.alloc();
-    let hashing = RandomState::new(&rt).expect(&rt, "no random numbers");
-    let users = tables(alloc, hashing, USERS).expect(&rt, "no tables");
-    let users = CountedTables::new(users);
-    evaluate_counted(&rt, alloc, hashing, &users);
-    assert_is(&rt, &users.fetches(), &3, "three batches");
-}
-
-/// A caller of a loader over these tables evaluates all friends of a user, in batches of one key.
-fn evaluate_counted<R: Abort + Wait>(
-    rt: &R,
-    alloc: Global,
-    hashing: RandomState,
-    users: &CountedTables,
-) {
-    let limits = Limits::new(1, 8, 16).expect(rt, "no limits");
-    let opening = Opening::new(alloc, hashing, users, limits, 1).expect(rt, "no opening");
-    evaluate_on::<Brand, _, _>(rt, alloc, hashing, users, opening);
-}
-
-/// The caller of the loader of an opening, which `L` stands for, evaluates all friends of a user.
-fn evaluate_on<L: LoaderName, S: Source, R: Abort + Wait>(
-    rt: &R,
-    alloc: Global,
-    hashing: RandomState,
-    source: &S,
-    opening: Opening<'_, S>,
-)
-    requires source { opening.source ≡ source.now }
-    requires names { Names S.answer opening L.service L.parts L.log L.outcomes L.name }
-{
-    let (loader, mut passes) = Loader::<L>::start(alloc, opening).expect(rt, "no loader");
-    let scene = Scene {
-        rt,
-        alloc,
-        hashing,
-        source,
-        loader: &loader,
+    let setting = Setting::new(&rt, rt.alloc());
+    let stage = setting.stage(&rt);
+    let users = CountedTables::new(setting.copy_of_users(&rt));
+    let turn = Turn {
+        term: FRIENDS,
+        by: By::Itself,
+        answer: TWO_FRIENDS,
+        refused: &[],
+        rounds: 2,
+        capacity: 2,
+        jobs: 3,
+        end: WorkerEnd::Done { batches: 3 },
     };
-    let (text, _) = scene.evaluate(&mut passes, &FRIENDS);
-    assert_is(rt, &text.as_str(), &TWO_FRIENDS, "all friends");
+    let closed = play_over(&stage, &users, (1, 8, 16), &[turn]);
+    assert_is(
+        &rt,
+        &closed.err(),
+        &None,
+        "all friends, in batches of one key",
+    );
+    assert_is(&rt, &users.fetches(), &3, "three batches");
 }

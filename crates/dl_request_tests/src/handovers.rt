@@ -3,13 +3,14 @@
 
 use crate::comparison::{Batch, assert_batches, assert_is};
 use crate::player::{By, Turn, play_over};
-use dl_fixtures::{ADA, BEST, Shape, U1, U2, USERS, tables};
+use crate::stage::{Setting, Stage};
+use dl_fixtures::{ADA, BEST, NoRoom, Shape, U1, U2};
 use dl_loader::EntryKind::{Call, Saw as Read};
 use dl_loader::{CloseFault, EntryKind};
 use dl_source::Source;
 use dl_workers::WorkerEnd;
-use std::alloc::{AllocGlobal, Global};
-use std::hash::RandomState;
+use std::alloc::AllocGlobal;
+use std::io::Eprint;
 use std::process::Abort;
 use std::random::RandomSource;
 use std::sync::Wait;
@@ -34,6 +35,7 @@ const LOAD: Turn<'static> = Turn {
     capacity: 2,
     by: By::Worker,
     answer: ADA,
+    refused: &[],
     rounds: 1,
     jobs: 1,
     end: WorkerEnd::Done { batches: 1 },
@@ -205,37 +207,49 @@ static SERIES: [Series; 8] = [
     },
 ];
 
+/// A load of a table for which the source has no memory.
+static SHOP: Series = Series {
+    about: "a source without memory",
+    most: (2, 8, 16),
+    turns: &[Turn {
+        term: Shape::Load("shop", "s"),
+        by: By::Itself,
+        answer: "batch of s: no memory",
+        ..LOAD
+    }],
+    fault: None,
+    entries: &[],
+    batches: &[(&["s"], false)],
+};
+
 /// How often each series is played.
 const TIMES: u32 = 100;
 
 #[test]
 fn terms_whose_jobs_are_handed_over(rt: HostRuntime) {
-    let alloc = rt.alloc();
-    let hashing = RandomState::new(&rt).expect(&rt, "no random numbers");
-    let users = tables(alloc, hashing, USERS).expect(&rt, "no tables");
+    let setting = Setting::new(&rt, rt.alloc());
+    let stage = setting.stage(&rt);
     for series in &SERIES {
         for _ in 0..TIMES {
-            try_series(&rt, alloc, hashing, &users, series);
+            try_series(&stage, &setting.users, series);
         }
     }
+    try_series(&stage, &NoRoom::new(setting.copy_of_users(&rt)), &SHOP);
 }
 
 /// Plays a series, which is seen to be as it says.
-fn try_series<S: Source + Sync, R: Abort + AllocGlobal + RandomSource + Threads + Wait + Sync>(
-    rt: &R,
-    alloc: Global,
-    hashing: RandomState,
-    source: &S,
-    series: &Series,
-) {
-    let closed = play_over(rt, alloc, hashing, source, series.most, series.turns);
+fn try_series<
+    S: Source + Sync,
+    R: Abort + AllocGlobal + Eprint + RandomSource + Threads + Wait + Sync,
+>(stage: &Stage<'_, R>, source: &S, series: &Series) {
+    let closed = play_over(stage, source, series.most, series.turns);
     let fault = match &closed {
         Ok(history) => {
-            assert_is(rt, &history.entries(0), &series.entries, series.about);
-            assert_batches(rt, history, series.batches, series.about);
+            assert_is(stage.rt, &history.entries(0), &series.entries, series.about);
+            assert_batches(stage.rt, history, series.batches, series.about);
             None
         }
         Err(fault) => Some(*fault),
     };
-    assert_is(rt, &fault, &series.fault, series.about);
+    assert_is(stage.rt, &fault, &series.fault, series.about);
 }

@@ -1,5 +1,5 @@
 //! How terms are evaluated one after another, on a loader of two callers: on a caller's own thread, or by the first caller over
-//! a queue, whose jobs the second one takes as a worker.
+//! a queue, whose jobs the second one takes as a worker; each under a refusal, which may be of nothing.
 
 ghost use Rattle.std.specs.Prelude.{◌≡◌, All, length};
 ghost use Rattle.dl_history.specs.Service.{Answers};
@@ -7,8 +7,9 @@ ghost use Rattle.dl_loader.specs.Opening.{Names};
 ghost use Rattle.dl_workers.specs.Seats.{IsSenderOf, IsTakerOf};
 
 use crate::comparison::assert_is;
+use crate::stage::Stage;
 use dl_desk::{FetchKey, Limits};
-use dl_fixtures::{ADA, Shape, answer_text, outcome_text, term};
+use dl_fixtures::{ADA, Shape, answer_text, made_once, outcome_text};
 use dl_haxl::{LoadFuture, RunFault, run_inline, run_term};
 use dl_loader::{CloseFault, History, Loader, LoaderName, Opening, Pass};
 use dl_source::Source;
@@ -17,7 +18,7 @@ use dl_workers::{JobQueue, NoGate, Sender, Taker, Tally, WorkerEnd, work};
 use futures::task::Poll;
 use futures::test::MockTask;
 use std::alloc::{AllocError, AllocGlobal, Global};
-use std::hash::RandomState;
+use std::io::Eprint;
 use std::marker::Brand;
 use std::process::Abort;
 use std::random::RandomSource;
@@ -31,6 +32,8 @@ pub(crate) struct Turn<'a> {
     pub(crate) by: By,
     /// The text of its answer, or why there is none.
     pub(crate) answer: &'a str,
+    /// What else it may give where it is refused a growth.
+    pub(crate) refused: &'static [&'static str],
     /// How many rounds of loads it takes.
     pub(crate) rounds: u32,
     /// How many jobs its queue has room for.
@@ -52,25 +55,34 @@ pub(crate) enum By {
     Worker,
     /// Nobody: the first caller shuts the queue before.
     Nobody,
+    /// The second caller, which polls a run of the term by hand. It isn't polled on once a poll was out of memory.
+    Hand,
+}
+
+/// What an evaluation gave.
+#[derive(Drop)]
+pub(crate) struct Given {
+    /// The text of the answer, or why there is none.
+    pub(crate) text: String,
+    pub(crate) rounds: u32,
+    /// Whether a growth was refused to it.
+    pub(crate) was_refused: bool,
 }
 
 /// A loader and its source, and what else an evaluation takes.
 #[derive(Drop)]
 pub(crate) struct Scene<'l, L: LoaderName, S: Source, R> {
-    pub(crate) rt: &'l R,
-    pub(crate) alloc: Global,
-    /// By what the keys of a term are hashed.
-    pub(crate) hashing: RandomState,
+    pub(crate) stage: &'l Stage<'l, R>,
     pub(crate) source: &'l S,
     pub(crate) loader: &'l Loader<L>,
 }
 
-/// A caller with the seat of its queue's sender, and the text of what its term gave with the number of rounds.
+/// A caller with the seat of its queue's sender, and what its term gave.
 #[derive(Drop)]
 struct Caller<L: LoaderName> {
     pass: Pass<L>,
     seats: Vec<Sender>,
-    given: Option<(String, u32)>,
+    given: Option<Given>,
 }
 
 /// A worker with the seat of its queue's taker, and how it ended.
@@ -84,92 +96,94 @@ struct Worker<L: LoaderName> {
 /// Plays turns on a loader of two callers over a source: its history, or why it can't be closed.
 pub(crate) fn play_over<
     S: Source + Sync,
-    R: Abort + AllocGlobal + RandomSource + Threads + Wait + Sync,
+    R: Abort + AllocGlobal + Eprint + RandomSource + Threads + Wait + Sync,
 >(
-    rt: &R,
-    alloc: Global,
-    hashing: RandomState,
+    stage: &Stage<'_, R>,
     source: &S,
     (max_batch, max_cells, max_calls): (u32, u32, u32),
     turns: &[Turn<'_>],
 ) -> Result<History, CloseFault> {
-    let limits = Limits::new(max_batch, max_cells, max_calls).expect(rt, "no limits");
-    let opening = Opening::new(alloc, hashing, source, limits, 2).expect(rt, "no opening");
-    play::<Brand, _, _>(rt, alloc, hashing, source, opening, turns)
+    let limits = Limits::new(max_batch, max_cells, max_calls).expect(stage.rt, "no limits");
+    let opening = Opening::new(stage.alloc, stage.hashing, source, limits, 2);
+    let opening = opening.expect(stage.rt, "no opening");
+    play::<Brand, _, _>(stage, source, opening, turns)
 }
 
 /// Plays turns on the loader of an opening, which `L` stands for, and closes it.
 fn play<
+    'x,
     L: LoaderName + Send + Sync,
     S: Source + Sync,
-    R: Abort + AllocGlobal + RandomSource + Threads + Wait + Sync,
+    R: Abort + AllocGlobal + Eprint + RandomSource + Threads + Wait + Sync,
 >(
-    rt: &R,
-    alloc: Global,
-    hashing: RandomState,
-    source: &S,
+    stage: &'x Stage<'x, R>,
+    source: &'x S,
     opening: Opening<'_, S>,
     turns: &[Turn<'_>],
 ) -> Result<History, CloseFault>
     requires source { opening.source ≡ source.now }
     requires names { Names S.answer opening L.service L.parts L.log L.outcomes L.name }
 {
-    let (loader, mut passes) = Loader::<L>::start(alloc, opening).expect(rt, "no loader");
+    let started = Loader::<L>::start(stage.alloc, opening);
+    let (loader, mut passes) = started.expect(stage.rt, "no loader");
     let scene = Scene {
-        rt,
-        alloc,
-        hashing,
-        source,
+        stage: &*stage,
+        source: &*source,
         loader: &loader,
     };
     for turn in turns {
         scene.take_turn(&mut passes, turn);
     }
-    loader.close(alloc, passes).map_err(|(fault, _, _)| fault)
+    loader
+        .close(stage.alloc, passes)
+        .map_err(|(fault, _, _)| fault)
 }
 
 impl<
     'l,
     L: LoaderName + Send + Sync,
     S: Source + Sync,
-    R: Abort + AllocGlobal + RandomSource + Threads + Wait + Sync,
+    R: Abort + AllocGlobal + Eprint + RandomSource + Threads + Wait + Sync,
 > Scene<'l, L, S, R> {
     /// Takes a turn by these passes, which is seen to be as it says.
     fn take_turn(&self, passes: &mut Vec<Pass<L>>, turn: &Turn<'_>)
         requires { Answers (S.answer self.now.source.now) L.service }
     {
-        let (text, rounds) = match turn.by {
-            By::Itself => self.evaluate(passes, &turn.term),
-            By::WithFuture => self.evaluate_with_future(passes, &turn.term),
+        match turn.by {
+            By::Itself => {
+                let given = self.evaluate(passes, &turn.term);
+                self.stage.is_own(&given, turn);
+            }
+            By::WithFuture => self.evaluate_with_future(passes, turn),
             By::Worker | By::Nobody => self.hand_over(passes, turn),
-        };
-        assert_is(self.rt, &text.as_str(), &turn.answer, turn.answer);
-        assert_is(self.rt, &rounds, &turn.rounds, turn.answer);
+            By::Hand => self.poll_run(passes, turn),
+        }
     }
 
     /// Loads the first user, and polls the load's future before and after the evaluation, which ends its batch too.
-    fn evaluate_with_future(&self, passes: &mut Vec<Pass<L>>, shape: &Shape) -> (String, u32)
+    fn evaluate_with_future(&self, passes: &mut Vec<Pass<L>>, turn: &Turn<'_>)
         requires { Answers (S.answer self.now.source.now) L.service }
     {
-        let (rt, alloc) = (self.rt, self.alloc);
+        let (rt, alloc) = (self.stage.rt, self.stage.alloc);
         let task = MockTask::new(rt).expect(rt, "no task");
         let key = FetchKey::new(alloc, "user", "u1").expect(rt, "no key");
         let pass = passes.last_mut().expect(rt, "no pass");
         let ticket = self.loader.load(rt, alloc, pass, &key);
         let mut load = LoadFuture::new(ticket.expect(rt, "no ticket"));
         self.assert_poll(&task, &mut load, "pending");
-        let given = self.evaluate(passes, shape);
-        self.assert_poll(&task, &mut load, ADA);
-        self.assert_poll(&task, &mut load, "Finished");
-        given
+        let given = self.evaluate(passes, &turn.term);
+        if self.stage.is_own(&given, turn) {
+            self.assert_poll(&task, &mut load, ADA);
+            self.assert_poll(&task, &mut load, "Finished");
+        }
     }
 
     /// Has the first caller evaluate a term over a queue of one sender and one taker.
-    fn hand_over(&self, passes: &mut Vec<Pass<L>>, turn: &Turn<'_>) -> (String, u32)
+    fn hand_over(&self, passes: &mut Vec<Pass<L>>, turn: &Turn<'_>)
         requires { Answers (S.answer self.now.source.now) L.service }
     {
-        let rt = self.rt;
-        let made = JobQueue::new(self.alloc, turn.capacity, 1, 1);
+        let rt = self.stage.rt;
+        let made = JobQueue::new(self.stage.alloc, turn.capacity, 1, 1);
         let (queue, senders, takers) = made.expect(rt, "no queue");
         let worker = Worker {
             pass: passes.pop().expect(rt, "no pass"),
@@ -187,12 +201,17 @@ impl<
             taken: turn.jobs,
             left: 0,
         };
-        let given = queue.finish(rt, caller.seats, worker.seats);
-        assert_is(rt, &given, &tally, turn.answer);
-        assert_is(rt, &worker.end, &Some(turn.end), turn.answer);
+        let finished = queue.finish(rt, caller.seats, worker.seats);
+        let given = caller.given.expect(rt, "no answer");
+        if self.stage.is_own(&given, turn) {
+            assert_is(rt, &finished, &tally, turn.answer);
+            assert_is(rt, &worker.end, &Some(turn.end), turn.answer);
+        } else {
+            let is_done = matches!(worker.end, Some(WorkerEnd::Done { .. }));
+            assert!(rt; is_done, "the worker gave up");
+        }
         passes.push(caller.pass).expect(rt, "no room");
         passes.push(worker.pass).expect(rt, "no room");
-        caller.given.expect(rt, "no answer")
     }
 
     /// Plays the caller, and the worker on a thread of its own.
@@ -209,7 +228,8 @@ impl<
         ensures takers { All (IsTakerOf queue.now) result.0.seats.items × (length result.0.seats.items ≡ 1) }
         ensures senders { All (IsSenderOf queue.now) result.1.seats.items × (length result.1.seats.items ≡ 1) }
     {
-        let (rt, alloc, loader, source) = (self.rt, self.alloc, self.loader, self.source);
+        let (rt, alloc) = (self.stage.rt, self.stage.alloc);
+        let (loader, source) = (self.loader, self.source);
         join(
             rt,
             move || -> Worker<L>
@@ -225,21 +245,17 @@ impl<
     }
 }
 
-impl<'l, L: LoaderName, S: Source, R: Abort + Wait> Scene<'l, L, S, R> {
+impl<'l, L: LoaderName, S: Source, R: Abort + Eprint + Wait> Scene<'l, L, S, R> {
     /// Has the second caller evaluate the term of a shape on its own thread.
-    pub(crate) fn evaluate(&self, passes: &mut Vec<Pass<L>>, shape: &Shape) -> (String, u32)
+    pub(crate) fn evaluate(&self, passes: &mut Vec<Pass<L>>, shape: &Shape) -> Given
         requires { Answers (S.answer self.now.source.now) L.service }
     {
-        let evaluated = run_inline(
-            self.rt,
-            self.alloc,
-            self.hashing,
-            self.loader,
-            self.source,
-            passes.last_mut().expect(self.rt, "no pass"),
-            term(self.alloc, shape).expect(self.rt, "no term"),
-        );
-        evaluation_text(self.rt, self.alloc, evaluated)
+        let (rt, alloc, hashing) = (self.stage.rt, self.stage.alloc, self.stage.hashing);
+        let pass = passes.last_mut().expect(rt, "no pass");
+        let term = self.stage.term(shape);
+        self.stage.refusal.begin();
+        let evaluated = run_inline(rt, alloc, hashing, self.loader, self.source, pass, term);
+        self.stage.given("run_inline", evaluated)
     }
 
     /// Has the caller evaluate the term of a turn, before or after it shuts the queue.
@@ -247,33 +263,68 @@ impl<'l, L: LoaderName, S: Source, R: Abort + Wait> Scene<'l, L, S, R> {
         requires { All (IsSenderOf queue.now) caller.seats.items × (length caller.seats.items ≡ 1) }
         ensures { All (IsSenderOf queue.now) result.seats.items × (length result.seats.items ≡ 1) }
     {
+        let stage = self.stage;
         if matches!(turn.by, By::Nobody) {
-            queue.shut(self.rt, &mut caller.seats[0]);
+            queue.shut(stage.rt, &mut caller.seats[0]);
         }
+        let term = stage.term(&turn.term);
+        stage.refusal.begin();
         let evaluated = run_term(
-            self.rt,
-            self.alloc,
-            self.hashing,
+            stage.rt,
+            stage.alloc,
+            stage.hashing,
             self.loader,
             &mut caller.pass,
             queue,
             &mut caller.seats[0],
-            term(self.alloc, &turn.term).expect(self.rt, "no term"),
+            term,
         );
-        queue.shut(self.rt, &mut caller.seats[0]);
-        caller.given = Some(evaluation_text(self.rt, self.alloc, evaluated));
+        queue.shut(stage.rt, &mut caller.seats[0]);
+        caller.given = Some(stage.given("run_term", evaluated));
         caller
     }
 
-    /// A poll of a load's future gives this text.
+    /// A poll of a load's future gives this text. It is never out of memory.
     fn assert_poll(&self, task: &MockTask, load: &mut LoadFuture<'l, L>, want: &str) {
-        let text = match task.poll(load) {
-            Poll::Pending => String::from_str(self.alloc, "pending"),
-            Poll::Ready(Ok(outcome)) => outcome_text(self.alloc, &outcome),
-            Poll::Ready(Err(fault)) => format!(in self.alloc; "{fault:?}"),
+        let (rt, alloc) = (self.stage.rt, self.stage.alloc);
+        let polled = made_once!(self.stage, "LoadFuture::poll", task.poll(load));
+        let text = match polled {
+            Poll::Pending => String::from_str(alloc, "pending"),
+            Poll::Ready(Ok(outcome)) => outcome_text(alloc, &outcome),
+            Poll::Ready(Err(fault)) => format!(in alloc; "{fault:?}"),
         };
-        let text = text.expect(self.rt, "no memory");
-        assert_is(self.rt, &text.as_str(), &want, "a poll");
+        let text = text.expect(rt, "no memory");
+        assert_is(rt, &text.as_str(), &want, "a poll");
+    }
+}
+
+impl<R: Abort + Eprint> Stage<'_, R> {
+    /// What an evaluation gave that a call of this name made.
+    fn given(&self, call: &str, evaluated: Result<(Answer, u32), RunFault>) -> Given {
+        let was_refused = self.refusal.end(self.rt, call);
+        let (text, rounds) = match evaluated {
+            Ok((answer, rounds)) => (answer_text(self.alloc, &answer), rounds),
+            Err(fault) => {
+                let text: Result<String, AllocError> = format!(in self.alloc; "{fault:?}");
+                (text, 0)
+            }
+        };
+        Given {
+            text: text.expect(self.rt, "no memory"),
+            rounds,
+            was_refused,
+        }
+    }
+
+    /// Whether an evaluation gave what its turn says. Else a growth was refused to it, and it gave what it may give then.
+    fn is_own(&self, given: &Given, turn: &Turn<'_>) -> bool {
+        let text = given.text.as_str();
+        if given.was_refused && turn.refused.iter().any(|other| *other == text) {
+            return false;
+        }
+        assert_is(self.rt, &text, &turn.answer, turn.answer);
+        assert_is(self.rt, &given.rounds, &turn.rounds, turn.answer);
+        true
     }
 }
 
@@ -301,20 +352,4 @@ fn work_until_shut<L: LoaderName, S: Source, R: Wait>(
         &NoGate,
     ));
     worker
-}
-
-/// The text of what an evaluation gave, and how many rounds it took.
-fn evaluation_text(
-    rt: &impl Abort,
-    alloc: Global,
-    evaluated: Result<(Answer, u32), RunFault>,
-) -> (String, u32) {
-    let (text, rounds) = match evaluated {
-        Ok((answer, rounds)) => (answer_text(alloc, &answer), rounds),
-        Err(fault) => {
-            let text: Result<String, AllocError> = format!(in alloc; "{fault:?}");
-            (text, 0)
-        }
-    };
-    (text.expect(rt, "no memory"), rounds)
 }

@@ -3,8 +3,8 @@
 //! with room for one job.
 
 mod held_workers;
-mod plans;
+pub(crate) mod plans;
 mod refusals;
-mod row;
-mod rows;
+pub(crate) mod row;
+pub(crate) mod rows;
 mod stops;

@@ -35,7 +35,7 @@ pub struct Tally {
 /// [`Taker`]. Threads share it by reference.
 ///
 /// # Examples
-/// A job is sent and taken, on one thread, from `crates/dl_workers_tests`. [`work`](crate::work) takes jobs until
+/// A job is sent and taken, on one thread, from `crates/dl_loader_tests`. [`work`](crate::work) takes jobs until
 /// the queue is shut.
 ///
 /// ```rust

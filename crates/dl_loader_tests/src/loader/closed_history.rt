@@ -1,21 +1,23 @@
 //! What the history tells that a closed loader leaves, as text.
 
 use super::keys::write_ids;
-use dl_fixtures::{ADA, outcome_text};
+use super::stage::Stage;
+use dl_fixtures::{ADA, made, outcome_text};
 use dl_loader::{Call, EntryKind, History, MOST_CALLERS};
 use std::alloc::Global;
+use std::io::Eprint;
 use std::process::Abort;
 
 /// What a history tells: the number of its events and the batches that they end, in order; the entries of each caller that has some,
 /// with the places of its events; the batches with their keys; and the outcomes.
-pub(super) fn history_text(rt: &impl Abort, alloc: Global, history: &History) -> String {
-    let mut text = String::new(alloc);
-    write_events(rt, &mut text, history);
+pub(super) fn history_text<R: Abort + Eprint>(stage: &Stage<'_, R>, history: &History) -> String {
+    let mut text = String::new(stage.alloc);
+    write_events(stage.rt, &mut text, history);
     for caller in 0..=MOST_CALLERS {
-        write_caller(rt, alloc, &mut text, history, caller);
+        write_caller(stage, &mut text, history, caller);
     }
-    write_batches(rt, &mut text, history);
-    write_outcomes(rt, alloc, &mut text, history);
+    write_batches(stage.rt, &mut text, history);
+    write_outcomes(stage.rt, stage.alloc, &mut text, history);
     text
 }
 
@@ -35,8 +37,20 @@ fn write_events(rt: &impl Abort, text: &mut String, history: &History) {
     writeln!(text, "").expect(rt, "no memory");
 }
 
-fn write_caller(rt: &impl Abort, alloc: Global, text: &mut String, history: &History, caller: u32) {
-    let places = history.of_caller(alloc, caller).expect(rt, "no memory");
+fn write_caller<R: Abort + Eprint>(
+    stage: &Stage<'_, R>,
+    text: &mut String,
+    history: &History,
+    caller: u32,
+) {
+    let rt = stage.rt;
+    let places = made!(
+        stage,
+        "History::of_caller",
+        Err(_),
+        history.of_caller(stage.alloc, caller)
+    );
+    let places = places.expect(rt, "no memory");
     let entries = history.entries(caller);
     if entries.is_empty() {
         assert!(rt; places.is_empty());

@@ -9,6 +9,7 @@ use dl_desk::LoadReply;
 use dl_fixtures::ADA;
 use dl_loader::{LoaderName, Pass};
 use dl_source::Source;
+use std::io::Eprint;
 use std::process::Abort;
 use std::sync::Wait;
 
@@ -16,7 +17,7 @@ const FIRST: LoadReply = LoadReply::Fresh { cell: 0, batch: 0 };
 
 const SECOND: LoadReply = LoadReply::Fresh { cell: 1, batch: 1 };
 
-impl<'a, L: LoaderName, S: Source, R: Abort + Wait> Scene<'a, L, S, R> {
+impl<'a, L: LoaderName, S: Source, R: Abort + Eprint + Wait> Scene<'a, L, S, R> {
     /// Makes the calls of two callers, of which the first has a ticket, or of the first alone.
     pub(super) fn hold(&self, passes: &mut [Pass<L>], held: Held)
         requires { Answers (S.answer self.now.source.now) L.service }

@@ -10,24 +10,27 @@ use super::closed_history::write_entry;
 use super::keys::{assert_same, assert_shows, assert_text, job, jobs_text, outcome, user, users};
 use super::step::{Asked, How, Primed, Step};
 use dl_desk::{Job, LoadReply};
+use dl_fixtures::{Refusal, made};
 use dl_loader::{
     Ask, CallFault, GiveUp, Loader, LoaderName, Pass, PrimeReply, Settled, Ticket, laws,
 };
 use dl_source::{Fetched, Source, fetch_job};
 use std::alloc::Global;
+use std::io::Eprint;
 use std::process::Abort;
 use std::sync::Wait;
 
-/// What calls are made on, and with what.
+/// What calls are made on, and with what; and what they are refused, which may be nothing. A call that is out of memory is made again.
 #[derive(Drop)]
 pub(super) struct Scene<'a, L: LoaderName, S: Source, R: Abort + Wait> {
     pub(super) rt: &'a R,
     pub(super) alloc: Global,
+    pub(super) refusal: &'a Refusal,
     pub(super) source: &'a S,
     pub(super) loader: &'a Loader<L>,
 }
 
-impl<'a, L: LoaderName, S: Source, R: Abort + Wait> Scene<'a, L, S, R> {
+impl<'a, L: LoaderName, S: Source, R: Abort + Eprint + Wait> Scene<'a, L, S, R> {
     /// Makes the calls in order, each by its caller.
     pub(super) fn play(&self, passes: &mut [Pass<L>], steps: &[(usize, Step)])
         requires { Answers (S.answer self.now.source.now) L.service }
@@ -54,10 +57,7 @@ impl<'a, L: LoaderName, S: Source, R: Abort + Wait> Scene<'a, L, S, R> {
             Step::ByLaw(asked, want) => self.by_law(pass, asked, want),
             Step::Prime(id, primed, want) => self.prime(pass, id, primed, want),
             Step::Clear(id, want) => self.clear(pass, id, want),
-            Step::ClearAll(want) => {
-                let fault = self.loader.clear_all(self.rt, self.alloc, pass).err();
-                assert_same(self.rt, "clear_all", fault, want);
-            }
+            Step::ClearAll(want) => self.clear_all(pass, want),
             Step::Dispatch(want) => self.dispatch(pass, want),
             Step::Settle(batch, ids, want) => self.settle(pass, batch, ids, want),
             Step::Fail(batch, ids, why, want) => self.fail(pass, batch, ids, why, want),
@@ -69,7 +69,13 @@ impl<'a, L: LoaderName, S: Source, R: Abort + Wait> Scene<'a, L, S, R> {
 
     pub(super) fn load(&self, pass: &mut Pass<L>, id: &str, want: Result<LoadReply, CallFault>) {
         let key = user(self.rt, self.alloc, id);
-        let reply = match self.loader.load(self.rt, self.alloc, pass, &key) {
+        let ticket = made!(
+            self,
+            "Loader::load",
+            Err(CallFault::OutOfMemory),
+            self.loader.load(self.rt, self.alloc, pass, &key)
+        );
+        let reply = match ticket {
             Ok(ticket) => Ok(ticket.reply()),
             Err(fault) => Err(fault),
         };
@@ -105,9 +111,13 @@ impl<'a, L: LoaderName, S: Source, R: Abort + Wait> Scene<'a, L, S, R> {
 
     fn load_many(&self, pass: &mut Pass<L>, ids: &str, want: Result<&str, CallFault>) {
         let keys = users(self.rt, self.alloc, ids);
-        let tickets = self
-            .loader
-            .load_many(self.rt, self.alloc, pass, keys.as_slice());
+        let tickets = made!(
+            self,
+            "Loader::load_many",
+            Err(CallFault::OutOfMemory),
+            self.loader
+                .load_many(self.rt, self.alloc, pass, keys.as_slice())
+        );
         let replies = match tickets {
             Ok(tickets) => Ok(replies_text(self.rt, self.alloc, tickets.as_slice())),
             Err(fault) => Err(fault),
@@ -120,10 +130,8 @@ impl<'a, L: LoaderName, S: Source, R: Abort + Wait> Scene<'a, L, S, R> {
         requires { Answers (S.answer self.now.source.now) L.service }
     {
         match asked {
-            Asked::Load(id) => {
-                let key = user(self.rt, self.alloc, id);
-                self.ask(pass, Ask::Load(&key), want);
-            }
+            Asked::ClearAll => self.ask_owned(pass, Ask::ClearAll, want),
+            Asked::Dispatch => self.ask_owned(pass, Ask::Dispatch, want),
             Asked::Settle(batch, ids) => {
                 let fetched = self.fetch(job(self.rt, self.alloc, batch, ids));
                 self.ask_owned(pass, Ask::Settle(fetched), want);
@@ -132,6 +140,23 @@ impl<'a, L: LoaderName, S: Source, R: Abort + Wait> Scene<'a, L, S, R> {
                 let job = job(self.rt, self.alloc, batch, ids);
                 self.ask_owned(pass, Ask::Fail(job, GiveUp::Memory), want);
             }
+            Asked::Load(id) => {
+                let key = user(self.rt, self.alloc, id);
+                self.ask(pass, Ask::Load(&key), want);
+            }
+            Asked::Clear(id) => {
+                let key = user(self.rt, self.alloc, id);
+                self.ask(pass, Ask::Clear(&key), want);
+            }
+            Asked::LoadMany(ids) => {
+                let keys = users(self.rt, self.alloc, ids);
+                self.ask(pass, Ask::LoadMany(keys.as_slice()), want);
+            }
+            Asked::Prime(id, text) => {
+                let key = user(self.rt, self.alloc, id);
+                let outcome = outcome(self.rt, self.alloc, Primed::Value(text));
+                self.ask(pass, Ask::Prime(&key, outcome), want);
+            }
         }
     }
 
@@ -139,8 +164,19 @@ impl<'a, L: LoaderName, S: Source, R: Abort + Wait> Scene<'a, L, S, R> {
     fn ask(&self, pass: &mut Pass<L>, ask: Ask<'_, S>, want: Option<CallFault>)
         requires { IfSome (source_asked ask) (λ source. Answers (S.answer source) L.service) }
     {
-        let mut book = self.loader.lock(self.rt);
-        match laws::event(self.alloc, self.loader, &mut *book, pass, ask) {
+        let (alloc, loader) = (self.alloc, self.loader);
+        let mut book = loader.lock(self.rt);
+        self.refusal.begin();
+        let first = laws::event(alloc, loader, &mut *book, pass, ask);
+        let is_out_of_memory = matches!(first, Err((CallFault::OutOfMemory, _)));
+        let is_again = self
+            .refusal
+            .is_again(self.rt, "laws::event", is_out_of_memory);
+        let event = match first {
+            Err((_, ask)) if is_again => laws::event(alloc, loader, &mut *book, pass, ask),
+            first => first,
+        };
+        match event {
             Ok((_, refused)) => assert_same(self.rt, "by law", (None, refused), (want, 0)),
             Err((fault, _)) => assert_same(self.rt, "by law", Some(fault), want),
         }
@@ -161,21 +197,50 @@ impl<'a, L: LoaderName, S: Source, R: Abort + Wait> Scene<'a, L, S, R> {
         want: Result<PrimeReply, CallFault>,
     ) {
         let key = user(self.rt, self.alloc, id);
-        let outcome = outcome(self.rt, self.alloc, primed);
-        let reply = self.loader.prime(self.rt, self.alloc, pass, &key, outcome);
+        let (rt, alloc) = (self.rt, self.alloc);
+        let first = outcome(rt, alloc, primed);
+        let reply = made!(
+            self,
+            "Loader::prime",
+            Err(CallFault::OutOfMemory),
+            self.loader.prime(rt, alloc, pass, &key, first),
+            self.loader
+                .prime(rt, alloc, pass, &key, outcome(rt, alloc, primed))
+        );
         assert_same(self.rt, "prime", reply, want);
     }
 
     pub(super) fn clear(&self, pass: &mut Pass<L>, id: &str, want: Option<CallFault>) {
         let key = user(self.rt, self.alloc, id);
-        let fault = self.loader.clear(self.rt, self.alloc, pass, &key).err();
-        assert_same(self.rt, "clear", fault, want);
+        let cleared = made!(
+            self,
+            "Loader::clear",
+            Err(CallFault::OutOfMemory),
+            self.loader.clear(self.rt, self.alloc, pass, &key)
+        );
+        assert_same(self.rt, "clear", cleared.err(), want);
+    }
+
+    fn clear_all(&self, pass: &mut Pass<L>, want: Option<CallFault>) {
+        let cleared = made!(
+            self,
+            "Loader::clear_all",
+            Err(CallFault::OutOfMemory),
+            self.loader.clear_all(self.rt, self.alloc, pass)
+        );
+        assert_same(self.rt, "clear_all", cleared.err(), want);
     }
 
     pub(super) fn dispatch(&self, pass: &mut Pass<L>, want: Result<&str, CallFault>)
         ensures { pass.new.trace.tickets ≡ pass.old.trace.tickets }
     {
-        let jobs = match self.loader.dispatch(self.rt, self.alloc, pass) {
+        let jobs = made!(
+            self,
+            "Loader::dispatch",
+            Err(CallFault::OutOfMemory),
+            self.loader.dispatch(self.rt, self.alloc, pass)
+        );
+        let jobs = match jobs {
             Ok(jobs) => Ok(jobs_text(self.rt, self.alloc, jobs.as_slice())),
             Err(fault) => Err(fault),
         };
@@ -193,11 +258,34 @@ impl<'a, L: LoaderName, S: Source, R: Abort + Wait> Scene<'a, L, S, R> {
         ensures { pass.new.trace.tickets ≡ pass.old.trace.tickets }
     {
         let fetched = self.fetch(job(self.rt, self.alloc, batch, ids));
-        let ended = match self.loader.settle(self.rt, self.alloc, pass, fetched) {
+        let ended = match self.settled(pass, fetched) {
             Ok(settled) => Ok(settled),
             Err((fault, fetched)) => Err((fault, fetched.into_job())),
         };
         self.assert_end(ended, (batch, ids), want);
+    }
+
+    /// What a settle answers.
+    fn settled(
+        &self,
+        pass: &mut Pass<L>,
+        fetched: Fetched<'a, S>,
+    ) -> Result<Settled, (CallFault, Fetched<'a, S>)>
+        requires { Answers (S.answer (source_of fetched)) L.service }
+        ensures { pass.new.trace.tickets ≡ pass.old.trace.tickets }
+    {
+        self.refusal.begin();
+        let first = self.loader.settle(self.rt, self.alloc, pass, fetched);
+        let is_out_of_memory = matches!(first, Err((CallFault::OutOfMemory, _)));
+        let is_again = self
+            .refusal
+            .is_again(self.rt, "Loader::settle", is_out_of_memory);
+        match first {
+            Err((_, fetched)) if is_again => {
+                self.loader.settle(self.rt, self.alloc, pass, fetched)
+            }
+            first => first,
+        }
     }
 
     /// What the source answers to a job.
@@ -217,7 +305,16 @@ impl<'a, L: LoaderName, S: Source, R: Abort + Wait> Scene<'a, L, S, R> {
         want: Result<u32, CallFault>,
     ) {
         let job = job(self.rt, self.alloc, batch, ids);
-        let ended = self.loader.fail(self.rt, self.alloc, pass, job, why);
+        self.refusal.begin();
+        let first = self.loader.fail(self.rt, self.alloc, pass, job, why);
+        let is_out_of_memory = matches!(first, Err((CallFault::OutOfMemory, _)));
+        let is_again = self
+            .refusal
+            .is_again(self.rt, "Loader::fail", is_out_of_memory);
+        let ended = match first {
+            Err((_, job)) if is_again => { self.loader.fail(self.rt, self.alloc, pass, job, why) }
+            first => first,
+        };
         self.assert_end(ended, (batch, ids), want);
     }
 

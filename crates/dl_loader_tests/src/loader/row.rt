@@ -6,53 +6,81 @@ ghost use Rattle.dl_loader.specs.Opening.{Names};
 use super::closed_history::history_text;
 use super::keys::assert_same;
 use super::player::Scene;
+use super::stage::Stage;
 use super::step::Part;
-use dl_loader::{Loader, LoaderName, Opening, Pass};
+use dl_loader::{CloseFault, History, Loader, LoaderName, Opening, Pass, StartFault};
 use dl_source::Source;
-use std::alloc::Global;
+use std::io::Eprint;
 use std::process::Abort;
 use std::sync::Wait;
 
-/// Makes the calls and the closes of a row on the loader of an opening, which `L` stands for.
-pub(super) fn play<L: LoaderName, S: Source, R: Abort + Wait>(
-    rt: &R,
-    alloc: Global,
+/// Makes the calls and the closes of a row on the loader of an opening, which `L` stands for. False where its start is out of memory.
+pub(super) fn play<L: LoaderName, S: Source, R: Abort + Eprint + Wait>(
+    stage: &Stage<'_, R>,
     source: &S,
     opening: Opening<'_, S>,
     parts: &[Part],
-)
+) -> bool
     requires source { opening.source ≡ source.now }
     requires names { Names S.answer opening L.service L.parts L.log L.outcomes L.name }
 {
-    let (mut loader, mut passes) = Loader::<L>::start(alloc, opening).expect(rt, "no loader");
+    let started = Loader::<L>::start(stage.alloc, opening);
+    let is_out_of_memory = matches!(started, Err(StartFault::OutOfMemory));
+    if stage
+        .refusal
+        .is_again(stage.rt, "Loader::start", is_out_of_memory)
+    {
+        return false;
+    }
+    let (mut loader, mut passes) = started.expect(stage.rt, "no loader");
     for part in parts {
         let scene = Scene {
-            rt,
-            alloc,
+            rt: stage.rt,
+            alloc: stage.alloc,
+            refusal: stage.refusal,
             source,
             loader: &loader,
         };
         scene.play(passes.as_mut_slice(), part.steps);
-        let Some(back) = close(rt, alloc, loader, passes, part) else {
-            return;
+        let Some(back) = close(stage, loader, passes, part) else {
+            return true;
         };
         (loader, passes) = back;
+    }
+    true
+}
+
+/// What a close answers. Where it is refused a growth, it is made again.
+fn closed<L: LoaderName, R: Abort + Eprint>(
+    stage: &Stage<'_, R>,
+    loader: Loader<L>,
+    passes: Vec<Pass<L>>,
+) -> Result<History, (CloseFault, Loader<L>, Vec<Pass<L>>)> {
+    stage.refusal.begin();
+    let first = loader.close(stage.alloc, passes);
+    let is_out_of_memory = matches!(first, Err((CloseFault::OutOfMemory, _, _)));
+    let is_again = stage
+        .refusal
+        .is_again(stage.rt, "Loader::close", is_out_of_memory);
+    match first {
+        Err((_, loader, passes)) if is_again => loader.close(stage.alloc, passes),
+        first => first,
     }
 }
 
 /// Closes the loader as the part says. Where that is refused the loader and the passes come back.
-fn close<L: LoaderName>(
-    rt: &impl Abort,
-    alloc: Global,
+fn close<L: LoaderName, R: Abort + Eprint>(
+    stage: &Stage<'_, R>,
     loader: Loader<L>,
     mut passes: Vec<Pass<L>>,
     part: &Part,
 ) -> Option<(Loader<L>, Vec<Pass<L>>)> {
+    let rt = stage.rt;
     let count = part.passes.min(passes.len());
     let kept = passes.split_off(count).expect(rt, "no memory");
-    match loader.close(alloc, passes) {
+    match closed(stage, loader, passes) {
         Ok(history) => {
-            let text = history_text(rt, alloc, &history);
+            let text = history_text(stage, &history);
             assert_same(rt, "close", Ok(text.as_str()), part.close);
             None
         }

@@ -46,10 +46,15 @@ pub(super) enum How {
     WaitWithBook,
 }
 
-/// A call as a value, with its arguments.
+/// A call as a value, with its arguments. A key is primed with the value of a JSON text.
 #[derive(Clone, Copy)]
 pub(super) enum Asked {
     Load(&'static str),
+    LoadMany(&'static str),
+    Prime(&'static str, &'static str),
+    Clear(&'static str),
+    ClearAll,
+    Dispatch,
     Settle(u32, &'static str),
     Fail(u32, &'static str),
 }

@@ -8,42 +8,45 @@ ghost use Rattle.dl_loader.specs.Pass.{GaveTicket};
 use super::closed_history::history_text;
 use super::keys::user;
 use super::player::Scene;
+use super::stage::Stage;
 use dl_desk::{FetchKey, LoadReply};
 use dl_fixtures::ADA;
 use dl_loader::laws::looks_agree;
 use dl_loader::{History, Loader, LoaderName, Opening, Pass, Reply, Ticket};
 use dl_source::Source;
 use std::alloc::Global;
+use std::io::Eprint;
 use std::process::Abort;
 use std::sync::Wait;
 use std::thread::{Threads, join};
 
 /// Two callers load a key, each on a thread of its own. Then the first of them ends the batch, both read the
 /// outcome, and the loader is closed.
-pub(super) fn load_by_two<L: LoaderName + Send + Sync, S: Source, R: Abort + Threads + Wait + Sync>(
-    rt: &R,
-    alloc: Global,
-    source: &S,
-    opening: Opening<'_, S>,
-)
+pub(super) fn load_by_two<
+    L: LoaderName + Send + Sync,
+    S: Source,
+    R: Abort + Eprint + Threads + Wait + Sync,
+>(stage: &Stage<'_, R>, source: &S, opening: Opening<'_, S>)
     requires source { opening.source ≡ source.now }
     requires names { Names S.answer opening L.service L.parts L.log L.outcomes L.name }
 {
+    let (rt, alloc) = (stage.rt, stage.alloc);
     let (loader, passes) = Loader::<L>::start(alloc, opening).expect(rt, "no loader");
     let scene = Scene {
         rt,
         alloc,
+        refusal: stage.refusal,
         source,
         loader: &loader,
     };
     let passes = scene.load_by_both(passes);
     match loader.close(alloc, passes) {
-        Ok(history) => assert_history(rt, alloc, &history),
+        Ok(history) => assert_history(stage, &history),
         Err((fault, _, _)) => panic!(rt; "{fault:?}"),
     }
 }
 
-impl<'a, L: LoaderName + Send + Sync, S: Source, R: Abort + Threads + Wait + Sync> Scene<
+impl<'a, L: LoaderName + Send + Sync, S: Source, R: Abort + Eprint + Threads + Wait + Sync> Scene<
     'a,
     L,
     S,
@@ -72,7 +75,7 @@ impl<'a, L: LoaderName + Send + Sync, S: Source, R: Abort + Threads + Wait + Syn
     }
 }
 
-impl<'a, L: LoaderName, S: Source, R: Abort + Wait> Scene<'a, L, S, R> {
+impl<'a, L: LoaderName, S: Source, R: Abort + Eprint + Wait> Scene<'a, L, S, R> {
     /// The first caller ends the batch, and each caller reads the outcome by its ticket. The tickets are of one cell, and have
     /// shown one outcome.
     fn read_both(
@@ -133,14 +136,15 @@ fn load<'a, L: LoaderName, R: Abort + Wait>(
 }
 
 /// The loads come first, in whichever order.
-fn assert_history(rt: &impl Abort, alloc: Global, history: &History) {
+fn assert_history<R: Abort + Eprint>(stage: &Stage<'_, R>, history: &History) {
+    let rt = stage.rt;
     let events = history.events();
     let replies = [LoadReply::Fresh { cell: 0, batch: 0 }, LoadReply::Hit(0)];
     for (at, want) in replies.iter().enumerate() {
         let event = events.get(at).expect(rt, "no event");
         assert!(rt; matches!(&event.reply, Reply::Loaded(reply) if *reply == *want));
     }
-    let text = history_text(rt, alloc, history);
+    let text = history_text(stage, history);
     let is_first = text.as_str() == FIRST;
     assert!(rt; is_first || text.as_str() == SECOND, "{text}");
 }

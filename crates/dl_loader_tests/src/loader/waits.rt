@@ -8,10 +8,12 @@ ghost use Rattle.dl_loader.specs.Opening.{Names};
 use super::keys::{assert_same, assert_shows, user};
 use super::player::Scene;
 use super::step::Step;
+use dl_fixtures::Refusal;
 use dl_loader::{CloseFault, Loader, LoaderName, MOST_CALLERS, Opening, Pass};
 use dl_source::Source;
 use dl_workers::end_jobs;
 use std::alloc::Global;
+use std::io::Eprint;
 use std::process::Abort;
 use std::sync::Wait;
 use std::sync::atomic::{AtomicU32, Ordering};
@@ -80,7 +82,7 @@ impl Meeting {
 pub(super) fn wait_at_once<
     L: LoaderName + Send + Sync,
     S: Source + Sync,
-    R: Abort + Threads + Wait + Sync,
+    R: Abort + Eprint + Threads + Wait + Sync,
 >(rt: &R, alloc: Global, source: &S, opening: Opening<'_, S>, crowd: &'static Crowd)
     requires source { opening.source ≡ source.now }
     requires names { Names S.answer opening L.service L.parts L.log L.outcomes L.name }
@@ -103,14 +105,11 @@ pub(super) fn wait_at_once<
 }
 
 /// Each caller takes part on a thread of its own.
-fn start_threads<L: LoaderName + Send + Sync, S: Source + Sync, R: Abort + Threads + Wait + Sync>(
-    rt: &R,
-    alloc: Global,
-    source: &S,
-    loader: &Loader<L>,
-    passes: &mut [Pass<L>],
-    meeting: &Meeting,
-)
+fn start_threads<
+    L: LoaderName + Send + Sync,
+    S: Source + Sync,
+    R: Abort + Eprint + Threads + Wait + Sync,
+>(rt: &R, alloc: Global, source: &S, loader: &Loader<L>, passes: &mut [Pass<L>], meeting: &Meeting)
     requires { Answers (S.answer source.now) L.service }
 {
     thread::for_each_mut(
@@ -124,7 +123,7 @@ fn start_threads<L: LoaderName + Send + Sync, S: Source + Sync, R: Abort + Threa
 }
 
 /// A caller loads its user, and waits for the outcome. The first one ends the waiting once all have loaded, and looks.
-fn take_part<L: LoaderName, S: Source, R: Abort + Wait>(
+fn take_part<L: LoaderName, S: Source, R: Abort + Eprint + Wait>(
     rt: &R,
     alloc: Global,
     source: &S,
@@ -134,9 +133,11 @@ fn take_part<L: LoaderName, S: Source, R: Abort + Wait>(
 )
     requires { Answers (S.answer source.now) L.service }
 {
+    let nothing = Refusal::of_nothing(alloc);
     let scene = Scene {
         rt,
         alloc,
+        refusal: &nothing,
         source,
         loader,
     };
@@ -159,7 +160,7 @@ fn take_part<L: LoaderName, S: Source, R: Abort + Wait>(
 }
 
 /// Lets the other callers go on.
-fn let_go<L: LoaderName, S: Source, R: Abort + Wait>(
+fn let_go<L: LoaderName, S: Source, R: Abort + Eprint + Wait>(
     scene: &Scene<'_, L, S, R>,
     pass: &mut Pass<L>,
     release: &Release,

@@ -4,9 +4,9 @@ use crate::comparison::assert_is;
 use crate::requests::plans::StepShape::{Clear, Eval};
 use crate::requests::row::{Row, try_row};
 use crate::requests::rows::ROW;
-use dl_fixtures::{ADA, BOB, Shape, U1, U2, USERS, tables};
+use crate::stage::Setting;
+use dl_fixtures::{ADA, BOB, Shape, U1, U2};
 use dl_workers::Gate;
-use std::hash::RandomState;
 use std::sync::atomic::{AtomicBool, Ordering};
 use std::thread::yield_now;
 
@@ -73,15 +73,14 @@ static ROWS: [Row; 2] = [
 
 #[test]
 fn batches_that_are_fetched_at_once(rt: HostRuntime) {
-    let alloc = rt.alloc();
-    let hashing = RandomState::new(&rt).expect(&rt, "no random numbers");
-    let users = tables(alloc, hashing, USERS).expect(&rt, "no tables");
+    let setting = Setting::new(&rt, rt.alloc());
+    let stage = setting.stage(&rt);
     for row in &ROWS {
         let gate = Held {
             has_ended: AtomicBool::new(false),
             gave_up: AtomicBool::new(false),
         };
-        try_row(&rt, alloc, &users, &gate, row);
+        try_row(&stage, &setting.users, &gate, row);
         assert_is(&rt, &gate.gave_up.load(Ordering::SeqCst), &false, row.about);
     }
 }

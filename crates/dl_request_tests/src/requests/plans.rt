@@ -1,9 +1,9 @@
 //! Plans as data.
 
+use crate::stage::Stage;
 use dl_desk::{FetchKey, Outcome};
-use dl_fixtures::{Shape, json, term};
+use dl_fixtures::{Shape, json};
 use dl_scope::{Plan, Step};
-use std::alloc::Global;
 use std::process::Abort;
 
 /// A step, as rows write it. Its keys are users.
@@ -22,31 +22,34 @@ pub(crate) enum StepShape {
 /// The steps of a plan, as rows write them.
 pub(crate) type PlanShape = &'static [StepShape];
 
-/// The plans of these shapes.
-pub(crate) fn plans(rt: &impl Abort, alloc: Global, shapes: &[PlanShape]) -> Vec<Plan> {
-    let mut plans = Vec::new(alloc);
-    for shapes in shapes {
-        let mut steps = Vec::new(alloc);
-        for shape in *shapes {
-            steps.push(step(rt, alloc, shape)).expect(rt, "no memory");
+impl<R: Abort> Stage<'_, R> {
+    /// The plans of these shapes.
+    pub(crate) fn plans(&self, shapes: &[PlanShape]) -> Vec<Plan> {
+        let mut plans = Vec::new(self.alloc);
+        for shapes in shapes {
+            let mut steps = Vec::new(self.alloc);
+            for shape in *shapes {
+                let step = self.step(shape);
+                steps.push(step).expect(self.rt, "no memory");
+            }
+            plans.push(Plan { steps }).expect(self.rt, "no memory");
         }
-        plans.push(Plan { steps }).expect(rt, "no memory");
+        plans
     }
-    plans
-}
 
-fn step(rt: &impl Abort, alloc: Global, shape: &StepShape) -> Step {
-    match shape {
-        StepShape::Prime(id, text) => {
-            let value = json(alloc, text).expect(rt, "no value");
-            Step::Prime(user(rt, alloc, id), Outcome::Value(value))
+    fn step(&self, shape: &StepShape) -> Step {
+        match shape {
+            StepShape::Prime(id, text) => {
+                let value = json(self.alloc, text).expect(self.rt, "no value");
+                Step::Prime(self.user(id), Outcome::Value(value))
+            }
+            StepShape::Clear(id) => Step::Clear(self.user(id)),
+            StepShape::ClearAll => Step::ClearAll,
+            StepShape::Eval(shape) => Step::Eval(self.term(shape)),
         }
-        StepShape::Clear(id) => Step::Clear(user(rt, alloc, id)),
-        StepShape::ClearAll => Step::ClearAll,
-        StepShape::Eval(shape) => Step::Eval(term(alloc, shape).expect(rt, "no term")),
     }
-}
 
-fn user(rt: &impl Abort, alloc: Global, id: &str) -> FetchKey {
-    FetchKey::new(alloc, "user", id).expect(rt, "no key")
+    fn user(&self, id: &str) -> FetchKey {
+        FetchKey::new(self.alloc, "user", id).expect(self.rt, "no key")
+    }
 }

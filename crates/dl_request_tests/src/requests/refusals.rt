@@ -3,12 +3,12 @@
 use crate::requests::plans::PlanShape;
 use crate::requests::plans::StepShape::{Clear, Eval};
 use crate::requests::row::{Row, try_row};
-use dl_fixtures::{Shape, Starved, U1, U2, USERS, tables};
+use crate::stage::Setting;
+use dl_fixtures::{NoRoom, Shape, U1, U2};
 use dl_haxl::RunFault;
 use dl_loader::CallFault;
 use dl_scope::ScopeFault;
 use dl_workers::{NoGate, QueueFault};
-use std::hash::RandomState;
 
 /// A plan of no steps.
 const NO_STEPS: PlanShape = &[];
@@ -37,7 +37,7 @@ const REFUSED: Row = Row {
     calls: None,
 };
 
-static ROWS: [Row; 10] = [
+static ROWS: [Row; 9] = [
     Row {
         about: "no plan",
         plans: &[],
@@ -95,13 +95,6 @@ static ROWS: [Row; 10] = [
         ..REFUSED
     },
     Row {
-        about: "a batch that the log has no room to end",
-        plans: &[BOTH],
-        most: (1, 8, 2),
-        fault: Some(ScopeFault::Stopped),
-        ..REFUSED
-    },
-    Row {
         about: "forty jobs behind workers that give up, over a queue with room for one",
         plans: &[&[Eval(Shape::Each(&Shape::Value(FORTY), "f"))]],
         most: (1, 64, 2),
@@ -110,22 +103,33 @@ static ROWS: [Row; 10] = [
     },
 ];
 
-/// Two batches, of which a source without memory answers none.
-static NOT_FETCHED: Row = Row {
-    about: "two batches that are not fetched",
-    plans: &[BOTH],
-    most: (1, 8, 32),
-    fault: Some(ScopeFault::Unfetched { batch: 0 }),
-    ..REFUSED
-};
+/// Batches for which the source has no memory: the second of two, and both of two.
+static NOT_FETCHED: [Row; 2] = [
+    Row {
+        about: "the second batch isn't fetched",
+        plans: &[&[Eval(U1), Eval(Shape::Load("shop", "s"))]],
+        queue: 4,
+        fault: Some(ScopeFault::Unfetched { batch: 1 }),
+        ..REFUSED
+    },
+    Row {
+        about: "two batches aren't fetched",
+        plans: &[&[Eval(Shape::All(&[Shape::Load("shop", "s"), Shape::Load("shop", "t")]))]],
+        most: (1, 8, 32),
+        fault: Some(ScopeFault::Unfetched { batch: 0 }),
+        ..REFUSED
+    },
+];
 
 #[test]
 fn plans_that_are_refused(rt: HostRuntime) {
-    let alloc = rt.alloc();
-    let hashing = RandomState::new(&rt).expect(&rt, "no random numbers");
-    let users = tables(alloc, hashing, USERS).expect(&rt, "no tables");
+    let setting = Setting::new(&rt, rt.alloc());
+    let stage = setting.stage(&rt);
     for row in &ROWS {
-        try_row(&rt, alloc, &users, &NoGate, row);
+        try_row(&stage, &setting.users, &NoGate, row);
     }
-    try_row(&rt, alloc, &Starved, &NoGate, &NOT_FETCHED);
+    let shop = NoRoom::new(setting.copy_of_users(&rt));
+    for row in &NOT_FETCHED {
+        try_row(&stage, &shop, &NoGate, row);
+    }
 }

@@ -1,16 +1,15 @@
-//! Rows of plans, and how they are served.
+//! Rows of plans, and how they are served: under a refusal, which may be of nothing.
 
 use crate::comparison::{Batch, assert_batches, assert_is};
-use crate::requests::plans::{PlanShape, plans};
+use crate::requests::plans::PlanShape;
+use crate::stage::Stage;
 use dl_desk::Limits;
 use dl_fixtures::answer_text;
 use dl_scope::{Report, ScopeFault, Setup, StepAnswer, serve};
 use dl_source::Source;
 use dl_workers::{Gate, Tally};
-use std::alloc::Global;
-use std::hash::RandomState;
+use std::io::Eprint;
 use std::process::Abort;
-use std::random::RandomSource;
 use std::sync::Wait;
 use std::thread::Threads;
 
@@ -34,41 +33,40 @@ pub(crate) struct Row {
     pub(crate) answers: &'static [Answers],
     /// For each plan, how many rounds of loads its terms take.
     pub(crate) rounds: &'static [u64],
-    /// All batches, in order, where one plan makes them: the job of each was sent and taken.
+    /// All batches, in order, where no schedule changes them: the job of each was sent and taken.
     pub(crate) batches: Option<&'static [Batch]>,
     /// How many calls all plans and workers make, where no schedule changes that.
     pub(crate) calls: Option<usize>,
 }
 
-/// Serves the plans of a row as often as it says, each time with the report that it says.
-pub(crate) fn try_row<
-    S: Source + Sync,
-    G: Gate + Sync,
-    R: Abort + RandomSource + Threads + Wait + Sync,
->(rt: &R, alloc: Global, source: &S, gate: &G, row: &Row) {
+/// Serves the plans of a row as often as it says, each time with the report that it says. Where they are out of memory, since something
+/// was refused, they are served again at once.
+pub(crate) fn try_row<S: Source + Sync, G: Gate + Sync, R: Abort + Eprint + Threads + Wait + Sync>(
+    stage: &Stage<'_, R>,
+    source: &S,
+    gate: &G,
+    row: &Row,
+) {
     for workers in row.workers {
         for _ in 0..row.times {
-            let fault = match served(rt, alloc, source, gate, *workers, row) {
-                Ok(report) => {
-                    assert_report(rt, alloc, &report, row);
-                    None
-                }
-                Err(fault) => Some(fault),
-            };
-            assert_is(rt, &fault, &row.fault, row.about);
+            if !is_served(stage, source, gate, *workers, row, true) {
+                is_served(stage, source, gate, *workers, row, false);
+            }
         }
     }
 }
 
-/// Serves the plans of a row by so many workers: their report, or why there is none.
-fn served<S: Source + Sync, G: Gate + Sync, R: Abort + RandomSource + Threads + Wait + Sync>(
-    rt: &R,
-    alloc: Global,
+/// Serves the plans of a row by so many workers, refused or not. False where they are out of memory, since something was refused. Else
+/// there is the report that the row says, or the fault.
+fn is_served<S: Source + Sync, G: Gate + Sync, R: Abort + Eprint + Threads + Wait + Sync>(
+    stage: &Stage<'_, R>,
     source: &S,
     gate: &G,
     workers: u32,
     row: &Row,
-) -> Result<Report, ScopeFault> {
+    is_refused: bool,
+) -> bool {
+    let (rt, alloc, hashing) = (stage.rt, stage.alloc, stage.hashing);
     let (max_batch, max_cells, max_calls) = row.most;
     let limits = Limits::new(max_batch, max_cells, max_calls);
     let setup = Setup {
@@ -77,41 +75,65 @@ fn served<S: Source + Sync, G: Gate + Sync, R: Abort + RandomSource + Threads + 
         workers,
         queue: row.queue,
     };
-    let hashing = RandomState::new(rt).expect(rt, "no random numbers");
-    let plans = plans(rt, alloc, row.plans);
-    serve(rt, alloc, hashing, source, setup, plans, gate)
+    let plans = stage.plans(row.plans);
+    if is_refused {
+        stage.refusal.begin();
+    }
+    let served = serve(rt, alloc, hashing, source, setup, plans, gate);
+    let was_refused = stage.refusal.end(rt, "serve");
+    let fault = match served {
+        Ok(report) => {
+            stage.assert_report(&report, row);
+            None
+        }
+        Err(fault) => Some(fault),
+    };
+    if was_refused && stage.is_out_of_memory(fault) {
+        return false;
+    }
+    assert_is(rt, &fault, &row.fault, row.about);
+    true
 }
 
-/// The report has what the row says.
-fn assert_report(rt: &impl Abort, alloc: Global, report: &Report, row: &Row) {
-    let answers = report.answers();
-    assert_is(rt, &answers.len(), &row.answers.len(), row.about);
-    for (given, want) in answers.iter().zip(row.answers.iter()) {
-        assert_answers(rt, alloc, given.as_slice(), want);
+impl<R: Abort> Stage<'_, R> {
+    /// Whether plans may end so where a growth or a thread is refused.
+    fn is_out_of_memory(&self, fault: Option<ScopeFault>) -> bool {
+        let text = format!(in self.alloc; "{fault:?}").expect(self.rt, "no memory");
+        text.contains("OutOfMemory") || text.contains("Unfetched")
     }
-    assert_is(rt, &report.rounds(), &row.rounds, row.about);
-    if let Some(batches) = row.batches {
-        let jobs = batches.len() as u64;
-        let tally = Tally {
-            sent: jobs,
-            taken: jobs,
-            left: 0,
-        };
-        assert_batches(rt, report.history(), batches, row.about);
-        assert_is(rt, &report.tally(), &tally, row.about);
-    }
-    if let Some(calls) = row.calls {
-        let events = report.history().events();
-        assert_is(rt, &events.len(), &calls, row.about);
-    }
-}
 
-/// A plan gave these answers.
-fn assert_answers(rt: &impl Abort, alloc: Global, given: &[StepAnswer], want: Answers) {
-    assert_is(rt, &given.len(), &want.len(), "answers");
-    for (given, (step, want)) in given.iter().zip(want.iter()) {
-        assert_is(rt, &given.step, step, "step");
-        let text = answer_text(alloc, &given.answer).expect(rt, "no memory");
-        assert_is(rt, &text.as_str(), want, "answer");
+    /// The report has what the row says.
+    fn assert_report(&self, report: &Report, row: &Row) {
+        let answers = report.answers();
+        assert_is(self.rt, &answers.len(), &row.answers.len(), row.about);
+        for (given, want) in answers.iter().zip(row.answers.iter()) {
+            self.assert_answers(given.as_slice(), want);
+        }
+        assert_is(self.rt, &report.rounds(), &row.rounds, row.about);
+        if let Some(batches) = row.batches {
+            let jobs = batches.len() as u64;
+            let tally = Tally {
+                sent: jobs,
+                taken: jobs,
+                left: 0,
+            };
+            assert_batches(self.rt, report.history(), batches, row.about);
+            assert_is(self.rt, &report.tally(), &tally, row.about);
+        }
+        if let Some(calls) = row.calls {
+            let events = report.history().events();
+            assert_is(self.rt, &events.len(), &calls, row.about);
+        }
+    }
+
+    /// A plan gave these answers.
+    fn assert_answers(&self, given: &[StepAnswer], want: Answers) {
+        assert_is(self.rt, &given.len(), &want.len(), "answers");
+        for (given, (step, want)) in given.iter().zip(want.iter()) {
+            assert_is(self.rt, &given.step, step, "step");
+            let text = answer_text(self.alloc, &given.answer);
+            let text = text.expect(self.rt, "no memory");
+            assert_is(self.rt, &text.as_str(), want, "answer");
+        }
     }
 }

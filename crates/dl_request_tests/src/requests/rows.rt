@@ -1,12 +1,16 @@
 //! Plans that are served by one, two and three workers: their answers, their rounds, and the batches that these make; and many
 //! plans at a small queue, whose answers are those by one worker, whatever the schedule.
 
+use crate::evaluations::TWO_FRIENDS;
 use crate::requests::plans::PlanShape;
 use crate::requests::plans::StepShape::{Clear, ClearAll, Eval, Prime};
 use crate::requests::row::{Answers, Row, try_row};
-use dl_fixtures::{ADA, BEST, BOB, FRIENDS, Shape, U1, U2, USERS, tables};
+use crate::stage::Setting;
+use dl_fixtures::{ADA, BEST, BOB, FRIENDS, Shape, U1, U2};
+use dl_haxl::RunFault;
+use dl_loader::CallFault;
+use dl_scope::ScopeFault;
 use dl_workers::NoGate;
-use std::hash::RandomState;
 
 /// A row of a plan with a load, from which the others differ.
 pub(crate) const ROW: Row = Row {
@@ -34,10 +38,7 @@ const FOUR: Row = Row {
     ],
     answers: &[
         &[(0, r#""Bob""#)],
-        &[(
-            0,
-            r#"[{"best":"u1","friends":[],"name":"Bob"},{"name":"Cy"}]"#,
-        )],
+        &[(0, TWO_FRIENDS)],
         &[(0, "[]")],
         &[(0, "key u7: no row")],
     ],
@@ -46,7 +47,8 @@ const FOUR: Row = Row {
     ..ROW
 };
 
-static ROWS: [Row; 10] = [
+/// One plan that ends as it says.
+static TERMS: [Row; 4] = [
     Row {
         about: "two users, one of them twice",
         plans: &[&[Eval(Shape::All(&[U1, U2, U1]))]],
@@ -83,6 +85,10 @@ static ROWS: [Row; 10] = [
         batches: Some(&[(&["u9"], true)]),
         ..ROW
     },
+];
+
+/// One plan of several steps.
+static STEPS: [Row; 3] = [
     Row {
         about: "a key that breaks its batch, which is not kept",
         plans: &[&[
@@ -93,17 +99,6 @@ static ROWS: [Row; 10] = [
         rounds: &[2],
         batches: Some(&[(&["u1", "u13"], false), (&["u1"], true)]),
         ..ROW
-    },
-    Row {
-        about: "four plans in batches of one",
-        most: (1, 64, 256),
-        ..FOUR
-    },
-    FOUR,
-    Row {
-        about: "four plans in batches of any size",
-        most: (65_536, 64, 256),
-        ..FOUR
     },
     Row {
         about: "a key that is primed, cleared and loaded",
@@ -133,6 +128,65 @@ static ROWS: [Row; 10] = [
     },
 ];
 
+/// Four plans, in batches of one key, two, and any number.
+static FOURS: [Row; 3] = [
+    Row {
+        about: "four plans in batches of one",
+        most: (1, 64, 256),
+        ..FOUR
+    },
+    FOUR,
+    Row {
+        about: "four plans in batches of any size",
+        most: (65_536, 64, 256),
+        ..FOUR
+    },
+];
+
+/// One plan, by one worker, with little room for calls or jobs.
+static SMALL: [Row; 4] = [
+    Row {
+        about: "a load where there is room for three calls",
+        most: (2, 8, 3),
+        workers: &[1],
+        times: 1,
+        ..ROW
+    },
+    Row {
+        about: "a load where there is room for its load alone",
+        most: (2, 8, 1),
+        workers: &[1],
+        times: 1,
+        fault: Some(ScopeFault::Run {
+            plan: 0,
+            fault: RunFault::Call(CallFault::LogFull { limit: 1 }),
+        }),
+        ..ROW
+    },
+    Row {
+        about: "a load where there is no room for the end of its batch",
+        most: (2, 8, 2),
+        workers: &[1],
+        times: 1,
+        fault: Some(ScopeFault::Stopped),
+        ..ROW
+    },
+    Row {
+        about: "three jobs over a queue with room for one",
+        most: (1, 8, 32),
+        queue: 1,
+        workers: &[1],
+        times: 1,
+        plans: &[&[Eval(Shape::All(&[U1, U2, Shape::Load("user", "u3")]))]],
+        answers: &[&[(
+            0,
+            r#"[{"best":"u2","friends":["u2","u3"],"name":"Ada"},{"best":"u1","friends":[],"name":"Bob"},{"name":"Cy"}]"#,
+        )]],
+        batches: Some(&[(&["u1"], true), (&["u2"], true), (&["u3"], true)]),
+        ..ROW
+    },
+];
+
 /// Plans of which most load what others load.
 const PLANS: [PlanShape; 8] = [
     &[Eval(Shape::Pick(&BEST, "name"))],
@@ -151,10 +205,7 @@ const PLANS: [PlanShape; 8] = [
 
 const ANSWERS: [Answers; 8] = [
     &[(0, r#""Bob""#)],
-    &[(
-        0,
-        r#"[{"best":"u1","friends":[],"name":"Bob"},{"name":"Cy"}]"#,
-    )],
+    &[(0, TWO_FRIENDS)],
     &[(0, "[]"), (1, BOB)],
     &[(0, "key u7: no row")],
     &[(
@@ -220,10 +271,17 @@ static CROWDS: [Row; 4] = [
 
 #[test]
 fn plans_by_any_number_of_workers(rt: HostRuntime) {
-    let alloc = rt.alloc();
-    let hashing = RandomState::new(&rt).expect(&rt, "no random numbers");
-    let users = tables(alloc, hashing, USERS).expect(&rt, "no tables");
-    for row in ROWS.iter().chain(CROWDS.iter()) {
-        try_row(&rt, alloc, &users, &NoGate, row);
+    let setting = Setting::new(&rt, rt.alloc());
+    let stage = setting.stage(&rt);
+    for rows in [
+        TERMS.as_slice(),
+        STEPS.as_slice(),
+        FOURS.as_slice(),
+        SMALL.as_slice(),
+        CROWDS.as_slice(),
+    ] {
+        for row in rows {
+            try_row(&stage, &setting.users, &NoGate, row);
+        }
     }
 }

@@ -6,12 +6,12 @@ use crate::requests::plans::PlanShape;
 use crate::requests::plans::StepShape::Eval;
 use crate::requests::row::{Row, try_row};
 use crate::requests::rows::ROW;
-use dl_fixtures::{Shape, U1, U2, USERS, tables};
+use crate::stage::Setting;
+use dl_fixtures::{Shape, U1, U2};
 use dl_haxl::RunFault;
 use dl_loader::CallFault;
 use dl_scope::ScopeFault;
 use dl_workers::Gate;
-use std::hash::RandomState;
 use std::sync::atomic::{AtomicU32, Ordering};
 use std::thread::sleep;
 use std::time::{Clock, Duration};
@@ -86,15 +86,14 @@ static ROWS: [Row; 2] = [
 
 #[test]
 fn a_plan_that_waits_is_stopped_by_the_fault_of_another(rt: HostRuntime) {
-    let alloc = rt.alloc();
-    let hashing = RandomState::new(&rt).expect(&rt, "no random numbers");
-    let users = tables(alloc, hashing, USERS).expect(&rt, "no tables");
+    let setting = Setting::new(&rt, rt.alloc());
+    let stage = setting.stage(&rt);
     for row in &ROWS {
         let gate = Slow {
             rt: &rt,
             ended: AtomicU32::new(0),
         };
-        try_row(&rt, alloc, &users, &gate, row);
+        try_row(&stage, &setting.users, &gate, row);
         // By each of three numbers of workers fewer than all batches of the plan that waits have ended.
         let ended = gate.ended.load(Ordering::SeqCst);
         assert_is(&rt, &(ended < 3 * MOST_CELLS), &true, row.about);

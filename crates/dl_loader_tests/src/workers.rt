@@ -1,0 +1,8 @@
+//! The job queue and fetch workers of `dl_workers`: worked rows of calls on one thread, exchanges of jobs between many threads, and a
+//! worker that ends the jobs of a caller, also where growths are refused.
+
+mod comparison;
+mod exchanges;
+mod queue;
+mod refused;
+mod work;

@@ -1,0 +1,381 @@
+//! Fetch workers: worked rows of the jobs that one takes.
+
+ghost use Rattle.std.specs.Prelude.{◌≡◌, false, length};
+ghost use Rattle.dl_history.specs.Service.{Answers};
+ghost use Rattle.dl_loader.specs.Opening.{Names};
+ghost use Rattle.dl_loader.specs.Pass.{GaveTicket};
+ghost use Rattle.dl_workers.specs.Seats.{AreSeatsOf, IsSenderOf, IsTakerOf};
+
+use crate::workers::comparison::assert_is;
+use dl_desk::{FetchKey, Limits};
+use dl_fixtures::{ADA, BOB, Refusal, USERS, numbered_keys, outcome_text, tables};
+use dl_loader::{CallFault, CloseFault, History, Loader, LoaderName, Opening, Pass, Ticket};
+use dl_source::{Source, Tables};
+use dl_workers::{Gate, JobQueue, QueueFault, Sender, Taker, Tally, WorkerEnd, work};
+use std::alloc::Global;
+use std::hash::RandomState;
+use std::io::Eprint;
+use std::marker::Brand;
+use std::process::Abort;
+use std::sync::Wait;
+use std::sync::atomic::{AtomicU32, Ordering};
+
+/// A caller loads, dispatches and sends its jobs, and shuts the queue. Then a worker works, the caller waits for the
+/// outcome of its last load, and makes one more call.
+pub(crate) struct Row {
+    about: &'static str,
+    /// How many jobs the queue has room for.
+    capacity: u32,
+    /// The most keys of a batch, cells and calls.
+    most: (u32, u32, u32),
+    /// How many keys of no table are loaded first.
+    crowd: u32,
+    /// The users that are loaded then.
+    ids: &'static [&'static str],
+    /// How many jobs these are. All of them are taken.
+    jobs: u64,
+    end: WorkerEnd,
+    /// What the gate is told, by a digit for each call: 2 b + 1 before batch b is fetched, and 2 b + 2 once it has ended.
+    told: u32,
+    /// The text of the outcome that the caller waits for, or that it was stopped.
+    waited: &'static str,
+    /// What a clear of all keys answers in the end.
+    next: Result<(), CallFault>,
+    /// For each batch whether it was settled, or why the loader can't be closed.
+    closed: Result<&'static [bool], CloseFault>,
+}
+
+/// A row of one load, from which the others differ.
+pub(crate) const ROW: Row = Row {
+    about: "a batch of one key",
+    capacity: 2,
+    most: (2, 8, 32),
+    crowd: 0,
+    ids: &["u1"],
+    jobs: 1,
+    end: WorkerEnd::Done { batches: 1 },
+    told: 12,
+    waited: ADA,
+    next: Ok(()),
+    closed: Ok(&[true]),
+};
+
+static ROWS: [Row; 8] = [
+    ROW,
+    Row {
+        about: "a batch of two keys",
+        ids: &["u1", "u2"],
+        waited: BOB,
+        ..ROW
+    },
+    Row {
+        about: "a batch that breaks the source",
+        ids: &["u1", "u13"],
+        waited: "batch db down",
+        closed: Ok(&[false]),
+        ..ROW
+    },
+    Row {
+        about: "three batches, of which one breaks the source",
+        capacity: 4,
+        most: (1, 8, 32),
+        ids: &["u1", "u13", "u2"],
+        jobs: 3,
+        end: WorkerEnd::Done { batches: 3 },
+        told: 123_456,
+        waited: BOB,
+        closed: Ok(&[true, false, true]),
+        ..ROW
+    },
+    Row {
+        about: "a log that is full",
+        most: (2, 8, 2),
+        end: WorkerEnd::GaveUp { batch: 0 },
+        told: 1,
+        waited: "stopped",
+        next: Err(CallFault::Stopped),
+        closed: Err(CloseFault::Unsettled { batch: 0 }),
+        ..ROW
+    },
+    Row {
+        about: "a log that is full after one of three batches",
+        capacity: 4,
+        most: (1, 8, 5),
+        ids: &["u1", "u2", "u3"],
+        jobs: 3,
+        end: WorkerEnd::GaveUp { batch: 1 },
+        told: 123,
+        waited: "stopped",
+        next: Err(CallFault::Stopped),
+        closed: Err(CloseFault::Unsettled { batch: 1 }),
+        ..ROW
+    },
+    Row {
+        about: "a log that the last end fills",
+        most: (1, 8, 5),
+        ids: &["u1", "u2"],
+        jobs: 2,
+        end: WorkerEnd::Done { batches: 2 },
+        told: 1_234,
+        waited: BOB,
+        next: Err(CallFault::LogFull { limit: 5 }),
+        closed: Ok(&[true, true]),
+        ..ROW
+    },
+    Row {
+        about: "forty jobs behind one that can't be ended",
+        capacity: 64,
+        most: (1, 64, 42),
+        crowd: 40,
+        jobs: 41,
+        end: WorkerEnd::GaveUp { batch: 0 },
+        told: 1,
+        waited: "stopped",
+        next: Err(CallFault::Stopped),
+        closed: Err(CloseFault::Unsettled { batch: 0 }),
+        ..ROW
+    },
+];
+
+/// A gate that notes what it is told, as the rows write it.
+#[derive(Drop)]
+struct Told {
+    digits: AtomicU32,
+}
+
+impl Told {
+    fn note(&self, digit: u32) {
+        let digits = self.digits.load(Ordering::SeqCst);
+        let noted = digits.saturating_mul(10).saturating_add(digit);
+        self.digits.store(noted, Ordering::SeqCst);
+    }
+}
+
+impl Gate for Told {
+    fn before_fetch(&self, batch: u32) {
+        self.note(batch.saturating_mul(2).saturating_add(1));
+    }
+
+    fn after_settle(&self, batch: u32) {
+        self.note(batch.saturating_mul(2).saturating_add(2));
+    }
+}
+
+/// What calls are made with, and what they are refused.
+#[derive(Drop)]
+pub(crate) struct Stage<'a, R> {
+    pub(crate) rt: &'a R,
+    pub(crate) alloc: Global,
+    pub(crate) hashing: RandomState,
+    pub(crate) refusal: &'a Refusal,
+}
+
+#[test]
+fn jobs_and_their_ends(rt: HostRuntime) {
+    let hashing = RandomState::new(&rt).expect(&rt, "no random numbers");
+    let users = tables(rt.alloc(), hashing, USERS).expect(&rt, "no tables");
+    let nothing = Refusal::of_nothing(rt.alloc());
+    let stage = Stage {
+        rt: &rt,
+        alloc: rt.alloc(),
+        hashing,
+        refusal: &nothing,
+    };
+    for row in &ROWS {
+        try_row(&stage, &users, row);
+    }
+}
+
+/// Plays a row on a loader of two callers over these tables.
+pub(crate) fn try_row<R: Abort + Eprint + Wait>(stage: &Stage<'_, R>, users: &Tables, row: &Row) {
+    let (max_batch, max_cells, max_calls) = row.most;
+    let limits = Limits::new(max_batch, max_cells, max_calls).expect(stage.rt, "no limits");
+    let opening = Opening::new(stage.alloc, stage.hashing, users, limits, 2);
+    let opening = opening.expect(stage.rt, "no opening");
+    play::<Brand, _, _>(stage, users, opening, row);
+}
+
+/// Plays a row on the loader of an opening, which `L` stands for, and closes it.
+fn play<L: LoaderName, S: Source, R: Abort + Eprint + Wait>(
+    stage: &Stage<'_, R>,
+    source: &S,
+    opening: Opening<'_, S>,
+    row: &Row,
+)
+    requires source { opening.source ≡ source.now }
+    requires names { Names S.answer opening L.service L.parts L.log L.outcomes L.name }
+{
+    let (rt, alloc) = (stage.rt, stage.alloc);
+    let (loader, mut passes) = Loader::<L>::start(alloc, opening).expect(rt, "no loader");
+    let was_refused = use_loader(stage, &loader, source, &mut passes, row);
+    match loader.close(alloc, passes) {
+        Ok(history) => assert_batches(rt, &history, row, was_refused),
+        Err((fault, _, _)) => assert_is(rt, &Some(fault), &row.closed.err(), row.about),
+    }
+}
+
+/// The history has the batches of the row, each of which was settled or not, as the row says. Where a growth was refused, none was.
+fn assert_batches(rt: &impl Abort, history: &History, row: &Row, was_refused: bool) {
+    let want = row.closed.expect(rt, row.about);
+    let batches = history.batches();
+    for (number, is_settled) in want.iter().enumerate() {
+        let number = u32::try_from(number).expect(rt, "no number of a batch");
+        let batch = batches.get(number).expect(rt, "a batch too few");
+        let is_settled = *is_settled && !was_refused;
+        assert_is(rt, &batch.is_settled(), &is_settled, row.about);
+    }
+}
+
+/// A queue of one sender and one taker.
+fn queue<R: Abort + Eprint>(
+    stage: &Stage<'_, R>,
+    capacity: u32,
+) -> (JobQueue, Vec<Sender>, Vec<Taker>)
+    ensures seats { AreSeatsOf result.0 result.1.items result.2.items }
+    ensures senders { length result.1.items ≡ 1 }
+    ensures takers { length result.2.items ≡ 1 }
+{
+    stage.refusal.begin();
+    let first = JobQueue::new(stage.alloc, capacity, 1, 1);
+    let is_out_of_memory = matches!(first, Err(QueueFault::OutOfMemory));
+    if stage
+        .refusal
+        .is_again(stage.rt, "JobQueue::new", is_out_of_memory)
+    {
+        let again = JobQueue::new(stage.alloc, capacity, 1, 1);
+        return again.expect(stage.rt, "no queue");
+    }
+    first.expect(stage.rt, "no queue")
+}
+
+/// Plays a caller and a worker by these passes. Answers whether the batch was failed, since a growth was refused to the worker.
+fn use_loader<L: LoaderName, S: Source, R: Abort + Eprint + Wait>(
+    stage: &Stage<'_, R>,
+    loader: &Loader<L>,
+    source: &S,
+    passes: &mut Vec<Pass<L>>,
+    row: &Row,
+) -> bool
+    requires { Answers (S.answer source.now) L.service }
+{
+    let (rt, alloc) = (stage.rt, stage.alloc);
+    let (queue, mut senders, mut takers) = queue(stage, row.capacity);
+    let mut worker = passes.pop().expect(rt, "no pass");
+    let mut caller = passes.pop().expect(rt, "no pass");
+    let ticket = load(rt, alloc, loader, &mut caller, row);
+    send(rt, alloc, loader, &mut caller, &queue, &mut senders[0]);
+    queue.shut(rt, &mut senders[0]);
+    let worked = work_once(stage, loader, source, &mut worker, &queue, &mut takers[0]);
+    assert_is(rt, &worked.end, &row.end, row.about);
+    assert_is(rt, &worked.told, &row.told, row.about);
+    let text = wait(rt, alloc, loader, &mut caller, ticket);
+    let is_failed = worked.was_refused && text.as_str() == "memory";
+    let waited = if is_failed { "memory" } else { row.waited };
+    assert_is(rt, &text.as_str(), &waited, row.about);
+    let next = loader.clear_all(rt, alloc, &mut caller);
+    assert_is(rt, &next, &row.next, row.about);
+    let tally = Tally {
+        sent: row.jobs,
+        taken: row.jobs,
+        left: 0,
+    };
+    assert_is(rt, &queue.finish(rt, senders, takers), &tally, row.about);
+    passes.push(caller).expect(rt, "no room");
+    passes.push(worker).expect(rt, "no room");
+    is_failed
+}
+
+/// What a worker did.
+#[derive(Clone, Copy)]
+struct Worked {
+    end: WorkerEnd,
+    /// What its gate was told, as the rows write it.
+    told: u32,
+    /// Whether a growth was refused to it.
+    was_refused: bool,
+}
+
+/// A worker ends the jobs of a queue that was shut.
+fn work_once<L: LoaderName, S: Source, R: Abort + Eprint + Wait>(
+    stage: &Stage<'_, R>,
+    loader: &Loader<L>,
+    source: &S,
+    pass: &mut Pass<L>,
+    queue: &JobQueue,
+    taker: &mut Taker,
+) -> Worked
+    requires source { Answers (S.answer source.now) L.service }
+    requires seat { IsTakerOf queue.now taker.old }
+    ensures { IsTakerOf queue.now taker.new }
+{
+    let gate = Told {
+        digits: AtomicU32::new(0),
+    };
+    let (rt, alloc) = (stage.rt, stage.alloc);
+    stage.refusal.begin();
+    let end = work(rt, alloc, loader, source, pass, queue, taker, &gate);
+    let was_refused = stage.refusal.end(rt, "work");
+    Worked {
+        end,
+        told: gate.digits.load(Ordering::SeqCst),
+        was_refused,
+    }
+}
+
+/// Loads the crowd and the users, each by a call of its own. The ticket is that of the last user.
+fn load<'a, L: LoaderName, R: Abort + Wait>(
+    rt: &R,
+    alloc: Global,
+    loader: &'a Loader<L>,
+    pass: &mut Pass<L>,
+    row: &Row,
+) -> Ticket<'a, L>
+    ensures { GaveTicket pass.new.trace result false }
+{
+    let mut keys = numbered_keys(alloc, row.crowd).expect(rt, "no keys");
+    for id in row.ids {
+        let key = FetchKey::new(alloc, "user", id).expect(rt, "no key");
+        keys.push(key).expect(rt, "no room");
+    }
+    let last = keys.pop().expect(rt, "no user");
+    for key in keys.iter() {
+        drop(loader.load(rt, alloc, pass, key).expect(rt, "no ticket"));
+    }
+    loader.load(rt, alloc, pass, &last).expect(rt, "no ticket")
+}
+
+/// Dispatches, and sends each job. Each of them is taken by the queue.
+fn send<L: LoaderName, R: Abort + Wait>(
+    rt: &R,
+    alloc: Global,
+    loader: &Loader<L>,
+    pass: &mut Pass<L>,
+    queue: &JobQueue,
+    sender: &mut Sender,
+)
+    requires { IsSenderOf queue.now sender.old }
+    ensures seat { IsSenderOf queue.now sender.new }
+    ensures tickets { pass.new.trace.tickets ≡ pass.old.trace.tickets }
+{
+    for job in loader.dispatch(rt, alloc, pass).expect(rt, "no jobs") {
+        assert!(rt; queue.send(rt, sender, job).is_ok(), "a job came back");
+    }
+}
+
+/// Waits for a ticket's outcome: its text, or that it was stopped.
+fn wait<L: LoaderName, R: Abort + Wait>(
+    rt: &R,
+    alloc: Global,
+    loader: &Loader<L>,
+    pass: &mut Pass<L>,
+    mut ticket: Ticket<'_, L>,
+) -> String
+    requires { GaveTicket pass.old.trace ticket false }
+{
+    let text = if loader.wait(rt, pass, &mut ticket).is_err() {
+        String::from_str(alloc, "stopped")
+    } else {
+        outcome_text(alloc, ticket.look().expect(rt, "no outcome"))
+    };
+    text.expect(rt, "no memory")
+}

@@ -1,0 +1,140 @@
+//! Evaluations and polls that are refused their first growth, then their second, and so on until they meet no refusal; and plans that
+//! are served so, also where their threads are refused. They are out of memory then, or answer as ever. `tests/calls` runs this above
+//! `tests/refuse.c`; without that library nothing is refused, and each call is made once.
+
+use crate::evaluations::TWO_FRIENDS;
+use crate::player::{By, Turn, play_over};
+use crate::requests::plans::StepShape::Eval;
+use crate::requests::row::{Row, try_row};
+use crate::requests::rows::ROW;
+use crate::stage::Setting;
+use dl_fixtures::{ADA, BOB, FRIENDS, Kind, MOST_GROWTHS, Refusal, Shape, U1, U2};
+use dl_workers::{NoGate, WorkerEnd};
+use std::slice;
+
+/// The most keys of a batch, cells and calls.
+const MOST: (u32, u32, u32) = (2, 8, 32);
+
+/// What a term may give where a growth is refused to its evaluation. A batch can be failed then, since its next growth isn't refused: so
+/// no loader is stopped.
+const FAILED: &[&str] = &[
+    "batch of u1: no memory",
+    "batch of u2: no memory",
+    "Call(OutOfMemory)",
+    "OutOfMemory",
+];
+
+/// All friends of a user, on the caller's own thread.
+const FRIENDS_OF_ONE: Turn<'static> = Turn {
+    term: FRIENDS,
+    by: By::Itself,
+    answer: TWO_FRIENDS,
+    refused: FAILED,
+    rounds: 2,
+    capacity: 2,
+    jobs: 2,
+    end: WorkerEnd::Done { batches: 2 },
+};
+
+/// What is evaluated with the n-th growth refused. One that was out of memory isn't made again: it may have made calls.
+static EVALUATIONS: [Turn<'static>; 3] = [
+    FRIENDS_OF_ONE,
+    Turn {
+        by: By::Worker,
+        ..FRIENDS_OF_ONE
+    },
+    Turn {
+        by: By::Nobody,
+        answer: "batch of u1: unsent",
+        refused: &["Call(OutOfMemory)", "OutOfMemory"],
+        rounds: 1,
+        jobs: 0,
+        end: WorkerEnd::Done { batches: 0 },
+        ..FRIENDS_OF_ONE
+    },
+];
+
+#[test]
+fn evaluations_whose_growths_are_refused(rt: HostRuntime) {
+    let setting = Setting::new(&rt, rt.alloc());
+    for nth in 1..MOST_GROWTHS {
+        let refusal = Refusal::of_each(rt.alloc(), Kind::Growth, nth);
+        let stage = setting.refused(&rt, &refusal);
+        for turn in &EVALUATIONS {
+            let _ = play_over(&stage, &setting.users, MOST, slice::from_ref(turn));
+        }
+        if !refusal.has_met() {
+            return;
+        }
+    }
+    panic!(rt; "growths without end");
+}
+
+/// What is polled with the n-th growth of one call refused: three loads of two keys, and a load beside the evaluation of another.
+static POLLS: [Turn<'static>; 2] = [
+    Turn {
+        term: Shape::All(&[U1, U1, U2]),
+        by: By::Hand,
+        answer: r#"[{"best":"u2","friends":["u2","u3"],"name":"Ada"},{"best":"u2","friends":["u2","u3"],"name":"Ada"},{"best":"u1","friends":[],"name":"Bob"}]"#,
+        ..FRIENDS_OF_ONE
+    },
+    Turn {
+        term: U2,
+        by: By::WithFuture,
+        answer: BOB,
+        rounds: 1,
+        ..FRIENDS_OF_ONE
+    },
+];
+
+/// So many calls they are together.
+const MOST_CALLS: usize = 9;
+
+#[test]
+fn polls_that_are_out_of_memory(rt: HostRuntime) {
+    let setting = Setting::new(&rt, rt.alloc());
+    for call in 0..MOST_CALLS {
+        for nth in 1..MOST_GROWTHS {
+            let refusal = Refusal::of_growths_of_call(rt.alloc(), nth, call);
+            let stage = setting.refused(&rt, &refusal);
+            for turn in &POLLS {
+                let _ = play_over(&stage, &setting.users, MOST, slice::from_ref(turn));
+            }
+            assert!(rt; refusal.calls() <= MOST_CALLS, "more calls");
+            if !refusal.has_met() {
+                break;
+            }
+        }
+    }
+}
+
+/// Two plans, of which one takes two rounds.
+static PLANS: Row = Row {
+    about: "two plans where something is refused",
+    most: MOST,
+    queue: 1,
+    times: 1,
+    plans: &[&[Eval(FRIENDS)], &[Eval(U1)]],
+    answers: &[&[(0, TWO_FRIENDS)], &[(0, ADA)]],
+    rounds: &[2, 1],
+    batches: Some(&[(&["u1"], true), (&["u2", "u3"], true)]),
+    ..ROW
+};
+
+static KINDS: [Kind; 2] = [Kind::Growth, Kind::Thread];
+
+#[test]
+fn plans_whose_growths_or_threads_are_refused(rt: HostRuntime) {
+    let setting = Setting::new(&rt, rt.alloc());
+    for kind in &KINDS {
+        for nth in 1..MOST_GROWTHS {
+            let refusal = Refusal::of_each(rt.alloc(), *kind, nth);
+            let stage = setting.refused(&rt, &refusal);
+            try_row(&stage, &setting.users, &NoGate, &PLANS);
+            assert!(rt; nth + 1 < MOST_GROWTHS, "refusals without end");
+            if !refusal.has_met() {
+                break;
+            }
+        }
+    }
+}

@@ -1,0 +1,79 @@
+//! What calls are made with, and what they are refused.
+
+use dl_fixtures::{Refusal, Shape, USERS, tables, term};
+use dl_source::Tables;
+use dl_terms::Term;
+use std::alloc::Global;
+use std::hash::RandomState;
+use std::process::Abort;
+use std::random::RandomSource;
+
+/// What calls are made with, and what they are refused.
+#[derive(Drop)]
+pub(crate) struct Stage<'a, R> {
+    pub(crate) rt: &'a R,
+    pub(crate) alloc: Global,
+    /// By what keys are hashed.
+    pub(crate) hashing: RandomState,
+    pub(crate) refusal: &'a Refusal,
+}
+
+/// The tables of users, and what stages are made of.
+pub(crate) struct Setting {
+    alloc: Global,
+    hashing: RandomState,
+    nothing: Refusal,
+    pub(crate) users: Tables,
+}
+
+impl Drop for Setting {
+    fn drop(self) {
+        let Setting {
+            alloc: _,
+            hashing: _,
+            nothing,
+            users,
+        } = self;
+        drop(nothing);
+        drop(users);
+    }
+}
+
+impl Setting {
+    pub(crate) fn new<R: Abort + RandomSource>(rt: &R, alloc: Global) -> Setting {
+        let hashing = RandomState::new(rt).expect(rt, "no random numbers");
+        Setting {
+            alloc,
+            hashing,
+            nothing: Refusal::of_nothing(alloc),
+            users: tables(alloc, hashing, USERS).expect(rt, "no tables"),
+        }
+    }
+
+    /// The tables of users once more.
+    pub(crate) fn copy_of_users(&self, rt: &impl Abort) -> Tables {
+        tables(self.alloc, self.hashing, USERS).expect(rt, "no tables")
+    }
+
+    /// A stage on which nothing is refused.
+    pub(crate) fn stage<'a, R>(&'a self, rt: &'a R) -> Stage<'a, R> {
+        self.refused(rt, &self.nothing)
+    }
+
+    /// A stage on which this is refused.
+    pub(crate) fn refused<'a, R>(&self, rt: &'a R, refusal: &'a Refusal) -> Stage<'a, R> {
+        Stage {
+            rt,
+            alloc: self.alloc,
+            hashing: self.hashing,
+            refusal,
+        }
+    }
+}
+
+impl<R: Abort> Stage<'_, R> {
+    /// The term of a shape.
+    pub(crate) fn term(&self, shape: &Shape) -> Term {
+        term(self.alloc, shape).expect(self.rt, "no term")
+    }
+}
