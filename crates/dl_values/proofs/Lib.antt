@@ -3,6 +3,7 @@ pub mod KeyLemmas
 pub mod KeyTexts
 pub mod TextPairs
 pub mod ShortTexts
+pub mod KeyBytes
 pub mod Repeats
 pub mod Names
 pub mod TableLimitLemmas

@@ -35,31 +35,9 @@ impl JoinedText {
         Ok(JoinedText::Short(ShortText::joined(mark, first, second)))
     }
 
-    /// The same of bytes, if they are two texts.
-    pub(crate) fn read(
-        alloc: Global,
-        mark: u8,
-        first: &[u8],
-        second: &[u8],
-    ) -> Result<Option<JoinedText>, AllocError>
-        requires { mark < 128 }
-        ensures some { IfOk result (λ text. IfSome text (λ t. (bytes_of t ≡ mark ∷ (first.now ++ second.now)) × AreTexts first.now second.now)) }
-        ensures placed { IfOk result (λ text. IfSome text IsPlaced) }
-        ensures none { IfOk result (λ text. IfNone text (¬ (AreTexts first.now second.now))) }
-        ensures err { OnErr result (AreTexts first.now second.now) }
-    {
-        if 1 + first.len() + second.len() > SHORT_BYTES {
-            return JoinedText::read_long(alloc, mark, first, second);
-        }
-        match ShortText::read(mark, first, second) {
-            Some(text) => Ok(Some(JoinedText::Short(text))),
-            None => Ok(None),
-        }
-    }
-
-    /// The same, where the text has an owner of its own.
+    /// The same of bytes, if they are two texts, which are too long to stand in their own value.
     #[cold]
-    fn read_long(
+    pub(crate) fn read_long(
         alloc: Global,
         mark: u8,
         first: &[u8],

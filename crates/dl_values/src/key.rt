@@ -1,6 +1,6 @@
 //! Keys, and lists of them that several places share.
 
-ghost use Rattle.std.specs.Prelude.{◌≡◌, ◌<◌, ◌≤◌, IfOk, IfErr, OnErr, IfSome, IfNone, length, IsTrue, ◌↔◌};
+ghost use Rattle.std.specs.Prelude.{◌≡◌, ◌+◌, ◌<◌, ◌≤◌, IfOk, IfErr, OnErr, IfSome, IfNone, length, IsTrue, ◌↔◌};
 ghost use Rattle.std.proofs.Common.{rules};
 ghost use Rattle.std.specs.Ordering.{as_partial_cmp};
 ghost use Rattle.std.specs.Cmp.{partial_order_from_own_ties};
@@ -9,10 +9,13 @@ ghost use Rattle.dl_values.specs.Key.{IsKey, key_eq};
 ghost use Rattle.dl_values.specs.KeyOrder.{key_cmp, key_input};
 ghost use Rattle.dl_values.specs.KeyFaults.{RefusedAs};
 ghost use Rattle.dl_values.specs.KeyTexts.{IsKeyText};
+ghost use Rattle.dl_values.specs.Inside.KeyText.{marked};
+ghost use Rattle.dl_values.specs.Inside.ShortText.{short_bytes, padded};
 ghost use Rattle.std.specs.Arc.{arc_value};
 
 use crate::fault::KeyFault;
 use crate::joined_text::JoinedText;
+use crate::short_text::{SHORT_BYTES, ShortText, is_cut, joined};
 use std::alloc::{AllocError, Global};
 use std::cmp::Ordering;
 use std::hash::{Hash, Hasher};
@@ -55,18 +58,32 @@ impl KeyText {
         Ok(KeyText { text })
     }
 
-    /// The table and the id as one text, if these bytes are a key's. The error is a failed allocation.
-    fn read(alloc: Global, table: &[u8], id: &[u8]) -> Result<Option<KeyText>, AllocError>
+    /// The table and the id as one text, if these bytes are texts, which together are long. The error is a failed allocation.
+    #[cold]
+    fn read_long(alloc: Global, table: &[u8], id: &[u8]) -> Result<Option<KeyText>, AllocError>
+        requires key { IsKey (record { table = table.now; id = id.now }) }
+        requires long { short_bytes < 1 + length table.now + length id.now }
         ensures some { IfOk result (λ text. IfSome text (λ k. (k ≡ record { table = table.now; id = id.now }) × IsKeyText k)) }
         ensures none { IfOk result (λ text. IfNone text (¬ (IsKeyText (record { table = table.now; id = id.now })))) }
         ensures err { OnErr result (IsKeyText (record { table = table.now; id = id.now })) }
     {
-        if !have_lengths(table, id) {
-            return Ok(None);
-        }
-        match JoinedText::read(alloc, table.len() as u8, table, id)? {
+        match JoinedText::read_long(alloc, table.len() as u8, table, id)? {
             Some(text) => Ok(Some(KeyText { text })),
             None => Ok(None),
+        }
+    }
+
+    /// The same, of bytes that together are short, joined and read.
+    #[inline(always)]
+    fn short(table: &[u8], id: &[u8], bytes: [u8; SHORT_BYTES]) -> KeyText
+        requires is { IsKeyText (record { table = table.now; id = id.now }) }
+        requires room { 1 + length table.now + length id.now ≤ short_bytes }
+        requires bytes { bytes ≡ padded (marked (record { table = table.now; id = id.now })) }
+        ensures { result ≡ record { table = table.now; id = id.now } }
+    {
+        let text = ShortText::of(bytes, 1 + table.len() + id.len());
+        KeyText {
+            text: JoinedText::Short(text),
         }
     }
 
@@ -187,7 +204,37 @@ impl FetchKey {
         ensures none { IfOk result (λ key. IfNone key (¬ (IsKeyText (record { table = table.now; id = id.now })))) }
         ensures err { OnErr result (IsKeyText (record { table = table.now; id = id.now })) }
     {
-        let Some(both) = KeyText::read(alloc, table, id)? else {
+        if !have_lengths(table, id) {
+            return Ok(None);
+        }
+        if 1 + table.len() + id.len() > SHORT_BYTES {
+            return FetchKey::read_long(alloc, spare, table, id);
+        }
+        let bytes = joined(table.len() as u8, table, id);
+        if !is_cut(&bytes[..1 + table.len() + id.len()], 1 + table.len()) {
+            return Ok(None);
+        }
+        match FetchKey::of(alloc, spare, KeyText::short(table, id, bytes)) {
+            Ok(key) => Ok(Some(key)),
+            Err(error) => Err(error),
+        }
+    }
+
+    /// The same of bytes that together are long.
+    #[cold]
+    fn read_long(
+        alloc: Global,
+        spare: Option<FetchKey>,
+        table: &[u8],
+        id: &[u8],
+    ) -> Result<Option<FetchKey>, AllocError>
+        requires key { IsKey (record { table = table.now; id = id.now }) }
+        requires long { short_bytes < 1 + length table.now + length id.now }
+        ensures some { IfOk result (λ key. IfSome key (λ k. (k ≡ record { table = table.now; id = id.now }) × IsKeyText k)) }
+        ensures none { IfOk result (λ key. IfNone key (¬ (IsKeyText (record { table = table.now; id = id.now })))) }
+        ensures err { OnErr result (IsKeyText (record { table = table.now; id = id.now })) }
+    {
+        let Some(both) = KeyText::read_long(alloc, table, id)? else {
             return Ok(None);
         };
         let key = FetchKey::of(alloc, spare, both)?;

@@ -1,9 +1,8 @@
 //! Texts that stand in their own value.
 
-ghost use Rattle.std.specs.Prelude.{◌≡◌, ◌+◌, ◌<◌, ◌≤◌, ◌↔◌, ◌∷◌, ◌++◌, length, IfSome, IfNone, IsTrue};
+ghost use Rattle.std.specs.Prelude.{◌≡◌, ◌+◌, ◌<◌, ◌≤◌, ◌↔◌, ◌∷◌, ◌++◌, length, take, IsTrue};
 ghost use Rattle.std.specs.Str.{IsUtf8, IsCharBoundary};
-ghost use Rattle.dl_values.specs.KeyTexts.{AreTexts};
-ghost use Rattle.dl_values.specs.Inside.ShortText.{short_bytes, padded, hashed};
+ghost use Rattle.dl_values.specs.Inside.ShortText.{short_bytes, padded, hashed, IsShort};
 
 use std::marker::Model;
 use std::str;
@@ -45,20 +44,13 @@ impl ShortText {
         }
     }
 
-    /// The same of bytes, if they are two texts.
-    pub(crate) fn read(mark: u8, first: &[u8], second: &[u8]) -> Option<ShortText>
-        requires mark { mark < 128 }
-        requires room { 1 + length first.now + length second.now ≤ short_bytes }
-        ensures some { IfSome result (λ t. (t ≡ mark ∷ (first.now ++ second.now)) × AreTexts first.now second.now) }
-        ensures none { IfNone result (¬ (AreTexts first.now second.now)) }
+    /// A text of the first bytes, behind which stands what stands behind a text.
+    #[inline(always)]
+    pub(crate) fn of(bytes: [u8; SHORT_BYTES], len: usize) -> ShortText
+        requires { IsShort bytes len }
+        ensures { result ≡ take len bytes }
     {
-        let bytes = joined(mark, first, second);
-        let len = 1 + first.len() + second.len();
-        if is_cut(&bytes[..len], 1 + first.len()) {
-            Some(ShortText { bytes, len })
-        } else {
-            None
-        }
+        ShortText { bytes, len }
     }
 
     /// The text itself.
@@ -79,7 +71,8 @@ impl ShortText {
 }
 
 /// A byte, right after it those of two pieces, and what stands behind a text.
-fn joined(mark: u8, first: &[u8], second: &[u8]) -> [u8; SHORT_BYTES]
+#[inline(always)]
+pub(crate) fn joined(mark: u8, first: &[u8], second: &[u8]) -> [u8; SHORT_BYTES]
     requires { 1 + length first.now + length second.now ≤ short_bytes }
     ensures { result ≡ padded (mark ∷ (first.now ++ second.now)) }
 {
@@ -93,7 +86,8 @@ fn joined(mark: u8, first: &[u8], second: &[u8]) -> [u8; SHORT_BYTES]
 }
 
 /// Whether the bytes are a text that may be cut at the seam.
-fn is_cut(bytes: &[u8], seam: usize) -> bool
+#[inline(always)]
+pub(crate) fn is_cut(bytes: &[u8], seam: usize) -> bool
     ensures { IsTrue result ↔ (IsUtf8 bytes.now × IsCharBoundary bytes.now seam) }
 {
     match str::from_utf8(bytes) {

@@ -1,4 +1,4 @@
-use Rattle.std.proofs.Common.{◌≡◌, ◌+◌, ◌-◌, length, refl, arith}
+use Rattle.std.proofs.Common.{◌+◌, ◌-◌, length, refl, arith}
 use Rattle.dl_values.proofs.ShortTexts.{joined_is_padded}
 use Rattle.dl_values.proofs.short_text.joined.Goals as goal
 

@@ -1,4 +1,4 @@
-use Rattle.std.proofs.Common.{sym, subst, ◌≡◌, ◌+◌, ◌*◌, ◌/◌, ℕ, List, take}
+use Rattle.std.proofs.Common.{subst, ◌≡◌, ◌+◌, ◌*◌, ◌/◌, ℕ, List, take}
 use Rattle.dl_values.specs.Inside.ShortText.{hashed}
 use Rattle.dl_values.proofs.ShortTexts.{words_are_hashed}
 use Rattle.dl_values.proofs.short_text.ShortText.words.Goals as goal
