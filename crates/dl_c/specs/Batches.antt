@@ -1,10 +1,9 @@
 -- The calls on batches as C makes them.
-use Rattle.std.specs.Prelude.{◌≡◌, ℕ, ◌<◌, ◌≤◌, ◌⊎◌, List, [], ◌∷◌, length, Option, slice_get, IfSome, nat_le, if◌then◌else◌}
-use Rattle.dl_values.specs.Key.{Key}
+use Rattle.std.specs.Prelude.{◌≡◌, ℕ, ◌<◌, List, slice_get, IfSome, nat_le, if◌then◌else◌}
 use Rattle.dl_desk.specs.History.{Atom, begun, members, jobs, jobs_from}
-use Rattle.dl_desk.specs.Calls.{DeskCall, Sends, Settles, Fails, refusal, after}
+use Rattle.dl_desk.specs.Calls.{DeskCall, Sends, refusal}
 use Rattle.dl_desk.specs.BatchBook.{BatchBook, StandsFor}
-use Rattle.dl_c.specs.declared.codes.TheConstants.{DONE, OUT_OF_MEMORY, NO_BATCH, NO_MEMBER}
+use Rattle.dl_c.specs.declared.codes.TheConstants.{DONE, OUT_OF_MEMORY, NO_BATCH}
 use Rattle.dl_c.specs.declared.answers.Loaded.{Loaded}
 use Rattle.dl_c.specs.declared.answers.Dispatched.{Dispatched}
 use Rattle.dl_c.specs.declared.key_texts.KeyTexts.{KeyTexts}

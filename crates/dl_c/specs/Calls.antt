@@ -1,7 +1,7 @@
 -- The calls of a desk as C makes them: what each answers, and the book that it leaves.
-use Rattle.std.specs.Prelude.{◌≡◌, ℕ, ◌<◌, ◌≤◌, ◌⊎◌, List, [], ◌∷◌, map, length, Option, Some, None}
+use Rattle.std.specs.Prelude.{◌≡◌, ℕ, ◌<◌, ◌≤◌, ◌⊎◌, List, [], ◌∷◌, None}
 use Rattle.dl_values.specs.Key.{Key}
-use Rattle.dl_desk.specs.History.{Atom, load_reply, load_replies, prime_reply, held}
+use Rattle.dl_desk.specs.History.{Atom, load_reply, prime_reply, held}
 use Rattle.dl_desk.specs.Calls.{DeskCall, Loads, Primes, Clears, refusal, after}
 use Rattle.dl_desk.specs.BatchBook.{BatchBook, StandsFor}
 use Rattle.dl_c.specs.declared.codes.TheConstants.{DONE, FRESH, OUT_OF_MEMORY}

@@ -1,5 +1,5 @@
 -- The texts of keys as C hands them in and reads them back.
-use Rattle.std.specs.Prelude.{◌≡◌, ℕ, ◌⊎◌, List, length, take}
+use Rattle.std.specs.Prelude.{◌≡◌, ℕ, ◌⊎◌, length, take}
 use Rattle.dl_values.specs.Key.{Key}
 use Rattle.dl_values.specs.KeyTexts.{IsKeyText}
 use Rattle.dl_c.specs.declared.codes.TheConstants.{OUT_OF_MEMORY, BAD_KEY}

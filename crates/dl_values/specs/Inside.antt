@@ -1,4 +1,3 @@
 pub mod JoinedText
-pub mod ShortText
 pub mod Json
 pub mod KeyText

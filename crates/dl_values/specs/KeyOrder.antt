@@ -5,7 +5,6 @@ use Rattle.std.specs.Ordering.{then_cmp, on, nat_cmp}
 use Rattle.std.specs.Cmp.Lexicographic.{slice_cmp}
 use Rattle.dl_values.specs.Key.{Key}
 use Rattle.dl_values.specs.Inside.KeyText.{marked}
-use Rattle.dl_values.specs.Inside.ShortText.{hashed}
 
 -- keys are ordered by table, and keys of one table by id, each by its bytes
 abbrev pub key_cmp : Key → Key → Ordering
@@ -13,4 +12,4 @@ key_cmp = then_cmp (on (λ k. k.table) (slice_cmp nat_cmp)) (on (λ k. k.id) (sl
 
 -- a hash reads both texts in one piece, and before them how many bytes the table has
 abbrev pub key_input : Key → List (List ℕ)
-key_input k = hashed (marked k) ∷ []
+key_input k = marked k ∷ []

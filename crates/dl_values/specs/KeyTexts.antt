@@ -13,3 +13,7 @@ pub record IsKeyText (k : Key) : Type 0 where
   pub table : IsUtf8 k.table
   pub id : IsUtf8 k.id
   pub lengths : IsKey k
+
+-- the most bytes of a text that stands in its own value
+abbrev pub short_bytes : ℕ
+short_bytes = 40

@@ -1,9 +1,8 @@
 //! Two texts as one, which stands in its own value where it is short.
 
-ghost use Rattle.std.specs.Prelude.{◌≡◌, ◌+◌, ◌<◌, ◌∷◌, ◌++◌, length, IfOk, OnErr, IfSome, IfNone};
+ghost use Rattle.std.specs.Prelude.{◌≡◌, ◌<◌, ◌∷◌, ◌++◌, IfOk, OnErr, IfSome, IfNone};
 ghost use Rattle.dl_values.specs.KeyTexts.{AreTexts};
-ghost use Rattle.dl_values.specs.Inside.JoinedText.{bytes_of, IsPlaced};
-ghost use Rattle.dl_values.specs.Inside.ShortText.{short_bytes, hashed};
+ghost use Rattle.dl_values.specs.Inside.JoinedText.{bytes_of};
 
 use crate::short_text::{SHORT_BYTES, ShortText};
 use crate::text::Text;
@@ -26,8 +25,7 @@ impl JoinedText {
         second: &str,
     ) -> Result<JoinedText, AllocError>
         requires { mark < 128 }
-        ensures text { IfOk result (λ t. bytes_of t ≡ mark ∷ (first.now ++ second.now)) }
-        ensures placed { IfOk result IsPlaced }
+        ensures { IfOk result (λ t. bytes_of t ≡ mark ∷ (first.now ++ second.now)) }
     {
         if 1 + first.len() + second.len() > SHORT_BYTES {
             return Ok(JoinedText::Long(Text::marked(alloc, mark, first, second)?));
@@ -35,18 +33,37 @@ impl JoinedText {
         Ok(JoinedText::Short(ShortText::joined(mark, first, second)))
     }
 
-    /// The same of bytes, if they are two texts, which are too long to stand in their own value.
-    #[cold]
-    pub(crate) fn read_long(
+    /// The same of bytes, if they are two texts.
+    pub(crate) fn read(
         alloc: Global,
         mark: u8,
         first: &[u8],
         second: &[u8],
     ) -> Result<Option<JoinedText>, AllocError>
-        requires mark { mark < 128 }
-        requires long { short_bytes < 1 + length first.now + length second.now }
+        requires { mark < 128 }
         ensures some { IfOk result (λ text. IfSome text (λ t. (bytes_of t ≡ mark ∷ (first.now ++ second.now)) × AreTexts first.now second.now)) }
-        ensures placed { IfOk result (λ text. IfSome text IsPlaced) }
+        ensures none { IfOk result (λ text. IfNone text (¬ (AreTexts first.now second.now))) }
+        ensures err { OnErr result (AreTexts first.now second.now) }
+    {
+        if 1 + first.len() + second.len() > SHORT_BYTES {
+            return JoinedText::read_long(alloc, mark, first, second);
+        }
+        match ShortText::read(mark, first, second) {
+            Some(text) => Ok(Some(JoinedText::Short(text))),
+            None => Ok(None),
+        }
+    }
+
+    /// The same, where the text has an owner of its own.
+    #[cold]
+    fn read_long(
+        alloc: Global,
+        mark: u8,
+        first: &[u8],
+        second: &[u8],
+    ) -> Result<Option<JoinedText>, AllocError>
+        requires { mark < 128 }
+        ensures some { IfOk result (λ text. IfSome text (λ t. (bytes_of t ≡ mark ∷ (first.now ++ second.now)) × AreTexts first.now second.now)) }
         ensures none { IfOk result (λ text. IfNone text (¬ (AreTexts first.now second.now))) }
         ensures err { OnErr result (AreTexts first.now second.now) }
     {
@@ -68,18 +85,6 @@ impl JoinedText {
         match self {
             JoinedText::Short(text) => text.as_str(),
             JoinedText::Long(text) => text.as_str(),
-        }
-    }
-
-    /// What is hashed of the text.
-    #[inline(always)]
-    pub(crate) fn hashed(&self) -> &[u8]
-        requires { IsPlaced self.now }
-        ensures { result.now ≡ hashed (bytes_of self.now) }
-    {
-        match self {
-            JoinedText::Short(text) => text.words(),
-            JoinedText::Long(text) => text.as_str().as_bytes(),
         }
     }
 }

@@ -1,6 +1,6 @@
 //! Keys, and lists of them that several places share.
 
-ghost use Rattle.std.specs.Prelude.{◌≡◌, ◌+◌, ◌<◌, ◌≤◌, IfOk, IfErr, OnErr, IfSome, IfNone, length, IsTrue, ◌↔◌};
+ghost use Rattle.std.specs.Prelude.{◌≡◌, ◌<◌, ◌≤◌, IfOk, IfErr, OnErr, IfSome, IfNone, length, IsTrue, ◌↔◌};
 ghost use Rattle.std.proofs.Common.{rules};
 ghost use Rattle.std.specs.Ordering.{as_partial_cmp};
 ghost use Rattle.std.specs.Cmp.{partial_order_from_own_ties};
@@ -9,13 +9,10 @@ ghost use Rattle.dl_values.specs.Key.{IsKey, key_eq};
 ghost use Rattle.dl_values.specs.KeyOrder.{key_cmp, key_input};
 ghost use Rattle.dl_values.specs.KeyFaults.{RefusedAs};
 ghost use Rattle.dl_values.specs.KeyTexts.{IsKeyText};
-ghost use Rattle.dl_values.specs.Inside.KeyText.{marked};
-ghost use Rattle.dl_values.specs.Inside.ShortText.{short_bytes, padded};
 ghost use Rattle.std.specs.Arc.{arc_value};
 
 use crate::fault::KeyFault;
 use crate::joined_text::JoinedText;
-use crate::short_text::{SHORT_BYTES, ShortText, is_cut, joined};
 use std::alloc::{AllocError, Global};
 use std::cmp::Ordering;
 use std::hash::{Hash, Hasher};
@@ -30,7 +27,7 @@ pub const TABLE_BYTES: usize = 64;
 pub const ID_BYTES: usize = 256;
 
 /// The two texts of a key as one: a character whose code is how many bytes the table has, then the table, then the id.
-/// So no two keys have one text, and a hash reads both in one piece: up to the end of a word of eight bytes where it is short.
+/// So no two keys have one text, and a hash reads both in one piece.
 #[derive(Drop)]
 struct KeyText {
     text: JoinedText,
@@ -38,14 +35,14 @@ struct KeyText {
 
 impl Model for KeyText {
     ghost use Rattle.dl_values.specs.Key.{Key};
-    ghost use Rattle.dl_values.specs.Inside.JoinedText.{bytes_of, IsPlaced};
+    ghost use Rattle.dl_values.specs.Inside.JoinedText.{bytes_of};
     ghost use Rattle.dl_values.specs.Inside.KeyText.{unmarked, IsMarked};
 
     ghost Value = { Key };
 
     ghost view = { λ k. unmarked (bytes_of k.text) };
 
-    ghost invariant = { λ k. IsMarked (bytes_of k.text) × IsPlaced k.text };
+    ghost invariant = { λ k. IsMarked (bytes_of k.text) };
 }
 
 impl KeyText {
@@ -58,32 +55,18 @@ impl KeyText {
         Ok(KeyText { text })
     }
 
-    /// The table and the id as one text, if these bytes are texts, which together are long. The error is a failed allocation.
-    #[cold]
-    fn read_long(alloc: Global, table: &[u8], id: &[u8]) -> Result<Option<KeyText>, AllocError>
-        requires key { IsKey (record { table = table.now; id = id.now }) }
-        requires long { short_bytes < 1 + length table.now + length id.now }
+    /// The table and the id as one text, if these bytes are a key's. The error is a failed allocation.
+    fn read(alloc: Global, table: &[u8], id: &[u8]) -> Result<Option<KeyText>, AllocError>
         ensures some { IfOk result (λ text. IfSome text (λ k. (k ≡ record { table = table.now; id = id.now }) × IsKeyText k)) }
         ensures none { IfOk result (λ text. IfNone text (¬ (IsKeyText (record { table = table.now; id = id.now })))) }
         ensures err { OnErr result (IsKeyText (record { table = table.now; id = id.now })) }
     {
-        match JoinedText::read_long(alloc, table.len() as u8, table, id)? {
+        if !have_lengths(table, id) {
+            return Ok(None);
+        }
+        match JoinedText::read(alloc, table.len() as u8, table, id)? {
             Some(text) => Ok(Some(KeyText { text })),
             None => Ok(None),
-        }
-    }
-
-    /// The same, of bytes that together are short, joined and read.
-    #[inline(always)]
-    fn short(table: &[u8], id: &[u8], bytes: [u8; SHORT_BYTES]) -> KeyText
-        requires is { IsKeyText (record { table = table.now; id = id.now }) }
-        requires room { 1 + length table.now + length id.now ≤ short_bytes }
-        requires bytes { bytes ≡ padded (marked (record { table = table.now; id = id.now })) }
-        ensures { result ≡ record { table = table.now; id = id.now } }
-    {
-        let text = ShortText::of(bytes, 1 + table.len() + id.len());
-        KeyText {
-            text: JoinedText::Short(text),
         }
     }
 
@@ -119,7 +102,7 @@ impl Hash for KeyText {
     ghost respects_eq = { Prim.search (hashing, rules) };
 
     fn hash<H: Hasher>(&self, state: &mut H) {
-        state.write(self.text.hashed());
+        state.write(self.text.as_str().as_bytes());
     }
 }
 
@@ -204,37 +187,7 @@ impl FetchKey {
         ensures none { IfOk result (λ key. IfNone key (¬ (IsKeyText (record { table = table.now; id = id.now })))) }
         ensures err { OnErr result (IsKeyText (record { table = table.now; id = id.now })) }
     {
-        if !have_lengths(table, id) {
-            return Ok(None);
-        }
-        if 1 + table.len() + id.len() > SHORT_BYTES {
-            return FetchKey::read_long(alloc, spare, table, id);
-        }
-        let bytes = joined(table.len() as u8, table, id);
-        if !is_cut(&bytes[..1 + table.len() + id.len()], 1 + table.len()) {
-            return Ok(None);
-        }
-        match FetchKey::of(alloc, spare, KeyText::short(table, id, bytes)) {
-            Ok(key) => Ok(Some(key)),
-            Err(error) => Err(error),
-        }
-    }
-
-    /// The same of bytes that together are long.
-    #[cold]
-    fn read_long(
-        alloc: Global,
-        spare: Option<FetchKey>,
-        table: &[u8],
-        id: &[u8],
-    ) -> Result<Option<FetchKey>, AllocError>
-        requires key { IsKey (record { table = table.now; id = id.now }) }
-        requires long { short_bytes < 1 + length table.now + length id.now }
-        ensures some { IfOk result (λ key. IfSome key (λ k. (k ≡ record { table = table.now; id = id.now }) × IsKeyText k)) }
-        ensures none { IfOk result (λ key. IfNone key (¬ (IsKeyText (record { table = table.now; id = id.now })))) }
-        ensures err { OnErr result (IsKeyText (record { table = table.now; id = id.now })) }
-    {
-        let Some(both) = KeyText::read_long(alloc, table, id)? else {
+        let Some(both) = KeyText::read(alloc, table, id)? else {
             return Ok(None);
         };
         let key = FetchKey::of(alloc, spare, both)?;

@@ -1,4 +1,4 @@
-use Rattle.std.proofs.Common.{◌≡◌, ◌<◌, length, inl, rules}
+use Rattle.std.proofs.Common.{◌<◌, length, inl, rules}
 use Rattle.std.proofs.lemmas.Result.{err_from_is_err_and}
 use Rattle.dl_c.specs.declared.codes.TheConstants.{BAD_KEY}
 use Rattle.dl_values.specs.KeyTexts.{IsKeyText}
