@@ -8,8 +8,8 @@ use thiserror::Error;
 pub(crate) enum Workload {
     /// Loads the keys one by one on a desk, then dispatches.
     OneByOne(Ids),
-    /// The same on a desk by table, of so many tables in turn.
-    ByTable { tables: u32 },
+    /// The same, of tables in turn.
+    OfTables(TableTurns),
     /// Makes the keys, and then calls of a desk.
     Listed(Calls),
     /// Loads, clears and loads again each key in turn.
@@ -20,6 +20,22 @@ pub(crate) enum Workload {
     Shared(Callers),
     /// Evaluates terms over a shared loader.
     Terms(Evaluated),
+}
+
+/// Of how many tables keys are, and which a batch may have.
+#[derive(Clone, Copy)]
+pub(crate) struct TableTurns {
+    pub(crate) count: u32,
+    pub(crate) rule: Rule,
+}
+
+/// Of which tables the keys of a batch may be.
+#[derive(Clone, Copy)]
+pub(crate) enum Rule {
+    /// Of any.
+    Mixed,
+    /// Of one, which has a limit of its own.
+    ByTable,
 }
 
 /// How terms are evaluated.
@@ -105,7 +121,7 @@ pub(crate) struct Command {
 /// Why words are no command.
 #[derive(Debug, Drop, Error)]
 pub(crate) enum CommandFault {
-    #[error("usage: dl_bench loads|many|rounds|tables|loader N B, hostile|harmless[-tables] N, hits|clears|terms N, threads N C, tables-of T N, inline P N, or serve P W N")]
+    #[error("usage: dl_bench loads|many|rounds|tables|loader N B, hostile|harmless[-tables] N, hits|clears|terms N, threads N C, tables-of|mixed-of T N, inline P N, or serve P W N")]
     Usage,
     #[error("N, B, C, P, T and W are numbers from 1 to 65536, the largest limit of a loader")]
     Size,
@@ -132,18 +148,27 @@ impl Command {
     fn of_two(name: &str, first: &str, second: &str) -> Result<Command, CommandFault> {
         match name {
             "tables-of" => {
-                let tables = size(first)?;
-                Ok(Command {
-                    workload: Workload::ByTable { tables },
-                    keys: size(second)?,
-                    most: BATCH,
-                })
+                let (count, keys) = (size(first)?, size(second)?);
+                Ok(Command::of_tables(Rule::ByTable, count, keys))
+            }
+            "mixed-of" => {
+                let (count, keys) = (size(first)?, size(second)?);
+                Ok(Command::of_tables(Rule::Mixed, count, keys))
             }
             "inline" => {
                 let count = size(first)?;
                 Ok(Command::of_terms(Evaluated::InTurn { count }, size(second)?))
             }
             name => Command::named(name, size(first)?, Some(size(second)?)),
+        }
+    }
+
+    /// The command of so many keys, of so many tables in turn.
+    fn of_tables(rule: Rule, count: u32, keys: u32) -> Command {
+        Command {
+            workload: Workload::OfTables(TableTurns { count, rule }),
+            keys,
+            most: BATCH,
         }
     }
 

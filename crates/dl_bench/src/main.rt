@@ -44,8 +44,8 @@ fn run<R: RandomSource + Threads + Wait + Sync>(
     } = command;
     match workload {
         Workload::OneByOne(ids) => desk::one_by_one(alloc, hashing, counts, ids, keys, most),
-        Workload::ByTable { tables } => {
-            table_loads::one_by_one(alloc, hashing, counts, tables, keys, most)
+        Workload::OfTables(turns) => {
+            table_loads::one_by_one(alloc, hashing, counts, turns, keys, most)
         }
         Workload::Listed(calls) => desk::listed(alloc, hashing, counts, calls, keys, most),
         Workload::Clears => desk::clears(alloc, hashing, counts, keys, most),

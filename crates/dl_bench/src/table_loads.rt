@@ -1,5 +1,6 @@
-//! The workload on a desk each of whose batches is of one table.
+//! The workloads of keys whose tables take turns.
 
+use crate::command::{Rule, TableTurns};
 use crate::counts::Counts;
 use crate::keys::limits;
 use anyhow::{Result, bail};
@@ -8,19 +9,24 @@ use itoa::Buffer;
 use std::alloc::{AllocError, Global};
 use std::hash::RandomState;
 
-/// Loads keys one by one on a new desk, of so many tables in turn, of which each has a limit of its own, then dispatches.
+/// Loads keys one by one on a new desk, of tables in turn, then dispatches.
 pub(crate) fn one_by_one(
     alloc: Global,
     hashing: RandomState,
     counts: &mut Counts,
-    tables: u32,
+    turns: TableTurns,
     keys: u32,
     batch: u32,
 ) -> Result<()> {
     let limits = limits(batch)?;
-    let names = names_of(alloc, tables)?;
-    let own = limits_of(alloc, &names, batch)?;
-    let mut desk = Desk::by_table(alloc, hashing, limits, own);
+    let names = names_of(alloc, turns.count)?;
+    let mut desk = match turns.rule {
+        Rule::Mixed => Desk::new(alloc, hashing, limits),
+        Rule::ByTable => {
+            let own = limits_of(alloc, &names, batch)?;
+            Desk::by_table(alloc, hashing, limits, own)
+        }
+    };
     loads(alloc, &mut desk, counts, &names, keys)
 }
 
