@@ -4,8 +4,8 @@ use Rattle.dl_values.specs.declared.job.Job.{Job}
 use Rattle.dl_history.specs.Entries.{Entry}
 use Rattle.dl_history.specs.Service.{Service}
 use Rattle.dl_loader.specs.Pass.{Trace}
-use Rattle.dl_workers.specs.Ending.{AreEndsOf, IsEndOf, WasEnded}
-use Rattle.dl_workers.proofs.EndEntries.{end_adds}
+use Rattle.dl_loader.specs.JobEnd.{AreEndsOf, IsEndOf, WasEnded}
+use Rattle.dl_loader.proofs.EndEntries.{end_adds}
 use Rattle.dl_haxl.specs.Rounds.{AddsAndSends, EndedInline}
 
 -- one job more

@@ -4,7 +4,7 @@ use Rattle.dl_values.specs.declared.job.Job.{Job}
 use Rattle.dl_history.specs.Service.{Service}
 use Rattle.dl_loader.specs.Pass.{Trace}
 use Rattle.dl_passes.specs.declared.fault.CallFault.{CallFault}
-use Rattle.dl_workers.specs.Ending.{WasNotEnded, end_answered, end_unanswered}
+use Rattle.dl_loader.specs.JobEnd.{WasNotEnded, end_answered, end_unanswered}
 use Rattle.dl_haxl.specs.RunFaults.{IsRunFault, SomeCallRefused}
 use Rattle.dl_haxl.specs.declared.fault.RunFault.{RunFault}
 

@@ -17,7 +17,7 @@ use Rattle.dl_terms.specs.View.{term_view}
 use Rattle.dl_terms.specs.declared.answer.Answer.{Answer}
 use Rattle.dl_terms.specs.declared.plan.Step.{Step}
 use Rattle.dl_terms.specs.declared.plan.Step.TheVariants.{Prime, Clear, ClearAll, Eval}
-use Rattle.dl_workers.specs.Dispatches.{events_told, dispatched, dispatched_by, unsent, unsent_by}
+use Rattle.dl_loader.specs.Dispatches.{events_told, dispatched, dispatched_by, unsent, unsent_by}
 use Rattle.dl_haxl.specs.PlanEntries.{Stretch, stretch, IsStep, AreSteps, FollowsAndSends}
 use Rattle.dl_haxl.specs.Rounds.{EvaluatesQueued, HandedOver, Round, Rounds}
 use Rattle.dl_haxl.specs.declared.step_answer.StepAnswer.{StepAnswer}

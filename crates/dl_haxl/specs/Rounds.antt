@@ -15,7 +15,7 @@ use Rattle.dl_loader.specs.Pass.{Trace}
 use Rattle.dl_terms.specs.declared.answer.Answer.{Answer}
 use Rattle.dl_terms.specs.Tree.{Tree}
 use Rattle.dl_terms.specs.TermAnswers.{Pairs, frontier, gives}
-use Rattle.dl_workers.specs.Ending.{AreEndsOf}
+use Rattle.dl_loader.specs.JobEnd.{AreEndsOf}
 use Rattle.dl_haxl.specs.Pairs.{paired}
 
 -- ---- jobs that are fetched on the caller's own thread

@@ -15,3 +15,5 @@ mod CloseLemmas
 mod Sources
 pub mod ThreadSafety
 pub mod Closures
+pub mod JobEnds
+pub mod EndEntries

@@ -17,4 +17,6 @@ pub mod Book
 pub mod Refusals
 pub mod EventEffect
 pub mod CloseRefusals
+pub mod JobEnd
+pub mod Dispatches
 pub mod Inside

@@ -9,6 +9,7 @@ mod book;
 mod calls;
 mod dues;
 mod event_call;
+mod job_end;
 pub mod laws;
 mod load_replies;
 mod loader;
@@ -22,5 +23,6 @@ pub use dl_history::{
 pub use dl_passes::{
     Ask, CallFault, CloseFault, GiveUp, Pass, PrimeReply, Settled, StartFault, Stopped, Ticket,
 };
+pub use job_end::{end_job, end_jobs};
 pub use loader::Loader;
 pub use opening::{MOST_CALLERS, Opening};

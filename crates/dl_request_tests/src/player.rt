@@ -4,7 +4,7 @@
 ghost use Rattle.std.specs.Prelude.{◌≡◌, All, length};
 ghost use Rattle.dl_history.specs.Service.{Answers};
 ghost use Rattle.dl_loader.specs.Opening.{Names};
-ghost use Rattle.dl_workers.specs.Seats.{IsSenderOf, IsTakerOf};
+ghost use Rattle.dl_queue.specs.Seats.{IsSenderOf, IsTakerOf};
 
 use crate::comparison::assert_is;
 use crate::stage::Stage;

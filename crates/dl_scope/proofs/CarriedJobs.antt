@@ -12,7 +12,7 @@ use Rattle.dl_history.proofs.ListLemmas.{every_from}
 use Rattle.dl_terms.specs.declared.plan.Step.{Step}
 use Rattle.dl_terms.specs.declared.plan.Step.TheVariants as step
 use Rattle.dl_workers.specs.GiveUps.{given_up, given_up_by}
-use Rattle.dl_workers.specs.Dispatches.{unsent, unsent_by}
+use Rattle.dl_loader.specs.Dispatches.{unsent, unsent_by}
 use Rattle.dl_scope.specs.CarriedJobs.{EachIsCarried, JobsAreBatches}
 use Rattle.dl_scope.specs.Headline.{Ends, calls_after}
 use Rattle.dl_scope.proofs.CallersCalls.{OfRounds, OfStep, event_holds, some_low}

@@ -18,7 +18,7 @@ use Rattle.dl_history.specs.declared.event.Call.{Call}
 use Rattle.dl_history.specs.declared.event.Call.TheVariants.{Load, LoadMany, Prime, Clear, ClearAll, Dispatch, Settle, Fail}
 use Rattle.dl_history.proofs.ListLemmas.{total-append}
 use Rattle.dl_history.proofs.Pasts.{by_events, atoms_next, legal_atoms}
-use Rattle.dl_workers.specs.Dispatches.{dispatched, dispatched_by}
+use Rattle.dl_loader.specs.Dispatches.{dispatched, dispatched_by}
 use Rattle.dl_scope.proofs.CallTotals.{long_each}
 
 -- ---- one call

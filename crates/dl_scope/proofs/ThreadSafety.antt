@@ -16,10 +16,10 @@ use Rattle.dl_loader.specs.contracts.loader.Loader as Loader
 use Rattle.dl_passes.specs.contracts.pass.Pass as Pass
 use Rattle.dl_passes.proofs.pass.Pass.TheSendSync as pass
 use Rattle.dl_loader.proofs.ThreadSafety.{Loader-sync}
-use Rattle.dl_workers.specs.contracts.queue.JobQueue as JobQueue
-use Rattle.dl_workers.proofs.queue.JobQueue.TheSendSync as queue
-use Rattle.dl_workers.specs.contracts.seats.Sender as Sender
-use Rattle.dl_workers.proofs.seats.Sender.TheSendSync as sender
+use Rattle.dl_queue.specs.contracts.queue.JobQueue as JobQueue
+use Rattle.dl_queue.proofs.queue.JobQueue.TheSendSync as queue
+use Rattle.dl_queue.specs.contracts.seats.Sender as Sender
+use Rattle.dl_queue.proofs.seats.Sender.TheSendSync as sender
 use Rattle.dl_terms.proofs.term.Term.TheLaws.TheKnot.{crosses as terms_cross}
 use Rattle.dl_terms.specs.contracts.answer.Answer as Answer
 use Rattle.dl_terms.specs.contracts.term.Term as Term

@@ -13,7 +13,7 @@ use Rattle.dl_loader.specs.Asks.{end_by}
 use Rattle.dl_loader.specs.EventEffect.{WasMade}
 use Rattle.dl_loader.specs.Pass.{Trace}
 use Rattle.dl_loader.proofs.AdditionLemmas.{made_adds}
-use Rattle.dl_workers.specs.Ending.{WasEnded, WereEnded, end_answered, end_unanswered}
+use Rattle.dl_loader.specs.JobEnd.{WasEnded, WereEnded, end_answered, end_unanswered}
 use Rattle.dl_workers.specs.WorkerResult.{Worked}
 use Rattle.dl_workers.specs.declared.worker.WorkerEnd.{WorkerEnd}
 use Rattle.dl_workers.specs.declared.worker.WorkerEnd.TheVariants as end

@@ -8,7 +8,7 @@ use Rattle.dl_history.specs.declared.event.Event.{Event}
 use Rattle.dl_scope.specs.Headline.{Headline, HeadlineBut}
 use Rattle.dl_scope.specs.Report.{Report}
 use Rattle.dl_terms.specs.declared.plan.Plan.{Plan}
-use Rattle.dl_workers.specs.Dispatches.{dispatched}
+use Rattle.dl_loader.specs.Dispatches.{dispatched}
 
 -- how many batches the events began
 abbrev pub batches_of : List Event → ℕ

@@ -14,7 +14,7 @@ use Rattle.dl_history.specs.declared.event.Event.{Event}
 use Rattle.dl_haxl.specs.PlanEntries.{Follows}
 use Rattle.dl_scope.specs.Report.{Report}
 use Rattle.dl_workers.specs.GiveUps.{given_up}
-use Rattle.dl_workers.specs.Dispatches.{dispatched, unsent}
+use Rattle.dl_loader.specs.Dispatches.{dispatched, unsent}
 use Rattle.dl_terms.specs.declared.plan.Plan.{Plan}
 use Rattle.dl_scope.specs.declared.setup.Setup.{Setup}
 use Rattle.dl_haxl.specs.declared.step_answer.StepAnswer.{StepAnswer}

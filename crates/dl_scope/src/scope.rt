@@ -7,7 +7,7 @@ ghost use Rattle.dl_loader.specs.Opening.{AreCallers, Names};
 ghost use Rattle.dl_values.specs.Limits.{rules_by};
 ghost use Rattle.dl_loader.specs.Pass.{new_traces};
 ghost use Rattle.dl_workers.specs.GiveUps.{given_up};
-ghost use Rattle.dl_workers.specs.Seats.{AreSeatsOf, sent_jobs, taken_jobs};
+ghost use Rattle.dl_queue.specs.Seats.{AreSeatsOf, sent_jobs, taken_jobs};
 ghost use Rattle.dl_terms.specs.Plans.{ArePlans};
 ghost use Rattle.dl_scope.specs.Faults.{AreWorkers, MayServe, RefusedAs};
 ghost use Rattle.dl_scope.specs.Headline.{Headline, service_of};

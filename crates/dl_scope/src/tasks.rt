@@ -1,7 +1,7 @@
 //! What each thread of a server is given, and what it gives back.
 
 ghost use Rattle.dl_history.specs.Service.{Answers};
-ghost use Rattle.dl_workers.specs.Seats.{IsSenderOf, IsTakerOf};
+ghost use Rattle.dl_queue.specs.Seats.{IsSenderOf, IsTakerOf};
 ghost use Rattle.dl_scope.specs.Inside.ThreadRuns.{IsPlanRun, IsWorkerRun};
 
 use crate::server::Server;

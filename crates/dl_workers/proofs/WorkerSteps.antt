@@ -4,9 +4,9 @@ use Rattle.std.proofs.lemmas.List.{append_assoc, append-nil, length-append}
 use Rattle.dl_values.specs.declared.job.Job.{Job}
 use Rattle.dl_loader.specs.Pass.{Trace}
 use Rattle.dl_history.specs.Service.{Service}
-use Rattle.dl_workers.specs.Ending.{WasEnded, WereEnded}
+use Rattle.dl_loader.specs.JobEnd.{WasEnded, WereEnded}
 use Rattle.dl_workers.specs.WorkerResult.{EndedBefore, EndedEach, Took}
-use Rattle.dl_workers.proofs.Endings.{ended_more}
+use Rattle.dl_loader.proofs.JobEnds.{ended_more}
 
 -- one job more was taken
 taken_more : (old jobs now new : List Job) (job : Job) → now ≡ old ++ jobs → new ≡ now ++ job ∷ [] → new ≡ old ++ (jobs ++ job ∷ [])

@@ -1,9 +1,2 @@
-pub mod Bag
-pub mod LosslessRule
-pub mod QueueFaults
-pub mod Seats
-pub mod Balance
-pub mod Ending
-pub mod Dispatches
 pub mod GiveUps
 pub mod WorkerResult

@@ -2,16 +2,14 @@
 
 ghost use Rattle.std.specs.Prelude.{◌≡◌, ◌⊎◌, ◌++◌, MatchBool, length};
 ghost use Rattle.dl_history.specs.Service.{Answers};
-ghost use Rattle.dl_workers.specs.Ending.{WasEnded};
-ghost use Rattle.dl_workers.specs.Seats.{HasEnded, IsTakerOf, taken_jobs};
+ghost use Rattle.dl_loader.specs.JobEnd.{WasEnded};
+ghost use Rattle.dl_queue.specs.Seats.{HasEnded, IsTakerOf, taken_jobs};
 ghost use Rattle.dl_workers.specs.WorkerResult.{Took, Worked};
 
-use crate::ending::end_job;
 use crate::gate::Gate;
-use crate::queue::JobQueue;
-use crate::seats::Taker;
 use dl_desk::Job;
-use dl_loader::{Loader, LoaderName, Pass};
+use dl_loader::{Loader, LoaderName, Pass, end_job};
+use dl_queue::{JobQueue, Taker};
 use dl_source::Source;
 use std::alloc::Global;
 use std::sync::Wait;

@@ -7,9 +7,8 @@ ghost use Rattle.dl_loader.specs.Opening.{Names};
 
 use anyhow::{Result, bail};
 use dl_desk::{FetchKey, Limits, Outcome};
-use dl_loader::{Loader, LoaderName, Opening, Pass};
+use dl_loader::{Loader, LoaderName, Opening, Pass, end_jobs};
 use dl_source::{Source, Tables};
-use dl_workers::end_jobs;
 use serde_json::Value;
 use std::alloc::Global;
 use std::hash::RandomState;

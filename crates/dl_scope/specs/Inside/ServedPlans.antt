@@ -4,10 +4,10 @@ use Rattle.std.specs.List.{AllZip}
 use Rattle.dl_history.specs.Lists.{Every, total}
 use Rattle.dl_history.specs.Service.{Service}
 use Rattle.dl_loader.specs.Pass.{Trace, Pass}
-use Rattle.dl_workers.specs.Seats.{IsSenderOf, sent_jobs, taken_jobs}
-use Rattle.dl_workers.specs.Dispatches.{dispatched, events_told, unsent}
-use Rattle.dl_workers.specs.declared.queue.JobQueue.{JobQueue}
-use Rattle.dl_workers.specs.declared.queue.Tally.{Tally}
+use Rattle.dl_queue.specs.Seats.{IsSenderOf, sent_jobs, taken_jobs}
+use Rattle.dl_loader.specs.Dispatches.{dispatched, events_told, unsent}
+use Rattle.dl_queue.specs.declared.queue.JobQueue.{JobQueue}
+use Rattle.dl_queue.specs.declared.queue.Tally.{Tally}
 use Rattle.dl_haxl.specs.PlanEntries.{Follows}
 use Rattle.dl_scope.specs.Headline.{TellsEnd}
 use Rattle.dl_scope.specs.Inside.ThreadRuns.{IsPlanRun, IsWorkerRun}

@@ -1,6 +1,6 @@
 use Rattle.std.proofs.Common.{◌≡◌, ◌∙◌, ◌++◌, [], ap, sym, length, length-append, map, arith}
 use Rattle.std.proofs.lemmas.List.{length-map}
-use Rattle.dl_workers.specs.Seats.{IsSenderOf, IsTakerOf, sent_jobs, taken_jobs}
+use Rattle.dl_queue.specs.Seats.{IsSenderOf, IsTakerOf, sent_jobs, taken_jobs}
 use Rattle.dl_scope.proofs.Seats.{all_front, all_last, all_unmapped, ran_all}
 use Rattle.dl_scope.proofs.scope.run_tasks.Goals as goal
 

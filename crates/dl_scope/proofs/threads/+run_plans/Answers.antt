@@ -1,5 +1,5 @@
 use Rattle.std.proofs.Common.{subst}
-use Rattle.dl_workers.specs.Seats.{IsSenderOf}
+use Rattle.dl_queue.specs.Seats.{IsSenderOf}
 use Rattle.dl_scope.specs.Inside.ThreadRuns.{IsPlanRun}
 use Rattle.dl_scope.specs.declared.tasks.PlanTask.{PlanTask}
 use Rattle.dl_scope.proofs.ThreadJoins.{all_joined}

@@ -1,6 +1,6 @@
 use Rattle.std.proofs.Common.{subst}
 use Rattle.std.specs.List.{AllZip}
-use Rattle.dl_workers.specs.Seats.{IsTakerOf}
+use Rattle.dl_queue.specs.Seats.{IsTakerOf}
 use Rattle.dl_scope.specs.Inside.ThreadRuns.{IsPlanRun, IsWorkerRun, SendsNothing}
 use Rattle.dl_scope.specs.declared.tasks.WorkerTask.{WorkerTask}
 use Rattle.dl_scope.proofs.ThreadJoins.{all_joined, others_stay}

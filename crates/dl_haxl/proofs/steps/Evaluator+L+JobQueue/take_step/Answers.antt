@@ -3,7 +3,7 @@ use Rattle.dl_history.specs.declared.event.Call.TheVariants as call
 use Rattle.dl_history.specs.declared.event.Reply.TheVariants.{Done}
 use Rattle.dl_terms.specs.declared.plan.Step.TheVariants.{Prime, Clear, ClearAll}
 use Rattle.dl_loader.specs.Pass.{Pass}
-use Rattle.dl_workers.specs.Seats.{sent_jobs}
+use Rattle.dl_queue.specs.Seats.{sent_jobs}
 use Rattle.dl_haxl.proofs.Stretches.{call_step, made_step}
 use Rattle.dl_haxl.proofs.steps.Evaluator+L+JobQueue.take_step.Goals as goal
 use Rattle.dl_haxl.proofs.steps.Evaluator+L+JobQueue.take_step.Goals.{in-Prime+in_ok-prime-in-Prime, in-Clear+in_ok-clear-in-Clear, in-ClearAll+in_ok-clear_all-in-ClearAll}

@@ -1,0 +1,6 @@
+mod SeatSteps
+mod NewSeats
+mod Finish
+mod Jobs
+mod Steps
+mod Totals
