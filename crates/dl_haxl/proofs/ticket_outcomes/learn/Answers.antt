@@ -1,4 +1,4 @@
-use Rattle.std.proofs.Common.{◌≡◌, ◌∙◌, ap, sym, subst, ◌+◌, ◌<◌, ◌≤◌, ◌++◌, ◌∷◌, [], length, get_or, true, take, drop, arith}
+use Rattle.std.proofs.Common.{◌≡◌, ◌∙◌, ap, sym, ◌<◌, ◌≤◌, ◌++◌, ◌∷◌, [], length, get_or, true, take, drop, arith}
 use Rattle.std.proofs.lemmas.List.{take_all, drop_all}
 use Rattle.dl_terms.specs.Asked.{paired, pairs_of, wanted_of}
 use Rattle.dl_terms.proofs.AskedKeys.{drop_next}
