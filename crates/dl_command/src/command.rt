@@ -34,11 +34,7 @@ impl Program {
     ///
     /// # Errors
     /// A request for help, with the help as its text, and words of another form.
-    pub fn options<'a, S: AsStr>(
-        self,
-        alloc: Global,
-        words: &'a [S],
-    ) -> Result<Options, Error>
+    pub fn options<'a, S: AsStr>(self, alloc: Global, words: &'a [S]) -> Result<Options, Error>
         ensures { let texts = map S.text words.entry.now in
             IfOk result (AreGivenTo self (matches_of (app_of_program self) texts) (subcommand_of (app_of_program self) texts)) }
     {
