@@ -19,7 +19,7 @@ use Rattle.dl_plans.specs.Run.{IsOutput, AppendsFront, IsDocument, IsRefused, Wr
 use Rattle.dl_plans.specs.declared.fault.RunError.{RunError}
 use Rattle.dl_plans.specs.declared.fault.RunError.TheVariants as error
 use Rattle.dl_plans.specs.declared.program.TheConstants.{MOST_READ}
-use Rattle.dl_plans.specs.declared.settings.Options.{Options}
+use Rattle.dl_command.specs.declared.settings.Options.{Options}
 
 -- the first bytes, if there are no more than a document has, are all
 all_read : (bytes : List ℕ) → length (take MOST_READ bytes) ≤ most_bytes → take MOST_READ bytes ≡ bytes

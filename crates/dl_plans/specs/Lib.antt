@@ -1,9 +1,5 @@
-pub mod JsonText
-pub mod Lines
 pub mod MigratedAnswers
-pub mod Output
 pub mod ReportText
-pub mod Options
 pub mod Run
 pub mod Migration
 pub mod Status

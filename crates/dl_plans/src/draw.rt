@@ -4,11 +4,11 @@ ghost use Rattle.std.specs.Prelude.{◌≡◌, ◌≢◌, ◌+◌, ℕ, List, If
 ghost use Rattle.std.specs.Io.KnownBytes.{Keeps};
 ghost use Rattle.dl_documents.specs.Faults.{most_bytes};
 ghost use Rattle.dl_plans.specs.Run.{IsRefused, ReadsAtMost};
-ghost use Rattle.dl_plans.specs.declared.settings.Options.{Options};
+ghost use Rattle.dl_command.specs.declared.settings.Options.{Options};
 
 use crate::fault::RunError;
 use crate::program::{read_all, served, write_all};
-use crate::settings::Options;
+use dl_command::Options;
 use dl_documents::{Input, PlanFault, Script, read_input};
 use dl_scope::Report;
 use std::alloc::{AllocError, Global};

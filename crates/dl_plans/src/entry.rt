@@ -1,13 +1,12 @@
 //! The programs over a runtime.
 
-use crate::command::Program;
 use crate::draw::{Draw, run_draw};
 use crate::fault::RunError;
 use crate::migration::run_migrate;
 use crate::program::run;
-use crate::settings::Options;
 use crate::status::{FAILED, RAN, command_status, words_status};
 use clap::error::ErrorKind;
+use dl_command::{Options, Program};
 use std::hash::RandomState;
 use std::process::ExitCode;
 use std::random::RandomSource;

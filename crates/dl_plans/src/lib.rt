@@ -3,31 +3,25 @@
 
 mod answer_lines;
 mod batch_lines;
-mod command;
 mod draw;
 mod entry;
 mod fault;
-mod json_text;
 pub mod laws;
-mod lines;
 mod migration;
 mod program;
 mod report;
-mod script_text;
-mod settings;
 mod status;
 
-pub use command::{not_text, options, out_of_range, workers};
+pub use dl_command::{Options, not_text, options, out_of_range, workers};
 pub use dl_documents::{
     Calls, Input, MOST_BYTES, PlanFault, PlanFile, Script, ScriptCall, read_input,
 };
 pub use dl_migration::{MigrateFault, migrate};
+pub use dl_scripts::run_script;
 pub use draw::{Draw, run_draw};
 pub use entry::{plan_picture, plans, tell_no_options, words};
 pub use fault::RunError;
 pub use migration::run_migrate;
 pub use program::{read_all, run, served, write_all};
 pub use report::report_text;
-pub use script_text::run_script;
-pub use settings::Options;
 pub use status::{FAILED, RAN, command_status, words_status};

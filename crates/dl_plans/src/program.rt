@@ -9,10 +9,10 @@ ghost use Rattle.dl_plans.specs.Run.{IsOutput, Writes, WritesFront, AppendsFront
 
 use crate::fault::RunError;
 use crate::report::report_text;
-use crate::script_text::run_script;
-use crate::settings::Options;
+use dl_command::Options;
 use dl_documents::{Input, MOST_BYTES, PlanFault, PlanFile, read_input};
 use dl_scope::{Report, ScopeFault, Setup, serve};
+use dl_scripts::run_script;
 use dl_workers::NoGate;
 use std::alloc::Global;
 use std::hash::RandomState;
