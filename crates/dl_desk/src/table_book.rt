@@ -142,12 +142,7 @@ impl TableBook {
     // Out of line, as is the next one, since of each table or batch it is called once.
     #[cold]
     #[inline(never)]
-    fn begin(
-        &mut self,
-        max_batch: u32,
-        next: u32,
-        table: &TableName,
-    ) -> Result<Newest, AllocError>
+    fn begin(&mut self, max_batch: u32, next: u32, table: &TableName) -> Result<Newest, AllocError>
         requires { told self.old table.now ≡ None }
         ensures renews { IfOk result (λ newest. Renews self.old table.now newest self.new) }
         ensures newest { IfOk result (IsNewest max_batch next self.old table.now) }

@@ -1,4 +1,4 @@
-use Rattle.std.proofs.Common.{◌≡◌, ◌∙◌, sym, ap, inl, Some, option_copied, refl}
+use Rattle.std.proofs.Common.{◌≡◌, ◌∙◌, sym, ap, inl, Some, option_copied}
 use Rattle.dl_desk.specs.TableBook.{told}
 use Rattle.dl_desk.proofs.TableNames.{lookup-name}
 use Rattle.dl_desk.proofs.TableLemmas.{renews_told}
