@@ -183,6 +183,7 @@ fn index_keys(
 }
 
 /// Whether the first key is of the table.
+#[inline(always)]
 fn is_first_of(keys: &[FetchKey], table: &str) -> bool
     ensures { result ≡ is_first_of table.now keys.now }
 {

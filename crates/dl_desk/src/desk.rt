@@ -330,7 +330,7 @@ impl Desk {
     {
         self.is_prepared = true;
         let newest = self.newest();
-        let batch = memo_and_batches::join(
+        let batch = memo_and_batches::join_mixed(
             &mut self.batches,
             alloc,
             *self.memo.hasher(),

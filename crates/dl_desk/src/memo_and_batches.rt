@@ -97,6 +97,8 @@ fn choose(
 
 /// Prepares a member of the key in the newest batch, or in the next one where a member of the newest has the
 /// key, and answers which. The error is a failed allocation, and then an empty batch may have been added.
+// Inlined into the step of batches of one table.
+#[inline(always)]
 pub(crate) fn join(
     batches: &mut Vec<StoredBatch>,
     alloc: Global,
@@ -120,6 +122,29 @@ pub(crate) fn join(
     }
     batches[number as usize].push(key, cell)?;
     Ok(number)
+}
+
+/// The same, where batches may mix tables.
+// Out of line, so that loads that find their key cost nothing of it.
+#[inline(never)]
+pub(crate) fn join_mixed(
+    batches: &mut Vec<StoredBatch>,
+    alloc: Global,
+    hashing: RandomState,
+    choice: BatchChoice,
+    key: &FetchKey,
+    cell: u32,
+) -> Result<u32, AllocError>
+    requires newest { choice.newest ≤ choice.next }
+    requires next { choice.next ≤ vec_len batches.old }
+    requires none { NoneFrom choice.forgotten (map prepared_batch batches.old.items) key.now }
+    requires next_is_empty { members_of (slice_get (map prepared_batch batches.old.items) choice.next) ≡ [] }
+    ensures number { IfOk result (λ number. number
+        ≡ (if has_member (members_of (slice_get (map prepared_batch batches.old.items) choice.newest)) key.now then choice.next else choice.newest)) }
+    ensures added { IfOk result (λ number. IsAdded batches.old.items number (key.now, cell) batches.new.items) }
+    ensures err { OnErr result (MakesRoom batches.old.items batches.new.items) }
+{
+    join(batches, alloc, hashing, choice, key, cell)
 }
 
 /// Forgets each member's key that is held with the member's own cell.

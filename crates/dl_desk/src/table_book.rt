@@ -134,6 +134,20 @@ impl TableBook {
         if let Some(newest) = self.newest.get(table) {
             return Ok(*newest);
         }
+        self.begin(max_batch, next, table)
+    }
+
+    /// Tells of a table of which nothing is told that its first batch may be the next one. The error is a failed
+    /// allocation, and leaves the book.
+    // Out of line, as is the next one, since of each table or batch it is called once.
+    #[cold]
+    #[inline(never)]
+    fn begin(&mut self, max_batch: u32, next: u32, table: &TableName) -> Result<Newest, AllocError>
+        requires { told self.old table.now ≡ None }
+        ensures renews { IfOk result (λ newest. Renews self.old table.now newest self.new) }
+        ensures newest { IfOk result (IsNewest max_batch next self.old table.now) }
+        ensures err { OnErr result (self.new ≡ self.old) }
+    {
         let newest = Newest {
             most: self.most(max_batch, table.as_str()),
             latest: next,
@@ -144,6 +158,8 @@ impl TableBook {
     }
 
     /// Tells another newest batch of a table.
+    #[cold]
+    #[inline(never)]
     fn renew(&mut self, table: &TableName, newest: Newest)
         requires { IsSome (told self.old table.now) }
         ensures { Renews self.old table.now newest self.new }
@@ -208,8 +224,8 @@ impl TableBook {
         ensures err_fits { OnErr result (AreTables standing.limits.max_batch (both standing.shown.begun standing.prepared.begun batches.new.items) self.new) }
     {
         let next = standing.prepared.begun;
+        let table = key.table();
         let name = TableName::of(key)?;
-        let table = name.as_str();
         let newest = self.newest_of(standing.limits.max_batch(), next, &name)?;
         let last = newest_in(batches.as_slice(), next, newest, table);
         let open = with_room(batches.as_slice(), standing.prepared, newest.most, last);
@@ -227,7 +243,7 @@ impl TableBook {
             key,
             cell,
         )?;
-        self.touched.push(number).unwrap();
+        self.touched.push_reserved(number);
         self.tell(batches.as_slice(), standing, &name, newest, number);
         Ok(number)
     }

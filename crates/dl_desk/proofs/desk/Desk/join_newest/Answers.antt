@@ -13,11 +13,11 @@ pub invariant_of-self-in_err-batch : goal.invariant_of-self-in_err-batch
 invariant_of-self-in_err-batch c = desk_grown _ c.self.inside.tables _ c.self.invariant c.in_err-batch.ensures.err
     (fit_none _ _ c.self.inside.tables (no_tables c.self.inside.tables (rw (← c.self.view_is) at c.requires.mixes)))
 
-pub join-requires-clause-newest : goal.join-requires-clause-newest
-join-requires-clause-newest c = below_begun c.self.inside.prepared _ _ c.newest-newest.ensures.low
+pub join_mixed-requires-clause-newest : goal.join_mixed-requires-clause-newest
+join_mixed-requires-clause-newest c = below_begun c.self.inside.prepared _ _ c.newest-newest.ensures.low
 
-pub join-requires-clause-none : goal.join-requires-clause-none
-join-requires-clause-none c = none_stored c.self.inside.prepared _ c.args.forgotten _ c.args.key.now c.self.invariant.prepared_book
+pub join_mixed-requires-clause-none : goal.join_mixed-requires-clause-none
+join_mixed-requires-clause-none c = none_stored c.self.inside.prepared _ c.args.forgotten _ c.args.key.now c.self.invariant.prepared_book
     (rw (← c.self.view_is) at c.requires.may.none)
 
 newest_low : (c : goal.After-self-3-1) → c.newest-newest.result ≤ c.self.inside.prepared.begun

@@ -78,7 +78,7 @@ returns-clause-next c = joined_next (joined c)
 
 pub returns-clause-fits : goal.returns-clause-fits
 returns-clause-fits c =
-    let touched = rw c.reserve.ensures.items at (rw c.unwrap.ensures at c.push.ensures.items) in
+    let touched = rw c.reserve.ensures.items at c.push_reserved.ensures.items in
     elim (cases_eq c.in_ok-number.number c.args.standing.prepared.begun) [
       | inl is ↦
           let e : Newest = renewed (take c.args.standing.shown.begun (map shown_batch c.join.new.batches.items)) c.args.key.now.table c.in_ok-newest.newest c.in_ok-number.number in

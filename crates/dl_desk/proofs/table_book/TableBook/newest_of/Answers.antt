@@ -1,6 +1,6 @@
-use Rattle.std.proofs.Common.{◌≡◌, ◌∙◌, sym, ap, inl, inr, Some, option_copied, refl}
+use Rattle.std.proofs.Common.{◌≡◌, ◌∙◌, sym, ap, inl, Some, option_copied}
 use Rattle.dl_desk.specs.TableBook.{told}
-use Rattle.dl_desk.proofs.TableNames.{lookup-name, lookup-told}
+use Rattle.dl_desk.proofs.TableNames.{lookup-name}
 use Rattle.dl_desk.proofs.TableLemmas.{renews_told}
 use Rattle.dl_desk.proofs.table_book.TableBook.newest_of.Goals as goal
 
@@ -13,15 +13,5 @@ returns-in-Some-clause-renews c = renews_told c.args.self.now c.args.table.now c
 pub returns-in-Some-clause-newest : goal.returns-in-Some-clause-newest
 returns-in-Some-clause-newest c = inl (found c)
 
-pub returns-clause-renews : goal.returns-clause-renews
-returns-clause-renews c = rw (← c.self.view_is) (record {
-  limits = refl;
-  newest = lookup-told c.self.inside.newest c.insert.new.self c.args.table.now _ (rw c.in_ok-try_copy.ensures at c.in_ok-insert.ensures.updates);
-  touched = refl;
-})
-
-pub returns-clause-newest : goal.returns-clause-newest
-returns-clause-newest c = inr (
-  rw (← c.self.view_is) (sym (lookup-name c.args.table.now c.self.inside.newest.entries) ∙ (sym c.get.ensures.value ∙ ap option_copied c.in_default.is)),
-  rw (c.most.ensures, ← c.self.view_is, c.as_str.ensures) refl,
-)
+pub begin-requires : goal.begin-requires
+begin-requires c = rw (← c.self.view_is) (sym (lookup-name c.args.table.now c.self.inside.newest.entries) ∙ (sym c.get.ensures.value ∙ ap option_copied c.in_default.is))
