@@ -77,7 +77,18 @@ fn joined(mark: u8, first: &[u8], second: &[u8]) -> ArrayVec<u8, SHORT_BYTES>
 }
 
 /// Whether the bytes are a text that may be cut at the seam.
+#[inline(always)]
 fn is_cut(bytes: &[u8], seam: usize) -> bool
+    requires { seam ≤ length bytes.now }
+    ensures { IsTrue result ↔ (IsUtf8 bytes.now × IsCharBoundary bytes.now seam) }
+{
+    // ASCII is a text that may be cut anywhere.
+    bytes.is_ascii() || is_cut_of_any(bytes, seam)
+}
+
+/// The same, of bytes that are not all ASCII.
+#[cold]
+fn is_cut_of_any(bytes: &[u8], seam: usize) -> bool
     ensures { IsTrue result ↔ (IsUtf8 bytes.now × IsCharBoundary bytes.now seam) }
 {
     match str::from_utf8(bytes) {
