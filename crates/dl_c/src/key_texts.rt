@@ -27,6 +27,8 @@ pub struct KeyLengths {
 
 /// The key of a table and an id, in the memory of the spare key if nobody shares that. The error is a code: `BAD_KEY` where a
 /// text is no UTF-8, is empty or is too long, else `OUT_OF_MEMORY`.
+// Inlined for the sake of loads that find their key.
+#[inline(always)]
 pub fn key_of(
     alloc: Global,
     spare: Option<FetchKey>,

@@ -1,8 +1,8 @@
 -- Bytes that are a mark and two pieces are a text that may be cut between the pieces exactly if the pieces are texts.
 use Rattle.std.proofs.Common.{◌≡◌, ℕ, zero, suc, ◌+◌, ◌<◌, ◌≤◌, List, [], ◌∷◌, ◌++◌, length, take, drop, get_or, refl, sym, subst, arith}
-use Rattle.std.specs.Str.{IsUtf8, IsCharBoundary}
+use Rattle.std.specs.Str.{IsUtf8, IsAscii, IsCharBoundary}
 use Rattle.std.proofs.Math.Seq.{take-append_seam, drop-append_seam}
-use Rattle.std.proofs.lemmas.Str.{IsUtf8-append, IsUtf8-take, IsUtf8-drop, IsUtf8-from_ascii, IsCharBoundary-at_seam, IsCharBoundary-after_ascii}
+use Rattle.std.proofs.lemmas.Str.{IsUtf8-append, IsUtf8-take, IsUtf8-drop, IsUtf8-from_ascii, IsCharBoundary-at_seam, IsCharBoundary-after_ascii, IsCharBoundary-from_ascii}
 use Rattle.dl_values.specs.KeyTexts.{AreTexts}
 
 mark_is_text : (mark : ℕ) → mark < 128 → IsUtf8 (mark ∷ [])
@@ -33,3 +33,7 @@ module _ (mark : ℕ) (first second : List ℕ) (ascii : mark < 128) where
         first_is = IsUtf8-drop (mark ∷ first) 1 front (IsCharBoundary-after_ascii (mark ∷ first) 0 front (omega arith) ascii);
         second_is = subst IsUtf8 (drop-append_seam (mark ∷ first) second) (IsUtf8-drop whole (length (mark ∷ first)) text at);
       }
+
+-- ASCII is a text that may be cut anywhere
+pub cut_of_ascii : (bytes : List ℕ) (seam : ℕ) → IsAscii bytes → seam ≤ length bytes → IsUtf8 bytes × IsCharBoundary bytes seam
+cut_of_ascii bytes seam ascii fits = (IsUtf8-from_ascii bytes ascii, IsCharBoundary-from_ascii bytes seam ascii fits)

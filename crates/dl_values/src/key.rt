@@ -1,6 +1,6 @@
 //! Keys, and lists of them that several places share.
 
-ghost use Rattle.std.specs.Prelude.{◌≡◌, ◌<◌, ◌≤◌, IfOk, IfErr, OnErr, IfSome, IfNone, length, IsTrue, ◌↔◌};
+ghost use Rattle.std.specs.Prelude.{◌≡◌, ◌+◌, ◌<◌, ◌≤◌, IfOk, IfErr, OnErr, IfSome, IfNone, length, IsTrue, ◌↔◌};
 ghost use Rattle.std.proofs.Common.{rules};
 ghost use Rattle.std.specs.Ordering.{as_partial_cmp};
 ghost use Rattle.std.specs.Cmp.{partial_order_from_own_ties};
@@ -8,17 +8,19 @@ ghost use Rattle.std.specs.Cmp.Rules.{comparing, hashing};
 ghost use Rattle.dl_values.specs.Key.{IsKey, key_eq};
 ghost use Rattle.dl_values.specs.KeyOrder.{key_cmp, key_input};
 ghost use Rattle.dl_values.specs.KeyFaults.{RefusedAs};
-ghost use Rattle.dl_values.specs.KeyTexts.{IsKeyText};
+ghost use Rattle.dl_values.specs.KeyTexts.{IsKeyText, short_bytes};
 ghost use Rattle.std.specs.Arc.{arc_value};
 
 use crate::fault::KeyFault;
 use crate::joined_text::JoinedText;
+use crate::short_text::{SHORT_BYTES, ShortText};
+use crate::text::Text;
 use std::alloc::{AllocError, Global};
 use std::cmp::Ordering;
 use std::hash::{Hash, Hasher};
 use std::marker::Model;
 use std::sync::Arc;
-use std::{fmt, mem};
+use std::{fmt, mem, str};
 
 /// The most bytes of a key's table.
 pub const TABLE_BYTES: usize = 64;
@@ -46,28 +48,42 @@ impl Model for KeyText {
 }
 
 impl KeyText {
-    /// The table and the id as one text. The error is a failed allocation.
-    fn new(alloc: Global, table: &str, id: &str) -> Result<KeyText, AllocError>
+    /// The table and the id as one text, which is short.
+    #[inline(always)]
+    fn short(table: &str, id: &str) -> KeyText
+        requires key { IsKey (record { table = table.now; id = id.now }) }
+        requires room { 1 + length table.now + length id.now ≤ short_bytes }
+        ensures { result ≡ record { table = table.now; id = id.now } }
+    {
+        let text = ShortText::joined(table.len() as u8, table, id);
+        KeyText {
+            text: JoinedText::Short(text),
+        }
+    }
+
+    /// The same of bytes, if they are texts.
+    #[inline(always)]
+    fn read_short(table: &[u8], id: &[u8]) -> Option<KeyText>
+        requires key { IsKey (record { table = table.now; id = id.now }) }
+        requires room { 1 + length table.now + length id.now ≤ short_bytes }
+        ensures some { IfSome result (λ k. (k ≡ record { table = table.now; id = id.now }) × IsKeyText k) }
+        ensures none { IfNone result (¬ (IsKeyText (record { table = table.now; id = id.now }))) }
+    {
+        let text = ShortText::read(table.len() as u8, table, id)?;
+        Some(KeyText {
+            text: JoinedText::Short(text),
+        })
+    }
+
+    /// The table and the id as one text of any length, which has an owner of its own. The error is a failed allocation.
+    fn long(alloc: Global, table: &str, id: &str) -> Result<KeyText, AllocError>
         requires { IsKey (record { table = table.now; id = id.now }) }
         ensures { IfOk result (λ k. k ≡ record { table = table.now; id = id.now }) }
     {
-        let text = JoinedText::new(alloc, table.len() as u8, table, id)?;
-        Ok(KeyText { text })
-    }
-
-    /// The table and the id as one text, if these bytes are a key's. The error is a failed allocation.
-    fn read(alloc: Global, table: &[u8], id: &[u8]) -> Result<Option<KeyText>, AllocError>
-        ensures some { IfOk result (λ text. IfSome text (λ k. (k ≡ record { table = table.now; id = id.now }) × IsKeyText k)) }
-        ensures none { IfOk result (λ text. IfNone text (¬ (IsKeyText (record { table = table.now; id = id.now })))) }
-        ensures err { OnErr result (IsKeyText (record { table = table.now; id = id.now })) }
-    {
-        if !have_lengths(table, id) {
-            return Ok(None);
-        }
-        match JoinedText::read(alloc, table.len() as u8, table, id)? {
-            Some(text) => Ok(Some(KeyText { text })),
-            None => Ok(None),
-        }
+        let text = Text::marked(alloc, table.len() as u8, table, id)?;
+        Ok(KeyText {
+            text: JoinedText::Long(text),
+        })
     }
 
     /// The table and the id.
@@ -170,8 +186,20 @@ impl FetchKey {
         if id.len() > ID_BYTES {
             return Err(KeyFault::IdTooLong);
         }
-        let both = KeyText::new(alloc, table, id).map_err(|_| KeyFault::OutOfMemory)?;
-        let both = Arc::new(alloc, both).map_err(|_| KeyFault::OutOfMemory)?;
+        if 1 + table.len() + id.len() > SHORT_BYTES {
+            return FetchKey::long(alloc, table, id).map_err(|_| KeyFault::OutOfMemory);
+        }
+        let both = Arc::new(alloc, KeyText::short(table, id)).map_err(|_| KeyFault::OutOfMemory)?;
+        Ok(FetchKey { both })
+    }
+
+    /// The same of two texts that together are long. The error is a failed allocation.
+    #[cold]
+    fn long(alloc: Global, table: &str, id: &str) -> Result<FetchKey, AllocError>
+        requires { IsKey (record { table = table.now; id = id.now }) }
+        ensures { IfOk result (λ k. k ≡ record { table = table.now; id = id.now }) }
+    {
+        let both = Arc::new(alloc, KeyText::long(alloc, table, id)?)?;
         Ok(FetchKey { both })
     }
 
@@ -187,14 +215,42 @@ impl FetchKey {
         ensures none { IfOk result (λ key. IfNone key (¬ (IsKeyText (record { table = table.now; id = id.now })))) }
         ensures err { OnErr result (IsKeyText (record { table = table.now; id = id.now })) }
     {
-        let Some(both) = KeyText::read(alloc, table, id)? else {
+        if !have_lengths(table, id) {
+            return Ok(None);
+        }
+        if 1 + table.len() + id.len() > SHORT_BYTES {
+            return FetchKey::read_long(alloc, spare, table, id);
+        }
+        let Some(both) = KeyText::read_short(table, id) else {
             return Ok(None);
         };
         let key = FetchKey::of(alloc, spare, both)?;
         Ok(Some(key))
     }
 
+    /// The same of bytes that together are long.
+    #[cold]
+    fn read_long(
+        alloc: Global,
+        spare: Option<FetchKey>,
+        table: &[u8],
+        id: &[u8],
+    ) -> Result<Option<FetchKey>, AllocError>
+        requires { IsKey (record { table = table.now; id = id.now }) }
+        ensures some { IfOk result (λ key. IfSome key (λ k. (k ≡ record { table = table.now; id = id.now }) × IsKeyText k)) }
+        ensures none { IfOk result (λ key. IfNone key (¬ (IsKeyText (record { table = table.now; id = id.now })))) }
+        ensures err { OnErr result (IsKeyText (record { table = table.now; id = id.now })) }
+    {
+        let (Ok(table), Ok(id)) = (str::from_utf8(table), str::from_utf8(id)) else {
+            return Ok(None);
+        };
+        let both = KeyText::long(alloc, table, id)?;
+        let key = FetchKey::of(alloc, spare, both)?;
+        Ok(Some(key))
+    }
+
     /// The key of a text, in the memory of the spare key if there is one that nobody shares. The error is a failed allocation.
+    #[inline(always)]
     fn of(alloc: Global, spare: Option<FetchKey>, both: KeyText) -> Result<FetchKey, AllocError>
         requires { IsKey both }
         ensures { IfOk result (λ k. k ≡ both) }

@@ -1,6 +1,6 @@
 //! Texts that stand in their own value.
 
-ghost use Rattle.std.specs.Prelude.{◌≡◌, ◌+◌, ◌<◌, ◌≤◌, ◌↔◌, ◌∷◌, ◌++◌, length, IfSome, IfNone, IsTrue};
+ghost use Rattle.std.specs.Prelude.{◌≡◌, ◌+◌, ◌<◌, ◌≤◌, ◌↔◌, [], ◌∷◌, ◌++◌, length, IfSome, IfNone, IsTrue};
 ghost use Rattle.std.specs.Str.{IsUtf8, IsCharBoundary};
 ghost use Rattle.dl_values.specs.KeyTexts.{AreTexts, short_bytes};
 
@@ -30,24 +30,27 @@ impl Model for ShortText {
 
 impl ShortText {
     /// The character of an ASCII code, right after it a text, and after that another.
+    #[inline(always)]
     pub(crate) fn joined(mark: u8, first: &str, second: &str) -> ShortText
         requires mark { mark < 128 }
         requires room { 1 + length first.now + length second.now ≤ short_bytes }
         ensures { result ≡ mark ∷ (first.now ++ second.now) }
     {
-        ShortText {
-            bytes: joined(mark, first.as_bytes(), second.as_bytes()),
-        }
+        let mut bytes = ArrayVec::new();
+        join(&mut bytes, mark, first.as_bytes(), second.as_bytes());
+        ShortText { bytes }
     }
 
     /// The same of bytes, if they are two texts.
+    #[inline(always)]
     pub(crate) fn read(mark: u8, first: &[u8], second: &[u8]) -> Option<ShortText>
         requires mark { mark < 128 }
         requires room { 1 + length first.now + length second.now ≤ short_bytes }
         ensures some { IfSome result (λ t. (t ≡ mark ∷ (first.now ++ second.now)) × AreTexts first.now second.now) }
         ensures none { IfNone result (¬ (AreTexts first.now second.now)) }
     {
-        let bytes = joined(mark, first, second);
+        let mut bytes = ArrayVec::new();
+        join(&mut bytes, mark, first, second);
         if is_cut(bytes.as_slice(), 1 + first.len()) {
             Some(ShortText { bytes })
         } else {
@@ -64,20 +67,31 @@ impl ShortText {
     }
 }
 
-/// A byte, and right after it those of two pieces.
-fn joined(mark: u8, first: &[u8], second: &[u8]) -> ArrayVec<u8, SHORT_BYTES>
-    requires { 1 + length first.now + length second.now ≤ short_bytes }
-    ensures { result.items ≡ mark ∷ (first.now ++ second.now) }
+/// Puts a byte into no bytes, and right after it those of two pieces.
+#[inline(always)]
+fn join(bytes: &mut ArrayVec<u8, SHORT_BYTES>, mark: u8, first: &[u8], second: &[u8])
+    requires none { bytes.old.items ≡ [] }
+    requires room { 1 + length first.now + length second.now ≤ short_bytes }
+    ensures { bytes.new.items ≡ mark ∷ (first.now ++ second.now) }
 {
-    let mut bytes = ArrayVec::new();
     bytes.push(mark);
     bytes.try_extend_from_slice(first).unwrap();
     bytes.try_extend_from_slice(second).unwrap();
-    bytes
 }
 
 /// Whether the bytes are a text that may be cut at the seam.
+#[inline(always)]
 fn is_cut(bytes: &[u8], seam: usize) -> bool
+    requires { seam ≤ length bytes.now }
+    ensures { IsTrue result ↔ (IsUtf8 bytes.now × IsCharBoundary bytes.now seam) }
+{
+    // ASCII is a text that may be cut anywhere.
+    bytes.is_ascii() || is_cut_of_any(bytes, seam)
+}
+
+/// The same, of bytes that are not all ASCII.
+#[cold]
+fn is_cut_of_any(bytes: &[u8], seam: usize) -> bool
     ensures { IsTrue result ↔ (IsUtf8 bytes.now × IsCharBoundary bytes.now seam) }
 {
     match str::from_utf8(bytes) {

@@ -3,6 +3,3 @@ use Rattle.dl_values.proofs.key.FetchKey.new.Goals as goal
 
 pub returns-in_err-both-clause-ok : goal.returns-in_err-both-clause-ok
 returns-in_err-both-clause-ok c = IfOk-from_err _ _ c.from_residual.ensures.0
-
-pub returns-in_err-both-2-clause-ok : goal.returns-in_err-both-2-clause-ok
-returns-in_err-both-2-clause-ok c = IfOk-from_err _ _ c.from_residual-in_err-both-2.ensures.0

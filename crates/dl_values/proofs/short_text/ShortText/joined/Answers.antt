@@ -7,4 +7,4 @@ pub invariant_of-result : goal.invariant_of-result
 invariant_of-result c =
     let text = text_of_pair c.args.mark c.args.first.now c.args.second.now c.requires.mark
     (record { first_is = c.utf8.first; second_is = c.utf8.second }) in
-    ∣ rw (c.joined.ensures, c.as_bytes.ensures.value, c.as_bytes-2.ensures.value) text ∣₁
+    ∣ rw (c.join.ensures, c.as_bytes.ensures.value, c.as_bytes-2.ensures.value) text ∣₁
