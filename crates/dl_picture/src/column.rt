@@ -101,7 +101,7 @@ fn push_lines(sheet: &mut Sheet, lines: Lines<'_>) {
         return push_sums(sheet, lines, &MARKS);
     }
     let mut y = HEADING_HEIGHT;
-    for place in 0..lines.places() {
+    for place in 0..lines.count() {
         if let Some(line) = lines.line(place) {
             push_line(sheet, y, &line);
             y = y.saturating_add(LINE_HEIGHT);

@@ -48,11 +48,13 @@ fn add_run(drawing: &mut Drawing, calls: &[ScriptCall], run: &ScriptRun, numbers
 // ---- calls
 
 /// A column for each call, with what it is answered.
-fn add_calls<'a>(drawing: &mut Drawing, calls: &'a [ScriptCall], answers: &'a [CallAnswer]) {
-    let mut number: u64 = 0;
-    for (call, answer) in calls.iter().zip(answers) {
-        drawing.add_column(&call_column(number, call, answer));
-        number = number.saturating_add(1);
+fn add_calls(drawing: &mut Drawing, calls: &[ScriptCall], answers: &[CallAnswer]) {
+    for number in 0..calls.len() {
+        if let Some(call) = calls.get(number) {
+            if let Some(answer) = answers.get(number) {
+                drawing.add_column(&call_column(number as u64, call, answer));
+            }
+        }
     }
 }
 
@@ -97,12 +99,12 @@ fn call_lines<'a>(call: &'a ScriptCall, answer: &'a CallAnswer) -> Lines<'a> {
     let keys = keys_of(call);
     match answer {
         CallAnswer::Load(reply) => Lines::Loads {
-            scene: None,
+            cells: &[],
             keys,
             replies: std::slice::from_ref(reply),
         },
         CallAnswer::Many(replies) => Lines::Loads {
-            scene: None,
+            cells: &[],
             keys,
             replies: replies.as_slice(),
         },

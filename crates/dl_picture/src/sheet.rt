@@ -43,8 +43,10 @@ impl Sheet {
 
     /// Appends a number between two texts.
     pub(crate) fn push_number(&mut self, front: &str, number: u64, back: &str) {
-        let pushed = write!(self.text, "{front}{number}{back}");
+        self.push(front);
+        let pushed = write!(self.text, "{number}");
         self.note(pushed);
+        self.push(back);
     }
 
     /// Appends a phrase.
@@ -74,14 +76,14 @@ impl Sheet {
 
     /// Appends the attributes of a place.
     pub(crate) fn push_place(&mut self, x: usize, y: usize) {
-        let pushed = write!(self.text, " x='{x}' y='{y}'");
-        self.note(pushed);
+        self.push_number(" x='", x as u64, "' y='");
+        self.push_number("", y as u64, "'");
     }
 
     /// Appends the attributes of a size.
     pub(crate) fn push_size(&mut self, width: usize, height: usize) {
-        let pushed = write!(self.text, " width='{width}' height='{height}'");
-        self.note(pushed);
+        self.push_number(" width='", width as u64, "' height='");
+        self.push_number("", height as u64, "'");
     }
 
     /// Appends the front of a `text` element in a class of the style, whose foot stands at x and y.
