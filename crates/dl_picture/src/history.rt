@@ -51,9 +51,9 @@ fn add_history(drawing: &mut Drawing, history: &History, cells: &[Mark], plans: 
 /// The words above the lane of a plan.
 fn add_plan_words(drawing: &mut Drawing, plan: u32, numbers: &PlanNumbers) {
     drawing.begin_words("lane");
-    let sheet = &mut drawing.sheet;
-    sheet.push_number("plan ", u64::from(plan), ": ");
-    sheet.push_number("rounds ", numbers.rounds as u64, ", ");
-    sheet.push_number("loads ", numbers.loads.loads, ", ");
-    sheet.push_number("hits ", numbers.loads.hits, "</text>\n");
+    let loads = numbers.loads;
+    drawing.sheet.push_form(
+        "plan #: rounds #, loads #, hits #</text>\n",
+        &[plan as u64, numbers.rounds as u64, loads.loads, loads.hits],
+    );
 }

@@ -138,7 +138,7 @@ fn add_batch(drawing: &mut Drawing, ended: Ended, side: Phrase, lines: Lines<'_>
     } else {
         " settled"
     };
-    let heading = Phrase::Numbered("batch ", u64::from(ended.batch), state);
+    let heading = Phrase::Numbered("batch ", ended.batch as u64, state);
     drawing.add_column(&Column {
         heading,
         side,
@@ -149,9 +149,9 @@ fn add_batch(drawing: &mut Drawing, ended: Ended, side: Phrase, lines: Lines<'_>
 /// Who a caller is: the plans come first, and then the workers.
 fn caller_name(plans: u32, caller: u32) -> Phrase {
     if caller < plans {
-        Phrase::Numbered("plan ", u64::from(caller), "")
+        Phrase::Numbered("plan ", caller as u64, "")
     } else {
-        Phrase::Numbered("worker ", u64::from(caller - plans), "")
+        Phrase::Numbered("worker ", (caller - plans) as u64, "")
     }
 }
 

@@ -46,8 +46,8 @@ pub(crate) struct Ended {
     pub(crate) mark: Mark,
 }
 
-/// The lines of a column. Each is made when it is drawn. They hold no history, since each function that takes one has its whole
-/// layout proved.
+/// The lines of a column. Each is made when it is drawn. They reach no history, all of which would be part of each proof that
+/// reads them.
 #[derive(Clone, Copy)]
 pub(crate) enum Lines<'a> {
     /// A line for each load, by its key and its reply, and by the marks of the cells where they are known.
@@ -104,7 +104,7 @@ impl<'a> Line<'a> {
 
     /// The line of a batch that ended.
     fn of_end(ended: &Ended) -> Line<'a> {
-        let words = Phrase::Numbered("batch ", u64::from(ended.batch), "");
+        let words = Phrase::Numbered("batch ", ended.batch as u64, "");
         Line::of_words(words, ended.mark)
     }
 }

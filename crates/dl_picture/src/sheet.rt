@@ -41,24 +41,38 @@ impl Sheet {
         self.note(pushed);
     }
 
-    /// Appends a number between two texts.
-    pub(crate) fn push_number(&mut self, front: &str, number: u64, back: &str) {
-        self.push(front);
+    /// Appends a number.
+    pub(crate) fn push_number(&mut self, number: u64) {
         let pushed = write!(self.text, "{number}");
         self.note(pushed);
-        self.push(back);
+    }
+
+    /// Appends a form, in which each `#` stands for the next of the numbers.
+    pub(crate) fn push_form(&mut self, form: &str, numbers: &[u64]) {
+        let mut place: usize = 0;
+        for c in form.chars() {
+            if c == '#' {
+                if let Some(number) = numbers.get(place) {
+                    self.push_number(*number);
+                }
+                place = place.saturating_add(1);
+            } else {
+                let pushed = self.text.push(c);
+                self.note(pushed);
+            }
+        }
     }
 
     /// Appends a phrase.
     pub(crate) fn push_phrase(&mut self, phrase: Phrase) {
         match phrase {
             Phrase::Words(words) => self.push(words),
-            Phrase::Numbered(front, number, back) => self.push_number(front, number, back),
-            Phrase::Mean(mean) => {
-                self.push_number("", mean.whole, " ");
-                self.push_number("", mean.rest, "/");
-                self.push_number("", mean.of, "");
+            Phrase::Numbered(front, number, back) => {
+                self.push(front);
+                self.push_number(number);
+                self.push(back);
             }
+            Phrase::Mean(mean) => self.push_form("# #/#", &[mean.whole, mean.rest, mean.of]),
         }
     }
 
@@ -74,29 +88,15 @@ impl Sheet {
         self.note(pushed);
     }
 
-    /// Appends the attributes of a place.
-    pub(crate) fn push_place(&mut self, x: usize, y: usize) {
-        self.push_number(" x='", x as u64, "' y='");
-        self.push_number("", y as u64, "'");
-    }
-
-    /// Appends the attributes of a size.
-    pub(crate) fn push_size(&mut self, width: usize, height: usize) {
-        self.push_number(" width='", width as u64, "' height='");
-        self.push_number("", height as u64, "'");
-    }
-
     /// Appends the front of a `text` element in a class of the style, whose foot stands at x and y.
-    pub(crate) fn begin_text(&mut self, class: &str, x: usize, y: usize) {
+    pub(crate) fn begin_text(&mut self, class: &str, x: u64, y: u64) {
         self.push("<text class='");
         self.push(class);
-        self.push("'");
-        self.push_place(x, y);
-        self.push(">");
+        self.push_form("' x='#' y='#'>", &[x, y]);
     }
 
     /// Appends a phrase as a `text` element in a class of the style, whose foot stands at x and y.
-    pub(crate) fn push_words(&mut self, class: &str, x: usize, y: usize, words: Phrase) {
+    pub(crate) fn push_words(&mut self, class: &str, x: u64, y: u64, words: Phrase) {
         self.begin_text(class, x, y);
         self.push_phrase(words);
         self.push("</text>");
