@@ -10,17 +10,12 @@ use std::alloc::{AllocError, Global};
 pub(crate) fn cell_marks(alloc: Global, history: &History) -> Result<Vec<Mark>, AllocError> {
     let mut cells = Vec::new(alloc);
     push_all_cells(&mut cells, history.events())?;
-    mark_ends(cells.as_mut_slice(), history);
-    Ok(cells)
-}
-
-/// Marks the cells whose outcome is no value.
-fn mark_ends(cells: &mut [Mark], history: &History) {
     let mut cell: u32 = 0;
     for mark in cells.iter_mut() {
         *mark = mark.of_cell(history.outcome(cell));
         cell = cell.saturating_add(1);
     }
+    Ok(cells)
 }
 
 /// The cells that events begin.

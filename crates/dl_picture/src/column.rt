@@ -69,13 +69,7 @@ fn drawn_lines(lines: Lines<'_>, marks: &[Mark]) -> u64 {
 }
 
 /// A column that is so high, whose corner stands at x and y.
-pub(crate) fn push_column(
-    sheet: &mut Sheet,
-    x: u64,
-    y: u64,
-    height: u64,
-    column: &Column<'_>,
-) {
+pub(crate) fn push_column(sheet: &mut Sheet, x: u64, y: u64, height: u64, column: &Column<'_>) {
     push_card(sheet, x, y, height);
     sheet.push_words("head", PADDING, HEADING_FOOT, column.heading);
     sheet.push_words("side", COLUMN_WIDTH - PADDING, HEADING_FOOT, column.side);
@@ -88,12 +82,8 @@ pub(crate) fn push_column(
 fn push_card(sheet: &mut Sheet, x: u64, y: u64, height: u64) {
     let (width, inside) = (COLUMN_WIDTH - 2, height.saturating_sub(2));
     sheet.push_form(
-        "<svg x='#' y='#' width='#' height='#'>\n",
-        &[x, y, COLUMN_WIDTH, height],
-    );
-    sheet.push_form(
-        "<rect class='card' x='1' y='1' width='#' height='#' rx='6'/>\n",
-        &[width, inside],
+        "<svg x='#' y='#' width='#' height='#'>\n<rect class='card' x='1' y='1' width='#' height='#' rx='6'/>\n",
+        &[x, y, COLUMN_WIDTH, height, width, inside],
     );
 }
 
@@ -126,7 +116,7 @@ fn push_sums(sheet: &mut Sheet, lines: Lines<'_>, marks: &[Mark]) {
 
 /// A line of a column, at a height.
 fn push_line(sheet: &mut Sheet, y: u64, line: &Line<'_>) {
-    match line.label.text(sheet.alloc()) {
+    match line.label.text(sheet.alloc) {
         Ok(label) => {
             push_title(sheet, y, line, label.as_str());
             push_badge(sheet, 0, 0, line.mark);

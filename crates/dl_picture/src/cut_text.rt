@@ -29,10 +29,7 @@ pub(crate) fn push_cut_text(sheet: &mut Sheet, x: u64, y: u64, text: &str, room:
     let whole = room_for(text);
     if whole > text.chars().count() as u64 {
         let width = whole.min(room).saturating_mul(CHARACTER);
-        sheet.push_form(
-            " textLength='#' lengthAdjust='spacingAndGlyphs'",
-            &[width],
-        );
+        sheet.push_form(" textLength='#' lengthAdjust='spacingAndGlyphs'", &[width]);
     }
     sheet.push(">");
     if whole > room {

@@ -93,15 +93,14 @@ impl Drawing {
     pub(crate) fn finish(&mut self) -> Result<String, AllocError> {
         self.end_row();
         let height = self.height.saturating_add(MARGIN);
-        let elements = self.sheet.written()?;
-        let mut document = Sheet::new(self.sheet.alloc());
-        push_document(&mut document, height, elements);
+        let mut document = Sheet::new(self.sheet.alloc);
+        push_document(&mut document, height, &self.sheet);
         document.finish()
     }
 }
 
 /// Appends a document of these elements, which are so high together.
-fn push_document(sheet: &mut Sheet, height: u64, elements: &str) {
+fn push_document(sheet: &mut Sheet, height: u64, elements: &Sheet) {
     sheet.push_form(
         "<svg xmlns='http://www.w3.org/2000/svg' width='#' height='#' viewBox='0 0 # #'>\n",
         &[WIDTH, height, WIDTH, height],
@@ -111,6 +110,6 @@ fn push_document(sheet: &mut Sheet, height: u64, elements: &str) {
         "<rect class='ground' width='#' height='#'/>\n",
         &[WIDTH, height],
     );
-    sheet.push(elements);
+    sheet.push_sheet(elements);
     sheet.push("</svg>\n");
 }

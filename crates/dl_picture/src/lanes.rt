@@ -100,7 +100,7 @@ pub(crate) fn add_batches(drawing: &mut Drawing, history: &History, plans: u32) 
             if let Some(ended) = ended_by(&event.call) {
                 if let Some(batch) = batches.get(ended.batch) {
                     let side = caller_name(plans, event.caller);
-                    add_batch(drawing, ended, side, end_lines(&event.call, batch.keys()));
+                    drawing.add_column(&end_column(ended, side, &event.call, batch.keys()));
                 }
             }
         }
@@ -117,33 +117,21 @@ fn ended_by(call: &Call) -> Option<Ended> {
     Some(Ended { batch, mark })
 }
 
-/// A line for each key of a batch, by the call that ended it.
-fn end_lines<'a>(call: &'a Call, keys: &'a [FetchKey]) -> Lines<'a> {
-    match call {
+/// The column of a batch of these keys, beside whose name stands who made the call that ended it.
+fn end_column<'a>(ended: Ended, side: Phrase, call: &'a Call, keys: &'a [FetchKey]) -> Column<'a> {
+    let mark = ended.mark;
+    let (state, lines) = match call {
         Call::Settle { outcomes, .. } => {
             let outcomes = outcomes.as_slice();
-            Lines::Settled { keys, outcomes }
+            (" settled", Lines::Settled { keys, outcomes })
         }
-        _ => {
-            let mark = Mark::Failed;
-            Lines::Keys { keys, mark }
-        }
-    }
-}
-
-/// The column of a batch, beside whose name stands who ended it.
-fn add_batch(drawing: &mut Drawing, ended: Ended, side: Phrase, lines: Lines<'_>) {
-    let state = if ended.mark == Mark::Failed {
-        " failed"
-    } else {
-        " settled"
+        _ => (" failed", Lines::Keys { keys, mark }),
     };
-    let heading = Phrase::Numbered("batch ", ended.batch as u64, state);
-    drawing.add_column(&Column {
-        heading,
+    Column {
+        heading: Phrase::Numbered("batch ", ended.batch as u64, state),
         side,
         lines,
-    });
+    }
 }
 
 /// Who a caller is: the plans come first, and then the workers.
@@ -181,7 +169,7 @@ fn callers(events: &Events) -> u32 {
 
 /// The column of a worker, by its entries, if it ended a batch.
 fn add_worker(drawing: &mut Drawing, events: &Events, entries: &[EntryKind], heading: Phrase) {
-    let mut ended = Vec::new(drawing.sheet.alloc());
+    let mut ended = Vec::new(drawing.sheet.alloc);
     let pushed = push_ended(&mut ended, events, entries);
     drawing.sheet.note(pushed);
     if !ended.is_empty() {

@@ -84,8 +84,14 @@ impl<'a> Line<'a> {
 
     /// The line of a key, if there is one.
     fn of_key(key: Option<&'a FetchKey>, mark: Mark, batch: Option<u32>) -> Option<Line<'a>> {
-        let label = Label::Key(key?);
-        Some(Line { mark, label, batch })
+        match key {
+            Some(key) => Some(Line {
+                mark,
+                label: Label::Key(key),
+                batch,
+            }),
+            None => None,
+        }
     }
 
     /// The line of a load, if there is one.
@@ -94,18 +100,27 @@ impl<'a> Line<'a> {
         key: Option<&'a FetchKey>,
         reply: Option<&LoadReply>,
     ) -> Option<Line<'a>> {
-        match *reply? {
-            LoadReply::Fresh { cell, batch } => {
-                Line::of_key(key, Mark::of_load(cells, cell, Mark::Fresh), Some(batch))
+        match reply {
+            Some(LoadReply::Fresh { cell, batch }) => {
+                let mark = Mark::of_load(cells, *cell, Mark::Fresh);
+                Line::of_key(key, mark, Some(*batch))
             }
-            LoadReply::Hit(cell) => Line::of_key(key, Mark::of_load(cells, cell, Mark::Hit), None),
+            Some(LoadReply::Hit(cell)) => {
+                Line::of_key(key, Mark::of_load(cells, *cell, Mark::Hit), None)
+            }
+            None => None,
         }
     }
 
-    /// The line of a batch that ended.
-    fn of_end(ended: &Ended) -> Line<'a> {
-        let words = Phrase::Numbered("batch ", ended.batch as u64, "");
-        Line::of_words(words, ended.mark)
+    /// The line of a batch that ended, if there is one.
+    fn of_end(ended: Option<&Ended>) -> Option<Line<'a>> {
+        match ended {
+            Some(ended) => {
+                let words = Phrase::Numbered("batch ", ended.batch as u64, "");
+                Some(Line::of_words(words, ended.mark))
+            }
+            None => None,
+        }
     }
 }
 
@@ -131,10 +146,10 @@ impl<'a> Lines<'a> {
             } => Line::of_load(cells, keys.get(place), replies.get(place)),
             Lines::Keys { keys, mark } => Line::of_key(keys.get(place), mark, None),
             Lines::Settled { keys, outcomes } => {
-                let mark = Mark::of_outcome(outcomes.get(place)?);
+                let mark = Mark::of_cell(Mark::Fresh, outcomes.get(place));
                 Line::of_key(keys.get(place), mark, None)
             }
-            Lines::Ended(batches) => Some(Line::of_end(batches.get(place)?)),
+            Lines::Ended(batches) => Line::of_end(batches.get(place)),
             Lines::Refused(name) => Some(Line::of_words(Phrase::Words(name), Mark::Refused)),
         }
     }

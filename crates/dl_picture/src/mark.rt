@@ -48,21 +48,12 @@ impl Mark {
         }
     }
 
-    /// That of a cell which was begun with this mark, by its outcome.
+    /// That of a cell which was begun with this mark, by the outcome that it was given.
     pub(crate) fn of_cell(self, outcome: Option<&Outcome>) -> Mark {
         match outcome {
             Some(Outcome::KeyError(_)) => Mark::KeyError,
             Some(Outcome::BatchFailed(_)) => Mark::Failed,
             Some(Outcome::Value(_)) | None => self,
-        }
-    }
-
-    /// That of a key that was given an outcome.
-    pub(crate) fn of_outcome(outcome: &Outcome) -> Mark {
-        match outcome {
-            Outcome::Value(_) => Mark::Fresh,
-            Outcome::KeyError(_) => Mark::KeyError,
-            Outcome::BatchFailed(_) => Mark::Failed,
         }
     }
 

@@ -8,7 +8,7 @@ use std::fmt::Write;
 /// A text that is being written. Where memory runs out, no more than a part of what is pushed stands in it, and `finish` tells.
 #[derive(Drop)]
 pub(crate) struct Sheet {
-    alloc: Global,
+    pub(crate) alloc: Global,
     text: String,
     is_whole: bool,
 }
@@ -21,11 +21,6 @@ impl Sheet {
             text: String::new(alloc),
             is_whole: true,
         }
-    }
-
-    /// What it allocates by.
-    pub(crate) fn alloc(&self) -> Global {
-        self.alloc
     }
 
     /// Notes whether memory ran out.
@@ -102,12 +97,11 @@ impl Sheet {
         self.push("</text>");
     }
 
-    /// What is written so far. The error is that memory ran out.
-    pub(crate) fn written(&self) -> Result<&str, AllocError> {
-        if self.is_whole {
-            Ok(self.text.as_str())
-        } else {
-            Err(AllocError)
+    /// Appends what stands on another sheet.
+    pub(crate) fn push_sheet(&mut self, other: &Sheet) {
+        self.push(other.text.as_str());
+        if !other.is_whole {
+            self.is_whole = false;
         }
     }
 
