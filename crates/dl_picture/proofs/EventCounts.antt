@@ -1,7 +1,7 @@
 -- Loads and rounds of a history, counted one event after another.
 use Rattle.std.proofs.Common.{◌≡◌, ◌∙◌, sym, ap, subst, refl, cond, ℕ, zero, suc, ◌+◌, Bool, true, false, List, [], ◌∷◌, ◌++◌, length, take, Option, Some, None}
 use Rattle.std.proofs.Common.{append-nil, length-append, add-one, arith, filter, nat_eq, ◌&&◌, Result, Ok, Err}
-use Rattle.std.specs.Prelude.{IfOk, flat_map, slice_get}
+use Rattle.std.specs.Prelude.{IfOk, slice_get}
 use Rattle.std.proofs.lemmas.List.Concat.{flat_map-append}
 use Rattle.std.proofs.lemmas.List.Elements.{filter-append}
 use Rattle.dl_desk.specs.declared.reply.LoadReply.{LoadReply}

@@ -10,31 +10,31 @@ use crate::sheet::Sheet;
 const MOST_LINES: usize = 200;
 
 /// How wide a column is.
-pub(crate) const COLUMN_WIDTH: usize = 224;
+pub(crate) const COLUMN_WIDTH: u64 = 224;
 
 /// How high a line of a column is, and what stands above and below all its lines.
-const LINE_HEIGHT: usize = 18;
+const LINE_HEIGHT: u64 = 18;
 
-const HEADING_HEIGHT: usize = 26;
+const HEADING_HEIGHT: u64 = 26;
 
-const FOOT_HEIGHT: usize = 6;
+const FOOT_HEIGHT: u64 = 6;
 
 /// How far below the top of a column the foot of its heading is.
-const HEADING_FOOT: usize = 17;
+const HEADING_FOOT: u64 = 17;
 
 /// How wide a badge with a mark is.
-const BADGE: usize = 15;
+const BADGE: u64 = 15;
 
 /// How far below its corner the foot of a line's letters is.
-const FOOT: usize = 12;
+const FOOT: u64 = 12;
 
 /// The room inside a column, at each side.
-const PADDING: usize = 10;
+const PADDING: u64 = 10;
 
 /// For how many characters a line has room, and how many of them the number of a batch takes.
-const LINE_ROOM: usize = 25;
+const LINE_ROOM: u64 = 25;
 
-const BATCH_ROOM: usize = 7;
+const BATCH_ROOM: u64 = 7;
 
 /// A column: a heading, what stands at its right, and lines.
 #[derive(Clone, Copy)]
@@ -46,7 +46,7 @@ pub(crate) struct Column<'a> {
 
 impl Column<'_> {
     /// How high it is.
-    pub(crate) fn height(&self) -> usize {
+    pub(crate) fn height(&self) -> u64 {
         drawn_lines(self.lines, &MARKS)
             .saturating_mul(LINE_HEIGHT)
             .saturating_add(HEADING_HEIGHT + FOOT_HEIGHT)
@@ -54,12 +54,12 @@ impl Column<'_> {
 }
 
 /// How many lines are drawn of these.
-fn drawn_lines(lines: Lines<'_>, marks: &[Mark]) -> usize {
+fn drawn_lines(lines: Lines<'_>, marks: &[Mark]) -> u64 {
     let count = lines.count();
     if count <= MOST_LINES {
-        return count;
+        return count as u64;
     }
-    let mut sums: usize = 0;
+    let mut sums: u64 = 0;
     for mark in marks {
         if lines.marked(*mark) > 0 {
             sums = sums.saturating_add(1);
@@ -69,13 +69,7 @@ fn drawn_lines(lines: Lines<'_>, marks: &[Mark]) -> usize {
 }
 
 /// A column that is so high, whose corner stands at x and y.
-pub(crate) fn push_column(
-    sheet: &mut Sheet,
-    x: usize,
-    y: usize,
-    height: usize,
-    column: &Column<'_>,
-) {
+pub(crate) fn push_column(sheet: &mut Sheet, x: u64, y: u64, height: u64, column: &Column<'_>) {
     push_card(sheet, x, y, height);
     sheet.push_words("head", PADDING, HEADING_FOOT, column.heading);
     sheet.push_words("side", COLUMN_WIDTH - PADDING, HEADING_FOOT, column.side);
@@ -85,14 +79,12 @@ pub(crate) fn push_column(
 }
 
 /// The front of a column that is so high, whose corner stands at x and y, and its card.
-fn push_card(sheet: &mut Sheet, x: usize, y: usize, height: usize) {
-    sheet.push("<svg");
-    sheet.push_place(x, y);
-    sheet.push_size(COLUMN_WIDTH, height);
-    sheet.push(">\n<rect class='card'");
-    sheet.push_place(1, 1);
-    sheet.push_size(COLUMN_WIDTH - 2, height.saturating_sub(2));
-    sheet.push(" rx='6'/>\n");
+fn push_card(sheet: &mut Sheet, x: u64, y: u64, height: u64) {
+    let (width, inside) = (COLUMN_WIDTH - 2, height.saturating_sub(2));
+    sheet.push_form(
+        "<svg x='#' y='#' width='#' height='#'>\n<rect class='card' x='1' y='1' width='#' height='#' rx='6'/>\n",
+        &[x, y, COLUMN_WIDTH, height, width, inside],
+    );
 }
 
 /// The lines of a column, or their sums where they are too many.
@@ -101,7 +93,7 @@ fn push_lines(sheet: &mut Sheet, lines: Lines<'_>) {
         return push_sums(sheet, lines, &MARKS);
     }
     let mut y = HEADING_HEIGHT;
-    for place in 0..lines.places() {
+    for place in 0..lines.count() {
         if let Some(line) = lines.line(place) {
             push_line(sheet, y, &line);
             y = y.saturating_add(LINE_HEIGHT);
@@ -123,8 +115,8 @@ fn push_sums(sheet: &mut Sheet, lines: Lines<'_>, marks: &[Mark]) {
 }
 
 /// A line of a column, at a height.
-fn push_line(sheet: &mut Sheet, y: usize, line: &Line<'_>) {
-    match line.label.text(sheet.alloc()) {
+fn push_line(sheet: &mut Sheet, y: u64, line: &Line<'_>) {
+    match line.label.text(sheet.alloc) {
         Ok(label) => {
             push_title(sheet, y, line, label.as_str());
             push_badge(sheet, 0, 0, line.mark);
@@ -135,14 +127,13 @@ fn push_line(sheet: &mut Sheet, y: usize, line: &Line<'_>) {
 }
 
 /// The front of a line at a height, with its title: its whole label, and what became of it.
-fn push_title(sheet: &mut Sheet, y: usize, line: &Line<'_>, label: &str) {
-    sheet.push_number("<g transform='translate(", PADDING as u64, " ");
-    sheet.push_number("", y as u64, ")'><title>");
+fn push_title(sheet: &mut Sheet, y: u64, line: &Line<'_>, label: &str) {
+    sheet.push_form("<g transform='translate(# #)'><title>", &[PADDING, y]);
     sheet.push_escaped(label);
     sheet.push(": ");
     sheet.push(line.mark.meaning());
     if let Some(batch) = line.batch {
-        sheet.push_number(", batch ", u64::from(batch), "");
+        sheet.push_form(", batch #", &[batch as u64]);
     }
     sheet.push("</title>");
 }
@@ -158,7 +149,7 @@ fn push_label(sheet: &mut Sheet, batch: Option<u32>, label: &str) {
                 label,
                 LINE_ROOM - BATCH_ROOM,
             );
-            let number = Phrase::Numbered("b", u64::from(batch), "");
+            let number = Phrase::Numbered("b", batch as u64, "");
             sheet.push_words("side", COLUMN_WIDTH - PADDING - PADDING, FOOT, number);
         }
         None => push_cut_text(sheet, BADGE + CHARACTER, FOOT, label, LINE_ROOM),
@@ -167,13 +158,13 @@ fn push_label(sheet: &mut Sheet, batch: Option<u32>, label: &str) {
 }
 
 /// The badge of a mark, whose corner stands at x and y: a square of its colour with its letter.
-pub(crate) fn push_badge(sheet: &mut Sheet, x: usize, y: usize, mark: Mark) {
+pub(crate) fn push_badge(sheet: &mut Sheet, x: u64, y: u64, mark: Mark) {
     sheet.push("<rect class='");
     sheet.push(mark.class());
-    sheet.push("'");
-    sheet.push_place(x, y);
-    sheet.push_size(BADGE, BADGE);
-    sheet.push(" rx='3'/>");
+    sheet.push_form(
+        "' x='#' y='#' width='#' height='#' rx='3'/>",
+        &[x, y, BADGE, BADGE],
+    );
     let (middle, foot) = (x.saturating_add(BADGE / 2), y.saturating_add(FOOT));
     sheet.push_words("letter", middle, foot, Phrase::Words(mark.letter()));
 }

@@ -6,16 +6,16 @@ use crate::sheet::Sheet;
 const FIRST_WIDE: char = '\u{590}';
 
 /// How many pixels a narrow character takes.
-pub(crate) const CHARACTER: usize = 7;
+pub(crate) const CHARACTER: u64 = 7;
 
 /// How many narrow characters a character takes the room of.
-fn room_of(c: char) -> usize {
+fn room_of(c: char) -> u64 {
     if c < FIRST_WIDE { 1 } else { 2 }
 }
 
 /// How many narrow characters a text takes the room of.
-fn room_for(text: &str) -> usize {
-    let mut room: usize = 0;
+fn room_for(text: &str) -> u64 {
+    let mut room: u64 = 0;
     for c in text.chars() {
         room = room.saturating_add(room_of(c));
     }
@@ -24,17 +24,12 @@ fn room_for(text: &str) -> usize {
 
 /// A `text` element at x and y: the text, which is cut in its middle where it needs more room than that of so many narrow
 /// characters. One with wide characters is fitted to its room, whatever the font is.
-pub(crate) fn push_cut_text(sheet: &mut Sheet, x: usize, y: usize, text: &str, room: usize) {
-    sheet.push("<text");
-    sheet.push_place(x, y);
+pub(crate) fn push_cut_text(sheet: &mut Sheet, x: u64, y: u64, text: &str, room: u64) {
+    sheet.push_form("<text x='#' y='#'", &[x, y]);
     let whole = room_for(text);
-    if whole > text.chars().count() {
+    if whole > text.chars().count() as u64 {
         let width = whole.min(room).saturating_mul(CHARACTER);
-        sheet.push_number(
-            " textLength='",
-            width as u64,
-            "' lengthAdjust='spacingAndGlyphs'",
-        );
+        sheet.push_form(" textLength='#' lengthAdjust='spacingAndGlyphs'", &[width]);
     }
     sheet.push(">");
     if whole > room {
@@ -46,9 +41,9 @@ pub(crate) fn push_cut_text(sheet: &mut Sheet, x: usize, y: usize, text: &str, r
 }
 
 /// The text without its middle, which is whole as wide as so many narrow characters, and has room for fewer.
-fn push_cut(sheet: &mut Sheet, text: &str, whole: usize, room: usize) {
+fn push_cut(sheet: &mut Sheet, text: &str, whole: u64, room: u64) {
     let half = room.saturating_sub(1) / 2;
-    let mut passed: usize = 0;
+    let mut passed: u64 = 0;
     let mut is_cut = false;
     for c in text.chars() {
         let end = passed.saturating_add(room_of(c));

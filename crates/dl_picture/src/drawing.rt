@@ -7,31 +7,31 @@ use crate::style::STYLE;
 use std::alloc::{AllocError, Global};
 
 /// How wide a drawing is, in pixels.
-const WIDTH: usize = 1200;
+const WIDTH: u64 = 1200;
 
 /// The room at each side of a drawing.
-pub(crate) const MARGIN: usize = 20;
+pub(crate) const MARGIN: u64 = 20;
 
 /// How many columns stand beside one another.
-const COLUMNS: usize = 5;
+const COLUMNS: u64 = 5;
 
 /// The room between columns, and between rows.
-const GAP: usize = 10;
+const GAP: u64 = 10;
 
 /// How far below the top of a line of words its foot is, and how high the line is.
-const WORDS_FOOT: usize = 18;
+const WORDS_FOOT: u64 = 18;
 
-const WORDS_HEIGHT: usize = 26;
+const WORDS_HEIGHT: u64 = 26;
 
 /// What is drawn so far: a sheet with elements of SVG, and how high they are together; how many tiles the head has; and of the
 /// row that is begun, how many columns it has and how high the highest of them is.
 #[derive(Drop)]
 pub(crate) struct Drawing {
     pub(crate) sheet: Sheet,
-    pub(crate) height: usize,
-    pub(crate) tiles: usize,
-    columns: usize,
-    tallest: usize,
+    pub(crate) height: u64,
+    pub(crate) tiles: u64,
+    columns: u64,
+    tallest: u64,
 }
 
 impl Drawing {
@@ -47,7 +47,7 @@ impl Drawing {
     }
 
     /// Leaves so much room below what is drawn.
-    pub(crate) fn add_height(&mut self, height: usize) {
+    pub(crate) fn add_height(&mut self, height: u64) {
         self.height = self.height.saturating_add(height);
     }
 
@@ -93,23 +93,23 @@ impl Drawing {
     pub(crate) fn finish(&mut self) -> Result<String, AllocError> {
         self.end_row();
         let height = self.height.saturating_add(MARGIN);
-        let elements = self.sheet.written()?;
-        let mut document = Sheet::new(self.sheet.alloc());
-        push_document(&mut document, height, elements);
+        let mut document = Sheet::new(self.sheet.alloc);
+        push_document(&mut document, height, &self.sheet);
         document.finish()
     }
 }
 
 /// Appends a document of these elements, which are so high together.
-fn push_document(sheet: &mut Sheet, height: usize, elements: &str) {
-    sheet.push("<svg xmlns='http://www.w3.org/2000/svg'");
-    sheet.push_size(WIDTH, height);
-    sheet.push_number(" viewBox='0 0 ", WIDTH as u64, " ");
-    sheet.push_number("", height as u64, "'>\n");
+fn push_document(sheet: &mut Sheet, height: u64, elements: &Sheet) {
+    sheet.push_form(
+        "<svg xmlns='http://www.w3.org/2000/svg' width='#' height='#' viewBox='0 0 # #'>\n",
+        &[WIDTH, height, WIDTH, height],
+    );
     sheet.push(STYLE);
-    sheet.push("<rect class='ground'");
-    sheet.push_size(WIDTH, height);
-    sheet.push("/>\n");
-    sheet.push(elements);
+    sheet.push_form(
+        "<rect class='ground' width='#' height='#'/>\n",
+        &[WIDTH, height],
+    );
+    sheet.push_sheet(elements);
     sheet.push("</svg>\n");
 }

@@ -10,17 +10,17 @@ use crate::phrase::Phrase;
 use crate::sheet::Sheet;
 
 /// How wide and how high a tile with a number is, and how far the next one stands.
-const TILE_WIDTH: usize = 157;
+const TILE_WIDTH: u64 = 157;
 
-const TILE_HEIGHT: usize = 50;
+const TILE_HEIGHT: u64 = 50;
 
-const TILE_STEP: usize = 167;
+const TILE_STEP: u64 = 167;
 
 /// The room below the tiles, and below the marks.
-const ROOM: usize = 20;
+const ROOM: u64 = 20;
 
 /// The room between what two marks mean, with a badge.
-const MARK_STEP: usize = 46;
+const MARK_STEP: u64 = 46;
 
 /// The tiles of the loads and batches of a history, whose keys are told in these words.
 pub(crate) fn add_numbers(drawing: &mut Drawing, numbers: &HistoryNumbers, keys: &'static str) {
@@ -54,14 +54,12 @@ fn add_tile(drawing: &mut Drawing, name: &str, words: &'static str, figure: Phra
     let x = place.saturating_mul(TILE_STEP).saturating_add(MARGIN);
     let left = x.saturating_add(10);
     let sheet = &mut drawing.sheet;
-    sheet.push("<rect class='card'");
-    sheet.push_place(x, y);
-    sheet.push_size(TILE_WIDTH, TILE_HEIGHT);
-    sheet.push(" rx='6'/><text class='figure' id='");
+    sheet.push_form(
+        "<rect class='card' x='#' y='#' width='#' height='#' rx='6'/><text class='figure' id='",
+        &[x, y, TILE_WIDTH, TILE_HEIGHT],
+    );
     sheet.push(name);
-    sheet.push("'");
-    sheet.push_place(left, y.saturating_add(22));
-    sheet.push(">");
+    sheet.push_form("' x='#' y='#'>", &[left, y.saturating_add(22)]);
     sheet.push_phrase(figure);
     sheet.push("</text>");
     sheet.push_words("soft", left, y.saturating_add(40), Phrase::Words(words));
@@ -76,7 +74,7 @@ pub(crate) fn end_head(drawing: &mut Drawing) {
 }
 
 /// What the marks mean, in one line at a height.
-fn push_marks(sheet: &mut Sheet, y: usize, marks: &[Mark]) {
+fn push_marks(sheet: &mut Sheet, y: u64, marks: &[Mark]) {
     let mut x = MARGIN;
     let foot = y.saturating_add(12);
     for mark in marks {
@@ -84,7 +82,7 @@ fn push_marks(sheet: &mut Sheet, y: usize, marks: &[Mark]) {
         push_badge(sheet, x, y, *mark);
         sheet.push_words("soft", x.saturating_add(22), foot, Phrase::Words(meaning));
         sheet.push("\n");
-        let width = meaning.len().saturating_mul(CHARACTER);
+        let width = (meaning.len() as u64).saturating_mul(CHARACTER);
         x = x.saturating_add(width).saturating_add(MARK_STEP);
     }
 }

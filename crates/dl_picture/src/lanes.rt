@@ -1,33 +1,47 @@
 //! Lanes of a history: the calls of its plans, its batches, and its workers, each as columns.
 
+use crate::cells::replies_of;
 use crate::column::Column;
 use crate::drawing::Drawing;
-use crate::lines::Lines;
+use crate::lines::{Ended, Lines};
 use crate::mark::Mark;
 use crate::phrase::Phrase;
-use crate::scene::{Scene, replies_of};
 use dl_desk::FetchKey;
-use dl_history::{Call, Event, Reply};
+use dl_history::{Call, EntryKind, Event, Events, History, Reply};
+use std::alloc::AllocError;
+
+/// The event of an entry that is a call.
+fn event_of(events: &Events, entry: EntryKind) -> Option<&Event> {
+    match entry {
+        EntryKind::Call { at } => events.get(at as usize),
+        EntryKind::Saw { .. } => None,
+    }
+}
 
 // ---- plans
 
-/// The calls of a plan: its rounds, and its primes and clears.
-pub(crate) fn add_calls(drawing: &mut Drawing, scene: Scene<'_>, plan: u32) {
+/// The calls of a plan, by its entries: its rounds, and its primes and clears. The marks are those of the history's cells.
+pub(crate) fn add_calls(
+    drawing: &mut Drawing,
+    events: &Events,
+    entries: &[EntryKind],
+    cells: &[Mark],
+) {
     let mut rounds: u64 = 0;
-    for entry in scene.history.entries(plan) {
-        if let Some(event) = scene.event(*entry) {
+    for entry in entries {
+        if let Some(event) = event_of(events, *entry) {
             if let Call::LoadMany(_) = &event.call {
                 rounds = rounds.saturating_add(1);
             }
-            add_call(drawing, scene, event, rounds);
+            add_call(drawing, cells, event, rounds);
         }
     }
 }
 
 /// The column of a call, which is of the round of a number if it loads, and none of a dispatch or of the end of a batch.
-fn add_call(drawing: &mut Drawing, scene: Scene<'_>, event: &Event, round: u64) {
+fn add_call(drawing: &mut Drawing, cells: &[Mark], event: &Event, round: u64) {
     if let Some(heading) = call_name(&event.call, round) {
-        let lines = call_lines(scene, event);
+        let lines = call_lines(cells, keys_of(&event.call), &event.reply);
         let side = Phrase::count(lines.count(), " key", " keys");
         drawing.add_column(&Column {
             heading,
@@ -50,27 +64,21 @@ fn call_name(call: &Call, round: u64) -> Option<Phrase> {
 }
 
 /// A line for each key of a call.
-fn call_lines<'a>(scene: Scene<'a>, event: &'a Event) -> Lines<'a> {
-    let keys = keys_of(&event.call);
-    match &event.reply {
-        Reply::Loaded(_) | Reply::Many(_) => Lines::Loads {
-            scene: Some(scene),
-            keys,
-            replies: replies_of(&event.reply),
-        },
-        Reply::Primed(_) => Lines::Keys {
-            keys,
-            mark: Mark::Primed,
-        },
-        Reply::Kept => Lines::Keys {
-            keys,
-            mark: Mark::Kept,
-        },
-        Reply::Done | Reply::Sent(_) => Lines::Keys {
-            keys,
-            mark: Mark::Cleared,
-        },
-    }
+fn call_lines<'a>(cells: &'a [Mark], keys: &'a [FetchKey], reply: &'a Reply) -> Lines<'a> {
+    let mark = match reply {
+        Reply::Loaded(_) | Reply::Many(_) => {
+            let replies = replies_of(reply);
+            return Lines::Loads {
+                cells,
+                keys,
+                replies,
+            };
+        }
+        Reply::Primed(_) => Mark::Primed,
+        Reply::Kept => Mark::Kept,
+        Reply::Done | Reply::Sent(_) => Mark::Cleared,
+    };
+    Lines::Keys { keys, mark }
 }
 
 /// The keys that a call names.
@@ -84,59 +92,109 @@ fn keys_of(call: &Call) -> &[FetchKey] {
 
 // ---- batches and workers
 
-/// The batches of a history, in the order in which they ended.
-pub(crate) fn add_batches(drawing: &mut Drawing, scene: Scene<'_>) {
-    let events = scene.history.events();
+/// The batches of a history, in the order in which they ended. The first callers are so many plans.
+pub(crate) fn add_batches(drawing: &mut Drawing, history: &History, plans: u32) {
+    let (events, batches) = (history.events(), history.batches());
     for at in 0..events.len() {
         if let Some(event) = events.get(at) {
-            add_end(drawing, scene, event);
+            if let Some(ended) = ended_by(&event.call) {
+                if let Some(batch) = batches.get(ended.batch) {
+                    let side = caller_name(plans, event.caller);
+                    drawing.add_column(&end_column(ended, side, &event.call, batch.keys()));
+                }
+            }
         }
     }
 }
 
-/// The column of the batch that an event ends, if it ends one.
-fn add_end(drawing: &mut Drawing, scene: Scene<'_>, event: &Event) {
-    let (batch, state, lines) = match &event.call {
-        Call::Settle { batch, outcomes } => {
-            let (keys, outcomes) = (scene.members(*batch), outcomes.as_slice());
-            (*batch, " settled", Lines::Settled { keys, outcomes })
-        }
-        Call::Fail { batch, .. } => {
-            let (keys, mark) = (scene.members(*batch), Mark::Failed);
-            (*batch, " failed", Lines::Keys { keys, mark })
-        }
-        _ => return,
+/// The batch that a call ends, if it ends one.
+fn ended_by(call: &Call) -> Option<Ended> {
+    let (batch, mark) = match call {
+        Call::Settle { batch, .. } => (*batch, Mark::Settled),
+        Call::Fail { batch, .. } => (*batch, Mark::Failed),
+        _ => return None,
     };
-    drawing.add_column(&Column {
-        heading: Phrase::Numbered("batch ", u64::from(batch), state),
-        side: caller_name(scene.plans, event.caller),
+    Some(Ended { batch, mark })
+}
+
+/// The column of a batch of these keys, beside whose name stands who made the call that ended it.
+fn end_column<'a>(ended: Ended, side: Phrase, call: &'a Call, keys: &'a [FetchKey]) -> Column<'a> {
+    let mark = ended.mark;
+    let (state, lines) = match call {
+        Call::Settle { outcomes, .. } => {
+            let outcomes = outcomes.as_slice();
+            (" settled", Lines::Settled { keys, outcomes })
+        }
+        _ => (" failed", Lines::Keys { keys, mark }),
+    };
+    Column {
+        heading: Phrase::Numbered("batch ", ended.batch as u64, state),
+        side,
         lines,
-    });
+    }
 }
 
 /// Who a caller is: the plans come first, and then the workers.
 fn caller_name(plans: u32, caller: u32) -> Phrase {
     if caller < plans {
-        Phrase::Numbered("plan ", u64::from(caller), "")
+        Phrase::Numbered("plan ", caller as u64, "")
     } else {
-        Phrase::Numbered("worker ", u64::from(caller - plans), "")
+        Phrase::Numbered("worker ", (caller - plans) as u64, "")
     }
 }
 
-/// The workers that ended batches: of each, which ones in order.
-pub(crate) fn add_workers(drawing: &mut Drawing, scene: Scene<'_>) {
-    for caller in scene.plans..scene.callers() {
-        let lines = Lines::Ended {
-            scene,
-            entries: scene.history.entries(caller),
-        };
-        let count = lines.count();
-        if count > 0 {
-            drawing.add_column(&Column {
-                heading: caller_name(scene.plans, caller),
-                side: Phrase::count(count, " batch", " batches"),
-                lines,
-            });
+/// The workers that ended batches: of each, which ones in order. The first callers are so many plans.
+pub(crate) fn add_workers(drawing: &mut Drawing, history: &History, plans: u32) {
+    let events = history.events();
+    for caller in plans..callers(events) {
+        add_worker(
+            drawing,
+            events,
+            history.entries(caller),
+            caller_name(plans, caller),
+        );
+    }
+}
+
+/// How many callers there are up to the last one that made a call.
+fn callers(events: &Events) -> u32 {
+    let mut callers: u32 = 0;
+    for at in 0..events.len() {
+        if let Some(event) = events.get(at) {
+            callers = callers.max(event.caller.saturating_add(1));
         }
     }
+    callers
+}
+
+/// The column of a worker, by its entries, if it ended a batch.
+fn add_worker(drawing: &mut Drawing, events: &Events, entries: &[EntryKind], heading: Phrase) {
+    let mut ended = Vec::new(drawing.sheet.alloc);
+    let pushed = push_ended(&mut ended, events, entries);
+    drawing.sheet.note(pushed);
+    if !ended.is_empty() {
+        let side = Phrase::count(ended.len(), " batch", " batches");
+        let lines = Lines::Ended(ended.as_slice());
+        drawing.add_column(&Column {
+            heading,
+            side,
+            lines,
+        });
+    }
+}
+
+/// The batches that entries end. The error is a failed allocation.
+fn push_ended(
+    ended: &mut Vec<Ended>,
+    events: &Events,
+    entries: &[EntryKind],
+) -> Result<(), AllocError> {
+    for entry in entries {
+        if let Some(event) = event_of(events, *entry) {
+            if let Some(batch) = ended_by(&event.call) {
+                ended.push(batch)?;
+            }
+        }
+    }
+    Ok(())
 }

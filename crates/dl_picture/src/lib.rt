@@ -5,6 +5,7 @@
 #![tactic(auto)]
 
 mod batches;
+mod cells;
 mod column;
 mod cut_text;
 mod drawing;
@@ -16,7 +17,6 @@ mod loads;
 mod mark;
 mod numbers;
 mod phrase;
-mod scene;
 mod script;
 mod script_run;
 mod sheet;

@@ -2,10 +2,8 @@
 
 use crate::mark::Mark;
 use crate::phrase::Phrase;
-use crate::scene::Scene;
 use crate::sheet::Sheet;
 use dl_desk::{FetchKey, LoadReply, Outcome};
-use dl_history::{Call, EntryKind};
 use std::alloc::{AllocError, Global};
 
 /// What a line says beside its mark.
@@ -41,12 +39,20 @@ pub(crate) struct Line<'a> {
     pub(crate) batch: Option<u32>,
 }
 
-/// The lines of a column. Each is made when it is drawn.
+/// A batch that ended, and the mark of how it did.
+#[derive(Clone, Copy)]
+pub(crate) struct Ended {
+    pub(crate) batch: u32,
+    pub(crate) mark: Mark,
+}
+
+/// The lines of a column. Each is made when it is drawn. They reach no history, all of which would be part of each proof that
+/// reads them.
 #[derive(Clone, Copy)]
 pub(crate) enum Lines<'a> {
-    /// A line for each load, by its key and its reply, and by what the history says of it where there is one.
+    /// A line for each load, by its key and its reply, and by the marks of the cells where they are known.
     Loads {
-        scene: Option<Scene<'a>>,
+        cells: &'a [Mark],
         keys: &'a [FetchKey],
         replies: &'a [LoadReply],
     },
@@ -60,11 +66,8 @@ pub(crate) enum Lines<'a> {
         keys: &'a [FetchKey],
         outcomes: &'a [Outcome],
     },
-    /// A line for each batch that a caller ended, by its entries.
-    Ended {
-        scene: Scene<'a>,
-        entries: &'a [EntryKind],
-    },
+    /// A line for each batch that a caller ended.
+    Ended(&'a [Ended]),
     /// One line: why a call is refused.
     Refused(&'static str),
 }
@@ -81,47 +84,54 @@ impl<'a> Line<'a> {
 
     /// The line of a key, if there is one.
     fn of_key(key: Option<&'a FetchKey>, mark: Mark, batch: Option<u32>) -> Option<Line<'a>> {
-        let label = Label::Key(key?);
-        Some(Line { mark, label, batch })
+        match key {
+            Some(key) => Some(Line {
+                mark,
+                label: Label::Key(key),
+                batch,
+            }),
+            None => None,
+        }
     }
 
     /// The line of a load, if there is one.
     fn of_load(
-        scene: Option<Scene<'a>>,
+        cells: &[Mark],
         key: Option<&'a FetchKey>,
         reply: Option<&LoadReply>,
     ) -> Option<Line<'a>> {
-        let reply = *reply?;
-        let mark = match scene {
-            Some(scene) => scene.load_mark(reply),
-            None => Mark::of_load(reply),
-        };
         match reply {
-            LoadReply::Fresh { batch, .. } => Line::of_key(key, mark, Some(batch)),
-            LoadReply::Hit(_) => Line::of_key(key, mark, None),
+            Some(LoadReply::Fresh { cell, batch }) => {
+                let mark = Mark::of_load(cells, *cell, Mark::Fresh);
+                Line::of_key(key, mark, Some(*batch))
+            }
+            Some(LoadReply::Hit(cell)) => {
+                Line::of_key(key, Mark::of_load(cells, *cell, Mark::Hit), None)
+            }
+            None => None,
         }
     }
 
-    /// The line of the batch that an entry ends, if it ends one.
-    fn of_end(scene: Scene<'_>, entry: Option<&EntryKind>) -> Option<Line<'a>> {
-        let (batch, mark) = match &scene.event(*entry?)?.call {
-            Call::Settle { batch, .. } => (*batch, Mark::Settled),
-            Call::Fail { batch, .. } => (*batch, Mark::Failed),
-            _ => return None,
-        };
-        let words = Phrase::Numbered("batch ", u64::from(batch), "");
-        Some(Line::of_words(words, mark))
+    /// The line of a batch that ended, if there is one.
+    fn of_end(ended: Option<&Ended>) -> Option<Line<'a>> {
+        match ended {
+            Some(ended) => {
+                let words = Phrase::Numbered("batch ", ended.batch as u64, "");
+                Some(Line::of_words(words, ended.mark))
+            }
+            None => None,
+        }
     }
 }
 
 impl<'a> Lines<'a> {
-    /// How many places there are, each with a line or with none.
-    pub(crate) fn places(self) -> usize {
+    /// How many lines there are.
+    pub(crate) fn count(self) -> usize {
         match self {
             Lines::Loads { keys, .. } | Lines::Keys { keys, .. } | Lines::Settled { keys, .. } => {
                 keys.len()
             }
-            Lines::Ended { entries, .. } => entries.len(),
+            Lines::Ended(batches) => batches.len(),
             Lines::Refused(_) => 1,
         }
     }
@@ -130,35 +140,24 @@ impl<'a> Lines<'a> {
     pub(crate) fn line(self, place: usize) -> Option<Line<'a>> {
         match self {
             Lines::Loads {
-                scene,
+                cells,
                 keys,
                 replies,
-            } => Line::of_load(scene, keys.get(place), replies.get(place)),
+            } => Line::of_load(cells, keys.get(place), replies.get(place)),
             Lines::Keys { keys, mark } => Line::of_key(keys.get(place), mark, None),
             Lines::Settled { keys, outcomes } => {
-                let mark = Mark::of_outcome(outcomes.get(place)?);
+                let mark = Mark::of_cell(Mark::Fresh, outcomes.get(place));
                 Line::of_key(keys.get(place), mark, None)
             }
-            Lines::Ended { scene, entries } => Line::of_end(scene, entries.get(place)),
+            Lines::Ended(batches) => Line::of_end(batches.get(place)),
             Lines::Refused(name) => Some(Line::of_words(Phrase::Words(name), Mark::Refused)),
         }
-    }
-
-    /// How many lines there are.
-    pub(crate) fn count(self) -> usize {
-        let mut count: usize = 0;
-        for place in 0..self.places() {
-            if self.line(place).is_some() {
-                count = count.saturating_add(1);
-            }
-        }
-        count
     }
 
     /// How many lines have a mark.
     pub(crate) fn marked(self, mark: Mark) -> usize {
         let mut count: usize = 0;
-        for place in 0..self.places() {
+        for place in 0..self.count() {
             if let Some(line) = self.line(place) {
                 if line.mark == mark {
                     count = count.saturating_add(1);

@@ -1,6 +1,6 @@
 //! Marks: what became of a key in a call, or how a batch ended.
 
-use dl_desk::{LoadReply, Outcome};
+use dl_desk::Outcome;
 
 /// What became of a key in a call, or that a batch was settled.
 #[derive(Clone, Copy, PartialEq, Eq)]
@@ -39,20 +39,21 @@ pub(crate) static MARKS: [Mark; 9] = [
 ];
 
 impl Mark {
-    /// That of a load by its reply alone.
-    pub(crate) fn of_load(reply: LoadReply) -> Mark {
-        match reply {
-            LoadReply::Fresh { .. } => Mark::Fresh,
-            LoadReply::Hit(_) => Mark::Hit,
+    /// That of a load by the marks of cells: that of its own cell if it tells more than that the cell was given a value, and else
+    /// whether the load began the cell or found it.
+    pub(crate) fn of_load(cells: &[Mark], cell: u32, plain: Mark) -> Mark {
+        match cells.get(cell as usize) {
+            Some(Mark::Fresh) | None => plain,
+            Some(mark) => *mark,
         }
     }
 
-    /// That of a key that was given an outcome.
-    pub(crate) fn of_outcome(outcome: &Outcome) -> Mark {
+    /// That of a cell which was begun with this mark, by the outcome that it was given.
+    pub(crate) fn of_cell(self, outcome: Option<&Outcome>) -> Mark {
         match outcome {
-            Outcome::Value(_) => Mark::Fresh,
-            Outcome::KeyError(_) => Mark::KeyError,
-            Outcome::BatchFailed(_) => Mark::Failed,
+            Some(Outcome::KeyError(_)) => Mark::KeyError,
+            Some(Outcome::BatchFailed(_)) => Mark::Failed,
+            Some(Outcome::Value(_)) | None => self,
         }
     }
 

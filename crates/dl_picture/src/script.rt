@@ -47,21 +47,18 @@ fn add_run(drawing: &mut Drawing, calls: &[ScriptCall], run: &ScriptRun, numbers
 
 // ---- calls
 
-/// A column for each call, with what it is answered.
-fn add_calls<'a>(drawing: &mut Drawing, calls: &'a [ScriptCall], answers: &'a [CallAnswer]) {
-    let mut number: u64 = 0;
-    for (call, answer) in calls.iter().zip(answers) {
-        drawing.add_column(&call_column(number, call, answer));
-        number = number.saturating_add(1);
-    }
-}
-
-/// The column of a call, which has a number.
-fn call_column<'a>(number: u64, call: &'a ScriptCall, answer: &'a CallAnswer) -> Column<'a> {
-    Column {
-        heading: Phrase::Numbered("", number, name_of(call)),
-        side: side_of(call, answer),
-        lines: call_lines(call, answer),
+/// A column for each call, which has its number, with what it is answered.
+fn add_calls(drawing: &mut Drawing, calls: &[ScriptCall], answers: &[CallAnswer]) {
+    for number in 0..calls.len() {
+        if let Some(call) = calls.get(number) {
+            if let Some(answer) = answers.get(number) {
+                drawing.add_column(&Column {
+                    heading: Phrase::Numbered("", number as u64, name_of(call)),
+                    side: side_of(call, answer),
+                    lines: call_lines(call, answer),
+                });
+            }
+        }
     }
 }
 
@@ -83,7 +80,7 @@ fn name_of(call: &ScriptCall) -> &'static str {
 fn side_of(call: &ScriptCall, answer: &CallAnswer) -> Phrase {
     match call {
         ScriptCall::Settle(batch) | ScriptCall::Fail(batch) => {
-            Phrase::Numbered("batch ", u64::from(*batch), "")
+            Phrase::Numbered("batch ", *batch as u64, "")
         }
         _ => match answer {
             CallAnswer::Sent(count) => Phrase::Numbered("", *count as u64, " sent"),
@@ -97,12 +94,12 @@ fn call_lines<'a>(call: &'a ScriptCall, answer: &'a CallAnswer) -> Lines<'a> {
     let keys = keys_of(call);
     match answer {
         CallAnswer::Load(reply) => Lines::Loads {
-            scene: None,
+            cells: &[],
             keys,
             replies: std::slice::from_ref(reply),
         },
         CallAnswer::Many(replies) => Lines::Loads {
-            scene: None,
+            cells: &[],
             keys,
             replies: replies.as_slice(),
         },
@@ -167,7 +164,7 @@ fn batch_column<'a>(number: u32, batch: &BatchView<'a>) -> Column<'a> {
     };
     let keys = batch.keys();
     Column {
-        heading: Phrase::Numbered("batch ", u64::from(number), state),
+        heading: Phrase::Numbered("batch ", number as u64, state),
         side: Phrase::count(keys.len(), " key", " keys"),
         lines: Lines::Keys { keys, mark },
     }

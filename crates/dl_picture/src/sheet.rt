@@ -8,7 +8,7 @@ use std::fmt::Write;
 /// A text that is being written. Where memory runs out, no more than a part of what is pushed stands in it, and `finish` tells.
 #[derive(Drop)]
 pub(crate) struct Sheet {
-    alloc: Global,
+    pub(crate) alloc: Global,
     text: String,
     is_whole: bool,
 }
@@ -21,11 +21,6 @@ impl Sheet {
             text: String::new(alloc),
             is_whole: true,
         }
-    }
-
-    /// What it allocates by.
-    pub(crate) fn alloc(&self) -> Global {
-        self.alloc
     }
 
     /// Notes whether memory ran out.
@@ -41,22 +36,38 @@ impl Sheet {
         self.note(pushed);
     }
 
-    /// Appends a number between two texts.
-    pub(crate) fn push_number(&mut self, front: &str, number: u64, back: &str) {
-        let pushed = write!(self.text, "{front}{number}{back}");
+    /// Appends a number.
+    pub(crate) fn push_number(&mut self, number: u64) {
+        let pushed = write!(self.text, "{number}");
         self.note(pushed);
+    }
+
+    /// Appends a form, in which each `#` stands for the next of the numbers.
+    pub(crate) fn push_form(&mut self, form: &str, numbers: &[u64]) {
+        let mut place: usize = 0;
+        for c in form.chars() {
+            if c == '#' {
+                if let Some(number) = numbers.get(place) {
+                    self.push_number(*number);
+                }
+                place = place.saturating_add(1);
+            } else {
+                let pushed = self.text.push(c);
+                self.note(pushed);
+            }
+        }
     }
 
     /// Appends a phrase.
     pub(crate) fn push_phrase(&mut self, phrase: Phrase) {
         match phrase {
             Phrase::Words(words) => self.push(words),
-            Phrase::Numbered(front, number, back) => self.push_number(front, number, back),
-            Phrase::Mean(mean) => {
-                self.push_number("", mean.whole, " ");
-                self.push_number("", mean.rest, "/");
-                self.push_number("", mean.of, "");
+            Phrase::Numbered(front, number, back) => {
+                self.push(front);
+                self.push_number(number);
+                self.push(back);
             }
+            Phrase::Mean(mean) => self.push_form("# #/#", &[mean.whole, mean.rest, mean.of]),
         }
     }
 
@@ -72,40 +83,25 @@ impl Sheet {
         self.note(pushed);
     }
 
-    /// Appends the attributes of a place.
-    pub(crate) fn push_place(&mut self, x: usize, y: usize) {
-        let pushed = write!(self.text, " x='{x}' y='{y}'");
-        self.note(pushed);
-    }
-
-    /// Appends the attributes of a size.
-    pub(crate) fn push_size(&mut self, width: usize, height: usize) {
-        let pushed = write!(self.text, " width='{width}' height='{height}'");
-        self.note(pushed);
-    }
-
     /// Appends the front of a `text` element in a class of the style, whose foot stands at x and y.
-    pub(crate) fn begin_text(&mut self, class: &str, x: usize, y: usize) {
+    pub(crate) fn begin_text(&mut self, class: &str, x: u64, y: u64) {
         self.push("<text class='");
         self.push(class);
-        self.push("'");
-        self.push_place(x, y);
-        self.push(">");
+        self.push_form("' x='#' y='#'>", &[x, y]);
     }
 
     /// Appends a phrase as a `text` element in a class of the style, whose foot stands at x and y.
-    pub(crate) fn push_words(&mut self, class: &str, x: usize, y: usize, words: Phrase) {
+    pub(crate) fn push_words(&mut self, class: &str, x: u64, y: u64, words: Phrase) {
         self.begin_text(class, x, y);
         self.push_phrase(words);
         self.push("</text>");
     }
 
-    /// What is written so far. The error is that memory ran out.
-    pub(crate) fn written(&self) -> Result<&str, AllocError> {
-        if self.is_whole {
-            Ok(self.text.as_str())
-        } else {
-            Err(AllocError)
+    /// Appends what stands on another sheet.
+    pub(crate) fn push_sheet(&mut self, other: &Sheet) {
+        self.push(other.text.as_str());
+        if !other.is_whole {
+            self.is_whole = false;
         }
     }
 
