@@ -51,15 +51,15 @@ pub const MOST_WORKERS: u32 = 16;
 /// Two requests over a table of users, from `crates/example_two_requests`:
 ///
 /// ```rust
-/// let limits = Limits::new(64, 1_024, 4_096)?;
-/// let users = users(alloc, hashing)?;
-/// let plans = plans(alloc)?;
 /// let setup = Setup {
-///     limits,
+///     limits: Limits::new(64, 1_024, 4_096)?,
 ///     tables: None,
 ///     workers: 2,
 ///     queue: 16,
 /// };
+/// let rows = r#"[{"name": "user", "rows": [["u1", "Ada"], ["u2", "Bob"]]}]"#;
+/// let users = Tables::from_owned_value(alloc, hashing, Value::from_str(alloc, rows)?)?;
+/// let plans = vec![in alloc; load_user(alloc, "u1")?, load_user(alloc, "u2")?]?;
 /// let report = serve(&rt, alloc, hashing, &users, setup, plans, &NoGate)?;
 /// ```
 pub fn serve<S: Source + Sync, G: Gate + Sync, R: Threads + Wait + Sync>(
