@@ -7,7 +7,9 @@ ghost use Rattle.dl_loader.specs.Opening.{Names};
 use super::keys::assert_shows;
 use dl_desk::FetchKey;
 use dl_fixtures::ADA;
-use dl_loader::{CallFault, EntryKind, History, Loader, LoaderName, MOST_CALLERS, Opening, Pass, end_jobs};
+use dl_loader::{
+    CallFault, EntryKind, History, Loader, LoaderName, MOST_CALLERS, Opening, Pass, end_jobs,
+};
 use dl_source::Source;
 use std::alloc::Global;
 use std::process::Abort;
