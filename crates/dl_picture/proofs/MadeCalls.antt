@@ -9,7 +9,8 @@ use Rattle.dl_values.specs.Limits.{Rules}
 use Rattle.dl_picture.specs.Script.{call_replies, history_from, next_history, replies_from}
 
 -- the replies so far, with those of the rest from the desk's history on, are the whole, and the rest leads to the last history
-pub record Made (rules : Rules) (book : BatchBook) (replies : List LoadReply) (rest : List ScriptCall) (whole : List LoadReply) (last : List Atom) : Type 0 where
+pub record Made (rules : Rules) (book : BatchBook) (replies : List LoadReply) (rest : List ScriptCall) (whole : List LoadReply)
+    (last : List Atom) : Type 0 where
   pub history : List Atom
   pub same : book.rules ≡ rules
   pub stands : StandsFor book history
@@ -17,8 +18,8 @@ pub record Made (rules : Rules) (book : BatchBook) (replies : List LoadReply) (r
   pub leads : history_from rules history rest ≡ last
 
 -- one more call was made
-pub made_more : (rules : Rules) (old new : BatchBook) (replies more whole : List LoadReply) (last : List Atom) (calls : List ScriptCall) (i : ℕ) (call : ScriptCall)
-    → i < length calls → call ≡ get_or calls i call → Made rules old replies (drop i calls) whole last
+pub made_more : (rules : Rules) (old new : BatchBook) (replies more whole : List LoadReply) (last : List Atom) (calls : List ScriptCall)
+    (i : ℕ) (call : ScriptCall) → i < length calls → call ≡ get_or calls i call → Made rules old replies (drop i calls) whole last
     → new.rules ≡ old.rules
     → ((history : List Atom) → StandsFor old history → more ≡ replies ++ call_replies old.rules history call)
     → ((history : List Atom) → StandsFor old history → StandsFor new (next_history old.rules history call))

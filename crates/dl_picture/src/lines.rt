@@ -84,14 +84,8 @@ impl<'a> Line<'a> {
 
     /// The line of a key, if there is one.
     fn of_key(key: Option<&'a FetchKey>, mark: Mark, batch: Option<u32>) -> Option<Line<'a>> {
-        match key {
-            Some(key) => Some(Line {
-                mark,
-                label: Label::Key(key),
-                batch,
-            }),
-            None => None,
-        }
+        let label = Label::Key(key?);
+        Some(Line { mark, label, batch })
     }
 
     /// The line of a load, if there is one.
@@ -100,27 +94,20 @@ impl<'a> Line<'a> {
         key: Option<&'a FetchKey>,
         reply: Option<&LoadReply>,
     ) -> Option<Line<'a>> {
-        match reply {
-            Some(LoadReply::Fresh { cell, batch }) => {
+        match reply? {
+            LoadReply::Fresh { cell, batch } => {
                 let mark = Mark::of_load(cells, *cell, Mark::Fresh);
                 Line::of_key(key, mark, Some(*batch))
             }
-            Some(LoadReply::Hit(cell)) => {
-                Line::of_key(key, Mark::of_load(cells, *cell, Mark::Hit), None)
-            }
-            None => None,
+            LoadReply::Hit(cell) => Line::of_key(key, Mark::of_load(cells, *cell, Mark::Hit), None),
         }
     }
 
     /// The line of a batch that ended, if there is one.
     fn of_end(ended: Option<&Ended>) -> Option<Line<'a>> {
-        match ended {
-            Some(ended) => {
-                let words = Phrase::Numbered("batch ", ended.batch as u64, "");
-                Some(Line::of_words(words, ended.mark))
-            }
-            None => None,
-        }
+        let Ended { batch, mark } = ended?;
+        let words = Phrase::Numbered("batch ", *batch as u64, "");
+        Some(Line::of_words(words, *mark))
     }
 }
 

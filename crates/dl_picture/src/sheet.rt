@@ -44,13 +44,12 @@ impl Sheet {
 
     /// Appends a form, in which each `#` stands for the next of the numbers.
     pub(crate) fn push_form(&mut self, form: &str, numbers: &[u64]) {
-        let mut place: usize = 0;
+        let mut numbers = numbers.iter();
         for c in form.chars() {
             if c == '#' {
-                if let Some(number) = numbers.get(place) {
+                if let Some(number) = numbers.next() {
                     self.push_number(*number);
                 }
-                place = place.saturating_add(1);
             } else {
                 let pushed = self.text.push(c);
                 self.note(pushed);

@@ -7,5 +7,5 @@ use Rattle.dl_picture.proofs.MadeCalls.{Made}
 use Rattle.dl_picture.proofs.script_run.run_script.Given as goal
 
 abbrev pub invariant-calls : goal.invariant-calls
-invariant-calls l = Made (rules_by l.fn.script.limits l.fn.script.table_limits) l.desk.book (flat_map answer_replies l.answers.items) (drop l.call-index l.fn.script.calls)
-    (script_replies l.fn.script) (script_history l.fn.script)
+invariant-calls l = Made (rules_by l.fn.script.limits l.fn.script.table_limits) l.desk.book (flat_map answer_replies l.answers.items)
+    (drop l.call-index l.fn.script.calls) (script_replies l.fn.script) (script_history l.fn.script)
