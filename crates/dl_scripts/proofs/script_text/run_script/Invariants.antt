@@ -6,4 +6,5 @@ use Rattle.dl_scripts.proofs.Scripts.{Answered}
 use Rattle.dl_scripts.proofs.script_text.run_script.Given as goal
 
 abbrev pub invariant-calls : goal.invariant-calls
-invariant-calls l = Answered (rules_by l.fn.script.limits l.fn.script.table_limits) l.desk.book (string_bytes l.out) (drop l.call-index l.fn.script.calls) (script_text l.fn.script)
+invariant-calls l = Answered (rules_by l.fn.script.limits l.fn.script.table_limits) l.desk.book (string_bytes l.out)
+    (drop l.call-index l.fn.script.calls) (script_text l.fn.script)
