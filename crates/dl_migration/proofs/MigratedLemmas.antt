@@ -38,7 +38,8 @@ version-migrated (array ds) ms is = absurd (let bad : ◌≡◌ {A = Option Memb
 version-migrated (object ns) ms is = get_member-put (codes "version") (number (unsigned 2)) ns
 
 -- all names pass a test that those there and the new one pass
-pub names_all-put : (test : List ℕ → Bool) (k : List ℕ) (d : Data) (ms : Members) → test k ≡ true → names_all test ms ≡ true → names_all test (put k d ms) ≡ true
+pub names_all-put : (test : List ℕ → Bool) (k : List ℕ) (d : Data) (ms : Members) → test k ≡ true → names_all test ms ≡ true
+    → names_all test (put k d ms) ≡ true
 names_all-put test k d no_members mine all = and_from (test k) true mine refl
 names_all-put test k d (member l e ms) mine all =
     let p = and_parts (test l) (names_all test ms) all in

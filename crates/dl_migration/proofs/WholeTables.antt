@@ -33,7 +33,8 @@ whole_text form v x is none = let p = map_some form (as_str v) x is in ap has_fl
 
 -- ---- lists of findings of one kind
 
-module _ (finding_of : Data → Option Finding) (whole_value : (v : Data) (x : Finding) → finding_of v ≡ Some x → is_not_whole x ≡ false → has_float v ≡ false) where
+module _ (finding_of : Data → Option Finding)
+    (whole_value : (v : Data) (x : Finding) → finding_of v ≡ Some x → is_not_whole x ≡ false → has_float v ≡ false) where
   whole_finding : (d : Data) (e : List ℕ × Finding) → SpellsFinding finding_of d e → is_not_whole e.1 ≡ false → has_float d ≡ false
   whole_finding d e s none = ap has_float s.1 ∙ or_from (has_float s.0) false (whole_value s.0 e.1 s.2 none) refl
 
@@ -48,10 +49,12 @@ module _ (finding_of : Data → Option Finding) (whole_value : (v : Data) (x : F
   whole_list : (d : Data) (es : Table) → SpellsList (SpellsFinding finding_of) d es → has_other es ≡ false → has_float d ≡ false
   whole_list d es s none = ap has_float s.1 ∙ whole_findings s.0 es s.2 none
 
-  whole_member : (m : Option Data) (es : Table) (d : Data) → SpellsMember (SpellsFinding finding_of) m es → has_other es ≡ false → m ≡ Some d → has_float d ≡ false
+  whole_member : (m : Option Data) (es : Table) (d : Data) → SpellsMember (SpellsFinding finding_of) m es → has_other es ≡ false
+      → m ≡ Some d → has_float d ≡ false
   whole_member m es d s none is = subst (λ (e : Data). has_float e ≡ false) (same_Some s.0 d (sym s.1 ∙ is)) (whole_list s.0 es s.2 none)
 
-  whole_optional : (m : Option Data) (es : Table) (d : Data) → SpellsOptional (SpellsFinding finding_of) m es → has_other es ≡ false → m ≡ Some d → has_float d ≡ false
+  whole_optional : (m : Option Data) (es : Table) (d : Data) → SpellsOptional (SpellsFinding finding_of) m es → has_other es ≡ false
+      → m ≡ Some d → has_float d ≡ false
   whole_optional m es d (inl s) none is = absurd (none-some d (sym s.0 ∙ is))
   whole_optional m es d (inr s) none is = whole_member m es d s none is
 
@@ -71,7 +74,8 @@ whole_table d t sorted s none =
     (λ same. whole_optional error_of (whole_text Error) (get (codes "errors") d) s.errors e s.errors_are front.1 (under k (codes "errors") d e same is))
     (λ same. whole_optional break_text_of (whole_text Break) (get (codes "breaks") d) s.breaks e s.breaks_are both.1 (under k (codes "breaks") d e same is)))
 
-whole_each : (ds : Items) (ts : Tables) → AreSorted ds → SpellsEach (SpellsTable is_table_member) ds ts → has_other_number ts ≡ false → items_have_float ds ≡ false
+whole_each : (ds : Items) (ts : Tables) → AreSorted ds → SpellsEach (SpellsTable is_table_member) ds ts → has_other_number ts ≡ false
+    → items_have_float ds ≡ false
 whole_each no_items [] sorted s none = refl
 whole_each no_items (t ∷ ts) sorted s none = absurd s
 whole_each (item d ds) [] sorted s none = absurd s
