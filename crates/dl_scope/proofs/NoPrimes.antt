@@ -2,7 +2,7 @@
 use Rattle.std.proofs.Common.{◌≡◌, subst, ℕ, ◌<◌, ◌⊎◌, inl, inr, List, [], ◌∷◌, ◌++◌, length, Option, Some, None, slice_get}
 use Rattle.dl_values.specs.Key.{Key}
 use Rattle.dl_values.specs.Limits.{Rules}
-use Rattle.dl_desk.specs.History.{Atom, load_reply, load_replies, loaded}
+use Rattle.dl_desk.specs.History.{Atom, load_reply, loaded}
 use Rattle.dl_desk.specs.History as atom
 use Rattle.dl_desk.specs.Events.{with_made, atoms}
 use Rattle.dl_desk.specs.Calls.{after}

@@ -4,7 +4,7 @@ use Rattle.std.proofs.Common.{subst, arith, length-append, true, false}
 use Rattle.std.proofs.lemmas.Bool.{cases_lt}
 use Rattle.dl_values.specs.Key.{Key}
 use Rattle.dl_values.specs.Limits.{Rules}
-use Rattle.dl_desk.specs.History.{Atom, begun, sent, end_of, load_reply, loaded, job, jobs_from, jobs}
+use Rattle.dl_desk.specs.History.{Atom, begun, sent, load_reply, loaded, job, jobs_from}
 use Rattle.dl_desk.specs.History as atom
 use Rattle.dl_desk.specs.Events.{atoms}
 use Rattle.dl_desk.specs.Calls.{after}
