@@ -172,7 +172,8 @@ plan_at n i (q ∷ plans) (a ∷ answers) [] traces served plan given r one two 
 plan_at n i (q ∷ plans) [] rounds traces served plan given r one two three = absurd served
 plan_at n i [] answers rounds traces served plan given r one two three = absurd (let bad : ◌≡◌ {A = Option Plan} None (Some plan) = one in cc)
 
-worker_at : (n i : ℕ) (traces : List Trace) → WorkersServed n traces → i < length traces → (p : Trace) × (slice_get traces i ≡ Some p) × Every TellsEnd p.entries
+worker_at : (n i : ℕ) (traces : List Trace) → WorkersServed n traces → i < length traces
+    → (p : Trace) × (slice_get traces i ≡ Some p) × Every TellsEnd p.entries
 worker_at n i [] served inside = absurd (omega (arith, inside))
 worker_at n zero (p ∷ traces) (caller, work, others) inside = (p, refl, work)
 worker_at n (suc i) (p ∷ traces) (caller, work, others) inside = worker_at (suc n) i traces others (omega (arith, inside))

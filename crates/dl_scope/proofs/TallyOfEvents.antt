@@ -32,7 +32,8 @@ ones false [] = refl
 ones true (t ∷ ts) = let rest = ones true ts in omega (arith, rest)
 ones false (t ∷ ts) = let rest = ones false ts in omega (arith, rest)
 
-ones_long : (n : ℕ) (p : Trace) → cond (nat_le n p.caller) (length (events_told p.entries)) 0 ≡ total_told (λ e. cond (nat_le n p.caller) 1 0) (calls_of p.entries)
+ones_long : (n : ℕ) (p : Trace)
+    → cond (nat_le n p.caller) (length (events_told p.entries)) 0 ≡ total_told (λ e. cond (nat_le n p.caller) 1 0) (calls_of p.entries)
 ones_long n p =
     ap (λ k. cond (nat_le n p.caller) k 0) (length-map (calls_of p.entries) (λ (t : PlacedEvent). t.event)) ∙ sym (ones (nat_le n p.caller) (calls_of p.entries))
 
@@ -53,8 +54,8 @@ module _ (service : Service) (h : History) (closed : IsHistory service h) (trace
 
   lists_all : {X : Type 0} (g : Event → List X) → total (λ p. length (flat_map g (events_told p.entries))) traces ≡ length (flat_map g h.events)
   lists_all g =
-      total_same (λ (p : Trace). length (flat_map g (events_told p.entries))) (λ (p : Trace). total_told (λ (e : Event). length (g e)) (calls_of p.entries)) traces
-      (λ p. calls_long g p.entries)
+      total_same (λ (p : Trace). length (flat_map g (events_told p.entries)))
+      (λ (p : Trace). total_told (λ (e : Event). length (g e)) (calls_of p.entries)) traces (λ p. calls_long g p.entries)
       ∙ (told_all (λ c e. length (g e)) ∙ sym (long_each g h.events))
 
   module _ (plans : ℕ) (tally : Tally) (counted : IsCounted plans traces tally) where
