@@ -17,7 +17,7 @@ use Rattle.dl_desk.proofs.Facts.{fresh_cell, named}
 use Rattle.dl_desk.proofs.LawEnds.{made_kept, atoms_legal}
 use Rattle.dl_history.specs.declared.event.Event as event
 use Rattle.dl_history.specs.Service.{Service, AnswersEach}
-use Rattle.dl_history.specs.History.{past, end_with, ending_of}
+use Rattle.dl_history.specs.History.{past, ending_of}
 use Rattle.dl_history.specs.History as legal
 use Rattle.dl_history.specs.History.{AllEnded}
 use Rattle.dl_history.proofs.Pasts.{legal_past}

@@ -9,9 +9,9 @@ use Rattle.dl_values.specs.Key.{Key, key_eq}
 use Rattle.dl_values.proofs.KeyLemmas.{key_eq-same}
 use Rattle.dl_values.specs.Limits.{Rules}
 use Rattle.dl_values.specs.declared.outcome.Outcome.{Outcome}
-use Rattle.dl_desk.specs.History.{Atom, forgets, members, prime_reply, load_reply}
+use Rattle.dl_desk.specs.History.{Atom, forgets, prime_reply, load_reply}
 use Rattle.dl_desk.specs.History as atom
-use Rattle.dl_desk.specs.Events.{One, Many, with_loads, with_made, atoms, ended, outcome, IsLegalPast}
+use Rattle.dl_desk.specs.Events.{with_made, atoms, ended, outcome, IsLegalPast}
 use Rattle.dl_desk.specs.Events as desk
 use Rattle.dl_desk.specs.declared.reply.DeskPrime.{DeskPrime}
 use Rattle.dl_desk.specs.declared.reply.DeskPrime.TheVariants as prime

@@ -1,5 +1,5 @@
 -- What contracts see of the events and the cells of a loader, and what holds of the fields behind them.
-use Rattle.std.specs.Prelude.{◌≡◌, ℕ, Bool, true, false, count_by, ◌+◌, ◌<◌, List, length, map, set, Option, Some, None, slice_get}
+use Rattle.std.specs.Prelude.{◌≡◌, ℕ, Bool, true, false, count_by, ◌<◌, List, length, map, set, Option, Some, None, slice_get}
 use Rattle.dl_cells.specs.Cells.{RowName, cell_of, row_len, Reader}
 use Rattle.dl_history.specs.Entries.{event_known}
 use Rattle.dl_history.specs.declared.event.Event.{Event}
