@@ -19,7 +19,7 @@ ghost use Rattle.dl_scope.specs.Inside.ServedPlans.{AreServed, IsCounted, Ran};
 
 use crate::fault::ScopeFault;
 use crate::report::Report;
-use crate::results::{ThreadResults, check, gather};
+use crate::results::{ServedPlans, check, gather};
 use crate::server::{Resources, Server};
 use crate::setup::Setup;
 use crate::task_lists::{plan_tasks, worker_tasks};
@@ -184,15 +184,6 @@ fn report(
     Ok(Report::of(answers, rounds, history, tally))
 }
 
-/// What serving plans leaves before the loader is closed.
-#[derive(Drop)]
-struct ServedPlans<L: LoaderName> {
-    passes: Vec<Pass<L>>,
-    answers: Vec<Vec<StepAnswer>>,
-    rounds: Vec<u64>,
-    tally: Tally,
-}
-
 /// Serves plans by a loader with these passes, which are new.
 fn serve_by<
     L: LoaderName + Send + Sync,
@@ -233,20 +224,8 @@ fn serve_by<
         Ok(()) => {}
         Err(fault) => return Err(fault),
     }
-    let ThreadResults {
-        passes,
-        senders,
-        takers,
-        answers,
-        rounds,
-    } = gather(alloc, runs)?;
-    let tally = queue.finish(rt, senders, takers);
-    Ok(ServedPlans {
-        passes,
-        answers,
-        rounds,
-        tally,
-    })
+    let results = gather(alloc, runs)?;
+    Ok(results.finish(rt, queue))
 }
 
 /// Runs the threads of the plans and of the workers, with these passes and seats and one sender more. The error is that an

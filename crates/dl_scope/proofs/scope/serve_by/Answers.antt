@@ -45,35 +45,33 @@ returns-in-Err-check-clause-refused g c =
     (subst (λ fs. IsFaultOf fs (map (λ run. run.end) runs.workers.items) c.in-Err-check.fault) faults
     (subst (λ es. IsFaultOf (map fault_of c.as_slice.result.now) es c.in-Err-check.fault) ends c.in-Err-check.ensures.fault))
 
-pub finish-tally-requires : goal.finish-tally-requires
-finish-tally-requires g c =
+pub finish-requires : goal.finish-requires
+finish-requires g c =
     let ran = c.in_ok-runs.ensures.ran in
-    let all = c.in_ok-passes.ensures in
-    record {
-      seats = seats_back c.in-Ok.made.0 g.L.LoaderName.service ran.plan_tasks c.in_ok-runs.runs.plans.items ran.worker_tasks c.in_ok-runs.runs.workers.items
-          c.in_ok-runs.runs.own c.in_ok-passes.field-0.senders.items c.in_ok-passes.field-0.takers.items ran.planned ran.worked ran.own_is
-          ran.all_senders ran.all_takers all.senders all.takers;
-    }
+    let results = c.in_ok-results.results in
+    let all = c.in_ok-results.ensures in
+    seats_back c.in-Ok.made.0 g.L.LoaderName.service ran.plan_tasks c.in_ok-runs.runs.plans.items ran.worker_tasks c.in_ok-runs.runs.workers.items
+    c.in_ok-runs.runs.own results.senders.items results.takers.items ran.planned ran.worked ran.own_is ran.all_senders ran.all_takers all.senders all.takers
 
 pub returns-clause-served : goal.returns-clause-served
 returns-clause-served g c =
     let ran = c.in_ok-runs.ensures.ran in
-    let all = c.in_ok-passes.ensures in
-    let field = c.in_ok-passes.field-0 in
-    let given = parts_of c.args.passes.items in
+    let all = c.in_ok-results.ensures in
+    let field = c.in_ok-results.results in
     let fresh = ap parts_of ran.passes_are ∙ c.requires.passes in
     let served = all_served c.in-Ok.made.0 g.L.LoaderName.service 0 g.L.LoaderName.service.callers ran.plan_tasks c.in_ok-runs.runs.plans.items
     (map (λ a. a.items) field.answers.items) field.rounds.items ran.worker_tasks c.in_ok-runs.runs.workers.items ran.planned all.gave ran.worked fresh in
-    subst (λ plans. AreServed 0 plans (map (λ a. a.items) field.answers.items) field.rounds.items (parts_of field.passes.items)) ran.plans_are
+    rw (c.finish.ensures.answers, c.finish.ensures.rounds, c.finish.ensures.passes)
+    (subst (λ plans. AreServed 0 plans (map (λ a. a.items) field.answers.items) field.rounds.items (parts_of field.passes.items)) ran.plans_are
     (subst (λ (ps : List _). AreServed 0 (map (λ task. task.plan) ran.plan_tasks) (map (λ a. a.items) field.answers.items) field.rounds.items (parts_of ps))
-    (sym all.passes) served)
+    (sym all.passes) served))
 
 pub returns-clause-counted : goal.returns-clause-counted
 returns-clause-counted g c =
     let ran = c.in_ok-runs.ensures.ran in
     let runs = c.in_ok-runs.runs in
-    let all = c.in_ok-passes.ensures in
-    let field = c.in_ok-passes.field-0 in
+    let all = c.in_ok-results.ensures in
+    let field = c.in_ok-results.results in
     let service = g.L.LoaderName.service in
     let callers = service.callers in
     let plans = length c.args.plans.items in
@@ -88,10 +86,11 @@ returns-clause-counted g c =
     let none_taken = recursion_from_All (λ task. taken_jobs task.taker ≡ []) ran.worker_tasks ran.none_taken in
     let done = recursion_from_All IsDone runs.workers.items (All-same IsDone runs.workers.items c.as_slice-2.result.now (sym c.as_slice-2.ensures.value)
     c.in-Ok-check.ensures.done) in
-    all_counted c.in-Ok.made.0 service plans runs.plans.items runs.workers.items runs.own field.senders.items field.takers.items field.passes.items
-    c.finish-tally.result
+    rw c.finish.ensures.passes
+    (all_counted c.in-Ok.made.0 service plans runs.plans.items runs.workers.items runs.own field.senders.items field.takers.items field.passes.items
+    c.finish.result.tally
     (plans_count c.in-Ok.made.0 service plans 0 callers ran.plan_tasks runs.plans.items (map (λ a. a.items) field.answers.items) field.rounds.items
     worker_seats ran.planned all.gave none_sent fresh (omega (arith, long, same)))
     (workers_count c.in-Ok.made.0 service plans (0 + length seats) after.0 ran.worker_tasks runs.workers.items ran.worked done none_taken after.1
     (omega (arith, long, long2, same)))
-    ran.own_unused all.senders all.takers all.passes c.finish-tally.ensures.balance c.finish-tally.ensures.sum
+    ran.own_unused all.senders all.takers all.passes c.finish.ensures.balance c.finish.ensures.sum)
