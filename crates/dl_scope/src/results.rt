@@ -1,10 +1,11 @@
 //! How what the threads give back is put together.
 
-ghost use Rattle.std.specs.Prelude.{[], ◌≡◌, ◌≤◌, ◌+◌, ◌++◌, All, Err, IfErr, IfOk, MatchBool, MatchOption, OnOk, length, map};
+ghost use Rattle.std.specs.Prelude.{[], ◌≡◌, ◌≤◌, ◌+◌, ◌++◌, ◌⊎◌, All, Err, IfErr, IfOk, MatchBool, MatchOption, OnOk, length, map};
 ghost use Rattle.dl_terms.specs.Plans.{most_plans};
 ghost use Rattle.dl_scope.specs.Faults.{AnyGaveUp, AnyMet, IsLeastFault, IsStop};
 ghost use Rattle.dl_queue.specs.Balance.{Balances};
 ghost use Rattle.dl_queue.specs.Seats.{AreSeatsOf};
+ghost use Rattle.dl_scope.specs.declared.fault.ScopeFault.TheVariants.{OutOfMemory};
 ghost use Rattle.dl_scope.specs.Inside.Results.{AllGave, AreResults, IsDone, IsFaultOf, IsNoResult, MetNoOwn, WasTaken, fault_of};
 
 use crate::fault::ScopeFault;
@@ -35,12 +36,33 @@ pub(crate) struct ServedPlans<L: LoaderName> {
     pub(crate) tally: Tally,
 }
 
+/// Puts together what the threads gave back, where each plan took its steps and each worker worked to the end.
+///
+/// # Errors
+/// Those of `check`; else `OutOfMemory`.
+pub(crate) fn results_of<L: LoaderName>(
+    alloc: Global,
+    runs: Runs<L>,
+) -> Result<ThreadResults<L>, ScopeFault>
+    requires few { length runs.plans.items ≤ most_plans }
+    ensures done { OnOk result (All IsDone runs.workers.items) }
+    ensures results { IfOk result (AreResults runs) }
+    ensures fault { IfErr result (λ fault. (fault ≡ OutOfMemory) ⊎ IsFaultOf (map fault_of runs.plans.items) (map (λ run. run.end) runs.workers.items) fault) }
+{
+    match check(runs.plans.as_slice(), runs.workers.as_slice()) {
+        Ok(()) => {}
+        Err(fault) => return Err(fault),
+    }
+    let results = gather(alloc, runs)?;
+    Ok(results)
+}
+
 /// Looks whether each plan took its steps and each worker worked to the end.
 ///
 /// # Errors
 /// `Run` for the first plan that met a fault, other than that the loader was stopped; `Stopped` where no plan met such a
 /// fault, and a plan or a worker found or made the loader stopped.
-pub(crate) fn check<L: LoaderName>(
+fn check<L: LoaderName>(
     plans: &[PlanRun<L>],
     workers: &[WorkerRun<L>],
 ) -> Result<(), ScopeFault>
@@ -108,7 +130,7 @@ fn any_gave_up<L: LoaderName>(workers: &[WorkerRun<L>]) -> bool
 }
 
 /// Puts together what the threads gave back, where each plan took its steps. The error is a failed allocation.
-pub(crate) fn gather<L: LoaderName>(
+fn gather<L: LoaderName>(
     alloc: Global,
     runs: Runs<L>,
 ) -> Result<ThreadResults<L>, AllocError>
