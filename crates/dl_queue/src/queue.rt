@@ -265,11 +265,9 @@ impl JobQueue {
         let Some(last) = senders.pop() else {
             unreachable!()
         };
-        let Sender {
-            pass: mut whole,
-            sent,
-        } = last;
-        let sent = u64::from(sent) + self.gather_senders(&mut whole, senders);
+        let own = last.sent;
+        let mut whole = last.into_pass();
+        let sent = u64::from(own) + self.gather_senders(&mut whole, senders);
         let taken = self.gather_takers(&mut whole, takers);
         self.sends.learn_as::<Whole>(&mut whole);
         let left = sent - taken;
@@ -291,7 +289,7 @@ impl JobQueue {
         let mut sent = 0;
         for sender in senders {
             sent += u64::from(sender.sent);
-            self.sends.absorb::<Gather>(whole, sender.pass);
+            self.sends.absorb::<Gather>(whole, sender.into_pass());
         }
         sent
     }
@@ -311,7 +309,7 @@ impl JobQueue {
         let mut taken = 0;
         for taker in takers {
             taken += u64::from(taker.taken);
-            self.sends.absorb::<Gather>(whole, taker.pass);
+            self.sends.absorb::<Gather>(whole, taker.into_pass());
         }
         taken
     }

@@ -8,7 +8,6 @@ use crate::rule::{Item, Traffic};
 use crossbeam_channel::Pass;
 
 /// A sender's seat at one queue. It knows the jobs that it sent, in order.
-#[derive(Drop)]
 pub struct Sender {
     pub(crate) pass: Pass<Item, Traffic>,
     pub(crate) sent: u32,
@@ -18,7 +17,6 @@ pub struct Sender {
 }
 
 /// A taker's seat at one queue. It knows the jobs that it took, in order.
-#[derive(Drop)]
 pub struct Taker {
     pub(crate) pass: Pass<Item, Traffic>,
     pub(crate) taken: u32,
@@ -29,6 +27,24 @@ pub struct Taker {
     ghost none_sent: { (view pass).sent ≡ [] },
 }
 
+impl Drop for Sender {
+    fn drop(self) {
+        let Sender { pass, sent: _ } = self;
+        drop(pass);
+    }
+}
+
+impl Drop for Taker {
+    fn drop(self) {
+        let Taker {
+            pass,
+            taken: _,
+            ended: _,
+        } = self;
+        drop(pass);
+    }
+}
+
 impl Sender {
     /// The seat of a pass that has sent and taken nothing.
     pub(crate) fn new(pass: Pass<Item, Traffic>) -> Sender
@@ -36,6 +52,14 @@ impl Sender {
         ensures { result.pass ≡ pass }
     {
         Sender { pass, sent: 0 }
+    }
+
+    /// What the seat knows.
+    pub(crate) fn into_pass(self) -> Pass<Item, Traffic>
+        ensures { result ≡ self.pass }
+    {
+        let Sender { pass, sent: _ } = self;
+        pass
     }
 }
 
@@ -50,5 +74,17 @@ impl Taker {
             taken: 0,
             ended: false,
         }
+    }
+
+    /// What the seat knows.
+    pub(crate) fn into_pass(self) -> Pass<Item, Traffic>
+        ensures { result ≡ self.pass }
+    {
+        let Taker {
+            pass,
+            taken: _,
+            ended: _,
+        } = self;
+        pass
     }
 }

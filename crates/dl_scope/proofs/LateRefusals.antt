@@ -1,5 +1,5 @@
 -- Refusals that come once threads have run.
-use Rattle.std.proofs.Common.{◌≡◌, ◌∙◌, ap, subst, ℕ, zero, suc, ◌+◌, List, [], ◌∷◌, ◌++◌, length, map, Option, Some, None, arith}
+use Rattle.std.proofs.Common.{◌≡◌, ◌∙◌, ◌⊎◌, inl, inr, ap, sym, subst, ℕ, zero, suc, ◌+◌, List, [], ◌∷◌, ◌++◌, length, map, Option, Some, None, arith}
 use Rattle.std.specs.Prelude.{IfErr, Result}
 use Rattle.std.specs.List.{AllZip}
 use Rattle.std.proofs.lemmas.List.{length-map}
@@ -74,7 +74,7 @@ module _ {L : Type 0} (queue : JobQueue) (service : Service) where
       }
 
 -- a fault of the runs
-pub run_refused : (service : Service) (setup : Setup) (plans : List Plan) (faults : List (Option RunFault)) (ends : List WorkerEnd) (fault : ScopeFault)
+run_refused : (service : Service) (setup : Setup) (plans : List Plan) (faults : List (Option RunFault)) (ends : List WorkerEnd) (fault : ScopeFault)
     → MayServe setup (length plans) → AreEnds service (length plans) setup.workers faults ends → IsFaultOf faults ends fault
     → RefusedAs service setup plans fault
 run_refused service setup plans faults ends (Run plan fault) may are least = (may, (faults, ends, are, least))
@@ -87,6 +87,13 @@ run_refused service setup plans faults ends (Queue why) may are fault = absurd f
 run_refused service setup plans faults ends (Close why) may are fault = absurd fault
 run_refused service setup plans faults ends (Unfetched batch) may are fault = absurd fault
 run_refused service setup plans faults ends OutOfMemory may are fault = absurd fault
+
+-- a fault of the runs, or that memory ran out
+pub results_refused : (service : Service) (setup : Setup) (plans : List Plan) (faults : List (Option RunFault)) (ends : List WorkerEnd) (fault : ScopeFault)
+    → MayServe setup (length plans) → AreEnds service (length plans) setup.workers faults ends → (fault ≡ OutOfMemory) ⊎ IsFaultOf faults ends fault
+    → RefusedAs service setup plans fault
+results_refused service setup plans faults ends fault may are (inl is) = subst (RefusedAs service setup plans) (sym is) may
+results_refused service setup plans faults ends fault may are (inr why) = run_refused service setup plans faults ends fault may are why
 
 -- a refused close
 pub close_refused : (service : Service) (setup : Setup) (plans : List Plan) (accounts : List Account) (fault : CloseFault) → MayServe setup (length plans)

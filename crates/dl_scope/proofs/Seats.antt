@@ -1,6 +1,6 @@
 -- Seats that are dealt out and given back.
 use Rattle.std.proofs.Common.{◌≡◌, ◌∙◌, ap, sym, refl, ℕ, ◌+◌, List, [], ◌∷◌, ◌++◌, length, map, arith, length-append, zero, suc}
-use Rattle.std.specs.Prelude.{All, IfOk, Result, Ok, Err}
+use Rattle.std.specs.Prelude.{All}
 use Rattle.std.specs.List.{AllByRecursion, AllZip}
 use Rattle.std.proofs.lemmas.List.{length-map}
 use Rattle.std.proofs.lemmas.List.Elements.{All-from_recursion, recursion_from_All, All-append, All-cons, All-nil, All-same}
@@ -10,16 +10,12 @@ use Rattle.dl_queue.specs.Seats.{AreSeatsOf, IsSenderOf, IsTakerOf, sent_jobs, t
 use Rattle.dl_queue.specs.declared.queue.JobQueue.{JobQueue}
 use Rattle.dl_queue.specs.declared.seats.Sender.{Sender}
 use Rattle.dl_queue.specs.declared.seats.Taker.{Taker}
-use Rattle.dl_scope.specs.Inside.ThreadRuns.{IsPlanRun, IsWorkerRun, SendsNothing}
+use Rattle.dl_scope.specs.Inside.ThreadRuns.{IsPlanRun, IsWorkerRun}
 use Rattle.dl_scope.specs.declared.tasks.PlanTask.{PlanTask}
 use Rattle.dl_scope.specs.declared.tasks.PlanRun.{PlanRun}
 use Rattle.dl_scope.specs.declared.tasks.WorkerTask.{WorkerTask}
 use Rattle.dl_scope.specs.declared.tasks.WorkerRun.{WorkerRun}
-use Rattle.dl_loader.specs.Pass.{Pass, new_traces}
-use Rattle.std.specs.declared.alloc.AllocError.{AllocError}
-use Rattle.dl_scope.specs.Inside.ServedPlans.{Ran}
-use Rattle.dl_terms.specs.declared.plan.Plan.{Plan}
-use Rattle.dl_scope.specs.declared.threads.Runs.{Runs}
+use Rattle.dl_loader.specs.Pass.{new_traces}
 
 unmapped : {X Y : Type 0} (P : Y → Type 0) (f : X → Y) (xs : List X) → AllByRecursion P (map f xs) → AllByRecursion (λ x. P (f x)) xs
 unmapped P f [] all = tt
@@ -82,33 +78,6 @@ module _ {L : Type 0} (queue : JobQueue) (service : Service) where
             (All-from_recursion (IsSenderOf queue) sent (senders_by tasks runs kept)) (All-cons (IsSenderOf queue) own [] is_own (All-nil (IsSenderOf queue))));
         takers_of = All-same (IsTakerOf queue) takers took are2 (All-from_recursion (IsTakerOf queue) took (takers_by worker_tasks worker_runs worked));
       }
-
-module _ {L : Type 0} (queue : JobQueue) (service : Service) (passes : List Pass) (plans : List Plan) (tasks : List (PlanTask L))
-    (workers : List (WorkerTask L)) (own : Sender) where
-  -- what the threads gave back, if they were started
-  pub ran_all : (result : Result (Runs L) AllocError)
-      → map (λ (task : PlanTask L). task.pass) tasks ++ map (λ (task : WorkerTask L). task.pass) workers ≡ passes
-      → map (λ (task : PlanTask L). task.plan) tasks ≡ plans → length tasks + 1 ≡ queue.senders → length workers ≡ queue.takers
-      → All (λ task. sent_jobs task.sender ≡ []) tasks → All (λ task. taken_jobs task.taker ≡ []) workers → sent_jobs own ≡ []
-      → IfOk result (λ runs. AllZip (IsPlanRun queue service) tasks runs.plans.items)
-      → IfOk result (λ runs. AllZip (IsWorkerRun queue service) workers runs.workers.items)
-      → IfOk result (λ runs. SendsNothing queue own runs.own)
-      → IfOk result (Ran queue service passes plans)
-  ran_all (Err e) passes_are plans_are senders takers none_sent none_taken unused kept worked own_kept = tt
-  ran_all (Ok runs) passes_are plans_are senders takers none_sent none_taken unused kept worked own_kept = record {
-    plan_tasks = tasks;
-    worker_tasks = workers;
-    passes_are = passes_are;
-    plans_are = plans_are;
-    none_sent = none_sent;
-    none_taken = none_taken;
-    planned = kept;
-    worked = worked;
-    own_is = own_kept.0;
-    own_unused = own_kept.1 ∙ unused;
-    all_senders = senders;
-    all_takers = takers;
-  }
 
 -- as many fresh traces as were asked for
 pub fresh_long : (n k : ℕ) → length (new_traces n k) ≡ k

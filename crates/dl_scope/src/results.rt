@@ -1,17 +1,21 @@
 //! How what the threads give back is put together.
 
-ghost use Rattle.std.specs.Prelude.{[], ◌≡◌, ◌≤◌, ◌++◌, All, Err, IfErr, IfOk, MatchBool, MatchOption, OnOk, length, map};
+ghost use Rattle.std.specs.Prelude.{[], ◌≡◌, ◌≤◌, ◌+◌, ◌++◌, ◌⊎◌, All, Err, IfErr, IfOk, MatchBool, MatchOption, OnOk, length, map};
 ghost use Rattle.dl_terms.specs.Plans.{most_plans};
 ghost use Rattle.dl_scope.specs.Faults.{AnyGaveUp, AnyMet, IsLeastFault, IsStop};
+ghost use Rattle.dl_queue.specs.Balance.{Balances};
+ghost use Rattle.dl_queue.specs.Seats.{AreSeatsOf};
+ghost use Rattle.dl_scope.specs.declared.fault.ScopeFault.TheVariants.{OutOfMemory};
 ghost use Rattle.dl_scope.specs.Inside.Results.{AllGave, AreResults, IsDone, IsFaultOf, IsNoResult, MetNoOwn, WasTaken, fault_of};
 
 use crate::fault::ScopeFault;
 use crate::tasks::{PlanRun, WorkerRun};
 use crate::threads::Runs;
-use dl_haxl::{RunFault, StepAnswer, StepAnswers};
+use dl_haxl::{RunFault, StepAnswer};
 use dl_loader::{CallFault, LoaderName, Pass};
-use dl_workers::{Sender, Taker, WorkerEnd};
+use dl_workers::{JobQueue, Sender, Taker, Tally, WorkerEnd};
 use std::alloc::{AllocError, Global};
+use std::sync::Wait;
 
 /// What the threads gave back: passes in the order of their callers, seats, and for each plan what its steps gave.
 #[derive(Drop)]
@@ -23,12 +27,42 @@ pub(crate) struct ThreadResults<L: LoaderName> {
     pub(crate) rounds: Vec<u64>,
 }
 
+/// What serving plans leaves before the loader is closed.
+#[derive(Drop)]
+pub(crate) struct ServedPlans<L: LoaderName> {
+    pub(crate) passes: Vec<Pass<L>>,
+    pub(crate) answers: Vec<Vec<StepAnswer>>,
+    pub(crate) rounds: Vec<u64>,
+    pub(crate) tally: Tally,
+}
+
+/// Puts together what the threads gave back, where each plan took its steps and each worker worked to the end.
+///
+/// # Errors
+/// Those of `check`; else `OutOfMemory`.
+pub(crate) fn results_of<L: LoaderName>(
+    alloc: Global,
+    runs: Runs<L>,
+) -> Result<ThreadResults<L>, ScopeFault>
+    requires few { length runs.plans.items ≤ most_plans }
+    ensures done { OnOk result (All IsDone runs.workers.items) }
+    ensures results { IfOk result (AreResults runs) }
+    ensures fault { IfErr result (λ fault. (fault ≡ OutOfMemory) ⊎ IsFaultOf (map fault_of runs.plans.items) (map (λ run. run.end) runs.workers.items) fault) }
+{
+    match check(runs.plans.as_slice(), runs.workers.as_slice()) {
+        Ok(()) => {}
+        Err(fault) => return Err(fault),
+    }
+    let results = gather(alloc, runs)?;
+    Ok(results)
+}
+
 /// Looks whether each plan took its steps and each worker worked to the end.
 ///
 /// # Errors
 /// `Run` for the first plan that met a fault, other than that the loader was stopped; `Stopped` where no plan met such a
 /// fault, and a plan or a worker found or made the loader stopped.
-pub(crate) fn check<L: LoaderName>(
+fn check<L: LoaderName>(
     plans: &[PlanRun<L>],
     workers: &[WorkerRun<L>],
 ) -> Result<(), ScopeFault>
@@ -96,7 +130,7 @@ fn any_gave_up<L: LoaderName>(workers: &[WorkerRun<L>]) -> bool
 }
 
 /// Puts together what the threads gave back, where each plan took its steps. The error is a failed allocation.
-pub(crate) fn gather<L: LoaderName>(
+fn gather<L: LoaderName>(
     alloc: Global,
     runs: Runs<L>,
 ) -> Result<ThreadResults<L>, AllocError>
@@ -131,6 +165,31 @@ impl<L: LoaderName> ThreadResults<L> {
         self.add_workers(workers)
     }
 
+    /// Ends the queue, to which all seats are given back.
+    pub(crate) fn finish(self, rt: &impl Wait, queue: JobQueue) -> ServedPlans<L>
+        requires { AreSeatsOf queue self.senders.items self.takers.items }
+        ensures passes { result.passes ≡ self.passes }
+        ensures answers { result.answers ≡ self.answers }
+        ensures rounds { result.rounds ≡ self.rounds }
+        ensures balance { Balances self.senders.items self.takers.items result.tally }
+        ensures sum { result.tally.sent ≡ result.tally.taken + result.tally.left }
+    {
+        let ThreadResults {
+            passes,
+            senders,
+            takers,
+            answers,
+            rounds,
+        } = self;
+        let tally = queue.finish(rt, senders, takers);
+        ServedPlans {
+            passes,
+            answers,
+            rounds,
+            tally,
+        }
+    }
+
     /// Adds what the threads of plans gave back.
     fn add_plans(&mut self, plans: Vec<PlanRun<L>>) -> Result<(), AllocError>
         requires taken { All WasTaken plans.items }
@@ -142,18 +201,7 @@ impl<L: LoaderName> ThreadResults<L> {
         ensures gave { OnOk result (AllGave plans.items (map (λ a. a.items) self.new.answers.items) self.new.rounds.items) }
     {
         for run in plans {
-            let PlanRun {
-                pass,
-                sender,
-                given,
-            } = run;
-            let Ok(StepAnswers { answers, rounds }) = given else {
-                unreachable!()
-            };
-            self.passes.push(pass)?;
-            self.senders.push(sender)?;
-            self.answers.push(answers)?;
-            self.rounds.push(rounds)?;
+            run.add_to(self)?;
         }
         Ok(())
     }
@@ -167,9 +215,7 @@ impl<L: LoaderName> ThreadResults<L> {
         ensures rounds { OnOk result (self.new.rounds.items ≡ self.old.rounds.items) }
     {
         for run in workers {
-            let WorkerRun { pass, taker, .. } = run;
-            self.passes.push(pass)?;
-            self.takers.push(taker)?;
+            run.add_to(self)?;
         }
         Ok(())
     }

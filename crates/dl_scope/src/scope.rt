@@ -1,13 +1,12 @@
 //! Serving plans.
 
-ghost use Rattle.std.specs.Prelude.{◌≡◌, ◌+◌, [], ℕ, List, All, IfErr, IfOk, OnOk, Some, length, map};
+ghost use Rattle.std.specs.Prelude.{◌≡◌, ◌+◌, [], ℕ, List, IfErr, IfOk, OnOk, Some, length, map};
 ghost use Rattle.dl_history.specs.Service.{Answers, Service};
 ghost use Rattle.dl_loader.specs.CloseRefusals.{IsLeastOf};
 ghost use Rattle.dl_loader.specs.Opening.{AreCallers, Names};
 ghost use Rattle.dl_values.specs.Limits.{rules_by};
 ghost use Rattle.dl_loader.specs.Pass.{new_traces};
 ghost use Rattle.dl_workers.specs.GiveUps.{given_up};
-ghost use Rattle.dl_queue.specs.Seats.{AreSeatsOf, sent_jobs, taken_jobs};
 ghost use Rattle.dl_terms.specs.Plans.{ArePlans};
 ghost use Rattle.dl_scope.specs.Faults.{AreWorkers, MayServe, RefusedAs};
 ghost use Rattle.dl_scope.specs.Headline.{Headline, service_of};
@@ -15,21 +14,21 @@ ghost use Rattle.dl_scope.specs.Report.{report};
 ghost use Rattle.dl_scope.specs.declared.fault.ScopeFault.TheVariants.{Unfetched};
 ghost use Rattle.dl_scope.specs.declared.setup.Setup.{Setup};
 ghost use Rattle.dl_terms.specs.declared.plan.Plan.{Plan};
-ghost use Rattle.dl_scope.specs.Inside.ServedPlans.{AreServed, IsCounted, Ran};
+ghost use Rattle.dl_scope.specs.Inside.ServedPlans.{AreServed, IsCounted};
 
 use crate::fault::ScopeFault;
 use crate::report::Report;
-use crate::results::{ThreadResults, check, gather};
+use crate::results::{ServedPlans, results_of};
 use crate::server::{Resources, Server};
 use crate::setup::Setup;
-use crate::task_lists::{plan_tasks, worker_tasks};
-use crate::threads::{Runs, run_all};
+use crate::task_lists::{Tasks, deal};
+use crate::threads::run_all;
 use dl_haxl::StepAnswer;
 use dl_loader::{History, Loader, LoaderName, Opening, Pass, StartFault};
 use dl_source::Source;
 use dl_terms::{MOST_PLANS, Plan};
-use dl_workers::{Gate, JobQueue, Sender, Taker, Tally, least_given_up};
-use std::alloc::{AllocError, Global};
+use dl_workers::{Gate, JobQueue, Tally, least_given_up};
+use std::alloc::Global;
 use std::hash::RandomState;
 use std::marker::Brand;
 use std::sync::Wait;
@@ -184,15 +183,6 @@ fn report(
     Ok(Report::of(answers, rounds, history, tally))
 }
 
-/// What serving plans leaves before the loader is closed.
-#[derive(Drop)]
-struct ServedPlans<L: LoaderName> {
-    passes: Vec<Pass<L>>,
-    answers: Vec<Vec<StepAnswer>>,
-    rounds: Vec<u64>,
-    tally: Tally,
-}
-
 /// Serves plans by a loader with these passes, which are new.
 fn serve_by<
     L: LoaderName + Send + Sync,
@@ -228,55 +218,15 @@ fn serve_by<
         loader,
         queue: &queue,
     };
-    let runs = run_tasks(rt, &server, passes, senders, takers, plans)?;
-    match check(runs.plans.as_slice(), runs.workers.as_slice()) {
-        Ok(()) => {}
+    let Tasks {
+        plans,
+        workers,
+        own,
+    } = deal(&server, passes, senders, takers, plans)?;
+    let runs = run_all(rt, &server, workers, plans, own)?;
+    let results = match results_of(alloc, runs) {
+        Ok(results) => results,
         Err(fault) => return Err(fault),
-    }
-    let ThreadResults {
-        passes,
-        senders,
-        takers,
-        answers,
-        rounds,
-    } = gather(alloc, runs)?;
-    let tally = queue.finish(rt, senders, takers);
-    Ok(ServedPlans {
-        passes,
-        answers,
-        rounds,
-        tally,
-    })
-}
-
-/// Runs the threads of the plans and of the workers, with these passes and seats and one sender more. The error is that an
-/// allocation failed, or a thread was refused.
-fn run_tasks<
-    L: LoaderName + Send + Sync,
-    S: Source + Sync,
-    G: Gate + Sync,
-    R: Threads + Wait + Sync,
->(
-    rt: &R,
-    server: &Server<'_, L, S, G>,
-    mut passes: Vec<Pass<L>>,
-    mut senders: Vec<Sender>,
-    takers: Vec<Taker>,
-    plans: Vec<Plan>,
-) -> Result<Runs<L>, AllocError>
-    requires source { Answers (S.answer server.now.resources.now.source.now) L.service }
-    requires seats { AreSeatsOf server.now.queue.now senders.items takers.items }
-    requires senders { length senders.items ≡ length plans.items + 1 }
-    requires none_sent { All (λ s. sent_jobs s ≡ []) senders.items }
-    requires none_taken { All (λ t. taken_jobs t ≡ []) takers.items }
-    requires passes { length passes.items ≡ length plans.items + length takers.items }
-    ensures ran { IfOk result (Ran server.now.queue.now L.service passes.items plans.items) }
-{
-    let Some(own) = senders.pop() else {
-        unreachable!()
     };
-    let alloc = server.resources.alloc;
-    let workers = worker_tasks(alloc, &mut passes, takers)?;
-    let plans = plan_tasks(alloc, passes, senders, plans)?;
-    run_all(rt, server, workers, plans, own)
+    Ok(results.finish(rt, queue))
 }

@@ -1,12 +1,51 @@
 //! How passes and seats are dealt out to threads.
 
-ghost use Rattle.std.specs.Prelude.{◌≡◌, ◌≤◌, ◌++◌, IfOk, length, map};
+ghost use Rattle.std.specs.Prelude.{◌≡◌, ◌≤◌, ◌+◌, ◌++◌, [], All, IfOk, length, map};
+ghost use Rattle.dl_queue.specs.Seats.{AreSeatsOf, sent_jobs, taken_jobs};
+ghost use Rattle.dl_scope.specs.Inside.ServedPlans.{AreTasks};
 
+use crate::server::Server;
 use crate::tasks::{PlanTask, WorkerTask};
 use dl_loader::{LoaderName, Pass};
 use dl_terms::Plan;
 use dl_workers::{Sender, Taker};
 use std::alloc::{AllocError, Global};
+
+/// What all threads are given, in the order of their callers, and the server's own sender.
+#[derive(Drop)]
+pub(crate) struct Tasks<L: LoaderName> {
+    pub(crate) plans: Vec<PlanTask<L>>,
+    pub(crate) workers: Vec<WorkerTask<L>>,
+    pub(crate) own: Sender,
+}
+
+/// Deals out these passes and seats, of which one sender is the server's own. The error is a failed allocation.
+pub(crate) fn deal<L: LoaderName, S, G>(
+    server: &Server<'_, L, S, G>,
+    mut passes: Vec<Pass<L>>,
+    mut senders: Vec<Sender>,
+    takers: Vec<Taker>,
+    plans: Vec<Plan>,
+) -> Result<Tasks<L>, AllocError>
+    requires seats { AreSeatsOf server.now.queue.now senders.items takers.items }
+    requires senders { length senders.items ≡ length plans.items + 1 }
+    requires none_sent { All (λ s. sent_jobs s ≡ []) senders.items }
+    requires none_taken { All (λ t. taken_jobs t ≡ []) takers.items }
+    requires passes { length passes.items ≡ length plans.items + length takers.items }
+    ensures dealt { IfOk result (AreTasks server.now.queue.now passes.items plans.items) }
+{
+    let Some(own) = senders.pop() else {
+        unreachable!()
+    };
+    let alloc = server.resources.alloc;
+    let workers = worker_tasks(alloc, &mut passes, takers)?;
+    let plans = plan_tasks(alloc, passes, senders, plans)?;
+    Ok(Tasks {
+        plans,
+        workers,
+        own,
+    })
+}
 
 /// For each plan, in order, its pass and its sender. The error is a failed allocation.
 pub(crate) fn plan_tasks<L: LoaderName>(

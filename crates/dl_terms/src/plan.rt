@@ -1,5 +1,7 @@
 //! Plans: what a request does, step by step.
 
+ghost use Rattle.std.specs.Prelude.{◌≡◌};
+
 use crate::term::Term;
 use dl_values::{FetchKey, Outcome};
 
@@ -20,8 +22,25 @@ pub enum Step {
 }
 
 /// What one request does: its steps, in order.
-#[derive(Debug, Drop)]
+#[derive(Debug)]
 pub struct Plan {
     /// The steps.
     pub steps: Vec<Step>,
+}
+
+impl Drop for Plan {
+    fn drop(self) {
+        let Plan { steps } = self;
+        drop(steps);
+    }
+}
+
+impl Plan {
+    /// The steps, taken out of the plan.
+    pub fn into_steps(self) -> Vec<Step>
+        ensures { result ≡ self.steps }
+    {
+        let Plan { steps } = self;
+        steps
+    }
 }

@@ -1,5 +1,6 @@
 -- What the threads of a server gave back, put together.
-use Rattle.std.specs.Prelude.{◌≡◌, ℕ, List, [], ◌∷◌, ◌++◌, map, Option, Some, None, Result, Ok, Err, IsOk, IfErr}
+use Rattle.std.specs.Prelude.{◌≡◌, ℕ, List, [], ◌∷◌, ◌++◌, map, Option, Some, None, Result, Ok, Err, IsOk, IfErr, Vec}
+use Rattle.std.specs.declared.alloc.Global.{Global}
 use Rattle.dl_workers.specs.declared.worker.WorkerEnd.{WorkerEnd}
 use Rattle.dl_workers.specs.declared.worker.WorkerEnd.TheVariants.{Done}
 use Rattle.dl_haxl.specs.declared.fault.RunFault.{RunFault}
@@ -51,6 +52,11 @@ module _ {L : Type 0} where
   -- the plan gave these answers and took so many rounds
   abbrev pub Gave : PlanRun L → List StepAnswer → ℕ → Type 0
   Gave run answers rounds = (given : StepAnswers) × (run.given ≡ Ok given) × (given.answers.items ≡ answers) × (given.rounds ≡ rounds)
+
+  -- what the plan gave is put behind answers and rounds
+  abbrev pub AddsGiven : PlanRun L → List (Vec StepAnswer Global) → List ℕ → List (Vec StepAnswer Global) → List ℕ → Type 0
+  AddsGiven run answers rounds more further = (given : StepAnswers) × (run.given ≡ Ok given)
+      × (more ≡ answers ++ given.answers ∷ []) × (further ≡ rounds ++ given.rounds ∷ [])
 
   -- so did each of the plans
   abbrev pub AllGave : List (PlanRun L) → List (List StepAnswer) → List ℕ → Type 0

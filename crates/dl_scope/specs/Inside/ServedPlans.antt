@@ -1,21 +1,17 @@
 -- What serving plans leaves before the loader is closed.
 use Rattle.std.specs.Prelude.{◌≡◌, ℕ, suc, ◌+◌, List, [], ◌∷◌, ◌++◌, length, map, All, nat_le, if◌then◌else◌}
-use Rattle.std.specs.List.{AllZip}
 use Rattle.dl_history.specs.Lists.{Every, total}
 use Rattle.dl_history.specs.Service.{Service}
 use Rattle.dl_loader.specs.Pass.{Trace, Pass}
-use Rattle.dl_queue.specs.Seats.{IsSenderOf, sent_jobs, taken_jobs}
+use Rattle.dl_queue.specs.Seats.{IsSenderOf, IsTakerOf, sent_jobs, taken_jobs}
 use Rattle.dl_loader.specs.Dispatches.{dispatched, events_told, unsent}
 use Rattle.dl_queue.specs.declared.queue.JobQueue.{JobQueue}
 use Rattle.dl_queue.specs.declared.queue.Tally.{Tally}
 use Rattle.dl_haxl.specs.PlanEntries.{Follows}
 use Rattle.dl_scope.specs.Headline.{TellsEnd}
-use Rattle.dl_scope.specs.Inside.ThreadRuns.{IsPlanRun, IsWorkerRun}
-use Rattle.dl_scope.specs.declared.tasks.PlanTask.{PlanTask}
-use Rattle.dl_scope.specs.declared.tasks.WorkerTask.{WorkerTask}
 use Rattle.dl_terms.specs.declared.plan.Plan.{Plan}
 use Rattle.dl_haxl.specs.declared.step_answer.StepAnswer.{StepAnswer}
-use Rattle.dl_scope.specs.declared.threads.Runs.{Runs}
+use Rattle.dl_scope.specs.declared.task_lists.Tasks.{Tasks}
 
 -- ---- by their passes
 
@@ -45,20 +41,18 @@ pub record IsCounted (plans : ℕ) (traces : List Trace) (tally : Tally) : Type 
   pub taken : tally.taken ≡ total (λ p. if nat_le plans p.caller then length (events_told p.entries) else 0) traces
   pub sum : tally.sent ≡ tally.taken + tally.left
 
--- ---- by their threads
+-- ---- by their tasks
 
 module _ {L : Type 0} where
-  -- what the threads of plans and workers that were given these passes gave back
-  pub record Ran (queue : JobQueue) (service : Service) (passes : List Pass) (plans : List Plan) (runs : Runs L) : Type 0 where
-    pub plan_tasks : List (PlanTask L)
-    pub worker_tasks : List (WorkerTask L)
-    pub passes_are : map (λ task. task.pass) plan_tasks ++ map (λ task. task.pass) worker_tasks ≡ passes
-    pub plans_are : map (λ task. task.plan) plan_tasks ≡ plans
-    pub none_sent : All (λ task. sent_jobs task.sender ≡ []) plan_tasks
-    pub none_taken : All (λ task. taken_jobs task.taker ≡ []) worker_tasks
-    pub planned : AllZip (IsPlanRun queue service) plan_tasks runs.plans.items
-    pub worked : AllZip (IsWorkerRun queue service) worker_tasks runs.workers.items
-    pub own_is : IsSenderOf queue runs.own
-    pub own_unused : sent_jobs runs.own ≡ []
-    pub all_senders : length plan_tasks + 1 ≡ queue.senders
-    pub all_takers : length worker_tasks ≡ queue.takers
+  -- what threads are given has these passes and plans, and all seats of the queue, which nothing has gone through
+  pub record AreTasks (queue : JobQueue) (passes : List Pass) (plans : List Plan) (tasks : Tasks L) : Type 0 where
+    pub passes_are : map (λ task. task.pass) tasks.plans.items ++ map (λ task. task.pass) tasks.workers.items ≡ passes
+    pub plans_are : map (λ task. task.plan) tasks.plans.items ≡ plans
+    pub senders_of : All (λ task. IsSenderOf queue task.sender) tasks.plans.items
+    pub takers_of : All (λ task. IsTakerOf queue task.taker) tasks.workers.items
+    pub own_is : IsSenderOf queue tasks.own
+    pub none_sent : All (λ task. sent_jobs task.sender ≡ []) tasks.plans.items
+    pub none_taken : All (λ task. taken_jobs task.taker ≡ []) tasks.workers.items
+    pub own_unused : sent_jobs tasks.own ≡ []
+    pub all_senders : length tasks.plans.items + 1 ≡ queue.senders
+    pub all_takers : length tasks.workers.items ≡ queue.takers

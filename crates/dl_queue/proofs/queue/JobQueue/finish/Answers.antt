@@ -3,7 +3,7 @@ use Rattle.std.proofs.Common.{◌≡◌, ◌∙◌, ◌+◌, ◌-◌, List, ◌�
 use Rattle.std.proofs.lemmas.List.Elements.{All-pop}
 use Rattle.crossbeam_channel.specs.Claims.{view}
 use Rattle.dl_queue.specs.declared.rule.Traffic.{Traffic}
-use Rattle.dl_queue.specs.Seats.{IsSenderOf, taken_items}
+use Rattle.dl_queue.specs.Seats.{IsSenderOf, sent_items, taken_items}
 use Rattle.dl_queue.specs.Balance.{Balances}
 use Rattle.dl_queue.proofs.Steps.{learns}
 use Rattle.dl_queue.proofs.Finish.{finishes, balance_of_counts}
@@ -18,9 +18,10 @@ gather_senders-requires g c =
     let each = All-pop (IsSenderOf c.args.self) c.args.senders.items c.pop.new.self.items (Some c.in-Some.last) c.in-Some.ensures.items
     c.requires.seats.senders_of in
     let senders = ap length c.in-Some.ensures.items in
+    let own = ap (λ (a : Traffic). a.seats) (ap view c.into_pass-whole.ensures) in
     record {
-      seat = each.1.0;
-      some_seat = omega (arith, c.in-Some.last.one_seat);
+      seat = rw c.into_pass-whole.ensures each.1.0;
+      some_seat = omega (arith, own, c.in-Some.last.one_seat);
       few = omega (arith, c.requires.seats.all_senders, c.args.self.few_senders, length-append c.pop.new.self.items (c.in-Some.last ∷ []));
       senders = each.0;
     }
@@ -28,9 +29,10 @@ gather_senders-requires g c =
 pub gather_takers-taken-requires : goal.gather_takers-taken-requires
 gather_takers-taken-requires g c =
     let seats = ap (λ (a : Traffic). a.seats) c.gather_senders.ensures.gathered in
+    let own = ap (λ (a : Traffic). a.seats) (ap view c.into_pass-whole.ensures) in
     record {
       seat = c.gather_senders.ensures.seat;
-      some_seat = omega (arith, c.in-Some.last.one_seat);
+      some_seat = omega (arith, own, c.in-Some.last.one_seat);
       few = omega (arith, c.requires.seats.all_takers, c.args.self.few_takers);
       takers = c.requires.seats.takers_of;
     }
@@ -44,9 +46,13 @@ learn_as-requires-clause-rule g c =
     let seats' = ap (λ (a : Traffic). a.seats) c.gather_senders.ensures.gathered in
     let all = ap (λ (a : Traffic). a.all) c.gather_takers-taken.ensures.gathered in
     let all' = ap (λ (a : Traffic). a.all) c.gather_senders.ensures.gathered in
-    learns _ _ (omega (arith, c.in-Some.last.one_seat))
+    let own = ap (λ (a : Traffic). a.seats) (ap view c.into_pass-whole.ensures) in
+    let own' = ap (λ (a : Traffic). a.all) (ap view c.into_pass-whole.ensures) in
+    learns _ _ (omega (arith, own, c.in-Some.last.one_seat))
     (omega (
       arith,
+      own,
+      own',
       c.in-Some.last.one_seat,
       last.1,
       c.requires.seats.all_senders,
@@ -71,10 +77,13 @@ balance g c =
     c.in-Some.last
     c.args.takers.items
     (view c.gather_takers-taken.new.whole)
-    (ap (λ (a : Traffic). a.sent) c.gather_takers-taken.ensures.gathered ∙ ap (λ (a : Traffic). a.sent) c.gather_senders.ensures.gathered)
+    (ap (λ (a : Traffic). a.sent) c.gather_takers-taken.ensures.gathered
+    ∙ (ap (λ (a : Traffic). a.sent) c.gather_senders.ensures.gathered
+    ∙ ap (λ (a : Traffic). a.sent ++ flat_map sent_items c.pop.new.self.items) (ap view c.into_pass-whole.ensures)))
     (ap (λ (a : Traffic). a.taken) c.gather_takers-taken.ensures.gathered
     ∙ ap (λ (items : List Item). items ++ flat_map taken_items c.args.takers.items)
-    (ap (λ (a : Traffic). a.taken) c.gather_senders.ensures.gathered ∙ c.in-Some.last.none_taken))
+    (ap (λ (a : Traffic). a.taken) c.gather_senders.ensures.gathered
+    ∙ (ap (λ (a : Traffic). a.taken) (ap view c.into_pass-whole.ensures) ∙ c.in-Some.last.none_taken)))
     (c.from.result + c.gather_senders.result)
     c.gather_takers-taken.result
     (omega (arith, c.in-Some.last.counted))

@@ -3,14 +3,16 @@ use Rattle.dl_scope.proofs.ThreadResults.{gave_more, mapped_more}
 use Rattle.dl_scope.proofs.results.ThreadResults.add_plans.Goals as goal
 
 pub loop-run-preserved : goal.loop-run-preserved
-loop-run-preserved g c = record {
-  passes = mapped_more (λ run. run.pass) c.args.self.now.passes.items c.loop-run.self.passes.items c.push.new.self.items c.loop-run.yielded c.in-Some.run'
-      c.loop-run.invariant.passes c.in_ok-push.ensures.items;
-  senders = mapped_more (λ run. run.sender) c.args.self.now.senders.items c.loop-run.self.senders.items c.push-in-loop-run.new.self.items c.loop-run.yielded
-      c.in-Some.run' c.loop-run.invariant.senders c.in_ok-push-2.ensures.items;
-  takers = c.loop-run.invariant.takers;
-  gave = gave_more c.loop-run.yielded c.in-Some.run' c.loop-run.self.answers.items c.push-in-loop-run-2.new.self.items c.in-Ok.field-0.answers
-      c.loop-run.self.rounds.items c.push-in-loop-run-3.new.self.items c.in-Ok.field-0.rounds c.in-Ok.field-0
-      c.loop-run.invariant.gave c.in-Ok.is refl refl
-      c.in_ok-push-3.ensures.items c.in_ok-push-4.ensures.items;
-}
+loop-run-preserved g c =
+    let before = c.loop-run.self in
+    let after = c.add_to.new.all in
+    let gave = c.in_ok-add_to.ensures.gave in
+    record {
+      passes = mapped_more (λ run. run.pass) c.args.self.now.passes.items before.passes.items after.passes.items c.loop-run.yielded c.in-Some.run'
+          c.loop-run.invariant.passes c.in_ok-add_to.ensures.passes;
+      senders = mapped_more (λ run. run.sender) c.args.self.now.senders.items before.senders.items after.senders.items c.loop-run.yielded
+          c.in-Some.run' c.loop-run.invariant.senders c.in_ok-add_to.ensures.senders;
+      takers = rw c.in_ok-add_to.ensures.takers c.loop-run.invariant.takers;
+      gave = gave_more c.loop-run.yielded c.in-Some.run' before.answers.items after.answers.items gave.0.answers before.rounds.items after.rounds.items
+          gave.0.rounds gave.0 c.loop-run.invariant.gave gave.1 refl refl gave.2 gave.3;
+    }
