@@ -21,6 +21,7 @@ use Rattle.dl_queue.proofs.queue.JobQueue.TheSendSync as queue
 use Rattle.dl_queue.specs.contracts.seats.Sender as Sender
 use Rattle.dl_queue.proofs.seats.Sender.TheSendSync as sender
 use Rattle.dl_terms.proofs.term.Term.TheLaws.TheKnot.{crosses as terms_cross}
+use Rattle.dl_terms.proofs.answer_value.AnswerValue.TheLaws.TheKnot.{crosses as answers_cross}
 use Rattle.dl_terms.specs.contracts.answer.Answer as Answer
 use Rattle.dl_terms.specs.contracts.term.Term as Term
 use Rattle.dl_haxl.proofs.fault.RunFault.TheSendSync as fault
@@ -44,7 +45,7 @@ Plan-field-send : IsSend Plan.the_field.row
 Plan-field-send = search (Step-send, owners_cross, sendable) depth 40 fits 20000
 
 Answer-field-send : IsSend Answer.the_field.row
-Answer-field-send = search (Json-send, key.the_send, batch.the_field_send, owners_cross, sendable) depth 40 fits 20000
+Answer-field-send = search (answers_cross, Json-send, maps_cross, key.the_send, batch.the_field_send, owners_cross, sendable) depth 40 fits 20000
 
 StepAnswer-send : IsSend StepAnswer.the_row
 StepAnswer-send = search (Answer-field-send, owners_cross, sendable) depth 40 fits 20000

@@ -10,4 +10,5 @@ pub mod AskedKeys
 pub mod Reductions
 mod WholeNumbers
 mod PartAnswers
+mod AnswerParts
 pub mod WaitingKeys

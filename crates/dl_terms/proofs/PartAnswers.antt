@@ -5,8 +5,7 @@ use Rattle.std.specs.Prelude.{IsSome, MatchOption}
 use Rattle.std.specs.List.{list_all}
 use Rattle.std.specs.Option.{option_map}
 use Rattle.serde_json.specs.Data.{Data, array}
-use Rattle.serde_json.specs.View.{view, items_view}
-use Rattle.serde_json.specs.declared.value.Value.{Value as Json}
+use Rattle.serde_json.specs.View.{items_of}
 use Rattle.dl_terms.specs.declared.answer.Answer.{Answer}
 use Rattle.dl_terms.specs.declared.answer.Answer.TheVariants.{Value, Fault}
 use Rattle.dl_terms.specs.declared.answer.EvalFault.{EvalFault}
@@ -18,8 +17,8 @@ use Rattle.dl_terms.specs.Inside.Exploration.{GathersOn}
 use Rattle.dl_terms.proofs.Options.{none_absurd, some_same}
 
 -- the nodes have ended with the values
-abbrev pub AreValues : List Node → List Json → Type 0
-AreValues ns vs = map (λ n. result_of (node_view n)) ns ≡ map (λ v. Some (Value (view v))) vs
+abbrev pub AreValues : List Node → List Data → Type 0
+AreValues ns vs = map (λ n. result_of (node_view n)) ns ≡ map (λ v. Some (Value v)) vs
 
 head_is : {A : Type 0} (x y : A) (xs ys : List A) → x ∷ xs ≡ y ∷ ys → x ≡ y
 head_is {A} x y xs ys e = let same : ◌≡◌ {A = List A} (x ∷ xs) (y ∷ ys) = e in cc
@@ -30,22 +29,22 @@ tail_is {A} x y xs ys e = let same : ◌≡◌ {A = List A} (x ∷ xs) (y ∷ ys
 none_cons : {A : Type 0} (x : A) (xs : List A) → [] ≡ x ∷ xs → ⊥
 none_cons {A} x xs e = let same : ◌≡◌ {A = List A} [] (x ∷ xs) = e in cc
 
-gather_values : (vs : List Json) → gather (map (λ v. Value (view v)) vs) ≡ Gathered.values (items_view vs)
+gather_values : (vs : List Data) → gather (map Value vs) ≡ Gathered.values (items_of vs)
 gather_values [] = refl
-gather_values (v ∷ vs) = ap (with_first (view v)) (gather_values vs)
+gather_values (v ∷ vs) = ap (with_first v) (gather_values vs)
 
-results_values : (ns : List Node) (vs : List Json) → AreValues ns vs → results_of (nodes_view ns) ≡ Some (map (λ v. Value (view v)) vs)
+results_values : (ns : List Node) (vs : List Data) → AreValues ns vs → results_of (nodes_view ns) ≡ Some (map Value vs)
 results_values [] [] e = refl
 results_values [] (v ∷ vs) e = absurd (none_cons _ _ e)
 results_values (n ∷ ns) [] e = absurd (none_cons _ _ (sym e))
 results_values (n ∷ ns) (v ∷ vs) e =
-    let first : result_of (node_view n) ≡ Some (Value (view v)) = head_is _ _ _ _ e in
+    let first : result_of (node_view n) ≡ Some (Value v) = head_is _ _ _ _ e in
     let rest = results_values ns vs (tail_is _ _ _ _ e) in
-    ap (λ o. both o (results_of (nodes_view ns))) first ∙ ap (option_map (λ ls. Value (view v) ∷ ls)) rest
+    ap (λ o. both o (results_of (nodes_view ns))) first ∙ ap (option_map (λ ls. Value v ∷ ls)) rest
 
 -- all of them answer the list
-pub values_together : (ns : List Node) (vs : List Json) → AreValues ns vs
-    → option_map gathered (results_of (nodes_view ns)) ≡ Some (Value (array (items_view vs)))
+pub values_together : (ns : List Node) (vs : List Data) → AreValues ns vs
+    → option_map gathered (results_of (nodes_view ns)) ≡ Some (Value (array (items_of vs)))
 values_together ns vs e = ap (option_map gathered) (results_values ns vs e) ∙ ap (λ g. Some (ended_as g)) (gather_values vs)
 
 -- ---- a part that failed
@@ -75,7 +74,7 @@ fault_here f None h = absurd (let bad = h in cc)
 fault_here f (Some ls) h = refl
 
 -- behind values it is what all answer
-pub fault_together : (ns : List Node) (vs : List Json) (n : Node) (rest : List Node) (f : EvalFault) → AreValues ns vs
+pub fault_together : (ns : List Node) (vs : List Data) (n : Node) (rest : List Node) (f : EvalFault) → AreValues ns vs
     → result_of (node_view n) ≡ Some (Fault f)
     → IsSome (results_of (nodes_view (ns ++ n ∷ rest))) → option_map gathered (results_of (nodes_view (ns ++ n ∷ rest))) ≡ Some (Fault f)
 fault_together [] [] n rest f e is every =
@@ -85,9 +84,9 @@ fault_together [] (v ∷ vs) n rest f e is every = absurd (none_cons _ _ e)
 fault_together (m ∷ ms) [] n rest f e is every = absurd (none_cons _ _ (sym e))
 fault_together (m ∷ ms) (v ∷ vs) n rest f e is every =
     let more = results_of (nodes_view (ms ++ n ∷ rest)) in
-    let first : result_of (node_view m) ≡ Some (Value (view v)) = head_is _ _ _ _ e in
+    let first : result_of (node_view m) ≡ Some (Value v) = head_is _ _ _ _ e in
     let later = fault_together ms vs n rest f (tail_is _ _ _ _ e) is (both_right (result_of (node_view m)) more every) in
-    ap (λ o. option_map gathered (both o more)) first ∙ fault_behind (view v) more f later
+    ap (λ o. option_map gathered (both o more)) first ∙ fault_behind v more f later
 
 -- each of them has ended
 pub ended_in : (ns : List Node) (n : Node) (rest : List Node) → IsSome (results_of (nodes_view (ns ++ n ∷ rest))) → IsSome (result_of (node_view n))
@@ -99,13 +98,13 @@ ended_in (m ∷ ms) n rest every = ended_in ms n rest (both_right (result_of (no
 pub left_next : (whole done left rest : List Node) (n : Node) → whole ≡ done ++ left → left ≡ n ∷ rest → whole ≡ (done ++ n ∷ []) ++ rest
 left_next whole done left rest n e s = e ∙ (ap (λ l. done ++ l) s ∙ sym (append_assoc done (n ∷ []) rest))
 
-pub values_next : (ns : List Node) (vs more : List Json) (n : Node) (v : Json) → AreValues ns vs → result_of (node_view n) ≡ Some (Value (view v))
+pub values_next : (ns : List Node) (vs more : List Data) (n : Node) (v : Data) → AreValues ns vs → result_of (node_view n) ≡ Some (Value v)
     → more ≡ vs ++ v ∷ [] → AreValues (ns ++ n ∷ []) more
 values_next ns vs more n v h is pushed =
     map-append (λ (m : Node). result_of (node_view m)) ns (n ∷ [])
     ∙ (ap (λ l. l ++ result_of (node_view n) ∷ []) h
-    ∙ (ap (λ o. map (λ w. Some (Value (view w))) vs ++ o ∷ []) is
-    ∙ (sym (map-append (λ (w : Json). Some (Value (view w))) vs (v ∷ [])) ∙ ap (map (λ w. Some (Value (view w)))) (sym pushed))))
+    ∙ (ap (λ o. map (λ w. Some (Value w)) vs ++ o ∷ []) is
+    ∙ (sym (map-append (λ (w : Data). Some (Value w)) vs (v ∷ [])) ∙ ap (map (λ w. Some (Value w))) (sym pushed))))
 
 -- ---- whether parts have ended
 

@@ -1,4 +1,6 @@
 pub mod Tree
+pub mod AnswerValue
+pub mod AnswerDepth
 pub mod View
 pub mod TermAnswers
 pub mod Relation

@@ -1,12 +1,13 @@
 //! What the evaluation of a term ends with.
 
-use dl_values::{BatchFault, FetchKey, Json, Message};
+use crate::answer_value::AnswerValue;
+use dl_values::{BatchFault, FetchKey, Message};
 
 /// What the evaluation of a term ends with.
 #[derive(Debug, Drop)]
 pub enum Answer {
     /// The value.
-    Value(Json),
+    Value(AnswerValue),
     /// Why there is none. Of several parts that failed it is the leftmost one's.
     Fault(EvalFault),
 }

@@ -14,6 +14,7 @@ ghost use Rattle.dl_terms.specs.Inside.Exploration.{Becomes, GathersOn, LoadsTar
 ghost use Rattle.dl_terms.specs.declared.answer.Answer.TheVariants as answer;
 
 use crate::answer::{Answer, EvalFault};
+use crate::answer_value::AnswerValue;
 use crate::asked::Asked;
 use crate::node::{Frame, HOLLOW, Node};
 use crate::target::{load_again, load_id, load_ids};
@@ -174,19 +175,22 @@ fn go_on(
 }
 
 /// The field of a value.
-fn pick_value(alloc: Global, value: &Json, field: &Text) -> Result<Answer, AllocError>
+fn pick_value(alloc: Global, value: &AnswerValue, field: &Text) -> Result<Answer, AllocError>
     ensures { IfOk result (λ a. a ≡ picked field.now (answer.Value value.now)) }
 {
-    match value.value().get(field.as_str()) {
+    match value.get(field.as_str()) {
         None => Ok(Answer::Fault(EvalFault::NoField)),
-        Some(found) => Ok(Answer::Value(Json::new(alloc, found.clone()?)?)),
+        Some(found) => {
+            let part = Json::new(alloc, found.clone()?)?;
+            Ok(Answer::Value(AnswerValue::row(part)))
+        }
     }
 }
 
 /// The load of the id that the field of a value is.
 fn follow(
     alloc: Global,
-    value: &Json,
+    value: &AnswerValue,
     field: &Text,
     table: &Text,
     asked: &mut Asked<'_>,
@@ -197,7 +201,7 @@ fn follow(
         (target_waits (known_of asked.old) (target_in table.now (picked field.now (answer.Value value.now))))) }
     ensures pairs { OnOk result (pairs_of asked.new ≡ pairs_of asked.old) }
 {
-    match value.value().get(field.as_str()) {
+    match value.get(field.as_str()) {
         None => Ok(Node::Done(Answer::Fault(EvalFault::NoField))),
         Some(id) => load_id(alloc, table, id, asked),
     }
@@ -206,7 +210,7 @@ fn follow(
 /// The loads of the ids that the field of a value lists.
 fn each(
     alloc: Global,
-    value: &Json,
+    value: &AnswerValue,
     field: &Text,
     table: &Text,
     asked: &mut Asked<'_>,
@@ -217,7 +221,7 @@ fn each(
         (targets_waits (known_of asked.old) (targets_in table.now (picked field.now (answer.Value value.now))))) }
     ensures pairs { OnOk result (pairs_of asked.new ≡ pairs_of asked.old) }
 {
-    match value.value().get(field.as_str()) {
+    match value.get(field.as_str()) {
         None => Ok(Node::Done(Answer::Fault(EvalFault::NoField))),
         Some(ids) => load_list(alloc, table, ids, asked),
     }
@@ -274,13 +278,10 @@ fn answer_all(alloc: Global, parts: Vec<Node>) -> Result<Answer, AllocError>
     let mut values = Vec::with_capacity(alloc, parts.len())?;
     for part in parts {
         match part.into_answer() {
-            Some(Answer::Value(value)) => {
-                let _whole = value.value();
-                values.push(value.into_value()?)?;
-            }
+            Some(Answer::Value(value)) => values.push(value)?,
             Some(Answer::Fault(fault)) => return Ok(Answer::Fault(fault)),
             None => unreachable!(),
         }
     }
-    Ok(Answer::Value(Json::new(alloc, Value::Array(values))?))
+    Ok(Answer::Value(AnswerValue::list(values)))
 }

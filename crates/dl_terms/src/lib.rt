@@ -7,6 +7,7 @@
 #![tactic(auto)]
 
 mod answer;
+mod answer_value;
 mod asked;
 mod exploration;
 pub mod laws;
@@ -16,6 +17,7 @@ mod target;
 mod term;
 
 pub use answer::{Answer, EvalFault};
+pub use answer_value::AnswerValue;
 pub use asked::Asked;
 pub use exploration::explore;
 pub use node::{Node, unexplored};

@@ -5,6 +5,7 @@ ghost use Rattle.dl_terms.specs.View.{term_view, terms_view};
 ghost use Rattle.dl_terms.specs.Node.{framed, node_view, nodes_view, result_of};
 
 use crate::answer::{Answer, EvalFault};
+use crate::answer_value::AnswerValue;
 use crate::term::Term;
 use dl_values::{FetchKey, Text};
 use std::alloc::{AllocError, Global};
@@ -91,7 +92,8 @@ pub fn unexplored(alloc: Global, term: Term) -> Result<Node, AllocError>
     loop {
         let (frame, part) = match term {
             Term::Value(value) => {
-                return in_frames(alloc, Node::Done(Answer::Value(value)), frames);
+                let answer = Answer::Value(AnswerValue::row(value));
+                return in_frames(alloc, Node::Done(answer), frames);
             }
             Term::Load(key) => return in_frames(alloc, Node::Load { key, place: 0 }, frames),
             Term::All(parts) => {

@@ -10,6 +10,7 @@ ghost use Rattle.dl_terms.specs.Node.{node_view, nodes_view};
 ghost use Rattle.dl_terms.specs.Inside.Exploration.{LoadsTarget, LoadsEach, target_of};
 
 use crate::answer::{Answer, EvalFault};
+use crate::answer_value::AnswerValue;
 use crate::asked::Asked;
 use crate::node::Node;
 use dl_values::{FetchKey, KeyFault, Outcome, Text};
@@ -21,7 +22,7 @@ fn loaded(key: &FetchKey, outcome: &Outcome) -> Result<Answer, AllocError>
     ensures { IfOk result (λ a. a ≡ loaded key.now outcome.now) }
 {
     match outcome {
-        Outcome::Value(value) => Ok(Answer::Value(value.try_copy()?)),
+        Outcome::Value(row) => Ok(Answer::Value(AnswerValue::row(row.try_copy()?))),
         Outcome::KeyError(text) => {
             let (key, text) = (key.try_copy()?, text.try_copy()?);
             Ok(Answer::Fault(EvalFault::Key { key, text }))

@@ -1,8 +1,6 @@
 -- The parts so far have ended with the values.
-use Rattle.std.proofs.Common.{◌≡◌, false, length, ◌++◌}
+use Rattle.std.proofs.Common.{◌≡◌, length, ◌++◌}
 use Rattle.std.specs.Vec.Iter.{into_iter_items, into_iter_len}
-use Rattle.serde_json.specs.View.{items_view}
-use Rattle.serde_json.specs.Written.{items_have_float}
 use Rattle.dl_terms.proofs.PartAnswers.{AreValues}
 use Rattle.dl_terms.proofs.exploration.answer_all.Given as goal
 
@@ -11,5 +9,4 @@ invariant-loop-part l = record {
   left : l.fn.parts.items ≡ l.yielded ++ into_iter_items l.part-iterator;
   long : into_iter_len l.part-iterator ≡ length (into_iter_items l.part-iterator);
   values : AreValues l.yielded l.values.items;
-  whole : items_have_float (items_view l.values.items) ≡ false;
 }

@@ -1,0 +1,213 @@
+//! The values that answers give.
+
+ghost use Rattle.std.specs.Prelude.{◌≡◌, ◌++◌, false, IfOk, IfSome, OnOk, option_map, string_bytes};
+ghost use Rattle.serde_json.specs.Data.{array};
+ghost use Rattle.serde_json.specs.Find.{get};
+ghost use Rattle.serde_json.specs.View.{view, items_of, items_view};
+ghost use Rattle.serde_json.specs.Written.{has_float, items_have_float, compact_text};
+
+use dl_values::Json;
+use serde_json::Value;
+use std::alloc::{AllocError, Global};
+use std::fmt;
+use std::fmt::Write;
+use std::marker::Model;
+
+/// A value that an answer gives: a row, a part of one, or the list of what several parts gave. The rows in it are shared, and their
+/// numbers are whole. Contracts see its tree.
+#[cycle(answer_value)]
+pub struct AnswerValue {
+    shape: Shape,
+}
+
+/// What a value is made of.
+#[cycle(answer_value)]
+enum Shape {
+    /// A row, or a part of one.
+    Row(Json),
+    /// The list of these values.
+    List(Vec<AnswerValue>),
+}
+
+impl Drop for AnswerValue {
+    #[cycle(dropping)]
+    fn drop(self) {
+        let AnswerValue { shape } = self;
+        drop(shape);
+    }
+}
+
+impl Drop for Shape {
+    #[cycle(dropping)]
+    fn drop(self) {
+        match self {
+            Shape::Row(row) => drop(row),
+            Shape::List(values) => drop(values),
+        }
+    }
+}
+
+impl Model for AnswerValue {
+    ghost use Rattle.serde_json.specs.Data.{Data, depth};
+    ghost use Rattle.dl_values.specs.Inside.Json.{data_code};
+
+    ghost Value = { Data };
+
+    ghost coded = { data_code };
+
+    ghost use Rattle.dl_terms.specs.AnswerValue.{tree_of};
+
+    ghost view = { λ v. tree_of v.shape };
+
+    ghost size = { depth };
+
+    ghost use Rattle.dl_terms.specs.AnswerDepth.{parts_below};
+
+    ghost size_decreases = { λ v h. parts_below v.shape };
+}
+
+impl AnswerValue {
+    /// The value that a row is, shared.
+    pub fn row(row: Json) -> AnswerValue
+        ensures { result ≡ row }
+    {
+        AnswerValue {
+            shape: Shape::Row(row),
+        }
+    }
+
+    /// The list of values.
+    pub fn list(values: Vec<AnswerValue>) -> AnswerValue
+        ensures { result ≡ array (items_of values.items) }
+    {
+        AnswerValue {
+            shape: Shape::List(values),
+        }
+    }
+
+    /// The member of this name, if the value is an object that has one.
+    pub fn get(&self, name: &str) -> Option<&Value>
+        ensures member { option_map (λ v. view v.now) result ≡ get name.now self.now }
+        ensures whole { IfSome result (λ v. has_float (view v.now) ≡ false) }
+    {
+        match &self.shape {
+            Shape::Row(row) => row.value().get(name),
+            Shape::List(_) => None,
+        }
+    }
+
+    /// The same value as one JSON value, which shares a row and copies what stands in lists. The error is a failed allocation.
+    pub fn to_json(&self, alloc: Global) -> Result<Json, AllocError>
+        ensures { IfOk result (λ j. j ≡ self.now) }
+    {
+        match &self.shape {
+            Shape::Row(row) => row.try_copy(),
+            Shape::List(values) => Json::new(alloc, Value::Array(copies(alloc, values)?)),
+        }
+    }
+
+    /// The value's text without spaces, its members in the order of their names. The error is a failed allocation.
+    pub fn to_text(&self, alloc: Global) -> Result<String, AllocError>
+        ensures { IfOk result (λ s. string_bytes s ≡ compact_text self.now) }
+    {
+        match &self.shape {
+            Shape::Row(row) => row.to_text(alloc),
+            Shape::List(values) => {
+                let mut text = String::new(alloc);
+                push_list(alloc, values, &mut text)?;
+                Ok(text)
+            }
+        }
+    }
+}
+
+/// Appends the text of a value.
+#[cycle(writing)]
+fn push_value(alloc: Global, value: &AnswerValue, text: &mut String) -> Result<(), AllocError>
+    ensures { OnOk result (string_bytes text.new ≡ string_bytes text.old ++ compact_text value.now) }
+{
+    match &value.shape {
+        Shape::Row(row) => {
+            let row = row.to_text(alloc)?;
+            text.push_str(row.as_str())
+        }
+        Shape::List(values) => push_list(alloc, values, text),
+    }
+}
+
+#[cycle(writing)]
+fn push_list(
+    alloc: Global,
+    values: &Vec<AnswerValue>,
+    text: &mut String,
+) -> Result<(), AllocError>
+    ensures { OnOk result (string_bytes text.new ≡ string_bytes text.old ++ compact_text (array (items_of values.now.items))) }
+{
+    text.push_str("[")?;
+    let mut before = "";
+    for value in values {
+        text.push_str(before)?;
+        push_value(alloc, value, text)?;
+        before = ",";
+    }
+    text.push_str("]")?;
+    Ok(())
+}
+
+/// A copy of a value's tree.
+#[cycle(copying)]
+fn copy(alloc: Global, value: &AnswerValue) -> Result<Value, AllocError>
+    ensures tree { IfOk result (λ v. view v ≡ value.now) }
+    ensures whole { IfOk result (λ v. has_float (view v) ≡ false) }
+{
+    match &value.shape {
+        Shape::Row(row) => row.value().clone(),
+        Shape::List(values) => Ok(Value::Array(copies(alloc, values)?)),
+    }
+}
+
+/// Copies of the trees of values.
+#[cycle(copying)]
+fn copies(alloc: Global, values: &Vec<AnswerValue>) -> Result<Vec<Value>, AllocError>
+    ensures trees { IfOk result (λ vs. items_view vs.items ≡ items_of values.now.items) }
+    ensures whole { IfOk result (λ vs. items_have_float (items_view vs.items) ≡ false) }
+{
+    let mut copies = Vec::with_capacity(alloc, values.len())?;
+    for value in values {
+        copies.push(copy(alloc, value)?)?;
+    }
+    Ok(copies)
+}
+
+impl fmt::Display for AnswerValue {
+    fn fmt<W: Write>(&self, f: &mut fmt::Formatter<W>) -> fmt::Result {
+        show(self, f)
+    }
+}
+
+impl fmt::Debug for AnswerValue {
+    fn fmt<W: Write>(&self, f: &mut fmt::Formatter<W>) -> fmt::Result {
+        show(self, f)
+    }
+}
+
+/// Writes the text of a value.
+#[cycle(showing)]
+fn show<W: Write>(value: &AnswerValue, f: &mut fmt::Formatter<W>) -> fmt::Result {
+    match &value.shape {
+        Shape::Row(row) => write!(f, "{}", row.value()),
+        Shape::List(values) => show_list(values, f),
+    }
+}
+
+#[cycle(showing)]
+fn show_list<W: Write>(values: &Vec<AnswerValue>, f: &mut fmt::Formatter<W>) -> fmt::Result {
+    f.write_str("[")?;
+    let mut before = "";
+    for value in values {
+        f.write_str(before)?;
+        show(value, f)?;
+        before = ",";
+    }
+    f.write_str("]")
+}
