@@ -1,6 +1,5 @@
-//! The programs over a runtime.
+//! The program over a runtime, and what `plan_picture` shares with it.
 
-use crate::draw::{Draw, run_draw};
 use crate::fault::RunError;
 use crate::migration::run_migrate;
 use crate::program::run;
@@ -28,28 +27,14 @@ pub fn plans<
     ExitCode::from(status)
 }
 
-/// The program `plan_picture`: it draws by `D` what the document on standard input did, by threads of `threads`, and answers
-/// the status with which it ends. Where it fails, a line on standard error says why.
-pub fn plan_picture<
-    D: Draw,
-    R: Env + RandomSource + Input + Print + Eprint + AllocGlobal,
-    T: Threads + Wait + Sync,
->(rt: &R, threads: &T) -> ExitCode {
-    let status = match asked(rt, Program::PlanPicture) {
-        Ok((options, hashing)) => told(rt, &drawn::<D, R, T>(rt, threads, hashing, options)),
-        Err(status) => status,
-    };
-    ExitCode::from(status)
-}
-
 // ---- what is asked for
 
-/// The options that the command line gives, and random numbers of this run, by which keys are hashed, since they come from
-/// strangers.
+/// The options that the command line of a program gives, and random numbers of this run, by which keys are hashed, since they
+/// come from strangers.
 ///
 /// # Errors
 /// The status with which the program ends. A line on standard error says why.
-fn asked<R: Env + RandomSource + Print + Eprint + AllocGlobal>(
+pub fn asked<R: Env + RandomSource + Print + Eprint + AllocGlobal>(
     rt: &R,
     program: Program,
 ) -> Result<(Options, RandomState), u8> {
@@ -128,19 +113,8 @@ fn written<R: Input + Print + AllocGlobal, T: Threads + Wait + Sync>(
     }
 }
 
-/// Writes the picture of the document that stands on standard input to standard output.
-fn drawn<D: Draw, R: Input + Print + AllocGlobal, T: Threads + Wait + Sync>(
-    rt: &R,
-    threads: &T,
-    hashing: RandomState,
-    options: Options,
-) -> Result<(), RunError> {
-    let (alloc, mut reader, mut writer) = (rt.alloc(), rt.reader(), io::writer(rt));
-    run_draw::<D, _, _, T>(threads, alloc, hashing, &mut reader, &mut writer, options)
-}
-
 /// The status of a run. Where it failed, a line on standard error says why.
-fn told<R: Eprint>(rt: &R, ran: &Result<(), RunError>) -> u8 {
+pub fn told<R: Eprint>(rt: &R, ran: &Result<(), RunError>) -> u8 {
     match ran {
         Ok(()) => RAN,
         Err(error) => {

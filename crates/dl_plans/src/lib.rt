@@ -1,9 +1,8 @@
-//! The program `plans`: it reads a document, and prints what it gives; and `plan_picture`, but for what draws: it prints a picture.
+//! The program `plans`: it reads a document, and prints what it gives.
 #![tactic(auto)]
 
 mod answer_lines;
 mod batch_lines;
-mod draw;
 mod entry;
 mod fault;
 pub mod laws;
@@ -18,8 +17,7 @@ pub use dl_documents::{
 };
 pub use dl_migration::{MigrateFault, migrate};
 pub use dl_scripts::run_script;
-pub use draw::{Draw, run_draw};
-pub use entry::{plan_picture, plans, tell_no_options, words};
+pub use entry::{asked, plans, tell_no_options, told, words};
 pub use fault::RunError;
 pub use migration::run_migrate;
 pub use program::{read_all, run, served, write_all};

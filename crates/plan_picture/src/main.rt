@@ -1,11 +1,33 @@
 //! The program `plan_picture`: it draws what the document that stands on standard input did.
 #![tactic(auto)]
 
-mod pictures;
+mod draw;
+mod picture;
 
-use pictures::Pictures;
+use dl_command::{Options, Program};
+use dl_plans::{RunError, asked, told};
+use draw::run_draw;
+use std::hash::RandomState;
+use std::io;
 use std::process::ExitCode;
+use std::sync::Wait;
+use std::thread::Threads;
 
 fn main(rt: HostRuntime) -> ExitCode {
-    dl_plans::plan_picture::<Pictures, _, _>(&rt, &rt)
+    let status = match asked(&rt, Program::PlanPicture) {
+        Ok((options, hashing)) => told(&rt, &drawn(&rt, &rt, hashing, options)),
+        Err(status) => status,
+    };
+    ExitCode::from(status)
+}
+
+/// Writes the picture of the document that stands on standard input to standard output.
+fn drawn<R: Input + Print + AllocGlobal, T: Threads + Wait + Sync>(
+    rt: &R,
+    threads: &T,
+    hashing: RandomState,
+    options: Options,
+) -> Result<(), RunError> {
+    let (alloc, mut reader, mut writer) = (rt.alloc(), rt.reader(), io::writer(rt));
+    run_draw(threads, alloc, hashing, &mut reader, &mut writer, options)
 }

@@ -2,7 +2,7 @@ use Rattle.std.proofs.Common.{subst}
 use Rattle.dl_documents.specs.declared.input.Input.TheVariants as input
 use Rattle.dl_plans.specs.Run.{IsDocument}
 use Rattle.dl_plans.proofs.Runs.{document_read}
-use Rattle.dl_plans.proofs.draw.picture.Goals as goal
+use Rattle.plan_picture.proofs.picture.picture.Goals as goal
 
 pub returns-in-Ok-Script-clause-err : goal.returns-in-Ok-Script-clause-err
 returns-in-Ok-Script-clause-err g c = c.made.ensures.err c.args.options c.args.bytes.now

@@ -1,6 +1,6 @@
 use Rattle.std.proofs.Common.{rules, ◌≡◌, Err}
 use Rattle.dl_plans.proofs.Runs.{run_refused}
-use Rattle.dl_plans.proofs.draw.run_draw.Goals as goal
+use Rattle.plan_picture.proofs.draw.run_draw.Goals as goal
 
 pub returns-in_err-text-clause-refused : goal.returns-in_err-text-clause-refused
 returns-in_err-text-clause-refused g c =
