@@ -39,5 +39,6 @@ pub(crate) fn into_only(value: Value) -> Option<(String, Value)>
     if !members.is_empty() {
         return None;
     }
+    members.destroy_empty();
     Some((name, argument))
 }

@@ -54,7 +54,7 @@ fn pick(alloc: Global, argument: Value) -> Result<Option<Term>, AllocError>
     let Some(part) = read_part(alloc, part)? else {
         return Ok(None);
     };
-    let field = Text::new(alloc, field.as_str())?;
+    let field = Text::from_string(field);
     Ok(Some(Term::Pick { part, field }))
 }
 
@@ -68,8 +68,8 @@ fn follow(alloc: Global, argument: Value) -> Result<Option<Term>, AllocError>
     let Some(part) = read_part(alloc, part)? else {
         return Ok(None);
     };
-    let field = Text::new(alloc, field.as_str())?;
-    let table = Text::new(alloc, table.as_str())?;
+    let field = Text::from_string(field);
+    let table = Text::from_string(table);
     Ok(Some(Term::Follow { part, field, table }))
 }
 
@@ -83,8 +83,8 @@ fn each(alloc: Global, argument: Value) -> Result<Option<Term>, AllocError>
     let Some(part) = read_part(alloc, part)? else {
         return Ok(None);
     };
-    let field = Text::new(alloc, field.as_str())?;
-    let table = Text::new(alloc, table.as_str())?;
+    let field = Text::from_string(field);
+    let table = Text::from_string(table);
     Ok(Some(Term::Each { part, field, table }))
 }
 

@@ -18,26 +18,11 @@ use Rattle.dl_documents.proofs.terms.+reading.Goals as goal
 pub pick-returns-in_err-part : goal.pick-returns-in_err-part
 pick-returns-in_err-part t c = IfOk-from_err _ _ c.from_residual.ensures.0
 
-pub pick-returns-in_err-field : goal.pick-returns-in_err-field
-pick-returns-in_err-field t c = IfOk-from_err _ _ c.from_residual-in_err-field.ensures.0
-
 pub follow-returns-in_err-part : goal.follow-returns-in_err-part
 follow-returns-in_err-part t c = IfOk-from_err _ _ c.from_residual.ensures.0
 
-pub follow-returns-in_err-field : goal.follow-returns-in_err-field
-follow-returns-in_err-field t c = IfOk-from_err _ _ c.from_residual-in_err-field.ensures.0
-
-pub follow-returns-in_err-table : goal.follow-returns-in_err-table
-follow-returns-in_err-table t c = IfOk-from_err _ _ c.from_residual-in_err-table.ensures.0
-
 pub each-returns-in_err-part : goal.each-returns-in_err-part
 each-returns-in_err-part t c = IfOk-from_err _ _ c.from_residual.ensures.0
-
-pub each-returns-in_err-field : goal.each-returns-in_err-field
-each-returns-in_err-field t c = IfOk-from_err _ _ c.from_residual-in_err-field.ensures.0
-
-pub each-returns-in_err-table : goal.each-returns-in_err-table
-each-returns-in_err-table t c = IfOk-from_err _ _ c.from_residual-in_err-table.ensures.0
 
 pub all-returns-in_err-parts : goal.all-returns-in_err-parts
 all-returns-in_err-parts t c = IfOk-from_err _ _ c.from_residual.ensures.0
@@ -127,25 +112,20 @@ read_term-returns-in-Some-into_only t c =
 
 pub pick-returns : goal.pick-returns
 pick-returns t c =
-    let field : c.in_ok-field.field ≡ string_bytes c.in-Some.field = search rules in
-    pick_some (view c.args.argument) _ _ c.in_ok-field.field c.in_ok-part.field-0 c.in-Some-2.part
-    c.in-Some.ensures c.in_ok-part.ensures c.in-Some-2.is field
+    pick_some (view c.args.argument) _ _ c.from_string-field.result c.in_ok-part.field-0 c.in-Some-2.part
+    c.in-Some.ensures c.in_ok-part.ensures c.in-Some-2.is c.from_string-field.ensures
 
 pub follow-returns : goal.follow-returns
 follow-returns t c =
-    let field : c.in_ok-field.field ≡ string_bytes c.in-Some.field = search rules in
-    let table : c.in_ok-table.table ≡ string_bytes c.in-Some.table = search rules in
-    ap Some (term_view-Follow c.in-Some-2.part c.in_ok-field.field c.in_ok-table.table)
-    ∙ link_some follow (view c.args.argument) _ _ _ c.in_ok-part.field-0 c.in-Some-2.part c.in_ok-field.field c.in_ok-table.table
-    c.in-Some.ensures c.in_ok-part.ensures c.in-Some-2.is field table
+    ap Some (term_view-Follow c.in-Some-2.part c.from_string-field.result c.from_string-table.result)
+    ∙ link_some follow (view c.args.argument) _ _ _ c.in_ok-part.field-0 c.in-Some-2.part c.from_string-field.result c.from_string-table.result
+    c.in-Some.ensures c.in_ok-part.ensures c.in-Some-2.is c.from_string-field.ensures c.from_string-table.ensures
 
 pub each-returns : goal.each-returns
 each-returns t c =
-    let field : c.in_ok-field.field ≡ string_bytes c.in-Some.field = search rules in
-    let table : c.in_ok-table.table ≡ string_bytes c.in-Some.table = search rules in
-    ap Some (term_view-Each c.in-Some-2.part c.in_ok-field.field c.in_ok-table.table)
-    ∙ link_some each (view c.args.argument) _ _ _ c.in_ok-part.field-0 c.in-Some-2.part c.in_ok-field.field c.in_ok-table.table
-    c.in-Some.ensures c.in_ok-part.ensures c.in-Some-2.is field table
+    ap Some (term_view-Each c.in-Some-2.part c.from_string-field.result c.from_string-table.result)
+    ∙ link_some each (view c.args.argument) _ _ _ c.in_ok-part.field-0 c.in-Some-2.part c.from_string-field.result c.from_string-table.result
+    c.in-Some.ensures c.in_ok-part.ensures c.in-Some-2.is c.from_string-field.ensures c.from_string-table.ensures
 
 pub all-items-init : goal.all-items-init
 all-items-init t c = record {
