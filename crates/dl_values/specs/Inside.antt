@@ -1,3 +1,5 @@
+pub mod HashedText
 pub mod JoinedText
 pub mod Json
 pub mod KeyText
+pub mod ShortText

@@ -1,15 +1,16 @@
 -- The order of keys, and what a hash of one reads.
-use Rattle.std.specs.Prelude.{ℕ, List, [], ◌∷◌}
+use Rattle.std.specs.Prelude.{ℕ, List}
 use Rattle.std.specs.declared.cmp.Ordering.{Ordering}
 use Rattle.std.specs.Ordering.{then_cmp, on, nat_cmp}
 use Rattle.std.specs.Cmp.Lexicographic.{slice_cmp}
 use Rattle.dl_values.specs.Key.{Key}
 use Rattle.dl_values.specs.Inside.KeyText.{marked}
+use Rattle.dl_values.specs.Inside.HashedText.{hashed}
 
 -- keys are ordered by table, and keys of one table by id, each by its bytes
 abbrev pub key_cmp : Key → Key → Ordering
 key_cmp = then_cmp (on (λ k. k.table) (slice_cmp nat_cmp)) (on (λ k. k.id) (slice_cmp nat_cmp))
 
--- a hash reads both texts in one piece, and before them how many bytes the table has
+-- a hash reads both texts as one, and before them how many bytes the table has
 abbrev pub key_input : Key → List (List ℕ)
-key_input k = marked k ∷ []
+key_input k = hashed (marked k)

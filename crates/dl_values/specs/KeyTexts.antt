@@ -16,4 +16,4 @@ pub record IsKeyText (k : Key) : Type 0 where
 
 -- the most bytes of a text that stands in its own value
 abbrev pub short_bytes : ℕ
-short_bytes = 40
+short_bytes = 39

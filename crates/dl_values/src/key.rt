@@ -29,7 +29,7 @@ pub const TABLE_BYTES: usize = 64;
 pub const ID_BYTES: usize = 256;
 
 /// The two texts of a key as one: a character whose code is how many bytes the table has, then the table, then the id.
-/// So no two keys have one text, and a hash reads both in one piece.
+/// So no two keys have one text, and a hash reads both as one.
 #[derive(Drop)]
 struct KeyText {
     text: JoinedText,
@@ -37,14 +37,14 @@ struct KeyText {
 
 impl Model for KeyText {
     ghost use Rattle.dl_values.specs.Key.{Key};
-    ghost use Rattle.dl_values.specs.Inside.JoinedText.{bytes_of};
+    ghost use Rattle.dl_values.specs.Inside.JoinedText.{bytes_of, IsInForm};
     ghost use Rattle.dl_values.specs.Inside.KeyText.{unmarked, IsMarked};
 
     ghost Value = { Key };
 
     ghost view = { λ k. unmarked (bytes_of k.text) };
 
-    ghost invariant = { λ k. IsMarked (bytes_of k.text) };
+    ghost invariant = { λ k. IsMarked (bytes_of k.text) × IsInForm k.text };
 }
 
 impl KeyText {
@@ -75,9 +75,10 @@ impl KeyText {
         })
     }
 
-    /// The table and the id as one text of any length, which has an owner of its own. The error is a failed allocation.
+    /// The table and the id as one text, which is longer and has an owner of its own. The error is a failed allocation.
     fn long(alloc: Global, table: &str, id: &str) -> Result<KeyText, AllocError>
-        requires { IsKey (record { table = table.now; id = id.now }) }
+        requires key { IsKey (record { table = table.now; id = id.now }) }
+        requires long { short_bytes < 1 + length table.now + length id.now }
         ensures { IfOk result (λ k. k ≡ record { table = table.now; id = id.now }) }
     {
         let text = Text::marked(alloc, table.len() as u8, table, id)?;
@@ -118,7 +119,7 @@ impl Hash for KeyText {
     ghost respects_eq = { Prim.search (hashing, rules) };
 
     fn hash<H: Hasher>(&self, state: &mut H) {
-        state.write(self.text.as_str().as_bytes());
+        self.text.feed(state);
     }
 }
 
@@ -141,7 +142,7 @@ fn have_lengths(table: &[u8], id: &[u8]) -> bool
 
 /// What a loader is asked for: a table and an id in it. A copy shares the texts and costs one
 /// atomic step. Equality and order are over the table, then the id, by their bytes; a hash reads both
-/// in one piece.
+/// as one text.
 #[derive(Debug)]
 pub struct FetchKey {
     both: Arc<KeyText>,
@@ -196,7 +197,8 @@ impl FetchKey {
     /// The same of two texts that together are long. The error is a failed allocation.
     #[cold]
     fn long(alloc: Global, table: &str, id: &str) -> Result<FetchKey, AllocError>
-        requires { IsKey (record { table = table.now; id = id.now }) }
+        requires key { IsKey (record { table = table.now; id = id.now }) }
+        requires long { short_bytes < 1 + length table.now + length id.now }
         ensures { IfOk result (λ k. k ≡ record { table = table.now; id = id.now }) }
     {
         let both = Arc::new(alloc, KeyText::long(alloc, table, id)?)?;
@@ -236,7 +238,8 @@ impl FetchKey {
         table: &[u8],
         id: &[u8],
     ) -> Result<Option<FetchKey>, AllocError>
-        requires { IsKey (record { table = table.now; id = id.now }) }
+        requires key { IsKey (record { table = table.now; id = id.now }) }
+        requires long { short_bytes < 1 + length table.now + length id.now }
         ensures some { IfOk result (λ key. IfSome key (λ k. (k ≡ record { table = table.now; id = id.now }) × IsKeyText k)) }
         ensures none { IfOk result (λ key. IfNone key (¬ (IsKeyText (record { table = table.now; id = id.now })))) }
         ensures err { OnErr result (IsKeyText (record { table = table.now; id = id.now })) }

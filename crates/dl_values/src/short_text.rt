@@ -1,31 +1,40 @@
 //! Texts that stand in their own value.
 
-ghost use Rattle.std.specs.Prelude.{◌≡◌, ◌+◌, ◌<◌, ◌≤◌, ◌↔◌, [], ◌∷◌, ◌++◌, length, IfSome, IfNone, IsTrue};
+ghost use Rattle.std.specs.Prelude.{◌≡◌, ◌+◌, ◌<◌, ◌≤◌, ◌↔◌, ◌∷◌, ◌++◌, length, IfSome, IfNone, IsTrue};
 ghost use Rattle.std.specs.Str.{IsUtf8, IsCharBoundary};
 ghost use Rattle.dl_values.specs.KeyTexts.{AreTexts, short_bytes};
+ghost use Rattle.dl_values.specs.Inside.HashedText.{filled, word_end};
+ghost use Rattle.dl_values.specs.Inside.ShortText.{block_bytes};
 
-use arrayvec::ArrayVec;
 use std::marker::Model;
 use std::str;
 
-/// The most bytes of a text that stands in its own value: with the counts of an `Arc` it takes a block of 80 bytes.
-pub(crate) const SHORT_BYTES: usize = 40;
+/// The bytes in which a short text stands: with the counts of an `Arc` it takes a block of 80 bytes.
+const BLOCK_BYTES: usize = 40;
+
+/// The most bytes of a text that stands in its own value. One more stands behind it.
+pub(crate) const SHORT_BYTES: usize = BLOCK_BYTES - 1;
+
+/// A byte that no text has.
+const BEHIND: u8 = 255;
 
 /// A text of at most [`SHORT_BYTES`] bytes. Contracts see them.
 #[derive(Drop)]
 pub(crate) struct ShortText {
-    bytes: ArrayVec<u8, SHORT_BYTES>,
+    // The text, behind it a byte that no text has, and then zeros.
+    bytes: [u8; BLOCK_BYTES],
+    len: usize,
 }
 
 impl Model for ShortText {
-    ghost use Rattle.std.specs.Prelude.{List, ℕ};
-    ghost use Rattle.std.specs.Str.{IsUtf8};
+    ghost use Rattle.std.specs.Prelude.{List, ℕ, take};
+    ghost use Rattle.dl_values.specs.Inside.ShortText.{IsShort};
 
     ghost Value = { List ℕ };
 
-    ghost view = { λ t. t.bytes.items };
+    ghost view = { λ t. take t.len t.bytes };
 
-    ghost invariant = { λ t. ∥ IsUtf8 t.bytes.items ∥₁ };
+    ghost invariant = { λ t. IsShort t.bytes t.len };
 }
 
 impl ShortText {
@@ -36,9 +45,10 @@ impl ShortText {
         requires room { 1 + length first.now + length second.now ≤ short_bytes }
         ensures { result ≡ mark ∷ (first.now ++ second.now) }
     {
-        let mut bytes = ArrayVec::new();
-        join(&mut bytes, mark, first.as_bytes(), second.as_bytes());
-        ShortText { bytes }
+        ShortText {
+            bytes: block_of(mark, first.as_bytes(), second.as_bytes()),
+            len: 1 + first.len() + second.len(),
+        }
     }
 
     /// The same of bytes, if they are two texts.
@@ -49,10 +59,10 @@ impl ShortText {
         ensures some { IfSome result (λ t. (t ≡ mark ∷ (first.now ++ second.now)) × AreTexts first.now second.now) }
         ensures none { IfNone result (¬ (AreTexts first.now second.now)) }
     {
-        let mut bytes = ArrayVec::new();
-        join(&mut bytes, mark, first, second);
-        if is_cut(bytes.as_slice(), 1 + first.len()) {
-            Some(ShortText { bytes })
+        let bytes = block_of(mark, first, second);
+        let len = 1 + first.len() + second.len();
+        if is_cut(&bytes[..len], 1 + first.len()) {
+            Some(ShortText { bytes, len })
         } else {
             None
         }
@@ -63,20 +73,32 @@ impl ShortText {
     pub(crate) fn as_str(&self) -> &str
         ensures { result.now ≡ self.now }
     {
-        unsafe { str::from_utf8_unchecked(self.bytes.as_slice()) }
+        unsafe { str::from_utf8_unchecked(&self.bytes[..self.len]) }
+    }
+
+    /// The text and what fills it up, to the end of a word.
+    #[inline(always)]
+    pub(crate) fn words(&self) -> &[u8]
+        ensures { result.now ≡ filled (word_end (length self.now)) self.now }
+    {
+        &self.bytes[..8 * (self.len / 8) + 8]
     }
 }
 
-/// Puts a byte into no bytes, and right after it those of two pieces.
+/// The bytes in which a mark and two pieces stand, one right after the other.
 #[inline(always)]
-fn join(bytes: &mut ArrayVec<u8, SHORT_BYTES>, mark: u8, first: &[u8], second: &[u8])
-    requires none { bytes.old.items ≡ [] }
-    requires room { 1 + length first.now + length second.now ≤ short_bytes }
-    ensures { bytes.new.items ≡ mark ∷ (first.now ++ second.now) }
+fn block_of(mark: u8, first: &[u8], second: &[u8]) -> [u8; BLOCK_BYTES]
+    requires { 1 + length first.now + length second.now ≤ short_bytes }
+    ensures { result ≡ filled block_bytes (mark ∷ (first.now ++ second.now)) }
 {
-    bytes.push(mark);
-    bytes.try_extend_from_slice(first).unwrap();
-    bytes.try_extend_from_slice(second).unwrap();
+    let seam = 1 + first.len();
+    let end = seam + second.len();
+    let mut bytes = [0; BLOCK_BYTES];
+    bytes[0] = mark;
+    bytes[1..seam].copy_from_slice(first);
+    bytes[seam..end].copy_from_slice(second);
+    bytes[end] = BEHIND;
+    bytes
 }
 
 /// Whether the bytes are a text that may be cut at the seam.

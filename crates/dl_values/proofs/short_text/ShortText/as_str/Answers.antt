@@ -1,7 +1,5 @@
-use Rattle.std.proofs.Common.{subst, sym}
-use Rattle.std.specs.Str.{IsUtf8}
 use Rattle.std.proofs.lemmas.Str.{IsUtf8-had}
 use Rattle.dl_values.proofs.short_text.ShortText.as_str.Goals as goal
 
 pub from_utf8_unchecked-requires : goal.from_utf8_unchecked-requires
-from_utf8_unchecked-requires c = subst IsUtf8 (sym c.as_slice.ensures.value) (IsUtf8-had _ c.self.invariant)
+from_utf8_unchecked-requires c = IsUtf8-had _ c.self.invariant.text
