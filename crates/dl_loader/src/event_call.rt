@@ -20,7 +20,7 @@ use dl_desk::{Desk, LoadReply};
 use dl_history::{Call, Reply};
 use dl_passes::CallFault;
 pub(crate) use ends::{Fail, Settle};
-pub(crate) use keys::{Clear, ClearAll, Dispatch, Prime, prime_told};
+pub(crate) use keys::{Clear, ClearAll, Dispatch, Prime};
 pub(crate) use loads::{Load, LoadMany};
 use std::alloc::Global;
 
@@ -80,4 +80,8 @@ pub(crate) trait EventCall {
     /// The loads that are replied to, for each of which the caller gets a ticket.
     fn loads(reply: &Self::Reply) -> &[LoadReply]
         ensures { loads_of (told reply.now) ≡ result.now };
+
+    /// What the history tells of the desk's reply.
+    fn tell(reply: Self::Reply) -> Reply
+        ensures { result ≡ told reply };
 }

@@ -10,14 +10,14 @@ ghost use Rattle.dl_loader.specs.Refusals.{refusal, IsRefusal};
 
 use crate::book::Book;
 use crate::event_call::{
-    Clear, ClearAll, Dispatch, Fail, Load, LoadMany, Prime, Settle, prime_told,
+    Clear, ClearAll, Dispatch, EventCall, Fail, Load, LoadMany, Prime, Settle,
 };
 use crate::loader::Loader;
 pub use dl_history::laws::{
     batches_are_within_limits, ends_stay, events_are_calls, fresh_loads_are_apart,
     histories_begin_empty,
 };
-use dl_history::{CellRows, Jobs, LoaderName, Replies, Reply};
+use dl_history::{CellRows, LoaderName, Reply};
 pub use dl_passes::laws::looks_agree;
 use dl_passes::{Ask, CallFault, Pass};
 use dl_source::Source;
@@ -74,41 +74,35 @@ fn make<L: LoaderName, S: Source>(
     ensures unchanged { OnErr result ((book.new ≡ book.old) × (pass.new.trace ≡ pass.old.trace)) }
 {
     match ask {
-        Ask::Load(key) => {
-            let (reply, ended) = book.record(alloc, rows, pass, &Load { key })?;
-            Ok((Reply::Loaded(reply), ended.refused))
-        }
-        Ask::LoadMany(keys) => {
-            let (replies, ended) = book.record(alloc, rows, pass, &LoadMany { keys })?;
-            Ok((Reply::Many(Replies::new(replies)), ended.refused))
-        }
-        Ask::Prime(key, outcome) => {
-            let (reply, ended) = book.record(alloc, rows, pass, &Prime { key, outcome })?;
-            Ok((prime_told(reply), ended.refused))
-        }
-        Ask::Clear(key) => {
-            let (_, ended) = book.record(alloc, rows, pass, &Clear { key })?;
-            Ok((Reply::Done, ended.refused))
-        }
-        Ask::ClearAll => {
-            let (_, ended) = book.record(alloc, rows, pass, &ClearAll)?;
-            Ok((Reply::Done, ended.refused))
-        }
-        Ask::Dispatch => {
-            let (jobs, ended) = book.record(alloc, rows, pass, &Dispatch)?;
-            Ok((Reply::Sent(Jobs::new(jobs)), ended.refused))
-        }
-        Ask::Settle(fetched) => {
-            let (_, ended) = book.record(alloc, rows, pass, &Settle { fetched })?;
-            Ok((Reply::Done, ended.refused))
-        }
+        Ask::Load(key) => tell(alloc, rows, book, pass, &Load { key }),
+        Ask::LoadMany(keys) => tell(alloc, rows, book, pass, &LoadMany { keys }),
+        Ask::Prime(key, outcome) => tell(alloc, rows, book, pass, &Prime { key, outcome }),
+        Ask::Clear(key) => tell(alloc, rows, book, pass, &Clear { key }),
+        Ask::ClearAll => tell(alloc, rows, book, pass, &ClearAll),
+        Ask::Dispatch => tell(alloc, rows, book, pass, &Dispatch),
+        Ask::Settle(fetched) => tell(alloc, rows, book, pass, &Settle { fetched }),
         Ask::Fail(job, give_up) => {
-            let call = Fail {
-                job,
-                give_up: *give_up,
-            };
-            let (_, ended) = book.record(alloc, rows, pass, &call)?;
-            Ok((Reply::Done, ended.refused))
+            let give_up = *give_up;
+            tell(alloc, rows, book, pass, &Fail { job, give_up })
         }
     }
+}
+
+/// Makes the event of a call.
+fn tell<L: LoaderName, C: EventCall>(
+    alloc: Global,
+    rows: &CellRows<L>,
+    book: &mut Book<L>,
+    pass: &mut Pass<L>,
+    call: &C,
+) -> Result<(Reply, u32), CallFault>
+    requires answers { C.brings call.now L.service.answer }
+    ensures made { IfOk result (λ r. Makes book.old pass.old.trace (C.call call.now) r.0 book.new pass.new.trace) }
+    ensures accepted { OnOk result (refusal L.service book.old pass.old.trace (C.call call.now) (C.job call.now) ≡ None) }
+    ensures refused { IfOk result (λ r. refusals book.new.cells ≡ refusals book.old.cells + r.1) }
+    ensures fault { IfErr result (IsRefusal L.service book.old pass.old.trace (C.call call.now) (C.job call.now)) }
+    ensures unchanged { OnErr result ((book.new ≡ book.old) × (pass.new.trace ≡ pass.old.trace)) }
+{
+    let (answer, ended) = book.record(alloc, rows, pass, call)?;
+    Ok((C::tell(answer), ended.refused))
 }

@@ -59,6 +59,10 @@ impl<S: Source> EventCall for Settle<'_, '_, S> {
     fn loads(_reply: &()) -> &[LoadReply] {
         &[]
     }
+
+    fn tell(_reply: ()) -> Reply {
+        Reply::Done
+    }
 }
 
 /// The fail of a batch that is given up.
@@ -101,6 +105,12 @@ impl EventCall for Fail<'_> {
         ensures { [] ≡ result.now }
     {
         &[]
+    }
+
+    fn tell(_reply: ()) -> Reply
+        ensures { result ≡ reply.Done }
+    {
+        Reply::Done
     }
 }
 

@@ -56,6 +56,12 @@ impl EventCall for Clear<'_> {
     {
         &[]
     }
+
+    fn tell(_reply: ()) -> Reply
+        ensures { result ≡ reply.Done }
+    {
+        Reply::Done
+    }
 }
 
 /// The clear of all keys.
@@ -93,6 +99,10 @@ impl EventCall for ClearAll {
 
     fn loads(_reply: &()) -> &[LoadReply] {
         &[]
+    }
+
+    fn tell(_reply: ()) -> Reply {
+        Reply::Done
     }
 }
 
@@ -141,6 +151,12 @@ impl EventCall for Prime<'_> {
         let _ = *reply;
         &[]
     }
+
+    fn tell(reply: DeskPrime) -> Reply
+        ensures { result ≡ primed reply }
+    {
+        prime_told(reply)
+    }
 }
 
 /// The dispatch: every batch that was begun and not sent is sent, each as a job.
@@ -182,10 +198,14 @@ impl EventCall for Dispatch {
     {
         &[]
     }
+
+    fn tell(jobs: Vec<Job>) -> Reply {
+        Reply::Sent(Jobs::new(jobs))
+    }
 }
 
 /// The desk's reply to a prime, as the history has it.
-pub(crate) fn prime_told(reply: DeskPrime) -> Reply
+fn prime_told(reply: DeskPrime) -> Reply
     ensures { result ≡ primed reply }
 {
     match reply {

@@ -57,6 +57,12 @@ impl EventCall for Load<'_> {
     {
         slice::from_ref(reply)
     }
+
+    fn tell(loaded: LoadReply) -> Reply
+        ensures { result ≡ reply.Loaded loaded }
+    {
+        Reply::Loaded(loaded)
+    }
 }
 
 /// The loads of several keys in order, as one call.
@@ -99,5 +105,11 @@ impl EventCall for LoadMany<'_> {
         ensures { replies.now.items ≡ result.now }
     {
         replies.as_slice()
+    }
+
+    fn tell(replies: Vec<LoadReply>) -> Reply
+        ensures { result ≡ reply.Many replies.items }
+    {
+        Reply::Many(Replies::new(replies))
     }
 }

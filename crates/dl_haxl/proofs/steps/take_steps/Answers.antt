@@ -1,10 +1,12 @@
-use Rattle.std.proofs.Common.{◌+◌, ◌≤◌, ◌++◌, ◌∷◌, [], length, length-append, arith, refl}
+use Rattle.std.proofs.Common.{◌≡◌, ◌+◌, ◌≤◌, ◌++◌, ◌∷◌, [], length, length-append, arith, refl, Err, rules}
+use Rattle.std.proofs.lemmas.Result.{IfOk-from_err, err_from_is_err_and}
 use Rattle.dl_values.proofs.Errors.{on_err}
 use Rattle.dl_history.specs.Entries.{calls_of}
 use Rattle.dl_loader.proofs.AdditionLemmas.{grows_after}
 use Rattle.dl_loader.proofs.TicketsStay.{keeps_after, keeps_self}
 use Rattle.dl_queue.specs.Seats.{sent_jobs}
 use Rattle.dl_haxl.specs.Inside.StepsSoFar.{answers_of, rounds_of}
+use Rattle.dl_haxl.proofs.Faults.{fault_of_same}
 use Rattle.dl_haxl.proofs.EvaluationLemmas.{sent_after}
 use Rattle.dl_haxl.proofs.Stretches.{leaves_more, leaves_none, leaves_same, rounds_few}
 use Rattle.dl_haxl.proofs.steps.take_steps.Goals as goal
@@ -75,3 +77,44 @@ loop-step-preserved g c =
       leaves = leaves_same old new before after steps (given.answers.items ++ answers_of n taken) c.add.new.self.answers.items
           (given.rounds + rounds_of taken) c.add.new.self.rounds c.in_ok-add.ensures.answers c.in_ok-add.ensures.rounds more;
     }
+
+-- ---- a step that wasn't taken
+
+pub returns-in_err-taken-clause-follows : goal.returns-in_err-taken-clause-follows
+returns-in_err-taken-clause-follows g c = IfOk-from_err _ _ c.from_residual.ensures.0
+
+pub returns-in_err-taken-clause-sent : goal.returns-in_err-taken-clause-sent
+returns-in_err-taken-clause-sent g c =
+    let so_far = c.loop-step.invariant.leaves in
+    on_err c.from_residual.result
+    (sent_after (sent_jobs c.args.sender.now) (sent_jobs c.loop-step.sender) (sent_jobs c.take_step.new.sender) (so_far.0, so_far.1) c.in_err-taken.ensures.sent)
+
+pub returns-in_err-taken-clause-older : goal.returns-in_err-taken-clause-older
+returns-in_err-taken-clause-older g c =
+    keeps_after c.args.pass.now.trace c.loop-step.pass.trace c.take_step.new.pass.trace c.loop-step.invariant.older c.take_step.ensures.older
+
+pub returns-in_err-taken-clause-fault : goal.returns-in_err-taken-clause-fault
+returns-in_err-taken-clause-fault g c =
+    let same : c.from_residual.result ≡ Err c.in_err-taken.field-0.0 = search rules in
+    rw same (fault_of_same g.L.LoaderName.service c.loop-step.pass.trace.caller c.args.pass.now.trace.caller c.in_err-taken.field-0.0
+    c.loop-step.invariant.leaves.2.0 c.in_err-taken.ensures.fault)
+
+pub returns-in_err-taken-clause-grows : goal.returns-in_err-taken-clause-grows
+returns-in_err-taken-clause-grows g c =
+    let so_far = c.loop-step.invariant.leaves.2 in
+    on_err c.from_residual.result
+    (grows_after c.args.pass.now.trace c.loop-step.pass.trace c.take_step.new.pass.trace (so_far.0, so_far.1, so_far.2) c.in_err-taken.ensures.grows)
+
+-- ---- an answer that wasn't added
+
+pub returns-in_err-add-clause-follows : goal.returns-in_err-add-clause-follows
+returns-in_err-add-clause-follows g c = IfOk-from_err _ _ c.from_residual-in_err-add.ensures.0
+
+pub returns-in_err-add-clause-older : goal.returns-in_err-add-clause-older
+returns-in_err-add-clause-older g c =
+    keeps_after c.args.pass.now.trace c.loop-step.pass.trace c.take_step.new.pass.trace c.loop-step.invariant.older c.take_step.ensures.older
+
+pub returns-in_err-add-clause-fault : goal.returns-in_err-add-clause-fault
+returns-in_err-add-clause-fault g c =
+    let p = err_from_is_err_and c.from_residual-in_err-add.result c.from_residual-in_err-add.ensures.1 in
+    rw (p.1, p.2) tt

@@ -1,4 +1,5 @@
 use Rattle.std.proofs.Common.{◌≡◌, ◌∙◌, ap, sym, subst, ◌+◌, ℕ, List, ◌++◌, arith, rules, Err}
+use Rattle.std.proofs.lemmas.Result.{IfOk-from_err}
 use Rattle.dl_history.specs.Entries.{Entry}
 use Rattle.dl_values.proofs.Errors.{on_err}
 use Rattle.dl_values.specs.declared.job.Job.{Job}
@@ -98,26 +99,28 @@ loop-preserved g c =
       front = omega (arith, low, high);
     }
 
-pub loop-init : goal.loop-init
-loop-init g c = search rules
-
 pub returns-in-Ready-Ok-clause-fits : goal.returns-in-Ready-Ok-clause-fits
-returns-in-Ready-Ok-clause-fits g c = search rules
+returns-in-Ready-Ok-clause-fits g c = c.loop.invariant.fits
 
 pub returns-in-Ready-Ok-clause-sent : goal.returns-in-Ready-Ok-clause-sent
-returns-in-Ready-Ok-clause-sent g c = search rules
+returns-in-Ready-Ok-clause-sent g c = c.loop.invariant.sent
 
 pub returns-in-Ready-Ok-clause-grows : goal.returns-in-Ready-Ok-clause-grows
-returns-in-Ready-Ok-clause-grows g c = search rules
+returns-in-Ready-Ok-clause-grows g c = tt
 
 pub returns-in-Ready-Err : goal.returns-in-Ready-Err
-returns-in-Ready-Err g c = search rules
+returns-in-Ready-Err g c =
+    let kept = c.loop.invariant in
+    record { fits = kept.fits; evaluates = tt; rounds = tt; sent = kept.sent; older = kept.older; fault = tt; grows = kept.grows }
 
 pub returns-in_err-tickets-clause-fits : goal.returns-in_err-tickets-clause-fits
-returns-in_err-tickets-clause-fits g c = search rules
+returns-in_err-tickets-clause-fits g c = c.round.ensures.fits
 
 pub returns-in_err-tickets-clause-evaluates : goal.returns-in_err-tickets-clause-evaluates
-returns-in_err-tickets-clause-evaluates g c = search rules
+returns-in_err-tickets-clause-evaluates g c = IfOk-from_err _ _ c.from_residual.ensures.0
 
 pub returns-in_err-tickets-clause-rounds : goal.returns-in_err-tickets-clause-rounds
-returns-in_err-tickets-clause-rounds g c = search rules
+returns-in_err-tickets-clause-rounds g c = IfOk-from_err _ _ c.from_residual.ensures.0
+
+pub loop-init : goal.loop-init
+loop-init g c = search rules

@@ -1,4 +1,4 @@
-use Rattle.std.proofs.Common.{◌≡◌, ◌∙◌, ap, sym, subst, refl, length, map, rules, Err, None, inl}
+use Rattle.std.proofs.Common.{◌≡◌, ◌∙◌, [], ap, append-nil, sym, subst, refl, length, map, rules, Err, None, inl}
 use Rattle.std.proofs.lemmas.List.{length-map, with_items_is}
 use Rattle.std.proofs.lemmas.Result.{IfOk-from_err, err_from_is_err_and}
 use Rattle.std.specs.Vec.{with_items}
@@ -24,7 +24,7 @@ returns-in_err-tickets g c =
     let err = c.from_residual.ensures.0 in
     record {
       fits = c.requires.fits;
-      round = search rules;
+      round = IfOk-from_err _ _ err;
       shown = IfOk-from_err _ _ err;
       each = IfOk-from_err _ _ err;
       front = IfOk-from_err _ _ err;
@@ -34,7 +34,7 @@ returns-in_err-tickets g c =
       fault =
           (let p = err_from_is_err_and c.from_residual.result c.from_residual.ensures.1 in
           rw (p.1, p.2) (old, LoadMany c.args.wanted.now, None, refl, c.in_err-tickets.ensures.fault));
-      grows = search rules;
+      grows = on_err c.from_residual.result (subst (Grows old) (sym c.in_err-tickets.ensures.unchanged) (refl, [], sym (append-nil old.entries)));
     }
 
 pub returns-in_err-jobs : goal.returns-in_err-jobs
@@ -48,7 +48,7 @@ returns-in_err-jobs g c =
     let r = c.from_residual-in_err-jobs.result in
     record {
       fits = c.requires.fits;
-      round = search rules;
+      round = IfOk-from_err _ _ err;
       shown = IfOk-from_err _ _ err;
       each = IfOk-from_err _ _ err;
       front = IfOk-from_err _ _ err;
@@ -77,7 +77,7 @@ returns-in_err-give_out g c =
     let r = c.from_residual-in_err-give_out.result in
     record {
       fits = c.give_out.ensures.fits;
-      round = search rules;
+      round = IfOk-from_err _ _ err;
       shown = IfOk-from_err _ _ err;
       each = IfOk-from_err _ _ err;
       front = IfOk-from_err _ _ err;
@@ -116,7 +116,7 @@ returns-in_err-read_each g c =
     let r = c.from_residual-in_err-read_each.result in
     record {
       fits = c.give_out.ensures.fits;
-      round = search rules;
+      round = IfOk-from_err _ _ err;
       shown = IfOk-from_err _ _ err;
       each = IfOk-from_err _ _ err;
       front = IfOk-from_err _ _ err;
