@@ -17,7 +17,7 @@ pub use dl_history::laws::{
     batches_are_within_limits, ends_stay, events_are_calls, fresh_loads_are_apart,
     histories_begin_empty,
 };
-use dl_history::{CellRows, Jobs, LoaderName, Replies, Reply};
+use dl_history::{CellRows, LoaderName, Reply};
 pub use dl_passes::laws::looks_agree;
 use dl_passes::{Ask, CallFault, Pass};
 use dl_source::Source;
@@ -80,7 +80,7 @@ fn make<L: LoaderName, S: Source>(
         }
         Ask::LoadMany(keys) => {
             let (replies, ended) = book.record(alloc, rows, pass, &LoadMany { keys })?;
-            Ok((Reply::Many(Replies::new(replies)), ended.refused))
+            Ok((Reply::Many(replies), ended.refused))
         }
         Ask::Prime(key, outcome) => {
             let (reply, ended) = book.record(alloc, rows, pass, &Prime { key, outcome })?;
@@ -95,8 +95,8 @@ fn make<L: LoaderName, S: Source>(
             Ok((Reply::Done, ended.refused))
         }
         Ask::Dispatch => {
-            let (jobs, ended) = book.record(alloc, rows, pass, &Dispatch)?;
-            Ok((Reply::Sent(Jobs::new(jobs)), ended.refused))
+            let (sent, ended) = book.record(alloc, rows, pass, &Dispatch)?;
+            Ok((Reply::Sent(sent.into_told()), ended.refused))
         }
         Ask::Settle(fetched) => {
             let (_, ended) = book.record(alloc, rows, pass, &Settle { fetched })?;
