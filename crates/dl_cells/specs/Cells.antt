@@ -22,7 +22,7 @@ row_len row = row.cells
 
 -- the name of cell i of a row
 unfoldable pub cell_of : RowName → ℕ → CellName
-cell_of row i = record { segment = slice_index row.segments (i / 64); place = i % 64 }
+cell_of row i = record { segment = slice_index row.segments (i / 32); place = i % 32 }
 
 -- what a reader is: the cell that it reads, and that cell's value once the reader knows it
 pub record Reader (X : Type 0) : Type 0 where

@@ -17,7 +17,7 @@ use std::marker::Model;
 #[derive(Drop)]
 pub struct Reader<T> {
     pub(crate) segment: Learned<Segment<T>>,
-    // The place in the segment, which has 64 cells.
+    // The place in the segment, which has 32 cells.
     pub(crate) place: u8,
     // What shows that the cell holds its value, once the holder has seen that.
     pub(crate) value: Option<Written<T>>,

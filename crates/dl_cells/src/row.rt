@@ -16,7 +16,7 @@ use std::marker::Model;
 /// A row of cells, each of which is set at most once. Any thread may set or read a cell through a `&`,
 /// and no call waits.
 ///
-/// The cells lie in segments of 64. A segment is made when the first reader of one of its cells is,
+/// The cells lie in segments of 32. A segment is made when the first reader of one of its cells is,
 /// so a row of which little is used takes little memory: a pointer for each segment.
 ///
 /// In clauses a row is its name: `row_len` is how many cells it has, and `cell_of` the name of one.
@@ -35,7 +35,7 @@ impl<T> Model for CellRow<T> {
 
     ghost view = { λ r. record { segments = map cell_name r.segments.items; cells = r.len } };
 
-    ghost invariant = { λ r. r.len ≤ 64 * vec_len r.segments };
+    ghost invariant = { λ r. r.len ≤ 32 * vec_len r.segments };
 }
 
 impl<T: Drop> CellRow<T> {

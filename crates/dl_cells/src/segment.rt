@@ -1,4 +1,4 @@
-//! Sixty-four cells that are made together.
+//! Thirty-two cells that are made together.
 ghost use Rattle.std.specs.Prelude.{◌≡◌, ◌<◌, slice_index, ⊤};
 
 use boxcar::slot::{OnceSlot, SlotRule};
@@ -7,7 +7,7 @@ use std::alloc::{AllocError, Global};
 use std::marker::Model;
 
 /// How many cells a segment has. The definitions of specs/ write the number.
-pub(crate) const SEGMENT: u32 = 64;
+pub(crate) const SEGMENT: u32 = 32;
 
 /// The rule that every value keeps.
 pub(crate) struct AnyValue;
@@ -19,7 +19,7 @@ impl<T> SlotRule<T> for AnyValue {
 /// A cell, which holds its value in place.
 pub(crate) type Cell<T> = OnceSlot<T, AnyValue>;
 
-/// Sixty-four cells, in clauses the list of their names.
+/// Thirty-two cells, in clauses the list of their names.
 #[derive(Drop)]
 pub(crate) struct Segment<T> {
     cells: Vec<Cell<T>>,
@@ -32,7 +32,7 @@ impl<T> Model for Segment<T> {
 
     ghost view = { λ s. map (λ cell. cell.id) s.cells.items };
 
-    ghost invariant = { λ s. length s.cells.items ≡ 64 };
+    ghost invariant = { λ s. length s.cells.items ≡ 32 };
 }
 
 impl<T: Drop> Segment<T> {

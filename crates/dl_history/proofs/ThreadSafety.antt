@@ -15,9 +15,11 @@ use Rattle.dl_values.proofs.message.Message.TheSendSync as message
 use Rattle.dl_values.proofs.list.List.TheSendSync as list
 use Rattle.dl_values.proofs.outcome.BatchFault.TheSendSync as fault
 use Rattle.dl_history.proofs.event.Reply.TheSendSync as reply
+use Rattle.dl_history.proofs.shared.Shared.TheSendSync as shared
 use Rattle.dl_values.specs.contracts.json.Json as Json
 use Rattle.dl_values.specs.contracts.outcome.Outcome as Outcome
 use Rattle.dl_values.specs.contracts.list.List as List
+use Rattle.dl_history.specs.contracts.shared.Shared as Shared
 use Rattle.dl_history.specs.contracts.event.Call as Call
 use Rattle.dl_history.specs.contracts.event.Event as Event
 use Rattle.dl_history.specs.contracts.event.Ending as Ending
@@ -68,11 +70,23 @@ Outcomes-send = search (list.the_send, Outcome-send) depth 10
 pub Outcomes-sync : IsSync (List.the_row Outcome.the_row)
 Outcomes-sync = search (list.the_sync, Outcome-sync) depth 10
 
+pub Shared-outcome-send : IsSend (Shared.the_row Outcome.the_row)
+Shared-outcome-send = search (shared.the_send, Outcome-send, Outcome-sync) depth 10
+
+pub Shared-outcome-sync : IsSync (Shared.the_row Outcome.the_row)
+Shared-outcome-sync = search (shared.the_sync, Outcome-send, Outcome-sync) depth 10
+
+pub Shared-outcomes-send : IsSend (Shared.the_row (List.the_row Outcome.the_row))
+Shared-outcomes-send = search (shared.the_send, Outcomes-send, Outcomes-sync) depth 10
+
+pub Shared-outcomes-sync : IsSync (Shared.the_row (List.the_row Outcome.the_row))
+Shared-outcomes-sync = search (shared.the_sync, Outcomes-send, Outcomes-sync) depth 10
+
 pub Call-field-send : IsSend Call.the_field.row
-Call-field-send = search (key.the_send, keys.the_send, fault.the_field_send, Outcome-field-send, Outcomes-send, owners_cross, sendable) depth 40 fits 20000
+Call-field-send = search (key.the_send, keys.the_send, fault.the_field_send, Shared-outcome-send, Shared-outcomes-send, owners_cross, sendable) depth 40 fits 20000
 
 pub Call-field-sync : IsSync Call.the_field.row
-Call-field-sync = search (key.the_sync, keys.the_sync, fault.the_field_sync, Outcome-field-sync, Outcomes-sync, owners_cross, sendable) depth 40 fits 20000
+Call-field-sync = search (key.the_sync, keys.the_sync, fault.the_field_sync, Shared-outcome-sync, Shared-outcomes-sync, owners_cross, sendable) depth 40 fits 20000
 
 pub Event-send : IsSend Event.the_row
 Event-send = search (Call-field-send, reply.the_field_send, owners_cross, sendable) depth 40

@@ -1,6 +1,7 @@
 //! The events of a shared loader: who called what, and what was replied.
 
 use crate::replies::{Jobs, Replies};
+use crate::shared::Shared;
 use dl_desk::{BatchFault, FetchKey, Keys, LoadReply, Outcome, Outcomes};
 
 /// A call of a shared loader, with its arguments.
@@ -11,7 +12,7 @@ pub enum Call {
     /// The loads of several keys in order, as one call.
     LoadMany(Keys),
     /// The prime of a key with an outcome.
-    Prime(FetchKey, Outcome),
+    Prime(FetchKey, Shared<Outcome>),
     /// The memo forgets a key.
     Clear(FetchKey),
     /// The memo forgets all keys.
@@ -19,9 +20,15 @@ pub enum Call {
     /// Every batch that was begun and not sent is sent.
     Dispatch,
     /// A batch ends with an outcome for each member, in order.
-    Settle { batch: u32, outcomes: Outcomes },
+    Settle {
+        batch: u32,
+        outcomes: Shared<Outcomes>,
+    },
     /// A batch fails as a whole.
-    Fail { batch: u32, fault: BatchFault },
+    Fail {
+        batch: u32,
+        fault: BatchFault,
+    },
 }
 
 /// The reply to a call of a shared loader.
@@ -30,7 +37,7 @@ pub enum Reply {
     /// To a load.
     Loaded(LoadReply),
     /// To a loadMany: a reply for each key, in order.
-    Many(Replies),
+    Many(Shared<Replies>),
     /// To a prime of a key that wasn't held: the new cell.
     Primed(u32),
     /// To a prime of a key that is held: nothing changed.
@@ -38,7 +45,7 @@ pub enum Reply {
     /// To a clear, a clearAll, a settle and a fail.
     Done,
     /// To a dispatch: the jobs, in order.
-    Sent(Jobs),
+    Sent(Shared<Jobs>),
 }
 
 /// A call of a shared loader with its reply. Its place in the history is how many events stand before it.

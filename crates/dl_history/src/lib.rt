@@ -16,6 +16,7 @@ pub mod laws;
 mod name;
 mod outline;
 mod replies;
+mod shared;
 
 pub use cell_rows::CellRows;
 pub use cell_state::{CellState, Mark};
@@ -27,3 +28,4 @@ pub use journal::{AppendFault, Journal};
 pub use name::LoaderName;
 pub use outline::Outline;
 pub use replies::{Jobs, Replies};
+pub use shared::Shared;

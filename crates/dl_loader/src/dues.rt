@@ -97,7 +97,7 @@ fn outcome_at(call: &Call, place: usize) -> Result<Outcome, AllocError>
     ensures { IfOk result (λ outcome. outcome_by call.now place ≡ Some outcome) }
 {
     match call {
-        Call::Prime(_, outcome) => outcome.try_copy(),
+        Call::Prime(_, outcome) => (**outcome).try_copy(),
         Call::Settle { outcomes, .. } => outcomes.as_slice()[place].try_copy(),
         Call::Fail { fault, .. } => Ok(Outcome::BatchFailed(fault.try_copy()?)),
         _ => unreachable!(),

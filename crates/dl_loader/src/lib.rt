@@ -18,7 +18,7 @@ mod opening;
 pub use book::Book;
 pub use dl_history::{
     Batches, Call, EndedBatch, Ending, Entry, EntryKind, Event, Events, History, Jobs, LoaderName,
-    Replies, Reply,
+    Replies, Reply, Shared,
 };
 pub use dl_passes::{
     Ask, CallFault, CloseFault, GiveUp, Pass, PrimeReply, Settled, StartFault, Stopped, Ticket,

@@ -14,8 +14,8 @@ impl<R: Abort + Eprint> Stage<'_, R> {
     pub(crate) fn use_cells(&self) {
         let row = self.row();
         self.read(&row, 0);
-        self.read(&row, 63);
-        self.read(&row, 64);
+        self.read(&row, 31);
+        self.read(&row, 32);
     }
 
     fn row(&self) -> CellRow<u8>

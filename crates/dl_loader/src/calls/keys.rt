@@ -103,8 +103,8 @@ impl<L: LoaderName> Loader<L> {
         ensures unchanged { OnErr result (pass.new.trace ≡ pass.old.trace) }
     {
         let mut book = self.book.lock(rt);
-        let (jobs, _) = book.make(alloc, &self.rows, pass, &Dispatch)?;
-        Ok(jobs)
+        let (sent, _) = book.make(alloc, &self.rows, pass, &Dispatch)?;
+        Ok(sent.into_jobs())
     }
 }
 

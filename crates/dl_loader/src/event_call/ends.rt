@@ -14,7 +14,7 @@ ghost use Rattle.dl_source.specs.Fetched.{answer_of, job_of, source_of};
 use crate::dues::{copy_outcomes, dues};
 use crate::event_call::{EventCall, Prepared};
 use dl_desk::{BatchFault, Desk, End, FetchKey, Job, LoadReply};
-use dl_history::{Call, Reply};
+use dl_history::{Call, Reply, Shared};
 use dl_passes::{CallFault, GiveUp};
 use dl_source::{BatchAnswer, Fetched, Source};
 use std::alloc::{AllocError, Global};
@@ -135,7 +135,7 @@ fn end_call(alloc: Global, batch: u32, answer: &BatchAnswer) -> Result<Call, All
 {
     match answer {
         BatchAnswer::Each(outcomes) => {
-            let outcomes = copy_outcomes(alloc, outcomes)?;
+            let outcomes = Shared::new(alloc, copy_outcomes(alloc, outcomes)?)?;
             Ok(Call::Settle { batch, outcomes })
         }
         BatchAnswer::Break(text) => {

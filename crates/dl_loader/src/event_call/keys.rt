@@ -11,9 +11,10 @@ ghost use Rattle.dl_loader.specs.EventEffect.{loads_of};
 use crate::dues::dues;
 use crate::event_call::{EventCall, Prepared};
 use dl_desk::{Desk, DeskPrime, FetchKey, Job, LoadReply, Outcome};
-use dl_history::{Call, Jobs, Reply};
+use dl_history::{Call, Jobs, Reply, Shared};
 use dl_passes::CallFault;
 use std::alloc::Global;
+use std::marker::Model;
 use std::slice;
 
 /// The clear of a key: the memo forgets it, if it is held.
@@ -131,7 +132,8 @@ impl EventCall for Prime<'_> {
         desk: &mut Desk,
     ) -> Result<Prepared<DeskPrime>, CallFault> {
         let reply = desk.prepare_prime(self.key)?;
-        let call = Call::Prime(self.key.try_copy()?, self.outcome.try_copy()?);
+        let outcome = Shared::new(alloc, self.outcome.try_copy()?)?;
+        let call = Call::Prime(self.key.try_copy()?, outcome);
         let dues = dues(alloc, at, cell_primed(&reply), &call)?;
         Ok(Prepared {
             call,
@@ -159,18 +161,54 @@ impl EventCall for Prime<'_> {
     }
 }
 
+/// The jobs of a dispatch, to hand out, and as its event has them. Contracts see the list.
+#[derive(Drop)]
+pub(crate) struct SentJobs {
+    jobs: Vec<Job>,
+    told: Shared<Jobs>,
+}
+
+impl Model for SentJobs {
+    ghost use Rattle.std.specs.Prelude.{◌≡◌, List};
+    ghost use Rattle.dl_values.specs.declared.job.Job.{Job};
+
+    ghost Value = { List Job };
+
+    ghost view = { λ s. s.told };
+
+    ghost invariant = { λ s. s.jobs.items ≡ s.told };
+}
+
+impl SentJobs {
+    /// The jobs to hand out.
+    pub(crate) fn into_jobs(self) -> Vec<Job>
+        ensures { result.items ≡ self }
+    {
+        let SentJobs { jobs, .. } = self;
+        jobs
+    }
+
+    /// The jobs as the event has them.
+    pub(crate) fn into_told(self) -> Shared<Jobs>
+        ensures { result ≡ self }
+    {
+        let SentJobs { told, .. } = self;
+        told
+    }
+}
+
 /// The dispatch: every batch that was begun and not sent is sent, each as a job.
 #[derive(Drop)]
 pub(crate) struct Dispatch;
 
 impl EventCall for Dispatch {
-    type Reply = Vec<Job>;
+    type Reply = SentJobs;
 
     ghost call = { λ _. made.Dispatch };
 
     ghost job = { λ _. None };
 
-    ghost told = { λ jobs. reply.Sent jobs.items };
+    ghost told = { λ jobs. reply.Sent jobs };
 
     ghost ready = { λ _ desk. IsReady desk Sends };
 
@@ -179,13 +217,14 @@ impl EventCall for Dispatch {
         alloc: Global,
         _at: u16,
         desk: &mut Desk,
-    ) -> Result<Prepared<Vec<Job>>, CallFault> {
+    ) -> Result<Prepared<SentJobs>, CallFault> {
         let jobs = desk.prepare_dispatch(alloc)?;
+        let told = Shared::new(alloc, Jobs::copy_of(alloc, jobs.as_slice())?)?;
         Ok(Prepared {
             call: Call::Dispatch,
-            reply: Reply::Sent(Jobs::copy_of(alloc, jobs.as_slice())?),
+            reply: Reply::Sent(told.again()?),
             dues: Vec::new(alloc),
-            answer: jobs,
+            answer: SentJobs { jobs, told },
         })
     }
 
@@ -193,14 +232,16 @@ impl EventCall for Dispatch {
         desk.make_prepared();
     }
 
-    fn loads(_jobs: &Vec<Job>) -> &[LoadReply]
+    fn loads(_jobs: &SentJobs) -> &[LoadReply]
         ensures { [] ≡ result.now }
     {
         &[]
     }
 
-    fn tell(jobs: Vec<Job>) -> Reply {
-        Reply::Sent(Jobs::new(jobs))
+    fn tell(sent: SentJobs) -> Reply
+        ensures { result ≡ reply.Sent sent }
+    {
+        Reply::Sent(sent.into_told())
     }
 }
 

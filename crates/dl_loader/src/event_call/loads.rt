@@ -8,7 +8,7 @@ ghost use Rattle.dl_loader.specs.Inside.Preparation.{IsReady};
 
 use crate::event_call::{EventCall, Prepared};
 use dl_desk::{Desk, FetchKey, Keys, LoadReply};
-use dl_history::{Call, Replies, Reply};
+use dl_history::{Call, Replies, Reply, Shared};
 use dl_passes::CallFault;
 use std::alloc::Global;
 use std::slice;
@@ -72,13 +72,13 @@ pub(crate) struct LoadMany<'a> {
 }
 
 impl EventCall for LoadMany<'_> {
-    type Reply = Vec<LoadReply>;
+    type Reply = Shared<Replies>;
 
     ghost call = { λ c. made.LoadMany c.keys.now };
 
     ghost job = { λ _. None };
 
-    ghost told = { λ rs. reply.Many rs.items };
+    ghost told = { λ rs. reply.Many rs };
 
     ghost ready = { λ c desk. IsReady desk (Loads c.keys.now) };
 
@@ -87,11 +87,12 @@ impl EventCall for LoadMany<'_> {
         alloc: Global,
         _at: u16,
         desk: &mut Desk,
-    ) -> Result<Prepared<Vec<LoadReply>>, CallFault> {
+    ) -> Result<Prepared<Shared<Replies>>, CallFault> {
         let replies = desk.prepare_loads(alloc, self.keys)?;
+        let replies = Shared::new(alloc, Replies::new(replies))?;
         Ok(Prepared {
             call: Call::LoadMany(Keys::copy_of(alloc, self.keys)?),
-            reply: Reply::Many(Replies::copy_of(alloc, replies.as_slice())?),
+            reply: Reply::Many(replies.again()?),
             dues: Vec::new(alloc),
             answer: replies,
         })
@@ -101,15 +102,15 @@ impl EventCall for LoadMany<'_> {
         desk.make_prepared();
     }
 
-    fn loads(replies: &Vec<LoadReply>) -> &[LoadReply]
-        ensures { replies.now.items ≡ result.now }
+    fn loads(replies: &Shared<Replies>) -> &[LoadReply]
+        ensures { replies.now ≡ result.now }
     {
         replies.as_slice()
     }
 
-    fn tell(replies: Vec<LoadReply>) -> Reply
-        ensures { result ≡ reply.Many replies.items }
+    fn tell(replies: Shared<Replies>) -> Reply
+        ensures { result ≡ reply.Many replies }
     {
-        Reply::Many(Replies::new(replies))
+        Reply::Many(replies)
     }
 }

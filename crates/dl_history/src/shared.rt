@@ -1,0 +1,63 @@
+//! Values that several places share.
+
+ghost use Rattle.std.specs.Prelude.{◌≡◌, IfOk};
+ghost use Rattle.std.specs.Arc.{arc_value};
+
+use std::alloc::{AllocError, Global};
+use std::marker::Model;
+use std::ops::Deref;
+use std::sync::Arc;
+
+/// A value in a block of its own, which several places share, so that what has it is small. A copy costs one atomic step.
+/// Contracts see the value.
+#[derive(Debug)]
+pub struct Shared<T> {
+    value: Arc<T>,
+}
+
+impl<T: Drop> Drop for Shared<T> {
+    fn drop(self) {
+        let Shared { value } = self;
+        drop(value);
+    }
+}
+
+impl<T> Model for Shared<T> {
+    ghost use Rattle.std.specs.Arc.{arc_value};
+
+    ghost Value = { T };
+
+    ghost coded = { T.code };
+
+    ghost view = { λ s. arc_value s.value };
+}
+
+impl<T> Deref for Shared<T> {
+    type Target = T;
+
+    ghost deref_gives = { λ s x. x ≡ s };
+
+    fn deref(&self) -> &T
+        ensures { result.now ≡ self.now }
+    {
+        &*self.value
+    }
+}
+
+impl<T: Drop> Shared<T> {
+    /// A value, shared by nobody yet. The error is a failed allocation.
+    pub fn new(alloc: Global, value: T) -> Result<Shared<T>, AllocError>
+        ensures { IfOk result (λ shared. shared ≡ value) }
+    {
+        let value = Arc::new(alloc, value)?;
+        Ok(Shared { value })
+    }
+
+    /// The same value, shared. The error is that the reference count would overflow.
+    pub fn again(&self) -> Result<Shared<T>, AllocError>
+        ensures { IfOk result (λ shared. shared ≡ self.now) }
+    {
+        let value = Arc::try_clone(&self.value)?;
+        Ok(Shared { value })
+    }
+}
