@@ -34,6 +34,7 @@ pub(crate) enum Listed {
 
 impl Kind {
     /// What stands beside an id in a list of this kind, if it may stand there.
+    #[inline(always)]
     pub(crate) fn listed(self, value: Value) -> Option<Listed>
         ensures { option_map spelled result ≡ finding_of self (view value) }
     {

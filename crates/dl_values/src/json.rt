@@ -93,6 +93,7 @@ impl fmt::Debug for Json {
 
 /// Whether a number inside the value is not whole, so that `serde_json` holds it as a float.
 #[cycle(whole)]
+#[inline(always)]
 pub fn has_float(value: &Value) -> bool
     ensures { result ≡ has_float (view value.now) }
 {
@@ -105,6 +106,7 @@ pub fn has_float(value: &Value) -> bool
 }
 
 #[cycle(whole)]
+#[inline(never)]
 fn items_have_float(items: &Vec<Value>) -> bool
     ensures { result ≡ items_have_float (items_view items.now.items) }
 {
@@ -117,6 +119,7 @@ fn items_have_float(items: &Vec<Value>) -> bool
 }
 
 #[cycle(whole)]
+#[inline(never)]
 fn members_have_float(members: &Map<String, Value>) -> bool
     ensures { result ≡ members_have_float (members_view members.now.entries) }
 {
