@@ -6,7 +6,7 @@ use Rattle.std.proofs.lemmas.List.{length-map}
 use Rattle.std.proofs.lemmas.List.Elements.{All-from_recursion, recursion_from_All, All-append, All-cons, All-nil, All-same}
 use Rattle.std.proofs.lemmas.Slice.Zip.{AllZip-long}
 use Rattle.dl_history.specs.Service.{Service}
-use Rattle.dl_queue.specs.Seats.{AreSeatsOf, IsSenderOf, IsTakerOf, sent_jobs, taken_jobs}
+use Rattle.dl_queue.specs.Seats.{AreSeatsOf, IsSenderOf, IsTakerOf}
 use Rattle.dl_queue.specs.declared.queue.JobQueue.{JobQueue}
 use Rattle.dl_queue.specs.declared.seats.Sender.{Sender}
 use Rattle.dl_queue.specs.declared.seats.Taker.{Taker}

@@ -62,10 +62,7 @@ pub(crate) fn results_of<L: LoaderName>(
 /// # Errors
 /// `Run` for the first plan that met a fault, other than that the loader was stopped; `Stopped` where no plan met such a
 /// fault, and a plan or a worker found or made the loader stopped.
-fn check<L: LoaderName>(
-    plans: &[PlanRun<L>],
-    workers: &[WorkerRun<L>],
-) -> Result<(), ScopeFault>
+fn check<L: LoaderName>(plans: &[PlanRun<L>], workers: &[WorkerRun<L>]) -> Result<(), ScopeFault>
     requires few { length plans.now ≤ most_plans }
     ensures taken { OnOk result (All WasTaken plans.now) }
     ensures done { OnOk result (All IsDone workers.now) }
@@ -130,10 +127,7 @@ fn any_gave_up<L: LoaderName>(workers: &[WorkerRun<L>]) -> bool
 }
 
 /// Puts together what the threads gave back, where each plan took its steps. The error is a failed allocation.
-fn gather<L: LoaderName>(
-    alloc: Global,
-    runs: Runs<L>,
-) -> Result<ThreadResults<L>, AllocError>
+fn gather<L: LoaderName>(alloc: Global, runs: Runs<L>) -> Result<ThreadResults<L>, AllocError>
     requires taken { All WasTaken runs.plans.items }
     ensures { IfOk result (AreResults runs) }
 {

@@ -1,7 +1,6 @@
 -- What serving plans leaves before the loader is closed.
 use Rattle.std.specs.Prelude.{◌≡◌, ℕ, suc, ◌+◌, List, [], ◌∷◌, ◌++◌, length, map, All, nat_le, if◌then◌else◌}
 use Rattle.dl_history.specs.Lists.{Every, total}
-use Rattle.dl_history.specs.Service.{Service}
 use Rattle.dl_loader.specs.Pass.{Trace, Pass}
 use Rattle.dl_queue.specs.Seats.{IsSenderOf, IsTakerOf, sent_jobs, taken_jobs}
 use Rattle.dl_loader.specs.Dispatches.{dispatched, events_told, unsent}
