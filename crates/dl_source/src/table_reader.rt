@@ -165,8 +165,9 @@ fn read_finding(kind: Kind, pair: Value) -> Option<ListedFinding>
         return None;
     }
     let value = pair.pop()?;
-    let id = into_text(pair.pop()?)?;
-    Some(ListedFinding::new(id, kind.listed(value)?))
+    let id = pair.pop()?;
+    pair.destroy_empty();
+    Some(ListedFinding::new(into_text(id)?, kind.listed(value)?))
 }
 
 /// The least fault of what the tables hold, but for repetitions.
