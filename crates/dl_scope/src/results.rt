@@ -53,8 +53,15 @@ pub(crate) fn results_of<L: LoaderName>(
         Ok(()) => {}
         Err(fault) => return Err(fault),
     }
-    let results = gather(alloc, runs)?;
-    Ok(results)
+    let mut all = ThreadResults {
+        passes: Vec::new(alloc),
+        senders: Vec::new(alloc),
+        takers: Vec::new(alloc),
+        answers: Vec::new(alloc),
+        rounds: Vec::new(alloc),
+    };
+    all.add(runs)?;
+    Ok(all)
 }
 
 /// Looks whether each plan took its steps and each worker worked to the end.
@@ -124,22 +131,6 @@ fn any_gave_up<L: LoaderName>(workers: &[WorkerRun<L>]) -> bool
         }
     }
     false
-}
-
-/// Puts together what the threads gave back, where each plan took its steps. The error is a failed allocation.
-fn gather<L: LoaderName>(alloc: Global, runs: Runs<L>) -> Result<ThreadResults<L>, AllocError>
-    requires taken { All WasTaken runs.plans.items }
-    ensures { IfOk result (AreResults runs) }
-{
-    let mut all = ThreadResults {
-        passes: Vec::new(alloc),
-        senders: Vec::new(alloc),
-        takers: Vec::new(alloc),
-        answers: Vec::new(alloc),
-        rounds: Vec::new(alloc),
-    };
-    all.add(runs)?;
-    Ok(all)
 }
 
 impl<L: LoaderName> ThreadResults<L> {
