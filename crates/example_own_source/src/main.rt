@@ -91,7 +91,7 @@ fn print_answers(rt: &impl Print, report: &Report) -> anyhow::Result<()> {
     for (request, answers) in report.answers().iter().enumerate() {
         for given in answers {
             match &given.answer {
-                Answer::Value(value) => println!(rt; "{request} {}", value.value())?,
+                Answer::Value(value) => println!(rt; "{request} {value}")?,
                 Answer::Fault(EvalFault::Key { key, text }) => {
                     println!(rt; "{request} {}: {}", key.id(), text.as_str())?;
                 }
