@@ -65,7 +65,7 @@ fn push_call(sheet: &mut Sheet, call: &Call) {
         }
         Call::Prime(key, outcome) => {
             push_of_key(sheet, "\"prime\",", key);
-            push_outcome(sheet, outcome);
+            push_outcome(sheet, &**outcome);
         }
         Call::Clear(key) => push_of_key(sheet, "\"clear\",", key),
         Call::ClearAll => sheet.push("\"clearAll\""),
