@@ -9,6 +9,7 @@ pub mod Steps
 pub mod Tails
 pub mod MemoMembers
 pub mod TableNames
+pub mod TablePlaces
 pub mod TableLemmas
 pub mod FieldMarks
 pub mod TwoBooks

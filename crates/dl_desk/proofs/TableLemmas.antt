@@ -19,7 +19,7 @@ use Rattle.dl_desk.specs.Marks.{IsStored}
 use Rattle.dl_desk.specs.declared.desk.Extent.{Extent}
 use Rattle.dl_desk.specs.declared.table_book.Newest.{Newest}
 use Rattle.dl_desk.specs.TableBook.{TableBook, told, untouched, is_of, newest_at, TellsNewest, TellsLimits, AreTouched, TouchedBy, BothBatches}
-use Rattle.dl_desk.specs.TableBook.{AreTables, FitTables, Renews, renewed, IsNewest, open_at, open_for, IsOf}
+use Rattle.dl_desk.specs.TableBook.{TellsTheSame, AreTables, FitTables, Renews, renewed, IsNewest, open_at, open_for, IsOf}
 use Rattle.dl_desk.proofs.Facts.{greatest-below}
 use Rattle.dl_desk.proofs.LawBatches.{greatest-passes}
 use Rattle.dl_desk.proofs.Tails.{get-set_same, get-set_other, map-set_unseen, same_each}
@@ -315,6 +315,15 @@ tables_told most next b old new table e are renews (inr (none, first)) shown pre
   tells_prepared = tells_before b.prepared table e old new (rw first prepared) (rw (first, none) refl) renews are.tells_prepared;
   limits = limits_new most table e old new (rw first refl) renews are.limits;
   touched = rw renews.touched are.touched;
+}
+
+-- what the book tells may stand otherwise
+pub tables_kept : (most : ℕ) (b : BothBatches) (old new : TableBook) → TellsTheSame old new → AreTables most b old → AreTables most b new
+tables_kept most b old new same are = record {
+  tells_shown = λ q. rw (same.newest q) (are.tells_shown q);
+  tells_prepared = λ q. rw (same.newest q) (are.tells_prepared q);
+  limits = λ q f is. rw same.limits (are.limits q f (sym (same.newest q) ∙ is));
+  touched = rw same.touched are.touched;
 }
 
 -- the book with one more batch that may be touched

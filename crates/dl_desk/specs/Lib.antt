@@ -4,6 +4,7 @@ pub mod StoredBatch
 pub mod BatchBook
 pub mod Preparation
 pub mod TableName
+pub mod TableMap
 pub mod TableBook
 pub mod Marks
 pub mod Ready

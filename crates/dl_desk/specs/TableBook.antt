@@ -2,24 +2,24 @@
 use Rattle.std.specs.Prelude.{◌≡◌, ℕ, ◌<◌, ◌⊎◌, Bool, ◌&&◌, false, true, List, [], length, map, take, slice_get, Option, Some, None, option_map}
 use Rattle.std.specs.Prelude.{nat_eq, nat_le, nat_lt, bytes_eq, if◌then◌else◌}
 use Rattle.std.specs.List.{list_any}
-use Rattle.std.specs.Map.{lookup}
 use Rattle.dl_values.specs.Limits.{Limits, Rules, limit_by}
 use Rattle.dl_desk.specs.History.{is_of_table, greatest}
 use Rattle.dl_desk.specs.BatchBook.{Batch, BatchBook}
 use Rattle.dl_desk.specs.StoredBatch.{StoredBatch}
 use Rattle.dl_desk.specs.Preparation.{members_of, prepared_batch, shown_batch}
+use Rattle.dl_desk.specs.TableMap.{told_in}
 use Rattle.dl_desk.specs.declared.table_book.Newest.{Newest}
 
 -- what contracts see of it: the tables' own limits, what is told of each table's newest batch, and the batches in which
 -- something may be prepared
 pub record TableBook : Type 0 where
   pub limits : List (List ℕ × ℕ)
-  pub newest : List (List ℕ × Newest)
+  pub newest : List (List (List ℕ × Newest))
   pub touched : List ℕ
 
 -- what is told of a table
 abbrev pub told : TableBook → List ℕ → Option Newest
-told t table = lookup (bytes_eq table) t.newest
+told t = told_in t.newest
 
 -- the book where nothing is prepared
 abbrev pub untouched : TableBook → TableBook
@@ -87,6 +87,12 @@ FitTables max_batch b (Some t) = AreTables max_batch b t
 pub record Renews (old : TableBook) (table : List ℕ) (e : Newest) (new : TableBook) : Type 0 where
   pub limits : new.limits ≡ old.limits
   pub newest : (q : List ℕ) → told new q ≡ (if bytes_eq table q then Some e else told old q)
+  pub touched : new.touched ≡ old.touched
+
+-- the book tells what the old one did
+pub record TellsTheSame (old new : TableBook) : Type 0 where
+  pub limits : new.limits ≡ old.limits
+  pub newest : (q : List ℕ) → told new q ≡ told old q
   pub touched : new.touched ≡ old.touched
 
 -- what is told of a table once the batch was begun for it, after e was told, where these batches are shown

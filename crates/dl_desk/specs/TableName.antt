@@ -13,6 +13,10 @@ with_byte number byte = ((number * 1099511628211) % 2 ^ 64 + byte) % 2 ^ 64
 abbrev pub number_of : List ℕ → ℕ
 number_of = fold with_byte 0
 
+-- the place where a table is found, of 32
+abbrev pub place_of : List ℕ → ℕ
+place_of name = number_of name % 32
+
 -- names are ordered by their numbers, and where these are one by their bytes
 abbrev pub name_cmp : List ℕ → List ℕ → Ordering
 name_cmp = then_cmp (on number_of nat_cmp) (slice_cmp nat_cmp)

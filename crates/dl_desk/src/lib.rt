@@ -13,6 +13,7 @@ mod memo_and_batches;
 mod ready;
 mod reply;
 mod table_book;
+mod table_map;
 mod table_name;
 
 pub use desk::{BatchView, Desk};

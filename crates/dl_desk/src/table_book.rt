@@ -1,19 +1,20 @@
 //! What a desk keeps of its tables, where each batch is of one table.
 
-ghost use Rattle.std.specs.Prelude.{◌≡◌, ℕ, ◌<◌, ◌≤◌, ◌+◌, List, [], length, map, take, max, vec_len, option_map, Some, None, IsSome, IfOk, IfSome, OnErr};
+ghost use Rattle.std.specs.Prelude.{◌≡◌, ℕ, ◌<◌, ◌≤◌, ◌+◌, List, [], length, map, take, max, vec_len, option_map, Some, None, IsSome, IfOk, IfSome, OnOk, OnErr};
 ghost use Rattle.dl_values.specs.Limits.{limit_by};
 ghost use Rattle.dl_desk.specs.Preparation.{prepared_batch, shown_batch, book_room, Same, NoneFrom};
 ghost use Rattle.dl_desk.specs.Marks.{IsStored, IsAdded, MakesRoom};
 ghost use Rattle.dl_desk.specs.BatchBook.{BatchBook};
-ghost use Rattle.dl_desk.specs.TableBook.{told, newest_at, open_at, open_for, untouched, both, renewed, AreTables, AreTouched, TouchedBy, Renews, IsNewest, IsOf};
+ghost use Rattle.dl_desk.specs.TableMap.{told_in};
+ghost use Rattle.dl_desk.specs.TableBook.{told, newest_at, open_at, open_for, untouched, both, renewed, AreTables, TellsTheSame, AreTouched, TouchedBy, Renews, IsNewest, IsOf};
 
 use crate::batch::StoredBatch;
 use crate::desk::Extent;
 use crate::memo_and_batches::{self, BatchChoice};
-use crate::table_name::TableName;
+use crate::table_map::TableMap;
+use crate::table_name::{PLACES, TableName};
 use dl_values::{FetchKey, Limits, TableLimits};
 use std::alloc::{AllocError, Global};
-use std::collections::BTreeMap;
 use std::hash::RandomState;
 use std::marker::Model;
 
@@ -48,7 +49,8 @@ pub(crate) struct BatchMeans {
 /// latest batch counts is told by that batch.
 pub(crate) struct TableBook {
     limits: TableLimits,
-    newest: BTreeMap<TableName, Newest>,
+    // By the places of tables. They are added when the first table is told of.
+    newest: Vec<TableMap>,
     // The batches in which something may be prepared.
     touched: Vec<u32>,
 }
@@ -72,7 +74,7 @@ impl Model for TableBook {
 
     ghost Value = { TableBook };
 
-    ghost view = { λ t. record { limits = t.limits; newest = t.newest.entries; touched = t.touched.items } };
+    ghost view = { λ t. record { limits = t.limits; newest = t.newest.items; touched = t.touched.items } };
 }
 
 impl TableBook {
@@ -83,7 +85,7 @@ impl TableBook {
     {
         TableBook {
             limits,
-            newest: BTreeMap::new(alloc),
+            newest: Vec::new(alloc),
             touched: Vec::new(alloc),
         }
     }
@@ -120,40 +122,61 @@ impl TableBook {
     }
 
     /// The newest batch of the table. Where nothing is told of the table, it is told from now on that its first batch may
-    /// be the next one. The error is a failed allocation, and leaves the book.
+    /// be the next one. The error is a failed allocation, and leaves what is told.
     fn newest_of(
         &mut self,
+        alloc: Global,
         max_batch: u32,
         next: u32,
         table: &TableName,
     ) -> Result<Newest, AllocError>
         ensures renews { IfOk result (λ newest. Renews self.old table.now newest self.new) }
         ensures newest { IfOk result (IsNewest max_batch next self.old table.now) }
-        ensures err { OnErr result (self.new ≡ self.old) }
+        ensures err { OnErr result (TellsTheSame self.old self.new) }
     {
-        if let Some(newest) = self.newest.get(table) {
-            return Ok(*newest);
+        if let Some(newest) = self.told(table) {
+            return Ok(newest);
         }
-        self.begin(max_batch, next, table)
+        self.begin(alloc, max_batch, next, table)
+    }
+
+    /// What is told of the table.
+    #[inline(always)]
+    fn told(&self, table: &TableName) -> Option<Newest>
+        ensures { result ≡ told self.now table.now }
+    {
+        let place = table.place();
+        if place < self.newest.len() {
+            self.newest[place].get(table)
+        } else {
+            None
+        }
     }
 
     /// Tells of a table of which nothing is told that its first batch may be the next one. The error is a failed
-    /// allocation, and leaves the book.
+    /// allocation, and leaves what is told.
     // Out of line, as is the next one, since of each table or batch it is called once.
     #[cold]
     #[inline(never)]
-    fn begin(&mut self, max_batch: u32, next: u32, table: &TableName) -> Result<Newest, AllocError>
+    fn begin(
+        &mut self,
+        alloc: Global,
+        max_batch: u32,
+        next: u32,
+        table: &TableName,
+    ) -> Result<Newest, AllocError>
         requires { told self.old table.now ≡ None }
         ensures renews { IfOk result (λ newest. Renews self.old table.now newest self.new) }
         ensures newest { IfOk result (IsNewest max_batch next self.old table.now) }
-        ensures err { OnErr result (self.new ≡ self.old) }
+        ensures err { OnErr result (TellsTheSame self.old self.new) }
     {
         let newest = Newest {
             most: self.most(max_batch, table.as_str()),
             latest: next,
             before: None,
         };
-        self.newest.insert(table.try_copy()?, newest)?;
+        add_places(alloc, &mut self.newest)?;
+        self.newest[table.place()].insert(table, newest)?;
         Ok(newest)
     }
 
@@ -164,9 +187,7 @@ impl TableBook {
         requires { IsSome (told self.old table.now) }
         ensures { Renews self.old table.now newest self.new }
     {
-        if let Some(last) = self.newest.get_mut(table) {
-            *last = newest;
-        }
+        self.newest[table.place()].replace(table, newest);
     }
 
     /// Tells of a table, of which `last` is told, that a member was put into the batch: it is the table's newest from now
@@ -226,7 +247,7 @@ impl TableBook {
         let next = standing.prepared.begun;
         let table = key.table();
         let name = TableName::of(key)?;
-        let newest = self.newest_of(standing.limits.max_batch(), next, &name)?;
+        let newest = self.newest_of(means.alloc, standing.limits.max_batch(), next, &name)?;
         let last = newest_in(batches.as_slice(), next, newest, table);
         let open = with_room(batches.as_slice(), standing.prepared, newest.most, last);
         self.touched.reserve(1)?;
@@ -247,6 +268,17 @@ impl TableBook {
         self.tell(batches.as_slice(), standing, &name, newest, number);
         Ok(number)
     }
+}
+
+/// Adds the places that are missing. The error is a failed allocation, and then some may have been added.
+fn add_places(alloc: Global, places: &mut Vec<TableMap>) -> Result<(), AllocError>
+    ensures enough { OnOk result (32 ≤ length places.new.items) }
+    ensures told { (q : List ℕ) → told_in places.new.items q ≡ told_in places.old.items q }
+{
+    for _place in places.len()..PLACES {
+        places.push(TableMap::new(alloc))?;
+    }
+    Ok(())
 }
 
 /// The newest of the first batches that is of the table, as is told of the table.

@@ -5,7 +5,7 @@ ghost use Rattle.std.proofs.Common.{rules};
 ghost use Rattle.std.specs.Ordering.{as_partial_cmp, eq_by_cmp};
 ghost use Rattle.std.specs.Cmp.{partial_order_from_own_ties};
 ghost use Rattle.std.specs.Cmp.Rules.{comparing};
-ghost use Rattle.dl_desk.specs.TableName.{with_byte, number_of, name_cmp};
+ghost use Rattle.dl_desk.specs.TableName.{with_byte, number_of, place_of, name_cmp};
 
 use dl_values::FetchKey;
 use std::alloc::AllocError;
@@ -14,6 +14,9 @@ use std::marker::Model;
 
 /// An odd factor of many bits, so that each byte of a name changes the number.
 const FACTOR: u64 = 1_099_511_628_211;
+
+/// In how many places tables are found.
+pub(crate) const PLACES: usize = 32;
 
 /// The name of a table, beside a number that its bytes make. Names are ordered by their numbers, and only where these are
 /// one by their bytes, so that a search compares numbers, and hardly ever two names.
@@ -57,6 +60,14 @@ impl TableName {
         ensures { result.now ≡ self.now }
     {
         self.key.table()
+    }
+
+    /// The place where the table is found.
+    #[inline(always)]
+    pub(crate) fn place(&self) -> usize
+        ensures { result ≡ place_of self.now }
+    {
+        (self.number % 32) as usize
     }
 
     /// The same name, shared. The error is that a reference count would overflow.

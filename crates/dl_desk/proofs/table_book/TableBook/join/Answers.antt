@@ -4,7 +4,7 @@ use Rattle.dl_values.proofs.Errors.{on_err}
 use Rattle.dl_desk.specs.Preparation.{prepared_batch, shown_batch}
 use Rattle.dl_desk.specs.declared.table_book.Newest.{Newest}
 use Rattle.dl_desk.specs.TableBook.{newest_at, open_for, renewed, Renews}
-use Rattle.dl_desk.proofs.TableLemmas.{touching, some_low, next_empty}
+use Rattle.dl_desk.proofs.TableLemmas.{touching, some_low, next_empty, tables_kept}
 use Rattle.dl_desk.proofs.TableJoins.{IsTold, is_told, IsJoined, within, beside_grown, last_low, room_low, joined_room, joined_next, joined_old, joined_new}
 use Rattle.dl_desk.proofs.table_book.TableBook.join.Goals as goal
 
@@ -12,6 +12,9 @@ told-open : (c : goal.After-with_room-arg-1) → IsTold c.args.standing c.args.k
 told-open c = is_told _ _ _ c.args.self.now c.newest_of.new.self c.in_ok-newest.newest c.in_ok-name.name c.max_batch.result
     (record { stored = c.requires.stored; later = c.requires.shown; fits = c.requires.fits }) c.in_ok-name.ensures c.max_batch.ensures.value
     c.in_ok-newest.ensures.renews c.in_ok-newest.ensures.newest
+
+pub returns-in_err-newest-clause-err_fits : goal.returns-in_err-newest-clause-err_fits
+returns-in_err-newest-clause-err_fits c = on_err _ (tables_kept _ _ c.args.self.now c.newest_of.new.self c.in_err-newest.ensures.err c.requires.fits)
 
 last : (c : goal.After-with_room-arg-1) → c.newest_in-last.result
     ≡ newest_at (take c.args.standing.prepared.begun (map prepared_batch c.args.batches.now.items)) c.args.key.now.table (Some c.in_ok-newest.newest)

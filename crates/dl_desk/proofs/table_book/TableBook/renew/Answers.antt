@@ -1,26 +1,15 @@
-use Rattle.std.proofs.Common.{◌≡◌, ◌∙◌, sym, ap, Bool, true, false, true≢false, IsSome, None, refl}
-use Rattle.std.specs.BTreeMap.{get}
-use Rattle.std.specs.Option.{option_copied_mut}
-use Rattle.dl_desk.specs.TableName.{name_cmp}
-use Rattle.dl_desk.proofs.TableNames.{lookup-name, lookup-told}
+use Rattle.std.proofs.Common.{◌<◌, length, refl}
+use Rattle.dl_desk.specs.TableName.{place_of}
+use Rattle.dl_desk.proofs.TablePlaces.{place_low, told-changed}
 use Rattle.dl_desk.proofs.table_book.TableBook.renew.Goals as goal
-use Rattle.dl_desk.proofs.table_book.TableBook.renew.Goals.{in-Some, in_default}
-
-some : (c : goal.Joined-get_mut) → IsSome (get name_cmp c.self.inside.newest c.args.table.now)
-some c =
-    let told = rw (← c.self.view_is) at c.requires in
-    rw (lookup-name c.args.table.now c.self.inside.newest.entries) told
 
 pub returns : goal.returns
-returns c = elim c.match-get_mut.branch [
-  | in-Some w ↦ rw (w.self-inside-is, ← c.self.view_is) (record {
-    limits = refl;
-    newest = lookup-told c.self.inside.newest (c.get_mut.follows.lender c.args.newest) c.args.table.now c.args.newest
-        ((c.get_mut.follows.holds c.args.newest).3 (some c));
-    touched = refl;
-  })
-  | in_default w ↦
-      let none : get name_cmp c.self.inside.newest c.args.table.now ≡ None = sym c.get_mut.ensures.value ∙ ap option_copied_mut w.in_default.is in
-      let bad : ◌≡◌ {A = Bool} false true = rw none at (some c) in
-      absurd (true≢false (sym bad))
-]
+returns c =
+    let low : place_of c.args.table.now < length c.self.inside.newest.items =
+    place_low c.self.inside.newest.items c.args.table.now (rw (← c.self.view_is) at c.requires) in
+    rw (← c.self.view_is) (record {
+      limits = refl;
+      newest = told-changed c.self.inside.newest.items c.args.table.now c.place.result c.index_mut.result.now c.index_mut.ensures.value c.args.newest c.replace.new.self
+          c.place.ensures low c.replace.ensures;
+      touched = refl;
+    })
