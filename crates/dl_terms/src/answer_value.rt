@@ -136,11 +136,7 @@ fn push_value(alloc: Global, value: &AnswerValue, text: &mut String) -> Result<(
 }
 
 #[cycle(writing)]
-fn push_list(
-    alloc: Global,
-    values: &Vec<AnswerValue>,
-    text: &mut String,
-) -> Result<(), AllocError>
+fn push_list(alloc: Global, values: &Vec<AnswerValue>, text: &mut String) -> Result<(), AllocError>
     ensures { OnOk result (string_bytes text.new ≡ string_bytes text.old ++ compact_text (array (items_of values.now.items))) }
 {
     text.push_str("[")?;

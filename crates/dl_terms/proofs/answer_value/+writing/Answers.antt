@@ -17,7 +17,7 @@ push_list-loop-value-preserved t c =
       true,
       refl,
       text_next c.deref-value-items.result.now c.loop-value.value-index c.value-item.result c.loop-value-test.true c.value-item.is h.0 _ _ _ _ h.2
-      (c.in_ok-push_str-2.ensures.bytes ∙ ap (λ s. string_bytes c.loop-value.text ++ s) h.1) c.in_ok-push_value.ensures,
+          (c.in_ok-push_str-2.ensures.bytes ∙ ap (λ s. string_bytes c.loop-value.text ++ s) h.1) c.in_ok-push_value.ensures,
     )
 
 pub push_list-returns : goal.push_list-returns
