@@ -65,7 +65,7 @@ fn push_answer(sheet: &mut Sheet, answer: &Answer) {
     match answer {
         Answer::Value(value) => {
             sheet.push(" ok ");
-            sheet.push_json(value);
+            sheet.push_answer(value);
         }
         Answer::Fault(fault) => push_fault(sheet, fault),
     }

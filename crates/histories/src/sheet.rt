@@ -1,5 +1,6 @@
 //! Sheets: texts that are being written.
 
+use dl_terms::AnswerValue;
 use dl_values::{FetchKey, Json};
 use serde_json::Value;
 use std::alloc::{AllocError, Global};
@@ -56,6 +57,11 @@ impl Sheet {
 
     /// Appends a JSON value.
     pub(crate) fn push_json(&mut self, value: &Json) {
+        self.push_made(value.to_text(self.alloc));
+    }
+
+    /// Appends the value of an answer.
+    pub(crate) fn push_answer(&mut self, value: &AnswerValue) {
         self.push_made(value.to_text(self.alloc));
     }
 

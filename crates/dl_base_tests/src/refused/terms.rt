@@ -3,8 +3,8 @@
 use crate::comparison::{assert_ids, assert_is};
 use crate::refused::Stage;
 use dl_desk::{FetchKey, Outcome};
-use dl_fixtures::{ADA, BOB, FRIENDS, answer_text, json, made, term};
-use dl_terms::{Asked, Node, Term, explore, unexplored};
+use dl_fixtures::{ADA, BOB, FRIENDS, json, made, term};
+use dl_terms::{Answer, Asked, Node, Term, explore, unexplored};
 use std::io::Eprint;
 use std::process::Abort;
 
@@ -63,10 +63,33 @@ impl<R: Abort + Eprint> Stage<'_, R> {
         }
         assert_ids(self.rt, asked.wanted(), want);
         if let Some(answer) = node.take_answer() {
-            let text = answer_text(self.alloc, &answer).expect(self.rt, "no memory");
-            assert_is(self.rt, &text.as_str(), &ANSWER, "the answer");
+            self.assert_answer(&answer);
         }
         true
+    }
+
+    /// What the term gives, as a text and as one value.
+    fn assert_answer(&self, answer: &Answer) {
+        let Answer::Value(value) = answer else {
+            panic!(self.rt; "no value");
+        };
+        let text = made!(
+            self,
+            "AnswerValue::to_text",
+            Err(_),
+            value.to_text(self.alloc)
+        );
+        let text = text.expect(self.rt, "no text");
+        assert_is(self.rt, &text.as_str(), &ANSWER, "the answer");
+        let json = made!(
+            self,
+            "AnswerValue::to_json",
+            Err(_),
+            value.to_json(self.alloc)
+        );
+        let json = json.expect(self.rt, "no value");
+        let text = json.to_text(self.alloc).expect(self.rt, "no memory");
+        assert_is(self.rt, &text.as_str(), &ANSWER, "the answer as one value");
     }
 
     /// Learns outcomes, behind those that are known, until so many are.
