@@ -96,6 +96,14 @@ impl AnswerValue {
         }
     }
 
+    /// Whether it is a primitive of JSON: a number, a text, a truth value or null.
+    fn is_primitive(&self) -> bool {
+        match &self.shape {
+            Shape::Row(row) => !matches!(row.value(), Value::Array(_) | Value::Object(_)),
+            Shape::List(_) => false,
+        }
+    }
+
     /// The same value as one JSON value, which shares a row and copies what stands in lists. The error is a failed allocation.
     pub fn to_json(&self, alloc: Global) -> Result<Json, AllocError>
         ensures { IfOk result (λ j. j ≡ self.now) }
@@ -139,6 +147,9 @@ fn push_value(alloc: Global, value: &AnswerValue, text: &mut String) -> Result<(
 fn push_list(alloc: Global, values: &Vec<AnswerValue>, text: &mut String) -> Result<(), AllocError>
     ensures { OnOk result (string_bytes text.new ≡ string_bytes text.old ++ compact_text (array (items_of values.now.items))) }
 {
+    if values.iter().all(|value| value.is_primitive()) {
+        return push_primitives(alloc, values, text);
+    }
     text.push_str("[")?;
     let mut before = "";
     for value in values {
@@ -148,6 +159,19 @@ fn push_list(alloc: Global, values: &Vec<AnswerValue>, text: &mut String) -> Res
     }
     text.push_str("]")?;
     Ok(())
+}
+
+/// Appends the text of a list of primitives. They are copied into one value, since a text for each takes longer.
+fn push_primitives(
+    alloc: Global,
+    values: &Vec<AnswerValue>,
+    text: &mut String,
+) -> Result<(), AllocError>
+    ensures { OnOk result (string_bytes text.new ≡ string_bytes text.old ++ compact_text (array (items_of values.now.items))) }
+{
+    let list = Value::Array(copies(alloc, values)?);
+    let list = list.to_string(alloc)?;
+    text.push_str(list.as_str())
 }
 
 /// A copy of a value's tree.
