@@ -1,5 +1,5 @@
 -- The order of keys, and what a hash of one reads.
-use Rattle.std.specs.Prelude.{ℕ, List}
+use Rattle.std.specs.Prelude.{ℕ, List, [], ◌∷◌}
 use Rattle.std.specs.declared.cmp.Ordering.{Ordering}
 use Rattle.std.specs.Ordering.{then_cmp, on, nat_cmp}
 use Rattle.std.specs.Cmp.Lexicographic.{slice_cmp}
@@ -13,4 +13,4 @@ key_cmp = then_cmp (on (λ k. k.table) (slice_cmp nat_cmp)) (on (λ k. k.id) (sl
 
 -- a hash reads both texts as one, and before them how many bytes the table has
 abbrev pub key_input : Key → List (List ℕ)
-key_input k = hashed (marked k)
+key_input k = hashed (marked k) ∷ []

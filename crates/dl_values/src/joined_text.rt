@@ -1,12 +1,11 @@
 //! Two texts as one, which stands in its own value where it is short.
 
-ghost use Rattle.std.specs.Prelude.{◌≡◌, fold};
+ghost use Rattle.std.specs.Prelude.{◌≡◌};
 ghost use Rattle.dl_values.specs.Inside.HashedText.{hashed};
 ghost use Rattle.dl_values.specs.Inside.JoinedText.{bytes_of, IsInForm};
 
 use crate::short_text::ShortText;
 use crate::text::Text;
-use std::hash::{Hash, Hasher};
 
 /// A mark and two texts, one right after the other.
 #[derive(Drop)]
@@ -27,15 +26,15 @@ impl JoinedText {
         }
     }
 
-    /// Gives the text to a hash: in whole words where it is short.
+    /// What a hash reads of the text.
     #[inline(always)]
-    pub(crate) fn feed<H: Hasher>(&self, state: &mut H)
+    pub(crate) fn hashed(&self) -> &[u8]
         requires { IsInForm self.now }
-        ensures { state.new ≡ fold H.write state.old (hashed (bytes_of self.now)) }
+        ensures { result.now ≡ hashed (bytes_of self.now) }
     {
         match self {
-            JoinedText::Short(text) => state.write(text.words()),
-            JoinedText::Long(text) => text.hash(state),
+            JoinedText::Short(text) => text.words(),
+            JoinedText::Long(text) => text.as_str().as_bytes(),
         }
     }
 }

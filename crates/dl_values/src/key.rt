@@ -119,7 +119,7 @@ impl Hash for KeyText {
     ghost respects_eq = { Prim.search (hashing, rules) };
 
     fn hash<H: Hasher>(&self, state: &mut H) {
-        self.text.feed(state);
+        state.write(self.text.hashed());
     }
 }
 
