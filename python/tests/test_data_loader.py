@@ -88,6 +88,17 @@ class Batches(unittest.IsolatedAsyncioTestCase):
 
         self.assertEqual(await Doubles().load_many([1, 2]), [2, 4])
 
+    async def test_a_subclass_has_each_option(self):
+        class Few(DataLoader):
+            max_cells = 1
+
+        few = Few(answers(["a"]))
+        self.assertEqual(await few.load("a"), "a")
+        with self.assertRaisesRegex(LoaderFull, "max_cells"):
+            few.load("b")
+        two = Few(answers(["a", "b"]), max_cells=2)
+        self.assertEqual((two.max_cells, await two.load_many(["a", "b"])), (2, ["a", "b"]))
+
     async def test_no_keys_are_no_batch(self):
         batches = []
         self.assertEqual(await loader_of(batches).load_many([]), [])
@@ -354,9 +365,10 @@ class Refusals(unittest.IsolatedAsyncioTestCase):
         self.assertEqual(await loader.load_many(["a", "b"]), ["a", "b"])
 
     async def test_limits_are_within_bounds(self):
-        for options in ({"max_batch_size": 0}, {"max_batch_size": 65_537}, {"max_cells": 0}, {"max_cells": 65_537}):
-            with self.assertRaises(ValueError):
-                loader_of([], **options)
+        for option in ("max_batch_size", "max_cells"):
+            for limit in (0, -1, 65_537, 2**32 + 1, 10**30):
+                with self.assertRaisesRegex(ValueError, f"{option} is 1 to 65536, and not {limit}"):
+                    loader_of([], **{option: limit})
 
     async def test_options_are_what_they_say(self):
         for options in (
@@ -373,9 +385,8 @@ class Refusals(unittest.IsolatedAsyncioTestCase):
             with self.assertRaises(TypeError, msg=str(options)):
                 loader_of([], **options)
             kind = type("Own", (DataLoader,), {"batch_load_fn": answers([]), **options})
-            if "max_cells" not in options:
-                with self.assertRaises(TypeError, msg=str(options)):
-                    kind()
+            with self.assertRaises(TypeError, msg=str(options)):
+                kind()
 
     async def test_a_loader_opens_once(self):
         loader = loader_of([])

@@ -38,7 +38,7 @@ class Names(unittest.TestCase):
         self.assertEqual(
             names_of(thrushscreen.DataLoader),
             {"load", "load_many", "held", "prime", "clear", "clear_all", "counters"}
-            | {"batch", "max_batch_size", "cache", "cache_map", "get_cache_key", "batch_schedule_fn", "name"},
+            | {"batch", "max_batch_size", "cache", "cache_map", "get_cache_key", "batch_schedule_fn", "name", "max_cells"},
         )
 
     def test_options_have_the_names_of_the_ports(self):

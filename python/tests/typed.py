@@ -18,6 +18,7 @@ async def fetch_plain(keys: list[int]) -> list[str]:
 
 class Users(DataLoader[int, str]):
     max_batch_size = 100
+    max_cells = 1_000
     name = "users"
 
     async def batch_load_fn(self, keys: list[int]) -> list[str]:

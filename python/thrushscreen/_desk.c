@@ -61,7 +61,7 @@ static PyObject *raise_code(uint32_t code)
     case DL_OUT_OF_MEMORY:
         return PyErr_NoMemory();
     case DL_CELLS_FULL:
-        PyErr_SetString(loader_full, "the loader has begun as many cells as it may: make a loader for each request");
+        PyErr_SetString(loader_full, "the loader has begun as many cells as its max_cells: make a loader for each request");
         return NULL;
     case DL_BAD_LIMIT:
         PyErr_Format(PyExc_ValueError, "a limit is 1 to %d", DL_LARGEST_LIMIT);
@@ -1407,7 +1407,7 @@ PyMODINIT_FUNC PyInit__desk(void)
 {
     PyObject *module;
 
-    loader_full = PyErr_NewExceptionWithDoc("thrushscreen.LoaderFull", "A loader has begun as many cells as it may.",
+    loader_full = PyErr_NewExceptionWithDoc("thrushscreen.LoaderFull", "A loader has begun as many cells as its ``max_cells``.",
                                             PyExc_RuntimeError, NULL);
     if (loader_full == NULL || !intern_names() || !take_from_asyncio() || PyType_Ready(&desk_type) < 0) {
         return NULL;

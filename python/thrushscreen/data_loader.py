@@ -57,7 +57,8 @@ class DataLoader(Desk[K, V]):
     is the error of each key of the batch: these are forgotten, so that a later load fetches them again.
 
     A load that waits has a future of its own: cancelling it touches no other. A loader belongs to the event loop of its first load.
-    It begins ``max_cells`` cells at most, and gives none back: make one for each request.
+    Each load that isn't a hit begins a *cell*, the place of its outcome, and so does each prime that holds a value. A loader begins
+    ``max_cells`` cells at most, and gives none back: make one for each request.
     """
 
     # What a loader isn't given, it has of its class.
@@ -69,6 +70,7 @@ class DataLoader(Desk[K, V]):
     cache_map: MutableMapping[Any, asyncio.Future[V]] | None = None
     batch_schedule_fn: Callable[[Callable[[], None]], object] | None = None
     name: str | None = None
+    max_cells: int = LARGEST_LIMIT
 
     def __init__(
         self,
@@ -81,7 +83,7 @@ class DataLoader(Desk[K, V]):
         cache_map: MutableMapping[Any, asyncio.Future[V]] | None = None,
         batch_schedule_fn: Callable[[Callable[[], None]], object] | None = None,
         name: str | None = None,
-        max_cells: int = LARGEST_LIMIT,
+        max_cells: int | None = None,
     ) -> None:
         """A loader with this batch function, or with that of a subclass.
 
@@ -92,7 +94,7 @@ class DataLoader(Desk[K, V]):
         :param cache_map: remembers the futures of keys in the loader's place. It belongs to one loader.
         :param batch_schedule_fn: is given a function that sends what is collected, and has it called when it likes.
         :param name: for reports.
-        :param max_cells: the most keys that are begun.
+        :param max_cells: the most cells that are begun.
         """
         if batch_load_fn is not None:
             self.batch_load_fn = batch_load_fn
@@ -110,6 +112,8 @@ class DataLoader(Desk[K, V]):
             self.batch_schedule_fn = batch_schedule_fn
         if name is not None:
             self.name = name
+        if max_cells is not None:
+            self.max_cells = max_cells
         if not callable(getattr(self, "batch_load_fn", None)):
             raise TypeError("a loader needs a batch function")
         if self.get_cache_key is not None:
@@ -120,12 +124,11 @@ class DataLoader(Desk[K, V]):
             _check_map(self.cache_map)
         if self.name is not None:
             _check_type("name", self.name, str)
-        largest = LARGEST_LIMIT
-        if self.max_batch_size is not None:
-            _check_type("max_batch_size", self.max_batch_size, int)
-            largest = self.max_batch_size
+        largest = LARGEST_LIMIT if self.max_batch_size is None else self.max_batch_size
+        _check_limit("max_batch_size", largest)
+        _check_limit("max_cells", self.max_cells)
         cache_map = self.cache_map if self.cache else None
-        super().__init__(largest if self.batch else 1, max_cells, self.cache, self.get_cache_key, cache_map)
+        super().__init__(largest if self.batch else 1, self.max_cells, self.cache, self.get_cache_key, cache_map)
         # The task that will send what is collected, where one will, and those that fetch, by their batches.
         self._sender: asyncio.Task[None] | None = None
         self._fetches: dict[int, asyncio.Task[None]] = {}
@@ -304,6 +307,12 @@ def _check_answer(answer: object) -> None:
 def _check_type(option: str, given: object, wanted: type) -> None:
     if not isinstance(given, wanted) or isinstance(given, bool):
         raise TypeError(f"{option} is of type {wanted.__name__}, and not {type(given).__name__}")
+
+
+def _check_limit(option: str, given: int) -> None:
+    _check_type(option, given, int)
+    if not 1 <= given <= LARGEST_LIMIT:
+        raise ValueError(f"{option} is 1 to {LARGEST_LIMIT}, and not {given}")
 
 
 def _check_function(option: str, given: object) -> None:
