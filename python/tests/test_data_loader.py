@@ -261,9 +261,19 @@ class Outcomes(unittest.IsolatedAsyncioTestCase):
             self.assertEqual(await DataLoader(answers(answer)).load_many(["a", "b"]), [1, 2])
 
     async def test_a_batch_function_that_answers_at_once_is_refused(self):
-        for answer in (None, ["a"]):
-            with self.assertRaisesRegex(TypeError, type(answer).__name__):
-                await DataLoader(lambda keys, answer=answer: answer).load("a")
+        async def yields(keys):
+            yield "a"
+
+        for function in (lambda keys: None, lambda keys: ["a"], yields):
+            wanted = f"async def, .* and not {type(function([])).__name__}$"
+            with self.assertRaisesRegex(TypeError, wanted):
+                await DataLoader(function).load("a")
+
+    async def test_a_plain_function_may_answer_another_awaitable(self):
+        def batch_load_fn(keys):
+            return asyncio.ensure_future(answers(keys)(keys))
+
+        self.assertEqual(await DataLoader(batch_load_fn).load_many(["a", "b"]), ["a", "b"])
 
     async def test_a_batch_function_that_is_none_is_refused(self):
         with self.assertRaises(TypeError):

@@ -6,6 +6,8 @@ import asyncio
 from collections import deque
 from collections.abc import Awaitable, Callable, Coroutine, Generator, Hashable, Iterable, MutableMapping, Sequence
 from functools import partial
+from inspect import isawaitable
+from types import CoroutineType
 from typing import Any, Literal, NamedTuple, TypeVar, overload
 
 from ._desk import Desk
@@ -263,7 +265,10 @@ class DataLoader(Desk[K, V]):
     async def _fetch(self, batch: int, keys: list[K]) -> None:
         """Fetches a batch, and ends it."""
         try:
-            answer = await self.batch_load_fn(keys)
+            fetching = self.batch_load_fn(keys)
+            if type(fetching) is not CoroutineType:
+                _check_fetching(fetching)
+            answer = await fetching
             if type(answer) is not list:
                 _check_answer(answer)
             self._settle(batch, answer)
@@ -295,6 +300,12 @@ class _Turn:
 
 
 _NEXT_TURN = _Turn()
+
+
+def _check_fetching(fetching: object) -> None:
+    """Refuses what can't be awaited."""
+    if not isawaitable(fetching):
+        raise TypeError(f"a batch function is an async def, whose call gives an awaitable, and not {type(fetching).__name__}")
 
 
 def _check_answer(answer: object) -> None:
