@@ -359,7 +359,7 @@ class Memo(unittest.IsolatedAsyncioTestCase):
             await loader.prime("b", failed).load("b")
         cancelled = asyncio.get_running_loop().create_future()
         cancelled.cancel()
-        with self.assertRaises(RuntimeError):
+        with self.assertRaisesRegex(RuntimeError, "primed with CancelledError"):
             await loader.prime("c", cancelled).load("c")
 
 class Refusals(unittest.IsolatedAsyncioTestCase):

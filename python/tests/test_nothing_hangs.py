@@ -4,6 +4,7 @@
 """
 
 import asyncio
+import contextlib
 import gc
 import sys
 import threading
@@ -154,8 +155,11 @@ class Cancelled(unittest.IsolatedAsyncioTestCase):
                     await turns(count)
                     for task in await self.fetches():
                         task.cancel()
+                    told = "a batch function gave Cancelled" if gated.batches else "cancelled before it called the batch function"
                     for outcome in await soon(asyncio.gather(*waiters, return_exceptions=True)):
                         self.assertIsInstance(outcome, Exception)
+                        self.assertIn(told, str(outcome))
+                        self.assertIsInstance(outcome.__cause__, asyncio.CancelledError)
                     gated.gate.set()
                     self.assertEqual(await soon(loader.load_many([1, 2, 3])), ["1!", "2!", "3!"])
 
@@ -183,8 +187,22 @@ class Cancelled(unittest.IsolatedAsyncioTestCase):
             task.cancel()
         for outcome in await soon(asyncio.gather(*waiters, return_exceptions=True)):
             self.assertIsInstance(outcome, RuntimeError)
+            self.assertIn("cancelled before it called the batch function", str(outcome))
         self.assertEqual(gated.batches, [])
         self.assertIsNone(loader.held(1))
+
+    async def test_a_cache_map_forgets_what_is_cancelled_before_it_is_sent(self):
+        gated = Gated()
+        gated.gate.set()
+        cache_map = {}
+        loader = DataLoader(gated, cache_map=cache_map)
+        load = loader.load(1)
+        for task in await self.fetches():
+            task.cancel()
+        with self.assertRaises(RuntimeError):
+            await soon(load)
+        self.assertEqual(cache_map, {})
+        self.assertEqual(await soon(loader.load(1)), "1!")
 
     async def test_waiters_over_a_cache_map_are_apart(self):
         gated = Gated()
@@ -693,6 +711,66 @@ class Loops(unittest.TestCase):
         for load in loads:
             self.assertIsInstance(load.exception(), RuntimeError)
         self.assertEqual(reports, [])
+
+
+class Unretrieved(unittest.TestCase):
+    """What a loop reports of loads for which nobody waits: the errors of a batch function, and nothing that was cancelled."""
+
+    def reports_of(self, main):
+        reports = []
+
+        async def run():
+            asyncio.get_running_loop().set_exception_handler(lambda _, context: reports.append(str(context.get("exception"))))
+            await main()
+
+        with contextlib.suppress(KeyError):
+            asyncio.run(run())
+        gc.collect()
+        return reports
+
+    def test_a_loop_that_ends_before_or_amid_a_fetch_reports_nothing(self):
+        async def batch_load_fn(keys):
+            await asyncio.sleep(3600)
+
+        async def main():
+            loader = DataLoader(batch_load_fn, **options)
+            loader.load(1)
+            loader.load_many([1, 2])
+            await turns(count)
+
+        for options in ({}, {"max_batch_size": 1}, {"batch_schedule_fn": lambda send: send()}):
+            for count in range(9):
+                with self.subTest(options=options, turns=count):
+                    self.assertEqual(self.reports_of(main), [])
+
+    def test_an_error_elsewhere_ends_a_program_with_that_error_alone(self):
+        async def batch_load_fn(keys):
+            return keys
+
+        async def fails():
+            raise KeyError("elsewhere")
+
+        async def main():
+            loader = DataLoader(batch_load_fn)
+            loader.load(1)
+            await asyncio.gather(loader.load(2), fails())
+
+        self.assertEqual(self.reports_of(main), [])
+
+    def test_the_errors_of_a_batch_function_are_reported(self):
+        async def breaks(keys):
+            raise OSError("down")
+
+        async def answers_an_error(keys):
+            return [OSError("no row")]
+
+        for batch_load_fn, told in ((breaks, "down"), (answers_an_error, "no row")):
+
+            async def main(batch_load_fn=batch_load_fn):
+                DataLoader(batch_load_fn).load(1)
+                await turns()
+
+            self.assertEqual(self.reports_of(main), [told])
 
 
 if sys.version_info >= (3, 12):

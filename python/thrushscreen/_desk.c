@@ -26,6 +26,9 @@ typedef struct {
     CellState state;
 } Cell;
 
+/* How a cell ends. Of what is silent a loop makes no report where nobody asks for it. */
+typedef enum { WITH_VALUE, WITH_ERROR, WITH_SILENT_ERROR } Ending;
+
 /* What a loader has done. */
 typedef struct {
     unsigned long long loads, hits, batches, keys, failures;
@@ -379,19 +382,28 @@ static PyObject *new_future(Desk *self)
                                        : PyObject_Vectorcall(future_type, args + 1, PY_VECTORCALL_ARGUMENTS_OFFSET, loop_names);
 }
 
+/* What a RuntimeError tells in the place of an exception that a future can't hold. */
+#define GIVEN "a batch function gave %.100s"
+#define PRIMED "a key was primed with %.100s"
+#define NOT_CALLED "the loader's task was cancelled before it called the batch function"
+
+static bool is_cancelled(PyObject *error)
+{
+    return PyErr_GivenExceptionMatches(error, cancelled_error) != 0;
+}
+
 /* An exception as a future can hold it and a waiter can see it: one that would end or cancel who waits is wrapped. A new reference,
  * or NULL. */
-static PyObject *held_error(PyObject *error)
+static PyObject *held_error(PyObject *error, const char *told)
 {
     PyObject *wrapped;
 
-    if (!PyErr_GivenExceptionMatches(error, PyExc_StopIteration) && !PyErr_GivenExceptionMatches(error, cancelled_error) &&
+    if (!PyErr_GivenExceptionMatches(error, PyExc_StopIteration) && !is_cancelled(error) &&
         !PyErr_GivenExceptionMatches(error, PyExc_GeneratorExit)) {
         Py_INCREF(error);
         return error;
     }
-    wrapped = PyObject_CallFunction(PyExc_RuntimeError, "N",
-                                    PyUnicode_FromFormat("a batch function gave %.100s", Py_TYPE(error)->tp_name));
+    wrapped = PyObject_CallFunction(PyExc_RuntimeError, "N", PyUnicode_FromFormat(told, Py_TYPE(error)->tp_name));
     if (wrapped != NULL) {
         Py_INCREF(error);
         PyException_SetCause(wrapped, error);
@@ -400,10 +412,14 @@ static PyObject *held_error(PyObject *error)
 }
 
 /* Gives a future its outcome: whether it took it. It doesn't where its waiter has cancelled it. */
-static bool end_future(PyObject *future, PyObject *outcome, bool is_error)
+static bool end_future(PyObject *future, PyObject *outcome, Ending ending)
 {
-    PyObject *none = PyObject_CallMethodOneArg(future, is_error ? set_exception_name : set_result_name, outcome);
+    PyObject *none = PyObject_CallMethodOneArg(future, ending == WITH_VALUE ? set_result_name : set_exception_name, outcome);
 
+    if (none != NULL && ending == WITH_SILENT_ERROR) {
+        /* The loop reports no exception that was looked at. */
+        Py_SETREF(none, PyObject_CallMethodNoArgs(future, exception_name));
+    }
     if (none != NULL) {
         Py_DECREF(none);
         return true;
@@ -499,11 +515,11 @@ static PyObject *new_waiter(Desk *self, uint32_t number)
 static PyObject *ended_future(Desk *self, uint32_t number)
 {
     PyObject *outcome = self->cells[number].what, *future;
-    bool is_error = self->cells[number].state == ERROR;
+    Ending ending = self->cells[number].state == ERROR ? WITH_ERROR : WITH_VALUE;
 
     Py_INCREF(outcome);
     future = new_future(self);
-    if (future != NULL && end_future(future, outcome, is_error)) {
+    if (future != NULL && end_future(future, outcome, ending)) {
         Py_INCREF(future);
         self->cells[number].state = ENDED;
         Py_SETREF(self->cells[number].what, future);
@@ -532,17 +548,17 @@ static PyObject *future_of(Desk *self, uint32_t number)
 }
 
 /* Ends a cell, and gives its waiters the outcome. */
-static void end_cell(Desk *self, uint32_t number, PyObject *outcome, bool is_error)
+static void end_cell(Desk *self, uint32_t number, PyObject *outcome, Ending ending)
 {
     PyObject *waiters = self->cells[number].what, *ended = NULL;
     Py_ssize_t count = waiters == NULL ? 0 : PyList_CheckExact(waiters) ? PyList_GET_SIZE(waiters) : 1;
 
     Py_INCREF(outcome);
     self->cells[number].what = outcome;
-    self->cells[number].state = is_error ? ERROR : VALUE;
+    self->cells[number].state = ending == WITH_VALUE ? VALUE : ERROR;
     for (Py_ssize_t i = 0; i < count; i++) {
         PyObject *future = PyList_CheckExact(waiters) ? PyList_GET_ITEM(waiters, i) : waiters;
-        if (end_future(future, outcome, is_error)) {
+        if (end_future(future, outcome, ending)) {
             Py_INCREF(future);
             Py_XSETREF(ended, future);
         }
@@ -1035,24 +1051,56 @@ static bool is_number(PyObject *given, uint32_t *number)
 }
 
 /* Ends a cell with an exception, in a form that its waiters see. */
-static void end_with_error(Desk *self, uint32_t number, PyObject *error)
+static void end_with_error(Desk *self, uint32_t number, PyObject *error, Ending ending, const char *told)
 {
-    PyObject *held = held_error(error);
+    PyObject *held = held_error(error, told);
 
     if (held == NULL) {
         PyErr_Clear();
     }
-    end_cell(self, number, held == NULL ? PyExc_MemoryError : held, true);
+    end_cell(self, number, held == NULL ? PyExc_MemoryError : held, ending);
     Py_XDECREF(held);
 }
 
-static void end_with(Desk *self, uint32_t number, PyObject *outcome)
+static void end_with(Desk *self, uint32_t number, PyObject *outcome, const char *told)
 {
     if (PyExceptionInstance_Check(outcome)) {
-        end_with_error(self, number, outcome);
+        end_with_error(self, number, outcome, WITH_ERROR, told);
     } else {
-        end_cell(self, number, outcome, false);
+        end_cell(self, number, outcome, WITH_VALUE);
     }
+}
+
+/* Has the cache map forget a cell that fails, if it holds it still. */
+static void forget_mapped(Desk *self, uint32_t number)
+{
+    PyObject *key = self->cells[number].key, *what = self->cells[number].what;
+    PyObject *cache_key = key == NULL ? NULL : cache_key_of(self, key);
+    PyObject *held = cache_key == NULL ? NULL : of_cache_map(self, get_name, cache_key);
+
+    if (held != NULL && held == what) {
+        Py_SETREF(held, of_cache_map(self, pop_name, cache_key));
+    }
+    if (PyErr_Occurred()) {
+        PyErr_WriteUnraisable((PyObject *)self);
+    }
+    Py_XDECREF(held);
+    Py_XDECREF(cache_key);
+}
+
+/* Ends a cell with the fault of its batch, and forgets it. Nobody is told of what was cancelled who doesn't ask, as asyncio has
+ * it. */
+static void fail_cell(Desk *self, uint32_t number, PyObject *fault, bool is_called)
+{
+    if (self->cache_map != NULL) {
+        forget_mapped(self, number);
+    }
+    if (is_cancelled(fault)) {
+        end_with_error(self, number, fault, WITH_SILENT_ERROR, is_called ? GIVEN : NOT_CALLED);
+    } else {
+        end_with_error(self, number, fault, WITH_ERROR, GIVEN);
+    }
+    lose_cell(self, number);
 }
 
 /* The values of a batch function's answer, as many as there are members that wait for one: a tuple, or NULL with an exception. */
@@ -1095,28 +1143,11 @@ static PyObject *desk_settle(Desk *self, PyObject *const *args, Py_ssize_t count
     }
     for (uint32_t index = 0; (member = dl_desk_member(&self->desk, batch, index)).code == DL_HIT; index++) {
         if (self->cells[member.cell].state == SENT) {
-            end_with(self, member.cell, PyTuple_GET_ITEM(values, place++));
+            end_with(self, member.cell, PyTuple_GET_ITEM(values, place++), GIVEN);
         }
     }
     Py_DECREF(values);
     Py_RETURN_NONE;
-}
-
-/* Has the cache map forget a cell that fails, if it holds it still. */
-static void forget_mapped(Desk *self, uint32_t number)
-{
-    PyObject *key = self->cells[number].key, *what = self->cells[number].what;
-    PyObject *cache_key = key == NULL ? NULL : cache_key_of(self, key);
-    PyObject *held = cache_key == NULL ? NULL : of_cache_map(self, get_name, cache_key);
-
-    if (held != NULL && held == what) {
-        Py_SETREF(held, of_cache_map(self, pop_name, cache_key));
-    }
-    if (PyErr_Occurred()) {
-        PyErr_WriteUnraisable((PyObject *)self);
-    }
-    Py_XDECREF(held);
-    Py_XDECREF(cache_key);
 }
 
 static PyObject *desk_fail(Desk *self, PyObject *const *args, Py_ssize_t count)
@@ -1124,8 +1155,8 @@ static PyObject *desk_fail(Desk *self, PyObject *const *args, Py_ssize_t count)
     uint32_t batch, code;
     dl_loaded member;
 
-    if (count != 2) {
-        PyErr_SetString(PyExc_TypeError, "_fail takes a batch and an exception");
+    if (count != 3) {
+        PyErr_SetString(PyExc_TypeError, "_fail takes a batch, an exception, and whether the batch function was called");
         return NULL;
     }
     if (!is_number(args[0], &batch)) {
@@ -1141,12 +1172,7 @@ static PyObject *desk_fail(Desk *self, PyObject *const *args, Py_ssize_t count)
     self->counts.failures++;
     for (uint32_t index = 0; (member = dl_desk_member(&self->desk, batch, index)).code == DL_HIT; index++) {
         if (self->cells[member.cell].state == SENT) {
-            if (self->cache_map != NULL) {
-                forget_mapped(self, member.cell);
-            }
-            end_with_error(self, member.cell, args[1]);
-            /* It is held no more. */
-            lose_cell(self, member.cell);
+            fail_cell(self, member.cell, args[1], args[2] == Py_True);
         }
     }
     Py_RETURN_NONE;
@@ -1160,8 +1186,7 @@ static PyObject *desk_abandon(Desk *self, PyObject *fault)
     self->is_collecting = false;
     for (uint32_t number = 0; number < self->cell_count; number++) {
         if (self->cells[number].state == COLLECTED) {
-            end_with_error(self, number, fault);
-            lose_cell(self, number);
+            fail_cell(self, number, fault, false);
             is_any = true;
         }
     }
@@ -1184,7 +1209,7 @@ static PyObject *desk_end(Desk *self, PyObject *const *args, Py_ssize_t count)
         return NULL;
     }
     if (number < self->cell_count && self->cells[number].state == SENT) {
-        end_with(self, number, args[1]);
+        end_with(self, number, args[1], PRIMED);
         if (self->cells[number].state == ENDED && PyExceptionInstance_Check(args[1])) {
             /* It is looked at, so that the loop doesn't report it. */
             PyObject *error = PyObject_CallMethodNoArgs(self->cells[number].what, exception_name);
@@ -1336,7 +1361,8 @@ static PyMethodDef desk_methods[] = {
     {"_settle", CALL(desk_settle), METH_FASTCALL,
      PyDoc_STR("Ends a batch with an outcome for each key. An answer that has another number of them raises, and ends nothing.")},
     {"_fail", CALL(desk_fail), METH_FASTCALL,
-     PyDoc_STR("Ends a batch with a fault of the whole, unless it has ended: its keys are forgotten.")},
+     PyDoc_STR("Ends a batch with a fault of the whole, unless it has ended: its keys are forgotten. Last stands whether the "
+               "batch function was called.")},
     {"_abandon", CALL(desk_abandon), METH_O, PyDoc_STR("Ends what is collected with a fault.")},
     {"__class_getitem__", (PyCFunction)Py_GenericAlias, METH_O | METH_CLASS, NULL},
     {NULL, NULL, 0, NULL},

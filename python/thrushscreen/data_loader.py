@@ -249,7 +249,7 @@ class DataLoader(Desk[K, V]):
                 task = self._start(self._fetch_soon(batch, keys))
             except BaseException as fault:
                 for left, _ in batches[place:]:
-                    self._fail(left, fault)
+                    self._fail(left, fault, False)
                 raise
             if not task.done():
                 self._fetches[batch] = task
@@ -258,7 +258,7 @@ class DataLoader(Desk[K, V]):
         try:
             await _NEXT_TURN
         except asyncio.CancelledError as fault:
-            self._fail(batch, fault)
+            self._fail(batch, fault, False)
             raise
         await self._fetch(batch, keys)
 
@@ -276,7 +276,7 @@ class DataLoader(Desk[K, V]):
             # The event loop is gone, and who waited with it.
             raise
         except BaseException as fault:
-            self._fail(batch, fault)
+            self._fail(batch, fault, True)
             if not isinstance(fault, Exception):
                 raise
         finally:
