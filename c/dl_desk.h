@@ -29,7 +29,8 @@ typedef struct dl_desk {
     void *held;
 } dl_desk;
 
-/* What a call answers. */
+/* What a call answers. DL_DONE and DL_HIT are one number, and so are DL_FRESH and DL_NONE: which is meant, the call tells. So
+ * whoever prints codes needs to know of each the call that answered it. */
 enum {
     DL_DONE = 0,             /* the call is made */
     DL_HIT = 0,              /* a cell is found; of a prime: the key is held already */
