@@ -24,16 +24,16 @@ use Rattle.dl_terms.proofs.term.Term.TheLaws.TheKnot.{crosses as terms_cross}
 use Rattle.dl_terms.proofs.answer_value.AnswerValue.TheLaws.TheKnot.{crosses as answers_cross}
 use Rattle.dl_terms.specs.contracts.answer.Answer as Answer
 use Rattle.dl_terms.specs.contracts.term.Term as Term
-use Rattle.dl_haxl.proofs.fault.RunFault.TheSendSync as fault
+use Rattle.dl_report.proofs.fault.RunFault.TheSendSync as fault
 use Rattle.dl_scope.specs.contracts.tasks.PlanTask as PlanTask
 use Rattle.dl_scope.specs.contracts.tasks.PlanRun as PlanRun
 use Rattle.dl_terms.specs.contracts.plan.Plan as Plan
 use Rattle.dl_terms.specs.contracts.plan.Step as Step
-use Rattle.dl_haxl.specs.contracts.step_answer.StepAnswer as StepAnswer
+use Rattle.dl_report.specs.contracts.step_answer.StepAnswer as StepAnswer
 use Rattle.dl_scope.proofs.server.Resources.TheSendSync as resources
 use Rattle.dl_scope.specs.contracts.server.Resources as Resources
 use Rattle.dl_scope.specs.contracts.server.Server as Server
-use Rattle.dl_haxl.specs.contracts.step_answer.StepAnswers as StepAnswers
+use Rattle.dl_haxl.specs.contracts.step_answers.StepAnswers as StepAnswers
 
 Term-field-send : IsSend Term.the_field.row
 Term-field-send = search (terms_cross, Json-send, key.the_send, owners_cross, maps_cross, sendable) depth 40

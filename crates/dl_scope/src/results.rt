@@ -5,14 +5,13 @@ ghost use Rattle.dl_terms.specs.Plans.{most_plans};
 ghost use Rattle.dl_scope.specs.Faults.{AnyGaveUp, AnyMet, IsLeastFault, IsStop};
 ghost use Rattle.dl_queue.specs.Balance.{Balances};
 ghost use Rattle.dl_queue.specs.Seats.{AreSeatsOf};
-ghost use Rattle.dl_scope.specs.declared.fault.ScopeFault.TheVariants.{OutOfMemory};
+ghost use Rattle.dl_report.specs.declared.fault.ScopeFault.TheVariants.{OutOfMemory};
 ghost use Rattle.dl_scope.specs.Inside.Results.{AllGave, AreResults, IsDone, IsFaultOf, IsNoResult, MetNoOwn, WasTaken, fault_of};
 
-use crate::fault::ScopeFault;
 use crate::tasks::{PlanRun, WorkerRun};
 use crate::threads::Runs;
-use dl_haxl::{RunFault, StepAnswer};
 use dl_loader::{CallFault, LoaderName, Pass};
+use dl_report::{RunFault, ScopeFault, StepAnswer};
 use dl_workers::{JobQueue, Sender, Taker, Tally, WorkerEnd};
 use std::alloc::{AllocError, Global};
 use std::sync::Wait;

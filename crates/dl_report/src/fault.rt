@@ -1,25 +1,63 @@
-//! Why plans aren't served.
+//! Why a term has no answer, and why plans aren't served.
 
 ghost use Rattle.std.specs.Prelude.{◌≡◌};
-ghost use Rattle.dl_scope.specs.declared.fault.ScopeFault.TheVariants as scope;
+ghost use Rattle.dl_report.specs.declared.fault.RunFault.TheVariants as run;
+ghost use Rattle.dl_report.specs.declared.fault.ScopeFault.TheVariants as scope;
 
-use dl_haxl::RunFault;
-use dl_loader::{CloseFault, StartFault};
-use dl_workers::QueueFault;
+use dl_passes::{CallFault, CloseFault, StartFault, Stopped};
+use dl_queue::QueueFault;
 use std::alloc::AllocError;
 use thiserror::Error;
 
-/// Why [`serve`](crate::serve) gives no report, the first cause that applies. `OutOfMemory` has no place in that order: it
+/// Why the evaluation of a term gives no answer. The entries that the pass gained before stay.
+#[derive(Clone, Copy, Debug, PartialEq, Eq, Error)]
+pub enum RunFault {
+    /// The loader refused a call.
+    #[error("{0}")]
+    Call(CallFault),
+    /// The loader is stopped, by another or since an outcome was refused.
+    #[error("the loader is stopped")]
+    Stopped,
+    /// An allocation failed.
+    #[error("out of memory")]
+    OutOfMemory,
+}
+
+impl From<CallFault> for RunFault {
+    ghost from_gives = { λ call fault. fault ≡ run.Call call };
+
+    fn from(fault: CallFault) -> RunFault {
+        RunFault::Call(fault)
+    }
+}
+
+impl From<Stopped> for RunFault {
+    ghost from_gives = { λ _ fault. fault ≡ run.Stopped };
+
+    fn from(_: Stopped) -> RunFault {
+        RunFault::Stopped
+    }
+}
+
+impl From<AllocError> for RunFault {
+    ghost from_gives = { λ _ fault. fault ≡ run.OutOfMemory };
+
+    fn from(_: AllocError) -> RunFault {
+        RunFault::OutOfMemory
+    }
+}
+
+/// Why `dl_scope::serve` gives no report, the first cause that applies. `OutOfMemory` has no place in that order: it
 /// comes wherever an allocation failed or a thread was refused.
 #[derive(Clone, Copy, Debug, PartialEq, Eq, Error)]
 pub enum ScopeFault {
     /// There is no plan.
     #[error("there is no plan")]
     NoPlans,
-    /// There are more than [`MOST_PLANS`](crate::MOST_PLANS) plans.
+    /// There are more than [`MOST_PLANS`](dl_terms::MOST_PLANS) plans.
     #[error("there are too many plans")]
     TooManyPlans,
-    /// The number of workers isn't 1 to [`MOST_WORKERS`](crate::MOST_WORKERS).
+    /// The number of workers isn't 1 to 16 (`dl_scope::MOST_WORKERS`).
     #[error("the number of workers is out of range")]
     BadWorkers,
     /// The loader can't be started.

@@ -1,7 +1,7 @@
 use Rattle.std.proofs.Common.{rules, length, take, drop, ◌-◌}
 use Rattle.std.proofs.lemmas.List.{take_rest}
 use Rattle.dl_plans.proofs.Bytes.{wrote_more}
-use Rattle.dl_plans.proofs.program.write_all.Goals as goal
+use Rattle.dl_plans.proofs.streams.write_all.Goals as goal
 
 pub writes-preserved : goal.writes-preserved
 writes-preserved g c = record {

@@ -1,8 +1,8 @@
 use Rattle.std.proofs.Common.{rules, arith, ℕ, ◌<◌, ◌+◌, ◌≤◌, length}
 use Rattle.std.proofs.lemmas.List.{length-take}
-use Rattle.dl_plans.specs.declared.program.TheConstants.{MOST_READ}
+use Rattle.dl_plans.specs.declared.streams.TheConstants.{MOST_READ}
 use Rattle.dl_plans.proofs.Bytes.{read_end, read_full, reads_more}
-use Rattle.dl_plans.proofs.program.read_all.Goals as goal
+use Rattle.dl_plans.proofs.streams.read_all.Goals as goal
 
 pub returns-in-Ok-eq0-clause-bytes : goal.returns-in-Ok-eq0-clause-bytes
 returns-in-Ok-eq0-clause-bytes g c =

@@ -1,16 +1,16 @@
-//! Running the program over a reader and a writer.
+//! Answering a document over a reader and a writer.
 
-ghost use Rattle.std.specs.Prelude.{◌≡◌, ◌≢◌, ◌⊎◌, ◌+◌, IfOk, IfErr, IfSome, OnOk, take, string_bytes};
-ghost use Rattle.std.specs.Io.KnownBytes.{Appends, Keeps};
+ghost use Rattle.std.specs.Prelude.{◌≡◌, ◌≢◌, ◌+◌, IfOk, IfErr, IfSome, OnOk, string_bytes};
+ghost use Rattle.std.specs.Io.KnownBytes.{Keeps};
 ghost use Rattle.dl_documents.specs.Faults.{most_bytes};
+ghost use Rattle.dl_plans.specs.Run.{Writes, WritesFront, ReadsAtMost, file_service, setup_of};
 ghost use Rattle.dl_scope.specs.Faults.{RefusedAs};
 ghost use Rattle.dl_scope.specs.Headline.{Headline};
-ghost use Rattle.dl_plans.specs.Run.{IsOutput, Writes, WritesFront, AppendsFront, IsRefused, ReadsAtMost, file_service, setup_of};
+ghost use Rattle.plans.specs.Run.{IsOutput, IsRefused};
 
-use crate::fault::RunError;
-use crate::report::report_text;
 use dl_command::Options;
-use dl_documents::{Input, MOST_BYTES, PlanFault, PlanFile, read_input};
+use dl_documents::{Input, PlanFault, PlanFile, read_input};
+use dl_plans::{QUEUE_PLACES, RunError, read_all, report_text, write_all};
 use dl_scope::{Report, ScopeFault, Setup, serve};
 use dl_scripts::run_script;
 use dl_workers::NoGate;
@@ -20,15 +20,6 @@ use std::io::{Read, Write};
 use std::sync::Wait;
 use std::thread::Threads;
 
-/// The most bytes that are read: one more than a document has.
-const MOST_READ: usize = MOST_BYTES + 1;
-
-/// How many bytes are asked for at a time.
-const BUFFER_BYTES: usize = 4096;
-
-/// For how many jobs the queue between plans and workers has room.
-const QUEUE_PLACES: u32 = 16;
-
 /// Reads a document, and writes the text that it gives once all of it is made. At most one byte more is read than
 /// a document has. The plans of a plan file are served at once, each on a thread of its own, and as many workers as the
 /// options say fetch for them; a script has no use for the options. Keys are hashed by `hashing`, of which nothing is seen.
@@ -37,7 +28,7 @@ const QUEUE_PLACES: u32 = 16;
 /// `Read` where the reader fails, `Refused` where what it holds is no document, `Run` where the plans of a plan file
 /// aren't served, `OutOfMemory` where an allocation failed, and `Write` where the writer fails. Only after `Write` something
 /// may be written: a front of the text.
-pub fn run<R: Read, W: Write, T: Threads + Wait + Sync>(
+pub(crate) fn run<R: Read, W: Write, T: Threads + Wait + Sync>(
     rt: &T,
     alloc: Global,
     hashing: RandomState,
@@ -88,11 +79,11 @@ fn output<T: Threads + Wait + Sync>(
 }
 
 /// What serving the plans of a file over its tables leaves: at once, each on a thread of its own, within the limits of the file,
-/// by as many workers as the options say, over a queue of `QUEUE_PLACES`.
+/// by as many workers as the options say, over a queue of [`QUEUE_PLACES`].
 ///
 /// # Errors
 /// Those of [`serve`].
-pub fn served<T: Threads + Wait + Sync>(
+fn served<T: Threads + Wait + Sync>(
     rt: &T,
     alloc: Global,
     hashing: RandomState,
@@ -115,49 +106,4 @@ pub fn served<T: Threads + Wait + Sync>(
         queue: QUEUE_PLACES,
     };
     serve(rt, alloc, hashing, &tables, setup, plans, &NoGate)
-}
-
-/// The bytes that the reader has, up to one more than a document's. A read is repeated until it
-/// gives nothing.
-///
-/// # Errors
-/// `Read` at a read that fails, also an interrupted one, and `OutOfMemory` where an allocation failed.
-pub fn read_all<R: Read>(alloc: Global, reader: &mut R) -> Result<Vec<u8>, RunError>
-    ensures bytes { IfOk result (λ v. IfSome (R.remaining reader.old) (λ bytes. v.items ≡ take (most_bytes + 1) bytes)) }
-    ensures reads { ReadsAtMost (most_bytes + 1) (R.remaining reader.old) (R.remaining reader.new) }
-    ensures err { IfErr result (λ e. (e ≡ RunError.Read) ⊎ (e ≡ RunError.OutOfMemory)) }
-{
-    let mut bytes = Vec::new(alloc);
-    let mut buffer = [0; BUFFER_BYTES];
-    'reads: while bytes.len() < MOST_READ {
-        let room = BUFFER_BYTES.min(MOST_READ - bytes.len());
-        match reader.read(&mut buffer[..room]) {
-            Ok(0) => return Ok(bytes),
-            Ok(count) => bytes
-                .extend_from_slice(&buffer[..count])
-                .map_err(|_| RunError::OutOfMemory)?,
-            Err(_) => return Err(RunError::Read),
-        }
-    }
-    Ok(bytes)
-}
-
-/// Writes the text and flushes.
-///
-/// # Errors
-/// `Write` at a write that fails, also an interrupted one, or takes nothing, and at a flush that
-/// fails. What was written is then a front of the text.
-pub fn write_all<W: Write>(writer: &mut W, text: &[u8]) -> Result<(), RunError>
-    ensures ok { OnOk result (Appends (W.contents writer.old) (W.contents writer.new) text.now) }
-    ensures err { IfErr result (λ e. e ≡ RunError.Write) }
-    ensures front { AppendsFront (W.contents writer.old) (W.contents writer.new) text.now }
-{
-    let mut at = 0;
-    'writes: while at < text.len() {
-        match writer.write(&text[at..]) {
-            Ok(0) | Err(_) => return Err(RunError::Write),
-            Ok(count) => at += count,
-        }
-    }
-    writer.flush().map_err(|_| RunError::Write)
 }

@@ -2,22 +2,7 @@
 
 ghost use Rattle.std.specs.Prelude.{◌≡◌};
 
-use dl_terms::Answer;
-
-/// The answer of a step's term.
-pub struct StepAnswer {
-    /// The step's place in its plan, counted from 0.
-    pub step: usize,
-    /// What its term gives.
-    pub answer: Answer,
-}
-
-impl Drop for StepAnswer {
-    fn drop(self) {
-        let StepAnswer { step: _, answer } = self;
-        drop(answer);
-    }
-}
+use dl_report::StepAnswer;
 
 /// What the steps of a plan gave.
 pub struct StepAnswers {

@@ -1,8 +1,8 @@
 -- What was read are the reader's first bytes.
 use Rattle.std.proofs.Common.{◌≡◌, ◌≤◌, ◌-◌, length, vec_len}
 use Rattle.std.specs.Io.KnownBytes.{Consumes}
-use Rattle.dl_plans.specs.declared.program.TheConstants.{MOST_READ, BUFFER_BYTES}
-use Rattle.dl_plans.proofs.program.read_all.Given as goal
+use Rattle.dl_plans.specs.declared.streams.TheConstants.{MOST_READ, BUFFER_BYTES}
+use Rattle.dl_plans.proofs.streams.read_all.Given as goal
 
 abbrev pub invariant-reads : goal.invariant-reads
 invariant-reads g l = record {

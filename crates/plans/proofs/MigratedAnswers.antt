@@ -9,14 +9,15 @@ use Rattle.dl_migration.proofs.SecondVersion.{migrated_is_the_same}
 use Rattle.dl_source.specs.Answer.{answer_of}
 use Rattle.dl_source.specs.Tables.{Tables}
 use Rattle.dl_scope.specs.EqualAnswers.{evaluated, evaluations, AnswersAreEqual}
-use Rattle.dl_scope.specs.Headline.{Headline, service_of}
+use Rattle.dl_report.specs.Setup.{service_of}
+use Rattle.dl_scope.specs.Headline.{Headline}
 use Rattle.dl_scope.specs.OwnAnswers.{PrimesNoKey}
 use Rattle.dl_terms.specs.Tree.{Tree}
 use Rattle.dl_terms.specs.declared.plan.Plan.{Plan}
 use Rattle.dl_terms.specs.declared.plan.Step.{Step}
 use Rattle.dl_terms.specs.declared.plan.Step.TheVariants.{Prime, Clear, ClearAll, Eval}
-use Rattle.dl_plans.specs.MigratedAnswers.{MigratedAnswersAreEqual}
 use Rattle.dl_plans.specs.Run.{setup_of}
+use Rattle.plans.specs.MigratedAnswers.{MigratedAnswersAreEqual}
 
 -- ---- what the tree of a step tells
 

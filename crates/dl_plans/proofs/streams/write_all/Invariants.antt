@@ -1,7 +1,7 @@
 -- The writer has gained the front of the text.
 use Rattle.std.proofs.Common.{length, ◌-◌, ◌≤◌, take}
 use Rattle.std.specs.Io.KnownBytes.{Appends}
-use Rattle.dl_plans.proofs.program.write_all.Given as goal
+use Rattle.dl_plans.proofs.streams.write_all.Given as goal
 
 abbrev pub invariant-writes : goal.invariant-writes
 invariant-writes g l = record {

@@ -2,7 +2,7 @@
 use Rattle.std.specs.Prelude.{ℕ, List}
 use Rattle.dl_history.specs.ClosedHistory.{History}
 use Rattle.dl_queue.specs.declared.queue.Tally.{Tally}
-use Rattle.dl_haxl.specs.declared.step_answer.StepAnswer.{StepAnswer}
+use Rattle.dl_report.specs.declared.step_answer.StepAnswer.{StepAnswer}
 
 -- for each plan the answers of its terms and the number of its rounds, and of all plans the history and the tally of the jobs
 pub record Report : Type 0 where

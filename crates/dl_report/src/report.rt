@@ -1,11 +1,11 @@
 //! What serving plans leaves.
 
 ghost use Rattle.std.specs.Prelude.{◌≡◌, map};
-ghost use Rattle.dl_scope.specs.Report.{report};
+ghost use Rattle.dl_report.specs.Report.{report};
 
-use dl_haxl::StepAnswer;
-use dl_loader::History;
-use dl_workers::Tally;
+use crate::step_answer::StepAnswer;
+use dl_history::History;
+use dl_queue::Tally;
 use std::marker::Model;
 
 /// What serving plans leaves: the answers of their terms, how many rounds of loads they took, the history that all loads,
@@ -33,10 +33,10 @@ impl Drop for Report {
 
 impl Model for Report {
     ghost use Rattle.std.specs.Prelude.{map};
-    ghost use Rattle.dl_scope.specs.Report.{Report, report};
+    ghost use Rattle.dl_report.specs.Report.{Report, report};
     ghost use Rattle.std.specs.Coded.{codes};
     ghost use Rattle.dl_history.specs.contracts.history.History as closed;
-    ghost use Rattle.dl_haxl.specs.contracts.step_answer.StepAnswer as answer;
+    ghost use Rattle.dl_report.specs.contracts.step_answer.StepAnswer as answer;
 
     ghost Value = { Report };
 
@@ -47,7 +47,7 @@ impl Model for Report {
 
 impl Report {
     /// The report of these.
-    pub(crate) fn of(
+    pub fn of(
         answers: Vec<Vec<StepAnswer>>,
         rounds: Vec<u64>,
         history: History,
