@@ -1,14 +1,14 @@
 -- What is refused of the first bytes is refused of all.
-use Rattle.std.proofs.Common.{List, ℕ, take}
+use Rattle.std.proofs.Common.{ℕ, ◌+◌, List, take}
 use Rattle.dl_command.specs.declared.settings.Options.{Options}
 use Rattle.dl_documents.specs.declared.input.Input.TheVariants as input
 use Rattle.dl_plans.specs.declared.fault.RunError.{RunError}
 use Rattle.dl_plans.specs.declared.fault.RunError.TheVariants as error
-use Rattle.dl_plans.specs.declared.streams.TheConstants.{MOST_READ}
+use Rattle.dl_documents.specs.Faults.{most_bytes}
 use Rattle.dl_plans.proofs.Runs.{document_all, least_all}
 use Rattle.plan_picture.specs.Refusals.{IsRefused}
 
-pub refused_all : (options : Options) (bytes : List ℕ) (e : RunError) → IsRefused options (take MOST_READ bytes) e → IsRefused options bytes e
+pub refused_all : (options : Options) (bytes : List ℕ) (e : RunError) → IsRefused options (take (most_bytes + 1) bytes) e → IsRefused options bytes e
 refused_all options bytes error.Read h = h
 refused_all options bytes (error.Refused f) h = least_all bytes f h
 refused_all options bytes (error.Run f) h = (h.0, document_all bytes (input.Plans h.0) h.1, h.2)
