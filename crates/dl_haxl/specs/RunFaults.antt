@@ -6,7 +6,7 @@ use Rattle.dl_history.specs.declared.event.Call as event
 use Rattle.dl_loader.specs.Book.{SomeCellRefused, SomeStopped}
 use Rattle.dl_loader.specs.EventEffect.{WasRefused}
 use Rattle.dl_loader.specs.Pass.{Trace}
-use Rattle.dl_passes.specs.declared.fault.CallFault.{CallFault}
+use Rattle.dl_loader.specs.declared.fault.CallFault.{CallFault}
 use Rattle.dl_haxl.specs.declared.fault.RunFault.{RunFault}
 use Rattle.dl_haxl.specs.declared.fault.RunFault.TheVariants.{Call, Stopped, OutOfMemory}
 

@@ -31,7 +31,7 @@ impl Model for Outline {
 
 impl Outline {
     /// The outline of a caller whose pass has these entries. The error is a failed allocation.
-    pub fn of<L: LoaderName>(
+    pub(crate) fn of<L: LoaderName>(
         alloc: Global,
         caller: u32,
         entries: &[Entry<L>],

@@ -9,9 +9,9 @@ ghost use Rattle.dl_loader.specs.Refusals.{unready};
 mod close;
 mod record;
 
+use crate::fault::CallFault;
 use dl_desk::{Desk, Limits, LoadReply, TableLimits};
-use dl_history::{CellRows, Journal, LoaderName};
-use dl_passes::{CallFault, Pass, Ticket, load_cell};
+use dl_history::{CellRows, Journal, LoaderName, Pass, Ticket, load_cell};
 use std::alloc::Global;
 use std::hash::RandomState;
 use std::marker::Model;

@@ -16,9 +16,9 @@ mod keys;
 mod loads;
 
 use crate::dues::Due;
+use crate::fault::CallFault;
 use dl_desk::{Desk, LoadReply};
 use dl_history::{Call, Reply};
-use dl_passes::CallFault;
 pub(crate) use ends::{Fail, Settle};
 pub(crate) use keys::{Clear, ClearAll, Dispatch, Prime};
 pub(crate) use loads::{Load, LoadMany};

@@ -4,10 +4,10 @@ ghost use Rattle.std.specs.Prelude.{◌≡◌, IfOk, IfErr, OnOk};
 ghost use Rattle.dl_values.specs.Limits.{mixed, by_table, rules_by};
 ghost use Rattle.dl_loader.specs.Opening.{AreCallers, RefusedAs};
 
+use crate::fault::StartFault;
 use dl_cells::CellRow;
 use dl_desk::{Limits, TableLimits};
 use dl_history::{Ending, Event};
-use dl_passes::StartFault;
 use dl_source::Source;
 use std::alloc::Global;
 use std::hash::RandomState;

@@ -13,8 +13,8 @@ use Rattle.dl_values.proofs.outcome.BatchFault.TheSendSync as batch
 use Rattle.dl_history.specs.declared.name.LoaderName as name
 use Rattle.dl_history.proofs.ThreadSafety.{Json-send, Outcome-field-send}
 use Rattle.dl_loader.specs.contracts.loader.Loader as Loader
-use Rattle.dl_passes.specs.contracts.pass.Pass as Pass
-use Rattle.dl_passes.proofs.pass.Pass.TheSendSync as pass
+use Rattle.dl_history.specs.contracts.pass.Pass as Pass
+use Rattle.dl_history.proofs.pass.Pass.TheSendSync as pass
 use Rattle.dl_loader.proofs.ThreadSafety.{Loader-sync}
 use Rattle.dl_queue.specs.contracts.queue.JobQueue as JobQueue
 use Rattle.dl_queue.proofs.queue.JobQueue.TheSendSync as queue

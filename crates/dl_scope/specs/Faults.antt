@@ -7,9 +7,9 @@ use Rattle.dl_haxl.specs.declared.fault.RunFault.{RunFault}
 use Rattle.dl_haxl.specs.declared.fault.RunFault.TheVariants as run
 use Rattle.dl_loader.specs.Book.{Keeps, Book}
 use Rattle.dl_loader.specs.CloseRefusals.{IsLeastOf, RefusesClose}
-use Rattle.dl_passes.specs.declared.fault.CallFault.TheVariants as call
-use Rattle.dl_passes.specs.declared.fault.CloseFault.{CloseFault}
-use Rattle.dl_passes.specs.declared.fault.StartFault.TheVariants as start
+use Rattle.dl_loader.specs.declared.fault.CallFault.TheVariants as call
+use Rattle.dl_loader.specs.declared.fault.CloseFault.{CloseFault}
+use Rattle.dl_loader.specs.declared.fault.StartFault.TheVariants as start
 use Rattle.dl_terms.specs.Plans.{ArePlans, most_plans}
 use Rattle.dl_terms.specs.declared.plan.Plan.{Plan}
 use Rattle.dl_queue.specs.QueueFaults as queue

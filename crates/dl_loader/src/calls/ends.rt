@@ -5,15 +5,17 @@ ghost use Rattle.std.specs.Prelude.{◌≡◌, ◌+◌, ◌<◌, IfErr, IfOk, On
 ghost use Rattle.dl_source.specs.Fetched.{answer_of, job_of, source_of};
 ghost use Rattle.dl_history.specs.declared.event.Call.TheVariants as call;
 ghost use Rattle.dl_history.specs.declared.event.Reply.TheVariants as reply;
-ghost use Rattle.dl_passes.specs.Asks.{end_by, fault_of};
+ghost use Rattle.dl_loader.specs.Asks.{end_by, fault_of};
 ghost use Rattle.dl_loader.specs.Book.{SomeCellRefused};
 ghost use Rattle.dl_loader.specs.EventEffect.{WasMade, WasRefused};
 
+use crate::ask::GiveUp;
 use crate::event_call::{Fail, Settle};
+use crate::fault::CallFault;
 use crate::loader::Loader;
+use crate::reply::Settled;
 use dl_desk::Job;
-use dl_history::LoaderName;
-use dl_passes::{CallFault, GiveUp, Pass, Settled};
+use dl_history::{LoaderName, Pass};
 use dl_source::{Fetched, Source};
 use std::alloc::Global;
 use std::sync::Wait;

@@ -4,15 +4,16 @@ ghost use Rattle.std.specs.Prelude.{◌≡◌, ◌<◌, ◌≤◌, None, IfErr, 
 ghost use Rattle.dl_history.specs.History.{primed};
 ghost use Rattle.dl_history.specs.declared.event.Call.TheVariants as call;
 ghost use Rattle.dl_history.specs.declared.event.Reply.TheVariants as reply;
-ghost use Rattle.dl_passes.specs.EventReplies.{refused_by, reply_by};
+ghost use Rattle.dl_loader.specs.EventReplies.{refused_by, reply_by};
 ghost use Rattle.dl_loader.specs.Book.{SomeCellRefused};
 ghost use Rattle.dl_loader.specs.EventEffect.{WasMade, WasRefused};
 
 use crate::event_call::{Clear, ClearAll, Dispatch, Prime};
+use crate::fault::CallFault;
 use crate::loader::Loader;
+use crate::reply::{PrimeReply, Settled};
 use dl_desk::{DeskPrime, FetchKey, Job, Outcome};
-use dl_history::LoaderName;
-use dl_passes::{CallFault, Pass, PrimeReply, Settled};
+use dl_history::{LoaderName, Pass};
 use std::alloc::Global;
 use std::sync::Wait;
 

@@ -4,13 +4,13 @@ ghost use Rattle.std.specs.Prelude.{◌≡◌, false, IfErr, IfOk, None, OnErr, 
 ghost use Rattle.dl_history.specs.declared.event.Call.TheVariants as call;
 ghost use Rattle.dl_history.specs.declared.event.Reply.TheVariants as reply;
 ghost use Rattle.dl_loader.specs.EventEffect.{WasMade, WasRefused};
-ghost use Rattle.dl_passes.specs.Pass.{GaveTicket, GaveTickets};
+ghost use Rattle.dl_history.specs.Pass.{GaveTicket, GaveTickets};
 
 use crate::event_call::{Load, LoadMany};
+use crate::fault::CallFault;
 use crate::loader::Loader;
 use dl_desk::FetchKey;
-use dl_history::LoaderName;
-use dl_passes::{CallFault, Pass, Ticket};
+use dl_history::{LoaderName, Pass, Ticket};
 use std::alloc::Global;
 use std::sync::Wait;
 

@@ -10,9 +10,9 @@ ghost use Rattle.dl_loader.specs.EventEffect.{loads_of};
 
 use crate::dues::dues;
 use crate::event_call::{EventCall, Prepared};
+use crate::fault::CallFault;
 use dl_desk::{Desk, DeskPrime, FetchKey, Job, LoadReply, Outcome};
 use dl_history::{Call, Jobs, Reply, Shared};
-use dl_passes::CallFault;
 use std::alloc::Global;
 use std::marker::Model;
 use std::slice;

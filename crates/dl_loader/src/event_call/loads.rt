@@ -7,9 +7,9 @@ ghost use Rattle.dl_history.specs.declared.event.Reply.TheVariants as reply;
 ghost use Rattle.dl_loader.specs.Inside.Preparation.{IsReady};
 
 use crate::event_call::{EventCall, Prepared};
+use crate::fault::CallFault;
 use dl_desk::{Desk, FetchKey, Keys, LoadReply};
 use dl_history::{Call, Replies, Reply, Shared};
-use dl_passes::CallFault;
 use std::alloc::Global;
 use std::slice;
 

@@ -1,5 +1,5 @@
 use Rattle.std.proofs.Common.{◌≡◌, ◌+◌, map}
-use Rattle.dl_passes.specs.Pass.{new_traces}
+use Rattle.dl_history.specs.Pass.{new_traces}
 use Rattle.dl_loader.proofs.loader.deal.Given as goal
 
 abbrev pub invariant-loop-caller : goal.invariant-loop-caller
