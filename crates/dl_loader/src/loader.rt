@@ -192,7 +192,7 @@ fn deal<L: LoaderName>(
 {
     let mut passes = Vec::with_capacity(alloc, callers as usize)?;
     for caller in 0..callers {
-        passes.push(Pass::fresh(alloc, caller, all.split_off(1, 0)))?;
+        passes.push_reserved(Pass::fresh(alloc, caller, all.split_off(1, 0)));
     }
     Ok(passes)
 }

@@ -95,7 +95,7 @@ fn outlines_of<L: LoaderName>(alloc: Global, passes: &[Pass<L>]) -> Result<Vec<O
 {
     let mut outlines = Vec::with_capacity(alloc, passes.len())?;
     for pass in passes {
-        outlines.push(pass.outline(alloc)?)?;
+        outlines.push_reserved(pass.outline(alloc)?);
     }
     Ok(outlines)
 }
