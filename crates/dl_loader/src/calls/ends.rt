@@ -43,8 +43,7 @@ impl<L: LoaderName> Loader<L> {
         ensures back { IfErr result (λ e. e.1 ≡ fetched.entry) }
         ensures unchanged { OnErr result (pass.new.trace ≡ pass.old.trace) }
     {
-        let mut book = self.book.lock(rt);
-        match book.make(alloc, &self.rows, pass, &Settle { fetched: &fetched }) {
+        match self.call(rt, alloc, pass, &Settle { fetched: &fetched }) {
             Ok((_, settled)) => {
                 self.wake();
                 Ok(settled)
@@ -74,8 +73,7 @@ impl<L: LoaderName> Loader<L> {
         ensures back { IfErr result (λ e. e.1 ≡ job) }
         ensures unchanged { OnErr result (pass.new.trace ≡ pass.old.trace) }
     {
-        let mut book = self.book.lock(rt);
-        match book.make(alloc, &self.rows, pass, &Fail { job: &job, give_up }) {
+        match self.call(rt, alloc, pass, &Fail { job: &job, give_up }) {
             Ok((_, settled)) => {
                 self.wake();
                 Ok(settled)

@@ -41,8 +41,7 @@ impl<L: LoaderName> Loader<L> {
             key,
             outcome: &outcome,
         };
-        let mut book = self.book.lock(rt);
-        let (reply, ended) = book.make(alloc, &self.rows, pass, &call)?;
+        let (reply, ended) = self.call(rt, alloc, pass, &call)?;
         Ok(prime_reply(reply, ended))
     }
 
@@ -62,8 +61,7 @@ impl<L: LoaderName> Loader<L> {
         ensures fault { IfErr result (WasRefused L.service pass.old.trace (call.Clear key.now) None) }
         ensures unchanged { OnErr result (pass.new.trace ≡ pass.old.trace) }
     {
-        let mut book = self.book.lock(rt);
-        book.make(alloc, &self.rows, pass, &Clear { key })?;
+        self.call(rt, alloc, pass, &Clear { key })?;
         Ok(())
     }
 
@@ -82,8 +80,7 @@ impl<L: LoaderName> Loader<L> {
         ensures fault { IfErr result (WasRefused L.service pass.old.trace call.ClearAll None) }
         ensures unchanged { OnErr result (pass.new.trace ≡ pass.old.trace) }
     {
-        let mut book = self.book.lock(rt);
-        book.make(alloc, &self.rows, pass, &ClearAll)?;
+        self.call(rt, alloc, pass, &ClearAll)?;
         Ok(())
     }
 
@@ -102,8 +99,7 @@ impl<L: LoaderName> Loader<L> {
         ensures fault { IfErr result (WasRefused L.service pass.old.trace call.Dispatch None) }
         ensures unchanged { OnErr result (pass.new.trace ≡ pass.old.trace) }
     {
-        let mut book = self.book.lock(rt);
-        let (sent, _) = book.make(alloc, &self.rows, pass, &Dispatch)?;
+        let (sent, _) = self.call(rt, alloc, pass, &Dispatch)?;
         Ok(sent.into_jobs())
     }
 }

@@ -2,7 +2,7 @@ use Rattle.std.proofs.Common.{◌≡◌, ◌∙◌, ap, sym, length, arith}
 use Rattle.std.proofs.lemmas.List.{length-map}
 use Rattle.dl_loader.proofs.LoadCells.{loads_long}
 use Rattle.dl_loader.proofs.NewTickets.{tickets_last, gave_loads}
-use Rattle.dl_loader.proofs.loader.Loader.load_many.Goals as goal
+use Rattle.dl_loader.proofs.book.Book.load_many.Goals as goal
 
 pub make_tickets-requires-clause-begun : goal.make_tickets-requires-clause-begun
 make_tickets-requires-clause-begun g c = rw (c.as_slice.ensures, c.deref.ensures) c.in_ok-replies.ensures.begun
