@@ -220,9 +220,10 @@ impl EventCall for Dispatch {
     ) -> Result<Prepared<SentJobs>, CallFault> {
         let jobs = desk.prepare_dispatch(alloc)?;
         let told = Shared::new(alloc, Jobs::copy_of(alloc, jobs.as_slice())?)?;
+        let again = told.again()?;
         Ok(Prepared {
             call: Call::Dispatch,
-            reply: Reply::Sent(told.again()?),
+            reply: Reply::Sent(again),
             dues: Vec::new(alloc),
             answer: SentJobs { jobs, told },
         })

@@ -90,9 +90,11 @@ impl EventCall for LoadMany<'_> {
     ) -> Result<Prepared<Shared<Replies>>, CallFault> {
         let replies = desk.prepare_loads(alloc, self.keys)?;
         let replies = Shared::new(alloc, Replies::new(replies))?;
+        let told = replies.again()?;
+        let keys = Keys::copy_of(alloc, self.keys)?;
         Ok(Prepared {
-            call: Call::LoadMany(Keys::copy_of(alloc, self.keys)?),
-            reply: Reply::Many(replies.again()?),
+            call: Call::LoadMany(keys),
+            reply: Reply::Many(told),
             dues: Vec::new(alloc),
             answer: replies,
         })
