@@ -735,10 +735,11 @@ class Unretrieved(unittest.TestCase):
         async def main():
             loader = DataLoader(batch_load_fn, **options)
             loader.load(1)
+            loader.load(1).cancel()
             loader.load_many([1, 2])
             await turns(count)
 
-        for options in ({}, {"max_batch_size": 1}, {"batch_schedule_fn": lambda send: send()}):
+        for options in ({}, {"max_batch_size": 1}, {"batch_schedule_fn": lambda send: send()}, {"cache_map": {}}):
             for count in range(9):
                 with self.subTest(options=options, turns=count):
                     self.assertEqual(self.reports_of(main), [])
@@ -764,13 +765,14 @@ class Unretrieved(unittest.TestCase):
         async def answers_an_error(keys):
             return [OSError("no row")]
 
+        async def main():
+            DataLoader(batch_load_fn, cache_map=cache_map).load(1)
+            await turns()
+
         for batch_load_fn, told in ((breaks, "down"), (answers_an_error, "no row")):
-
-            async def main(batch_load_fn=batch_load_fn):
-                DataLoader(batch_load_fn).load(1)
-                await turns()
-
-            self.assertEqual(self.reports_of(main), [told])
+            for cache_map in (None, {}):
+                with self.subTest(told, cache_map=cache_map):
+                    self.assertEqual(self.reports_of(main), [told])
 
 
 if sys.version_info >= (3, 12):

@@ -43,6 +43,7 @@ typedef struct {
     bool is_collecting;        /* whether what is collected will be sent */
     PyObject *get_cache_key;   /* a callable, or NULL */
     PyObject *cache_map;       /* a mapping that is the memo in the desk's place, or NULL */
+    PyObject *silent;          /* a set: the cache map's futures whose error is silent, or NULL */
     PyObject *numbers;         /* a dict: the numbers of keys that are neither a str nor an int, or NULL */
     unsigned long long unique; /* how many numbers were given to loads that find nothing */
     PyObject *loop;            /* the event loop of the first load, or NULL */
@@ -56,7 +57,7 @@ typedef struct {
 /* What this module takes from asyncio, and the names of methods. */
 static PyObject *loader_full, *get_running_loop, *future_type, *base_create_future, *cancelled_error, *invalid_state;
 static PyObject *shield, *schedule_name, *create_future_name, *thread_id_name, *exception_name, *set_result_name,
-    *set_exception_name, *cancel_name, *pop_name, *get_name, *clear_name, *loop_names;
+    *set_exception_name, *add_done_callback_name, *cancel_name, *pop_name, *get_name, *clear_name, *loop_names;
 
 static PyObject *raise_code(uint32_t code)
 {
@@ -637,6 +638,60 @@ static PyObject *of_cache_map(Desk *self, PyObject *method, PyObject *cache_key)
     return PyObject_CallMethodObjArgs(self->cache_map, method, cache_key, Py_None, NULL);
 }
 
+/* Notes that the cache map's future of a cell gets a silent error. */
+static void note_silent(Desk *self, uint32_t number)
+{
+    PyObject *held = self->cells[number].what;
+
+    if (held == NULL) {
+        return;
+    }
+    if (self->silent == NULL) {
+        self->silent = PySet_New(NULL);
+    }
+    if (self->silent == NULL || PySet_Add(self->silent, held) < 0) {
+        PyErr_Clear();
+    }
+}
+
+/* Looks at the error of a load over one of the cache map's futures, where that one's is silent. The first argument is the desk and
+ * the map's future. */
+static PyObject *look_too(PyObject *pair, PyObject *future)
+{
+    Desk *self = (Desk *)PyTuple_GET_ITEM(pair, 0);
+    PyObject *error = NULL;
+
+    if (self->silent != NULL && PySet_Contains(self->silent, PyTuple_GET_ITEM(pair, 1)) == 1) {
+        error = PyObject_CallMethodNoArgs(future, exception_name);
+    }
+    /* A load that its caller has cancelled has none. */
+    PyErr_Clear();
+    Py_XDECREF(error);
+    Py_RETURN_NONE;
+}
+
+static PyMethodDef look_too_method = {"look_too", look_too, METH_O, NULL};
+
+/* A caller's future over one of the cache map's, which is that one where it has ended. */
+static PyObject *future_over(Desk *self, PyObject *held)
+{
+    PyObject *future = PyObject_CallOneArg(shield, held), *pair, *look, *none;
+
+    if (future == NULL || future == held) {
+        return future;
+    }
+    pair = PyTuple_Pack(2, self, held);
+    look = pair == NULL ? NULL : PyCFunction_New(&look_too_method, pair);
+    none = look == NULL ? NULL : PyObject_CallMethodOneArg(future, add_done_callback_name, look);
+    if (none == NULL) {
+        Py_CLEAR(future);
+    }
+    Py_XDECREF(none);
+    Py_XDECREF(look);
+    Py_XDECREF(pair);
+    return future;
+}
+
 /* Loads a key by the cache map, which has a future of each cell. Callers have theirs over it. */
 static PyObject *load_mapped(Desk *self, PyObject *key)
 {
@@ -656,7 +711,7 @@ static PyObject *load_mapped(Desk *self, PyObject *key)
         }
     }
     Py_DECREF(cache_key);
-    future = held == NULL ? NULL : PyObject_CallOneArg(shield, held);
+    future = held == NULL ? NULL : future_over(self, held);
     Py_XDECREF(held);
     return future;
 }
@@ -1096,6 +1151,9 @@ static void fail_cell(Desk *self, uint32_t number, PyObject *fault, bool is_call
         forget_mapped(self, number);
     }
     if (is_cancelled(fault)) {
+        if (self->cache_map != NULL) {
+            note_silent(self, number);
+        }
         end_with_error(self, number, fault, WITH_SILENT_ERROR, is_called ? GIVEN : NOT_CALLED);
     } else {
         end_with_error(self, number, fault, WITH_ERROR, GIVEN);
@@ -1305,6 +1363,7 @@ static int desk_traverse(Desk *self, visitproc visit, void *arg)
     }
     Py_VISIT(self->get_cache_key);
     Py_VISIT(self->cache_map);
+    Py_VISIT(self->silent);
     Py_VISIT(self->numbers);
     Py_VISIT(self->loop);
     Py_VISIT(self->create_future);
@@ -1329,6 +1388,7 @@ static int desk_forget(Desk *self)
     PyMem_Free(cells);
     Py_CLEAR(self->get_cache_key);
     Py_CLEAR(self->cache_map);
+    Py_CLEAR(self->silent);
     Py_CLEAR(self->numbers);
     Py_CLEAR(self->loop);
     Py_CLEAR(self->create_future);
@@ -1407,6 +1467,7 @@ static bool intern_names(void)
            (create_future_name = PyUnicode_InternFromString("create_future")) != NULL &&
            (set_result_name = PyUnicode_InternFromString("set_result")) != NULL &&
            (set_exception_name = PyUnicode_InternFromString("set_exception")) != NULL &&
+           (add_done_callback_name = PyUnicode_InternFromString("add_done_callback")) != NULL &&
            (cancel_name = PyUnicode_InternFromString("cancel")) != NULL &&
            (pop_name = PyUnicode_InternFromString("pop")) != NULL && (get_name = PyUnicode_InternFromString("get")) != NULL &&
            (clear_name = PyUnicode_InternFromString("clear")) != NULL &&
