@@ -222,7 +222,7 @@ impl EventCall for Dispatch {
         let told = Shared::new(alloc, Jobs::copy_of(alloc, jobs.as_slice())?)?;
         Ok(Prepared {
             call: Call::Dispatch,
-            reply: Reply::Sent(told.again()?),
+            reply: Reply::Sent(told.try_copy()?),
             dues: Vec::new(alloc),
             answer: SentJobs { jobs, told },
         })

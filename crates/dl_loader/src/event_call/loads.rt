@@ -92,7 +92,7 @@ impl EventCall for LoadMany<'_> {
         let replies = Shared::new(alloc, Replies::new(replies))?;
         Ok(Prepared {
             call: Call::LoadMany(Keys::copy_of(alloc, self.keys)?),
-            reply: Reply::Many(replies.again()?),
+            reply: Reply::Many(replies.try_copy()?),
             dues: Vec::new(alloc),
             answer: replies,
         })
