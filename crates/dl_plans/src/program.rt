@@ -5,18 +5,21 @@ ghost use Rattle.std.specs.Io.KnownBytes.{Appends, Keeps};
 ghost use Rattle.dl_documents.specs.Faults.{most_bytes};
 ghost use Rattle.dl_scope.specs.Faults.{RefusedAs};
 ghost use Rattle.dl_scope.specs.Headline.{Headline};
+ghost use Rattle.dl_scripts.specs.Output.{script_text};
+ghost use Rattle.dl_plans.specs.ReportText.{report_text};
 ghost use Rattle.dl_plans.specs.Run.{IsOutput, Writes, WritesFront, AppendsFront, IsRefused, ReadsAtMost, file_service, setup_of};
 
 use crate::fault::RunError;
 use crate::report::report_text;
 use dl_command::Options;
-use dl_documents::{Input, MOST_BYTES, PlanFault, PlanFile, read_input};
+use dl_documents::{Input, MOST_BYTES, PlanFault, PlanFile, Script, read_input};
 use dl_scope::{Report, ScopeFault, Setup, serve};
 use dl_scripts::run_script;
 use dl_workers::NoGate;
-use std::alloc::Global;
+use std::alloc::{AllocError, Global};
 use std::hash::RandomState;
 use std::io::{Read, Write};
+use std::mem::forget;
 use std::sync::Wait;
 use std::thread::Threads;
 
@@ -71,12 +74,12 @@ fn output<T: Threads + Wait + Sync>(
     let read = read_input(alloc, hashing, &bytes);
     drop(bytes);
     match read {
-        Ok(Input::Script(script)) => match run_script(alloc, hashing, &script) {
+        Ok(Input::Script(script)) => match text_of_script(alloc, hashing, script) {
             Ok(text) => Ok(text),
             Err(_) => Err(RunError::OutOfMemory),
         },
         Ok(Input::Plans(file)) => match served(rt, alloc, hashing, file, options) {
-            Ok(report) => match report_text(alloc, &report, options.batches) {
+            Ok(report) => match text_of_report(alloc, report, options.batches) {
                 Ok(text) => Ok(text),
                 Err(_) => Err(RunError::OutOfMemory),
             },
@@ -87,8 +90,31 @@ fn output<T: Threads + Wait + Sync>(
     }
 }
 
+/// The text that a script gives. The script isn't taken apart: the process ends, and its memory goes with it.
+fn text_of_script(
+    alloc: Global,
+    hashing: RandomState,
+    script: Script,
+) -> Result<String, AllocError>
+    ensures { IfOk result (λ text. string_bytes text ≡ script_text script) }
+{
+    let text = run_script(alloc, hashing, &script);
+    forget(script);
+    text
+}
+
+/// The text of a report, which isn't taken apart either.
+fn text_of_report(alloc: Global, report: Report, batches: bool) -> Result<String, AllocError>
+    ensures { IfOk result (λ text. string_bytes text ≡ report_text report batches) }
+{
+    let text = report_text(alloc, &report, batches);
+    forget(report);
+    text
+}
+
 /// What serving the plans of a file over its tables leaves: at once, each on a thread of its own, within the limits of the file,
-/// by as many workers as the options say, over a queue of `QUEUE_PLACES`.
+/// by as many workers as the options say, over a queue of `QUEUE_PLACES`. The tables aren't taken apart, since the process ends
+/// soon.
 ///
 /// # Errors
 /// Those of [`serve`].
@@ -114,7 +140,9 @@ pub fn served<T: Threads + Wait + Sync>(
         workers: options.workers,
         queue: QUEUE_PLACES,
     };
-    serve(rt, alloc, hashing, &tables, setup, plans, &NoGate)
+    let left = serve(rt, alloc, hashing, &tables, setup, plans, &NoGate);
+    forget(tables);
+    left
 }
 
 /// The bytes that the reader has, up to one more than a document's. A read is repeated until it
