@@ -91,11 +91,7 @@ fn output<T: Threads + Wait + Sync>(
 }
 
 /// The text that a script gives. The script isn't taken apart: the process ends, and its memory goes with it.
-fn text_of_script(
-    alloc: Global,
-    hashing: RandomState,
-    script: Script,
-) -> Result<String, AllocError>
+fn text_of_script(alloc: Global, hashing: RandomState, script: Script) -> Result<String, AllocError>
     ensures { IfOk result (λ text. string_bytes text ≡ script_text script) }
 {
     let text = run_script(alloc, hashing, &script);
