@@ -14,13 +14,24 @@ use std::marker::Model;
 /// In clauses it is a `Reader`: `cell` says which cell it is of, and `known` is the value, once it
 /// was seen. A reader borrows nothing, and may lie in a struct or go to another thread. It takes two
 /// bytes.
-#[derive(Drop)]
 pub struct Reader<T> {
     pub(crate) segment: Learned<Segment<T>>,
     // The place in the segment, which has 32 cells.
     pub(crate) place: u8,
     // What shows that the cell holds its value, once the holder has seen that.
     pub(crate) value: Option<Written<T>>,
+}
+
+impl<T> Drop for Reader<T> {
+    fn drop(self) {
+        let Reader {
+            segment,
+            place: _,
+            value,
+        } = self;
+        drop(segment);
+        drop(value);
+    }
 }
 
 impl<T> Model for Reader<T> {

@@ -20,10 +20,16 @@ use std::marker::Model;
 /// so a row of which little is used takes little memory: a pointer for each segment.
 ///
 /// In clauses a row is its name: `row_len` is how many cells it has, and `cell_of` the name of one.
-#[derive(Drop)]
 pub struct CellRow<T> {
     segments: Vec<OnceBox<Segment<T>>>,
     len: u32,
+}
+
+impl<T: Drop> Drop for CellRow<T> {
+    fn drop(self) {
+        let CellRow { segments, len: _ } = self;
+        drop(segments);
+    }
 }
 
 impl<T> Model for CellRow<T> {

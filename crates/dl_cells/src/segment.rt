@@ -20,9 +20,15 @@ impl<T> SlotRule<T> for AnyValue {
 pub(crate) type Cell<T> = OnceSlot<T, AnyValue>;
 
 /// Thirty-two cells, in clauses the list of their names.
-#[derive(Drop)]
 pub(crate) struct Segment<T> {
     cells: Vec<Cell<T>>,
+}
+
+impl<T: Drop> Drop for Segment<T> {
+    fn drop(self) {
+        let Segment { cells } = self;
+        drop(cells);
+    }
 }
 
 impl<T> Model for Segment<T> {

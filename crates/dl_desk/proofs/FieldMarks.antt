@@ -21,7 +21,8 @@ use Rattle.dl_desk.proofs.MemoMembers.{held_none, held_more, held_same, held_gro
 -- ---- cutting and showing
 
 -- where a list has the same batches prepared and shown, nothing is prepared
-none_prepared : (xs : List StoredBatch) → map shown_batch xs ≡ map prepared_batch xs → (b : ℕ) (x : StoredBatch) → slice_get xs b ≡ Some x → shown_batch x ≡ prepared_batch x
+none_prepared : (xs : List StoredBatch) → map shown_batch xs ≡ map prepared_batch xs → (b : ℕ) (x : StoredBatch) → slice_get xs b ≡ Some x
+    → shown_batch x ≡ prepared_batch x
 none_prepared xs same b x at =
     let f : slice_get (map shown_batch xs) b ≡ Some (shown_batch x) = rw (slice_get-map shown_batch xs b, at) refl in
     let w : slice_get (map prepared_batch xs) b ≡ Some (prepared_batch x) = rw (slice_get-map prepared_batch xs b, at) refl in
@@ -50,7 +51,14 @@ desk_cut d left ys is w f front = record {
 
 pub desk_shown : (d : DeskFields) (ys : List StoredBatch) → IsDesk d → map prepared_batch ys ≡ map prepared_batch d.batches
     → map shown_batch ys ≡ map prepared_batch d.batches
-    → IsDesk (record d { tables = option_map untouched d.tables; batches = ys; shown = d.prepared; shown_memo = length d.memo; is_prepared = false; touched = d.prepared.begun })
+    → IsDesk (record d {
+      tables = option_map untouched d.tables;
+      batches = ys;
+      shown = d.prepared;
+      shown_memo = length d.memo;
+      is_prepared = false;
+      touched = d.prepared.begun;
+    })
 desk_shown d ys is w f = record {
   prepared_book = rw w is.prepared_book;
   shown_book = rw f is.prepared_book;
@@ -117,11 +125,15 @@ stored_grown e most xs is = record {
   ];
 }
 
+-- what the last place of a grown list has
+blank_last : (xs : List StoredBatch) (b : ℕ) (x : StoredBatch) → b ≡ length xs → slice_get (xs ++ blank ∷ []) b ≡ Some x → blank ≡ x
+blank_last xs b x last at = let e : ◌≡◌ {A = Option StoredBatch} (Some blank) (Some x) = sym (get-append_last xs blank b last) ∙ at in cc
+
 same_grown : (from to : ℕ) (xs : List StoredBatch) → Same from to xs → Same from to (xs ++ blank ∷ [])
 same_grown from to xs same b outside x at = elim (cases_lt b (length xs)) [
   | inl inside ↦ same b outside x (sym (get-append_left xs (blank ∷ []) b inside) ∙ at)
   | inr above ↦ elim (cases_eq b (length xs)) [
-    | inl last ↦ let e : ◌≡◌ {A = Option StoredBatch} (Some blank) (Some x) = sym (get-append_last xs blank b last) ∙ at in let is : blank ≡ x = cc in rw (← is) refl
+    | inl last ↦ rw (← blank_last xs b x last at) refl
     | inr past ↦ let none : slice_get (xs ++ blank ∷ []) b ≡ None = slice_get_past (xs ++ blank ∷ []) b (rw length-append (omega arith)) in
         absurd (let bad : ◌≡◌ {A = Option StoredBatch} None (Some x) = sym none ∙ at in cc)
   ]
@@ -165,7 +177,7 @@ touched_grown ts xs ys are (inr one) = rw one (record {
   same = λ b x at none. elim (cases_lt b (length xs)) [
     | inl inside ↦ are.same b x (sym (get-append_left xs (blank ∷ []) b inside) ∙ at) none
     | inr above ↦ elim (cases_eq b (length xs)) [
-      | inl last ↦ let e : ◌≡◌ {A = Option StoredBatch} (Some blank) (Some x) = sym (get-append_last xs blank b last) ∙ at in let is : blank ≡ x = cc in rw (← is) refl
+      | inl last ↦ rw (← blank_last xs b x last at) refl
       | inr past ↦ let none : slice_get (xs ++ blank ∷ []) b ≡ None = slice_get_past (xs ++ blank ∷ []) b (rw length-append (omega arith)) in
           absurd (let bad : ◌≡◌ {A = Option StoredBatch} None (Some x) = sym none ∙ at in cc)
     ]

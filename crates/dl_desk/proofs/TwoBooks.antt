@@ -78,12 +78,15 @@ pub put_batches : (e : Extent) (most n : ℕ) (m : Key × ℕ) (xs ys : List Sto
     → n ≤ e.begun → take (max e.begun (n + 1)) (map prepared_batch ys) ≡ put_member (take e.begun (map prepared_batch xs)) n m
 put_batches e most n m xs ys is added next =
     let inside : e.begun ≤ length xs = rw length-map at is.all_stored in
-    let front_same : take e.begun (map prepared_batch added.grown) ≡ take e.begun (map prepared_batch xs) = take-grown prepared_batch e.begun xs added.grown inside added.grows in
-    let here : slice_get (map prepared_batch added.grown) n ≡ Some (prepared_batch added.before) = whole_at prepared_batch added.grown n added.before added.at in
+    let front_same : take e.begun (map prepared_batch added.grown) ≡ take e.begun (map prepared_batch xs) =
+    take-grown prepared_batch e.begun xs added.grown inside added.grows in
+    let here : slice_get (map prepared_batch added.grown) n ≡ Some (prepared_batch added.before) =
+    whole_at prepared_batch added.grown n added.before added.at in
     elim (cases_lt n e.begun) [
       | inl below ↦
           let ends : max e.begun (n + 1) ≡ e.begun = omega arith in
-          rw (ends, added.is, map-set, added.added, ← front_same) (take_put (map prepared_batch added.grown) e.begun n (prepared_batch added.before) m below here)
+          rw (ends, added.is, map-set, added.added, ← front_same)
+          (take_put (map prepared_batch added.grown) e.begun n (prepared_batch added.before) m below here)
       | inr last ↦
           let n_is : n ≡ e.begun = omega arith in
           let ends : max e.begun (n + 1) ≡ suc n = omega arith in
@@ -92,7 +95,8 @@ put_batches e most n m xs ys is added next =
           let two : ◌≡◌ {A = Option Batch} (Some (prepared_batch added.before)) (Some empty) = sym here ∙ spare in
           let blank_is : prepared_batch added.before ≡ empty = cc in
           let first : prepared_batch added.then ≡ first_member m = added.added ∙ ap (λ (b : Batch). more b m) blank_is in
-          rw (ends, added.is, map-set, ← front_same, ← n_is) (take_put_next (map prepared_batch added.grown) n (prepared_batch added.then) m (rw length-map added.low) first)
+          rw (ends, added.is, map-set, ← front_same, ← n_is)
+          (take_put_next (map prepared_batch added.grown) n (prepared_batch added.then) m (rw length-map added.low) first)
     ]
 
 -- as many batches are taken as were begun
@@ -143,7 +147,8 @@ pub batches_shown : (e : Extent) (most n : ℕ) (m : Key × ℕ) (xs ys : List S
     → take e.begun (map shown_batch ys) ≡ take e.begun (map shown_batch xs)
 batches_shown e most n m xs ys is added =
     let inside : e.begun ≤ length xs = rw length-map at is.all_stored in
-    rw (added.is, map-set_unseen shown_batch added.grown n added.before added.then added.at added.shown) (take-grown shown_batch e.begun xs added.grown inside added.grows)
+    rw (added.is, map-set_unseen shown_batch added.grown n added.before added.then added.at added.shown)
+    (take-grown shown_batch e.begun xs added.grown inside added.grows)
 
 -- two books with the same parts
 pub same_book : (rules : Rules) (cells sent : ℕ) (memo memo' : List (Key × ℕ)) (batches batches' : List Batch) → memo' ≡ memo → batches' ≡ batches

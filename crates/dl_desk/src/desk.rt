@@ -476,10 +476,10 @@ impl Desk {
         let mut jobs = Vec::with_capacity(alloc, (begun - sent) as usize)?;
         for number in sent..begun {
             let keys = Keys::copy_of(alloc, self.batches[number as usize].keys())?;
-            jobs.push(Job {
+            jobs.push_reserved(Job {
                 batch: number,
                 keys,
-            })?;
+            });
         }
         Ok(jobs)
     }

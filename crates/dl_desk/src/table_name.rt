@@ -67,7 +67,7 @@ impl TableName {
     pub(crate) fn place(&self) -> usize
         ensures { result ≡ place_of self.now }
     {
-        (self.number % 32) as usize
+        (self.number % PLACES as u64) as usize
     }
 
     /// The same name, shared. The error is that a reference count would overflow.

@@ -15,14 +15,14 @@ use serde_json::{Map, Value};
 
 /// The version of a document. In the first a batch may mix tables. In the second each batch is of one table, and a table may
 /// have a limit of its own.
-#[derive(Clone, Copy, Debug)]
+#[derive(Clone, Copy)]
 pub(crate) enum Version {
     First,
     Second,
 }
 
 /// The version of a document, and the numbers of its limits.
-#[derive(Clone, Copy, Debug)]
+#[derive(Clone, Copy)]
 pub(crate) struct Head {
     pub(crate) version: Version,
     pub(crate) numbers: Numbers,

@@ -12,7 +12,7 @@ use dl_values::{LARGEST_LIMIT, LimitFault, Limits};
 use serde_json::Value;
 
 /// The whole numbers that a document gives for its limits.
-#[derive(Clone, Copy, Debug)]
+#[derive(Clone, Copy)]
 pub(crate) struct Numbers {
     pub(crate) max_batch: i128,
     pub(crate) max_cells: i128,

@@ -3,10 +3,10 @@ use Rattle.std.proofs.Common.{◌≡◌, subst, ℕ, inl, inr, Some}
 use Rattle.dl_values.specs.declared.job.Job.{Job}
 use Rattle.dl_history.specs.Service.{Service}
 use Rattle.dl_loader.specs.Pass.{Trace}
-use Rattle.dl_passes.specs.declared.fault.CallFault.{CallFault}
+use Rattle.dl_history.specs.declared.fault.CallFault.{CallFault}
 use Rattle.dl_loader.specs.JobEnd.{WasNotEnded, end_answered, end_unanswered}
 use Rattle.dl_haxl.specs.RunFaults.{IsRunFault, SomeCallRefused}
-use Rattle.dl_haxl.specs.declared.fault.RunFault.{RunFault}
+use Rattle.dl_report.specs.declared.fault.RunFault.{RunFault}
 
 -- the same caller's
 pub fault_of_same : (s : Service) (now old : ℕ) (fault : RunFault) → now ≡ old → IsRunFault s now fault → IsRunFault s old fault

@@ -14,7 +14,7 @@ use Rattle.dl_loader.specs.Additions.{call_entry, saws, Grows, KeepsTickets}
 use Rattle.dl_loader.specs.EventEffect.{WasMade, event_of, loads_of}
 use Rattle.dl_loader.specs.Pass.{Trace, Ticket, GaveTickets, with_call}
 use Rattle.dl_loader.proofs.AdditionLemmas.{made_adds, gave_still, grows_after}
-use Rattle.dl_passes.proofs.Tickets.{tickets_entries}
+use Rattle.dl_history.proofs.Tickets.{tickets_entries}
 use Rattle.dl_loader.proofs.TicketsStay.{keeps_same, number_low}
 use Rattle.dl_haxl.specs.Pairs.{outcomes_shown}
 use Rattle.dl_haxl.specs.Reads.{KeepsOthers, Reads}

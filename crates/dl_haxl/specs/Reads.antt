@@ -3,7 +3,7 @@ use Rattle.std.specs.Prelude.{◌≡◌, ◌≢◌, ℕ, List, ◌++◌, map, So
 use Rattle.dl_history.specs.declared.event.Ending.{Ending}
 use Rattle.dl_loader.specs.Additions.{saws}
 use Rattle.dl_loader.specs.Pass.{Trace, Ticket, GaveTickets}
-use Rattle.dl_passes.specs.declared.pass.GivenTicket.{GivenTicket}
+use Rattle.dl_history.specs.declared.pass.GivenTicket.{GivenTicket}
 
 -- the pass gave the tickets one after another, and read none of their outcomes yet
 abbrev pub GaveFresh : Trace → List Ticket → Type 0

@@ -6,9 +6,9 @@ use Rattle.dl_history.specs.declared.event.Call as event
 use Rattle.dl_loader.specs.Book.{SomeCellRefused, SomeStopped}
 use Rattle.dl_loader.specs.EventEffect.{WasRefused}
 use Rattle.dl_loader.specs.Pass.{Trace}
-use Rattle.dl_passes.specs.declared.fault.CallFault.{CallFault}
-use Rattle.dl_haxl.specs.declared.fault.RunFault.{RunFault}
-use Rattle.dl_haxl.specs.declared.fault.RunFault.TheVariants.{Call, Stopped, OutOfMemory}
+use Rattle.dl_history.specs.declared.fault.CallFault.{CallFault}
+use Rattle.dl_report.specs.declared.fault.RunFault.{RunFault}
+use Rattle.dl_report.specs.declared.fault.RunFault.TheVariants.{Call, Stopped, OutOfMemory}
 
 -- some call of the caller's was refused so, with the job that it would have ended, if it is an end
 abbrev pub SomeCallRefused : Service → ℕ → CallFault → Type 0

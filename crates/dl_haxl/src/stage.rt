@@ -3,7 +3,7 @@
 use crate::fault::PollFault;
 
 /// What the next poll of a run does.
-#[derive(Clone, Copy, Debug)]
+#[derive(Clone, Copy)]
 pub(crate) enum Stage {
     /// It looks at the tickets of the keys, and goes on once all of them show their outcomes.
     Learning,

@@ -41,7 +41,8 @@ use Rattle.dl_history.proofs.OneHistory.{place_among}
 -- ---- batches
 
 pub batches_are_within_limits : BatchesAreWithinLimits
-batches_are_within_limits s limits events legal batch = batches.batches_are_within_limits s.rules limits (atoms (past events)) (legal_atoms s events legal) batch
+batches_are_within_limits s limits events legal batch =
+    batches.batches_are_within_limits s.rules limits (atoms (past events)) (legal_atoms s events legal) batch
 
 -- ---- ends
 
@@ -310,8 +311,8 @@ once s events legal key batch later_batch i m n e there load later_load low =
     ∷ (cut.between ++ atom.Load key (Fresh load.cell batch) ∷ (cut.before ++ told_in split.front)) =
     ap told_in split.is ∙ (atoms_past-append split.front (e ∷ split.back)
     ∙ (ap (λ (xs : List Atom). xs ++ told_in split.front) (atoms_past-cons e split.back ∙ ap (λ (xs : List Atom). told_in split.back ++ xs) cut.is)
-    ∙ regroup_two (told_in split.back) cut.later (atom.Load key (Fresh later_load.cell later_batch)) cut.between (atom.Load key (Fresh load.cell batch)) cut.before
-    (told_in split.front))) in
+    ∙ regroup_two (told_in split.back) cut.later (atom.Load key (Fresh later_load.cell later_batch)) cut.between
+    (atom.Load key (Fresh load.cell batch)) cut.before (told_in split.front))) in
     let holds = between_forget s events key load.cell batch later_load.cell later_batch (told_in split.back ++ cut.later) cut.between
     (cut.before ++ told_in split.front) legal all in
     let bad : false ≡ true = sym cut.between_keep ∙ holds in

@@ -19,4 +19,7 @@ pub mod OneHistory
 pub mod LoadCuts
 pub mod HistoryLemmas
 pub mod HistoryLaws
+mod PassLemmas
+pub mod Tickets
+pub mod TicketsAfterReads
 pub mod ThreadSafety

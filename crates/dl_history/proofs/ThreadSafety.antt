@@ -1,8 +1,10 @@
--- What of a history may cross threads. The laws of the types below that hold a JSON value are proved here, since such
+-- What of a history, and of what callers have of it, may cross threads. The laws of the types below that hold a JSON value are proved here, since such
 -- a value is a tree of its own kind, whose laws `search` doesn't find by itself.
 use denote.RattleType.{RattleType}
+use denote.Ref.{NamedLft}
+use denote.Struct.Field.{shr_ref_field}
 use denote.Param.SendFields.{declared_send, declared_sync, as_row_send, as_row_sync}
-use denote.Param.Send.{IsSend, IsSync, sendable}
+use denote.Param.Send.{IsSend, IsSync, sendable, shr_send}
 use Rattle.std.below.core.proofs.ledger.Book.TheSendSync as counts
 use Rattle.std.specs.declared.sync.ledger.Ledger as ledger
 use Rattle.dl_history.specs.declared.name.LoaderName as name
@@ -35,6 +37,8 @@ use Rattle.dl_history.specs.contracts.journal.Journal.TheInside as journal
 use Rattle.dl_history.specs.contracts.cell_rows.CellRows as CellRows
 use Rattle.dl_history.specs.contracts.cell_rows.CellRows.TheInside as rows
 use Rattle.dl_history.specs.contracts.cell_state.CellState as CellState
+use Rattle.dl_history.specs.contracts.ticket.Ticket as Ticket
+use Rattle.dl_history.specs.contracts.ticket.Ticket.TheInside as ticket
 use Rattle.dl_values.specs.contracts.limits.Limits as Limits
 use Rattle.dl_values.proofs.limits.Limits.TheSendSync as limits
 use Rattle.dl_cells.proofs.reader.Reader.TheSendSync as reader
@@ -136,3 +140,19 @@ module _ (T : RattleType) (n : name.Ghosts T.Denot) (l : ledger.Ghosts T.Denot) 
 
   pub CellRows-sync : IsSync (CellRows.the_row T n l)
   CellRows-sync = search (rows_sync, sendable) depth 10
+
+module _ (T : RattleType) (n : name.Ghosts T.Denot) (l : ledger.Ghosts T.Denot) (a : NamedLft) where
+  ticket_send : IsSend (ticket.the_row a T n l)
+  ticket_send = declared_send (ticket.the_type a T n l) (
+    as_row_send (shr_ref_field a (Row.the_row Ending.the_row) tt) (shr_send _ _ _ outcomes_sync),
+    (
+      search (as_row_send, sendable) depth 10,
+      (
+        search (as_row_send, sendable) depth 10,
+        (as_row_send (Reader.the_field Ending.the_row) (search (reader.the_send) depth 10), (search (as_row_send, sendable) depth 10, tt)),
+      ),
+    ),
+  )
+
+  pub Ticket-send : IsSend (Ticket.the_row a T n l)
+  Ticket-send = search (ticket_send, sendable) depth 10

@@ -1,3 +1,5 @@
 pub mod Entries
 pub mod CellRows
 pub mod Codes
+pub mod PassFields
+pub mod PassCodes

@@ -12,12 +12,24 @@ use std::marker::{Model, PhantomData};
 
 /// Where the events of a loader and the outcomes of its cells lie, and how many of both there may be. Contracts
 /// see the limits.
-#[derive(Drop)]
 pub struct CellRows<L: LoaderName> {
     limits: Limits,
     log: CellRow<Event>,
     outcomes: CellRow<Ending>,
     of: PhantomData<L>,
+}
+
+impl<L: LoaderName> Drop for CellRows<L> {
+    fn drop(self) {
+        let CellRows {
+            limits: _,
+            log,
+            outcomes,
+            of: _,
+        } = self;
+        drop(log);
+        drop(outcomes);
+    }
 }
 
 impl<L: LoaderName> Model for CellRows<L> {
@@ -87,7 +99,12 @@ impl<L: LoaderName> CellRows<L> {
         ensures outcomes { result.1 ≡ L.outcomes }
         ensures cells { row_len L.outcomes ≡ L.service.rules.limits.max_cells }
     {
-        let CellRows { log, outcomes, .. } = self;
+        let CellRows {
+            limits: _,
+            log,
+            outcomes,
+            of: _,
+        } = self;
         (log, outcomes)
     }
 }

@@ -22,11 +22,21 @@ pub enum EntryKind {
 }
 
 /// An event that lies in the log, and its place there. Contracts see both.
-#[derive(Drop)]
 pub struct PlacedEvent<L: LoaderName> {
     at: u16,
     reader: Reader<Event>,
     of: PhantomData<L>,
+}
+
+impl<L: LoaderName> Drop for PlacedEvent<L> {
+    fn drop(self) {
+        let PlacedEvent {
+            at: _,
+            reader,
+            of: _,
+        } = self;
+        drop(reader);
+    }
 }
 
 impl<L: LoaderName> Model for PlacedEvent<L> {
@@ -70,7 +80,7 @@ impl<L: LoaderName> PlacedEvent<L> {
     }
 
     /// The place in the log.
-    pub fn at(&self) -> u16
+    pub(crate) fn at(&self) -> u16
         ensures { result ≡ self.now.at }
     {
         self.at
@@ -122,7 +132,7 @@ impl<L: LoaderName> Model for Read<L> {
 
 impl<L: LoaderName> Read<L> {
     /// The outcome that a reader of a cell knows, which the event at `at` gave the cell.
-    pub fn of(cell: u32, at: u16, reader: Reader<Ending>) -> Read<L>
+    pub(crate) fn of(cell: u32, at: u16, reader: Reader<Ending>) -> Read<L>
         requires in_row { cell < row_len L.outcomes }
         requires of_cell { reader.cell ≡ cell_of L.outcomes cell }
         requires known { IsSomeAnd reader.known (λ ending. ending.at ≡ at) }
@@ -144,7 +154,7 @@ impl<L: LoaderName> Read<L> {
     }
 
     /// The place of the event that gave the outcome.
-    pub fn ended_at(&self) -> u16
+    pub(crate) fn ended_at(&self) -> u16
         ensures { result ≡ self.now.ending.at }
     {
         self.ended_at
@@ -160,9 +170,15 @@ impl<L: LoaderName> Read<L> {
 }
 
 /// An entry of a pass: a call that was made, or an outcome that was read.
-#[derive(Drop)]
 pub struct Entry<L: LoaderName> {
     kind: Kind<L>,
+}
+
+impl<L: LoaderName> Drop for Entry<L> {
+    fn drop(self) {
+        let Entry { kind } = self;
+        drop(kind);
+    }
 }
 
 /// What an entry is.
@@ -189,7 +205,7 @@ impl<L: LoaderName> Model for Entry<L> {
 
 impl<L: LoaderName> Entry<L> {
     /// The entry of a call that was made.
-    pub fn call(stored: PlacedEvent<L>) -> Entry<L>
+    pub(crate) fn call(stored: PlacedEvent<L>) -> Entry<L>
         ensures { result ≡ Called stored }
     {
         Entry {
@@ -198,7 +214,7 @@ impl<L: LoaderName> Entry<L> {
     }
 
     /// The entry of an outcome that was read.
-    pub fn saw(seen: Read<L>) -> Entry<L>
+    pub(crate) fn saw(seen: Read<L>) -> Entry<L>
         ensures { result ≡ Saw seen }
     {
         Entry {

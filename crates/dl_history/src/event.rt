@@ -81,10 +81,17 @@ impl Drop for Event {
 
 /// What a cell of a shared loader shows once it has ended: its outcome, and the place of the event that
 /// gave it the outcome.
-#[derive(Debug, Drop)]
+#[derive(Debug)]
 pub struct Ending {
     /// The place: a history has at most 65,536 events, so it is below that.
     pub at: u16,
     /// The outcome.
     pub outcome: Outcome,
+}
+
+impl Drop for Ending {
+    fn drop(self) {
+        let Ending { at: _, outcome } = self;
+        drop(outcome);
+    }
 }

@@ -23,11 +23,19 @@ use std::sync::ledger::Share;
 
 /// The events of a loader in order, the cells that were begun, and the count of the events. Contracts see
 /// the history, the cells, and for how many more of both there is room.
-#[derive(Drop)]
 pub struct Journal<L: LoaderName> {
     log: Vec<Reader<Event>>,
     states: Vec<CellState>,
     calls: ledger::Book<L>,
+}
+
+impl<L: LoaderName> Drop for Journal<L> {
+    fn drop(self) {
+        let Journal { log, states, calls } = self;
+        drop(log);
+        drop(states);
+        drop(calls);
+    }
 }
 
 impl<L: LoaderName> Model for Journal<L> {
@@ -142,7 +150,8 @@ impl<L: LoaderName> Journal<L> {
         ensures events { result.0 ≡ self.history }
         ensures cells { result.1 ≡ self.cells }
     {
-        let Journal { log, states, .. } = self;
+        let Journal { log, states, calls } = self;
+        drop(calls);
         let (log_row, outcomes) = rows.into_parts();
         (Events::new(log_row, log), Cells::new(outcomes, states))
     }

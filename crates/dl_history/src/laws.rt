@@ -1,7 +1,13 @@
-//! Laws of the histories of shared loaders, for every service and every legal history. Each function does nothing: its contract
-//! is the law.
+//! Laws of the histories of shared loaders, for every service and every legal history, and what all looks of one cell have in
+//! common. Each function does nothing: its contract is the law.
 
+ghost use Rattle.std.specs.Prelude.{◌≡◌, IfSome};
+ghost use Rattle.dl_cells.specs.Cells.{Agrees};
+ghost use Rattle.dl_history.specs.Entries.{cell_of_load};
 ghost use Rattle.dl_history.specs.Laws.{FreshLoadsAreApart, BatchesAreWithinLimits, EndsStay, EventsAreCalls, HistoriesBeginEmpty};
+
+use crate::name::LoaderName;
+use crate::ticket::Ticket;
 
 /// Two fresh loads of one key have between them a clear of it, a clearAll, or the fail of the first one's batch.
 pub fn fresh_loads_are_apart()
@@ -28,3 +34,12 @@ pub fn events_are_calls()
 pub fn histories_begin_empty()
     ensures { HistoriesBeginEmpty }
 {}
+
+/// All looks of one cell show one outcome: what two tickets of it have shown is the same, with the same place
+/// of the event that gave it, whichever threads looked.
+pub fn looks_agree<L: LoaderName>(one: &Ticket<'_, L>, other: &Ticket<'_, L>)
+    requires cell { cell_of_load other.now.reply ≡ cell_of_load one.now.reply }
+    ensures { IfSome other.now.known (Agrees one.now.known) }
+{
+    one.agree(other);
+}

@@ -1,7 +1,9 @@
-//! Histories of shared loaders: events and their outcomes, what each caller knows of them, when a history is legal
-//! and when a caller's entries agree with it, and the history that a closed loader leaves.
+//! Histories of shared loaders: events and their outcomes, the passes and tickets by which callers know of them, why a call
+//! is refused, when a history is legal and when a caller's entries agree with it, and the history that a closed loader leaves.
 //!
-//! A loader keeps its history in a [`Journal`] while it is open, and gives it to a [`History`] when it is closed.
+//! A loader keeps its history in a [`Journal`] while it is open, and gives it to a [`History`] when it is closed. What a caller
+//! knows of the history stands in its [`Pass`]. Whatever makes a pass or a ticket, or adds a call to a pass, asks for the loader's
+//! journal, its rows or a part of its ledger, and no caller gets hold of these.
 #![tactic(auto)]
 
 mod cell_rows;
@@ -10,22 +12,28 @@ mod cells;
 mod entry;
 mod event;
 mod events;
+mod fault;
 mod history;
 mod journal;
 pub mod laws;
 mod name;
 mod outline;
+mod pass;
 mod replies;
 mod shared;
+mod ticket;
 
 pub use cell_rows::CellRows;
 pub use cell_state::{CellState, Mark};
 pub use entry::{Entry, EntryKind, PlacedEvent, Read};
 pub use event::{Call, Ending, Event, Reply};
 pub use events::Events;
+pub use fault::{CallFault, CloseFault, StartFault, Stopped};
 pub use history::{Batches, EndedBatch, History};
 pub use journal::{AppendFault, Journal};
 pub use name::LoaderName;
 pub use outline::Outline;
+pub use pass::Pass;
 pub use replies::{Jobs, Replies};
 pub use shared::Shared;
+pub use ticket::{Ticket, load_cell};

@@ -11,10 +11,16 @@ use std::marker::Model;
 
 /// A caller and what the entries of its pass are, in order. What they tell lies in the history, so an outline
 /// names no loader.
-#[derive(Drop)]
 pub struct Outline {
     caller: u32,
     entries: Vec<EntryKind>,
+}
+
+impl Drop for Outline {
+    fn drop(self) {
+        let Outline { caller: _, entries } = self;
+        drop(entries);
+    }
 }
 
 impl Model for Outline {
@@ -31,7 +37,7 @@ impl Model for Outline {
 
 impl Outline {
     /// The outline of a caller whose pass has these entries. The error is a failed allocation.
-    pub fn of<L: LoaderName>(
+    pub(crate) fn of<L: LoaderName>(
         alloc: Global,
         caller: u32,
         entries: &[Entry<L>],
@@ -66,7 +72,7 @@ fn kinds_in<L: LoaderName>(
 {
     let mut kinds = Vec::with_capacity(alloc, entries.len())?;
     for entry in entries {
-        kinds.push(entry.kind())?;
+        kinds.push_reserved(entry.kind());
     }
     Ok(kinds)
 }

@@ -54,7 +54,7 @@ impl<T: Drop> Shared<T> {
     }
 
     /// The same value, shared. The error is that the reference count would overflow.
-    pub fn again(&self) -> Result<Shared<T>, AllocError>
+    pub fn try_copy(&self) -> Result<Shared<T>, AllocError>
         ensures { IfOk result (λ shared. shared ≡ self.now) }
     {
         let value = Arc::try_clone(&self.value)?;

@@ -6,13 +6,13 @@ use Rattle.dl_history.specs.declared.event.Event.{Event}
 use Rattle.dl_history.specs.Agreement.{Account, HasEach, NoneBehind, places_of, Fits}
 use Rattle.dl_history.specs.ClosedHistory.{IsHistory, history_of, Outline, outline_of}
 use Rattle.dl_history.specs.History.{IsLegal}
-use Rattle.dl_passes.specs.Accounts.{account_of, accounts_of}
+use Rattle.dl_history.specs.Accounts.{account_of, accounts_of}
 use Rattle.dl_loader.specs.CloseRefusals.{TellWhole}
 use Rattle.dl_loader.specs.Book.{Book, Keeps, state_of}
 use Rattle.dl_loader.specs.Inside.CloseSteps.{Closes, MayClose}
 use Rattle.dl_history.specs.Journal.{Cell}
 use Rattle.dl_history.specs.Lists.{Every}
-use Rattle.dl_passes.specs.Pass.{Pass}
+use Rattle.dl_history.specs.Pass.{Pass}
 use Rattle.dl_history.specs.Service.{Service, AnswersEach}
 use Rattle.dl_history.proofs.AccountCounts.{accounts_count}
 use Rattle.dl_history.proofs.Agreement.{accounts_agree, accounts_have}

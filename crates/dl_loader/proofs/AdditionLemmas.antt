@@ -5,11 +5,11 @@ use Rattle.dl_history.specs.declared.event.Call.{Call}
 use Rattle.dl_history.specs.declared.event.Reply.{Reply}
 use Rattle.dl_history.specs.Entries.{Entry, cell_of_load}
 use Rattle.dl_history.specs.Service.{Service}
-use Rattle.dl_passes.specs.Additions.{call_entry, Grows}
+use Rattle.dl_history.specs.Additions.{call_entry, Grows}
 use Rattle.dl_loader.specs.EventEffect.{WasMade, event_of, loads_of}
-use Rattle.dl_passes.specs.declared.pass.GivenTicket.{GivenTicket}
-use Rattle.dl_passes.specs.Pass.{Trace, Ticket, GaveTicket, given, with_call, with_ticket, with_tickets}
-use Rattle.dl_passes.proofs.Tickets.{tickets_entries}
+use Rattle.dl_history.specs.declared.pass.GivenTicket.{GivenTicket}
+use Rattle.dl_history.specs.Pass.{Trace, Ticket, GaveTicket, given, with_call, with_ticket, with_tickets}
+use Rattle.dl_history.proofs.Tickets.{tickets_entries}
 
 -- ---- the caller
 

@@ -20,14 +20,14 @@ use Rattle.dl_history.specs.LoaderState.{LoaderState, loader_state, IsLoaderStat
 use Rattle.dl_history.proofs.Endings.{none_unbegun}
 use Rattle.dl_history.proofs.CellLists.{get-append_cases, get-repeat, length-repeat_one, waiting_shows, shows_same}
 use Rattle.dl_loader.specs.declared.dues.Due.{Due}
-use Rattle.dl_passes.specs.declared.fault.CallFault.{CallFault}
+use Rattle.dl_history.specs.declared.fault.CallFault.{CallFault}
 use Rattle.dl_loader.specs.Inside.NewCells.{begun_in}
 use Rattle.dl_loader.specs.Inside.Dues.{AreDue, AreGiven, CanEnd}
 use Rattle.dl_loader.specs.Book.{Book, Keeps, state_of}
 use Rattle.dl_loader.specs.Inside.Preparation.{AskedCall, PreparedEvent, IsPrepared, Steps}
-use Rattle.dl_passes.specs.Pass.{Trace}
+use Rattle.dl_history.specs.Pass.{Trace}
 use Rattle.dl_loader.specs.Refusals.{cause, unready}
-use Rattle.dl_passes.specs.Faults.{call_fault}
+use Rattle.dl_history.specs.Faults.{call_fault}
 use Rattle.dl_loader.proofs.DueLemmas.{get_mapped, unmapped}
 use Rattle.std.proofs.lemmas.List.Sums.{sum_by-append, sum_by-cons}
 use Rattle.dl_loader.proofs.NextEvent.{Gained, MayStand, begun_cells, event, keeps_more, may_call, may_stand}

@@ -3,7 +3,7 @@ use Rattle.std.proofs.Common.{◌≡◌, subst, [], ◌∷◌, ◌++◌, List}
 use Rattle.dl_desk.specs.Events.{atoms}
 use Rattle.dl_history.specs.Service.{Service}
 use Rattle.dl_history.specs.History.{past, reply_to, IsLegal}
-use Rattle.dl_passes.specs.Pass.{Trace}
+use Rattle.dl_history.specs.Pass.{Trace}
 use Rattle.dl_loader.specs.Book.{Book, Keeps}
 use Rattle.dl_loader.specs.EventEffect.{event_of, Makes}
 use Rattle.dl_history.specs.declared.event.Event.{Event}

@@ -11,13 +11,13 @@ use Rattle.dl_loader.specs.Book.{Book, Keeps}
 use Rattle.dl_history.specs.History.{past, HasEnd, AllEnded}
 use Rattle.dl_history.specs.Service.{Service}
 use Rattle.dl_history.specs.Agreement.{Account, account, accounts_by, HasEach, NoneBehind, refused_in, read_in, unshown}
-use Rattle.dl_passes.specs.Accounts.{account_of, accounts_of}
+use Rattle.dl_history.specs.Accounts.{account_of, accounts_of}
 use Rattle.dl_loader.specs.CloseRefusals.{present, IsBehind, IsLeastOf}
 use Rattle.dl_loader.specs.Inside.CloseSteps.{earlier}
 use Rattle.dl_history.specs.Journal.{cell_refused, Cell}
 use Rattle.dl_history.specs.Entries.{Entry, front_of}
 use Rattle.dl_history.specs.Lists.{Among, one_if}
-use Rattle.dl_passes.specs.Pass.{Pass}
+use Rattle.dl_history.specs.Pass.{Pass}
 use Rattle.dl_loader.specs.declared.loader.close.PassFront.{PassFront}
 use Rattle.dl_history.proofs.ListLemmas.{among_longer, every_append, every_weaker}
 use Rattle.dl_history.proofs.Pasts.{get-append_at, get-snoc}

@@ -1,7 +1,7 @@
 -- The traces of callers that have made no call.
 use Rattle.std.proofs.Common.{◌≡◌, ap, ℕ, zero, suc, ◌+◌, List, [], ◌∷◌, ◌++◌, map, refl, arith}
 use Rattle.std.proofs.lemmas.List.{map-append}
-use Rattle.dl_passes.specs.Pass.{Trace, trace, new_traces}
+use Rattle.dl_history.specs.Pass.{Trace, trace, new_traces}
 
 -- one caller more
 fresh-more : (k n : ℕ) → new_traces k (suc n) ≡ new_traces k n ++ trace (k + n) [] [] ∷ []

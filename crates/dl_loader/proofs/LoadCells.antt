@@ -15,7 +15,7 @@ use Rattle.dl_history.specs.Entries.{cell_of_load, Called, event_at, cells_of}
 use Rattle.dl_history.specs.History.{past}
 use Rattle.dl_history.specs.Lists.{Every, Among}
 use Rattle.dl_loader.specs.EventEffect.{event_of, loads_of, Makes}
-use Rattle.dl_passes.specs.Pass.{Trace, with_call}
+use Rattle.dl_history.specs.Pass.{Trace, with_call}
 use Rattle.dl_history.specs.Service.{Service}
 use Rattle.dl_loader.proofs.CallKnowledge.{replied}
 use Rattle.dl_history.proofs.Pasts.{legal_at, legal_atoms, atoms_next, get-append_at}

@@ -5,7 +5,7 @@ use Rattle.std.proofs.lemmas.List.{map-append, length-map, append_assoc, take_mo
 use Rattle.std.proofs.lemmas.Option.{slice_get-map}
 use Rattle.dl_values.specs.Key.{Key}
 use Rattle.dl_desk.specs.declared.reply.LoadReply.{LoadReply}
-use Rattle.dl_passes.specs.declared.pass.GivenTicket.{GivenTicket}
+use Rattle.dl_history.specs.declared.pass.GivenTicket.{GivenTicket}
 use Rattle.dl_history.specs.declared.event.Call.{Call}
 use Rattle.dl_history.specs.declared.event.Reply.{Reply}
 use Rattle.dl_history.specs.declared.event.Call.TheVariants.{LoadMany}
@@ -13,7 +13,7 @@ use Rattle.dl_history.specs.declared.event.Reply.TheVariants.{Many}
 use Rattle.dl_loader.specs.Book.{Book}
 use Rattle.dl_loader.specs.EventEffect.{event_of, loads_of, Makes}
 use Rattle.dl_history.specs.Entries.{cell_of_load}
-use Rattle.dl_passes.specs.Pass.{Trace, Ticket, given, with_call, with_ticket, with_tickets, GaveTicket, AreTickets, GaveTickets}
+use Rattle.dl_history.specs.Pass.{Trace, Ticket, given, with_call, with_ticket, with_tickets, GaveTicket, AreTickets, GaveTickets}
 use Rattle.dl_history.proofs.Pasts.{get-snoc}
 
 -- ---- tickets in order

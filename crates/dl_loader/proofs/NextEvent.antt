@@ -2,12 +2,12 @@
 use Rattle.std.proofs.Common.{◌≡◌, ℕ, ◌<◌, ◌≤◌, Bool, true, false, cond, length, Option, Some, None, nat_lt, nat_le, refl, ◌∙◌, sym, subst, ◌+◌, List}
 use Rattle.std.proofs.Common.{[], ◌∷◌, ◌++◌, slice_get, arith, length-append}
 use Rattle.std.proofs.lemmas.Bool.{ltb-false, leb-false}
-use Rattle.dl_passes.specs.declared.fault.CallFault.{CallFault}
-use Rattle.dl_passes.specs.declared.fault.CallFault.TheVariants.{Stopped, Behind, LogFull}
+use Rattle.dl_history.specs.declared.fault.CallFault.{CallFault}
+use Rattle.dl_history.specs.declared.fault.CallFault.TheVariants.{Stopped, Behind, LogFull}
 use Rattle.dl_history.specs.Service.{Service}
 use Rattle.dl_history.specs.Entries.{front_of}
 use Rattle.dl_loader.specs.Book.{Book, Keeps, state_of}
-use Rattle.dl_passes.specs.Pass.{Trace}
+use Rattle.dl_history.specs.Pass.{Trace}
 use Rattle.dl_loader.specs.Refusals.{unready}
 use Rattle.std.specs.List.{repeat}
 use Rattle.dl_values.specs.Limits.{Rules}
@@ -22,7 +22,7 @@ use Rattle.dl_history.specs.History.{past, call_of, reply_to, MayBeMade, IsNext,
 use Rattle.dl_history.specs.Journal.{Cell, Journal, waiting}
 use Rattle.dl_history.specs.LoaderState.{LoaderState, loader_state, IsLoaderState, ShowsEnd}
 use Rattle.dl_history.proofs.Pasts.{atoms_next, legal_more}
-use Rattle.dl_passes.specs.Record.{Recorded}
+use Rattle.dl_history.specs.Record.{Recorded}
 use Rattle.dl_loader.specs.Inside.Preparation.{Steps}
 
 -- ---- a pass that may make an event

@@ -26,11 +26,11 @@ use Rattle.dl_values.specs.declared.outcome.BatchAnswer.TheVariants.{Each, Break
 use Rattle.dl_values.specs.declared.job.Job.{Job}
 use Rattle.dl_source.specs.Source.{IsFor}
 use Rattle.dl_history.specs.declared.event.Reply.TheVariants.{Done}
-use Rattle.dl_passes.specs.declared.fault.CallFault.{CallFault}
-use Rattle.dl_passes.specs.declared.fault.CallFault.TheVariants.{WrongKeys}
-use Rattle.dl_passes.specs.Asks.{end_by}
+use Rattle.dl_history.specs.declared.fault.CallFault.{CallFault}
+use Rattle.dl_history.specs.declared.fault.CallFault.TheVariants.{WrongKeys}
+use Rattle.dl_loader.specs.Asks.{end_by}
 use Rattle.dl_loader.specs.Refusals.{same_keys}
-use Rattle.dl_passes.specs.Faults.{call_fault}
+use Rattle.dl_history.specs.Faults.{call_fault}
 use Rattle.dl_desk.specs.declared.reply.DeskPrime.TheVariants as prime
 use Rattle.dl_desk.specs.declared.fault.DeskFault.TheVariants as desk_fault
 

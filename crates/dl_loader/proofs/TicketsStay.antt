@@ -6,10 +6,10 @@ use Rattle.dl_history.specs.declared.event.Call.{Call}
 use Rattle.dl_history.specs.declared.event.Reply.{Reply}
 use Rattle.dl_history.specs.Entries.{cell_of_load}
 use Rattle.dl_history.specs.Service.{Service}
-use Rattle.dl_passes.specs.Additions.{KeepsTickets}
+use Rattle.dl_history.specs.Additions.{KeepsTickets}
 use Rattle.dl_loader.specs.EventEffect.{WasMade, event_of, loads_of}
-use Rattle.dl_passes.specs.declared.pass.GivenTicket.{GivenTicket}
-use Rattle.dl_passes.specs.Pass.{Trace, given, with_call, with_ticket, with_tickets}
+use Rattle.dl_history.specs.declared.pass.GivenTicket.{GivenTicket}
+use Rattle.dl_history.specs.Pass.{Trace, given, with_call, with_ticket, with_tickets}
 
 -- ---- one after another
 

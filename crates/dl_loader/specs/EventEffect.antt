@@ -6,12 +6,12 @@ use Rattle.dl_history.specs.declared.event.Event.{Event}
 use Rattle.dl_history.specs.declared.event.Call.{Call}
 use Rattle.dl_history.specs.declared.event.Reply.{Reply}
 use Rattle.dl_history.specs.declared.event.Reply.TheVariants.{Loaded, Many, Primed, Kept, Done, Sent}
-use Rattle.dl_passes.specs.Pass.{Trace, with_call, with_tickets}
+use Rattle.dl_history.specs.Pass.{Trace, with_call, with_tickets}
 use Rattle.dl_history.specs.Service.{Service}
 use Rattle.dl_history.specs.Entries.{front_of}
 use Rattle.dl_loader.specs.Book.{Book, Keeps}
 use Rattle.dl_loader.specs.Refusals.{IsRefusal}
-use Rattle.dl_passes.specs.declared.fault.CallFault.{CallFault}
+use Rattle.dl_history.specs.declared.fault.CallFault.{CallFault}
 
 -- the event of a caller's call
 abbrev pub event_of : Trace → Call → Reply → Event

@@ -12,7 +12,7 @@ use Rattle.dl_history.specs.Service.{Service}
 use Rattle.dl_history.specs.declared.event.Call.{Call}
 use Rattle.dl_history.specs.declared.event.Call.TheVariants.{Fail}
 use Rattle.dl_history.specs.declared.event.Reply.TheVariants.{Done}
-use Rattle.dl_passes.specs.declared.fault.CallFault.{CallFault}
+use Rattle.dl_history.specs.declared.fault.CallFault.{CallFault}
 
 -- the end of a job's batch by the source's answer to the job's keys
 abbrev pub end_answered : Service → Job → Call

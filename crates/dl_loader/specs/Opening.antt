@@ -5,8 +5,8 @@ use Rattle.dl_values.specs.Key.{Key}
 use Rattle.dl_values.specs.Limits.{Limits, Rules}
 use Rattle.dl_values.specs.declared.outcome.BatchAnswer.{BatchAnswer}
 use Rattle.dl_history.specs.Service.{Service, Answers, AnswersEach, service}
-use Rattle.dl_passes.specs.declared.fault.StartFault.{StartFault}
-use Rattle.dl_passes.specs.declared.fault.StartFault.TheVariants.{NoCallers, TooManyCallers, OutOfMemory}
+use Rattle.dl_history.specs.declared.fault.StartFault.{StartFault}
+use Rattle.dl_history.specs.declared.fault.StartFault.TheVariants.{NoCallers, TooManyCallers, OutOfMemory}
 
 -- what contracts see of an opening: its source, how batches will be made, how many callers there will be,
 -- the loader's two rows, and the name of the ledger that counts its events

@@ -11,12 +11,12 @@ use Rattle.dl_values.specs.declared.job.Job.{Job}
 use Rattle.dl_history.specs.Service.{Service}
 use Rattle.dl_history.specs.History.{past, keys_of, call_of}
 use Rattle.dl_history.specs.Entries.{front_of}
-use Rattle.dl_passes.specs.Pass.{Trace}
+use Rattle.dl_history.specs.Pass.{Trace}
 use Rattle.dl_loader.specs.Book.{Book}
 use Rattle.dl_history.specs.declared.event.Call.{Call}
-use Rattle.dl_passes.specs.declared.fault.CallFault.{CallFault}
-use Rattle.dl_passes.specs.declared.fault.CallFault.TheVariants.{Stopped, Behind, LogFull, WrongKeys, OutOfMemory, LogRefused}
-use Rattle.dl_passes.specs.Faults.{call_fault}
+use Rattle.dl_history.specs.declared.fault.CallFault.{CallFault}
+use Rattle.dl_history.specs.declared.fault.CallFault.TheVariants.{Stopped, Behind, LogFull, WrongKeys, OutOfMemory, LogRefused}
+use Rattle.dl_history.specs.Faults.{call_fault}
 
 -- Why a pass may make no event at all: the loader is stopped, the pass has seen more events than there are, or
 -- the history is full.

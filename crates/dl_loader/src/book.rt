@@ -10,8 +10,7 @@ mod close;
 mod record;
 
 use dl_desk::{Desk, Limits, LoadReply, TableLimits};
-use dl_history::{CellRows, Journal, LoaderName};
-use dl_passes::{CallFault, Pass, Ticket, load_cell};
+use dl_history::{CallFault, CellRows, Journal, LoaderName, Pass, Ticket, load_cell};
 use std::alloc::Global;
 use std::hash::RandomState;
 use std::marker::Model;

@@ -17,8 +17,7 @@ mod loads;
 
 use crate::dues::Due;
 use dl_desk::{Desk, LoadReply};
-use dl_history::{Call, Reply};
-use dl_passes::CallFault;
+use dl_history::{Call, CallFault, Reply};
 pub(crate) use ends::{Fail, Settle};
 pub(crate) use keys::{Clear, ClearAll, Dispatch, Prime};
 pub(crate) use loads::{Load, LoadMany};

@@ -5,10 +5,11 @@ ghost use Rattle.dl_history.specs.Service.{Answers};
 ghost use Rattle.dl_loader.specs.Book.{SomeCellRefused};
 ghost use Rattle.dl_loader.specs.JobEnd.{WasEnded, WasNotEnded, WereEnded, WereEndedBefore};
 
+use crate::ask::GiveUp;
 use crate::loader::Loader;
+use crate::reply::Settled;
 use dl_desk::Job;
-use dl_history::LoaderName;
-use dl_passes::{CallFault, GiveUp, Pass, Settled};
+use dl_history::{CallFault, LoaderName, Pass};
 use dl_source::{Source, fetch_job};
 use std::alloc::Global;
 use std::sync::Wait;

@@ -2,12 +2,13 @@
 
 ghost use Rattle.dl_history.specs.Service.{Answers};
 ghost use Rattle.std.specs.Prelude.{◌≡◌, ◌+◌, None, IfErr, IfOk, IfSome, OnErr, OnOk};
-ghost use Rattle.dl_passes.specs.Asks.{call_asked, job_asked, source_asked};
+ghost use Rattle.dl_loader.specs.Asks.{call_asked, job_asked, source_asked};
 ghost use Rattle.dl_loader.specs.Book.{Keeps};
 ghost use Rattle.dl_history.specs.Journal.{refusals};
 ghost use Rattle.dl_loader.specs.EventEffect.{Makes};
 ghost use Rattle.dl_loader.specs.Refusals.{refusal, IsRefusal};
 
+use crate::ask::Ask;
 use crate::book::Book;
 use crate::event_call::{
     Clear, ClearAll, Dispatch, EventCall, Fail, Load, LoadMany, Prime, Settle,
@@ -15,11 +16,9 @@ use crate::event_call::{
 use crate::loader::Loader;
 pub use dl_history::laws::{
     batches_are_within_limits, ends_stay, events_are_calls, fresh_loads_are_apart,
-    histories_begin_empty,
+    histories_begin_empty, looks_agree,
 };
-use dl_history::{CellRows, LoaderName, Reply};
-pub use dl_passes::laws::looks_agree;
-use dl_passes::{Ask, CallFault, Pass};
+use dl_history::{CallFault, CellRows, LoaderName, Pass, Reply};
 use dl_source::Source;
 use std::alloc::Global;
 

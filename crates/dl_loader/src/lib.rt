@@ -5,6 +5,7 @@
 //! knows of the history stands in its [`Pass`].
 #![tactic(auto)]
 
+mod ask;
 mod book;
 mod calls;
 mod dues;
@@ -14,15 +15,15 @@ pub mod laws;
 mod load_replies;
 mod loader;
 mod opening;
+mod reply;
 
+pub use ask::{Ask, GiveUp};
 pub use book::Book;
 pub use dl_history::{
-    Batches, Call, EndedBatch, Ending, Entry, EntryKind, Event, Events, History, Jobs, LoaderName,
-    Replies, Reply, Shared,
-};
-pub use dl_passes::{
-    Ask, CallFault, CloseFault, GiveUp, Pass, PrimeReply, Settled, StartFault, Stopped, Ticket,
+    Batches, Call, CallFault, CloseFault, EndedBatch, Ending, Entry, EntryKind, Event, Events,
+    History, Jobs, LoaderName, Pass, Replies, Reply, Shared, StartFault, Stopped, Ticket,
 };
 pub use job_end::{end_job, end_jobs};
 pub use loader::Loader;
 pub use opening::{MOST_CALLERS, Opening};
+pub use reply::{PrimeReply, Settled};

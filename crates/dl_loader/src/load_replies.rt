@@ -4,12 +4,11 @@ ghost use Rattle.std.specs.Prelude.{◌≡◌, ◌-◌, ◌<◌, ◌≤◌, [], 
 ghost use Rattle.dl_loader.specs.Inside.NewCells.{begun_by, begun_in, cells_begun};
 ghost use Rattle.dl_history.specs.Entries.{cell_of_load};
 ghost use Rattle.dl_history.specs.Lists.{Every};
-ghost use Rattle.dl_passes.specs.Pass.{AreTickets};
+ghost use Rattle.dl_history.specs.Pass.{AreTickets};
 
 use crate::book::Book;
 use dl_desk::LoadReply;
-use dl_history::{CellRows, LoaderName, Reply};
-use dl_passes::{Pass, Ticket};
+use dl_history::{CellRows, LoaderName, Pass, Reply, Ticket};
 
 /// How many cells a load began.
 pub(crate) fn begun_by(reply: LoadReply) -> u32

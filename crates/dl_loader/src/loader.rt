@@ -1,19 +1,18 @@
 //! The shared loader.
 
 ghost use Rattle.std.specs.Prelude.{◌≡◌, Bool, IfErr, IfOk, IfSome, IsSome, None, OnErr, OnOk, Some, map};
-ghost use Rattle.dl_passes.specs.declared.fault.StartFault.TheVariants.{OutOfMemory};
+ghost use Rattle.dl_history.specs.declared.fault.StartFault.TheVariants.{OutOfMemory};
 ghost use Rattle.dl_history.specs.Entries.{cell_of_load, ending_known};
 ghost use Rattle.dl_loader.specs.Book.{SomeStopped};
 ghost use Rattle.dl_loader.specs.Opening.{Names};
-ghost use Rattle.dl_passes.specs.Pass.{GaveTicket, new_traces, with_saw};
+ghost use Rattle.dl_history.specs.Pass.{GaveTicket, new_traces, with_saw};
 
 mod close;
 mod unshown;
 
 use crate::book::Book;
 use crate::opening::Opening;
-use dl_history::{CellRows, LoaderName};
-use dl_passes::{Pass, StartFault, Stopped, Ticket};
+use dl_history::{CellRows, LoaderName, Pass, StartFault, Stopped, Ticket};
 use dl_source::Source;
 use std::alloc::{AllocError, Global};
 use std::marker::Model;
@@ -192,7 +191,7 @@ fn deal<L: LoaderName>(
 {
     let mut passes = Vec::with_capacity(alloc, callers as usize)?;
     for caller in 0..callers {
-        passes.push(Pass::fresh(alloc, caller, all.split_off(1, 0)))?;
+        passes.push_reserved(Pass::fresh(alloc, caller, all.split_off(1, 0)));
     }
     Ok(passes)
 }

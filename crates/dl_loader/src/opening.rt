@@ -1,13 +1,13 @@
 //! What a loader is opened with.
 
 ghost use Rattle.std.specs.Prelude.{◌≡◌, IfOk, IfErr, OnOk};
+ghost use Rattle.dl_cells.specs.Cells.{row_len};
 ghost use Rattle.dl_values.specs.Limits.{mixed, by_table, rules_by};
 ghost use Rattle.dl_loader.specs.Opening.{AreCallers, RefusedAs};
 
 use dl_cells::CellRow;
 use dl_desk::{Limits, TableLimits};
-use dl_history::{Ending, Event};
-use dl_passes::StartFault;
+use dl_history::{Ending, Event, StartFault};
 use dl_source::Source;
 use std::alloc::Global;
 use std::hash::RandomState;
@@ -117,21 +117,38 @@ impl<'s, S: Source> Opening<'s, S> {
         ensures accepted { OnOk result (AreCallers callers) }
         ensures refused { IfErr result (RefusedAs callers) }
     {
-        if callers == 0 {
-            return Err(StartFault::NoCallers);
-        }
-        if callers > MOST_CALLERS {
-            return Err(StartFault::TooManyCallers);
-        }
+        let (log, outcomes) = rows(alloc, limits, callers)?;
         Ok(Opening {
             source,
             hashing,
             limits,
             tables,
             callers,
-            log: CellRow::new(alloc, limits.max_calls())?,
-            outcomes: CellRow::new(alloc, limits.max_cells())?,
+            log,
+            outcomes,
             blank: Blank::new(callers as u64),
         })
     }
+}
+
+/// The rows that the history and the outcomes of a loader of so many callers will lie in.
+fn rows(
+    alloc: Global,
+    limits: Limits,
+    callers: u32,
+) -> Result<(CellRow<Event>, CellRow<Ending>), StartFault>
+    ensures log { IfOk result (λ rows. row_len rows.0 ≡ limits.max_calls) }
+    ensures outcomes { IfOk result (λ rows. row_len rows.1 ≡ limits.max_cells) }
+    ensures accepted { OnOk result (AreCallers callers) }
+    ensures refused { IfErr result (RefusedAs callers) }
+{
+    if callers == 0 {
+        return Err(StartFault::NoCallers);
+    }
+    if callers > MOST_CALLERS {
+        return Err(StartFault::TooManyCallers);
+    }
+    let log = CellRow::new(alloc, limits.max_calls())?;
+    let outcomes = CellRow::new(alloc, limits.max_cells())?;
+    Ok((log, outcomes))
 }

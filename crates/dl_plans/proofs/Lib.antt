@@ -1,4 +1,3 @@
 pub mod Bytes
-pub mod MigratedAnswers
 pub mod Runs
 pub mod Texts

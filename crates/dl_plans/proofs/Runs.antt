@@ -15,21 +15,17 @@ use Rattle.dl_documents.specs.declared.input.Input.{Input}
 use Rattle.dl_documents.specs.declared.input.Input.TheVariants as input
 use Rattle.dl_migration.specs.Migration.{IsMigrated, IsOther}
 use Rattle.dl_plans.specs.Migration.{IsNotMigrated}
-use Rattle.dl_plans.specs.Run.{IsOutput, AppendsFront, IsDocument, IsRefused, Writes, WritesFront}
+use Rattle.dl_plans.specs.Run.{AppendsFront, IsDocument, IsRefusedBy, Refusal, Writes, WritesFront}
 use Rattle.dl_plans.specs.declared.fault.RunError.{RunError}
 use Rattle.dl_plans.specs.declared.fault.RunError.TheVariants as error
-use Rattle.dl_plans.specs.declared.program.TheConstants.{MOST_READ}
-use Rattle.dl_command.specs.declared.settings.Options.{Options}
+use Rattle.dl_plans.specs.declared.streams.TheConstants.{MOST_READ}
 
 -- the first bytes, if there are no more than a document has, are all
 all_read : (bytes : List ℕ) → length (take MOST_READ bytes) ≤ most_bytes → take MOST_READ bytes ≡ bytes
 all_read bytes h = take_all MOST_READ bytes (omega (arith, length-take {A = ℕ} MOST_READ bytes))
 
-document_all : (bytes : List ℕ) (i : Input) → IsDocument (take MOST_READ bytes) i → IsDocument bytes i
+pub document_all : (bytes : List ℕ) (i : Input) → IsDocument (take MOST_READ bytes) i → IsDocument bytes i
 document_all bytes i d = rw (all_read bytes d.small) at d
-
-pub output_all : (options : Options) (bytes text : List ℕ) → IsOutput options (take MOST_READ bytes) text → IsOutput options bytes text
-output_all options bytes text a = (a.0, document_all bytes a.0 a.1, a.2)
 
 -- bytes to which no refusal applies are as few as a document has
 within : (bytes : List ℕ) → ((f : PlanFault) → Applies bytes f → ⊥) → length bytes ≤ most_bytes
@@ -117,29 +113,31 @@ refused_by bytes f (inr many) least =
 either_size : (n : ℕ) → (n ≤ most_bytes) ⊎ (most_bytes < n)
 either_size n = elim (cases_lt most_bytes n) [ inl many ↦ inr many | inr few ↦ inl few ]
 
-refused_all : (options : Options) (bytes : List ℕ) (e : RunError) → IsRefused options (take MOST_READ bytes) e → IsRefused options bytes e
-refused_all options bytes error.Read h = h
-refused_all options bytes (error.Refused f) h = refused_by bytes f (either_size (length bytes)) h
-refused_all options bytes (error.Run f) h = (h.0, document_all bytes (input.Plans h.0) h.1, h.2)
-refused_all options bytes error.Write h = h
-refused_all options bytes error.OutOfMemory h = h
-refused_all options bytes error.NotVersion1 h = h
+-- the first refusal of the first bytes is that of all
+pub least_all : (bytes : List ℕ) (f : PlanFault) → IsLeast (Applies (take MOST_READ bytes)) f → IsLeast (Applies bytes) f
+least_all bytes f least = refused_by bytes f (either_size (length bytes)) least
 
-not_migrated_all : (bytes : List ℕ) (e : RunError) → IsNotMigrated (take MOST_READ bytes) e → IsNotMigrated bytes e
+pub not_migrated_all : (bytes : List ℕ) (e : RunError) → IsNotMigrated (take MOST_READ bytes) e → IsNotMigrated bytes e
 not_migrated_all bytes error.Read h = h
-not_migrated_all bytes (error.Refused f) h = refused_by bytes f (either_size (length bytes)) h
+not_migrated_all bytes (error.Refused f) h = least_all bytes f h
 not_migrated_all bytes (error.Run f) h = h
 not_migrated_all bytes error.Write h = h
 not_migrated_all bytes error.OutOfMemory h = h
 not_migrated_all bytes error.NotVersion1 h = other_all bytes h
 
--- what is refused of the first bytes is refused of all
-pub run_refused : (options : Options) (held : Option (List ℕ)) (read : List ℕ) (e : RunError) → IfSome held (λ bytes. read ≡ take MOST_READ bytes)
-    → IsRefused options read e → IfSome held (λ bytes. IsRefused options bytes e)
-run_refused options None read e is h = tt
-run_refused options (Some bytes) read e is h = refused_all options bytes e (rw is at h)
+-- what an error says of the first bytes it says of all
+abbrev pub IsSaidOfAll : (List ℕ → RunError → Type 0) → Type 0
+IsSaidOfAll Says = (bytes : List ℕ) (e : RunError) → Says (take MOST_READ bytes) e → Says bytes e
 
-pub migrate_refused : (held : Option (List ℕ)) (read : List ℕ) (e : RunError) → IfSome held (λ bytes. read ≡ take MOST_READ bytes)
-    → IsNotMigrated read e → IfSome held (λ bytes. IsNotMigrated bytes e)
-migrate_refused None read e is h = tt
-migrate_refused (Some bytes) read e is h = not_migrated_all bytes e (rw is at h)
+pub run_refused : (Says : List ℕ → RunError → Type 0) (all : IsSaidOfAll Says) (held : Option (List ℕ)) (read : List ℕ) (e : RunError)
+    → IfSome held (λ bytes. read ≡ take MOST_READ bytes) → Says read e → IfSome held (λ bytes. Says bytes e)
+run_refused Says all None read e is h = tt
+run_refused Says all (Some bytes) read e is h = all bytes e (rw is at h)
+
+pub refused_all : (Refuses : Refusal) → IsSaidOfAll (IsRefusedBy Refuses)
+refused_all Refuses bytes error.Read h = h
+refused_all Refuses bytes (error.Refused f) h = least_all bytes f h
+refused_all Refuses bytes (error.Run f) h = (h.0, document_all bytes (input.Plans h.0) h.1, h.2)
+refused_all Refuses bytes error.Write h = h
+refused_all Refuses bytes error.OutOfMemory h = h
+refused_all Refuses bytes error.NotVersion1 h = h

@@ -1,4 +1,3 @@
-pub mod MigratedAnswers
 pub mod ReportText
 pub mod Run
 pub mod Migration

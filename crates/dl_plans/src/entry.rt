@@ -1,31 +1,13 @@
-//! The program over a runtime, and what `plan_picture` shares with it.
+//! What a program is asked for, and how it ends, over a runtime.
 
 use crate::fault::RunError;
-use crate::migration::run_migrate;
-use crate::program::run;
 use crate::status::{FAILED, RAN, command_status, words_status};
 use clap::error::ErrorKind;
 use dl_command::{Options, Program};
 use std::hash::RandomState;
-use std::process::ExitCode;
 use std::random::RandomSource;
 use std::rt::Env;
-use std::sync::Wait;
-use std::thread::Threads;
 use std::{env, io};
-
-/// The program `plans`: it answers the document on standard input as the command line says, by threads of `threads`, and
-/// answers the status with which it ends. Where it fails, a line on standard error says why.
-pub fn plans<
-    R: Env + RandomSource + Input + Print + Eprint + AllocGlobal,
-    T: Threads + Wait + Sync,
->(rt: &R, threads: &T) -> ExitCode {
-    let status = match asked(rt, Program::Plans) {
-        Ok((options, hashing)) => told(rt, &written(rt, threads, hashing, options)),
-        Err(status) => status,
-    };
-    ExitCode::from(status)
-}
 
 // ---- what is asked for
 
@@ -96,22 +78,7 @@ pub fn tell_no_options<R: Print + Eprint>(rt: &R, error: &clap::Error) {
     };
 }
 
-// ---- what is done
-
-/// Writes what the options ask for to standard output: the document that stands on standard input as version 2, or what it gives.
-fn written<R: Input + Print + AllocGlobal, T: Threads + Wait + Sync>(
-    rt: &R,
-    threads: &T,
-    hashing: RandomState,
-    options: Options,
-) -> Result<(), RunError> {
-    let (alloc, mut reader, mut writer) = (rt.alloc(), rt.reader(), io::writer(rt));
-    if options.migrate {
-        run_migrate(alloc, hashing, &mut reader, &mut writer)
-    } else {
-        run(threads, alloc, hashing, &mut reader, &mut writer, options)
-    }
-}
+// ---- how it ends
 
 /// The status of a run. Where it failed, a line on standard error says why.
 pub fn told<R: Eprint>(rt: &R, ran: &Result<(), RunError>) -> u8 {

@@ -1,4 +1,5 @@
-//! The program `plans`: it reads a document, and prints what it gives.
+//! What the programs `plans` and `plan_picture` are made of, but for the call that serves plans: what a command line asks for, reading and
+//! writing, the text of a report, migration, and the lines and statuses of failures.
 #![tactic(auto)]
 
 mod answer_lines;
@@ -7,9 +8,9 @@ mod entry;
 mod fault;
 pub mod laws;
 mod migration;
-mod program;
 mod report;
 mod status;
+mod streams;
 
 pub use dl_command::{Options, not_text, options, out_of_range, workers};
 pub use dl_documents::{
@@ -17,9 +18,12 @@ pub use dl_documents::{
 };
 pub use dl_migration::{MigrateFault, migrate};
 pub use dl_scripts::run_script;
-pub use entry::{asked, plans, tell_no_options, told, words};
+pub use entry::{asked, tell_no_options, told, words};
 pub use fault::RunError;
 pub use migration::run_migrate;
-pub use program::{read_all, run, served, write_all};
 pub use report::report_text;
 pub use status::{FAILED, RAN, command_status, words_status};
+pub use streams::{read_all, write_all};
+
+/// For how many jobs the queue between plans and workers has room, where a program serves a plan file.
+pub const QUEUE_PLACES: u32 = 16;

@@ -8,14 +8,14 @@ ghost use Rattle.dl_plans.specs.Migration.{IsNotMigrated};
 ghost use Rattle.dl_plans.specs.Run.{Writes, WritesFront, ReadsAtMost};
 
 use crate::fault::RunError;
-use crate::program::{read_all, write_all};
+use crate::streams::{read_all, write_all};
 use dl_migration::{MigrateFault, migrate};
 use std::alloc::Global;
 use std::hash::RandomState;
 use std::io::{Read, Write};
 
 /// Reads a plan file of version 1, and writes it as [`migrate`] gives it, as version 2, once all of the text is made. It reads
-/// and writes as [`run`](crate::run) does. Tables are hashed by `hashing`, of which nothing is seen.
+/// and writes as the program `plans` does elsewhere. Tables are hashed by `hashing`, of which nothing is seen.
 ///
 /// # Errors
 /// `Read` where the reader fails, `Refused` where what it holds is no document, `NotVersion1` where it is a script or a plan file

@@ -1,9 +1,9 @@
-//! `run` and `run_migrate` over a writer that fails in its flush, and the lines of failures. Reads and writes that fail are asked of the
-//! program, by `tests/refusals`.
+//! `write_all` and `run_migrate` over a writer that fails in its flush, and the lines of failures. Reads and writes that fail are asked of
+//! the program, by `tests/refusals`.
 
 use crate::comparison::assert_is;
 use dl_loader::{CloseFault, StartFault};
-use dl_plans::{Options, RunError, run, run_migrate};
+use dl_plans::{RunError, run_migrate, write_all};
 use dl_scope::ScopeFault;
 use dl_workers::QueueFault;
 use std::alloc::Global;
@@ -11,15 +11,8 @@ use std::hash::RandomState;
 use std::io::{self, ErrorKind, Write};
 use std::process::Abort;
 
-/// A plan file of no steps, which gives no text, and as version 2 one of as many bytes.
+/// A plan file of no steps, which as version 2 has as many bytes.
 const DOCUMENT: &str = r#"{"version":1,"tables":[],"plans":[[]]}"#;
-
-/// The options of an answer.
-const OPTIONS: Options = Options {
-    workers: 1,
-    batches: false,
-    migrate: false,
-};
 
 /// A writer that takes all bytes, and fails in its flush.
 #[derive(Drop)]
@@ -43,9 +36,8 @@ fn flushes_fail(rt: HostRuntime) {
     let alloc = rt.alloc();
     let hashing = RandomState::new(&rt).expect(&rt, "no random numbers");
     let mut writer = Unflushed { taken: 0 };
-    let mut reader = DOCUMENT.as_bytes();
-    let ran = run(&rt, alloc, hashing, &mut reader, &mut writer, OPTIONS);
-    assert!(rt; ran == Err(RunError::Write), "an answer");
+    let wrote = write_all(&mut writer, b"");
+    assert!(rt; wrote == Err(RunError::Write), "nothing");
     assert_is(&rt, &writer.taken, &0, "what is written of it");
     let mut reader = DOCUMENT.as_bytes();
     let ran = run_migrate(alloc, hashing, &mut reader, &mut writer);

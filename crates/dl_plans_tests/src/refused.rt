@@ -8,9 +8,11 @@ use clap::error::ErrorKind;
 use dl_documents::{Input, PlanFault, read_document, read_input};
 use dl_fixtures::{Kind, MOST_GROWTHS, Refusal, made};
 use dl_plans::{
-    MigrateFault, Options, RunError, migrate, options, report_text, run, run_migrate, run_script,
-    served,
+    MigrateFault, Options, PlanFile, QUEUE_PLACES, RunError, migrate, options, report_text,
+    run_migrate, run_script,
 };
+use dl_scope::{Report, ScopeFault, Setup, serve};
+use dl_workers::NoGate;
 use std::alloc::Global;
 use std::hash::RandomState;
 use std::io::Eprint;
@@ -129,7 +131,7 @@ impl<R: Abort + Eprint + Threads + Wait + Sync> Stage<'_, R> {
                 run_script(alloc, hashing, &script)
             ),
             Input::Plans(file) => {
-                let report = served(self.rt, alloc, hashing, file, OPTIONS);
+                let report = served(self.rt, alloc, hashing, file);
                 let report = report.expect(self.rt, "no report");
                 made!(
                     self,
@@ -171,34 +173,6 @@ impl<R: Abort + Eprint + Threads + Wait + Sync> Stage<'_, R> {
             Ok(text) => assert_is(self.rt, &Ok(text.as_str()), &row.migrated, row.document),
             Err(fault) => assert_is(self.rt, &Err(fault), &row.migrated, row.document),
         }
-    }
-
-    /// Answers a document over a reader and a writer.
-    fn run(&self, row: &Row) {
-        let (want, text) = match row.text {
-            Ok(text) => (Ok(()), text),
-            Err(fault) => (Err(RunError::Refused(fault)), ""),
-        };
-        let out = Vec::with_capacity(self.alloc, ROOM);
-        let mut out = out.expect(self.rt, "no memory");
-        self.refusal.begin();
-        let mut ran = self.answer(row, &mut out);
-        if self.refusal.end(self.rt, "run") && self.is_out_of_memory(ran) {
-            ran = self.answer(row, &mut out);
-        }
-        assert_is(self.rt, &ran, &want, row.document);
-        assert_is(self.rt, &out.as_slice(), &text.as_bytes(), row.document);
-    }
-
-    /// Whether a run may end so where a growth is refused.
-    fn is_out_of_memory(&self, ran: Result<(), RunError>) -> bool {
-        let text = format!(in self.alloc; "{ran:?}").expect(self.rt, "no memory");
-        text.contains("OutOfMemory") || text.contains("Stopped") || text.contains("Unfetched")
-    }
-
-    fn answer(&self, row: &Row, out: &mut Vec<u8>) -> Result<(), RunError> {
-        let mut reader = row.document.as_bytes();
-        run(self.rt, self.alloc, self.hashing, &mut reader, out, OPTIONS)
     }
 
     /// Migrates a document over a reader and a writer.
@@ -247,6 +221,28 @@ fn asked(alloc: Global, words: &[&str]) -> Result<Options, ErrorKind> {
     }
 }
 
+/// The report of a plan file, as the program serves one.
+fn served<T: Threads + Wait + Sync>(
+    rt: &T,
+    alloc: Global,
+    hashing: RandomState,
+    file: PlanFile,
+) -> Result<Report, ScopeFault> {
+    let PlanFile {
+        tables,
+        plans,
+        limits,
+        table_limits,
+    } = file;
+    let setup = Setup {
+        limits,
+        tables: table_limits,
+        workers: OPTIONS.workers,
+        queue: QUEUE_PLACES,
+    };
+    serve(rt, alloc, hashing, &tables, setup, plans, &NoGate)
+}
+
 #[test]
 fn documents_whose_growths_are_refused(rt: HostRuntime) {
     let hashing = RandomState::new(&rt).expect(&rt, "no random numbers");
@@ -263,7 +259,6 @@ fn documents_whose_growths_are_refused(rt: HostRuntime) {
             stage.read(row);
             stage.read_tree(row);
             stage.migrate(row);
-            stage.run(row);
             stage.run_migrate(row);
         }
         if !refusal.has_met() {

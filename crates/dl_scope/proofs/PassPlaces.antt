@@ -4,7 +4,7 @@ use Rattle.std.proofs.Common.{Option, Some, None, Bool, true, false, ifâ—Œthenâ—
 use Rattle.std.specs.Prelude.{slice_get, nat_eq, IfOk, Result}
 use Rattle.std.specs.List.{AllZip}
 use Rattle.std.proofs.lemmas.Bool.Decides.{nat_tests}
-use Rattle.dl_haxl.specs.declared.fault.RunFault.{RunFault}
+use Rattle.dl_report.specs.declared.fault.RunFault.{RunFault}
 use Rattle.dl_history.specs.Agreement.{Account, account, entries_of}
 use Rattle.dl_history.specs.Entries.{Entry}
 use Rattle.dl_history.specs.Lists.{Every}
@@ -24,8 +24,8 @@ use Rattle.dl_scope.specs.declared.tasks.PlanRun.{PlanRun}
 use Rattle.dl_scope.specs.declared.tasks.WorkerTask.{WorkerTask}
 use Rattle.dl_scope.specs.declared.tasks.WorkerRun.{WorkerRun}
 use Rattle.dl_terms.specs.declared.plan.Plan.{Plan}
-use Rattle.dl_haxl.specs.declared.step_answer.StepAnswer.{StepAnswer}
-use Rattle.dl_haxl.specs.declared.step_answer.StepAnswers.{StepAnswers}
+use Rattle.dl_report.specs.declared.step_answer.StepAnswer.{StepAnswer}
+use Rattle.dl_haxl.specs.declared.step_answers.StepAnswers.{StepAnswers}
 use Rattle.dl_scope.proofs.WorkerPasses.{worked_adds}
 
 -- ---- fresh passes

@@ -5,8 +5,8 @@ use Rattle.std.specs.List.{AllByRecursion}
 use Rattle.std.proofs.lemmas.List.Elements.{recursion_from_All}
 use Rattle.dl_workers.specs.declared.worker.WorkerEnd.{WorkerEnd}
 use Rattle.dl_workers.specs.declared.worker.WorkerEnd.TheVariants.{GaveUp}
-use Rattle.dl_haxl.specs.declared.fault.RunFault.{RunFault}
-use Rattle.dl_haxl.specs.declared.step_answer.StepAnswers.{StepAnswers}
+use Rattle.dl_report.specs.declared.fault.RunFault.{RunFault}
+use Rattle.dl_haxl.specs.declared.step_answers.StepAnswers.{StepAnswers}
 use Rattle.dl_scope.specs.Faults.{AnyGaveUp, AnyMet, IsLeastFault, IsStop, Met, WereStopped}
 use Rattle.dl_scope.specs.Inside.Results.{MetNoOwn, WasTaken, fault_of, met}
 use Rattle.dl_scope.specs.declared.tasks.PlanRun.{PlanRun}

@@ -19,9 +19,9 @@ use Rattle.dl_workers.specs.declared.worker.WorkerEnd.{WorkerEnd}
 use Rattle.dl_loader.proofs.EndEntries.{TellEnds, ended_adds, tell_ends}
 use Rattle.dl_haxl.specs.PlanEntries.{FollowsAndSends}
 use Rattle.dl_haxl.specs.Rounds.{AddsAndSends}
-use Rattle.dl_haxl.specs.declared.fault.RunFault.{RunFault}
-use Rattle.dl_haxl.specs.declared.step_answer.StepAnswer.{StepAnswer}
-use Rattle.dl_haxl.specs.declared.step_answer.StepAnswers.{StepAnswers}
+use Rattle.dl_report.specs.declared.fault.RunFault.{RunFault}
+use Rattle.dl_report.specs.declared.step_answer.StepAnswer.{StepAnswer}
+use Rattle.dl_haxl.specs.declared.step_answers.StepAnswers.{StepAnswers}
 use Rattle.dl_haxl.proofs.JobCounts.{EachSent, follows_counted}
 use Rattle.dl_scope.specs.Inside.Results.{AllGave, Gave, IsDone}
 use Rattle.dl_scope.specs.Inside.ThreadRuns.{IsPlanRun, IsWorkerRun}

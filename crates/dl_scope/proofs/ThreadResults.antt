@@ -5,8 +5,8 @@ use Rattle.std.proofs.lemmas.List.{map-append}
 use Rattle.std.specs.declared.alloc.Global.{Global}
 use Rattle.dl_scope.specs.Inside.Results.{AllGave, Gave}
 use Rattle.dl_scope.specs.declared.tasks.PlanRun.{PlanRun}
-use Rattle.dl_haxl.specs.declared.step_answer.StepAnswer.{StepAnswer}
-use Rattle.dl_haxl.specs.declared.step_answer.StepAnswers.{StepAnswers}
+use Rattle.dl_report.specs.declared.step_answer.StepAnswer.{StepAnswer}
+use Rattle.dl_haxl.specs.declared.step_answers.StepAnswers.{StepAnswers}
 
 -- one more of a list's elements is put behind what there is
 pub mapped_more : {X Y : Type 0} (f : X → Y) (before now new : List Y) (xs : List X) (x : X) → now ≡ before ++ map f xs → new ≡ now ++ f x ∷ []

@@ -13,8 +13,8 @@ use Rattle.dl_values.proofs.outcome.BatchFault.TheSendSync as batch
 use Rattle.dl_history.specs.declared.name.LoaderName as name
 use Rattle.dl_history.proofs.ThreadSafety.{Json-send, Outcome-field-send}
 use Rattle.dl_loader.specs.contracts.loader.Loader as Loader
-use Rattle.dl_passes.specs.contracts.pass.Pass as Pass
-use Rattle.dl_passes.proofs.pass.Pass.TheSendSync as pass
+use Rattle.dl_history.specs.contracts.pass.Pass as Pass
+use Rattle.dl_history.proofs.pass.Pass.TheSendSync as pass
 use Rattle.dl_loader.proofs.ThreadSafety.{Loader-sync}
 use Rattle.dl_queue.specs.contracts.queue.JobQueue as JobQueue
 use Rattle.dl_queue.proofs.queue.JobQueue.TheSendSync as queue
@@ -24,16 +24,16 @@ use Rattle.dl_terms.proofs.term.Term.TheLaws.TheKnot.{crosses as terms_cross}
 use Rattle.dl_terms.proofs.answer_value.AnswerValue.TheLaws.TheKnot.{crosses as answers_cross}
 use Rattle.dl_terms.specs.contracts.answer.Answer as Answer
 use Rattle.dl_terms.specs.contracts.term.Term as Term
-use Rattle.dl_haxl.proofs.fault.RunFault.TheSendSync as fault
+use Rattle.dl_report.proofs.fault.RunFault.TheSendSync as fault
 use Rattle.dl_scope.specs.contracts.tasks.PlanTask as PlanTask
 use Rattle.dl_scope.specs.contracts.tasks.PlanRun as PlanRun
 use Rattle.dl_terms.specs.contracts.plan.Plan as Plan
 use Rattle.dl_terms.specs.contracts.plan.Step as Step
-use Rattle.dl_haxl.specs.contracts.step_answer.StepAnswer as StepAnswer
+use Rattle.dl_report.specs.contracts.step_answer.StepAnswer as StepAnswer
 use Rattle.dl_scope.proofs.server.Resources.TheSendSync as resources
 use Rattle.dl_scope.specs.contracts.server.Resources as Resources
 use Rattle.dl_scope.specs.contracts.server.Server as Server
-use Rattle.dl_haxl.specs.contracts.step_answer.StepAnswers as StepAnswers
+use Rattle.dl_haxl.specs.contracts.step_answers.StepAnswers as StepAnswers
 
 Term-field-send : IsSend Term.the_field.row
 Term-field-send = search (terms_cross, Json-send, key.the_send, owners_cross, maps_cross, sendable) depth 40

@@ -1,27 +1,19 @@
 -- The headline: what a report is evidence of, whatever the schedule was.
 use Rattle.std.specs.Prelude.{◌≡◌, ℕ, ◌+◌, ◌<◌, ◌≤◌, List, [], length, count_by, nat_le, Some, slice_get}
-use Rattle.dl_values.specs.Limits.{rules_by}
-use Rattle.dl_values.specs.Key.{Key}
-use Rattle.dl_values.specs.declared.outcome.BatchAnswer.{BatchAnswer}
 use Rattle.dl_history.specs.Agreement.{Agrees, HasEach, entries_of}
 use Rattle.dl_history.specs.Entries.{Entry, Called, Saw}
 use Rattle.dl_history.specs.History.{IsLegal, AllEnded}
 use Rattle.dl_history.specs.Lists.{Every}
-use Rattle.dl_history.specs.Service.{Service, service}
+use Rattle.dl_history.specs.Service.{Service}
 use Rattle.dl_history.specs.declared.event.Call.{Call}
 use Rattle.dl_history.specs.declared.event.Call.TheVariants.{Load, LoadMany, Prime, Clear, ClearAll, Dispatch, Settle, Fail}
 use Rattle.dl_history.specs.declared.event.Event.{Event}
 use Rattle.dl_haxl.specs.PlanEntries.{Follows}
-use Rattle.dl_scope.specs.Report.{Report}
+use Rattle.dl_report.specs.Report.{Report}
 use Rattle.dl_workers.specs.GiveUps.{given_up}
 use Rattle.dl_loader.specs.Dispatches.{dispatched, unsent}
 use Rattle.dl_terms.specs.declared.plan.Plan.{Plan}
-use Rattle.dl_scope.specs.declared.setup.Setup.{Setup}
-use Rattle.dl_haxl.specs.declared.step_answer.StepAnswer.{StepAnswer}
-
--- what a server serves by: its callers are the plans and then the workers, and its source answers by one function
-abbrev pub service_of : Setup → ℕ → (List Key → BatchAnswer) → Service
-service_of setup plans answer = service (rules_by setup.limits setup.tables) (plans + setup.workers) answer
+use Rattle.dl_report.specs.declared.step_answer.StepAnswer.{StepAnswer}
 
 -- the call ends this batch
 abbrev pub Ends : ℕ → Call → Type 0

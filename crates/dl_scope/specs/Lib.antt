@@ -4,4 +4,3 @@ pub mod Faults
 pub mod Headline
 pub mod Inside
 pub mod OwnAnswers
-pub mod Report

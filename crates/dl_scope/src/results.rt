@@ -5,26 +5,41 @@ ghost use Rattle.dl_terms.specs.Plans.{most_plans};
 ghost use Rattle.dl_scope.specs.Faults.{AnyGaveUp, AnyMet, IsLeastFault, IsStop};
 ghost use Rattle.dl_queue.specs.Balance.{Balances};
 ghost use Rattle.dl_queue.specs.Seats.{AreSeatsOf};
-ghost use Rattle.dl_scope.specs.declared.fault.ScopeFault.TheVariants.{OutOfMemory};
+ghost use Rattle.dl_report.specs.declared.fault.ScopeFault.TheVariants.{OutOfMemory};
 ghost use Rattle.dl_scope.specs.Inside.Results.{AllGave, AreResults, IsDone, IsFaultOf, IsNoResult, MetNoOwn, WasTaken, fault_of};
 
-use crate::fault::ScopeFault;
 use crate::tasks::{PlanRun, WorkerRun};
 use crate::threads::Runs;
-use dl_haxl::{RunFault, StepAnswer};
 use dl_loader::{CallFault, LoaderName, Pass};
+use dl_report::{RunFault, ScopeFault, StepAnswer};
 use dl_workers::{JobQueue, Sender, Taker, Tally, WorkerEnd};
 use std::alloc::{AllocError, Global};
 use std::sync::Wait;
 
 /// What the threads gave back: passes in the order of their callers, seats, and for each plan what its steps gave.
-#[derive(Drop)]
 pub(crate) struct ThreadResults<L: LoaderName> {
     pub(crate) passes: Vec<Pass<L>>,
     pub(crate) senders: Vec<Sender>,
     pub(crate) takers: Vec<Taker>,
     pub(crate) answers: Vec<Vec<StepAnswer>>,
     pub(crate) rounds: Vec<u64>,
+}
+
+impl<L: LoaderName> Drop for ThreadResults<L> {
+    fn drop(self) {
+        let ThreadResults {
+            passes,
+            senders,
+            takers,
+            answers,
+            rounds,
+        } = self;
+        drop(passes);
+        drop(senders);
+        drop(takers);
+        drop(answers);
+        drop(rounds);
+    }
 }
 
 /// What serving plans leaves before the loader is closed.

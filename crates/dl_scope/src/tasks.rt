@@ -8,8 +8,9 @@ ghost use Rattle.dl_scope.specs.Inside.ThreadRuns.{IsPlanRun, IsWorkerRun};
 
 use crate::results::ThreadResults;
 use crate::server::Server;
-use dl_haxl::{RunFault, StepAnswers, take_steps};
+use dl_haxl::{StepAnswers, take_steps};
 use dl_loader::{LoaderName, Pass};
+use dl_report::RunFault;
 use dl_source::Source;
 use dl_terms::Plan;
 use dl_workers::{Gate, JobQueue, Sender, Taker, WorkerEnd, work};

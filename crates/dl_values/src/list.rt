@@ -64,7 +64,7 @@ impl List<Job> {
     {
         let mut copies = Vec::with_capacity(alloc, jobs.len())?;
         for job in jobs {
-            copies.push(job.try_copy()?)?;
+            copies.push_reserved(job.try_copy()?);
         }
         Ok(List { items: copies })
     }

@@ -3,7 +3,8 @@
 ghost use Rattle.std.specs.Prelude.{◌≢◌, ◌+◌, IfErr, IfSome};
 ghost use Rattle.std.specs.Io.KnownBytes.{Keeps};
 ghost use Rattle.dl_documents.specs.Faults.{most_bytes};
-ghost use Rattle.dl_plans.specs.Run.{IsRefused, ReadsAtMost};
+ghost use Rattle.dl_plans.specs.Run.{ReadsAtMost};
+ghost use Rattle.plan_picture.specs.Refusals.{IsRefused};
 
 use crate::picture::picture;
 use dl_command::Options;
@@ -15,11 +16,11 @@ use std::sync::Wait;
 use std::thread::Threads;
 
 /// Reads a document, and writes its picture once all of it is made: that of a script, or that of what serving the plans of a
-/// plan file left. It reads, serves and writes as [`run`](dl_plans::run) does. Keys are hashed by `hashing`, of which nothing
-/// is seen.
+/// plan file left. It reads, serves and writes as the program `plans` does. Keys are hashed by `hashing`, of which nothing is
+/// seen.
 ///
 /// # Errors
-/// Those of [`run`](dl_plans::run). Only after `Write` something may be written: a front of the picture.
+/// Those of `plans`. Only after `Write` something may be written: a front of the picture.
 pub(crate) fn run_draw<R: Read, W: Write, T: Threads + Wait + Sync>(
     rt: &T,
     alloc: Global,

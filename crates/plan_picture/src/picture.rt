@@ -1,14 +1,18 @@
 //! The picture of a document.
 
-ghost use Rattle.std.specs.Prelude.{◌≢◌, ℕ, List, IfErr};
-ghost use Rattle.dl_plans.specs.Run.{IsRefused};
+ghost use Rattle.std.specs.Prelude.{◌≢◌, ℕ, List, IfErr, IfOk};
 ghost use Rattle.dl_command.specs.declared.settings.Options.{Options};
+ghost use Rattle.dl_plans.specs.Run.{file_service, setup_of};
+ghost use Rattle.dl_scope.specs.Faults.{RefusedAs};
+ghost use Rattle.dl_scope.specs.Headline.{Headline};
+ghost use Rattle.plan_picture.specs.Refusals.{IsRefused};
 
 use dl_command::Options;
-use dl_documents::{Input, PlanFault, read_input};
+use dl_documents::{Input, PlanFault, PlanFile, read_input};
 use dl_picture::{history_picture, script_picture};
-use dl_plans::{RunError, served};
-use dl_scope::{MOST_PLANS, Report};
+use dl_plans::{QUEUE_PLACES, RunError};
+use dl_scope::{MOST_PLANS, Report, ScopeFault, Setup, serve};
+use dl_workers::NoGate;
 use std::alloc::{AllocError, Global};
 use std::hash::RandomState;
 use std::sync::Wait;
@@ -34,6 +38,36 @@ pub(crate) fn picture<T: Threads + Wait + Sync>(
             Err(fault) => Err(RunError::Run(fault)),
         },
     }
+}
+
+/// What serving the plans of a file over its tables leaves: at once, each on a thread of its own, within the limits of the file,
+/// by as many workers as the options say, over a queue of [`QUEUE_PLACES`].
+///
+/// # Errors
+/// Those of [`serve`].
+fn served<T: Threads + Wait + Sync>(
+    rt: &T,
+    alloc: Global,
+    hashing: RandomState,
+    file: PlanFile,
+    options: Options,
+) -> Result<Report, ScopeFault>
+    ensures headline { IfOk result (Headline (file_service options file) file.plans.items) }
+    ensures refused { IfErr result (RefusedAs (file_service options file) (setup_of options file) file.plans.items) }
+{
+    let PlanFile {
+        tables,
+        plans,
+        limits,
+        table_limits,
+    } = file;
+    let setup = Setup {
+        limits,
+        tables: table_limits,
+        workers: options.workers,
+        queue: QUEUE_PLACES,
+    };
+    serve(rt, alloc, hashing, &tables, setup, plans, &NoGate)
 }
 
 /// The picture of what serving plans left. The error is a failed allocation.

@@ -1,8 +1,39 @@
 //! The program `plans`: it answers the document that stands on standard input.
+//!
+//! Here stands what calls `serve`, so that its proof is loaded for one crate. What a program needs beside it stands in `dl_plans`.
 #![tactic(auto)]
 
+mod document;
+pub mod laws;
+
+use dl_command::{Options, Program};
+use dl_plans::{RunError, asked, run_migrate, told};
+use document::run;
+use std::hash::RandomState;
+use std::io;
 use std::process::ExitCode;
+use std::sync::Wait;
+use std::thread::Threads;
 
 fn main(rt: HostRuntime) -> ExitCode {
-    dl_plans::plans(&rt, &rt)
+    let status = match asked(&rt, Program::Plans) {
+        Ok((options, hashing)) => told(&rt, &written(&rt, &rt, hashing, options)),
+        Err(status) => status,
+    };
+    ExitCode::from(status)
+}
+
+/// Writes what the options ask for to standard output: the document that stands on standard input as version 2, or what it gives.
+fn written<R: Input + Print + AllocGlobal, T: Threads + Wait + Sync>(
+    rt: &R,
+    threads: &T,
+    hashing: RandomState,
+    options: Options,
+) -> Result<(), RunError> {
+    let (alloc, mut reader, mut writer) = (rt.alloc(), rt.reader(), io::writer(rt));
+    if options.migrate {
+        run_migrate(alloc, hashing, &mut reader, &mut writer)
+    } else {
+        run(threads, alloc, hashing, &mut reader, &mut writer, options)
+    }
 }

@@ -34,7 +34,7 @@ impl Desk {
         self.discard();
         let mut replies = Vec::with_capacity(alloc, keys.len())?;
         for key in keys {
-            replies.push(self.load_step(alloc, key)?)?;
+            replies.push_reserved(self.load_step(alloc, key)?);
         }
         Ok(replies)
     }

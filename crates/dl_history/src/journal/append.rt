@@ -44,7 +44,7 @@ impl<L: LoaderName> Journal<L> {
     /// `OutOfMemory`, `LogRefused`. The journal and the share then tell what they told before.
     // Inlined, so that an event is made where it will lie, and not moved there.
     #[inline(always)]
-    pub fn append(
+    pub(crate) fn append(
         &mut self,
         rows: &CellRows<L>,
         share: &mut Share<L>,

@@ -31,7 +31,7 @@ impl<L: LoaderName> Journal<L> {
     }
 
     /// What the journal has at the entries' places, or of their cells, is what the entries tell.
-    pub fn agree(&self, entries: &[Entry<L>])
+    pub(crate) fn agree(&self, entries: &[Entry<L>])
         ensures { Every (Meets self.now.history self.now.cells) entries.now }
     {
         for entry in entries {
@@ -51,7 +51,7 @@ impl<L: LoaderName> Journal<L> {
 
     /// Tells how a share of the ledger stands to the events: with all parts it has counted as many calls as there are
     /// events. It changes nothing.
-    pub fn audit(&mut self, share: &mut Share<L>)
+    pub(crate) fn audit(&mut self, share: &mut Share<L>)
         ensures same { self.new ≡ self.old }
         ensures parts { share.new.parts ≡ share.old.parts }
         ensures amount { share.new.amount ≡ share.old.amount }

@@ -13,13 +13,13 @@ use Rattle.dl_desk.specs.declared.reply.End.TheVariants.{Settled, Failed}
 use Rattle.dl_loader.specs.declared.dues.Due.{Due}
 use Rattle.dl_history.specs.declared.event.Call.{Call}
 use Rattle.dl_history.specs.declared.event.Call.TheVariants.{Prime, Settle, Fail}
-use Rattle.dl_passes.specs.declared.fault.CallFault.{CallFault}
-use Rattle.dl_passes.specs.declared.fault.CallFault.TheVariants.{WrongKeys}
+use Rattle.dl_history.specs.declared.fault.CallFault.{CallFault}
+use Rattle.dl_history.specs.declared.fault.CallFault.TheVariants.{WrongKeys}
 use Rattle.dl_history.specs.History.{keys_of}
 use Rattle.dl_history.specs.Journal.{Cell, waiting}
 use Rattle.dl_history.specs.LoaderState.{ShowsEnd}
 use Rattle.dl_loader.specs.Refusals.{same_keys}
-use Rattle.dl_passes.specs.Faults.{call_fault}
+use Rattle.dl_history.specs.Faults.{call_fault}
 
 -- The refusal of an end of a batch by a job with these keys: the batch may not end, or its keys are others.
 abbrev pub end_refusal : List Atom → ℕ → List Key → Option CallFault

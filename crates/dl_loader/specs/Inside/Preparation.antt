@@ -14,8 +14,8 @@ use Rattle.dl_history.specs.declared.event.Reply.{Reply}
 use Rattle.dl_history.specs.declared.event.Reply.TheVariants.{Primed}
 use Rattle.dl_history.specs.History.{MayBeMade, reply_to}
 use Rattle.dl_loader.specs.declared.dues.Due.{Due}
-use Rattle.dl_passes.specs.declared.fault.CallFault.{CallFault}
-use Rattle.dl_passes.specs.declared.fault.CallFault.TheVariants.{OutOfMemory}
+use Rattle.dl_history.specs.declared.fault.CallFault.{CallFault}
+use Rattle.dl_history.specs.declared.fault.CallFault.TheVariants.{OutOfMemory}
 use Rattle.dl_loader.specs.Inside.Dues.{AreDue}
 use Rattle.dl_loader.specs.Refusals.{cause}
 

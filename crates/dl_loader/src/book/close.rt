@@ -8,13 +8,12 @@ ghost use Rattle.dl_history.specs.History.{AllEnded, HasEnd, past};
 ghost use Rattle.dl_history.specs.LoaderState.{loader_state};
 ghost use Rattle.dl_loader.specs.Book.{state_of};
 ghost use Rattle.dl_history.specs.Lists.{Every};
-ghost use Rattle.dl_passes.specs.Accounts.{accounts_of};
+ghost use Rattle.dl_history.specs.Accounts.{accounts_of};
 ghost use Rattle.dl_loader.specs.CloseRefusals.{IsFirstOpen, TellWhole};
 
 use crate::book::Book;
 use dl_desk::{BatchState, Desk};
-use dl_history::{CellRows, Journal, LoaderName};
-use dl_passes::Pass;
+use dl_history::{CellRows, Journal, LoaderName, Pass};
 
 impl<L: LoaderName> Book<L> {
     /// The journal, which has the history and the cells.

@@ -7,15 +7,15 @@ ghost use Rattle.dl_history.specs.Lists.{Every};
 ghost use Rattle.dl_loader.specs.Book.{SomeCellRefused};
 ghost use Rattle.dl_loader.specs.Inside.Preparation.{ended_count};
 ghost use Rattle.dl_loader.specs.EventEffect.{Makes, WasMade, WasRefused, loads_of};
-ghost use Rattle.dl_passes.specs.Pass.{with_tickets};
+ghost use Rattle.dl_history.specs.Pass.{with_tickets};
 ghost use Rattle.dl_loader.specs.Refusals.{IsRefusal, refusal};
 
 use crate::book::Book;
 use crate::dues::give;
 use crate::event_call::{EventCall, Prepared};
 use crate::load_replies::begun_in;
-use dl_history::{CellRows, Event, LoaderName};
-use dl_passes::{CallFault, Pass, Settled};
+use crate::reply::Settled;
+use dl_history::{CallFault, CellRows, Event, LoaderName, Pass};
 use std::alloc::Global;
 
 impl<L: LoaderName> Book<L> {

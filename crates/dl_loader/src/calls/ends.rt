@@ -5,15 +5,16 @@ ghost use Rattle.std.specs.Prelude.{◌≡◌, ◌+◌, ◌<◌, IfErr, IfOk, On
 ghost use Rattle.dl_source.specs.Fetched.{answer_of, job_of, source_of};
 ghost use Rattle.dl_history.specs.declared.event.Call.TheVariants as call;
 ghost use Rattle.dl_history.specs.declared.event.Reply.TheVariants as reply;
-ghost use Rattle.dl_passes.specs.Asks.{end_by, fault_of};
+ghost use Rattle.dl_loader.specs.Asks.{end_by, fault_of};
 ghost use Rattle.dl_loader.specs.Book.{SomeCellRefused};
 ghost use Rattle.dl_loader.specs.EventEffect.{WasMade, WasRefused};
 
+use crate::ask::GiveUp;
 use crate::event_call::{Fail, Settle};
 use crate::loader::Loader;
+use crate::reply::Settled;
 use dl_desk::Job;
-use dl_history::LoaderName;
-use dl_passes::{CallFault, GiveUp, Pass, Settled};
+use dl_history::{CallFault, LoaderName, Pass};
 use dl_source::{Fetched, Source};
 use std::alloc::Global;
 use std::sync::Wait;
@@ -43,8 +44,7 @@ impl<L: LoaderName> Loader<L> {
         ensures back { IfErr result (λ e. e.1 ≡ fetched.entry) }
         ensures unchanged { OnErr result (pass.new.trace ≡ pass.old.trace) }
     {
-        let mut book = self.book.lock(rt);
-        match book.make(alloc, &self.rows, pass, &Settle { fetched: &fetched }) {
+        match self.call(rt, alloc, pass, &Settle { fetched: &fetched }) {
             Ok((_, settled)) => {
                 self.wake();
                 Ok(settled)
@@ -74,8 +74,7 @@ impl<L: LoaderName> Loader<L> {
         ensures back { IfErr result (λ e. e.1 ≡ job) }
         ensures unchanged { OnErr result (pass.new.trace ≡ pass.old.trace) }
     {
-        let mut book = self.book.lock(rt);
-        match book.make(alloc, &self.rows, pass, &Fail { job: &job, give_up }) {
+        match self.call(rt, alloc, pass, &Fail { job: &job, give_up }) {
             Ok((_, settled)) => {
                 self.wake();
                 Ok(settled)

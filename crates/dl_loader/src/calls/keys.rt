@@ -4,15 +4,15 @@ ghost use Rattle.std.specs.Prelude.{◌≡◌, ◌<◌, ◌≤◌, None, IfErr, 
 ghost use Rattle.dl_history.specs.History.{primed};
 ghost use Rattle.dl_history.specs.declared.event.Call.TheVariants as call;
 ghost use Rattle.dl_history.specs.declared.event.Reply.TheVariants as reply;
-ghost use Rattle.dl_passes.specs.EventReplies.{refused_by, reply_by};
+ghost use Rattle.dl_loader.specs.EventReplies.{refused_by, reply_by};
 ghost use Rattle.dl_loader.specs.Book.{SomeCellRefused};
 ghost use Rattle.dl_loader.specs.EventEffect.{WasMade, WasRefused};
 
 use crate::event_call::{Clear, ClearAll, Dispatch, Prime};
 use crate::loader::Loader;
+use crate::reply::{PrimeReply, Settled};
 use dl_desk::{DeskPrime, FetchKey, Job, Outcome};
-use dl_history::LoaderName;
-use dl_passes::{CallFault, Pass, PrimeReply, Settled};
+use dl_history::{CallFault, LoaderName, Pass};
 use std::alloc::Global;
 use std::sync::Wait;
 
@@ -41,8 +41,7 @@ impl<L: LoaderName> Loader<L> {
             key,
             outcome: &outcome,
         };
-        let mut book = self.book.lock(rt);
-        let (reply, ended) = book.make(alloc, &self.rows, pass, &call)?;
+        let (reply, ended) = self.call(rt, alloc, pass, &call)?;
         Ok(prime_reply(reply, ended))
     }
 
@@ -62,8 +61,7 @@ impl<L: LoaderName> Loader<L> {
         ensures fault { IfErr result (WasRefused L.service pass.old.trace (call.Clear key.now) None) }
         ensures unchanged { OnErr result (pass.new.trace ≡ pass.old.trace) }
     {
-        let mut book = self.book.lock(rt);
-        book.make(alloc, &self.rows, pass, &Clear { key })?;
+        self.call(rt, alloc, pass, &Clear { key })?;
         Ok(())
     }
 
@@ -82,8 +80,7 @@ impl<L: LoaderName> Loader<L> {
         ensures fault { IfErr result (WasRefused L.service pass.old.trace call.ClearAll None) }
         ensures unchanged { OnErr result (pass.new.trace ≡ pass.old.trace) }
     {
-        let mut book = self.book.lock(rt);
-        book.make(alloc, &self.rows, pass, &ClearAll)?;
+        self.call(rt, alloc, pass, &ClearAll)?;
         Ok(())
     }
 
@@ -102,8 +99,7 @@ impl<L: LoaderName> Loader<L> {
         ensures fault { IfErr result (WasRefused L.service pass.old.trace call.Dispatch None) }
         ensures unchanged { OnErr result (pass.new.trace ≡ pass.old.trace) }
     {
-        let mut book = self.book.lock(rt);
-        let (sent, _) = book.make(alloc, &self.rows, pass, &Dispatch)?;
+        let (sent, _) = self.call(rt, alloc, pass, &Dispatch)?;
         Ok(sent.into_jobs())
     }
 }

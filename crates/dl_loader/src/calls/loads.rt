@@ -4,13 +4,13 @@ ghost use Rattle.std.specs.Prelude.{◌≡◌, false, IfErr, IfOk, None, OnErr, 
 ghost use Rattle.dl_history.specs.declared.event.Call.TheVariants as call;
 ghost use Rattle.dl_history.specs.declared.event.Reply.TheVariants as reply;
 ghost use Rattle.dl_loader.specs.EventEffect.{WasMade, WasRefused};
-ghost use Rattle.dl_passes.specs.Pass.{GaveTicket, GaveTickets};
+ghost use Rattle.dl_history.specs.Pass.{GaveTicket, GaveTickets};
 
+use crate::book::Book;
 use crate::event_call::{Load, LoadMany};
 use crate::loader::Loader;
 use dl_desk::FetchKey;
-use dl_history::LoaderName;
-use dl_passes::{CallFault, Pass, Ticket};
+use dl_history::{CallFault, CellRows, LoaderName, Pass, Ticket};
 use std::alloc::Global;
 use std::sync::Wait;
 
@@ -58,12 +58,31 @@ impl<L: LoaderName> Loader<L> {
         ensures fault { IfErr result (WasRefused L.service pass.old.trace (call.LoadMany keys.now) None) }
         ensures unchanged { OnErr result (pass.new.trace ≡ pass.old.trace) }
     {
-        let mut guard = self.book.lock(rt);
-        let book = &mut *guard;
-        book.keeps();
+        self.book.lock(rt).load_many(alloc, &self.rows, pass, keys)
+    }
+}
+
+impl<L: LoaderName> Book<L> {
+    /// Makes the loads of keys as one event, and answers a ticket for each.
+    #[inline(always)]
+    fn load_many<'a>(
+        &mut self,
+        alloc: Global,
+        rows: &'a CellRows<L>,
+        pass: &mut Pass<L>,
+        keys: &[FetchKey],
+    ) -> Result<Vec<Ticket<'a, L>>, CallFault>
+        ensures made { IfOk result (λ tickets.
+            WasMade L.service pass.old.trace (call.LoadMany keys.now) (reply.Many (map (λ t. t.reply) tickets.items)) pass.new.trace) }
+        ensures each { IfOk result (λ tickets. length tickets.items ≡ length keys.now) }
+        ensures gave { IfOk result (λ tickets. GaveTickets pass.new.trace (length pass.old.trace.tickets) tickets.items) }
+        ensures fault { IfErr result (WasRefused L.service pass.old.trace (call.LoadMany keys.now) None) }
+        ensures unchanged { OnErr result (pass.new.trace ≡ pass.old.trace) }
+    {
+        self.keeps();
         let mut tickets = Vec::with_capacity(alloc, keys.len())?;
-        let (replies, _) = book.make(alloc, &self.rows, pass, &LoadMany { keys })?;
-        book.make_tickets(&self.rows, pass, replies.as_slice(), &mut tickets);
+        let (replies, _) = self.make(alloc, rows, pass, &LoadMany { keys })?;
+        self.make_tickets(rows, pass, replies.as_slice(), &mut tickets);
         Ok(tickets)
     }
 }

@@ -7,15 +7,15 @@ ghost use Rattle.dl_desk.specs.History.{Atom, members};
 ghost use Rattle.dl_desk.specs.Preparation.{MayEndIn};
 ghost use Rattle.dl_history.specs.declared.event.Call.TheVariants as made;
 ghost use Rattle.dl_history.specs.declared.event.Reply.TheVariants as reply;
-ghost use Rattle.dl_passes.specs.Asks.{end_by, fault_of};
+ghost use Rattle.dl_loader.specs.Asks.{end_by, fault_of};
 ghost use Rattle.dl_loader.specs.Inside.Dues.{end_as, end_refusal};
 ghost use Rattle.dl_source.specs.Fetched.{answer_of, job_of, source_of};
 
+use crate::ask::GiveUp;
 use crate::dues::{copy_outcomes, dues};
 use crate::event_call::{EventCall, Prepared};
 use dl_desk::{BatchFault, Desk, End, FetchKey, Job, LoadReply};
-use dl_history::{Call, Reply, Shared};
-use dl_passes::{CallFault, GiveUp};
+use dl_history::{Call, CallFault, Reply, Shared};
 use dl_source::{BatchAnswer, Fetched, Source};
 use std::alloc::{AllocError, Global};
 

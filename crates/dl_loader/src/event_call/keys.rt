@@ -11,8 +11,7 @@ ghost use Rattle.dl_loader.specs.EventEffect.{loads_of};
 use crate::dues::dues;
 use crate::event_call::{EventCall, Prepared};
 use dl_desk::{Desk, DeskPrime, FetchKey, Job, LoadReply, Outcome};
-use dl_history::{Call, Jobs, Reply, Shared};
-use dl_passes::CallFault;
+use dl_history::{Call, CallFault, Jobs, Reply, Shared};
 use std::alloc::Global;
 use std::marker::Model;
 use std::slice;
@@ -220,9 +219,10 @@ impl EventCall for Dispatch {
     ) -> Result<Prepared<SentJobs>, CallFault> {
         let jobs = desk.prepare_dispatch(alloc)?;
         let told = Shared::new(alloc, Jobs::copy_of(alloc, jobs.as_slice())?)?;
+        let copy = told.try_copy()?;
         Ok(Prepared {
             call: Call::Dispatch,
-            reply: Reply::Sent(told.again()?),
+            reply: Reply::Sent(copy),
             dues: Vec::new(alloc),
             answer: SentJobs { jobs, told },
         })

@@ -8,8 +8,7 @@ ghost use Rattle.dl_loader.specs.Inside.Preparation.{IsReady};
 
 use crate::event_call::{EventCall, Prepared};
 use dl_desk::{Desk, FetchKey, Keys, LoadReply};
-use dl_history::{Call, Replies, Reply, Shared};
-use dl_passes::CallFault;
+use dl_history::{Call, CallFault, Replies, Reply, Shared};
 use std::alloc::Global;
 use std::slice;
 
@@ -90,9 +89,11 @@ impl EventCall for LoadMany<'_> {
     ) -> Result<Prepared<Shared<Replies>>, CallFault> {
         let replies = desk.prepare_loads(alloc, self.keys)?;
         let replies = Shared::new(alloc, Replies::new(replies))?;
+        let told = replies.try_copy()?;
+        let keys = Keys::copy_of(alloc, self.keys)?;
         Ok(Prepared {
-            call: Call::LoadMany(Keys::copy_of(alloc, self.keys)?),
-            reply: Reply::Many(replies.again()?),
+            call: Call::LoadMany(keys),
+            reply: Reply::Many(told),
             dues: Vec::new(alloc),
             answer: replies,
         })

@@ -3,7 +3,7 @@
 ghost use Rattle.std.specs.Prelude.{◌≡◌, IfErr, IfNone, IfOk, IfSome, OnOk, map};
 ghost use Rattle.dl_history.specs.Agreement.{accounts_by, NoneBehind};
 ghost use Rattle.dl_history.specs.ClosedHistory.{IsHistory, outline_of};
-ghost use Rattle.dl_passes.specs.Accounts.{accounts_of};
+ghost use Rattle.dl_history.specs.Accounts.{accounts_of};
 ghost use Rattle.dl_loader.specs.CloseRefusals.{CloseWasRefused, IsBehind, RefusesClose, present};
 ghost use Rattle.dl_history.specs.Service.{AnswersEach};
 ghost use Rattle.dl_loader.specs.Inside.CloseSteps.{Closes, MayClose, earlier};
@@ -11,8 +11,7 @@ ghost use Rattle.dl_loader.specs.Inside.CloseSteps.{Closes, MayClose, earlier};
 use crate::book::Book;
 use crate::loader::Loader;
 use crate::loader::unshown::least_unshown;
-use dl_history::{CellRows, History, LoaderName, Outline};
-use dl_passes::{CloseFault, Pass};
+use dl_history::{CellRows, CloseFault, History, LoaderName, Outline, Pass};
 use std::alloc::{AllocError, Global};
 use std::sync::Mutex;
 
@@ -95,7 +94,7 @@ fn outlines_of<L: LoaderName>(alloc: Global, passes: &[Pass<L>]) -> Result<Vec<O
 {
     let mut outlines = Vec::with_capacity(alloc, passes.len())?;
     for pass in passes {
-        outlines.push(pass.outline(alloc)?)?;
+        outlines.push_reserved(pass.outline(alloc)?);
     }
     Ok(outlines)
 }

@@ -2,11 +2,10 @@
 
 ghost use Rattle.std.specs.Prelude.{◌∷◌, ◌++◌, [], ℕ, List, Some, flat_map};
 ghost use Rattle.dl_history.specs.Agreement.{read_in, refused_in, unshown};
-ghost use Rattle.dl_passes.specs.Accounts.{accounts_of};
+ghost use Rattle.dl_history.specs.Accounts.{accounts_of};
 ghost use Rattle.dl_loader.specs.CloseRefusals.{IsLeastOf};
 
-use dl_history::{Entry, EntryKind, Journal, LoaderName};
-use dl_passes::Pass;
+use dl_history::{Entry, EntryKind, Journal, LoaderName, Pass};
 
 /// The least cell that refused its outcome and of which one of the passes has an entry.
 pub(crate) fn least_unshown<L: LoaderName>(journal: &Journal<L>, passes: &[Pass<L>]) -> Option<u32>

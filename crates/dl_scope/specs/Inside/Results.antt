@@ -3,15 +3,15 @@ use Rattle.std.specs.Prelude.{◌≡◌, ℕ, List, [], ◌∷◌, ◌++◌, map
 use Rattle.std.specs.declared.alloc.Global.{Global}
 use Rattle.dl_workers.specs.declared.worker.WorkerEnd.{WorkerEnd}
 use Rattle.dl_workers.specs.declared.worker.WorkerEnd.TheVariants.{Done}
-use Rattle.dl_haxl.specs.declared.fault.RunFault.{RunFault}
+use Rattle.dl_report.specs.declared.fault.RunFault.{RunFault}
 use Rattle.dl_scope.specs.Faults.{IsStop, IsLeastFault, WereStopped}
-use Rattle.dl_scope.specs.declared.fault.ScopeFault.{ScopeFault}
-use Rattle.dl_scope.specs.declared.fault.ScopeFault.TheVariants.{NoPlans, TooManyPlans, BadWorkers, Start, Queue, Run, Stopped, Close, Unfetched, OutOfMemory}
+use Rattle.dl_report.specs.declared.fault.ScopeFault.{ScopeFault}
+use Rattle.dl_report.specs.declared.fault.ScopeFault.TheVariants.{NoPlans, TooManyPlans, BadWorkers, Start, Queue, Run, Stopped, Close, Unfetched, OutOfMemory}
 use Rattle.dl_scope.specs.declared.results.ThreadResults.{ThreadResults}
 use Rattle.dl_scope.specs.declared.tasks.PlanRun.{PlanRun}
 use Rattle.dl_scope.specs.declared.tasks.WorkerRun.{WorkerRun}
-use Rattle.dl_haxl.specs.declared.step_answer.StepAnswer.{StepAnswer}
-use Rattle.dl_haxl.specs.declared.step_answer.StepAnswers.{StepAnswers}
+use Rattle.dl_report.specs.declared.step_answer.StepAnswer.{StepAnswer}
+use Rattle.dl_haxl.specs.declared.step_answers.StepAnswers.{StepAnswers}
 use Rattle.dl_scope.specs.declared.threads.Runs.{Runs}
 
 -- the fault that steps met, or none

@@ -3,7 +3,7 @@ use Rattle.std.proofs.lemmas.Iterator.Adapters.{YieldsList-from_vec}
 use Rattle.std.proofs.lemmas.Iterator.Consumers.{YieldsList-turn}
 use Rattle.std.proofs.lemmas.Option.{slice_get_read}
 use Rattle.dl_loader.specs.Pass.{GaveTicket}
-use Rattle.dl_passes.proofs.TicketsAfterReads.{cells, gave_again, read_cells, still_gave}
+use Rattle.dl_history.proofs.TicketsAfterReads.{cells, gave_again, read_cells, still_gave}
 use Rattle.dl_bench.proofs.shared.round.Goals as goal
 
 pub wait-requires : goal.wait-requires

@@ -1,5 +1,5 @@
 use Rattle.std.proofs.Common.{◌≡◌}
-use Rattle.dl_passes.proofs.TicketsAfterReads.{cells}
+use Rattle.dl_history.proofs.TicketsAfterReads.{cells}
 use Rattle.dl_bench.proofs.shared.round.Given as goal
 
 abbrev pub invariant-loop-ticket : goal.invariant-loop-ticket

@@ -1,12 +1,13 @@
 use Rattle.std.proofs.Common.{rules, string_bytes, ◌≡◌, Err}
 use Rattle.dl_migration.specs.Migration.{IsMigrated}
-use Rattle.dl_plans.proofs.Runs.{run_ok, run_writes_front, migrate_refused, migrated_all}
+use Rattle.dl_plans.specs.Migration.{IsNotMigrated}
+use Rattle.dl_plans.proofs.Runs.{run_ok, run_writes_front, run_refused, migrated_all, not_migrated_all}
 use Rattle.dl_plans.proofs.migration.run_migrate.Goals as goal
 
 pub returns-in_err-text-clause-refused : goal.returns-in_err-text-clause-refused
 returns-in_err-text-clause-refused g c =
     let same : c.from_residual-in_err-text.result ≡ Err c.in_err-text.field-0.0 = search rules in
-    rw same (migrate_refused (g.R.Read.remaining c.args.reader.now) c.in_ok-bytes.bytes.items c.in_err-text.field-0.0 c.in_ok-bytes.ensures.bytes
+    rw same (run_refused IsNotMigrated not_migrated_all (g.R.Read.remaining c.args.reader.now) c.in_ok-bytes.bytes.items c.in_err-text.field-0.0 c.in_ok-bytes.ensures.bytes
     (rw c.deref.ensures.value at c.in_err-text.ensures.err))
 
 pub returns-clause-ok : goal.returns-clause-ok

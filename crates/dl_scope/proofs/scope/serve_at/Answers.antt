@@ -1,5 +1,5 @@
 use Rattle.std.proofs.Common.{map}
-use Rattle.dl_passes.specs.Accounts.{accounts_of}
+use Rattle.dl_history.specs.Accounts.{accounts_of}
 use Rattle.dl_scope.proofs.Headlines.{headline_of, unfetched_of}
 use Rattle.dl_scope.proofs.LateRefusals.{close_refused}
 use Rattle.dl_scope.proofs.scope.serve_at.Goals as goal

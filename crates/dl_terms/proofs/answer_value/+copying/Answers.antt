@@ -1,6 +1,6 @@
-use Rattle.std.proofs.Common.{◌∙◌, ap, sym, subst, false, arith}
+use Rattle.std.proofs.Common.{◌∙◌, ap, arith}
 use Rattle.serde_json.specs.View.{items_view}
-use Rattle.serde_json.specs.Written.{has_float, items_have_float}
+use Rattle.serde_json.specs.Written.{items_have_float}
 use Rattle.dl_terms.proofs.AnswerParts.{copied_next, list_below}
 use Rattle.dl_terms.proofs.WholeNumbers.{items_whole}
 use Rattle.dl_terms.proofs.answer_value.+copying.Goals as goal

@@ -1,7 +1,7 @@
 use Rattle.std.proofs.Common.{length, subst, sym}
 use Rattle.dl_history.specs.Agreement.{NoneBehind}
 use Rattle.dl_loader.specs.Book.{Book}
-use Rattle.dl_passes.specs.Accounts.{accounts_of}
+use Rattle.dl_history.specs.Accounts.{accounts_of}
 use Rattle.dl_loader.specs.CloseRefusals.{TellWhole}
 use Rattle.dl_loader.proofs.AccountLemmas.{passes_tell}
 use Rattle.dl_loader.proofs.book.Book.audit.Goals as goal

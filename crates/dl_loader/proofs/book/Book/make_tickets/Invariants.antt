@@ -1,5 +1,5 @@
 use Rattle.std.proofs.Common.{◌≤◌, length, take, vec_capacity}
-use Rattle.dl_passes.specs.Pass.{AreTickets}
+use Rattle.dl_history.specs.Pass.{AreTickets}
 use Rattle.dl_loader.proofs.book.Book.make_tickets.Given as goal
 
 abbrev pub invariant-loop-reply : goal.invariant-loop-reply

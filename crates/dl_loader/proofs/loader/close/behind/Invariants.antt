@@ -1,5 +1,5 @@
 use Rattle.std.proofs.Common.{take}
-use Rattle.dl_passes.specs.Accounts.{accounts_of}
+use Rattle.dl_history.specs.Accounts.{accounts_of}
 use Rattle.dl_loader.proofs.CloseLemmas.{IsFound}
 use Rattle.dl_loader.proofs.loader.close.behind.Given as goal
 

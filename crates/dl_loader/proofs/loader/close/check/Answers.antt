@@ -1,5 +1,5 @@
 use Rattle.std.proofs.Common.{◌∙◌, ap, length}
-use Rattle.dl_passes.specs.Accounts.{accounts_of}
+use Rattle.dl_history.specs.Accounts.{accounts_of}
 use Rattle.dl_loader.proofs.CloseLemmas.{each_present}
 use Rattle.dl_loader.proofs.loader.close.check.Goals as goal
 

@@ -1,5 +1,5 @@
 use Rattle.std.proofs.Common.{◌≡◌, ◌≤◌}
-use Rattle.dl_passes.specs.Accounts.{accounts_of}
+use Rattle.dl_history.specs.Accounts.{accounts_of}
 use Rattle.dl_loader.specs.CloseRefusals.{present}
 use Rattle.dl_loader.proofs.loader.close.present.Given as goal
 

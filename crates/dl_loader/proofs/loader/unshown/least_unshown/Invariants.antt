@@ -1,6 +1,6 @@
 use Rattle.std.proofs.Common.{take}
 use Rattle.dl_history.specs.Agreement.{unshown}
-use Rattle.dl_passes.specs.Accounts.{accounts_of}
+use Rattle.dl_history.specs.Accounts.{accounts_of}
 use Rattle.dl_loader.specs.CloseRefusals.{IsLeastOf}
 use Rattle.dl_loader.proofs.loader.unshown.least_unshown.Given as goal
 

@@ -9,12 +9,12 @@ use Rattle.std.specs.contracts.alloc.Global as Heap
 use Rattle.dl_values.specs.contracts.key.FetchKey as FetchKey
 use Rattle.dl_values.proofs.key.FetchKey.TheSendSync as key
 use Rattle.dl_loader.specs.contracts.loader.Loader as Loader
-use Rattle.dl_passes.specs.contracts.pass.Pass as Pass
-use Rattle.dl_passes.specs.contracts.ticket.Ticket as Ticket
-use Rattle.dl_passes.proofs.pass.Pass.TheSendSync as pass
+use Rattle.dl_history.specs.contracts.pass.Pass as Pass
+use Rattle.dl_history.specs.contracts.ticket.Ticket as Ticket
+use Rattle.dl_history.proofs.pass.Pass.TheSendSync as pass
 use Rattle.dl_loader.proofs.Closures.{captures_send}
 use Rattle.dl_loader.proofs.ThreadSafety.{Loader-sync}
-use Rattle.dl_passes.proofs.ThreadSafety.{Ticket-send}
+use Rattle.dl_history.proofs.ThreadSafety.{Ticket-send}
 use Rattle.dl_loader_tests.proofs.loader.threads.start_threads.Goals as goal
 
 -- what the first caller's thread is given may be sent

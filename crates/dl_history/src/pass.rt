@@ -1,0 +1,225 @@
+//! Passes: what a caller knows of the history.
+
+ghost use Rattle.std.specs.Prelude.{◌≡◌, ◌+◌, ◌<◌, ◌≤◌, Bool, false, IfOk, IfSome, IsSome, OnErr, OnOk, Some, [], length, slice_get};
+ghost use Rattle.dl_history.specs.Accounts.{account_of};
+ghost use Rattle.dl_history.specs.Agreement.{IsAccount, places_of};
+ghost use Rattle.dl_history.specs.ClosedHistory.{outline_of};
+ghost use Rattle.dl_history.specs.Entries.{calls_of, cell_of_load, cells_of, ending_known, front_of};
+ghost use Rattle.dl_history.specs.Lists.{Among, Every};
+ghost use Rattle.dl_history.specs.Pass.{GaveTicket, given, trace, with_saw, with_ticket, with_tickets};
+
+mod audit;
+mod events;
+
+use crate::entry::{Entry, Read};
+use crate::journal::Journal;
+use crate::name::LoaderName;
+use crate::outline::Outline;
+use crate::ticket::{Ticket, load_cell};
+use dl_desk::LoadReply;
+use std::alloc::{AllocError, Global};
+use std::marker::Model;
+use std::sync::ledger::Share;
+
+/// A ticket that a pass gave.
+#[derive(Clone, Copy, Debug)]
+pub(crate) struct GivenTicket {
+    // The cell of its load.
+    cell: u32,
+    // Whether the cell's outcome is among the entries.
+    seen: bool,
+}
+
+/// What one caller knows of the history: the calls that it made, the outcomes that it read, and the
+/// tickets that it was given. Contracts see these, and for how many more of them there is room.
+pub struct Pass<L: LoaderName> {
+    caller: u32,
+    entries: Vec<Entry<L>>,
+    // How many of the entries are calls.
+    calls: usize,
+    // One more than the greatest place among the entries, and 0 without any.
+    front: u32,
+    tickets: Vec<GivenTicket>,
+    // How many of the tickets have no entry of their outcome.
+    unseen: usize,
+    share: Share<L>,
+}
+
+impl<L: LoaderName> Drop for Pass<L> {
+    fn drop(self) {
+        let Pass {
+            caller: _,
+            entries,
+            calls: _,
+            front: _,
+            tickets,
+            unseen: _,
+            share,
+        } = self;
+        drop(entries);
+        drop(tickets);
+        drop(share);
+    }
+}
+
+impl<L: LoaderName> Model for Pass<L> {
+    ghost use Rattle.dl_history.specs.Pass.{Pass, IsPass, pass_view};
+    ghost use Rattle.dl_history.specs.Inside.PassCodes.{pass_code};
+
+    ghost Value = { Pass };
+
+    ghost coded = { pass_code };
+
+    ghost use Rattle.dl_history.specs.Inside.PassFields.{fields_of};
+
+    ghost view = { λ p. pass_view (fields_of p) };
+
+    ghost invariant = { λ p. IsPass L.service.callers (fields_of p) };
+}
+
+impl<L: LoaderName> Pass<L> {
+    /// The pass of a caller that has made no call, with its part of the ledger that counts the loader's events. A loader that is
+    /// started makes one for each caller: nobody else has parts of its ledger.
+    pub fn fresh(alloc: Global, caller: u32, share: Share<L>) -> Pass<L>
+        requires caller { caller < L.service.callers }
+        requires part { share.parts ≡ 1 }
+        requires amount { share.amount ≡ 0 }
+        ensures { result.trace ≡ trace caller [] [] }
+    {
+        Pass {
+            caller,
+            entries: Vec::new(alloc),
+            calls: 0,
+            front: 0,
+            tickets: Vec::new(alloc),
+            unseen: 0,
+            share,
+        }
+    }
+
+    /// The caller, counted from 0.
+    pub fn caller(&self) -> u32
+        ensures caller { result ≡ self.now.trace.caller }
+        ensures below { self.now.trace.caller < L.service.callers }
+    {
+        self.caller
+    }
+
+    /// The outline of the pass: its caller, and what its entries are. Whoever sees the pass may ask for it. The error is a failed
+    /// allocation.
+    pub fn outline(&self, alloc: Global) -> Result<Outline, AllocError>
+        ensures { IfOk result (λ made. made ≡ outline_of (account_of self.now.trace)) }
+    {
+        let Pass {
+            caller,
+            entries,
+            ..
+        } = self;
+        Outline::of(alloc, *caller, entries.as_slice())
+    }
+
+    /// The calls that were made and the outcomes that were read, in order. The calls are the caller's own; each has a place above
+    /// those of all calls and reads before it; and each outcome that was read is of a cell with which a call before it was
+    /// answered.
+    pub fn entries(&self) -> &[Entry<L>]
+        ensures entries { result.now ≡ self.now.trace.entries }
+        ensures account { IsAccount L.service.callers (account_of self.now.trace) }
+    {
+        self.entries.as_slice()
+    }
+
+    /// How many calls were made.
+    pub fn calls(&self) -> usize
+        ensures { result ≡ length (calls_of self.now.trace.entries) }
+    {
+        self.calls
+    }
+
+    /// The length that the history has at least: one more than the greatest place among the entries,
+    /// and 0 without any.
+    pub fn front(&self) -> u32
+        ensures { result ≡ front_of self.now.trace.entries }
+    {
+        self.front
+    }
+
+    /// How many tickets were given. Whoever sees the pass may ask.
+    pub fn tickets(&self) -> usize
+        ensures { result ≡ length self.now.trace.tickets }
+    {
+        self.tickets.len()
+    }
+
+    /// Makes room for one call more and so many tickets. Whoever has the pass may do so, since nothing that the pass tells
+    /// changes. The error is a failed allocation, and comes only where the room was missing.
+    pub fn reserve(&mut self, tickets: usize) -> Result<(), AllocError>
+        ensures trace { self.new.trace ≡ self.old.trace }
+        ensures room { OnOk result (tickets + 1 ≤ self.new.spare) }
+        ensures full { OnErr result (self.old.spare < tickets + 1) }
+        ensures kept { self.old.spare ≤ self.new.spare }
+    {
+        let unseen = self.unseen;
+        let more = tickets.checked_add(1).ok_or(AllocError)?;
+        let entries = unseen.checked_add(more).ok_or(AllocError)?;
+        self.entries.reserve(entries)?;
+        self.tickets.reserve(more)
+    }
+
+    /// Gives the pass a ticket for each load that was replied so, in order. It has no use for the journal: that is asked for so
+    /// that a loader alone gives tickets, since nobody else has its journal.
+    pub fn add_tickets(&mut self, _journal: &Journal<L>, replies: &[LoadReply])
+        requires room { length replies.now ≤ self.old.spare }
+        requires answered { Every (λ r. Among (cell_of_load r) (cells_of self.old.trace.entries)) replies.now }
+        ensures trace { self.new.trace ≡ with_tickets self.old.trace replies.now }
+        ensures room { self.old.spare ≤ self.new.spare + length replies.now }
+    {
+        for reply in replies {
+            self.add_ticket(load_cell(*reply));
+        }
+    }
+
+    /// Adds a ticket of a cell.
+    fn add_ticket(&mut self, cell: u32)
+        requires room { 0 < self.old.spare }
+        requires answered { Among cell (cells_of self.old.trace.entries) }
+        ensures trace { self.new.trace ≡ with_ticket self.old.trace cell }
+        ensures room { self.old.spare ≤ self.new.spare + 1 }
+    {
+        self.unseen += 1;
+        self.tickets
+            .push_reserved(GivenTicket { cell, seen: false });
+    }
+
+    /// Adds the outcome that a ticket of this pass shows, once: where it is among the entries already,
+    /// nothing changes. It never waits.
+    pub fn saw(&mut self, ticket: &mut Ticket<'_, L>)
+        requires gave { (seen : Bool) × GaveTicket self.old.trace ticket.old seen }
+        requires shown { IsSome ticket.old.known }
+        ensures ticket { ticket.new ≡ ticket.old }
+        ensures saw { (seen : Bool) × GaveTicket self.old.trace ticket.old seen × (self.new.trace ≡ with_saw self.old.trace ticket.old.number
+            (cell_of_load ticket.old.reply) (ending_known ticket.old.known) seen) }
+    {
+        if !self.has_seen(ticket.number()) {
+            self.add_saw(ticket.number(), ticket.seen());
+        }
+    }
+
+    /// Whether the outcome of the ticket of this number is among the entries.
+    fn has_seen(&self, number: usize) -> bool
+        requires { number < length self.now.trace.tickets }
+        ensures { IfSome (slice_get self.now.trace.tickets number) (λ ticket. result ≡ ticket.seen) }
+    {
+        self.tickets[number].seen
+    }
+
+    /// Adds the outcome of the ticket of this number.
+    fn add_saw(&mut self, number: usize, seen: Read<L>)
+        requires { slice_get self.old.trace.tickets number ≡ Some (given seen.cell false) }
+        ensures { self.new.trace ≡ with_saw self.old.trace number seen.cell seen.ending false }
+    {
+        self.front = self.front.max(u32::from(seen.ended_at()) + 1);
+        self.unseen -= 1;
+        self.tickets[number].seen = true;
+        self.entries.push_reserved(Entry::saw(seen));
+    }
+}

@@ -1,4 +1,0 @@
-mod PassLemmas
-pub mod Tickets
-pub mod TicketsAfterReads
-pub mod ThreadSafety

@@ -1,8 +1,0 @@
-use Rattle.std.proofs.Common.{refl}
-use Rattle.dl_passes.proofs.PassLemmas.{pass_ticket}
-use Rattle.dl_passes.proofs.pass.Pass.add_ticket.Goals as goal
-
-pub invariant_of-self : goal.invariant_of-self
-invariant_of-self g c =
-    pass_ticket c.args.self.now c.args.cell c.self.invariant c.self.view_is c.requires.room c.requires.answered c.push_reserved.ensures.items refl
-    c.push_reserved.ensures.capacity

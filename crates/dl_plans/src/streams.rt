@@ -1,0 +1,62 @@
+//! Reading a document's bytes, and writing all of a text.
+
+ghost use Rattle.std.specs.Prelude.{◌≡◌, ◌⊎◌, ◌+◌, IfOk, IfErr, IfSome, OnOk, take};
+ghost use Rattle.std.specs.Io.KnownBytes.{Appends};
+ghost use Rattle.dl_documents.specs.Faults.{most_bytes};
+ghost use Rattle.dl_plans.specs.Run.{AppendsFront, ReadsAtMost};
+
+use crate::fault::RunError;
+use dl_documents::MOST_BYTES;
+use std::alloc::Global;
+use std::io::{Read, Write};
+
+/// The most bytes that are read: one more than a document has.
+const MOST_READ: usize = MOST_BYTES + 1;
+
+/// How many bytes are asked for at a time.
+const BUFFER_BYTES: usize = 4096;
+
+/// The bytes that the reader has, up to one more than a document's. A read is repeated until it
+/// gives nothing.
+///
+/// # Errors
+/// `Read` at a read that fails, also an interrupted one, and `OutOfMemory` where an allocation failed.
+pub fn read_all<R: Read>(alloc: Global, reader: &mut R) -> Result<Vec<u8>, RunError>
+    ensures bytes { IfOk result (λ v. IfSome (R.remaining reader.old) (λ bytes. v.items ≡ take (most_bytes + 1) bytes)) }
+    ensures reads { ReadsAtMost (most_bytes + 1) (R.remaining reader.old) (R.remaining reader.new) }
+    ensures err { IfErr result (λ e. (e ≡ RunError.Read) ⊎ (e ≡ RunError.OutOfMemory)) }
+{
+    let mut bytes = Vec::new(alloc);
+    let mut buffer = [0; BUFFER_BYTES];
+    'reads: while bytes.len() < MOST_READ {
+        let room = BUFFER_BYTES.min(MOST_READ - bytes.len());
+        match reader.read(&mut buffer[..room]) {
+            Ok(0) => return Ok(bytes),
+            Ok(count) => bytes
+                .extend_from_slice(&buffer[..count])
+                .map_err(|_| RunError::OutOfMemory)?,
+            Err(_) => return Err(RunError::Read),
+        }
+    }
+    Ok(bytes)
+}
+
+/// Writes the text and flushes.
+///
+/// # Errors
+/// `Write` at a write that fails, also an interrupted one, or takes nothing, and at a flush that
+/// fails. What was written is then a front of the text.
+pub fn write_all<W: Write>(writer: &mut W, text: &[u8]) -> Result<(), RunError>
+    ensures ok { OnOk result (Appends (W.contents writer.old) (W.contents writer.new) text.now) }
+    ensures err { IfErr result (λ e. e ≡ RunError.Write) }
+    ensures front { AppendsFront (W.contents writer.old) (W.contents writer.new) text.now }
+{
+    let mut at = 0;
+    'writes: while at < text.len() {
+        match writer.write(&text[at..]) {
+            Ok(0) | Err(_) => return Err(RunError::Write),
+            Ok(count) => at += count,
+        }
+    }
+    writer.flush().map_err(|_| RunError::Write)
+}

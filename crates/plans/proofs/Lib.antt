@@ -1,0 +1,2 @@
+mod MigratedAnswers
+mod Runs

@@ -1,0 +1,2 @@
+pub mod MigratedAnswers
+pub mod Run

@@ -1,0 +1,28 @@
+-- What a plan file answers after it was migrated.
+use Rattle.std.specs.Prelude.{◌≡◌, None}
+use Rattle.serde_json.specs.Data.{Data}
+use Rattle.dl_documents.specs.Document.{SpellsPlans}
+use Rattle.dl_documents.specs.declared.input.PlanFile.{PlanFile}
+use Rattle.dl_history.specs.Lists.{Every}
+use Rattle.dl_migration.specs.Migrated.{migrated}
+use Rattle.dl_scope.specs.Headline.{Headline}
+use Rattle.dl_scope.specs.OwnAnswers.{NoneFailed, PrimesNoKey}
+use Rattle.dl_report.specs.Report.{Report}
+use Rattle.dl_plans.specs.Run.{file_service}
+use Rattle.dl_command.specs.declared.settings.Options.{Options}
+
+-- no plan of the file primes a key
+abbrev pub PrimesNone : PlanFile → Type 0
+PrimesNone file = Every (λ plan. Every PrimesNoKey plan.steps.items) file.plans.items
+
+-- it is a report of the file, served as the options say, and no batch failed
+pub record IsUnfailedReport (options : Options) (file : PlanFile) (r : Report) : Type 0 where
+  pub headline : Headline (file_service options file) file.plans.items r
+  pub unfailed : NoneFailed r.history.events
+
+-- A plan file of version 1 that primes no key, and the file that its tree is after migrating, have the same answers in all reports
+-- in which no batch failed.
+abbrev pub MigratedAnswersAreEqual : Type 0
+MigratedAnswersAreEqual = (d : Data) (first second : PlanFile) → SpellsPlans d first → first.table_limits ≡ None → SpellsPlans (migrated d) second
+    → PrimesNone first → (options others : Options) (r s : Report) → IsUnfailedReport options first r → IsUnfailedReport others second s
+    → r.answers ≡ s.answers

@@ -1,0 +1,132 @@
+//! Answering a document over a reader and a writer.
+
+ghost use Rattle.std.specs.Prelude.{◌≡◌, ◌≢◌, ◌+◌, IfOk, IfErr, IfSome, OnOk, string_bytes};
+ghost use Rattle.std.specs.Io.KnownBytes.{Keeps};
+ghost use Rattle.dl_documents.specs.Faults.{most_bytes};
+ghost use Rattle.dl_plans.specs.ReportText.{report_text};
+ghost use Rattle.dl_plans.specs.Run.{Writes, WritesFront, ReadsAtMost, file_service, setup_of};
+ghost use Rattle.dl_scope.specs.Faults.{RefusedAs};
+ghost use Rattle.dl_scope.specs.Headline.{Headline};
+ghost use Rattle.dl_scripts.specs.Output.{script_text};
+ghost use Rattle.plans.specs.Run.{IsOutput, IsRefused};
+
+use dl_command::Options;
+use dl_documents::{Input, PlanFault, PlanFile, Script, read_input};
+use dl_plans::{QUEUE_PLACES, RunError, read_all, report_text, write_all};
+use dl_scope::{Report, ScopeFault, Setup, serve};
+use dl_scripts::run_script;
+use dl_workers::NoGate;
+use std::alloc::{AllocError, Global};
+use std::hash::RandomState;
+use std::io::{Read, Write};
+use std::mem::forget;
+use std::sync::Wait;
+use std::thread::Threads;
+
+/// Reads a document, and writes the text that it gives once all of it is made. At most one byte more is read than
+/// a document has. The plans of a plan file are served at once, each on a thread of its own, and as many workers as the
+/// options say fetch for them; a script has no use for the options. Keys are hashed by `hashing`, of which nothing is seen.
+///
+/// # Errors
+/// `Read` where the reader fails, `Refused` where what it holds is no document, `Run` where the plans of a plan file
+/// aren't served, `OutOfMemory` where an allocation failed, and `Write` where the writer fails. Only after `Write` something
+/// may be written: a front of the text.
+pub(crate) fn run<R: Read, W: Write, T: Threads + Wait + Sync>(
+    rt: &T,
+    alloc: Global,
+    hashing: RandomState,
+    reader: &mut R,
+    writer: &mut W,
+    options: Options,
+) -> Result<(), RunError>
+    ensures ok { OnOk result (IfSome (R.remaining reader.old) (Writes (IsOutput options) (W.contents writer.old) (W.contents writer.new))) }
+    ensures refused { IfErr result (λ e. IfSome (R.remaining reader.old) (λ bytes. IsRefused options bytes e)) }
+    ensures write { result ≡ Err RunError.Write → IfSome (R.remaining reader.old) (WritesFront (IsOutput options) (W.contents writer.old) (W.contents writer.new)) }
+    ensures reads { ReadsAtMost (most_bytes + 1) (R.remaining reader.old) (R.remaining reader.new) }
+    ensures untouched { IfErr result (λ e. e ≢ RunError.Write → Keeps (W.contents writer.old) (W.contents writer.new)) }
+{
+    let bytes = read_all(alloc, reader)?;
+    let text = output(rt, alloc, hashing, bytes, options)?;
+    write_all(writer, text.as_bytes())
+}
+
+/// The text that a document gives. Its bytes are let go once they are read.
+fn output<T: Threads + Wait + Sync>(
+    rt: &T,
+    alloc: Global,
+    hashing: RandomState,
+    bytes: Vec<u8>,
+    options: Options,
+) -> Result<String, RunError>
+    ensures ok { IfOk result (λ text. IsOutput options bytes.items (string_bytes text)) }
+    ensures err { IfErr result (IsRefused options bytes.items) }
+    ensures kept { IfErr result (λ e. e ≢ RunError.Write) }
+{
+    let read = read_input(alloc, hashing, &bytes);
+    drop(bytes);
+    match read {
+        Ok(Input::Script(script)) => match text_of_script(alloc, hashing, script) {
+            Ok(text) => Ok(text),
+            Err(_) => Err(RunError::OutOfMemory),
+        },
+        Ok(Input::Plans(file)) => match served(rt, alloc, hashing, file, options) {
+            Ok(report) => match text_of_report(alloc, report, options.batches) {
+                Ok(text) => Ok(text),
+                Err(_) => Err(RunError::OutOfMemory),
+            },
+            Err(fault) => Err(RunError::Run(fault)),
+        },
+        Err(PlanFault::OutOfMemory) => Err(RunError::OutOfMemory),
+        Err(fault) => Err(RunError::Refused(fault)),
+    }
+}
+
+/// The text that a script gives. The script isn't taken apart: the process ends, and its memory goes with it.
+fn text_of_script(alloc: Global, hashing: RandomState, script: Script) -> Result<String, AllocError>
+    ensures { IfOk result (λ text. string_bytes text ≡ script_text script) }
+{
+    let text = run_script(alloc, hashing, &script);
+    forget(script);
+    text
+}
+
+/// The text of a report, which isn't taken apart either.
+fn text_of_report(alloc: Global, report: Report, batches: bool) -> Result<String, AllocError>
+    ensures { IfOk result (λ text. string_bytes text ≡ report_text report batches) }
+{
+    let text = report_text(alloc, &report, batches);
+    forget(report);
+    text
+}
+
+/// What serving the plans of a file over its tables leaves: at once, each on a thread of its own, within the limits of the file,
+/// by as many workers as the options say, over a queue of [`QUEUE_PLACES`]. The tables aren't taken apart.
+///
+/// # Errors
+/// Those of [`serve`].
+fn served<T: Threads + Wait + Sync>(
+    rt: &T,
+    alloc: Global,
+    hashing: RandomState,
+    file: PlanFile,
+    options: Options,
+) -> Result<Report, ScopeFault>
+    ensures headline { IfOk result (Headline (file_service options file) file.plans.items) }
+    ensures refused { IfErr result (RefusedAs (file_service options file) (setup_of options file) file.plans.items) }
+{
+    let PlanFile {
+        tables,
+        plans,
+        limits,
+        table_limits,
+    } = file;
+    let setup = Setup {
+        limits,
+        tables: table_limits,
+        workers: options.workers,
+        queue: QUEUE_PLACES,
+    };
+    let left = serve(rt, alloc, hashing, &tables, setup, plans, &NoGate);
+    forget(tables);
+    left
+}
