@@ -18,8 +18,8 @@ returns-in-Ok-text_of_report-clause-ok g c =
     subst (IsDocument c.args.bytes.items) says.field-0-is (document_read c.args.bytes.items says.field-0 (rw c.deref.ensures.value at says.ensures.ok) (rw c.deref.ensures.value at says.ensures.passes)) in
     (input.Plans says.file, document, (c.in-Ok-served.report, c.in-Ok-served.ensures.headline, c.in-Ok-text_of_report.ensures))
 
-pub returns-in-Ok-Plans-clause-err : goal.returns-in-Ok-Plans-clause-err
-returns-in-Ok-Plans-clause-err g c =
+pub returns-in-Err-served-clause-err : goal.returns-in-Err-served-clause-err
+returns-in-Err-served-clause-err g c =
     let says = c.in-Ok-Plans in
     let document : IsDocument c.args.bytes.items (input.Plans says.file) =
     subst (IsDocument c.args.bytes.items) says.field-0-is (document_read c.args.bytes.items says.field-0 (rw c.deref.ensures.value at says.ensures.ok) (rw c.deref.ensures.value at says.ensures.passes)) in
