@@ -31,7 +31,11 @@ unseen_of-saw (g ∷ gs) (suc n) cell at = let rest = unseen_of-saw gs n cell at
 module _ {callers : ℕ} {f : PassFields} (p : Pass) (old : IsPass callers f) (view : pass_view f ≡ p) where
   -- where there is room for more, no Vec is full
   pub pass_room : 0 < p.spare → (length f.entries + f.unseen < f.entry_room) × (length f.tickets < f.ticket_room)
-  pass_room some = let spare = ap (λ v. v.spare) view in (omega arith, omega arith)
+  pass_room some =
+      let spare = ap (λ v. v.spare) view in
+      let entries = old.entries_fit in
+      let tickets = old.tickets_fit in
+      (omega arith, omega arith)
 
   -- so one call more can be counted
   pub pass_counts : 0 < p.spare → f.calls < f.entry_room
@@ -61,11 +65,11 @@ module _ {callers : ℕ} {f : PassFields} (p : Pass) (old : IsPass callers f) (v
     pub ticket_read : (g : GivenTicket) → g ≡ get_or f.tickets n g → g.cell ≡ cell
     ticket_read g read = ap (λ x. x.cell) (read ∙ get_or_from_slice_get f.tickets n (given cell false) g gave_inside)
 
--- with more room, and the same in it
-pub pass_reserved : {callers : ℕ} {f : PassFields} {entries : List Entry} {tickets : List GivenTicket} {room ticket_room : ℕ} → IsPass callers f
-    → entries ≡ f.entries → tickets ≡ f.tickets → f.entry_room ≤ room → f.ticket_room ≤ ticket_room
-    → IsPass callers (record f { entries = entries; entry_room = room; tickets = tickets; ticket_room = ticket_room })
-pass_reserved old same_entries same_tickets more more_tickets =
+-- with other room, and the same in it
+pub pass_grown : {callers : ℕ} {f : PassFields} {entries : List Entry} {tickets : List GivenTicket} {room ticket_room spare : ℕ} → IsPass callers f
+    → entries ≡ f.entries → tickets ≡ f.tickets → length f.entries + f.unseen + spare ≤ room → length f.tickets + spare ≤ ticket_room
+    → IsPass callers (record f { entries = entries; entry_room = room; tickets = tickets; ticket_room = ticket_room; spare = spare })
+pass_grown old same_entries same_tickets entries_fit tickets_fit =
     rw (same_entries, same_tickets) (record {
       caller_is = old.caller_is;
       front_is = old.front_is;
@@ -78,18 +82,19 @@ pass_reserved old same_entries same_tickets more more_tickets =
       answered_are = old.answered_are;
       given_are = old.given_are;
       unseen_is = old.unseen_is;
-      entries_fit = let e = old.entries_fit in omega arith;
-      tickets_fit = let e = old.tickets_fit in omega arith;
+      entries_fit = entries_fit;
+      tickets_fit = tickets_fit;
     })
 
-pub pass_call : {callers : ℕ} {f : PassFields} {entries : List Entry} {front calls parts counted room : ℕ} (p : Pass) (t : PlacedEvent) (entry : Entry)
+pub pass_call : {callers : ℕ} {f : PassFields} {entries : List Entry} {front calls parts counted room spare : ℕ} (p : Pass) (t : PlacedEvent) (entry : Entry)
     → IsPass callers f → pass_view f ≡ p
     → 0 < p.spare → front_of p.trace.entries ≤ t.at → t.event.caller ≡ p.trace.caller
     → entries ≡ f.entries ++ entry ∷ [] → entry ≡ Called t → t.at < 65536
     → front ≡ t.at + 1 → calls ≡ f.calls + 1 → parts ≡ f.parts → counted ≡ f.counted + 1 → room ≡ f.entry_room
-    → IsPass callers (record f { entries = entries; entry_room = room; calls = calls; front = front; parts = parts; counted = counted })
-pass_call {f = f} {entries = entries} p t entry old view some past_p own_p pushed is small front_is calls_is parts_is counted_is same =
-    let fits = pass_room p old view some in
+    → spare ≡ f.spare - 1
+    → IsPass callers (record f { entries = entries; entry_room = room; calls = calls; front = front; parts = parts; counted = counted; spare = spare })
+pass_call {f = f} {entries = entries} p t entry old view some past_p own_p pushed is small front_is calls_is parts_is counted_is same spare_is =
+    let room = ap (λ v. v.spare) view in
     let past : front_of f.entries ≤ t.at = let e = ap (λ v. front_of v.trace.entries) view in omega arith in
     let own : IsOwn _ t = own_p ∙ sym (ap (λ v. v.trace.caller) view) in
     let more = pushed ∙ ap (λ e. f.entries ++ e ∷ []) is in
@@ -109,16 +114,16 @@ pass_call {f = f} {entries = entries} p t entry old view some past_p own_p pushe
       answered_are = rw more (answered_call [] f.entries t old.answered_are);
       given_are = rw more (given_longer f.entries (Called t ∷ []) f.tickets old.given_are);
       unseen_is = old.unseen_is;
-      entries_fit = omega arith;
-      tickets_fit = old.tickets_fit;
+      entries_fit = let e = old.entries_fit in omega arith;
+      tickets_fit = let e = old.tickets_fit in omega arith;
     }
 
-pub pass_ticket : {callers : ℕ} {f : PassFields} {tickets : List GivenTicket} {unseen room : ℕ} (p : Pass) (cell : ℕ) → IsPass callers f → pass_view f ≡ p
+pub pass_ticket : {callers : ℕ} {f : PassFields} {tickets : List GivenTicket} {unseen room spare : ℕ} (p : Pass) (cell : ℕ) → IsPass callers f → pass_view f ≡ p
     → 0 < p.spare → Among cell (cells_of p.trace.entries)
-    → tickets ≡ f.tickets ++ given cell false ∷ [] → unseen ≡ f.unseen + 1 → room ≡ f.ticket_room
-    → IsPass callers (record f { tickets = tickets; ticket_room = room; unseen = unseen })
-pass_ticket {f = f} {tickets = tickets} p cell old view some among_p more unseen_is same =
-    let fits = pass_room p old view some in
+    → tickets ≡ f.tickets ++ given cell false ∷ [] → unseen ≡ f.unseen + 1 → room ≡ f.ticket_room → spare ≡ f.spare - 1
+    → IsPass callers (record f { tickets = tickets; ticket_room = room; unseen = unseen; spare = spare })
+pass_ticket {f = f} {tickets = tickets} p cell old view some among_p more unseen_is same spare_is =
+    let room = ap (λ v. v.spare) view in
     let among : Among cell (cells_of f.entries) = let e = ap (λ v. v.trace.entries) view in rw e among_p in
     let longer : length tickets ≡ length f.tickets + 1 = ap length more ∙ length-append f.tickets (given cell false ∷ []) in
     let unseen : unseen_of tickets ≡ unseen_of f.tickets + 1 = ap unseen_of more ∙ total-append (λ g. one_if (not g.seen)) f.tickets (given cell false ∷ []) in
@@ -134,8 +139,8 @@ pass_ticket {f = f} {tickets = tickets} p cell old view some among_p more unseen
       answered_are = old.answered_are;
       given_are = rw more (every_append (λ g. Among g.cell (cells_of f.entries)) f.tickets (given cell false ∷ []) old.given_are (among, tt));
       unseen_is = let e = old.unseen_is in omega arith;
-      entries_fit = omega arith;
-      tickets_fit = omega arith;
+      entries_fit = let e = old.entries_fit in omega arith;
+      tickets_fit = let e = old.tickets_fit in omega arith;
     }
 
 pub pass_saw : {callers : ℕ} {f : PassFields} {entries : List Entry} {tickets : List GivenTicket} {front unseen room ticket_room : ℕ} (p : Pass) (n : ℕ)

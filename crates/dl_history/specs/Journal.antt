@@ -43,11 +43,12 @@ refusals cells = count_by (λ x. is_refused x.mark) cells
 abbrev pub Refuses : List Cell → List Cell → ℕ → Ending → Type 0
 Refuses before now c end = (other : Option Ending) × (now ≡ set before c (refused end other))
 
--- the events in order, the cells that were begun, and for how many more of both there is room
+-- the events in order, the cells that were begun, and for how many more of each there is room
 pub record Journal : Type 0 where
   pub history : List Event
   pub cells : List Cell
   pub spare : ℕ
+  pub cells_spare : ℕ
 
 -- the events that readers of a log know, in order
 abbrev pub events_known : List (Reader Event) → List Event

@@ -37,6 +37,7 @@ pub record PassFields : Type 0 where
   pub tickets : List GivenTicket
   pub ticket_room : ℕ
   pub unseen : ℕ
+  pub spare : ℕ
   pub parts : ℕ
   pub counted : ℕ
 
@@ -44,7 +45,7 @@ pub record PassFields : Type 0 where
 abbrev pub pass_view : PassFields → Pass
 pass_view fields = record {
   trace = trace fields.caller fields.entries fields.tickets;
-  spare = min (fields.entry_room - (length fields.entries + fields.unseen)) (fields.ticket_room - length fields.tickets);
+  spare = fields.spare;
 }
 
 -- how many of the tickets have no entry of their outcome
@@ -64,8 +65,8 @@ pub record IsPass (callers : ℕ) (fields : PassFields) : Type 0 where
   pub answered_are : Answered [] fields.entries
   pub given_are : Every (λ g. Among g.cell (cells_of fields.entries)) fields.tickets
   pub unseen_is : fields.unseen ≡ unseen_of fields.tickets
-  pub entries_fit : length fields.entries + fields.unseen ≤ fields.entry_room
-  pub tickets_fit : length fields.tickets ≤ fields.ticket_room
+  pub entries_fit : length fields.entries + fields.unseen + fields.spare ≤ fields.entry_room
+  pub tickets_fit : length fields.tickets + fields.spare ≤ fields.ticket_room
 
 -- the trace with one call more
 abbrev pub with_call : Trace → ℕ → Event → Trace

@@ -1,4 +1,4 @@
-//! Why a loader refuses a call.
+//! Why a loader isn't started, refuses a call or a wait, or isn't closed.
 
 ghost use Rattle.std.specs.Prelude.{◌≡◌};
 ghost use Rattle.dl_history.specs.declared.fault.CallFault.TheVariants as call;

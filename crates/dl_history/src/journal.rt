@@ -40,7 +40,7 @@ impl<L: LoaderName> Drop for Journal<L> {
 
 impl<L: LoaderName> Model for Journal<L> {
     ghost use Rattle.std.specs.Coded.{codes};
-    ghost use Rattle.std.specs.Prelude.{◌-◌, length, min, vec_capacity};
+    ghost use Rattle.std.specs.Prelude.{◌-◌, length, vec_capacity};
     ghost use Rattle.dl_history.specs.contracts.event.Event as event;
     ghost use Rattle.dl_history.specs.contracts.event.Ending as ending;
     ghost use Rattle.dl_history.specs.Journal.{Journal, IsJournal, events_known, cells_by};
@@ -52,7 +52,8 @@ impl<L: LoaderName> Model for Journal<L> {
     ghost view = { λ j. record {
       history = events_known j.log.items;
       cells = cells_by j.states.items;
-      spare = min (vec_capacity j.log - length j.log.items) (vec_capacity j.states - length j.states.items);
+      spare = vec_capacity j.log - length j.log.items;
+      cells_spare = vec_capacity j.states - length j.states.items;
     } };
 
     ghost invariant = { λ j. IsJournal L.log L.outcomes (record { counted = j.calls.total; readers = j.log.items; states = j.states.items }) };
@@ -86,15 +87,23 @@ impl<L: LoaderName> Journal<L> {
         self.states.len()
     }
 
-    /// Makes room for one event more and so many cells. The error is a failed allocation, and changes nothing.
-    fn reserve(&mut self, cells: usize) -> Result<(), AllocError>
+    /// Makes room for one event more. The error is a failed allocation, and changes nothing.
+    fn reserve(&mut self) -> Result<(), AllocError>
         ensures history { self.new.history ≡ self.old.history }
         ensures cells { self.new.cells ≡ self.old.cells }
-        ensures room { OnOk result (cells + 1 ≤ self.new.spare) }
+        ensures room { OnOk result (0 < self.new.spare) }
     {
-        let more = cells.checked_add(1).ok_or(AllocError)?;
-        self.log.reserve(more)?;
-        self.states.reserve(more)
+        self.log.reserve(1)
+    }
+
+    /// Makes room for so many cells more. The error is a failed allocation, and changes nothing.
+    fn reserve_cells(&mut self, cells: u32) -> Result<(), AllocError>
+        ensures history { self.new.history ≡ self.old.history }
+        ensures cells { self.new.cells ≡ self.old.cells }
+        ensures events_room { self.new.spare ≡ self.old.spare }
+        ensures room { OnOk result (cells ≤ self.new.cells_spare) }
+    {
+        self.states.reserve(cells as usize)
     }
 
     /// Adds the next event, which the share of its caller counts.
@@ -116,10 +125,11 @@ impl<L: LoaderName> Journal<L> {
     fn add_cell(&mut self, reader: Reader<Ending>)
         requires cell { reader.cell ≡ cell_of L.outcomes (length self.old.cells) }
         requires unknown { reader.known ≡ None }
-        requires room { 0 < self.old.spare }
+        requires room { 0 < self.old.cells_spare }
         ensures history { self.new.history ≡ self.old.history }
         ensures cells { self.new.cells ≡ self.old.cells ++ waiting ∷ [] }
-        ensures room { self.old.spare ≤ self.new.spare + 1 }
+        ensures events_room { self.new.spare ≡ self.old.spare }
+        ensures room { self.old.cells_spare ≤ self.new.cells_spare + 1 }
     {
         self.states.push_reserved(CellState::new(reader));
     }

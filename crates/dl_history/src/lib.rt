@@ -1,5 +1,5 @@
-//! Histories of shared loaders: events and their outcomes, the passes and tickets by which callers know of them, why a call
-//! is refused, when a history is legal and when a caller's entries agree with it, and the history that a closed loader leaves.
+//! Histories of shared loaders: events and their outcomes, the passes and tickets by which callers know of them, why a loader
+//! refuses, when a history is legal and when a caller's entries agree with it, and the history that a closed loader leaves.
 //!
 //! A loader keeps its history in a [`Journal`] while it is open, and gives it to a [`History`] when it is closed. What a caller
 //! knows of the history stands in its [`Pass`]. Whatever makes a pass or a ticket, or adds a call to a pass, asks for the loader's

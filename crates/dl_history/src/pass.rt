@@ -42,6 +42,8 @@ pub struct Pass<L: LoaderName> {
     tickets: Vec<GivenTicket>,
     // How many of the tickets have no entry of their outcome.
     unseen: usize,
+    // For how many more entries and tickets there is room, beside an entry for each ticket that has none of its outcome.
+    spare: usize,
     share: Share<L>,
 }
 
@@ -54,6 +56,7 @@ impl<L: LoaderName> Drop for Pass<L> {
             front: _,
             tickets,
             unseen: _,
+            spare: _,
             share,
         } = self;
         drop(entries);
@@ -93,6 +96,7 @@ impl<L: LoaderName> Pass<L> {
             front: 0,
             tickets: Vec::new(alloc),
             unseen: 0,
+            spare: 0,
             share,
         }
     }
@@ -158,11 +162,29 @@ impl<L: LoaderName> Pass<L> {
         ensures full { OnErr result (self.old.spare < tickets + 1) }
         ensures kept { self.old.spare ≤ self.new.spare }
     {
+        if self.spare <= tickets {
+            self.grow(tickets)?;
+        }
+        Ok(())
+    }
+
+    /// Makes room for one call more and so many tickets, where there is less. The error is a failed allocation.
+    #[cold]
+    fn grow(&mut self, tickets: usize) -> Result<(), AllocError>
+        requires { self.old.spare ≤ tickets }
+        ensures trace { self.new.trace ≡ self.old.trace }
+        ensures room { OnOk result (tickets + 1 ≤ self.new.spare) }
+        ensures kept { self.old.spare ≤ self.new.spare }
+    {
         let unseen = self.unseen;
         let more = tickets.checked_add(1).ok_or(AllocError)?;
         let entries = unseen.checked_add(more).ok_or(AllocError)?;
         self.entries.reserve(entries)?;
-        self.tickets.reserve(more)
+        self.tickets.reserve(more)?;
+        let entries = self.entries.capacity() - self.entries.len() - unseen;
+        let tickets = self.tickets.capacity() - self.tickets.len();
+        self.spare = entries.min(tickets);
+        Ok(())
     }
 
     /// Gives the pass a ticket for each load that was replied so, in order. It has no use for the journal: that is asked for so
@@ -186,6 +208,7 @@ impl<L: LoaderName> Pass<L> {
         ensures room { self.old.spare ≤ self.new.spare + 1 }
     {
         self.unseen += 1;
+        self.spare -= 1;
         self.tickets
             .push_reserved(GivenTicket { cell, seen: false });
     }

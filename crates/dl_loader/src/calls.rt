@@ -22,7 +22,7 @@ impl<L: LoaderName> Loader<L> {
     /// it ends took their outcomes.
     ///
     /// # Errors
-    /// Those of `Book::record`. The pass then tells what it told before.
+    /// Those of `Book::make`. The pass then tells what it told before.
     // The one place for all of them at which the book is locked and given back, whichever way the call goes.
     #[inline(always)]
     fn call<C: EventCall>(

@@ -131,7 +131,10 @@ impl<'s, S: Source> Opening<'s, S> {
     }
 }
 
-/// The rows that the history and the outcomes of a loader of so many callers will lie in.
+/// The rows that the history and the outcomes of a loader will lie in, where it may have so many callers.
+///
+/// # Errors
+/// `NoCallers` and `TooManyCallers` where it may not; `OutOfMemory`.
 fn rows(
     alloc: Global,
     limits: Limits,

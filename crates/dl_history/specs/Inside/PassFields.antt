@@ -14,6 +14,7 @@ fields_of p = record {
   tickets = p.tickets.items;
   ticket_room = vec_capacity p.tickets;
   unseen = p.unseen;
+  spare = p.spare;
   parts = p.share.parts;
   counted = p.share.amount;
 }

@@ -94,9 +94,11 @@ impl<L: LoaderName> Journal<L> {
         ensures cell { IfOk result (λ reader. reader.cell ≡ cell_of L.log place) }
         ensures unchanged { OnErr result (self.new.cells ≡ self.old.cells) }
     {
-        self.reserve(cells as usize)?;
+        self.reserve()?;
         let reader = rows.log().reader(u32::from(place))?;
-        self.begin_cells(rows.outcomes(), first, cells)?;
+        if cells > 0 {
+            self.begin_cells(rows.outcomes(), first, cells)?;
+        }
         Ok(reader)
     }
 
@@ -113,12 +115,12 @@ impl<L: LoaderName> Journal<L> {
         requires first { first ≡ length self.old.cells }
         requires in_row { first + cells ≤ row_len L.outcomes }
         requires fits { first + cells ≤ largest_limit }
-        requires room { cells + 1 ≤ self.old.spare }
         ensures history { self.new.history ≡ self.old.history }
         ensures cells { OnOk result (self.new.cells ≡ self.old.cells ++ repeat cells (waiting ∷ [])) }
-        ensures room { OnOk result (0 < self.new.spare) }
+        ensures room { self.new.spare ≡ self.old.spare }
         ensures unchanged { OnErr result (self.new.cells ≡ self.old.cells) }
     {
+        self.reserve_cells(cells)?;
         for more in 0..cells {
             let Ok(reader) = row.reader(first + more) else {
                 self.cut_cells(first);
@@ -133,6 +135,7 @@ impl<L: LoaderName> Journal<L> {
     fn cut_cells(&mut self, first: u32)
         ensures history { self.new.history ≡ self.old.history }
         ensures cells { self.new.cells ≡ take first self.old.cells }
+        ensures room { self.new.spare ≡ self.old.spare }
     {
         self.states.truncate(first as usize);
     }

@@ -40,6 +40,7 @@ impl<L: LoaderName> Pass<L> {
         let stored = journal.append(rows, &mut self.share, event, cells)?;
         self.front = u32::from(stored.at()) + 1;
         self.calls += 1;
+        self.spare -= 1;
         self.entries.push_reserved(Entry::call(stored));
         Ok(())
     }

@@ -63,7 +63,8 @@ impl<L: LoaderName> Loader<L> {
 }
 
 impl<L: LoaderName> Book<L> {
-    /// Makes the loads of keys as one event, and answers a ticket for each.
+    /// Makes the loads of keys as one event, and answers a ticket for each. The errors are those of
+    /// [`Loader::load_many`](crate::Loader::load_many).
     #[inline(always)]
     fn load_many<'a>(
         &mut self,

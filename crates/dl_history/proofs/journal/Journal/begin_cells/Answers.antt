@@ -17,5 +17,6 @@ loop-more-preserved g c =
       history = c.add_cell.ensures.history ∙ c.loop-more.invariant.history;
       cells = rw next (begun_more c.args.self.now.cells c.loop-more.self.cells c.add_cell.new.self.cells c.loop-more.more waiting
           c.loop-more.invariant.cells c.add_cell.ensures.cells);
+      events_room = c.add_cell.ensures.events_room ∙ c.loop-more.invariant.events_room;
       room = omega arith;
     }

@@ -7,5 +7,6 @@ abbrev pub invariant-loop-more : goal.invariant-loop-more
 invariant-loop-more g l = record {
   history : l.self.history ≡ l.fn.self.history;
   cells : l.self.cells ≡ l.fn.self.cells ++ repeat l.more (waiting ∷ []);
-  room : l.fn.self.spare ≤ l.self.spare + l.more;
+  events_room : l.self.spare ≡ l.fn.self.spare;
+  room : l.cells ≤ l.self.cells_spare + l.more;
 }

@@ -22,4 +22,4 @@ invariant_of-self-2 g c =
     pass_call {entries =
     c.push_reserved.new.self.items} c.args.self.now c.in_ok-stored.stored c.call.result c.self.invariant c.self.view_is c.requires.pass_room (omega arith)
     own c.push_reserved.ensures.items c.call.ensures (omega arith) (omega arith) refl c.append.ensures.parts c.in_ok-stored.ensures.counted
-    c.push_reserved.ensures.capacity
+    c.push_reserved.ensures.capacity refl
