@@ -15,7 +15,7 @@ use Rattle.dl_documents.specs.declared.input.Input.{Input}
 use Rattle.dl_documents.specs.declared.input.Input.TheVariants as input
 use Rattle.dl_migration.specs.Migration.{IsMigrated, IsOther}
 use Rattle.dl_plans.specs.Migration.{IsNotMigrated}
-use Rattle.dl_plans.specs.Run.{AppendsFront, IsDocument, IsRefusedBy, Refusal, Writes, WritesFront}
+use Rattle.dl_plans.specs.Run.{AppendsFront, IsDocument, IsRefusedBy, PlanRefusals, Writes, WritesFront}
 use Rattle.dl_plans.specs.declared.fault.RunError.{RunError}
 use Rattle.dl_plans.specs.declared.fault.RunError.TheVariants as error
 use Rattle.dl_plans.specs.declared.streams.TheConstants.{MOST_READ}
@@ -134,7 +134,7 @@ pub run_refused : (Says : List ℕ → RunError → Type 0) (all : IsSaidOfAll S
 run_refused Says all None read e is h = tt
 run_refused Says all (Some bytes) read e is h = all bytes e (rw is at h)
 
-pub refused_all : (Refuses : Refusal) → IsSaidOfAll (IsRefusedBy Refuses)
+pub refused_all : (Refuses : PlanRefusals) → IsSaidOfAll (IsRefusedBy Refuses)
 refused_all Refuses bytes error.Read h = h
 refused_all Refuses bytes (error.Refused f) h = least_all bytes f h
 refused_all Refuses bytes (error.Run f) h = (h.0, document_all bytes (input.Plans h.0) h.1, h.2)

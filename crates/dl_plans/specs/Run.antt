@@ -68,12 +68,12 @@ pub record WritesFront (IsGiven : List ℕ → List ℕ → Type 0) (old new : O
 -- ---- refusals
 
 -- for which fault the plans of a file aren't served
-abbrev pub Refusal : Type 1
-Refusal = PlanFile → ScopeFault → Type 0
+abbrev pub PlanRefusals : Type 1
+PlanRefusals = PlanFile → ScopeFault → Type 0
 
 -- where the error says that a document is refused, the refusal is the first that applies to it; where it says that plans aren't
 -- served, they are those of the document; each version is answered
-abbrev pub IsRefusedBy : Refusal → List ℕ → RunError → Type 0
+abbrev pub IsRefusedBy : PlanRefusals → List ℕ → RunError → Type 0
 IsRefusedBy Refuses bytes Read = Unit {0}
 IsRefusedBy Refuses bytes (Refused fault) = IsLeast (Applies bytes) fault
 IsRefusedBy Refuses bytes (Run fault) = (file : PlanFile) × IsDocument bytes (input.Plans file) × Refuses file fault

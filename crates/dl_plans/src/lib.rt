@@ -1,11 +1,11 @@
-//! What the programs `plans` and `plan_picture` are made of, but for the call that serves plans: what a command line asks for, reading and
-//! writing, the text of a report, migration, and the lines and statuses of failures.
+//! What the programs `plans` and `plan_picture` share, and what `plans` has beside its call of `serve`: what a command line asks for, reading
+//! and writing, the text of a report, migration, and the lines and statuses of failures.
 #![tactic(auto)]
 
 mod answer_lines;
 mod batch_lines;
-mod entry;
 mod fault;
+mod invocation;
 pub mod laws;
 mod migration;
 mod report;
@@ -18,8 +18,8 @@ pub use dl_documents::{
 };
 pub use dl_migration::{MigrateFault, migrate};
 pub use dl_scripts::run_script;
-pub use entry::{asked, tell_no_options, told, words};
 pub use fault::RunError;
+pub use invocation::{asked, tell_no_options, told, words};
 pub use migration::run_migrate;
 pub use report::report_text;
 pub use status::{FAILED, RAN, command_status, words_status};

@@ -15,7 +15,7 @@ use std::hash::RandomState;
 use std::io::{Read, Write};
 
 /// Reads a plan file of version 1, and writes it as [`migrate`] gives it, as version 2, once all of the text is made. It reads
-/// and writes as the program `plans` does elsewhere. Tables are hashed by `hashing`, of which nothing is seen.
+/// by [`read_all`] and writes by [`write_all`]. Tables are hashed by `hashing`, of which nothing is seen.
 ///
 /// # Errors
 /// `Read` where the reader fails, `Refused` where what it holds is no document, `NotVersion1` where it is a script or a plan file

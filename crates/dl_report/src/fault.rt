@@ -1,4 +1,4 @@
-//! Why a term has no answer, and why plans aren't served.
+//! Why the evaluation of a term is cut short, and why plans aren't served.
 
 ghost use Rattle.std.specs.Prelude.{◌≡◌};
 ghost use Rattle.dl_report.specs.declared.fault.RunFault.TheVariants as run;
@@ -57,7 +57,7 @@ pub enum ScopeFault {
     /// There are more than [`MOST_PLANS`](dl_terms::MOST_PLANS) plans.
     #[error("there are too many plans")]
     TooManyPlans,
-    /// The number of workers isn't 1 to 16 (`dl_scope::MOST_WORKERS`).
+    /// The number of workers isn't 1 to `dl_scope::MOST_WORKERS`.
     #[error("the number of workers is out of range")]
     BadWorkers,
     /// The loader can't be started.

@@ -46,7 +46,8 @@ impl Model for Report {
 }
 
 impl Report {
-    /// The report of these.
+    /// A report of these, which whoever serves plans makes last, as `dl_scope::serve` does. Nothing is checked: the contract of the
+    /// call that gave a report says what it is evidence of.
     pub fn of(
         answers: Vec<Vec<StepAnswer>>,
         rounds: Vec<u64>,

@@ -9,7 +9,7 @@ pub struct Setup {
     pub limits: Limits,
     /// The tables' own limits, where each batch is of one table. Without them batches may mix tables.
     pub tables: Option<TableLimits>,
-    /// The number of fetch workers: 1 to 16 (`dl_scope::MOST_WORKERS`).
+    /// The number of fetch workers: 1 to `dl_scope::MOST_WORKERS`.
     pub workers: u32,
     /// For how many jobs the queue between plans and workers has room: 1 to 1,024.
     pub queue: u32,

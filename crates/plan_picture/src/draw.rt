@@ -20,7 +20,9 @@ use std::thread::Threads;
 /// seen.
 ///
 /// # Errors
-/// Those of `plans`. Only after `Write` something may be written: a front of the picture.
+/// `Read` where the reader fails, `Refused` where what it holds is no document, `Run` where the plans of a plan file
+/// aren't served, `OutOfMemory` where an allocation failed, and `Write` where the writer fails. Only after `Write` something
+/// may be written: a front of the picture.
 pub(crate) fn run_draw<R: Read, W: Write, T: Threads + Wait + Sync>(
     rt: &T,
     alloc: Global,

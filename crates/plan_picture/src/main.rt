@@ -15,19 +15,18 @@ use std::thread::Threads;
 
 fn main(rt: HostRuntime) -> ExitCode {
     let status = match asked(&rt, Program::PlanPicture) {
-        Ok((options, hashing)) => told(&rt, &drawn(&rt, &rt, hashing, options)),
+        Ok((options, hashing)) => told(&rt, &drawn(&rt, hashing, options)),
         Err(status) => status,
     };
     ExitCode::from(status)
 }
 
 /// Writes the picture of the document that stands on standard input to standard output.
-fn drawn<R: Input + Print + AllocGlobal, T: Threads + Wait + Sync>(
+fn drawn<R: Input + Print + AllocGlobal + Threads + Wait + Sync>(
     rt: &R,
-    threads: &T,
     hashing: RandomState,
     options: Options,
 ) -> Result<(), RunError> {
     let (alloc, mut reader, mut writer) = (rt.alloc(), rt.reader(), io::writer(rt));
-    run_draw(threads, alloc, hashing, &mut reader, &mut writer, options)
+    run_draw(rt, alloc, hashing, &mut reader, &mut writer, options)
 }

@@ -4,7 +4,7 @@ use Rattle.dl_command.specs.declared.settings.Options.{Options}
 use Rattle.dl_documents.specs.declared.input.Input.{Input}
 use Rattle.dl_documents.specs.declared.input.Input.TheVariants as input
 use Rattle.dl_plans.specs.ReportText.{report_text}
-use Rattle.dl_plans.specs.Run.{IsDocument, IsRefusedBy, Refusal, file_service, setup_of}
+use Rattle.dl_plans.specs.Run.{IsDocument, IsRefusedBy, PlanRefusals, file_service, setup_of}
 use Rattle.dl_plans.specs.declared.fault.RunError.{RunError}
 use Rattle.dl_report.specs.Report.{Report}
 use Rattle.dl_scope.specs.Faults.{RefusedAs}
@@ -26,9 +26,9 @@ IsOutput options bytes text = (i : Input) × IsDocument bytes i × Outputs optio
 -- ---- refusals
 
 -- for which fault the plans of a file aren't served: one for which `serve` refuses them
-abbrev pub refuses : Options → Refusal
-refuses options file = RefusedAs (file_service options file) (setup_of options file) file.plans.items
+abbrev pub Refuses : Options → PlanRefusals
+Refuses options file = RefusedAs (file_service options file) (setup_of options file) file.plans.items
 
 -- how a run is refused
 abbrev pub IsRefused : Options → List ℕ → RunError → Type 0
-IsRefused options = IsRefusedBy (refuses options)
+IsRefused options = IsRefusedBy (Refuses options)

@@ -81,7 +81,8 @@ fn output<T: Threads + Wait + Sync>(
     }
 }
 
-/// The text that a script gives. The script isn't taken apart: the process ends, and its memory goes with it.
+/// The text that a script gives. The script isn't taken apart: the process ends, and its memory goes with it. The error is a
+/// failed allocation.
 fn text_of_script(alloc: Global, hashing: RandomState, script: Script) -> Result<String, AllocError>
     ensures { IfOk result (λ text. string_bytes text ≡ script_text script) }
 {
@@ -90,7 +91,7 @@ fn text_of_script(alloc: Global, hashing: RandomState, script: Script) -> Result
     text
 }
 
-/// The text of a report, which isn't taken apart either.
+/// The text of a report, which isn't taken apart either. The error is a failed allocation.
 fn text_of_report(alloc: Global, report: Report, batches: bool) -> Result<String, AllocError>
     ensures { IfOk result (λ text. string_bytes text ≡ report_text report batches) }
 {

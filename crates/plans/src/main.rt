@@ -1,6 +1,6 @@
 //! The program `plans`: it answers the document that stands on standard input.
 //!
-//! Here stands what calls `serve`, so that its proof is loaded for one crate. What a program needs beside it stands in `dl_plans`.
+//! What calls `serve` stands here, so that no library below loads its proof too. All else that the program needs is `dl_plans`.
 #![tactic(auto)]
 
 mod document;
@@ -17,16 +17,15 @@ use std::thread::Threads;
 
 fn main(rt: HostRuntime) -> ExitCode {
     let status = match asked(&rt, Program::Plans) {
-        Ok((options, hashing)) => told(&rt, &written(&rt, &rt, hashing, options)),
+        Ok((options, hashing)) => told(&rt, &written(&rt, hashing, options)),
         Err(status) => status,
     };
     ExitCode::from(status)
 }
 
 /// Writes what the options ask for to standard output: the document that stands on standard input as version 2, or what it gives.
-fn written<R: Input + Print + AllocGlobal, T: Threads + Wait + Sync>(
+fn written<R: Input + Print + AllocGlobal + Threads + Wait + Sync>(
     rt: &R,
-    threads: &T,
     hashing: RandomState,
     options: Options,
 ) -> Result<(), RunError> {
@@ -34,6 +33,6 @@ fn written<R: Input + Print + AllocGlobal, T: Threads + Wait + Sync>(
     if options.migrate {
         run_migrate(alloc, hashing, &mut reader, &mut writer)
     } else {
-        run(threads, alloc, hashing, &mut reader, &mut writer, options)
+        run(rt, alloc, hashing, &mut reader, &mut writer, options)
     }
 }
