@@ -88,6 +88,13 @@ class Batches(unittest.IsolatedAsyncioTestCase):
 
         self.assertEqual(await Doubles().load_many([1, 2]), [2, 4])
 
+    async def test_a_subclass_has_a_function_of_the_module(self):
+        class Named(DataLoader):
+            batch_load_fn = staticmethod(answers(["ada", "bob"]))
+            get_cache_key = staticmethod(str.lower)
+
+        self.assertEqual(await Named().load_many(["Ada", "ada", "Bob"]), ["ada", "ada", "bob"])
+
     async def test_a_subclass_has_each_option(self):
         class Few(DataLoader):
             max_cells = 1

@@ -463,7 +463,10 @@ class Raised(unittest.IsolatedAsyncioTestCase):
                     raise OSError("no room")
                 super().__setitem__(key, value)
 
+        batches = []
+
         async def batch_load_fn(keys):
+            batches.append(list(keys))
             return keys
 
         cache_map = Full()
@@ -471,8 +474,25 @@ class Raised(unittest.IsolatedAsyncioTestCase):
         for call in (lambda: loader.load(1), lambda: loader.load_many([1, 2]), lambda: loader.prime(1, 5)):
             with self.assertRaises(OSError):
                 call()
+        self.assertEqual(loader.counters, (0, 0, 0, 0, 0))
+        await asyncio.sleep(0.01)
         cache_map.is_full = False
         self.assertEqual(await soon(loader.load_many([1, 2])), [1, 2])
+        self.assertEqual(batches, [[1, 2]])
+
+    async def test_a_load_that_is_not_scheduled_leaves_no_future_in_the_cache_map(self):
+        def fails(dispatch):
+            raise OSError("not now")
+
+        async def batch_load_fn(keys):
+            return keys
+
+        cache_map = {}
+        loader = DataLoader(batch_load_fn, cache_map=cache_map, batch_schedule_fn=fails)
+        for call in (lambda: loader.load(1), lambda: loader.load_many([1, 2])):
+            with self.assertRaises(OSError):
+                call()
+        self.assertEqual((cache_map, loader.counters), ({}, (0, 0, 0, 0, 0)))
 
     async def test_the_list_of_a_batch_is_the_batch_functions(self):
         async def batch_load_fn(keys):

@@ -590,21 +590,62 @@ static bool schedule(Desk *self)
     return true;
 }
 
-/* The future of a load that the desk has answered. A fresh load that raises is forgotten. */
-static PyObject *loaded_future(Desk *self, dl_loaded answer, const KeyTexts *texts)
+/* What the cache map answers to a call with the key and None: None where there is no map. */
+static PyObject *of_cache_map(Desk *self, PyObject *method, PyObject *cache_key)
+{
+    if (self->cache_map == NULL) {
+        Py_RETURN_NONE;
+    }
+    return PyObject_CallMethodObjArgs(self->cache_map, method, cache_key, Py_None, NULL);
+}
+
+/* Has the cache map forget a cell that fails, if it holds it still. */
+static void forget_mapped(Desk *self, uint32_t number)
+{
+    PyObject *key = self->cells[number].key, *what = self->cells[number].what;
+    PyObject *cache_key = key == NULL ? NULL : cache_key_of(self, key);
+    PyObject *held = cache_key == NULL ? NULL : of_cache_map(self, get_name, cache_key);
+
+    if (held != NULL && held == what) {
+        Py_SETREF(held, of_cache_map(self, pop_name, cache_key));
+    }
+    if (PyErr_Occurred()) {
+        PyErr_WriteUnraisable((PyObject *)self);
+    }
+    Py_XDECREF(held);
+    Py_XDECREF(cache_key);
+}
+
+/* Forgets a fresh load whose call is about to raise, by the cache map too where that has it. */
+static void forget_load(Desk *self, uint32_t number, const KeyTexts *texts, bool is_mapped)
+{
+    PyObject *type, *value, *traceback;
+
+    PyErr_Fetch(&type, &value, &traceback);
+    if (is_mapped) {
+        forget_mapped(self, number);
+    }
+    dl_desk_clear(&self->desk, texts->table, texts->table_len, texts->id, texts->id_len);
+    lose_cell(self, number);
+    PyErr_Restore(type, value, traceback);
+}
+
+/* The future of a load that the desk has answered. If there is a cache map, it gets that of a fresh load. A fresh load that raises is
+ * forgotten. */
+static PyObject *loaded_future(Desk *self, dl_loaded answer, const KeyTexts *texts, PyObject *cache_key)
 {
     PyObject *future = future_of(self, answer.cell);
+    bool is_held = future != NULL && (cache_key == NULL || PyObject_SetItem(self->cache_map, cache_key, future) == 0);
 
-    if (answer.code == DL_FRESH && (future == NULL || !schedule(self))) {
-        dl_desk_clear(&self->desk, texts->table, texts->table_len, texts->id, texts->id_len);
-        lose_cell(self, answer.cell);
+    if (answer.code == DL_FRESH && (!is_held || !schedule(self))) {
+        forget_load(self, answer.cell, texts, is_held && cache_key != NULL);
         Py_CLEAR(future);
     }
     return future;
 }
 
-/* Loads a key by the desk. */
-static PyObject *load_cell(Desk *self, PyObject *key)
+/* Loads a key by the desk, and notes it in the cache map by the other key, if there is one. */
+static PyObject *load_cell(Desk *self, PyObject *key, PyObject *cache_key)
 {
     KeyTexts texts;
     PyObject *future = NULL;
@@ -618,7 +659,7 @@ static PyObject *load_cell(Desk *self, PyObject *key)
         if (answer.code == DL_FRESH) {
             note_cell(self, key, answer.cell, COLLECTED);
         }
-        future = answer.code <= DL_FRESH ? loaded_future(self, answer, &texts) : raise_code(answer.code);
+        future = answer.code <= DL_FRESH ? loaded_future(self, answer, &texts, cache_key) : raise_code(answer.code);
         if (future != NULL) {
             self->counts.loads++;
             self->counts.hits += answer.code == DL_HIT;
@@ -626,15 +667,6 @@ static PyObject *load_cell(Desk *self, PyObject *key)
     }
     Py_XDECREF(texts.owner);
     return future;
-}
-
-/* What the cache map answers to a call with the key and None: None where there is no map. */
-static PyObject *of_cache_map(Desk *self, PyObject *method, PyObject *cache_key)
-{
-    if (self->cache_map == NULL) {
-        Py_RETURN_NONE;
-    }
-    return PyObject_CallMethodObjArgs(self->cache_map, method, cache_key, Py_None, NULL);
 }
 
 /* Loads a key by the cache map, which has a future of each cell. Callers have theirs over it. */
@@ -650,10 +682,7 @@ static PyObject *load_mapped(Desk *self, PyObject *key)
         self->counts.loads++;
         self->counts.hits++;
     } else if (held != NULL) {
-        Py_SETREF(held, load_cell(self, key));
-        if (held != NULL && PyObject_SetItem(self->cache_map, cache_key, held) < 0) {
-            Py_CLEAR(held);
-        }
+        Py_SETREF(held, load_cell(self, key, cache_key));
     }
     Py_DECREF(cache_key);
     future = held == NULL ? NULL : PyObject_CallOneArg(shield, held);
@@ -666,7 +695,7 @@ static PyObject *desk_load(Desk *self, PyObject *key)
     if (!is_on_loop(self)) {
         return NULL;
     }
-    return self->cache_map == NULL ? load_cell(self, key) : load_mapped(self, key);
+    return self->cache_map == NULL ? load_cell(self, key, NULL) : load_mapped(self, key);
 }
 
 /* Several keys as dl_desk_load_many takes them. */
@@ -1069,23 +1098,6 @@ static void end_with(Desk *self, uint32_t number, PyObject *outcome, const char 
     } else {
         end_cell(self, number, outcome, WITH_VALUE);
     }
-}
-
-/* Has the cache map forget a cell that fails, if it holds it still. */
-static void forget_mapped(Desk *self, uint32_t number)
-{
-    PyObject *key = self->cells[number].key, *what = self->cells[number].what;
-    PyObject *cache_key = key == NULL ? NULL : cache_key_of(self, key);
-    PyObject *held = cache_key == NULL ? NULL : of_cache_map(self, get_name, cache_key);
-
-    if (held != NULL && held == what) {
-        Py_SETREF(held, of_cache_map(self, pop_name, cache_key));
-    }
-    if (PyErr_Occurred()) {
-        PyErr_WriteUnraisable((PyObject *)self);
-    }
-    Py_XDECREF(held);
-    Py_XDECREF(cache_key);
 }
 
 /* Ends a cell with the fault of its batch, and forgets it. Nobody is told of what was cancelled who doesn't ask, as asyncio has
