@@ -2,8 +2,10 @@
 use Rattle.std.proofs.Common.{◌≡◌, ◌∙◌, sym, ap, ℕ, zero, suc, ◌+◌, ◌-◌, ◌*◌, ◌/◌, ◌<◌, ◌≤◌, false, true, List, [], ◌∷◌, ◌++◌, length, take, drop, set, refl, arith}
 use Rattle.std.proofs.Common.{append_assoc, length-append, length-take, take_at, drop_at, take-add}
 use Rattle.std.specs.Prelude.{replicate, nat_lt}
-use Rattle.std.specs.Str.{IsUtf8}
+use Rattle.std.specs.Str.{IsUtf8, bytes_eq}
 use Rattle.std.proofs.lemmas.Bool.{le-ltb, lt-ltb}
+use Rattle.std.proofs.lemmas.Bool.Decides.{same_from_decides}
+use Rattle.std.proofs.lemmas.Slice.Eq.{bytes_eq-Decides}
 use Rattle.std.proofs.lemmas.List.{set_at, length-replicate, take-replicate, drop-replicate}
 use borrow.Rule.Slice.PartMut.{put_mid}
 use Rattle.dl_values.specs.KeyTexts.{short_bytes}
@@ -80,6 +82,32 @@ words_are bytes len is =
     ap (take (8 * (len / 8) + 8)) is.block
     ∙ (take-filled block_bytes (8 * (len / 8) + 8) (take len bytes) (omega arith) (omega arith)
     ∙ ap (λ (n : ℕ). filled (8 * (n / 8) + 8) (take len bytes)) (sym long))
+
+-- ---- blocks that are equal
+
+-- among zeros there is no byte that stands behind a text
+no_end : (n : ℕ) (text rest : List ℕ) → replicate n 0 ≡ text ++ (255 ∷ rest) → ⊥
+no_end zero [] rest e = cc
+no_end zero (x ∷ xs) rest e = cc
+no_end (suc n) [] rest e = cc
+no_end (suc n) (x ∷ xs) rest e = no_end n xs rest (cc)
+
+-- so a block tells its text, which ends before the last byte that isn't zero
+text_told : (first second : List ℕ) (m n : ℕ) → first ++ (255 ∷ replicate m 0) ≡ second ++ (255 ∷ replicate n 0) → first ≡ second
+text_told [] [] m n e = refl
+text_told [] (y ∷ ys) m n e = absurd (no_end m ys (replicate n 0) (cc))
+text_told (x ∷ xs) [] m n e = absurd (no_end n xs (replicate m 0) (cc))
+text_told (x ∷ xs) (y ∷ ys) m n e = let rest : xs ≡ ys = text_told xs ys m n (cc) in cc
+
+-- two blocks are equal exactly if their texts are
+pub same_blocks : (a b : List ℕ) (m n : ℕ) → IsShort a m → IsShort b n → bytes_eq a b ≡ bytes_eq (take m a) (take n b)
+same_blocks a b m n first second =
+    let blocks = bytes_eq-Decides a b in
+    same_from_decides (bytes_eq a b) (bytes_eq (take m a) (take n b)) (
+      λ e. text_told (take m a) (take n b) _ _ (sym first.block ∙ (blocks.0 e ∙ second.block)),
+      λ e. blocks.1 (first.block ∙ (ap (filled block_bytes) e ∙ sym second.block)),
+    )
+    (bytes_eq-Decides (take m a) (take n b))
 
 -- ---- which texts are short
 

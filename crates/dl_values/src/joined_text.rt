@@ -1,6 +1,9 @@
 //! Two texts as one, which stands in its own value where it is short.
 
 ghost use Rattle.std.specs.Prelude.{◌≡◌};
+ghost use Rattle.std.specs.Str.{bytes_eq};
+ghost use Rattle.std.specs.Cmp.Rules.{comparing};
+ghost use Rattle.std.proofs.Common.{rules};
 ghost use Rattle.dl_values.specs.Inside.HashedText.{hashed};
 ghost use Rattle.dl_values.specs.Inside.JoinedText.{bytes_of, IsInForm};
 
@@ -35,6 +38,21 @@ impl JoinedText {
         match self {
             JoinedText::Short(text) => text.words(),
             JoinedText::Long(text) => text.as_str().as_bytes(),
+        }
+    }
+}
+
+/// Two short texts are compared by their blocks.
+impl PartialEq for JoinedText {
+    ghost eq = { λ a b. bytes_eq (bytes_of a) (bytes_of b) };
+
+    ghost laws = { Prim.search (comparing, rules) };
+
+    #[inline(always)]
+    fn eq(&self, other: &JoinedText) -> bool {
+        match (self, other) {
+            (JoinedText::Short(text), JoinedText::Short(other)) => text.eq(other),
+            _ => self.as_str() == other.as_str(),
         }
     }
 }

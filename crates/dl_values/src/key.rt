@@ -105,7 +105,7 @@ impl PartialEq for KeyText {
 
     #[inline(always)]
     fn eq(&self, other: &KeyText) -> bool {
-        self.text.as_str() == other.text.as_str()
+        self.text.eq(&other.text)
     }
 }
 

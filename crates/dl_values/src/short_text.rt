@@ -1,7 +1,9 @@
 //! Texts that stand in their own value.
 
 ghost use Rattle.std.specs.Prelude.{◌≡◌, ◌+◌, ◌<◌, ◌≤◌, ◌↔◌, ◌∷◌, ◌++◌, length, IfSome, IfNone, IsTrue};
-ghost use Rattle.std.specs.Str.{IsUtf8, IsCharBoundary};
+ghost use Rattle.std.specs.Str.{IsUtf8, IsCharBoundary, bytes_eq};
+ghost use Rattle.std.specs.Cmp.Rules.{comparing};
+ghost use Rattle.std.proofs.Common.{rules};
 ghost use Rattle.dl_values.specs.KeyTexts.{AreTexts, short_bytes};
 ghost use Rattle.dl_values.specs.Inside.HashedText.{filled, word_end};
 ghost use Rattle.dl_values.specs.Inside.ShortText.{block_bytes};
@@ -82,6 +84,19 @@ impl ShortText {
         ensures { result.now ≡ filled (word_end (length self.now)) self.now }
     {
         &self.bytes[..8 * (self.len / 8) + 8]
+    }
+}
+
+/// Texts are compared by their blocks, without a look at their lengths. Two blocks are equal exactly where the texts are: behind the
+/// text a block has one byte that isn't zero, and then zeros alone, so the last byte that isn't zero tells where the text ends.
+impl PartialEq for ShortText {
+    ghost eq = { bytes_eq };
+
+    ghost laws = { Prim.search (comparing, rules) };
+
+    #[inline(always)]
+    fn eq(&self, other: &ShortText) -> bool {
+        self.bytes == other.bytes
     }
 }
 
