@@ -11,32 +11,33 @@ ghost use Rattle.dl_haxl.specs.Rounds.{AddsAndSends, SentMore};
 ghost use Rattle.dl_haxl.specs.RunFaults.{IsRunFault};
 
 use crate::evaluator::Evaluator;
-use crate::step_answers::StepAnswers;
 use dl_desk::{FetchKey, Outcome};
 use dl_loader::{Loader, LoaderName, Pass, PrimeReply};
 use dl_queue::{JobQueue, Sender};
-use dl_report::{RunFault, StepAnswer};
+use dl_report::{RunFault, StepAnswer, StepAnswers};
 use dl_terms::{Answer, Step};
 use std::alloc::{AllocError, Global};
 use std::hash::RandomState;
 use std::sync::Wait;
 
-impl StepAnswers {
-    /// Adds what the step of a number gave, if it has a term: its answer and its rounds. The error is a failed allocation.
-    fn add(&mut self, number: usize, step: Option<(Answer, u32)>) -> Result<(), AllocError>
-        requires { self.old.rounds + rounds_of step < 2 ^ 64 }
-        ensures answers { OnOk result (self.new.answers.items ≡ self.old.answers.items ++ answers_of number step) }
-        ensures rounds { OnOk result (self.new.rounds ≡ self.old.rounds + rounds_of step) }
-    {
-        if let Some((answer, rounds)) = step {
-            self.answers.push(StepAnswer {
-                step: number,
-                answer,
-            })?;
-            self.rounds += u64::from(rounds);
-        }
-        Ok(())
+/// Adds what the step of a number gave, if it has a term: its answer and its rounds. The error is a failed allocation.
+fn add(
+    given: &mut StepAnswers,
+    number: usize,
+    step: Option<(Answer, u32)>,
+) -> Result<(), AllocError>
+    requires { given.old.rounds + rounds_of step < 2 ^ 64 }
+    ensures answers { OnOk result (given.new.answers.items ≡ given.old.answers.items ++ answers_of number step) }
+    ensures rounds { OnOk result (given.new.rounds ≡ given.old.rounds + rounds_of step) }
+{
+    if let Some((answer, rounds)) = step {
+        given.answers.push(StepAnswer {
+            step: number,
+            answer,
+        })?;
+        given.rounds += u64::from(rounds);
     }
+    Ok(())
 }
 
 /// Takes the steps of a plan, in order: a prime, a clear and a clearAll are calls of the pass, and a term is evaluated as by
@@ -78,7 +79,7 @@ pub fn take_steps<L: LoaderName, R: Wait>(
     for step in steps {
         let taken = evaluator.take_step(rt, sender, pass, step)?;
         let _calls = pass.calls();
-        given.add(number, taken)?;
+        add(&mut given, number, taken)?;
         number += 1;
     }
     Ok(given)

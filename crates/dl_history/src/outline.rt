@@ -44,8 +44,14 @@ impl Outline {
     ) -> Result<Outline, AllocError>
         ensures { IfOk result (λ made. made ≡ outline caller (map kind_of entries.now)) }
     {
-        let entries = kinds_in(alloc, entries)?;
-        Ok(Outline { caller, entries })
+        let mut kinds = Vec::with_capacity(alloc, entries.len())?;
+        for entry in entries {
+            kinds.push_reserved(entry.kind());
+        }
+        Ok(Outline {
+            caller,
+            entries: kinds,
+        })
     }
 
     /// The caller.
@@ -61,18 +67,4 @@ impl Outline {
     {
         self.entries.as_slice()
     }
-}
-
-/// What the entries are, in order. The error is a failed allocation.
-fn kinds_in<L: LoaderName>(
-    alloc: Global,
-    entries: &[Entry<L>],
-) -> Result<Vec<EntryKind>, AllocError>
-    ensures { IfOk result (λ kinds. kinds.items ≡ map kind_of entries.now) }
-{
-    let mut kinds = Vec::with_capacity(alloc, entries.len())?;
-    for entry in entries {
-        kinds.push_reserved(entry.kind());
-    }
-    Ok(kinds)
 }

@@ -22,7 +22,7 @@ use std::marker::Model;
 use std::sync::ledger::Share;
 
 /// A ticket that a pass gave.
-#[derive(Clone, Copy, Debug)]
+#[derive(Clone, Copy)]
 pub(crate) struct GivenTicket {
     // The cell of its load.
     cell: u32,

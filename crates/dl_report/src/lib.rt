@@ -7,8 +7,10 @@ mod fault;
 mod report;
 mod setup;
 mod step_answer;
+mod step_answers;
 
 pub use fault::{RunFault, ScopeFault};
 pub use report::Report;
 pub use setup::Setup;
 pub use step_answer::StepAnswer;
+pub use step_answers::StepAnswers;

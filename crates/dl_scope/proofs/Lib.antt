@@ -2,12 +2,9 @@ mod CallTotals
 mod CallersCalls
 mod CarriedJobs
 mod TallyOfPasses
-mod ThreadSafety
-mod TaskLists
 mod EndCounts
 mod EqualAnswers
 mod OneEnd
-mod ThreadResults
 mod Headlines
 mod ThreadJoins
 mod LoadedCells

@@ -10,35 +10,13 @@ use Rattle.dl_queue.specs.Seats.{AreSeatsOf, IsSenderOf, IsTakerOf}
 use Rattle.dl_queue.specs.declared.queue.JobQueue.{JobQueue}
 use Rattle.dl_queue.specs.declared.seats.Sender.{Sender}
 use Rattle.dl_queue.specs.declared.seats.Taker.{Taker}
-use Rattle.dl_scope.specs.Inside.ThreadRuns.{IsPlanRun, IsWorkerRun}
-use Rattle.dl_scope.specs.declared.tasks.PlanTask.{PlanTask}
-use Rattle.dl_scope.specs.declared.tasks.PlanRun.{PlanRun}
-use Rattle.dl_scope.specs.declared.tasks.WorkerTask.{WorkerTask}
-use Rattle.dl_scope.specs.declared.tasks.WorkerRun.{WorkerRun}
+use Rattle.dl_tasks.specs.WorkerRuns.{IsWorkerRun}
+use Rattle.dl_scope.specs.Inside.ThreadRuns.{IsPlanRun}
+use Rattle.dl_tasks.specs.declared.tasks.PlanTask.{PlanTask}
+use Rattle.dl_tasks.specs.declared.runs.PlanRun.{PlanRun}
+use Rattle.dl_tasks.specs.declared.tasks.WorkerTask.{WorkerTask}
+use Rattle.dl_tasks.specs.declared.runs.WorkerRun.{WorkerRun}
 use Rattle.dl_loader.specs.Pass.{new_traces}
-
-unmapped : {X Y : Type 0} (P : Y → Type 0) (f : X → Y) (xs : List X) → AllByRecursion P (map f xs) → AllByRecursion (λ x. P (f x)) xs
-unmapped P f [] all = tt
-unmapped P f (x ∷ xs) (one, others) = (one, unmapped P f xs others)
-
--- what holds of each of a list's images
-pub all_unmapped : {X Y : Type 0} (P : Y → Type 0) (f : X → Y) (xs : List X) (ys : List Y) → map f xs ≡ ys → All P ys → All (λ x. P (f x)) xs
-all_unmapped P f xs ys is all = All-from_recursion (λ x. P (f x)) xs (unmapped P f xs (recursion_from_All P (map f xs) (All-same P (map f xs) ys is all)))
-
-front_by : {X : Type 0} (P : X → Type 0) (xs ys : List X) → AllByRecursion P (xs ++ ys) → AllByRecursion P xs
-front_by P [] ys all = tt
-front_by P (x ∷ xs) ys (one, others) = (one, front_by P xs ys others)
-
-last_by : {X : Type 0} (P : X → Type 0) (xs : List X) (y : X) → AllByRecursion P (xs ++ y ∷ []) → P y
-last_by P [] y (one, none) = one
-last_by P (x ∷ xs) y (one, others) = last_by P xs y others
-
-pub all_front : {X : Type 0} (P : X → Type 0) (xs all : List X) (y : X) → all ≡ xs ++ y ∷ [] → All P all → All P xs
-all_front P xs all y is each =
-    All-from_recursion P xs (front_by P xs (y ∷ []) (recursion_from_All P (xs ++ y ∷ []) (All-same P (xs ++ y ∷ []) all (sym is) each)))
-
-pub all_last : {X : Type 0} (P : X → Type 0) (xs all : List X) (y : X) → all ≡ xs ++ y ∷ [] → All P all → P y
-all_last P xs all y is each = last_by P xs y (recursion_from_All P (xs ++ y ∷ []) (All-same P (xs ++ y ∷ []) all (sym is) each))
 
 module _ {L : Type 0} (queue : JobQueue) (service : Service) where
   senders_by : (tasks : List (PlanTask L)) (runs : List (PlanRun L)) → AllZip (IsPlanRun queue service) tasks runs

@@ -6,11 +6,9 @@
 #![tactic(auto)]
 
 pub mod laws;
+mod plans;
 mod results;
 mod scope;
-mod server;
-mod task_lists;
-mod tasks;
 mod threads;
 
 pub use dl_report::{Report, ScopeFault, Setup, StepAnswer};

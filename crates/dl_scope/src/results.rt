@@ -1,55 +1,17 @@
-//! How what the threads give back is put together.
+//! Whether each plan took its steps and each worker worked to the end, and which fault is told where not.
 
-ghost use Rattle.std.specs.Prelude.{[], ◌≡◌, ◌≤◌, ◌+◌, ◌++◌, ◌⊎◌, All, Err, IfErr, IfOk, MatchBool, MatchOption, OnOk, length, map};
+ghost use Rattle.std.specs.Prelude.{◌≡◌, ◌≤◌, ◌⊎◌, All, Err, IfErr, IfOk, MatchBool, MatchOption, OnOk, length, map};
 ghost use Rattle.dl_terms.specs.Plans.{most_plans};
+ghost use Rattle.dl_tasks.specs.Results.{AreResults, WasTaken};
 ghost use Rattle.dl_scope.specs.Faults.{AnyGaveUp, AnyMet, IsLeastFault, IsStop};
-ghost use Rattle.dl_queue.specs.Balance.{Balances};
-ghost use Rattle.dl_queue.specs.Seats.{AreSeatsOf};
 ghost use Rattle.dl_report.specs.declared.fault.ScopeFault.TheVariants.{OutOfMemory};
-ghost use Rattle.dl_scope.specs.Inside.Results.{AllGave, AreResults, IsDone, IsFaultOf, IsNoResult, MetNoOwn, WasTaken, fault_of};
+ghost use Rattle.dl_scope.specs.Inside.Results.{IsDone, IsFaultOf, MetNoOwn, fault_of};
 
-use crate::tasks::{PlanRun, WorkerRun};
-use crate::threads::Runs;
-use dl_loader::{CallFault, LoaderName, Pass};
-use dl_report::{RunFault, ScopeFault, StepAnswer};
-use dl_workers::{JobQueue, Sender, Taker, Tally, WorkerEnd};
-use std::alloc::{AllocError, Global};
-use std::sync::Wait;
-
-/// What the threads gave back: passes in the order of their callers, seats, and for each plan what its steps gave.
-pub(crate) struct ThreadResults<L: LoaderName> {
-    pub(crate) passes: Vec<Pass<L>>,
-    pub(crate) senders: Vec<Sender>,
-    pub(crate) takers: Vec<Taker>,
-    pub(crate) answers: Vec<Vec<StepAnswer>>,
-    pub(crate) rounds: Vec<u64>,
-}
-
-impl<L: LoaderName> Drop for ThreadResults<L> {
-    fn drop(self) {
-        let ThreadResults {
-            passes,
-            senders,
-            takers,
-            answers,
-            rounds,
-        } = self;
-        drop(passes);
-        drop(senders);
-        drop(takers);
-        drop(answers);
-        drop(rounds);
-    }
-}
-
-/// What serving plans leaves before the loader is closed.
-#[derive(Drop)]
-pub(crate) struct ServedPlans<L: LoaderName> {
-    pub(crate) passes: Vec<Pass<L>>,
-    pub(crate) answers: Vec<Vec<StepAnswer>>,
-    pub(crate) rounds: Vec<u64>,
-    pub(crate) tally: Tally,
-}
+use dl_loader::{CallFault, LoaderName};
+use dl_report::{RunFault, ScopeFault};
+use dl_tasks::{PlanRun, Runs, ThreadResults, WorkerRun};
+use dl_workers::WorkerEnd;
+use std::alloc::Global;
 
 /// Puts together what the threads gave back, where each plan took its steps and each worker worked to the end.
 ///
@@ -68,14 +30,7 @@ pub(crate) fn results_of<L: LoaderName>(
         Ok(()) => {}
         Err(fault) => return Err(fault),
     }
-    let mut all = ThreadResults {
-        passes: Vec::new(alloc),
-        senders: Vec::new(alloc),
-        takers: Vec::new(alloc),
-        answers: Vec::new(alloc),
-        rounds: Vec::new(alloc),
-    };
-    all.add(runs)?;
+    let all = ThreadResults::of(alloc, runs)?;
     Ok(all)
 }
 
@@ -146,77 +101,4 @@ fn any_gave_up<L: LoaderName>(workers: &[WorkerRun<L>]) -> bool
         }
     }
     false
-}
-
-impl<L: LoaderName> ThreadResults<L> {
-    /// Adds what all threads gave back to nothing.
-    fn add(&mut self, runs: Runs<L>) -> Result<(), AllocError>
-        requires taken { All WasTaken runs.plans.items }
-        requires none { IsNoResult self.old }
-        ensures { OnOk result (AreResults runs self.new) }
-    {
-        let Runs {
-            plans,
-            workers,
-            own,
-        } = runs;
-        self.add_plans(plans)?;
-        self.senders.push(own)?;
-        self.add_workers(workers)
-    }
-
-    /// Ends the queue, to which all seats are given back.
-    pub(crate) fn finish(self, rt: &impl Wait, queue: JobQueue) -> ServedPlans<L>
-        requires { AreSeatsOf queue self.senders.items self.takers.items }
-        ensures passes { result.passes ≡ self.passes }
-        ensures answers { result.answers ≡ self.answers }
-        ensures rounds { result.rounds ≡ self.rounds }
-        ensures balance { Balances self.senders.items self.takers.items result.tally }
-        ensures sum { result.tally.sent ≡ result.tally.taken + result.tally.left }
-    {
-        let ThreadResults {
-            passes,
-            senders,
-            takers,
-            answers,
-            rounds,
-        } = self;
-        let tally = queue.finish(rt, senders, takers);
-        ServedPlans {
-            passes,
-            answers,
-            rounds,
-            tally,
-        }
-    }
-
-    /// Adds what the threads of plans gave back.
-    fn add_plans(&mut self, plans: Vec<PlanRun<L>>) -> Result<(), AllocError>
-        requires taken { All WasTaken plans.items }
-        requires no_answers { self.old.answers.items ≡ [] }
-        requires no_rounds { self.old.rounds.items ≡ [] }
-        ensures passes { OnOk result (self.new.passes.items ≡ self.old.passes.items ++ map (λ run. run.pass) plans.items) }
-        ensures senders { OnOk result (self.new.senders.items ≡ self.old.senders.items ++ map (λ run. run.sender) plans.items) }
-        ensures takers { OnOk result (self.new.takers.items ≡ self.old.takers.items) }
-        ensures gave { OnOk result (AllGave plans.items (map (λ a. a.items) self.new.answers.items) self.new.rounds.items) }
-    {
-        for run in plans {
-            run.add_to(self)?;
-        }
-        Ok(())
-    }
-
-    /// Adds what the threads of workers gave back.
-    fn add_workers(&mut self, workers: Vec<WorkerRun<L>>) -> Result<(), AllocError>
-        ensures passes { OnOk result (self.new.passes.items ≡ self.old.passes.items ++ map (λ run. run.pass) workers.items) }
-        ensures senders { OnOk result (self.new.senders.items ≡ self.old.senders.items) }
-        ensures takers { OnOk result (self.new.takers.items ≡ self.old.takers.items ++ map (λ run. run.taker) workers.items) }
-        ensures answers { OnOk result (self.new.answers.items ≡ self.old.answers.items) }
-        ensures rounds { OnOk result (self.new.rounds.items ≡ self.old.rounds.items) }
-    {
-        for run in workers {
-            run.add_to(self)?;
-        }
-        Ok(())
-    }
 }

@@ -17,13 +17,12 @@ ghost use Rattle.dl_report.specs.declared.setup.Setup.{Setup};
 ghost use Rattle.dl_terms.specs.declared.plan.Plan.{Plan};
 ghost use Rattle.dl_scope.specs.Inside.ServedPlans.{AreServed, IsCounted};
 
-use crate::results::{ServedPlans, results_of};
-use crate::server::{Resources, Server};
-use crate::task_lists::{Tasks, deal};
+use crate::results::results_of;
 use crate::threads::run_all;
 use dl_loader::{History, Loader, LoaderName, Opening, Pass, StartFault};
 use dl_report::{Report, ScopeFault, Setup, StepAnswer};
 use dl_source::Source;
+use dl_tasks::{Resources, ServedPlans, Server, Tasks, deal};
 use dl_terms::{MOST_PLANS, Plan};
 use dl_workers::{Gate, JobQueue, Tally, least_given_up};
 use std::alloc::Global;

@@ -1,16 +1,13 @@
 -- What serving plans leaves before the loader is closed.
-use Rattle.std.specs.Prelude.{◌≡◌, ℕ, suc, ◌+◌, List, [], ◌∷◌, ◌++◌, length, map, All, nat_le, if◌then◌else◌}
+use Rattle.std.specs.Prelude.{◌≡◌, ℕ, suc, ◌+◌, List, [], ◌∷◌, length, nat_le, if◌then◌else◌}
 use Rattle.dl_history.specs.Lists.{Every, total}
-use Rattle.dl_loader.specs.Pass.{Trace, Pass}
-use Rattle.dl_queue.specs.Seats.{IsSenderOf, IsTakerOf, sent_jobs, taken_jobs}
+use Rattle.dl_loader.specs.Pass.{Trace}
 use Rattle.dl_loader.specs.Dispatches.{dispatched, events_told, unsent}
-use Rattle.dl_queue.specs.declared.queue.JobQueue.{JobQueue}
 use Rattle.dl_queue.specs.declared.queue.Tally.{Tally}
 use Rattle.dl_haxl.specs.PlanEntries.{Follows}
 use Rattle.dl_scope.specs.Headline.{TellsEnd}
 use Rattle.dl_terms.specs.declared.plan.Plan.{Plan}
 use Rattle.dl_report.specs.declared.step_answer.StepAnswer.{StepAnswer}
-use Rattle.dl_scope.specs.declared.task_lists.Tasks.{Tasks}
 
 -- ---- by their passes
 
@@ -39,19 +36,3 @@ pub record IsCounted (plans : ℕ) (traces : List Trace) (tally : Tally) : Type 
   pub sent : tally.sent + total (λ p. length (unsent (events_told p.entries))) traces ≡ total (λ p. length (dispatched (events_told p.entries))) traces
   pub taken : tally.taken ≡ total (λ p. if nat_le plans p.caller then length (events_told p.entries) else 0) traces
   pub sum : tally.sent ≡ tally.taken + tally.left
-
--- ---- by their tasks
-
-module _ {L : Type 0} where
-  -- what threads are given has these passes and plans, and all seats of the queue, which nothing has gone through
-  pub record AreTasks (queue : JobQueue) (passes : List Pass) (plans : List Plan) (tasks : Tasks L) : Type 0 where
-    pub passes_are : map (λ task. task.pass) tasks.plans.items ++ map (λ task. task.pass) tasks.workers.items ≡ passes
-    pub plans_are : map (λ task. task.plan) tasks.plans.items ≡ plans
-    pub senders_of : All (λ task. IsSenderOf queue task.sender) tasks.plans.items
-    pub takers_of : All (λ task. IsTakerOf queue task.taker) tasks.workers.items
-    pub own_is : IsSenderOf queue tasks.own
-    pub none_sent : All (λ task. sent_jobs task.sender ≡ []) tasks.plans.items
-    pub none_taken : All (λ task. taken_jobs task.taker ≡ []) tasks.workers.items
-    pub own_unused : sent_jobs tasks.own ≡ []
-    pub all_senders : length tasks.plans.items + 1 ≡ queue.senders
-    pub all_takers : length tasks.workers.items ≡ queue.takers

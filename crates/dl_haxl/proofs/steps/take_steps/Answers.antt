@@ -74,8 +74,8 @@ loop-step-preserved g c =
       seat = c.in_ok-taken.ensures.seat;
       number = omega (arith, c.loop-step.invariant.number, length-append c.loop-step.yielded (c.in-Some.step ∷ []));
       older = keeps_after old c.loop-step.pass.trace new c.loop-step.invariant.older c.take_step.ensures.older;
-      leaves = leaves_same old new before after steps (given.answers.items ++ answers_of n taken) c.add.new.self.answers.items
-          (given.rounds + rounds_of taken) c.add.new.self.rounds c.in_ok-add.ensures.answers c.in_ok-add.ensures.rounds more;
+      leaves = leaves_same old new before after steps (given.answers.items ++ answers_of n taken) c.add.new.given.answers.items
+          (given.rounds + rounds_of taken) c.add.new.given.rounds c.in_ok-add.ensures.answers c.in_ok-add.ensures.rounds more;
     }
 
 -- ---- a step that wasn't taken

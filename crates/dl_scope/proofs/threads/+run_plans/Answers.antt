@@ -1,9 +1,9 @@
 use Rattle.std.proofs.Common.{subst}
 use Rattle.dl_queue.specs.Seats.{IsSenderOf}
 use Rattle.dl_scope.specs.Inside.ThreadRuns.{IsPlanRun}
-use Rattle.dl_scope.specs.declared.tasks.PlanTask.{PlanTask}
+use Rattle.dl_tasks.specs.declared.tasks.PlanTask.{PlanTask}
 use Rattle.dl_scope.proofs.ThreadJoins.{all_joined}
-use Rattle.dl_scope.proofs.Seats.{all_front, all_last}
+use Rattle.dl_tasks.proofs.Seats.{all_front, all_last}
 use Rattle.dl_scope.proofs.threads.+run_plans.Goals as goal
 
 pub start_plan-requires-clause-seat : goal.start_plan-requires-clause-seat

@@ -1,10 +1,11 @@
 use Rattle.std.proofs.Common.{subst}
 use Rattle.std.specs.List.{AllZip}
 use Rattle.dl_queue.specs.Seats.{IsTakerOf}
-use Rattle.dl_scope.specs.Inside.ThreadRuns.{IsPlanRun, IsWorkerRun, SendsNothing}
-use Rattle.dl_scope.specs.declared.tasks.WorkerTask.{WorkerTask}
+use Rattle.dl_tasks.specs.WorkerRuns.{IsWorkerRun}
+use Rattle.dl_scope.specs.Inside.ThreadRuns.{IsPlanRun, SendsNothing}
+use Rattle.dl_tasks.specs.declared.tasks.WorkerTask.{WorkerTask}
 use Rattle.dl_scope.proofs.ThreadJoins.{all_joined, others_stay}
-use Rattle.dl_scope.proofs.Seats.{all_front, all_last}
+use Rattle.dl_tasks.proofs.Seats.{all_front, all_last}
 use Rattle.dl_scope.proofs.threads.+run_workers.Goals as goal
 
 pub start_worker-requires-clause-seat : goal.start_worker-requires-clause-seat

@@ -1,0 +1,4 @@
+mod ResultLemmas
+pub mod Seats
+mod TaskLists
+pub mod ThreadSafety
