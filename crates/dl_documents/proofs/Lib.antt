@@ -1,4 +1,7 @@
+pub mod ObjectMembers
+pub mod TreeLists
 pub mod Trees
+pub mod TreeData
 pub mod Findings
 pub mod KeyLaws
 pub mod CallLaws

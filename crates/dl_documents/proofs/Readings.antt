@@ -4,10 +4,9 @@ use Rattle.std.proofs.lemmas.List.{map-append, length-map}
 use Rattle.std.proofs.lemmas.Option.{none-some}
 use Rattle.std.specs.declared.alloc.Global.{Global}
 use Rattle.std.specs.List.{AllByRecursion}
-use Rattle.serde_json.specs.Data.{Data}
+use Rattle.json.specs.declared.value.Value.{Value}
+use Rattle.serde_json.specs.Data.{Data, array}
 use Rattle.serde_json.specs.Find.{as_array}
-use Rattle.serde_json.specs.View.{view, items_view}
-use Rattle.serde_json.specs.declared.value.Value.{Value}
 use Rattle.dl_source.proofs.Spelling.{array_of}
 use Rattle.dl_terms.specs.declared.plan.Plan.{Plan}
 use Rattle.dl_terms.specs.declared.plan.Step.{Step}
@@ -15,6 +14,8 @@ use Rattle.dl_documents.proofs.CallLaws.{call_is, call_again}
 use Rattle.dl_documents.proofs.StepLaws.{step_is, step_again}
 use Rattle.dl_documents.proofs.ListSpelling.{Spell, IsAny, spell_next, spell_size, spell_stops, spelled_before, place_of, item_now, all_at, from_item}
 use Rattle.dl_documents.specs.Faults.{IsNoCall, IsNoStep}
+use Rattle.dl_documents.proofs.TreeLists.{list_data_is}
+use Rattle.dl_documents.specs.Inside.Trees.{tree_data, list_data}
 use Rattle.dl_documents.specs.Inside.Places.{HasOne}
 use Rattle.dl_documents.specs.Inside.Scripts.{IsFirstBadCall}
 use Rattle.dl_documents.specs.Inside.PlanFiles.{row_tree, rows_view, HasOther, IsPlanOf, IsFirstBadIn, IsFirstBadStep}
@@ -29,65 +30,65 @@ use Rattle.dl_documents.specs.declared.input.ScriptCall.{ScriptCall}
 -- ---- calls
 
 -- calls so far
-abbrev pub SpellCalls : List Value → List ScriptCall → Type 0
-SpellCalls vs calls = Spell view call_tree IsScriptCall vs calls
+abbrev pub SpellCalls : List (Value Global) → List ScriptCall → Type 0
+SpellCalls vs calls = Spell tree_data call_tree IsScriptCall vs calls
 
-pub calls_more : (vs : List Value) (v : Value) (calls : List ScriptCall) (c : ScriptCall) → SpellCalls vs calls → Some c ≡ call_in (view v)
+pub calls_more : (vs : List (Value Global)) (v : Value Global) (calls : List ScriptCall) (c : ScriptCall) → SpellCalls vs calls → Some c ≡ call_in (tree_data v)
     → SpellCalls (vs ++ v ∷ []) (calls ++ c ∷ [])
 calls_more vs v calls c so_far found =
-    let p = call_is (view v) c (sym found) in
-    spell_next view call_tree IsScriptCall vs v calls c so_far p.tree p.is
+    let p = call_is (tree_data v) c (sym found) in
+    spell_next tree_data call_tree IsScriptCall vs v calls c so_far p.tree p.is
 
 -- the first item that is no call
-pub calls_stop : (front : List Value) (v : Value) (rest vs : List Value) (calls : List ScriptCall) (n : ℕ) → front ++ v ∷ rest ≡ vs → n ≡ length calls
-    → SpellCalls front calls → None ≡ call_in (view v) → IsFirstBadCall (map view vs) (BadCall n)
+pub calls_stop : (front : List (Value Global)) (v : Value Global) (rest vs : List (Value Global)) (calls : List ScriptCall) (n : ℕ) → front ++ v ∷ rest ≡ vs → n ≡ length calls
+    → SpellCalls front calls → None ≡ call_in (tree_data v) → IsFirstBadCall (map tree_data vs) (BadCall n)
 calls_stop front v rest vs calls n is size so_far none =
     let place = place_of front v rest vs is in
-    let long : length front ≡ n = spell_size view call_tree IsScriptCall front calls so_far ∙ sym size in
+    let long : length front ≡ n = spell_size tree_data call_tree IsScriptCall front calls so_far ∙ sym size in
     rw (← long) (record {
       call = length front;
       names = refl;
-      first = spell_stops view call_tree IsScriptCall IsNoCall (λ c is bad. bad c is refl) vs (length front) v calls place.low place.at
+      first = spell_stops tree_data call_tree IsScriptCall IsNoCall (λ c is bad. bad c is refl) vs (length front) v calls place.low place.at
           (subst (λ l. SpellCalls l calls) (sym place.cut) so_far) (λ c is e. none-some c (none ∙ (ap call_in e ∙ call_again c is)));
     })
 
 -- ---- steps
 
 -- steps so far
-abbrev pub SpellSteps : List Value → List Step → Type 0
-SpellSteps vs steps = Spell view step_tree IsPlanStep vs (map step_view steps)
+abbrev pub SpellSteps : List (Value Global) → List Step → Type 0
+SpellSteps vs steps = Spell tree_data step_tree IsPlanStep vs (map step_view steps)
 
-pub steps_more : (vs : List Value) (v : Value) (steps : List Step) (s : Step) → SpellSteps vs steps → Some (step_view s) ≡ step_in (view v)
+pub steps_more : (vs : List (Value Global)) (v : Value Global) (steps : List Step) (s : Step) → SpellSteps vs steps → Some (step_view s) ≡ step_in (tree_data v)
     → SpellSteps (vs ++ v ∷ []) (steps ++ s ∷ [])
 steps_more vs v steps s so_far found =
-    let p = step_is (view v) (step_view s) (sym found) in
-    rw (map-append step_view steps (s ∷ [])) (spell_next view step_tree IsPlanStep vs v (map step_view steps) (step_view s) so_far p.tree p.is)
+    let p = step_is (tree_data v) (step_view s) (sym found) in
+    rw (map-append step_view steps (s ∷ [])) (spell_next tree_data step_tree IsPlanStep vs v (map step_view steps) (step_view s) so_far p.tree p.is)
 
 -- the first item that is no step
-pub steps_stop : (plan : ℕ) (front : List Value) (v : Value) (rest vs : List Value) (steps : List Step) (n : ℕ) → front ++ v ∷ rest ≡ vs → n ≡ length steps
-    → SpellSteps front steps → None ≡ step_in (view v) → IsFirstBadIn plan (map view vs) (Shape plan n)
+pub steps_stop : (plan : ℕ) (front : List (Value Global)) (v : Value Global) (rest vs : List (Value Global)) (steps : List Step) (n : ℕ) → front ++ v ∷ rest ≡ vs → n ≡ length steps
+    → SpellSteps front steps → None ≡ step_in (tree_data v) → IsFirstBadIn plan (map tree_data vs) (Shape plan n)
 steps_stop plan front v rest vs steps n is size so_far none =
     let place = place_of front v rest vs is in
-    let long : length front ≡ n = spell_size view step_tree IsPlanStep front (map step_view steps) so_far ∙ length-map steps step_view ∙ sym size in
+    let long : length front ≡ n = spell_size tree_data step_tree IsPlanStep front (map step_view steps) so_far ∙ length-map steps step_view ∙ sym size in
     rw (← long) (record {
       step = length front;
       names = refl;
-      first = spell_stops view step_tree IsPlanStep IsNoStep (λ s is bad. bad s is refl) vs (length front) v (map step_view steps) place.low place.at
+      first = spell_stops tree_data step_tree IsPlanStep IsNoStep (λ s is bad. bad s is refl) vs (length front) v (map step_view steps) place.low place.at
           (subst (λ l. SpellSteps l steps) (sym place.cut) so_far) (λ s is e. none-some s (none ∙ (ap step_in e ∙ step_again s is)));
     })
 
 -- ---- plans
 
 -- the trees of a list of values
-abbrev pub trees_of : Vec Value Global → List Data
-trees_of list = map view list.items
+abbrev pub trees_of : Vec (Value Global) Global → List Data
+trees_of list = map tree_data list.items
 
 -- plans so far
-abbrev pub SpellPlans : List (Vec Value Global) → List Plan → Type 0
+abbrev pub SpellPlans : List (Vec (Value Global) Global) → List Plan → Type 0
 SpellPlans lists plans = Spell trees_of (map step_tree) (AllByRecursion IsPlanStep) lists (map plan_view plans)
 
-pub plans_more : (lists : List (Vec Value Global)) (list : Vec Value Global) (plans : List Plan) (p : Plan) → SpellPlans lists plans
-    → IsPlanOf (map view list.items) (plan_view p) → SpellPlans (lists ++ list ∷ []) (plans ++ p ∷ [])
+pub plans_more : (lists : List (Vec (Value Global) Global)) (list : Vec (Value Global) Global) (plans : List Plan) (p : Plan) → SpellPlans lists plans
+    → IsPlanOf (map tree_data list.items) (plan_view p) → SpellPlans (lists ++ list ∷ []) (plans ++ p ∷ [])
 plans_more lists list plans p so_far is =
     rw (map-append plan_view plans (p ∷ []))
     (spell_next trees_of (map step_tree) (AllByRecursion IsPlanStep) lists list (map plan_view plans) (plan_view p) so_far is.trees is.steps)
@@ -99,8 +100,8 @@ no_bad steps all has =
     has.3 p.0 (all_at IsPlanStep steps has.0 p.0 all p.1) p.2
 
 -- the first list with an item that is no step
-pub plans_stop : (front : List (Vec Value Global)) (list : Vec Value Global) (rest lists : List (Vec Value Global)) (plans : List Plan) (n : ℕ) (f : PlanFault)
-    → front ++ list ∷ rest ≡ lists → n ≡ length plans → SpellPlans front plans → IsFirstBadIn n (map view list.items) f → IsFirstBadStep (rows_view lists) f
+pub plans_stop : (front : List (Vec (Value Global) Global)) (list : Vec (Value Global) Global) (rest lists : List (Vec (Value Global) Global)) (plans : List Plan) (n : ℕ) (f : PlanFault)
+    → front ++ list ∷ rest ≡ lists → n ≡ length plans → SpellPlans front plans → IsFirstBadIn n (map tree_data list.items) f → IsFirstBadStep (rows_view lists) f
 plans_stop front list rest lists plans n f is size so_far bad =
     let place = place_of front list rest lists is in
     let long : length front ≡ n = spell_size trees_of (map step_tree) (AllByRecursion IsPlanStep) front (map plan_view plans) so_far ∙ length-map plans plan_view
@@ -123,16 +124,16 @@ plans_stop front list rest lists plans n f is size so_far bad =
 -- ---- lists
 
 -- lists so far
-abbrev pub SpellLists : List Value → List (Vec Value Global) → Type 0
-SpellLists vs lists = Spell view row_tree IsAny vs (rows_view lists)
+abbrev pub SpellLists : List (Value Global) → List (Vec (Value Global) Global) → Type 0
+SpellLists vs lists = Spell tree_data row_tree IsAny vs (rows_view lists)
 
-pub lists_more : (vs : List Value) (v : Value) (lists : List (Vec Value Global)) (list : Vec Value Global) → SpellLists vs lists
-    → Some (items_view list.items) ≡ as_array (view v) → SpellLists (vs ++ v ∷ []) (lists ++ list ∷ [])
+pub lists_more : (vs : List (Value Global)) (v : Value Global) (lists : List (Vec (Value Global) Global)) (list : Vec (Value Global) Global) → SpellLists vs lists
+    → Some (list_data list.items) ≡ as_array (tree_data v) → SpellLists (vs ++ v ∷ []) (lists ++ list ∷ [])
 lists_more vs v lists list so_far is =
     rw (map-append trees_of lists (list ∷ []))
-    (spell_next view row_tree IsAny vs v (rows_view lists) (trees_of list) so_far (array_of (view v) (items_view list.items) (sym is)) tt)
+    (spell_next tree_data row_tree IsAny vs v (rows_view lists) (trees_of list) so_far (array_of (tree_data v) (list_data list.items) (sym is) ∙ ap array (list_data_is list.items)) tt)
 
-pub lists_stop : (front : List Value) (v : Value) (rest vs : List Value) → front ++ v ∷ rest ≡ vs → None ≡ as_array (view v) → HasOther (map view vs)
+pub lists_stop : (front : List (Value Global)) (v : Value Global) (rest vs : List (Value Global)) → front ++ v ∷ rest ≡ vs → None ≡ as_array (tree_data v) → HasOther (map tree_data vs)
 lists_stop front v rest vs is none =
     let place = place_of front v rest vs is in
-    (length front, view v, item_now view vs (length front) v place.low place.at, sym none)
+    (length front, tree_data v, item_now tree_data vs (length front) v place.low place.at, sym none)

@@ -1,11 +1,11 @@
 -- A step has one tree: what is found in a tree is what the tree spells, and is found again.
-use Rattle.std.proofs.Common.{◌≡◌, refl, sym, ap, ◌∙◌, ℕ, ◌≤◌, List, length, codes, nat_le, Some, option_map, option_and_then}
+use Rattle.std.proofs.Common.{◌≡◌, refl, ap, ◌∙◌, ℕ, ◌≤◌, List, length, codes, nat_le, Some, option_map, option_and_then}
 use Rattle.std.proofs.lemmas.Bool.{leb-true, le-leb}
 use Rattle.std.proofs.lemmas.Option.{none-some}
 use Rattle.std.specs.Option.{option_zip}
 use Rattle.serde_json.specs.Data.{Data, string, object, no_members, member}
 use Rattle.serde_json.specs.Find.{as_str}
-use Rattle.dl_values.specs.Key.{Key, IsKey}
+use Rattle.dl_values.specs.Key.{IsKey}
 use Rattle.dl_values.specs.declared.outcome.Outcome.{Outcome}
 use Rattle.dl_values.specs.declared.outcome.Outcome.TheVariants.{Value, KeyError, BatchFailed}
 use Rattle.dl_source.proofs.Spelling.{string_of}
@@ -17,7 +17,7 @@ use Rattle.dl_documents.proofs.TermLaws.{value_is, term_is, term_again}
 use Rattle.dl_documents.specs.Script.{key_tree, one}
 use Rattle.dl_documents.specs.Terms.{two, term_tree, IsWhole, IsTerm}
 use Rattle.dl_documents.specs.Steps.{StepTree, prime, clear, clear_all, eval, outcome_tree, step_tree, IsPrimed, IsPlanStep}
-use Rattle.dl_documents.specs.Reading.{HasKey, two_in, key_in}
+use Rattle.dl_documents.specs.Reading.{two_in, key_in}
 use Rattle.dl_documents.specs.TermReading.{value_in, term_in}
 use Rattle.dl_documents.specs.StepReading.{short, error_in, primed_named, primed_in, primes, step_named, step_in}
 
@@ -85,7 +85,3 @@ step_again (prime k o) h = rw (key_again k h.0, primed_again o h.1) refl
 step_again (clear k) h = ap (option_map clear) (key_again k h)
 step_again clear_all h = refl
 step_again (eval t) h = ap (option_map eval) (term_again t h)
-
--- a key under the name of a clear is a clear
-pub clear_under : (d : Data) (k : Key) → HasKey (codes "clear") d k → Some (clear k) ≡ step_in d
-clear_under d k h = sym (ap (option_and_then (λ p. step_named p.0 p.1)) h.there ∙ ap (option_map clear) h.spelled)

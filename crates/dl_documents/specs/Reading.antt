@@ -1,5 +1,5 @@
 -- What a tree spells, found from the tree.
-use Rattle.std.specs.Prelude.{◌≡◌, ℕ, ◌^◌, ◌&&◌, List, [], Bool, false, codes, nat_lt, bytes_eq, Option, Some, None, if◌then◌else◌}
+use Rattle.std.specs.Prelude.{ℕ, ◌^◌, ◌&&◌, List, [], Bool, false, codes, nat_lt, bytes_eq, Option, Some, None, if◌then◌else◌}
 use Rattle.std.specs.Prelude.{option_map, option_and_then, unwrap_or}
 use Rattle.std.specs.Option.{option_zip}
 use Rattle.serde_json.specs.Data.{Data, Items, no_items, item, Members, no_members, member}
@@ -57,12 +57,6 @@ keyed p = if is_sized table_bytes p.0 && is_sized id_bytes p.1 then Some (record
 -- the key that a tree spells
 abbrev pub key_in : Data → Option Key
 key_in d = option_and_then keyed (texts_in d)
-
--- the tree is an object whose one member has the name and spells the key
-pub record HasKey (name : List ℕ) (d : Data) (k : Key) : Type 0 where
-  pub argument : Data
-  pub there : one_in d ≡ Some (name, argument)
-  pub spelled : key_in argument ≡ Some k
 
 abbrev pub keys_listed : Items → Option (List Key)
 keys_listed no_items = Some []

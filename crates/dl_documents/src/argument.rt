@@ -1,21 +1,20 @@
 //! The arguments of calls and steps.
 
-ghost use Rattle.std.specs.Prelude.{◌≡◌, IfOk, IfSome, option_map};
-ghost use Rattle.serde_json.specs.View.{view};
-ghost use Rattle.dl_documents.specs.Reading.{HasKey, two_in, three_in, texts_in, key_in, keys_in, is_true};
+ghost use Rattle.std.specs.Prelude.{◌≡◌, IfOk, option_map};
+ghost use Rattle.dl_documents.specs.Reading.{two_in, three_in, texts_in, key_in, keys_in, is_true};
 ghost use Rattle.dl_documents.specs.TermReading.{value_in};
+ghost use Rattle.dl_documents.specs.Inside.Trees.{tree_data};
 
-use crate::member;
-use dl_source::into_items;
+use crate::tree::{into_items, into_value, items, text, truth};
 use dl_values::{FetchKey, Json, KeyFault, Keys, has_float};
-use serde_json::Value;
+use json::Value;
 use std::alloc::{AllocError, Global};
 
 /// The items of a list of two.
-pub(crate) fn pair(value: &Value) -> Option<(&Value, &Value)>
-    ensures { option_map (λ p. (view p.0.now, view p.1.now)) result ≡ two_in (view value.now) }
+pub(crate) fn pair<'v, 'a>(tree: &'v Value<'a>) -> Option<(&'v Value<'a>, &'v Value<'a>)>
+    ensures { option_map (λ p. (tree_data p.0.now, tree_data p.1.now)) result ≡ two_in (tree_data tree.now) }
 {
-    let items = value.as_array()?;
+    let items = items(tree)?;
     if items.len() != 2 {
         return None;
     }
@@ -23,10 +22,10 @@ pub(crate) fn pair(value: &Value) -> Option<(&Value, &Value)>
 }
 
 /// The items of a list of two, taken out of it.
-pub(crate) fn into_pair(value: Value) -> Option<(Value, Value)>
-    ensures { option_map (λ p. (view p.0, view p.1)) result ≡ two_in (view value) }
+pub(crate) fn into_pair(tree: Value<'_>) -> Option<(Value<'_>, Value<'_>)>
+    ensures { option_map (λ p. (tree_data p.0, tree_data p.1)) result ≡ two_in (tree_data tree.entry) }
 {
-    let mut items = into_items(value)?;
+    let mut items = into_items(tree)?;
     if items.len() != 2 {
         return None;
     }
@@ -36,10 +35,10 @@ pub(crate) fn into_pair(value: Value) -> Option<(Value, Value)>
 }
 
 /// The items of a list of three, taken out of it.
-pub(crate) fn into_triple(value: Value) -> Option<(Value, Value, Value)>
-    ensures { option_map (λ p. (view p.0, view p.1, view p.2)) result ≡ three_in (view value) }
+pub(crate) fn into_triple(tree: Value<'_>) -> Option<(Value<'_>, Value<'_>, Value<'_>)>
+    ensures { option_map (λ p. (tree_data p.0, tree_data p.1, tree_data p.2)) result ≡ three_in (tree_data tree.entry) }
 {
-    let mut items = into_items(value)?;
+    let mut items = into_items(tree)?;
     if items.len() != 3 {
         return None;
     }
@@ -50,20 +49,20 @@ pub(crate) fn into_triple(value: Value) -> Option<(Value, Value, Value)>
 }
 
 /// The two texts of a list of two.
-fn texts(value: &Value) -> Option<(&str, &str)>
-    ensures { option_map (λ p. (p.0.now, p.1.now)) result ≡ texts_in (view value.now) }
+fn texts<'a>(tree: &Value<'a>) -> Option<(&'a str, &'a str)>
+    ensures { option_map (λ p. (p.0.now, p.1.now)) result ≡ texts_in (tree_data tree.now) }
 {
-    let (table, id) = pair(value)?;
-    let table = table.as_str()?;
-    let id = id.as_str()?;
+    let (table, id) = pair(tree)?;
+    let table = text(table)?;
+    let id = text(id)?;
     Some((table, id))
 }
 
 /// The key that a list of two texts is, if it is one.
-pub(crate) fn key(alloc: Global, value: &Value) -> Result<Option<FetchKey>, AllocError>
-    ensures { IfOk result (λ k. k ≡ key_in (view value.now)) }
+pub(crate) fn key(alloc: Global, tree: &Value<'_>) -> Result<Option<FetchKey>, AllocError>
+    ensures { IfOk result (λ k. k ≡ key_in (tree_data tree.now)) }
 {
-    let Some((table, id)) = texts(value) else {
+    let Some((table, id)) = texts(tree) else {
         return Ok(None);
     };
     match FetchKey::new(alloc, table, id) {
@@ -73,26 +72,11 @@ pub(crate) fn key(alloc: Global, value: &Value) -> Result<Option<FetchKey>, Allo
     }
 }
 
-/// The key that an object's one member is, if it has this name and is one. Nothing is taken out of the object, since a key is
-/// copied anyway.
-pub(crate) fn key_under(
-    alloc: Global,
-    name: &str,
-    value: &Value,
-) -> Result<Option<FetchKey>, AllocError>
-    ensures { IfOk result (λ k. IfSome k (HasKey name.now (view value.now))) }
-{
-    match member::only(value) {
-        Some((given, argument)) if given == name => key(alloc, argument),
-        _ => Ok(None),
-    }
-}
-
 /// The keys of a list, if each item is one.
-pub(crate) fn keys(alloc: Global, value: &Value) -> Result<Option<Keys>, AllocError>
-    ensures { IfOk result (λ ks. ks ≡ keys_in (view value.now)) }
+pub(crate) fn keys(alloc: Global, tree: &Value<'_>) -> Result<Option<Keys>, AllocError>
+    ensures { IfOk result (λ ks. ks ≡ keys_in (tree_data tree.now)) }
 {
-    let Some(items) = value.as_array() else {
+    let Some(items) = items(tree) else {
         return Ok(None);
     };
     let mut keys = Vec::with_capacity(alloc, items.len())?;
@@ -105,19 +89,20 @@ pub(crate) fn keys(alloc: Global, value: &Value) -> Result<Option<Keys>, AllocEr
     Ok(Some(Keys::new(alloc, keys)?))
 }
 
-/// The value, if all its numbers are whole.
-pub(crate) fn json(alloc: Global, value: Value) -> Result<Option<Json>, AllocError>
-    ensures { IfOk result (λ v. v ≡ value_in (view value)) }
+/// The value that the tree is, if all its numbers are whole.
+pub(crate) fn json(alloc: Global, tree: Value<'_>) -> Result<Option<Json>, AllocError>
+    ensures { IfOk result (λ v. v ≡ value_in (tree_data tree.entry)) }
 {
+    let value = into_value(alloc, tree)?;
     if has_float(&value) {
         return Ok(None);
     }
     Ok(Some(Json::new(alloc, value)?))
 }
 
-/// Whether the value is `true`.
-pub(crate) fn is_true(value: &Value) -> bool
-    ensures { result ≡ is_true (view value.now) }
+/// Whether the tree is `true`.
+pub(crate) fn is_true(tree: &Value<'_>) -> bool
+    ensures { result ≡ is_true (tree_data tree.now) }
 {
-    value.as_bool().unwrap_or(false)
+    truth(tree).unwrap_or(false)
 }

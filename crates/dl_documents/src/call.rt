@@ -1,28 +1,28 @@
 //! Reading calls.
 
 ghost use Rattle.std.specs.Prelude.{◌≡◌, IfOk};
-ghost use Rattle.serde_json.specs.View.{view};
 ghost use Rattle.dl_documents.specs.Reading.{number_in, call_in, call_named};
+ghost use Rattle.dl_documents.specs.Inside.Trees.{tree_data};
 
 use crate::argument::{is_true, key, keys};
 use crate::input::ScriptCall;
-use crate::member;
-use serde_json::Value;
+use crate::{member, tree};
+use json::Value;
 use std::alloc::{AllocError, Global};
 
 /// The call that an object with one member is, if it is one.
-pub(crate) fn call(alloc: Global, value: &Value) -> Result<Option<ScriptCall>, AllocError>
-    ensures { IfOk result (λ c. c ≡ call_in (view value.now)) }
+pub(crate) fn call(alloc: Global, tree: Value<'_>) -> Result<Option<ScriptCall>, AllocError>
+    ensures { IfOk result (λ c. c ≡ call_in (tree_data tree.entry)) }
 {
-    match member::only(value) {
-        Some((name, argument)) => named(alloc, name, argument),
+    match member::into_only(tree) {
+        Some((name, argument)) => named(alloc, name, &argument),
         None => Ok(None),
     }
 }
 
 /// The call of a name, if the argument is one of it.
-fn named(alloc: Global, name: &str, argument: &Value) -> Result<Option<ScriptCall>, AllocError>
-    ensures { IfOk result (λ c. c ≡ call_named name.now (view argument.now)) }
+fn named(alloc: Global, name: &str, argument: &Value<'_>) -> Result<Option<ScriptCall>, AllocError>
+    ensures { IfOk result (λ c. c ≡ call_named name.now (tree_data argument.now)) }
 {
     Ok(match name {
         "load" => key(alloc, argument)?.map(ScriptCall::Load),
@@ -37,10 +37,10 @@ fn named(alloc: Global, name: &str, argument: &Value) -> Result<Option<ScriptCal
     })
 }
 
-/// The number of a batch that the value is, if it is one.
-fn number(value: &Value) -> Option<u32>
-    ensures { result ≡ number_in (view value.now) }
+/// The number of a batch that the argument is, if it is one.
+fn number(argument: &Value<'_>) -> Option<u32>
+    ensures { result ≡ number_in (tree_data argument.now) }
 {
-    let number = value.as_u64()?;
+    let number = tree::number(argument)?.as_u64()?;
     u32::try_from(number).ok()
 }

@@ -6,13 +6,15 @@ ghost use Rattle.serde_json.specs.View.{view};
 ghost use Rattle.dl_documents.specs.Document.{IsTextOf, Spells};
 ghost use Rattle.dl_documents.specs.Faults.{Applies, IsLeast, most_bytes};
 ghost use Rattle.dl_documents.specs.Inside.Results.{RefusedFor};
+ghost use Rattle.dl_documents.specs.Inside.Trees.{tree_data};
 
 use crate::fault::PlanFault;
 use crate::head::{is_script, read_head};
 use crate::input::Input;
 use crate::plan_files::plan_file;
 use crate::scripts::script;
-use serde_json::Value;
+use crate::tree::parse;
+use json::{Error, Scratch, Value};
 use std::alloc::Global;
 use std::hash::RandomState;
 
@@ -28,7 +30,8 @@ pub fn read_input(alloc: Global, hashing: RandomState, bytes: &[u8]) -> Result<I
     ensures passes { OnOk result ((f : PlanFault) → Applies bytes.now f → ⊥) }
     ensures err { IfErr result (λ f. (f ≡ PlanFault.OutOfMemory) ⊎ IsLeast (Applies bytes.now) f) }
 {
-    let document = tree(alloc, bytes)?;
+    let mut scratch = Scratch::new(alloc);
+    let document = tree(alloc, bytes, &mut scratch)?;
     input(alloc, hashing, document)
 }
 
@@ -40,36 +43,46 @@ pub fn read_document(
     alloc: Global,
     hashing: RandomState,
     bytes: &[u8],
-) -> Result<(Value, Input), PlanFault>
+) -> Result<(serde_json::Value, Input), PlanFault>
     ensures ok { IfOk result (λ p. IsTextOf bytes.now (view p.0) × Spells (view p.0) p.1) }
     ensures passes { OnOk result ((f : PlanFault) → Applies bytes.now f → ⊥) }
     ensures err { IfErr result (λ f. (f ≡ PlanFault.OutOfMemory) ⊎ IsLeast (Applies bytes.now) f) }
 {
-    let document = tree(alloc, bytes)?;
-    let input = input(alloc, hashing, document.clone()?)?;
-    Ok((document, input))
+    let input = read_input(alloc, hashing, bytes)?;
+    match serde_json::Value::from_slice(alloc, bytes) {
+        Ok(document) => Ok((document, input)),
+        Err(error) if error.is_memory() => Err(PlanFault::OutOfMemory),
+        Err(_) => Err(PlanFault::NotJson),
+    }
 }
 
 /// The tree that the bytes are the text of, unless they are too many.
-fn tree(alloc: Global, bytes: &[u8]) -> Result<Value, PlanFault>
-    ensures ok { IfOk result (λ v. IsTextOf bytes.now (view v)) }
+fn tree<'a>(
+    alloc: Global,
+    bytes: &'a [u8],
+    scratch: &'a mut Scratch,
+) -> Result<Value<'a>, PlanFault>
+    ensures ok { IfOk result (λ v. IsTextOf bytes.now (tree_data v)) }
     ensures few { OnOk result (length bytes.now ≤ most_bytes) }
     ensures err { IfErr result (λ f. (f ≡ PlanFault.OutOfMemory) ⊎ IsLeast (Applies bytes.now) f) }
 {
     if bytes.len() > MOST_BYTES {
         return Err(PlanFault::TooLarge);
     }
-    match Value::from_slice(alloc, bytes) {
+    let Ok(text) = std::str::from_utf8(bytes) else {
+        return Err(PlanFault::NotJson);
+    };
+    match parse(alloc, text, scratch) {
         Ok(tree) => Ok(tree),
-        Err(error) if error.is_memory() => Err(PlanFault::OutOfMemory),
-        Err(_) => Err(PlanFault::NotJson),
+        Err(Error::Invalid) => Err(PlanFault::NotJson),
+        Err(_) => Err(PlanFault::OutOfMemory),
     }
 }
 
-/// What a document's tree says. It is taken apart, so that what was read is let go and no value is copied.
-fn input(alloc: Global, hashing: RandomState, document: Value) -> Result<Input, PlanFault>
-    ensures ok { IfOk result (Spells (view document)) }
-    ensures err { IfErr result (RefusedFor (view document)) }
+/// What a document's tree says. It is taken apart, so that each part is let go once it is read. Only what lives on is copied.
+fn input(alloc: Global, hashing: RandomState, document: Value<'_>) -> Result<Input, PlanFault>
+    ensures ok { IfOk result (Spells (tree_data document.entry)) }
+    ensures err { IfErr result (RefusedFor (tree_data document.entry)) }
 {
     let head = read_head(&document)?;
     if is_script(&document) {

@@ -15,6 +15,7 @@ mod steps;
 mod table_limits;
 mod table_numbers;
 mod terms;
+mod tree;
 
 pub use dl_terms::MOST_PLANS;
 pub use document::{MOST_BYTES, read_document, read_input};

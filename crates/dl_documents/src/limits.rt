@@ -1,15 +1,16 @@
 //! Reading the limits of a document.
 
 ghost use Rattle.std.specs.Prelude.{◌≡◌, pos, IfOk, IfErr, MatchOption};
-ghost use Rattle.serde_json.specs.View.{view};
 ghost use Rattle.dl_values.specs.Limits.{IsLimit, IsNoLimit};
 ghost use Rattle.dl_documents.specs.Document.{number_at};
 ghost use Rattle.dl_documents.specs.Faults.{IsOutside};
 ghost use Rattle.dl_documents.specs.Numbers.{AreGiven, LacksNumber, AreLimitsOf, IsFirstOutside};
+ghost use Rattle.dl_documents.specs.Inside.Trees.{tree_data};
 
-use dl_source::whole_number;
+use crate::member::member;
+use crate::tree::whole;
 use dl_values::{LARGEST_LIMIT, LimitFault, Limits};
-use serde_json::Value;
+use json::Value;
 
 /// The whole numbers that a document gives for its limits.
 #[derive(Clone, Copy)]
@@ -20,8 +21,8 @@ pub(crate) struct Numbers {
 }
 
 /// The numbers of a document, if each is a whole number.
-pub(crate) fn given(document: &Value) -> Option<Numbers>
-    ensures { MatchOption result (LacksNumber (view document.now)) (AreGiven (view document.now)) }
+pub(crate) fn given(document: &Value<'_>) -> Option<Numbers>
+    ensures { MatchOption result (LacksNumber (tree_data document.now)) (AreGiven (tree_data document.now)) }
 {
     let max_batch = number(document, "maxBatchSize")?;
     let max_cells = number(document, "maxCells")?;
@@ -49,11 +50,11 @@ pub(crate) fn limits(numbers: Numbers) -> Result<Limits, LimitFault>
 }
 
 /// The whole number of a member, and the largest limit where there is no such member.
-fn number(document: &Value, name: &str) -> Option<i128>
-    ensures { result ≡ number_at name.now (view document.now) }
+fn number(document: &Value<'_>, name: &str) -> Option<i128>
+    ensures { result ≡ number_at name.now (tree_data document.now) }
 {
-    match document.get(name) {
-        Some(value) => whole_number(value),
+    match member(document, name) {
+        Some(value) => whole(value),
         None => Some(i128::from(LARGEST_LIMIT)),
     }
 }

@@ -2,24 +2,26 @@
 
 ghost use Rattle.std.specs.Prelude.{◌≡◌, ◌⊎◌, false, map, IfOk, IfErr, MatchOption};
 ghost use Rattle.std.specs.List.{position, AllByRecursion};
-ghost use Rattle.serde_json.specs.View.{view, items_view};
 ghost use Rattle.dl_documents.specs.Document.{SpellsPlans, is_script};
 ghost use Rattle.dl_documents.specs.Faults.{IsBadTop};
 ghost use Rattle.dl_documents.specs.Steps.{plan_view, step_view};
 ghost use Rattle.dl_documents.specs.Inside.Results.{HasHead, RefusedFor};
 ghost use Rattle.dl_documents.specs.Inside.PlanFiles.{rows_view, HasLists, HasPlans, AreRows, HasOther, IsPlanOf, IsFirstBadIn, AreRead, IsFirstBadStep};
 ghost use Rattle.dl_documents.specs.Inside.PlanFiles.{is_high, is_long, AreLow, IsFirstHigh, Fit, IsMisfit, AreTables, IsTableRefusal, AreRest, IsRefusal};
+ghost use Rattle.dl_documents.specs.Inside.Trees.{tree_data, list_data};
 ghost use Rattle.dl_documents.specs.Tables.{IsTableFault};
 
 use crate::fault::PlanFault;
 use crate::head::{Head, Version};
 use crate::input::PlanFile;
+use crate::member::take_member;
 use crate::steps::read_step;
 use crate::table_limits::all_limits;
-use dl_source::{TableFault, TableNumber, Tables, into_items, into_members, take_member};
+use crate::tree::{into_items, into_members, into_value};
+use dl_source::{TableFault, TableNumber, Tables};
 use dl_terms::{MOST_PLANS, Plan, Step};
 use dl_values::{Limits, TableLimits};
-use serde_json::Value;
+use json::Value;
 use std::alloc::Global;
 use std::hash::RandomState;
 
@@ -36,13 +38,13 @@ pub const MOST_STEPS: usize = 256;
 pub(crate) fn plan_file(
     alloc: Global,
     hashing: RandomState,
-    document: Value,
+    document: Value<'_>,
     head: Head,
 ) -> Result<PlanFile, PlanFault>
-    requires kind { is_script (view document) ≡ false }
-    requires head { HasHead (view document) head }
-    ensures ok { IfOk result (SpellsPlans (view document)) }
-    ensures err { IfErr result (RefusedFor (view document)) }
+    requires kind { is_script (tree_data document) ≡ false }
+    requires head { HasHead (tree_data document) head }
+    ensures ok { IfOk result (SpellsPlans (tree_data document.entry)) }
+    ensures err { IfErr result (RefusedFor (tree_data document.entry)) }
 {
     let (lists, tables) = top(alloc, document)?;
     let plans = plans(alloc, lists)?;
@@ -58,10 +60,10 @@ pub(crate) fn plan_file(
 // ---- the top
 
 /// The lists of steps of a document's plans, and the value of its tables, taken out of it.
-fn top(alloc: Global, document: Value) -> Result<(Vec<Vec<Value>>, Value), PlanFault>
-    requires { is_script (view document) ≡ false }
-    ensures ok { IfOk result (λ p. HasPlans (view document) (rows_view p.0.items) (view p.1)) }
-    ensures err { IfErr result (λ f. (f ≡ PlanFault.OutOfMemory) ⊎ ((f ≡ PlanFault.Top) × IsBadTop (view document))) }
+fn top(alloc: Global, document: Value<'_>) -> Result<(Vec<Vec<Value<'_>>>, Value<'_>), PlanFault>
+    requires { is_script (tree_data document) ≡ false }
+    ensures ok { IfOk result (λ p. HasPlans (tree_data document.entry) (rows_view p.0.items) (tree_data p.1)) }
+    ensures err { IfErr result (λ f. (f ≡ PlanFault.OutOfMemory) ⊎ ((f ≡ PlanFault.Top) × IsBadTop (tree_data document.entry))) }
 {
     let Some((plans, tables)) = plans_and_tables(document) else {
         return Err(PlanFault::Top);
@@ -74,9 +76,9 @@ fn top(alloc: Global, document: Value) -> Result<(Vec<Vec<Value>>, Value), PlanF
 }
 
 /// The list of a document's plans, and the value of its tables, taken out of it.
-fn plans_and_tables(document: Value) -> Option<(Vec<Value>, Value)>
-    requires { is_script (view document) ≡ false }
-    ensures { MatchOption result (IsBadTop (view document)) (λ p. HasLists (view document) (items_view p.0.items) (view p.1)) }
+fn plans_and_tables(document: Value<'_>) -> Option<(Vec<Value<'_>>, Value<'_>)>
+    requires { is_script (tree_data document) ≡ false }
+    ensures { MatchOption result (IsBadTop (tree_data document.entry)) (λ p. HasLists (tree_data document.entry) (list_data p.0.items) (tree_data p.1)) }
 {
     let mut members = into_members(document)?;
     let tables = take_member(&mut members, "tables")?;
@@ -89,9 +91,9 @@ fn plans_and_tables(document: Value) -> Option<(Vec<Value>, Value)>
 ///
 /// # Errors
 /// `Top` where one is no list, and `OutOfMemory` where an allocation failed.
-fn lists(alloc: Global, items: Vec<Value>) -> Result<Vec<Vec<Value>>, PlanFault>
-    ensures ok { IfOk result (λ ls. AreRows (map view items.items) (rows_view ls.items)) }
-    ensures err { IfErr result (λ f. (f ≡ PlanFault.OutOfMemory) ⊎ ((f ≡ PlanFault.Top) × HasOther (map view items.items))) }
+fn lists(alloc: Global, items: Vec<Value<'_>>) -> Result<Vec<Vec<Value<'_>>>, PlanFault>
+    ensures ok { IfOk result (λ ls. AreRows (map tree_data items.entry.items) (rows_view ls.items)) }
+    ensures err { IfErr result (λ f. (f ≡ PlanFault.OutOfMemory) ⊎ ((f ≡ PlanFault.Top) × HasOther (map tree_data items.entry.items))) }
 {
     let mut lists = Vec::new(alloc);
     'items: for item in items {
@@ -107,9 +109,9 @@ fn lists(alloc: Global, items: Vec<Value>) -> Result<Vec<Vec<Value>>, PlanFault>
 ///
 /// # Errors
 /// `Shape` at the first item that is no step, and `OutOfMemory` where an allocation failed.
-fn plans(alloc: Global, lists: Vec<Vec<Value>>) -> Result<Vec<Plan>, PlanFault>
-    ensures ok { IfOk result (λ ps. AreRead (rows_view lists.items) (map plan_view ps.items)) }
-    ensures err { IfErr result (λ f. (f ≡ PlanFault.OutOfMemory) ⊎ IsFirstBadStep (rows_view lists.items) f) }
+fn plans(alloc: Global, lists: Vec<Vec<Value<'_>>>) -> Result<Vec<Plan>, PlanFault>
+    ensures ok { IfOk result (λ ps. AreRead (rows_view lists.entry.items) (map plan_view ps.items)) }
+    ensures err { IfErr result (λ f. (f ≡ PlanFault.OutOfMemory) ⊎ IsFirstBadStep (rows_view lists.entry.items) f) }
 {
     let mut plans = Vec::new(alloc);
     'lists: for list in lists {
@@ -120,9 +122,9 @@ fn plans(alloc: Global, lists: Vec<Vec<Value>>) -> Result<Vec<Plan>, PlanFault>
 }
 
 /// The plan of this number, whose steps the items are.
-fn plan(alloc: Global, number: usize, items: Vec<Value>) -> Result<Plan, PlanFault>
-    ensures ok { IfOk result (λ p. IsPlanOf (map view items.items) (plan_view p)) }
-    ensures err { IfErr result (λ f. (f ≡ PlanFault.OutOfMemory) ⊎ IsFirstBadIn number (map view items.items) f) }
+fn plan(alloc: Global, number: usize, items: Vec<Value<'_>>) -> Result<Plan, PlanFault>
+    ensures ok { IfOk result (λ p. IsPlanOf (map tree_data items.entry.items) (plan_view p)) }
+    ensures err { IfErr result (λ f. (f ≡ PlanFault.OutOfMemory) ⊎ IsFirstBadIn number (map tree_data items.entry.items) f) }
 {
     let mut steps = Vec::with_capacity(alloc, items.len())?;
     'items: for item in items {
@@ -143,11 +145,11 @@ fn rest(
     alloc: Global,
     hashing: RandomState,
     plans: &[Plan],
-    tables: Value,
+    tables: Value<'_>,
     head: Head,
 ) -> Result<(Tables, Limits, Option<TableLimits>), PlanFault>
-    ensures ok { IfOk result (λ p. AreRest (map plan_view plans.now) (view tables) head p) }
-    ensures err { IfErr result (λ f. (f ≡ PlanFault.OutOfMemory) ⊎ IsRefusal (map plan_view plans.now) (view tables) head f) }
+    ensures ok { IfOk result (λ p. AreRest (map plan_view plans.now) (tree_data tables.entry) head p) }
+    ensures err { IfErr result (λ f. (f ≡ PlanFault.OutOfMemory) ⊎ IsRefusal (map plan_view plans.now) (tree_data tables.entry) head f) }
 {
     if let Some(fault) = misfit(plans) {
         return Err(fault);
@@ -218,10 +220,10 @@ fn read_tables(
     alloc: Global,
     hashing: RandomState,
     version: Version,
-    tables: Value,
+    tables: Value<'_>,
 ) -> Result<(Tables, Vec<TableNumber>), PlanFault>
-    ensures ok { IfOk result (λ p. AreTables version (view tables) p.0 p.1.items) }
-    ensures err { IfErr result (λ f. (f ≡ PlanFault.OutOfMemory) ⊎ IsTableRefusal version (view tables) f) }
+    ensures ok { IfOk result (λ p. AreTables version (tree_data tables.entry) p.0 p.1.items) }
+    ensures err { IfErr result (λ f. (f ≡ PlanFault.OutOfMemory) ⊎ IsTableRefusal version (tree_data tables.entry) f) }
 {
     match spelled(alloc, hashing, version, tables) {
         Ok(tables) => Ok(tables),
@@ -235,11 +237,12 @@ fn spelled(
     alloc: Global,
     hashing: RandomState,
     version: Version,
-    tables: Value,
+    tables: Value<'_>,
 ) -> Result<(Tables, Vec<TableNumber>), TableFault>
-    ensures ok { IfOk result (λ p. AreTables version (view tables) p.0 p.1.items) }
-    ensures err { IfErr result (λ f. (f ≡ TableFault.OutOfMemory) ⊎ IsTableFault version (view tables) f) }
+    ensures ok { IfOk result (λ p. AreTables version (tree_data tables.entry) p.0 p.1.items) }
+    ensures err { IfErr result (λ f. (f ≡ TableFault.OutOfMemory) ⊎ IsTableFault version (tree_data tables.entry) f) }
 {
+    let tables = into_value(alloc, tables)?;
     match version {
         Version::First => {
             let tables = Tables::from_owned_value(alloc, hashing, tables)?;

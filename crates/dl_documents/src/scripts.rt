@@ -1,18 +1,19 @@
 //! Reading call scripts.
 
 ghost use Rattle.std.specs.Prelude.{◌≡◌, ◌⊎◌, true, map, codes, IfOk, IfErr};
-ghost use Rattle.serde_json.specs.View.{view};
 ghost use Rattle.dl_documents.specs.Document.{SpellsScript, is_script};
 ghost use Rattle.dl_documents.specs.Inside.Results.{HasHead, RefusedFor};
 ghost use Rattle.dl_documents.specs.Inside.Scripts.{AreCalls, IsFirstBadCall};
+ghost use Rattle.dl_documents.specs.Inside.Trees.{tree_data};
 
+use crate::call::call;
 use crate::fault::PlanFault;
 use crate::head::Head;
 use crate::input::{Calls, Script, ScriptCall};
+use crate::member::into_list;
 use crate::table_limits::all_limits;
 use crate::table_numbers::script_numbers;
-use crate::{call, member};
-use serde_json::Value;
+use json::Value;
 use std::alloc::Global;
 use std::hash::RandomState;
 
@@ -23,16 +24,16 @@ use std::hash::RandomState;
 pub(crate) fn script(
     alloc: Global,
     hashing: RandomState,
-    document: Value,
+    document: Value<'_>,
     head: Head,
 ) -> Result<Script, PlanFault>
-    requires kind { is_script (view document) ≡ true }
-    requires head { HasHead (view document) head }
-    ensures ok { IfOk result (SpellsScript (view document)) }
-    ensures err { IfErr result (RefusedFor (view document)) }
+    requires kind { is_script (tree_data document) ≡ true }
+    requires head { HasHead (tree_data document) head }
+    ensures ok { IfOk result (SpellsScript (tree_data document.entry)) }
+    ensures err { IfErr result (RefusedFor (tree_data document.entry)) }
 {
     let numbers = script_numbers(alloc, hashing, head.version, &document)?;
-    let Some(items) = member::into_list(document, "calls") else {
+    let Some(items) = into_list(document, "calls") else {
         return Err(PlanFault::Top);
     };
     let calls = calls(alloc, items)?;
@@ -48,14 +49,13 @@ pub(crate) fn script(
 ///
 /// # Errors
 /// `BadCall` at the first item that is none, and `OutOfMemory` where an allocation failed.
-fn calls(alloc: Global, items: Vec<Value>) -> Result<Vec<ScriptCall>, PlanFault>
-    ensures ok { IfOk result (λ cs. AreCalls (map view items.items) cs.items) }
-    ensures err { IfErr result (λ f. (f ≡ PlanFault.OutOfMemory) ⊎ IsFirstBadCall (map view items.items) f) }
+fn calls(alloc: Global, items: Vec<Value<'_>>) -> Result<Vec<ScriptCall>, PlanFault>
+    ensures ok { IfOk result (λ cs. AreCalls (map tree_data items.entry.items) cs.items) }
+    ensures err { IfErr result (λ f. (f ≡ PlanFault.OutOfMemory) ⊎ IsFirstBadCall (map tree_data items.entry.items) f) }
 {
     let mut calls = Vec::with_capacity(alloc, items.len())?;
     'items: for item in items {
-        let call = call::call(alloc, &item)?;
-        drop(item);
+        let call = call(alloc, item)?;
         let call = call.ok_or(PlanFault::BadCall { call: calls.len() })?;
         calls.push(call)?;
     }

@@ -1,36 +1,34 @@
 //! Reading steps.
 
 ghost use Rattle.std.specs.Prelude.{◌≡◌, IfOk, option_map, option_and_then};
-ghost use Rattle.serde_json.specs.View.{view};
 ghost use Rattle.dl_documents.specs.Reading.{two_in};
 ghost use Rattle.dl_documents.specs.Steps.{step_view};
 ghost use Rattle.dl_documents.specs.StepReading.{error_in, primed_named, primed_in, primes, step_named, step_in};
+ghost use Rattle.dl_documents.specs.Inside.Trees.{tree_data};
 
-use crate::argument::{self, into_pair, is_true, json, key, key_under};
+use crate::argument::{self, into_pair, is_true, json, key};
 use crate::member;
 use crate::terms::read_term;
+use crate::tree::text;
 use dl_source::TEXT_BYTES;
 use dl_terms::Step;
 use dl_values::{Message, Outcome};
-use serde_json::Value;
+use json::Value;
 use std::alloc::{AllocError, Global};
 
 /// The step that an object with one member is, if it is one. Its term may be of any height.
-pub(crate) fn read_step(alloc: Global, value: Value) -> Result<Option<Step>, AllocError>
-    ensures { IfOk result (λ s. option_map step_view s ≡ step_in (view value)) }
+pub(crate) fn read_step(alloc: Global, tree: Value<'_>) -> Result<Option<Step>, AllocError>
+    ensures { IfOk result (λ s. option_map step_view s ≡ step_in (tree_data tree.entry)) }
 {
-    if let Some(key) = key_under(alloc, "clear", &value)? {
-        return Ok(Some(Step::Clear(key)));
-    }
-    match member::into_only(value) {
-        Some((name, argument)) => named(alloc, name.as_str(), argument),
+    match member::into_only(tree) {
+        Some((name, argument)) => named(alloc, name, argument),
         None => Ok(None),
     }
 }
 
 /// The step of a name, if the argument is one of it.
-fn named(alloc: Global, name: &str, argument: Value) -> Result<Option<Step>, AllocError>
-    ensures { IfOk result (λ s. option_map step_view s ≡ step_named name.now (view argument)) }
+fn named(alloc: Global, name: &str, argument: Value<'_>) -> Result<Option<Step>, AllocError>
+    ensures { IfOk result (λ s. option_map step_view s ≡ step_named name.now (tree_data argument.entry)) }
 {
     Ok(match name {
         "prime" => prime(alloc, argument)?,
@@ -42,8 +40,8 @@ fn named(alloc: Global, name: &str, argument: Value) -> Result<Option<Step>, All
 }
 
 /// The prime of a list of a key and an outcome.
-fn prime(alloc: Global, argument: Value) -> Result<Option<Step>, AllocError>
-    ensures { IfOk result (λ s. option_map step_view s ≡ option_and_then primes (two_in (view argument))) }
+fn prime(alloc: Global, argument: Value<'_>) -> Result<Option<Step>, AllocError>
+    ensures { IfOk result (λ s. option_map step_view s ≡ option_and_then primes (two_in (tree_data argument.entry))) }
 {
     let Some((key, outcome)) = into_pair(argument) else {
         return Ok(None);
@@ -58,17 +56,21 @@ fn prime(alloc: Global, argument: Value) -> Result<Option<Step>, AllocError>
 }
 
 /// The outcome that an object with one member primes, if it is one.
-fn primed(alloc: Global, value: Value) -> Result<Option<Outcome>, AllocError>
-    ensures { IfOk result (λ o. o ≡ primed_in (view value)) }
+fn primed(alloc: Global, tree: Value<'_>) -> Result<Option<Outcome>, AllocError>
+    ensures { IfOk result (λ o. o ≡ primed_in (tree_data tree.entry)) }
 {
-    match member::into_only(value) {
-        Some((name, argument)) => primed_named(alloc, name.as_str(), argument),
+    match member::into_only(tree) {
+        Some((name, argument)) => primed_named(alloc, name, argument),
         None => Ok(None),
     }
 }
 
-fn primed_named(alloc: Global, name: &str, argument: Value) -> Result<Option<Outcome>, AllocError>
-    ensures { IfOk result (λ o. o ≡ primed_named name.now (view argument)) }
+fn primed_named(
+    alloc: Global,
+    name: &str,
+    argument: Value<'_>,
+) -> Result<Option<Outcome>, AllocError>
+    ensures { IfOk result (λ o. o ≡ primed_named name.now (tree_data argument.entry)) }
 {
     Ok(match name {
         "value" => json(alloc, argument)?.map(Outcome::Value),
@@ -78,10 +80,10 @@ fn primed_named(alloc: Global, name: &str, argument: Value) -> Result<Option<Out
 }
 
 /// The text of an error, if it isn't too long.
-fn error(alloc: Global, value: &Value) -> Result<Option<Message>, AllocError>
-    ensures { IfOk result (λ t. t ≡ error_in (view value.now)) }
+fn error(alloc: Global, tree: &Value<'_>) -> Result<Option<Message>, AllocError>
+    ensures { IfOk result (λ t. t ≡ error_in (tree_data tree.now)) }
 {
-    match value.as_str() {
+    match text(tree) {
         Some(text) if text.len() <= TEXT_BYTES => Ok(Some(Message::new(alloc, text)?)),
         _ => Ok(None),
     }

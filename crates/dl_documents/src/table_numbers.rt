@@ -1,17 +1,19 @@
 //! Reading the numbers that a script gives tables.
 
 ghost use Rattle.std.specs.Prelude.{◌≡◌, ◌⊎◌, Some, None, option_map, IfOk, IfErr};
-ghost use Rattle.serde_json.specs.View.{view};
 ghost use Rattle.dl_values.specs.TableLimits.{repeats};
 ghost use Rattle.dl_documents.specs.TableNumbers.{named, numbered, table_number_in, table_numbers_in, listed_numbers, script_numbers};
+ghost use Rattle.dl_documents.specs.Inside.Trees.{tree_data};
 
 use crate::argument::pair;
 use crate::fault::PlanFault;
 use crate::head::Version;
-use dl_source::{TableNumber, whole_number};
+use crate::member::member;
+use crate::tree::{items, text, whole};
+use dl_source::TableNumber;
 use dl_values::{TABLE_BYTES, Text};
 use indexmap::IndexSet;
-use serde_json::Value;
+use json::Value;
 use std::alloc::{AllocError, Global};
 use std::hash::RandomState;
 
@@ -24,11 +26,11 @@ pub(crate) fn script_numbers(
     alloc: Global,
     hashing: RandomState,
     version: Version,
-    script: &Value,
+    script: &Value<'_>,
 ) -> Result<Vec<TableNumber>, PlanFault>
-    ensures ok { IfOk result (λ ns. Some ns.items ≡ script_numbers version (view script.now)) }
+    ensures ok { IfOk result (λ ns. Some ns.items ≡ script_numbers version (tree_data script.now)) }
     ensures err { IfErr result (λ f. (f ≡ PlanFault.OutOfMemory)
-        ⊎ ((f ≡ PlanFault.Top) × (None ≡ script_numbers version (view script.now)))) }
+        ⊎ ((f ≡ PlanFault.Top) × (None ≡ script_numbers version (tree_data script.now)))) }
 {
     match version {
         Version::First => Ok(Vec::new(alloc)),
@@ -43,11 +45,11 @@ pub(crate) fn script_numbers(
 fn listed_numbers(
     alloc: Global,
     hashing: RandomState,
-    script: &Value,
+    script: &Value<'_>,
 ) -> Result<Option<Vec<TableNumber>>, AllocError>
-    ensures { IfOk result (λ ns. option_map (λ v. v.items) ns ≡ listed_numbers (view script.now)) }
+    ensures { IfOk result (λ ns. option_map (λ v. v.items) ns ≡ listed_numbers (tree_data script.now)) }
 {
-    let Some(list) = script.get("tableLimits") else {
+    let Some(list) = member(script, "tableLimits") else {
         return Ok(Some(Vec::new(alloc)));
     };
     let Some(numbers) = table_numbers(alloc, list)? else {
@@ -60,10 +62,10 @@ fn listed_numbers(
 }
 
 /// The numbers of a list, if each item is one of a table.
-fn table_numbers(alloc: Global, value: &Value) -> Result<Option<Vec<TableNumber>>, AllocError>
-    ensures { IfOk result (λ ns. option_map (λ v. v.items) ns ≡ table_numbers_in (view value.now)) }
+fn table_numbers(alloc: Global, tree: &Value<'_>) -> Result<Option<Vec<TableNumber>>, AllocError>
+    ensures { IfOk result (λ ns. option_map (λ v. v.items) ns ≡ table_numbers_in (tree_data tree.now)) }
 {
-    let Some(items) = value.as_array() else {
+    let Some(items) = items(tree) else {
         return Ok(None);
     };
     let mut numbers = Vec::with_capacity(alloc, items.len())?;
@@ -78,12 +80,12 @@ fn table_numbers(alloc: Global, value: &Value) -> Result<Option<Vec<TableNumber>
 }
 
 /// The table and the number of a list of the two, if the table has a table's length and the number is whole.
-fn table_number(value: &Value) -> Option<(&str, i128)>
-    ensures { option_map (λ p. numbered p.0.now p.1) result ≡ table_number_in (view value.now) }
+fn table_number<'a>(tree: &Value<'a>) -> Option<(&'a str, i128)>
+    ensures { option_map (λ p. numbered p.0.now p.1) result ≡ table_number_in (tree_data tree.now) }
 {
-    let (table, number) = pair(value)?;
-    let table = table.as_str()?;
-    let number = whole_number(number)?;
+    let (table, number) = pair(tree)?;
+    let table = text(table)?;
+    let number = whole(number)?;
     if (1..=TABLE_BYTES).contains(&table.len()) {
         Some((table, number))
     } else {

@@ -1,37 +1,34 @@
 //! Reading terms.
 
-ghost use Rattle.std.specs.Prelude.{◌≡◌, IfOk, option_map, string_bytes};
-ghost use Rattle.serde_json.specs.View.{view};
+ghost use Rattle.std.specs.Prelude.{◌≡◌, IfOk, option_map};
 ghost use Rattle.dl_terms.specs.Tree.{follow, each};
 ghost use Rattle.dl_terms.specs.View.{term_view};
 ghost use Rattle.dl_documents.specs.TermReading.{field_in, link_in, picks, links, gathers, term_named, term_in, parts_in};
+ghost use Rattle.dl_documents.specs.Inside.Trees.{tree_data};
 
-use crate::argument::{into_pair, into_triple, json, key, key_under};
+use crate::argument::{into_pair, into_triple, json, key};
 use crate::member;
-use dl_source::{into_items, into_text};
+use crate::tree::{into_items, text};
 use dl_terms::Term;
 use dl_values::{TABLE_BYTES, Text};
-use serde_json::Value;
+use json::Value;
 use std::alloc::{AllocError, Global};
 
 /// The term that an object with one member is, if it is one. It is read to its bottom, however high it is.
 #[cycle(reading)]
-pub(crate) fn read_term(alloc: Global, value: Value) -> Result<Option<Term>, AllocError>
-    ensures { IfOk result (λ t. option_map term_view t ≡ term_in (view value)) }
+pub(crate) fn read_term(alloc: Global, tree: Value<'_>) -> Result<Option<Term>, AllocError>
+    ensures { IfOk result (λ t. option_map term_view t ≡ term_in (tree_data tree.entry)) }
 {
-    if let Some(key) = key_under(alloc, "load", &value)? {
-        return Ok(Some(Term::Load(key)));
-    }
-    match member::into_only(value) {
-        Some((name, argument)) => named(alloc, name.as_str(), argument),
+    match member::into_only(tree) {
+        Some((name, argument)) => named(alloc, name, argument),
         None => Ok(None),
     }
 }
 
 /// The term of a name, if the argument is one of it.
 #[cycle(reading)]
-fn named(alloc: Global, name: &str, argument: Value) -> Result<Option<Term>, AllocError>
-    ensures { IfOk result (λ t. option_map term_view t ≡ term_named name.now (view argument) (parts_in (view argument))) }
+fn named(alloc: Global, name: &str, argument: Value<'_>) -> Result<Option<Term>, AllocError>
+    ensures { IfOk result (λ t. option_map term_view t ≡ term_named name.now (tree_data argument.entry) (parts_in (tree_data argument.entry))) }
 {
     match name {
         "value" => Ok(json(alloc, argument)?.map(Term::Value)),
@@ -45,8 +42,8 @@ fn named(alloc: Global, name: &str, argument: Value) -> Result<Option<Term>, All
 }
 
 #[cycle(reading)]
-fn pick(alloc: Global, argument: Value) -> Result<Option<Term>, AllocError>
-    ensures { IfOk result (λ t. option_map term_view t ≡ picks (parts_in (view argument)) (view argument)) }
+fn pick(alloc: Global, argument: Value<'_>) -> Result<Option<Term>, AllocError>
+    ensures { IfOk result (λ t. option_map term_view t ≡ picks (parts_in (tree_data argument.entry)) (tree_data argument.entry)) }
 {
     let Some((part, field)) = field(argument) else {
         return Ok(None);
@@ -54,13 +51,13 @@ fn pick(alloc: Global, argument: Value) -> Result<Option<Term>, AllocError>
     let Some(part) = read_part(alloc, part)? else {
         return Ok(None);
     };
-    let field = Text::from_string(field);
+    let field = Text::new(alloc, field)?;
     Ok(Some(Term::Pick { part, field }))
 }
 
 #[cycle(reading)]
-fn follow(alloc: Global, argument: Value) -> Result<Option<Term>, AllocError>
-    ensures { IfOk result (λ t. option_map term_view t ≡ links follow (parts_in (view argument)) (view argument)) }
+fn follow(alloc: Global, argument: Value<'_>) -> Result<Option<Term>, AllocError>
+    ensures { IfOk result (λ t. option_map term_view t ≡ links follow (parts_in (tree_data argument.entry)) (tree_data argument.entry)) }
 {
     let Some((part, field, table)) = link(argument) else {
         return Ok(None);
@@ -68,14 +65,14 @@ fn follow(alloc: Global, argument: Value) -> Result<Option<Term>, AllocError>
     let Some(part) = read_part(alloc, part)? else {
         return Ok(None);
     };
-    let field = Text::from_string(field);
-    let table = Text::from_string(table);
+    let field = Text::new(alloc, field)?;
+    let table = Text::new(alloc, table)?;
     Ok(Some(Term::Follow { part, field, table }))
 }
 
 #[cycle(reading)]
-fn each(alloc: Global, argument: Value) -> Result<Option<Term>, AllocError>
-    ensures { IfOk result (λ t. option_map term_view t ≡ links each (parts_in (view argument)) (view argument)) }
+fn each(alloc: Global, argument: Value<'_>) -> Result<Option<Term>, AllocError>
+    ensures { IfOk result (λ t. option_map term_view t ≡ links each (parts_in (tree_data argument.entry)) (tree_data argument.entry)) }
 {
     let Some((part, field, table)) = link(argument) else {
         return Ok(None);
@@ -83,14 +80,14 @@ fn each(alloc: Global, argument: Value) -> Result<Option<Term>, AllocError>
     let Some(part) = read_part(alloc, part)? else {
         return Ok(None);
     };
-    let field = Text::from_string(field);
-    let table = Text::from_string(table);
+    let field = Text::new(alloc, field)?;
+    let table = Text::new(alloc, table)?;
     Ok(Some(Term::Each { part, field, table }))
 }
 
 #[cycle(reading)]
-fn all(alloc: Global, argument: Value) -> Result<Option<Term>, AllocError>
-    ensures { IfOk result (λ t. option_map term_view t ≡ gathers (parts_in (view argument)) (view argument)) }
+fn all(alloc: Global, argument: Value<'_>) -> Result<Option<Term>, AllocError>
+    ensures { IfOk result (λ t. option_map term_view t ≡ gathers (parts_in (tree_data argument.entry)) (tree_data argument.entry)) }
 {
     let Some(items) = into_items(argument) else {
         return Ok(None);
@@ -106,31 +103,31 @@ fn all(alloc: Global, argument: Value) -> Result<Option<Term>, AllocError>
 }
 
 #[cycle(reading)]
-fn read_part(alloc: Global, value: Value) -> Result<Option<Box<Term>>, AllocError>
-    ensures { IfOk result (λ t. option_map (λ t. term_view t.value) t ≡ term_in (view value)) }
+fn read_part(alloc: Global, tree: Value<'_>) -> Result<Option<Box<Term>>, AllocError>
+    ensures { IfOk result (λ t. option_map (λ t. term_view t.value) t ≡ term_in (tree_data tree.entry)) }
 {
-    match read_term(alloc, value)? {
+    match read_term(alloc, tree)? {
         Some(term) => Ok(Some(Box::new(alloc, term)?)),
         None => Ok(None),
     }
 }
 
 /// The part and the field of a list of the two, taken out of it.
-fn field(value: Value) -> Option<(Value, String)>
-    ensures { option_map (λ p. (view p.0, string_bytes p.1)) result ≡ field_in (view value) }
+fn field(tree: Value<'_>) -> Option<(Value<'_>, &str)>
+    ensures { option_map (λ p. (tree_data p.0, p.1.now)) result ≡ field_in (tree_data tree.entry) }
 {
-    let (part, field) = into_pair(value)?;
-    let field = into_text(field)?;
+    let (part, field) = into_pair(tree)?;
+    let field = text(&field)?;
     Some((part, field))
 }
 
 /// The part, the field and the table of a list of the three, taken out of it, if the table has a table's length.
-fn link(value: Value) -> Option<(Value, String, String)>
-    ensures { option_map (λ p. (view p.0, string_bytes p.1, string_bytes p.2)) result ≡ link_in (view value) }
+fn link(tree: Value<'_>) -> Option<(Value<'_>, &str, &str)>
+    ensures { option_map (λ p. (tree_data p.0, p.1.now, p.2.now)) result ≡ link_in (tree_data tree.entry) }
 {
-    let (part, field, table) = into_triple(value)?;
-    let field = into_text(field)?;
-    let table = into_text(table)?;
+    let (part, field, table) = into_triple(tree)?;
+    let field = text(&field)?;
+    let table = text(&table)?;
     if (1..=TABLE_BYTES).contains(&table.len()) {
         Some((part, field, table))
     } else {

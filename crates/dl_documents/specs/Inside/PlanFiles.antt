@@ -4,8 +4,8 @@ use Rattle.std.specs.declared.alloc.Global.{Global}
 use Rattle.std.specs.List.{AllByRecursion, slice_get}
 use Rattle.serde_json.specs.Data.{Data, array, Items}
 use Rattle.serde_json.specs.Find.{as_array, get}
-use Rattle.serde_json.specs.View.{view, items_of}
-use Rattle.serde_json.specs.declared.value.Value.{Value}
+use Rattle.json.specs.declared.value.Value.{Value}
+use Rattle.serde_json.specs.View.{items_of}
 use Rattle.dl_values.specs.Limits.{Limits}
 use Rattle.dl_source.specs.Tables.{Tables}
 use Rattle.dl_source.specs.declared.fault.TableFault.{TableFault}
@@ -15,6 +15,7 @@ use Rattle.dl_terms.specs.Tree.{height_of}
 use Rattle.dl_documents.specs.Document.{items_at}
 use Rattle.dl_documents.specs.Faults.{IsNoStep}
 use Rattle.dl_documents.specs.Inside.Places.{IsFirst, IsFirstIn}
+use Rattle.dl_documents.specs.Inside.Trees.{tree_data}
 use Rattle.dl_documents.specs.Inside.OwnLimits.{AreAllLimits, IsRefusedNumber}
 use Rattle.dl_documents.specs.OwnLimits.{TableLimits}
 use Rattle.dl_documents.specs.Steps.{StepTree, prime, clear, clear_all, eval, step_tree, IsPlanStep, IsLow, most_height, most_steps}
@@ -33,9 +34,9 @@ row_tree ds = array (items_of ds)
 abbrev pub rows_tree : List (List Data) → Items
 rows_tree rows = items_of (map row_tree rows)
 
--- lists of values, as lists of trees
-abbrev pub rows_view : List (Vec Value Global) → List (List Data)
-rows_view lists = map (λ l. map view l.items) lists
+-- lists of trees, as lists of their data
+abbrev pub rows_view : List (Vec (Value Global) Global) → List (List Data)
+rows_view lists = map (λ l. map tree_data l.items) lists
 
 -- the document has this list of plans and this member `tables`
 pub record HasLists (d : Data) (plans : Items) (tree : Data) : Type 0 where

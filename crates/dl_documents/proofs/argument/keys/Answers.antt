@@ -1,9 +1,7 @@
-use Rattle.std.proofs.Common.{◌≡◌, ◌∙◌, List, Some, refl, sym, ap}
+use Rattle.std.proofs.Common.{◌∙◌, Some, refl, sym, ap}
 use Rattle.std.specs.Option.{option_and_then}
 use Rattle.std.proofs.lemmas.Result.{IfOk-from_err}
-use Rattle.serde_json.specs.Find.{as_array}
-use Rattle.serde_json.specs.View.{view, items_view}
-use Rattle.serde_json.specs.declared.value.Value.{Value}
+use Rattle.dl_documents.specs.Inside.Trees.{tree_data, list_data}
 use Rattle.dl_documents.proofs.FindingLists.{found_all, found_first, found_more, found_stops}
 use Rattle.dl_documents.specs.Reading.{key_in, keys_listed}
 use Rattle.dl_documents.proofs.argument.keys.Goals as goal
@@ -25,9 +23,9 @@ items-init c = found_first c.in_ok-keys.keys.items _ c.in_ok-keys.ensures.items
 
 pub items-preserved : goal.items-preserved
 items-preserved c =
-    found_more (λ v. key_in (view v)) (λ vs. keys_listed (items_view vs))
+    found_more (λ v. key_in (tree_data v)) (λ vs. keys_listed (list_data vs))
     (λ v vs. refl) c.items.keys.items c.push.new.self.items c.in-Some-2.key
-    c.deref-item-items.result.now c.items.item-index c.item-item.result
+    c.in-Some.items.now c.items.item-index c.item-item.result
     c.items.invariant c.items-test.true c.item-item.is (sym c.in-Some-2.is ∙ c.in_ok-key.ensures) c.in_ok-push.ensures.items
 
 pub returns-in_default : goal.returns-in_default
@@ -35,17 +33,13 @@ returns-in_default c = ap (option_and_then keys_listed) c.in_default.ensures
 
 pub returns-in_default-2 : goal.returns-in_default-2
 returns-in_default-2 c =
-    let list : Some (items_view c.deref-item-items.result.now) ≡ as_array (view c.args.value.now) =
-    ap (λ (vs : List Value). Some (items_view vs)) c.deref-item-items.ensures.value ∙ c.in-Some.ensures in
-    found_stops (λ v. key_in (view v)) (λ vs. keys_listed (items_view vs)) (λ v vs. refl) c.items.keys.items
-    c.deref-item-items.result.now c.items.item-index c.item-item.result c.items.invariant c.items-test.true c.item-item.is
+    found_stops (λ v. key_in (tree_data v)) (λ vs. keys_listed (list_data vs)) (λ v vs. refl) c.items.keys.items
+    c.in-Some.items.now c.items.item-index c.item-item.result c.items.invariant c.items-test.true c.item-item.is
     (sym c.in_default-2.is ∙ c.in_ok-key.ensures)
-    ∙ ap (option_and_then keys_listed) list
+    ∙ ap (option_and_then keys_listed) c.in-Some.ensures
 
 pub returns : goal.returns
 returns c =
-    let list : Some (items_view c.deref-item-items.result.now) ≡ as_array (view c.args.value.now) =
-    ap (λ (vs : List Value). Some (items_view vs)) c.deref-item-items.ensures.value ∙ c.in-Some.ensures in
     ap Some c.in_ok-new.ensures
-    ∙ (found_all (λ vs. keys_listed (items_view vs)) refl c.items.keys.items c.deref-item-items.result.now c.items.item-index
-    c.items.invariant c.items-test.false ∙ ap (option_and_then keys_listed) list)
+    ∙ (found_all (λ vs. keys_listed (list_data vs)) refl c.items.keys.items c.in-Some.items.now c.items.item-index
+    c.items.invariant c.items-test.false ∙ ap (option_and_then keys_listed) c.in-Some.ensures)

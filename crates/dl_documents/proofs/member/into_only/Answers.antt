@@ -1,18 +1,16 @@
-use Rattle.std.proofs.Common.{rules, arith, ◌≡◌, ap, sym, ◌∙◌, length, true≢false}
-use Rattle.std.specs.Prelude.{slice_get}
-use Rattle.dl_documents.proofs.Trees.{one_first, one_other}
+use Rattle.std.proofs.Common.{◌≡◌, ◌∙◌, true, false, sym}
+use Rattle.dl_documents.proofs.ObjectMembers.{all_named}
+use Rattle.dl_documents.proofs.Trees.{one_in_last, none_in}
 use Rattle.dl_documents.proofs.member.into_only.Goals as goal
+
+pub returns-then-all_named : goal.returns-then-all_named
+returns-then-all_named c =
+    let others = c.pop.new.self.items in
+    let same : all_named c.in_ok-name.name.now others ≡ true = rw (← c.deref.ensures.value) (sym c.all_named.ensures ∙ c.if-all_named.true) in
+    one_in_last _ c.in_ok-members.members.items others (c.in_ok-name.name, c.in_ok-name.argument) c.in_ok-members.ensures c.in_ok-name.ensures.items same
 
 pub returns : goal.returns
 returns c =
-    let removal = c.in_ok-name.ensures.removal in
-    let long = ap length removal in
-    one_first _ c.in_ok-members.members.entries c.in_ok-name.name c.in_ok-name.argument c.in_ok-members.ensures (ap (λ es. slice_get es 0) removal) (search rules)
-
-pub returns-then-not-is_empty : goal.returns-then-not-is_empty
-returns-then-not-is_empty c =
-    let removal = c.in_ok-name.ensures.removal in
-    let long = ap length removal in
-    one_other _ c.in_ok-members.members.entries c.in_ok-members.ensures (λ one.
-    (let empty : length c.pop_first.new.self.entries ≡ 0 = omega arith in
-    true≢false (sym (c.is_empty.ensures.1 empty) ∙ c.if-not-is_empty.true)))
+    let others = c.pop.new.self.items in
+    let other : all_named c.in_ok-name.name.now others ≡ false = rw (← c.deref.ensures.value) (sym c.all_named.ensures ∙ c.if-all_named.false) in
+    none_in _ c.in_ok-members.members.items others (c.in_ok-name.name, c.in_ok-name.argument) c.in_ok-members.ensures c.in_ok-name.ensures.items other

@@ -1,7 +1,7 @@
 use Rattle.std.proofs.Common.{rules, arith, ◌≡◌, ◌∷◌, [], ◌++◌, length, Some, None, Err, inr, refl, ap, sym, ◌∙◌, append_assoc}
 use Rattle.std.specs.Vec.Iter.{into_iter_items}
 use Rattle.serde_json.specs.Find.{as_array}
-use Rattle.serde_json.specs.View.{view, items_view}
+use Rattle.dl_documents.specs.Inside.Trees.{tree_data, list_data}
 use Rattle.dl_documents.proofs.Readings.{SpellLists, lists_more, lists_stop}
 use Rattle.dl_documents.proofs.ListSpelling.{all_yielded}
 use Rattle.dl_documents.specs.declared.fault.PlanFault.TheVariants.{Top}
@@ -13,14 +13,14 @@ returns-in_err-list-clause-err c =
     let rest = into_iter_items c.next.new.self in
     let is : l.yielded ++ c.in-Some.item ∷ rest ≡ c.args.items.items = rw (← c.in-Some.ensures.steps.0) l.invariant.order in
     let bad : c.from_residual.result ≡ Err Top = search rules in
-    let none : None ≡ as_array (view c.in-Some.item) = search rules in
+    let none : None ≡ as_array (tree_data c.in-Some.item) = search rules in
     rw bad (inr (refl, lists_stop l.yielded c.in-Some.item rest c.args.items.items is none))
 
 pub items-preserved : goal.items-preserved
 items-preserved c =
     let l = c.items in
     let steps : into_iter_items l.item-iterator ≡ c.in-Some.item ∷ into_iter_items c.next.new.self = c.in-Some.ensures.steps.0 in
-    let found : Some (items_view c.in_ok-list.list.items) ≡ as_array (view c.in-Some.item) = search rules in
+    let found : Some (list_data c.in_ok-list.list.items) ≡ as_array (tree_data c.in-Some.item) = search rules in
     record {
       order = append_assoc l.yielded (c.in-Some.item ∷ []) _ ∙ rw (← steps) l.invariant.order;
       so_far = rw c.in_ok-push.ensures.items (lists_more l.yielded c.in-Some.item l.lists.items c.in_ok-list.list l.invariant.so_far found);

@@ -1,11 +1,15 @@
-use Rattle.std.proofs.Common.{rules, ◌≡◌, sym, map, codes, Some, Err, inl, inr}
+use Rattle.std.proofs.Common.{rules, ◌≡◌, sym, ap, ◌∙◌, map, codes, Some, Err, inl, inr}
 use Rattle.std.proofs.lemmas.Result.{IfOk-from_err}
-use Rattle.serde_json.specs.View.{view, items_view}
+use Rattle.dl_documents.specs.Inside.Trees.{tree_data, list_data}
 use Rattle.dl_documents.specs.Document.{items_at}
+use Rattle.serde_json.specs.View.{items_of}
 use Rattle.dl_documents.specs.Faults.{HasNoNumbers}
+use Rattle.dl_documents.specs.Inside.Scripts.{AreCalls}
+use Rattle.dl_documents.specs.Script.{calls_tree}
 use Rattle.dl_documents.proofs.Order.{least_top}
 use Rattle.dl_documents.proofs.OwnNumbers.{script_named}
 use Rattle.dl_documents.proofs.ScriptVerdicts.{least_call, least_script_limit}
+use Rattle.dl_documents.proofs.TreeLists.{list_data_is}
 use Rattle.dl_documents.proofs.scripts.script.Goals as goal
 
 pub returns-in_err-numbers-clause-err : goal.returns-in_err-numbers-clause-err
@@ -20,26 +24,28 @@ returns-in_err-numbers-clause-err c =
 
 pub returns-in_err-calls-clause-err : goal.returns-in_err-calls-clause-err
 returns-in_err-calls-clause-err c =
-    let list : items_at (codes "calls") (view c.args.document) ≡ Some (items_view c.in-Some.items.items) = search rules in
+    let given : items_at (codes "calls") (tree_data c.args.document) ≡ Some (list_data c.in-Some.items.items) = search rules in
+    let list = given ∙ ap (λ ds. Some ds) (list_data_is c.in-Some.items.items) in
     let same : c.from_residual-in_err-calls.result ≡ Err c.in_err-calls.field-0.0 = search rules in
     rw same (elim c.in_err-calls.ensures.err [
       | inl memory ↦ inl memory
-      | inr bad ↦ inr (least_call _ c.args.head (map view c.in-Some.items.items) c.in_ok-numbers.numbers.items c.requires.kind c.requires.head list
+      | inr bad ↦ inr (least_call _ c.args.head (map tree_data c.in-Some.items.items) c.in_ok-numbers.numbers.items c.requires.kind c.requires.head list
           (sym c.in_ok-numbers.ensures.ok) _ bad)
     ])
 
 pub returns-in_err-limits-clause-err : goal.returns-in_err-limits-clause-err
 returns-in_err-limits-clause-err c =
-    let list : items_at (codes "calls") (view c.args.document) ≡ Some (items_view c.in-Some.items.items) = search rules in
+    let given : items_at (codes "calls") (tree_data c.args.document) ≡ Some (list_data c.in-Some.items.items) = search rules in
+    let list = given ∙ ap (λ ds. Some ds) (list_data_is c.in-Some.items.items) in
     let same : c.from_residual-in_err-limits.result ≡ Err c.in_err-limits.field-0.0 = search rules in
     rw same (elim c.in_err-limits.ensures.err [
       | inl memory ↦ inl memory
-      | inr bad ↦ inr (least_script_limit _ c.args.head (map view c.in-Some.items.items) c.in_ok-numbers.numbers.items c.requires.kind c.requires.head list
+      | inr bad ↦ inr (least_script_limit _ c.args.head (map tree_data c.in-Some.items.items) c.in_ok-numbers.numbers.items c.requires.kind c.requires.head list
           (sym c.in_ok-numbers.ensures.ok) c.in_ok-calls.calls.items _ c.in_ok-calls.ensures.ok bad)
     ])
 
 pub all_limits-requires : goal.all_limits-requires
-all_limits-requires c = script_named (view c.args.document) c.args.head.version c.in_ok-numbers.numbers.items (sym c.in_ok-numbers.ensures.ok)
+all_limits-requires c = script_named (tree_data c.args.document) c.args.head.version c.in_ok-numbers.numbers.items (sym c.in_ok-numbers.ensures.ok)
 
 pub returns-in_err-numbers-clause-ok : goal.returns-in_err-numbers-clause-ok
 returns-in_err-numbers-clause-ok c = IfOk-from_err _ _ c.from_residual.ensures.0
@@ -49,3 +55,11 @@ returns-in_err-calls-clause-ok c = IfOk-from_err _ _ c.from_residual-in_err-call
 
 pub returns-in_err-limits-clause-ok : goal.returns-in_err-limits-clause-ok
 returns-in_err-limits-clause-ok c = IfOk-from_err _ _ c.from_residual-in_err-limits.ensures.0
+
+pub returns-clause-ok : goal.returns-clause-ok
+returns-clause-ok c =
+    let given : items_at (codes "calls") (tree_data c.args.document) ≡ Some (list_data c.in-Some.items.items) = search rules in
+    let read : AreCalls (map tree_data c.in-Some.items.items) c.in_ok-calls.calls.items = search rules in
+    let list : items_at (codes "calls") (tree_data c.args.document) ≡ Some (calls_tree c.in_ok-calls.calls.items) =
+    given ∙ ap (λ ds. Some ds) (list_data_is c.in-Some.items.items ∙ ap items_of read.trees) in
+    search rules

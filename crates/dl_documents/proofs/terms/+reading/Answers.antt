@@ -1,16 +1,16 @@
-use Rattle.std.proofs.Common.{◌≡◌, ◌∙◌, ◌<◌, ◌≤◌, [], ◌∷◌, length, map, Option, Some, None, option_map, refl, sym, ap, subst, rules, arith, string_bytes}
+use Rattle.std.proofs.Common.{◌≡◌, ◌∙◌, ◌<◌, ◌≤◌, [], ◌∷◌, length, map, Option, Some, None, option_map, refl, sym, ap, subst, rules, arith}
 use Rattle.std.proofs.lemmas.List.{map-append}
 use Rattle.std.specs.Prelude.{IfOk}
 use Rattle.std.proofs.lemmas.Result.{IfOk-from_err}
 use Rattle.serde_json.specs.Data.{depth, items_depth}
 use Rattle.serde_json.specs.Find.{as_array}
-use Rattle.serde_json.specs.View.{view, items_view}
 use Rattle.dl_terms.specs.Tree.{Tree, pick, follow, each}
 use Rattle.dl_terms.specs.View.{term_view}
+use Rattle.dl_documents.specs.Inside.Trees.{tree_data, list_data}
 use Rattle.dl_documents.proofs.FindingLists.{found_first, found_next, found_none}
 use Rattle.dl_documents.proofs.TermParts.{no_list, no_names, other_name, field_lower, link_lower}
 use Rattle.dl_documents.proofs.TermParts.{term_view-Follow, term_view-Each, pick_none, pick_some, link_none, link_some}
-use Rattle.dl_documents.proofs.Trees.{no_term, one_term, load_under, all_unread, item_within, rest_within, items_lower, all_read}
+use Rattle.dl_documents.proofs.Trees.{no_term, one_term, all_unread, item_within, rest_within, items_lower, all_read}
 use Rattle.std.specs.Vec.Iter.{into_iter_items}
 use Rattle.dl_documents.specs.TermReading.{together, term_in, parts_in, parts_of}
 use Rattle.dl_documents.proofs.terms.+reading.Goals as goal
@@ -46,14 +46,14 @@ pub named-returns-in_err-key-in-load : goal.named-returns-in_err-key-in-load
 named-returns-in_err-key-in-load t c = IfOk-from_err _ _ c.from_residual-in_err-key-in-load.ensures.0
 
 pub pick-returns-in_default-2 : goal.pick-returns-in_default-2
-pick-returns-in_default-2 t c = pick_none (view c.args.argument) _ _ c.in_ok-part.field-0 c.in-Some.ensures c.in_ok-part.ensures c.in_default-2.is
+pick-returns-in_default-2 t c = pick_none (tree_data c.args.argument) _ _ c.in_ok-part.field-0 c.in-Some.ensures c.in_ok-part.ensures c.in_default-2.is
 
 pub follow-returns-in_default-2 : goal.follow-returns-in_default-2
 follow-returns-in_default-2 t c =
-    link_none follow (view c.args.argument) _ _ _ c.in_ok-part.field-0 c.in-Some.ensures c.in_ok-part.ensures c.in_default-2.is
+    link_none follow (tree_data c.args.argument) _ _ _ c.in_ok-part.field-0 c.in-Some.ensures c.in_ok-part.ensures c.in_default-2.is
 
 pub each-returns-in_default-2 : goal.each-returns-in_default-2
-each-returns-in_default-2 t c = link_none each (view c.args.argument) _ _ _ c.in_ok-part.field-0 c.in-Some.ensures c.in_ok-part.ensures c.in_default-2.is
+each-returns-in_default-2 t c = link_none each (tree_data c.args.argument) _ _ _ c.in_ok-part.field-0 c.in-Some.ensures c.in_ok-part.ensures c.in_default-2.is
 
 pub read_part-returns-in-None : goal.read_part-returns-in-None
 read_part-returns-in-None t c = sym (ap (option_map term_view) c.in-None.is) ∙ c.in_ok-term.ensures
@@ -79,7 +79,7 @@ named-returns-in-all t c = rw c.in-all.is c.all.ensures
 
 pub named-returns-in_default : goal.named-returns-in_default
 named-returns-in_default t c =
-    let d = view c.args.argument in
+    let d = tree_data c.args.argument in
     let other = c.in_default in
     other_name _ d (parts_in d) other.not-value other.not-load other.not-pick other.not-follow other.not-each other.not-all
 
@@ -93,39 +93,35 @@ pub each-returns-in_default : goal.each-returns-in_default
 each-returns-in_default t c = no_names (λ p. each p.0 p.1.1 p.1.2) _ _ c.in_default.ensures
 
 pub pick-read_part-requires : goal.pick-read_part-requires
-pick-read_part-requires t c = (omega (arith, field_lower (view c.args.argument) _ _ c.in-Some.ensures), tt)
+pick-read_part-requires t c = (omega (arith, field_lower (tree_data c.args.argument) _ _ c.in-Some.ensures), tt)
 
 pub follow-read_part-requires : goal.follow-read_part-requires
-follow-read_part-requires t c = (omega (arith, link_lower (view c.args.argument) _ _ _ c.in-Some.ensures), tt)
+follow-read_part-requires t c = (omega (arith, link_lower (tree_data c.args.argument) _ _ _ c.in-Some.ensures), tt)
 
 pub each-read_part-requires : goal.each-read_part-requires
-each-read_part-requires t c = (omega (arith, link_lower (view c.args.argument) _ _ _ c.in-Some.ensures), tt)
+each-read_part-requires t c = (omega (arith, link_lower (tree_data c.args.argument) _ _ _ c.in-Some.ensures), tt)
 
 pub read_term-returns-in-Some : goal.read_term-returns-in-Some
-read_term-returns-in-Some t c = load_under (view c.args.value) c.in-Some.key (rw c.in-Some.is at c.in_ok-key.ensures)
-
-pub read_term-returns-in-Some-into_only : goal.read_term-returns-in-Some-into_only
-read_term-returns-in-Some-into_only t c =
-    let name : c.as_str.result.now ≡ string_bytes c.in-Some-into_only.name = search rules in
+read_term-returns-in-Some t c =
     subst (λ (o : Option Tree). IfOk c.named.result (λ t. option_map term_view t ≡ o))
-    (one_term _ (string_bytes c.in-Some-into_only.name) (view c.in-Some-into_only.argument) c.in-Some-into_only.ensures) (rw name at c.named.ensures)
+    (one_term _ c.in-Some.name.now (tree_data c.in-Some.argument) c.in-Some.ensures) c.named.ensures
 
 pub pick-returns : goal.pick-returns
 pick-returns t c =
-    pick_some (view c.args.argument) _ _ c.from_string-field.result c.in_ok-part.field-0 c.in-Some-2.part
-    c.in-Some.ensures c.in_ok-part.ensures c.in-Some-2.is c.from_string-field.ensures
+    pick_some (tree_data c.args.argument) _ _ c.in_ok-field.field c.in_ok-part.field-0 c.in-Some-2.part
+    c.in-Some.ensures c.in_ok-part.ensures c.in-Some-2.is c.in_ok-field.ensures
 
 pub follow-returns : goal.follow-returns
 follow-returns t c =
-    ap Some (term_view-Follow c.in-Some-2.part c.from_string-field.result c.from_string-table.result)
-    ∙ link_some follow (view c.args.argument) _ _ _ c.in_ok-part.field-0 c.in-Some-2.part c.from_string-field.result c.from_string-table.result
-    c.in-Some.ensures c.in_ok-part.ensures c.in-Some-2.is c.from_string-field.ensures c.from_string-table.ensures
+    ap Some (term_view-Follow c.in-Some-2.part c.in_ok-field.field c.in_ok-table.table)
+    ∙ link_some follow (tree_data c.args.argument) _ _ _ c.in_ok-part.field-0 c.in-Some-2.part c.in_ok-field.field c.in_ok-table.table
+    c.in-Some.ensures c.in_ok-part.ensures c.in-Some-2.is c.in_ok-field.ensures c.in_ok-table.ensures
 
 pub each-returns : goal.each-returns
 each-returns t c =
-    ap Some (term_view-Each c.in-Some-2.part c.from_string-field.result c.from_string-table.result)
-    ∙ link_some each (view c.args.argument) _ _ _ c.in_ok-part.field-0 c.in-Some-2.part c.from_string-field.result c.from_string-table.result
-    c.in-Some.ensures c.in_ok-part.ensures c.in-Some-2.is c.from_string-field.ensures c.from_string-table.ensures
+    ap Some (term_view-Each c.in-Some-2.part c.in_ok-field.field c.in_ok-table.table)
+    ∙ link_some each (tree_data c.args.argument) _ _ _ c.in_ok-part.field-0 c.in-Some-2.part c.in_ok-field.field c.in_ok-table.table
+    c.in-Some.ensures c.in_ok-part.ensures c.in-Some-2.is c.in_ok-field.ensures c.in_ok-table.ensures
 
 pub all-items-init : goal.all-items-init
 all-items-init t c = record {
@@ -141,10 +137,10 @@ all-read_term-requires t c =
     let rest = into_iter_items c.next.new.self in
     let steps : into_iter_items l.item-iterator ≡ v ∷ rest = c.in-Some-item.ensures.steps.0 in
     let given : into_iter_items c.into_iter-item-iterator.result ≡ c.in-Some.items.items = c.into_iter-item-iterator.ensures.into_iter_gives.0 in
-    let list : Some (items_view c.in-Some.items.items) ≡ as_array (view c.args.argument) = search rules in
-    let deep : items_depth (items_view c.in-Some.items.items) < depth (view c.args.argument) = items_lower _ c.in-Some.items.items list in
-    let first : depth (view v) ≤ items_depth (items_view (into_iter_items l.item-iterator)) = rw steps (item_within v rest) in
-    let low : items_depth (items_view (into_iter_items l.item-iterator)) ≤ items_depth (items_view c.in-Some.items.items) = rw given at l.invariant.low in
+    let list : Some (list_data c.in-Some.items.items) ≡ as_array (tree_data c.args.argument) = search rules in
+    let deep : items_depth (list_data c.in-Some.items.items) < depth (tree_data c.args.argument) = items_lower _ c.in-Some.items.items list in
+    let first : depth (tree_data v) ≤ items_depth (list_data (into_iter_items l.item-iterator)) = rw steps (item_within v rest) in
+    let low : items_depth (list_data (into_iter_items l.item-iterator)) ≤ items_depth (list_data c.in-Some.items.items) = rw given at l.invariant.low in
     (omega arith, tt)
 
 pub all-items-preserved : goal.all-items-preserved
@@ -153,13 +149,13 @@ all-items-preserved t c =
     let v = c.in-Some-item.item in
     let rest = into_iter_items c.next.new.self in
     let steps : into_iter_items l.item-iterator ≡ v ∷ rest = c.in-Some-item.ensures.steps.0 in
-    let found : Some (term_view c.in-Some-2.part) ≡ term_in (view v) = sym (ap (option_map term_view) c.in-Some-2.is) ∙ c.in_ok-part.ensures in
+    let found : Some (term_view c.in-Some-2.part) ≡ term_in (tree_data v) = sym (ap (option_map term_view) c.in-Some-2.is) ∙ c.in_ok-part.ensures in
     record {
-      read = found_next (λ v. term_in (view v)) (λ vs. together (parts_of (items_view vs))) (λ v vs. refl) (map term_view l.parts.items)
+      read = found_next (λ v. term_in (tree_data v)) (λ vs. together (parts_of (list_data vs))) (λ v vs. refl) (map term_view l.parts.items)
           (into_iter_items l.item-iterator) rest v _ steps l.invariant.read (map term_view c.push.new.self.items) (term_view c.in-Some-2.part) found
           (ap (map term_view) c.in_ok-push.ensures.items ∙ map-append term_view l.parts.items (c.in-Some-2.part ∷ []));
       low = (
-          let less : items_depth (items_view rest) ≤ items_depth (items_view (into_iter_items l.item-iterator)) = rw steps (rest_within v rest) in
+          let less : items_depth (list_data rest) ≤ items_depth (list_data (into_iter_items l.item-iterator)) = rw steps (rest_within v rest) in
           let was = l.invariant.low in
           omega arith);
       count = (
@@ -170,7 +166,7 @@ all-items-preserved t c =
     }
 
 pub all-returns-in_default : goal.all-returns-in_default
-all-returns-in_default t c = no_list _ (parts_in (view c.args.argument)) c.in_default.ensures
+all-returns-in_default t c = no_list _ (parts_in (tree_data c.args.argument)) c.in_default.ensures
 
 pub all-returns-in_default-2 : goal.all-returns-in_default-2
 all-returns-in_default-2 t c =
@@ -179,15 +175,15 @@ all-returns-in_default-2 t c =
     let rest = into_iter_items c.next.new.self in
     let steps : into_iter_items l.item-iterator ≡ v ∷ rest = c.in-Some-item.ensures.steps.0 in
     let given : into_iter_items c.into_iter-item-iterator.result ≡ c.in-Some.items.items = c.into_iter-item-iterator.ensures.into_iter_gives.0 in
-    let list : Some (items_view c.in-Some.items.items) ≡ as_array (view c.args.argument) = search rules in
-    let none : None ≡ term_in (view v) = sym (ap (option_map term_view) c.in_default-2.is) ∙ c.in_ok-part.ensures in
-    all_unread _ c.in-Some.items.items list (rw given at (found_none (λ v. term_in (view v)) (λ vs. together (parts_of (items_view vs))) (λ v vs. refl)
+    let list : Some (list_data c.in-Some.items.items) ≡ as_array (tree_data c.args.argument) = search rules in
+    let none : None ≡ term_in (tree_data v) = sym (ap (option_map term_view) c.in_default-2.is) ∙ c.in_ok-part.ensures in
+    all_unread _ c.in-Some.items.items list (rw given at (found_none (λ v. term_in (tree_data v)) (λ vs. together (parts_of (list_data vs))) (λ v vs. refl)
     (map term_view l.parts.items) (into_iter_items l.item-iterator) rest v _ steps l.invariant.read none))
 
 pub all-returns : goal.all-returns
 all-returns t c =
     let l = c.items in
     let given : into_iter_items c.into_iter-item-iterator.result ≡ c.in-Some.items.items = c.into_iter-item-iterator.ensures.into_iter_gives.0 in
-    let list : Some (items_view c.in-Some.items.items) ≡ as_array (view c.args.argument) = search rules in
+    let list : Some (list_data c.in-Some.items.items) ≡ as_array (tree_data c.args.argument) = search rules in
     all_read _ c.in-Some.items.items l.parts (into_iter_items l.item-iterator) list (sym l.invariant.count ∙ c.in-None.ensures.steps.0)
     (rw given at l.invariant.read)

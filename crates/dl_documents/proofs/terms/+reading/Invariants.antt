@@ -2,36 +2,36 @@
 use Rattle.std.proofs.Common.{◌≡◌, ◌≤◌, ◌+◌, ◌*◌, ◌++◌, length, map, option_map}
 use Rattle.std.specs.Vec.Iter.{into_iter_items, into_iter_len}
 use Rattle.serde_json.specs.Data.{depth, items_depth}
-use Rattle.serde_json.specs.View.{view, items_view}
 use Rattle.dl_terms.specs.View.{term_view}
+use Rattle.dl_documents.specs.Inside.Trees.{tree_data, list_data}
 use Rattle.dl_documents.specs.TermReading.{together, parts_of}
 use Rattle.dl_documents.proofs.terms.+reading.Given as goal
 
 abbrev pub decreases-read_term : goal.decreases-read_term
-decreases-read_term l = 4 * depth (view l.value)
+decreases-read_term l = 4 * depth (tree_data l.tree)
 
 abbrev pub decreases-named : goal.decreases-named
-decreases-named l = 4 * depth (view l.argument) + 3
+decreases-named l = 4 * depth (tree_data l.argument) + 3
 
 abbrev pub decreases-pick : goal.decreases-pick
-decreases-pick l = 4 * depth (view l.argument) + 2
+decreases-pick l = 4 * depth (tree_data l.argument) + 2
 
 abbrev pub decreases-follow : goal.decreases-follow
-decreases-follow l = 4 * depth (view l.argument) + 2
+decreases-follow l = 4 * depth (tree_data l.argument) + 2
 
 abbrev pub decreases-each : goal.decreases-each
-decreases-each l = 4 * depth (view l.argument) + 2
+decreases-each l = 4 * depth (tree_data l.argument) + 2
 
 abbrev pub decreases-all : goal.decreases-all
-decreases-all l = 4 * depth (view l.argument) + 2
+decreases-all l = 4 * depth (tree_data l.argument) + 2
 
 abbrev pub decreases-read_part : goal.decreases-read_part
-decreases-read_part l = 4 * depth (view l.value) + 1
+decreases-read_part l = 4 * depth (tree_data l.tree) + 1
 
 abbrev pub invariant-all-items : goal.invariant-all-items
 invariant-all-items l = record {
-  read : option_map (λ ts. map term_view l.parts.items ++ ts) (together (parts_of (items_view (into_iter_items l.item-iterator))))
-      ≡ together (parts_of (items_view (into_iter_items l.initial.item-iterator)));
-  low : items_depth (items_view (into_iter_items l.item-iterator)) ≤ items_depth (items_view (into_iter_items l.initial.item-iterator));
+  read : option_map (λ ts. map term_view l.parts.items ++ ts) (together (parts_of (list_data (into_iter_items l.item-iterator))))
+      ≡ together (parts_of (list_data (into_iter_items l.initial.item-iterator)));
+  low : items_depth (list_data (into_iter_items l.item-iterator)) ≤ items_depth (list_data (into_iter_items l.initial.item-iterator));
   count : into_iter_len l.item-iterator ≡ length (into_iter_items l.item-iterator);
 }
