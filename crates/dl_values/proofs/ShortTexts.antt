@@ -1,12 +1,15 @@
 -- Short texts in their blocks, and the words that a hash reads of them.
 use Rattle.std.proofs.Common.{◌≡◌, ◌∙◌, sym, ap, ℕ, zero, suc, ◌+◌, ◌-◌, ◌*◌, ◌/◌, ◌<◌, ◌≤◌, false, true, List, [], ◌∷◌, ◌++◌, length, take, drop, set, refl, arith}
-use Rattle.std.proofs.Common.{append_assoc, length-append, length-take, take_at, drop_at, take-add}
-use Rattle.std.specs.Prelude.{replicate, nat_lt}
+use Rattle.std.proofs.Common.{append_assoc, length-append, length-take, length-drop, take_at, drop_at, take-add}
+use Rattle.std.specs.Prelude.{Bool, ◌&&◌, get_or, nat_eq, replicate, nat_lt}
+use Rattle.std.specs.Int.{w64, from_le_bytes, to_le_bytes}
+use Rattle.std.proofs.Math.Bool.{and_assoc}
+use Rattle.std.proofs.lemmas.Nat.{le_bytes_8}
 use Rattle.std.specs.Str.{IsUtf8, bytes_eq}
 use Rattle.std.proofs.lemmas.Bool.{le-ltb, lt-ltb}
-use Rattle.std.proofs.lemmas.Bool.Decides.{same_from_decides}
+use Rattle.std.proofs.lemmas.Bool.Decides.{same_from_decides, Decides-eqb}
 use Rattle.std.proofs.lemmas.Slice.Eq.{bytes_eq-Decides}
-use Rattle.std.proofs.lemmas.List.{set_at, length-replicate, take-replicate, drop-replicate}
+use Rattle.std.proofs.lemmas.List.{set_at, length-replicate, take-replicate, drop-replicate, drop-drop, take_all}
 use borrow.Rule.Slice.PartMut.{put_mid}
 use Rattle.dl_values.specs.KeyTexts.{short_bytes}
 use Rattle.dl_values.specs.Inside.HashedText.{filled, word_end}
@@ -84,6 +87,42 @@ words_are bytes len is =
     ∙ ap (λ (n : ℕ). filled (8 * (n / 8) + 8) (take len bytes)) (sym long))
 
 -- ---- blocks that are equal
+
+-- eight bytes are compared as numbers
+pub same_word : (a b : List ℕ) → length a ≡ 8 → length b ≡ 8 → ((i : ℕ) → get_or a i 0 < 256) → ((i : ℕ) → get_or b i 0 < 256)
+    → nat_eq (from_le_bytes w64 a) (from_le_bytes w64 b) ≡ bytes_eq a b
+same_word a b first second first_bytes second_bytes =
+    let numbers = Decides-eqb (from_le_bytes w64 a) (from_le_bytes w64 b) in
+    same_from_decides (nat_eq (from_le_bytes w64 a) (from_le_bytes w64 b)) (bytes_eq a b) (
+      λ e. sym (le_bytes_8 a _ first first_bytes refl) ∙ (ap (to_le_bytes w64) (numbers.0 e) ∙ le_bytes_8 b _ second second_bytes refl),
+      λ e. numbers.1 (ap (from_le_bytes w64) e),
+    )
+    (bytes_eq-Decides a b)
+
+-- lists are equal if their fronts are, and what follows
+cut : (n : ℕ) (a b : List ℕ) → bytes_eq a b ≡ (bytes_eq (take n a) (take n b) && bytes_eq (drop n a) (drop n b))
+cut zero a b = refl
+cut (suc n) [] [] = refl
+cut (suc n) [] (y ∷ ys) = refl
+cut (suc n) (x ∷ xs) [] = refl
+cut (suc n) (x ∷ xs) (y ∷ ys) = ap (λ (rest : Bool). nat_eq x y && rest) (cut n xs ys)
+    ∙ sym (and_assoc (nat_eq x y) (bytes_eq (take n xs) (take n ys)) (bytes_eq (drop n xs) (drop n ys)))
+
+-- the same from a place on
+cut_at : (at : ℕ) (a b : List ℕ) → bytes_eq (drop at a) (drop at b)
+    ≡ (bytes_eq (take 8 (drop at a)) (take 8 (drop at b)) && bytes_eq (drop (at + 8) a) (drop (at + 8) b))
+cut_at at a b = cut 8 (drop at a) (drop at b)
+    ∙ ap (λ (rest : Bool). bytes_eq (take 8 (drop at a)) (take 8 (drop at b)) && rest) (λ i. bytes_eq (drop-drop 8 at a i) (drop-drop 8 at b i))
+
+-- the last word of a block is all that is left of it
+last_word : (a : List ℕ) → length a ≡ block_bytes → drop 32 a ≡ take 8 (drop 32 a)
+last_word a long = sym (take_all 8 (drop 32 a) (omega (arith, length-drop 32 a)))
+
+-- blocks are equal if their five words are
+pub same_words : (a b : List ℕ) → length a ≡ block_bytes → length b ≡ block_bytes
+    → (bytes_eq (take 8 a) (take 8 b) && bytes_eq (take 8 (drop 8 a)) (take 8 (drop 8 b)) && bytes_eq (take 8 (drop 16 a)) (take 8 (drop 16 b))
+    && bytes_eq (take 8 (drop 24 a)) (take 8 (drop 24 b)) && bytes_eq (take 8 (drop 32 a)) (take 8 (drop 32 b))) ≡ bytes_eq a b
+same_words a b first second = rw (← last_word a first, ← last_word b second, cut 8 a b, cut_at 8 a b, cut_at 16 a b, cut_at 24 a b) (simp and_assoc)
 
 -- among zeros there is no byte that stands behind a text
 no_end : (n : ℕ) (text rest : List ℕ) → replicate n 0 ≡ text ++ (255 ∷ rest) → ⊥

@@ -40,6 +40,14 @@ impl JoinedText {
             JoinedText::Long(text) => text.as_str().as_bytes(),
         }
     }
+
+    /// Whether the texts are the same, wherever they stand.
+    #[cold]
+    fn is_same(&self, other: &JoinedText) -> bool
+        ensures { result ≡ bytes_eq (bytes_of self.now) (bytes_of other.now) }
+    {
+        self.as_str() == other.as_str()
+    }
 }
 
 /// Two short texts are compared by their blocks.
@@ -52,7 +60,7 @@ impl PartialEq for JoinedText {
     fn eq(&self, other: &JoinedText) -> bool {
         match (self, other) {
             (JoinedText::Short(text), JoinedText::Short(other)) => text.eq(other),
-            _ => self.as_str() == other.as_str(),
+            _ => self.is_same(other),
         }
     }
 }

@@ -1,6 +1,7 @@
 //! Texts that stand in their own value.
 
 ghost use Rattle.std.specs.Prelude.{◌≡◌, ◌+◌, ◌<◌, ◌≤◌, ◌↔◌, ◌∷◌, ◌++◌, length, IfSome, IfNone, IsTrue};
+ghost use Rattle.std.specs.Int.{w64, from_le_bytes};
 ghost use Rattle.std.specs.Str.{IsUtf8, IsCharBoundary, bytes_eq};
 ghost use Rattle.std.specs.Cmp.Rules.{comparing};
 ghost use Rattle.std.proofs.Common.{rules};
@@ -96,8 +97,41 @@ impl PartialEq for ShortText {
 
     #[inline(always)]
     fn eq(&self, other: &ShortText) -> bool {
-        self.bytes == other.bytes
+        is_same_block(&self.bytes, &other.bytes)
     }
+}
+
+/// Whether two blocks have the same bytes. Each is five words of eight.
+#[inline(always)]
+fn is_same_block(a: &[u8; BLOCK_BYTES], b: &[u8; BLOCK_BYTES]) -> bool
+    ensures { result ≡ bytes_eq a.now b.now }
+{
+    is_same_word(&a[..8], &b[..8])
+        & is_same_word(&a[8..16], &b[8..16])
+        & is_same_word(&a[16..24], &b[16..24])
+        & is_same_word(&a[24..32], &b[24..32])
+        & is_same_word(&a[32..], &b[32..])
+}
+
+/// Whether eight bytes are eight others, compared as numbers.
+#[inline(always)]
+fn is_same_word(a: &[u8], b: &[u8]) -> bool
+    requires first { length a.now ≡ 8 }
+    requires second { length b.now ≡ 8 }
+    ensures { result ≡ bytes_eq a.now b.now }
+{
+    word_of(a) == word_of(b)
+}
+
+/// Eight bytes as a number.
+#[inline(always)]
+fn word_of(bytes: &[u8]) -> u64
+    requires { length bytes.now ≡ 8 }
+    ensures { result ≡ from_le_bytes w64 bytes.now }
+{
+    u64::from_le_bytes([
+        bytes[0], bytes[1], bytes[2], bytes[3], bytes[4], bytes[5], bytes[6], bytes[7],
+    ])
 }
 
 /// The bytes in which a mark and two pieces stand, one right after the other.

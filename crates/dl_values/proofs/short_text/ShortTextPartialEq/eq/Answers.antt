@@ -5,4 +5,4 @@ use Rattle.dl_values.proofs.short_text.ShortTextPartialEq.eq.Goals as goal
 
 pub returns : goal.returns
 returns c = rw (← c.self.view_is, ← c.other.view_is)
-    (c.eq.ensures ∙ same_blocks c.self.inside.bytes c.other.inside.bytes c.self.inside.len c.other.inside.len c.self.invariant c.other.invariant)
+    (c.is_same_block.ensures ∙ same_blocks c.self.inside.bytes c.other.inside.bytes c.self.inside.len c.other.inside.len c.self.invariant c.other.invariant)
