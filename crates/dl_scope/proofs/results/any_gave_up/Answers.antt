@@ -1,8 +1,17 @@
-use Rattle.std.proofs.Common.{sym, subst, take, arith}
+use Rattle.std.proofs.Common.{sym, subst, refl, take, length, arith}
 use Rattle.std.proofs.lemmas.List.{take_all}
 use Rattle.std.proofs.lemmas.List.Elements.{All-more, All-same}
+use Rattle.std.proofs.lemmas.Option.{slice_get_read}
 use Rattle.dl_scope.specs.Inside.Results.{IsDone}
+use Rattle.dl_scope.proofs.PlanFaults.{gave_up_at}
 use Rattle.dl_scope.proofs.results.any_gave_up.Goals as goal
+
+pub returns-in-GaveUp : goal.returns-in-GaveUp
+returns-in-GaveUp g c =
+    let workers = c.args.workers.now in
+    let n = c.loop-run.run-index in
+    let run = c.run-item.result in
+    gave_up_at workers n run c.in-GaveUp.batch (slice_get_read workers (length workers) n run refl c.loop-run-test.true c.run-item.is) c.in-GaveUp.is
 
 pub loop-run-preserved : goal.loop-run-preserved
 loop-run-preserved g c =
