@@ -76,20 +76,6 @@ mutual
       sym (after k ms found (put k (data_of j) found) (any_before ms) (of_json j)) ∙ e in
       rw (fitting_data j (left _ _ all)) (fitting_members ms (put k (data_of j) found) (right _ _ all))
 
-abbrev the_value : {A : Type 0} → A → Option A → A
-the_value a None = a
-the_value a (Some b) = b
-
--- the data that a tree is read as
-pub read_data : (j : json.Json) (d : Data) → of_json j ≡ Some d → data_of j ≡ d
-read_data j d e = ap (the_value d) (sym (fitting_data j (ap is_some e)) ∙ e)
-
-pub read_items : (js : json.Items) (ds : Items) → of_items js ≡ Some ds → items_data js ≡ ds
-read_items js ds e = ap (the_value ds) (sym (fitting_items js (ap is_some e)) ∙ e)
-
-pub read_members : (ms : json.Members) (found ds : Members) → of_members ms found ≡ Some ds → members_data ms found ≡ ds
-read_members ms found ds e = ap (the_value ds) (sym (fitting_members ms found (ap is_some e)) ∙ e)
-
 -- ---- lists that grow at their end
 
 -- one more item after those of a list

@@ -1,8 +1,8 @@
 -- A document is of one version.
-use Rattle.std.proofs.Common.{◌≡◌, ◌∙◌, refl, sym, ap, arith, ℕ, ℤ, pos, negsuc, Some}
+use Rattle.std.proofs.Common.{◌≡◌, ◌∙◌, refl, sym, ap, arith, ℕ, ℤ, pos, negsuc}
 use Rattle.std.proofs.lemmas.Option.{same_Some}
 use Rattle.serde_json.specs.Data.{Data}
-use Rattle.dl_documents.specs.Document.{version_number, IsOfVersion, IsOfNoVersion}
+use Rattle.dl_documents.specs.Document.{IsOfVersion}
 use Rattle.dl_documents.specs.declared.head.Version.{Version}
 use Rattle.dl_documents.specs.declared.head.Version.TheVariants.{First, Second}
 
@@ -18,8 +18,3 @@ one_version d First First a b = refl
 one_version d Second Second a b = refl
 one_version d First Second a b = absurd (one_is_not_two (same_Some (pos 1) (pos 2) (sym a ∙ b)))
 one_version d Second First a b = absurd (one_is_not_two (same_Some (pos 1) (pos 2) (sym b ∙ a)))
-
--- where the number is neither 1 nor 2
-pub no_version : (d : Data) → (version_number d ≡ Some (pos 1) → ⊥) → (version_number d ≡ Some (pos 2) → ⊥) → IsOfNoVersion d
-no_version d first second First is = first is
-no_version d first second Second is = second is
