@@ -18,6 +18,5 @@ pub use fetch::fetch_job;
 pub use fetched::Fetched;
 pub use source::Source;
 pub use table_number::TableNumber;
-pub use table_reader::{TEXT_BYTES, whole_number};
+pub use table_reader::TEXT_BYTES;
 pub use tables::{Finding, Tables};
-pub use tree::{into_items, into_members, into_text, take_member};

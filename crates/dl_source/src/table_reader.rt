@@ -108,7 +108,7 @@ fn read_optional_number(number: Option<Value>) -> Result<Option<i128>, TableFaul
 }
 
 /// The value as a whole number, if it is one: one that an `i64` or a `u64` holds.
-pub fn whole_number(value: &Value) -> Option<i128>
+fn whole_number(value: &Value) -> Option<i128>
     ensures { result ≡ whole (view value.now) }
 {
     value.as_number()?.as_i128()

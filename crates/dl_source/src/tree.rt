@@ -7,7 +7,7 @@ ghost use Rattle.serde_json.specs.View.{view, items_view, members_view};
 use serde_json::{Map, Value};
 
 /// The items of a list.
-pub fn into_items(value: Value) -> Option<Vec<Value>>
+pub(crate) fn into_items(value: Value) -> Option<Vec<Value>>
     ensures { option_map (λ v. items_view v.items) result ≡ as_array (view value) }
 {
     match value {
@@ -17,7 +17,7 @@ pub fn into_items(value: Value) -> Option<Vec<Value>>
 }
 
 /// The members of an object.
-pub fn into_members(value: Value) -> Option<Map<String, Value>>
+pub(crate) fn into_members(value: Value) -> Option<Map<String, Value>>
     ensures { option_map (λ m. members_view m.entries) result ≡ as_object (view value) }
 {
     match value {
@@ -27,7 +27,7 @@ pub fn into_members(value: Value) -> Option<Map<String, Value>>
 }
 
 /// The text that a value is.
-pub fn into_text(value: Value) -> Option<String>
+pub(crate) fn into_text(value: Value) -> Option<String>
     ensures { option_map string_bytes result ≡ as_str (view value) }
 {
     match value {
@@ -37,7 +37,7 @@ pub fn into_text(value: Value) -> Option<String>
 }
 
 /// Takes the member of this name out of an object, if it is there.
-pub fn take_member(members: &mut Map<String, Value>, name: &str) -> Option<Value>
+pub(crate) fn take_member(members: &mut Map<String, Value>, name: &str) -> Option<Value>
     ensures taken { option_map view result ≡ get_member name.now (members_view members.old.entries) }
     ensures others { (other : List ℕ) → bytes_eq other name.now ≡ false
         → get_member other (members_view members.new.entries) ≡ get_member other (members_view members.old.entries) }

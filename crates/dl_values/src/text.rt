@@ -43,13 +43,6 @@ impl Text {
         Ok(Text { text })
     }
 
-    /// The text itself, which is not copied.
-    pub fn from_string(text: String) -> Text
-        ensures { result ≡ string_bytes text }
-    {
-        Text { text }
-    }
-
     /// The character of an ASCII code, right after it a text, and after that another. The error is a failed allocation.
     pub fn marked(alloc: Global, mark: u8, first: &str, second: &str) -> Result<Text, AllocError>
         requires { mark < 128 }
