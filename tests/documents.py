@@ -1005,6 +1005,39 @@ ROWS["in version 2 a table may have a number"] = [
 
 # ---- both kinds
 
+# Where a name stands twice in one object, the last member counts.
+ROWS["of a name that stands twice the last counts"] = [
+    answered(
+        "in a script, and in a call",
+        '{"script":2,"calls":5,"maxBatchSize":0,"script":1,"calls":[{"load":5,"load":["t","a"]},{"dispatch":true}],"maxBatchSize":2}',
+        "fresh 0 0",
+        "sent 1",
+        'job 0 ["t","a"]',
+    ),
+    answered(
+        "in a plan file, in a table, in a row and in a term",
+        '{"version":2,"tables":5,"plans":[],"version":1,"tables":[{"name":"t","rows":5,"name":"u","rows":[["a",{"x":1,"y":2,"x":3}]]}],'
+        '"plans":[[{"eval":5,"eval":{"load":5,"load":["u","a"]}}]]}',
+        '0 0 ok {"x":3,"y":2}',
+        command_lines=PLAIN,
+    ),
+    refused("version", '{"script":1,"calls":[],"script":3}'),
+    refused("top", '{"script":1,"calls":[],"calls":5}'),
+    refused("call 0", '{"script":1,"calls":[{"load":["t","a"],"load":5}]}'),
+    refused("call 0", '{"script":1,"calls":[{"load":["t","a"],"clear":["t","a"],"load":["t","b"]}]}'),
+    refused("plan 0 step 0", TERM, '{"load":["t","a"],"load":5}}]]}'),
+    refused("table Shape", '{"version":1,"tables":[{"name":"t","rows":[],"rows":5}],"plans":[[]]}'),
+]
+
+# A number that a float can't hold stands nowhere in JSON as it is read here, not even under a name that counts for nothing.
+ROWS["a number out of range is no JSON"] = [
+    refused("not json", '{"script":1,"calls":[],"maxCells":1e999}'),
+    refused("not json", '{"script":3,"calls":[{"load":1e999}]}'),
+    refused("not json", '{"version":1,"tables":[{"name":"t","rows":[["a",-1e999],["a",0]]}],"plans":[[]]}'),
+    refused("not json", '{"version":1,"tables":[],"plans":[[]],"x":1e999,"x":0}'),
+    refused("plan 0 step 0", TERM, '{"value":1e308}}]]}'),
+]
+
 ROWS["a refusal tells the place"] = [
     refused("call 10", '{"script":1,"calls":[', (STEP, 10), "5]}", about="an eleventh call that is none"),
     refused("plan 1 step 255", PLAN, "],[", (STEP, 255), "5]]}", about="a last step that is none, of the second plan"),
