@@ -93,7 +93,7 @@ fn print_answers(rt: &impl Print, report: &Report) -> anyhow::Result<()> {
             match &given.answer {
                 Answer::Value(value) => println!(rt; "{request} {value}")?,
                 Answer::Fault(EvalFault::Key { key, text }) => {
-                    println!(rt; "{request} {}: {}", key.id(), text.as_str())?;
+                    println!(rt; "{request} {} {}: {}", key.table(), key.id(), text.as_str())?;
                 }
                 Answer::Fault(fault) => println!(rt; "{request} {fault:?}")?,
             }
