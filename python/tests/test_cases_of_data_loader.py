@@ -494,7 +494,7 @@ class ProvidesDescriptiveErrorMessagesForApiAbuse(unittest.IsolatedAsyncioTestCa
         async def batch_load_fn(keys):
             return []
 
-        with self.assertRaisesRegex(TypeError, "each of 1 keys, and not 0"):
+        with self.assertRaisesRegex(TypeError, "asked for 1 and answered 0"):
             await DataLoader(batch_load_fn).load(1)
 
     async def test_cache_should_have_get_set_delete_and_clear_methods(self):

@@ -244,7 +244,7 @@ class Outcomes(unittest.IsolatedAsyncioTestCase):
 
     async def test_an_answer_of_another_length_fails_the_batch(self):
         for answer in ([], [1, 2], (), (1, 2), range(3)):
-            with self.assertRaisesRegex(TypeError, f"each of 1 keys, and not {len(answer)}"):
+            with self.assertRaisesRegex(TypeError, f"asked for 1 and answered {len(answer)}"):
                 await DataLoader(answers(answer)).load("a")
 
     async def test_what_is_no_list_of_values_is_refused_by_its_type(self):

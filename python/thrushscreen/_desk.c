@@ -1127,8 +1127,9 @@ static PyObject *batch_values(Desk *self, uint32_t batch, PyObject *answer)
     }
     values = PySequence_Tuple(answer);
     if (values != NULL && PyTuple_GET_SIZE(values) != count) {
-        PyErr_Format(PyExc_TypeError, "a batch function answers a value for each of %zd keys, and not %zd", count,
-                     PyTuple_GET_SIZE(values));
+        PyErr_Format(PyExc_TypeError,
+                     "a batch function answers a value for each of its keys; this one was asked for %zd and answered %zd",
+                     count, PyTuple_GET_SIZE(values));
         Py_CLEAR(values);
     }
     return values;

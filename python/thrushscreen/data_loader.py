@@ -305,14 +305,14 @@ _NEXT_TURN = _Turn()
 def _check_fetching(fetching: object) -> None:
     """Refuses what can't be awaited."""
     if not isawaitable(fetching):
-        raise TypeError(f"a batch function is an async def, whose call gives an awaitable, and not {type(fetching).__name__}")
+        raise TypeError(f"a batch function is an async def, or gives another awaitable; this one gave {type(fetching).__name__}")
 
 
 def _check_answer(answer: object) -> None:
     """Refuses what is no sequence, or one of something else than values."""
     is_sequence = hasattr(answer, "__len__") and hasattr(answer, "__getitem__") and not hasattr(answer, "keys")
     if not is_sequence or isinstance(answer, (str, bytes, bytearray, memoryview)):
-        raise TypeError(f"a batch function answers a list of values, and not {type(answer).__name__}")
+        raise TypeError(f"a batch function answers a list of values; this one answered {type(answer).__name__}")
 
 
 def _check_type(option: str, given: object, wanted: type) -> None:
