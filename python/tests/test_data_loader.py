@@ -272,7 +272,7 @@ class Outcomes(unittest.IsolatedAsyncioTestCase):
             yield "a"
 
         for function in (lambda keys: None, lambda keys: ["a"], yields):
-            wanted = f"async def, .* and not {type(function([])).__name__}$"
+            wanted = f"async def, .* this one gave {type(function([])).__name__}$"
             with self.assertRaisesRegex(TypeError, wanted):
                 await DataLoader(function).load("a")
 
