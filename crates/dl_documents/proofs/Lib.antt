@@ -2,6 +2,9 @@ pub mod ObjectMembers
 pub mod TreeLists
 pub mod Trees
 pub mod TreeData
+pub mod TokenReading
+pub mod PutLaws
+pub mod TopMembers
 pub mod Findings
 pub mod KeyLaws
 pub mod CallLaws

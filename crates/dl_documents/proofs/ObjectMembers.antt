@@ -1,14 +1,14 @@
 -- The members of an object, beside the list that its text has of them: a name may stand twice in it, and the last counts.
-use Rattle.std.proofs.Common.{◌≡◌, ◌∙◌, refl, sym, ap, ℕ, zero, suc, List, take, drop, [], ◌∷◌, ◌++◌, Bool, true, false, ◌&&◌, cond, bytes_eq, nat_cmp, true≢false}
+use Rattle.std.proofs.Common.{◌≡◌, ◌∙◌, refl, sym, ap, ℕ, List, [], ◌∷◌, ◌++◌, get_or, Bool, true, false, ◌&&◌, cond, bytes_eq, nat_cmp, true≢false}
 use Rattle.std.proofs.Common.{Option, Some, None, option_map, Ordering, Less, Equal, Greater, is_eq}
 use Rattle.std.proofs.lemmas.Cmp.{nat_list_cmp_total, tied_itself}
 use Rattle.std.proofs.lemmas.List.Folds.{list_all-append}
 use Rattle.std.proofs.lemmas.Map.Text.{is_eq-slice_cmp}
-use Rattle.std.proofs.lemmas.Option.{none-some, same_Some}
+use Rattle.std.proofs.lemmas.Option.{get_or_from_slice_get}
 use Rattle.std.proofs.lemmas.Slice.Eq.{bytes_eq-Decides}
 use Rattle.std.specs.Borrow.{Bor}
 use Rattle.std.specs.Cmp.Lexicographic.{slice_cmp}
-use Rattle.std.specs.List.{list_all, slice_get}
+use Rattle.std.specs.List.{list_all}
 use Rattle.std.specs.Option.{option_or}
 use Rattle.std.specs.Ordering.{match_ordering}
 use Rattle.std.specs.declared.alloc.Global.{Global}
@@ -102,18 +102,11 @@ pub found_before : (name : List ℕ) (xs : List Member) (m : Member) → bytes_e
 found_before name xs m is =
     ap (get_member name) (data_last xs m) ∙ get-put_at false name m.0.now (tree_data m.1) (object_data xs) is
 
--- without a member the other names are found as before
-pub others_stay : (other : List ℕ) (xs ys : List Member) (m : Member) → bytes_eq m.0.now other ≡ false
-    → get_member other (object_data (xs ++ ys)) ≡ get_member other (object_data (xs ++ m ∷ ys))
-others_stay other xs ys m differ =
-    let before = object_data xs in
-    let same : get_member other (put m.0.now (tree_data m.1) before) ≡ get_member other before =
-    get-put_at false other m.0.now (tree_data m.1) before differ in
-    ap (get_member other) (data-append xs ys no_members)
-    ∙ get-members_data other (members_view ys) before
-    ∙ ap (option_or (option_map data_of (text.get_member other (members_view ys)))) (sym same)
-    ∙ sym (get-members_data other (members_view ys) (put m.0.now (tree_data m.1) before))
-    ∙ ap (get_member other) (sym (data-append xs (m ∷ ys) no_members))
+-- the value of the member at a name's place
+pub value_there : (name : List ℕ) (ms : List Member) (place : ℕ) (m : Member) → IsPlaceOf name ms place → m ≡ get_or ms place m
+    → get_member name (object_data ms) ≡ Some (tree_data m.1)
+value_there name ms place m at is =
+    at.value ∙ ap (λ (x : Member). Some (tree_data x.1)) (sym (get_or_from_slice_get ms place at.member m at.there) ∙ sym is)
 
 -- ---- tests of the names
 
@@ -149,7 +142,7 @@ names_all-put_at Equal test k l d e ms is later =
     rw same (and_twice (test l) (names_all test ms))
 names_all-put_at Greater test k l d e ms is later = ap (λ b. test l && b) later ∙ and_swap (test l) (test k) (names_all test ms)
 
-names_all-put : (test : List ℕ → Bool) (k : List ℕ) (d : Data) (ms : Members) → names_all test (put k d ms) ≡ (test k && names_all test ms)
+pub names_all-put : (test : List ℕ → Bool) (k : List ℕ) (d : Data) (ms : Members) → names_all test (put k d ms) ≡ (test k && names_all test ms)
 names_all-put test k d no_members = refl
 names_all-put test k d (member l e ms) = names_all-put_at _ test k l d e ms refl (names_all-put test k d ms)
 
@@ -215,26 +208,3 @@ one_named (member k d (member l e ms)) xs m sees other = refl
 -- where a member has another name than the last, there is no one member
 pub no_one : (xs : List Member) (m : Member) → all_named m.0.now xs ≡ false → one_of (object_data (xs ++ m ∷ [])) ≡ None
 no_one xs m other = one_named (object_data (xs ++ m ∷ [])) xs m (λ test. names_all-object_data test (xs ++ m ∷ [])) other
-
--- ---- a member that is taken out
-
--- a member with what stands before and after it
-cut_at : (ms : List Member) (i : ℕ) (m : Member) → slice_get ms i ≡ Some m → take i ms ++ m ∷ drop (suc i) ms ≡ ms
-cut_at [] i m there = absurd (none-some m there)
-cut_at (x ∷ ms) zero m there = ap (λ (y : Member). y ∷ ms) (sym (same_Some x m there))
-cut_at (x ∷ ms) (suc i) m there = ap (λ (ys : List Member). x ∷ ys) (cut_at ms i m there)
-
-differs : (k name other : List ℕ) (b : Bool) → k ≡ name → bytes_eq other name ≡ false → bytes_eq k other ≡ b → b ≡ false
-differs k name other false is apart e = refl
-differs k name other true is apart e =
-    let same : k ≡ other = (bytes_eq-Decides k other).0 e in
-    absurd (true≢false (sym ((bytes_eq-Decides other name).1 (sym same ∙ is)) ∙ apart))
-
--- the other names are found as before
-pub others_kept : (name other : List ℕ) (ms left : List Member) (place : ℕ) → IsPlaceOf name ms place → left ≡ take place ms ++ drop (suc place) ms
-    → bytes_eq other name ≡ false → get_member other (object_data left) ≡ get_member other (object_data ms)
-others_kept name other ms left place h is apart =
-    let other_name : bytes_eq h.member.0.now other ≡ false = differs h.member.0.now name other _ h.named apart refl in
-    ap (λ xs. get_member other (object_data xs)) is
-    ∙ others_stay other (take place ms) (drop (suc place) ms) h.member other_name
-    ∙ ap (λ xs. get_member other (object_data xs)) (cut_at ms place h.member h.there)

@@ -83,7 +83,8 @@ abbrev pub items_after : Items → Items → Items
 items_after no_items more = more
 items_after (item d ds) more = item d (items_after ds more)
 
-owned_push : (vs : List owned_value.Value) (v : owned_value.Value) → owned.items_view (vs ++ v ∷ []) ≡ items_after (owned.items_view vs) (item (owned.view v) no_items)
+-- an owned value after others
+pub owned_push : (vs : List owned_value.Value) (v : owned_value.Value) → owned.items_view (vs ++ v ∷ []) ≡ items_after (owned.items_view vs) (item (owned.view v) no_items)
 owned_push [] v = refl
 owned_push (w ∷ vs) v = ap (item (owned.view w)) (owned_push vs v)
 

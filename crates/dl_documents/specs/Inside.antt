@@ -4,4 +4,6 @@ pub mod Scripts
 pub mod OwnLimits
 pub mod PlanFiles
 pub mod Trees
+pub mod Tokens
+pub mod Top
 pub mod Members

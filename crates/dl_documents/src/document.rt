@@ -6,15 +6,15 @@ ghost use Rattle.serde_json.specs.View.{view};
 ghost use Rattle.dl_documents.specs.Document.{IsTextOf, Spells};
 ghost use Rattle.dl_documents.specs.Faults.{Applies, IsLeast, most_bytes};
 ghost use Rattle.dl_documents.specs.Inside.Results.{RefusedFor};
-ghost use Rattle.dl_documents.specs.Inside.Trees.{tree_data};
+ghost use Rattle.dl_documents.specs.Inside.Top.{top_data, IsApart};
 
 use crate::fault::PlanFault;
 use crate::head::{is_script, read_head};
 use crate::input::Input;
 use crate::plan_files::plan_file;
 use crate::scripts::script;
-use crate::tree::parse;
-use json::{Error, Scratch, Value};
+use crate::top::{Top, read_top};
+use json::Scratch;
 use std::alloc::Global;
 use std::hash::RandomState;
 
@@ -31,8 +31,8 @@ pub fn read_input(alloc: Global, hashing: RandomState, bytes: &[u8]) -> Result<I
     ensures err { IfErr result (λ f. (f ≡ PlanFault.OutOfMemory) ⊎ IsLeast (Applies bytes.now) f) }
 {
     let mut scratch = Scratch::new(alloc);
-    let document = tree(alloc, bytes, &mut scratch)?;
-    input(alloc, hashing, document)
+    let top = top(alloc, bytes, &mut scratch)?;
+    input(alloc, hashing, top)
 }
 
 /// The tree of a document, and what it says.
@@ -56,13 +56,10 @@ pub fn read_document(
     }
 }
 
-/// The tree that the bytes are the text of, unless they are too many.
-fn tree<'a>(
-    alloc: Global,
-    bytes: &'a [u8],
-    scratch: &'a mut Scratch,
-) -> Result<Value<'a>, PlanFault>
-    ensures ok { IfOk result (λ v. IsTextOf bytes.now (tree_data v)) }
+/// The top of the document that the bytes are the text of, unless they are too many.
+fn top<'a>(alloc: Global, bytes: &'a [u8], scratch: &'a mut Scratch) -> Result<Top<'a>, PlanFault>
+    ensures ok { IfOk result (λ t. IsTextOf bytes.now (top_data t)) }
+    ensures apart { IfOk result IsApart }
     ensures few { OnOk result (length bytes.now ≤ most_bytes) }
     ensures err { IfErr result (λ f. (f ≡ PlanFault.OutOfMemory) ⊎ IsLeast (Applies bytes.now) f) }
 {
@@ -72,24 +69,21 @@ fn tree<'a>(
     let Ok(text) = std::str::from_utf8(bytes) else {
         return Err(PlanFault::NotJson);
     };
-    match parse(alloc, text, scratch) {
-        Ok(tree) => Ok(tree),
-        Err(Error::Invalid) => Err(PlanFault::NotJson),
-        Err(_) => Err(PlanFault::OutOfMemory),
-    }
+    read_top(alloc, text, scratch)?.ok_or(PlanFault::Version)
 }
 
-/// What a document's tree says. It is taken apart, so that each part is let go once it is read. Only what lives on is copied.
-fn input(alloc: Global, hashing: RandomState, document: Value<'_>) -> Result<Input, PlanFault>
-    ensures ok { IfOk result (Spells (tree_data document.entry)) }
-    ensures err { IfErr result (RefusedFor (tree_data document.entry)) }
+/// What a document says. It is taken apart, so that each part is let go once it is read. Only what lives on is copied.
+fn input(alloc: Global, hashing: RandomState, top: Top<'_>) -> Result<Input, PlanFault>
+    requires { IsApart top }
+    ensures ok { IfOk result (Spells (top_data top.entry)) }
+    ensures err { IfErr result (RefusedFor (top_data top.entry)) }
 {
-    let head = read_head(&document)?;
-    if is_script(&document) {
-        let script = script(alloc, hashing, document, head)?;
+    let head = read_head(&top)?;
+    if is_script(&top) {
+        let script = script(alloc, hashing, top, head)?;
         Ok(Input::Script(script))
     } else {
-        let plans = plan_file(alloc, hashing, document, head)?;
+        let plans = plan_file(alloc, hashing, top, head)?;
         Ok(Input::Plans(plans))
     }
 }

@@ -1,10 +1,11 @@
 //! Why a document is refused.
 
 ghost use Rattle.std.specs.Prelude.{◌≡◌};
-ghost use Rattle.dl_documents.specs.declared.fault.PlanFault.TheVariants.{OutOfMemory};
+ghost use Rattle.dl_documents.specs.declared.fault.PlanFault.TheVariants.{NotJson, OutOfMemory};
 
 use dl_source::TableFault;
 use dl_values::LimitFault;
+use json::Invalid;
 use std::alloc::{AllocError, AllocFailed};
 use thiserror::Error;
 
@@ -47,6 +48,14 @@ pub enum PlanFault {
     /// An allocation failed.
     #[error("memory")]
     OutOfMemory,
+}
+
+impl From<Invalid> for PlanFault {
+    ghost from_gives = { λ _ f. f ≡ NotJson };
+
+    fn from(_error: Invalid) -> PlanFault {
+        PlanFault::NotJson
+    }
 }
 
 impl From<AllocError> for PlanFault {

@@ -5,12 +5,13 @@ ghost use Rattle.std.specs.List.{list_all};
 ghost use Rattle.dl_documents.specs.Document.{IsOfVersion, IsOfNoVersion, version_number, has_only_known, is_known, is_script_member, is_script};
 ghost use Rattle.dl_documents.specs.Faults.{Causes, IsLeast};
 ghost use Rattle.dl_documents.specs.Inside.Results.{HasHead};
-ghost use Rattle.dl_documents.specs.Inside.Trees.{tree_data};
+ghost use Rattle.dl_documents.specs.Inside.Top.{top_data};
 
 use crate::fault::PlanFault;
 use crate::limits::{self, Numbers};
 use crate::member::member;
-use crate::tree::{members, whole};
+use crate::top::Top;
+use crate::tree::whole;
 use json::Value;
 
 /// The version of a document. In the first a batch may mix tables. In the second each batch is of one table, and a table may
@@ -29,66 +30,61 @@ pub(crate) struct Head {
 }
 
 /// The head of a document, where it is of a version and its members are those of its kind and version.
-pub(crate) fn read_head(document: &Value<'_>) -> Result<Head, PlanFault>
-    ensures ok { IfOk result (HasHead (tree_data document.now)) }
-    ensures err { IfErr result (IsLeast (Causes (tree_data document.now))) }
+pub(crate) fn read_head(top: &Top<'_>) -> Result<Head, PlanFault>
+    ensures ok { IfOk result (HasHead (top_data top.now)) }
+    ensures err { IfErr result (IsLeast (Causes (top_data top.now))) }
 {
-    let Some(version) = version_of(document) else {
+    let Some(version) = version_of(top) else {
         return Err(PlanFault::Version);
     };
-    if !has_only_known(version, document) {
+    if !has_only_known(version, top) {
         return Err(PlanFault::Top);
     }
-    match limits::given(document) {
+    match limits::given(top) {
         Some(numbers) => Ok(Head { version, numbers }),
         None => Err(PlanFault::Top),
     }
 }
 
 /// Whether the document is a call script, and not a plan file.
-pub(crate) fn is_script(document: &Value<'_>) -> bool
-    ensures { result ≡ is_script (tree_data document.now) }
+pub(crate) fn is_script(top: &Top<'_>) -> bool
+    ensures { result ≡ is_script (top_data top.now) }
 {
-    member(document, "script").is_some()
+    member(top, "script").is_some()
 }
 
 /// The version of a document, if it is of one.
-fn version_of(document: &Value<'_>) -> Option<Version>
-    ensures { MatchOption result (IsOfNoVersion (tree_data document.now)) (IsOfVersion (tree_data document.now)) }
+fn version_of(top: &Top<'_>) -> Option<Version>
+    ensures { MatchOption result (IsOfNoVersion (top_data top.now)) (IsOfVersion (top_data top.now)) }
 {
-    if has_number(document, 1) {
+    if has_number(top, 1) {
         return Some(Version::First);
     }
-    if has_number(document, 2) {
+    if has_number(top, 2) {
         return Some(Version::Second);
     }
     None
 }
 
 /// Whether the number of the document's version is this one.
-fn has_number(document: &Value<'_>, number: i128) -> bool
-    ensures { IsTrue result ↔ (version_number (tree_data document.now) ≡ Some number) }
+fn has_number(top: &Top<'_>, number: i128) -> bool
+    ensures { IsTrue result ↔ (version_number (top_data top.now) ≡ Some number) }
 {
-    let name = if is_script(document) {
-        "script"
-    } else {
-        "version"
-    };
-    let given = member(document, name).and_then(|value| whole(value));
+    let name = if is_script(top) { "script" } else { "version" };
+    let given = member(top, name).and_then(|value| whole(value));
     given == Some(number)
 }
 
-/// Whether the document is an object, and each of its members is one of its kind and of the version.
-fn has_only_known(version: Version, document: &Value<'_>) -> bool
-    ensures { result ≡ has_only_known version (tree_data document.now) }
+/// Whether each of the document's members is one of its kind and of the version.
+fn has_only_known(version: Version, top: &Top<'_>) -> bool
+    ensures { result ≡ has_only_known version (top_data top.now) }
 {
-    match members(document) {
-        Some(members) => all_known(is_script(document), version, members),
-        None => false,
-    }
+    let is_script = is_script(top);
+    let knows_tables = top.tables.is_none() || is_known(is_script, version, "tables");
+    knows_tables && all_known(is_script, version, &top.members)
 }
 
-/// Whether each member is one of a script's, or of a plan file's.
+/// Whether each of these is the member of a script, or of a plan file.
 fn all_known(is_script: bool, version: Version, members: &[(&str, Value<'_>)]) -> bool
     ensures { result ≡ list_all (λ m. is_known is_script version m.0.now) members.now }
 {

@@ -9,12 +9,15 @@ mod head;
 mod input;
 mod limits;
 mod member;
+mod number;
+mod owned_value;
 mod plan_files;
 mod scripts;
 mod steps;
 mod table_limits;
 mod table_numbers;
 mod terms;
+mod top;
 mod tree;
 
 pub use dl_terms::MOST_PLANS;

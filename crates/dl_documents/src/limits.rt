@@ -1,16 +1,16 @@
 //! Reading the limits of a document.
 
-ghost use Rattle.std.specs.Prelude.{◌≡◌, pos, IfOk, IfErr, MatchOption};
+ghost use Rattle.std.specs.Prelude.{◌≡◌, pos, false, bytes_eq, codes, IfOk, IfErr, MatchOption};
 ghost use Rattle.dl_values.specs.Limits.{IsLimit, IsNoLimit};
 ghost use Rattle.dl_documents.specs.Document.{number_at};
 ghost use Rattle.dl_documents.specs.Faults.{IsOutside};
 ghost use Rattle.dl_documents.specs.Numbers.{AreGiven, LacksNumber, AreLimitsOf, IsFirstOutside};
-ghost use Rattle.dl_documents.specs.Inside.Trees.{tree_data};
+ghost use Rattle.dl_documents.specs.Inside.Top.{top_data};
 
 use crate::member::member;
+use crate::top::Top;
 use crate::tree::whole;
 use dl_values::{LARGEST_LIMIT, LimitFault, Limits};
-use json::Value;
 
 /// The whole numbers that a document gives for its limits.
 #[derive(Clone, Copy)]
@@ -21,12 +21,12 @@ pub(crate) struct Numbers {
 }
 
 /// The numbers of a document, if each is a whole number.
-pub(crate) fn given(document: &Value<'_>) -> Option<Numbers>
-    ensures { MatchOption result (LacksNumber (tree_data document.now)) (AreGiven (tree_data document.now)) }
+pub(crate) fn given(top: &Top<'_>) -> Option<Numbers>
+    ensures { MatchOption result (LacksNumber (top_data top.now)) (AreGiven (top_data top.now)) }
 {
-    let max_batch = number(document, "maxBatchSize")?;
-    let max_cells = number(document, "maxCells")?;
-    let max_calls = number(document, "maxCalls")?;
+    let max_batch = number(top, "maxBatchSize")?;
+    let max_cells = number(top, "maxCells")?;
+    let max_calls = number(top, "maxCalls")?;
     Some(Numbers {
         max_batch,
         max_cells,
@@ -50,10 +50,11 @@ pub(crate) fn limits(numbers: Numbers) -> Result<Limits, LimitFault>
 }
 
 /// The whole number of a member, and the largest limit where there is no such member.
-fn number(document: &Value<'_>, name: &str) -> Option<i128>
-    ensures { result ≡ number_at name.now (tree_data document.now) }
+fn number(top: &Top<'_>, name: &str) -> Option<i128>
+    requires { bytes_eq name.now (codes "tables") ≡ false }
+    ensures { result ≡ number_at name.now (top_data top.now) }
 {
-    match member(document, name) {
+    match member(top, name) {
         Some(value) => whole(value),
         None => Some(i128::from(LARGEST_LIMIT)),
     }

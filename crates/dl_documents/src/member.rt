@@ -1,21 +1,24 @@
 //! Members of JSON objects. Where a name stands more than once in an object, the last counts.
 
-ghost use Rattle.std.specs.Prelude.{◌≡◌, ℕ, List, None, false, bytes_eq, option_map, MatchOption};
+ghost use Rattle.std.specs.Prelude.{◌≡◌, None, false, bytes_eq, codes, option_map, option_and_then, MatchOption};
 ghost use Rattle.std.specs.List.{list_all};
-ghost use Rattle.serde_json.specs.Find.{get, get_member};
-ghost use Rattle.dl_documents.specs.Document.{items_at};
+ghost use Rattle.serde_json.specs.Find.{get, get_member, as_array};
 ghost use Rattle.dl_documents.specs.Reading.{one_in};
+ghost use Rattle.dl_documents.specs.Inside.Top.{top_data};
 ghost use Rattle.dl_documents.specs.Inside.Trees.{tree_data, list_data, object_data};
 ghost use Rattle.dl_documents.specs.Inside.Members.{IsPlaceOf};
 
+use crate::top::Top;
 use crate::tree::{into_items, into_members};
 use json::Value;
 
-/// The value of a member.
-pub(crate) fn member<'v, 'a>(tree: &'v Value<'a>, name: &str) -> Option<&'v Value<'a>>
-    ensures { option_map (λ v. tree_data v.now) result ≡ get name.now (tree_data tree.now) }
+/// The value of a member other than `tables`.
+pub(crate) fn member<'v, 'a>(top: &'v Top<'a>, name: &str) -> Option<&'v Value<'a>>
+    requires { bytes_eq name.now (codes "tables") ≡ false }
+    ensures { option_map (λ v. tree_data v.now) result ≡ get name.now (top_data top.now) }
 {
-    tree.get(name)
+    let place = last_place(&top.members, name)?;
+    Some(&top.members[place].1)
 }
 
 /// The name and the value of an object's one member, taken out of it.
@@ -38,27 +41,17 @@ fn all_named(members: &[(&str, Value<'_>)], name: &str) -> bool
     members.iter().all(|member| member.0 == name)
 }
 
-/// The list that a member of a document is, taken out of it.
-pub(crate) fn into_list<'a>(document: Value<'a>, name: &str) -> Option<Vec<Value<'a>>>
-    ensures { option_map (λ l. list_data l.items) result ≡ items_at name.now (tree_data document.entry) }
-{
-    let mut members = into_members(document)?;
-    let list = take_member(&mut members, name)?;
-    into_items(list)
-}
-
-/// Takes the value of a member out of an object, if it is there.
-pub(crate) fn take_member<'a>(
-    members: &mut Vec<(&'a str, Value<'a>)>,
+/// The list that a member is, taken out of all.
+pub(crate) fn into_list<'a>(
+    members: Vec<(&'a str, Value<'a>)>,
     name: &str,
-) -> Option<Value<'a>>
-    ensures taken { option_map tree_data result ≡ get_member name.now (object_data members.old.items) }
-    ensures others { (other : List ℕ) → bytes_eq other name.now ≡ false
-        → get_member other (object_data members.new.items) ≡ get_member other (object_data members.old.items) }
+) -> Option<Vec<Value<'a>>>
+    ensures { option_map (λ l. list_data l.items) result ≡ option_and_then as_array (get_member name.now (object_data members.entry.items)) }
 {
-    let place = last_place(members, name)?;
-    let (_, value) = members.remove(place);
-    Some(value)
+    let mut members = members;
+    let place = last_place(&members, name)?;
+    let (_, list) = members.remove(place);
+    into_items(list)
 }
 
 /// The place of the last member of this name.

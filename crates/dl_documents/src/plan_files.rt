@@ -2,22 +2,25 @@
 
 ghost use Rattle.std.specs.Prelude.{◌≡◌, ◌⊎◌, false, map, IfOk, IfErr, MatchOption};
 ghost use Rattle.std.specs.List.{position, AllByRecursion};
+ghost use Rattle.serde_json.specs.View.{view};
 ghost use Rattle.dl_documents.specs.Document.{SpellsPlans, is_script};
 ghost use Rattle.dl_documents.specs.Faults.{IsBadTop};
 ghost use Rattle.dl_documents.specs.Steps.{plan_view, step_view};
 ghost use Rattle.dl_documents.specs.Inside.Results.{HasHead, RefusedFor};
 ghost use Rattle.dl_documents.specs.Inside.PlanFiles.{rows_view, HasLists, HasPlans, AreRows, HasOther, IsPlanOf, IsFirstBadIn, AreRead, IsFirstBadStep};
 ghost use Rattle.dl_documents.specs.Inside.PlanFiles.{is_high, is_long, AreLow, IsFirstHigh, Fit, IsMisfit, AreTables, IsTableRefusal, AreRest, IsRefusal};
+ghost use Rattle.dl_documents.specs.Inside.Top.{top_data, IsApart};
 ghost use Rattle.dl_documents.specs.Inside.Trees.{tree_data, list_data};
 ghost use Rattle.dl_documents.specs.Tables.{IsTableFault};
 
 use crate::fault::PlanFault;
 use crate::head::{Head, Version};
 use crate::input::PlanFile;
-use crate::member::take_member;
+use crate::member::into_list;
 use crate::steps::read_step;
 use crate::table_limits::all_limits;
-use crate::tree::{into_items, into_members, into_value};
+use crate::top::Top;
+use crate::tree::into_items;
 use dl_source::{TableFault, TableNumber, Tables};
 use dl_terms::{MOST_PLANS, Plan, Step};
 use dl_values::{Limits, TableLimits};
@@ -38,15 +41,16 @@ pub const MOST_STEPS: usize = 256;
 pub(crate) fn plan_file(
     alloc: Global,
     hashing: RandomState,
-    document: Value<'_>,
+    top: Top<'_>,
     head: Head,
 ) -> Result<PlanFile, PlanFault>
-    requires kind { is_script (tree_data document) ≡ false }
-    requires head { HasHead (tree_data document) head }
-    ensures ok { IfOk result (SpellsPlans (tree_data document.entry)) }
-    ensures err { IfErr result (RefusedFor (tree_data document.entry)) }
+    requires kind { is_script (top_data top) ≡ false }
+    requires head { HasHead (top_data top) head }
+    requires apart { IsApart top }
+    ensures ok { IfOk result (SpellsPlans (top_data top.entry)) }
+    ensures err { IfErr result (RefusedFor (top_data top.entry)) }
 {
-    let (lists, tables) = top(alloc, document)?;
+    let (lists, tables) = lists_and_tables(alloc, top)?;
     let plans = plans(alloc, lists)?;
     let (tables, limits, table_limits) = rest(alloc, hashing, plans.as_slice(), tables, head)?;
     Ok(PlanFile {
@@ -60,12 +64,16 @@ pub(crate) fn plan_file(
 // ---- the top
 
 /// The lists of steps of a document's plans, and the value of its tables, taken out of it.
-fn top(alloc: Global, document: Value<'_>) -> Result<(Vec<Vec<Value<'_>>>, Value<'_>), PlanFault>
-    requires { is_script (tree_data document) ≡ false }
-    ensures ok { IfOk result (λ p. HasPlans (tree_data document.entry) (rows_view p.0.items) (tree_data p.1)) }
-    ensures err { IfErr result (λ f. (f ≡ PlanFault.OutOfMemory) ⊎ ((f ≡ PlanFault.Top) × IsBadTop (tree_data document.entry))) }
+fn lists_and_tables(
+    alloc: Global,
+    top: Top<'_>,
+) -> Result<(Vec<Vec<Value<'_>>>, serde_json::Value), PlanFault>
+    requires kind { is_script (top_data top) ≡ false }
+    requires apart { IsApart top }
+    ensures ok { IfOk result (λ p. HasPlans (top_data top.entry) (rows_view p.0.items) (view p.1)) }
+    ensures err { IfErr result (λ f. (f ≡ PlanFault.OutOfMemory) ⊎ ((f ≡ PlanFault.Top) × IsBadTop (top_data top.entry))) }
 {
-    let Some((plans, tables)) = plans_and_tables(document) else {
+    let Some((plans, tables)) = plans_and_tables(top) else {
         return Err(PlanFault::Top);
     };
     if plans.is_empty() || plans.len() > MOST_PLANS {
@@ -76,14 +84,14 @@ fn top(alloc: Global, document: Value<'_>) -> Result<(Vec<Vec<Value<'_>>>, Value
 }
 
 /// The list of a document's plans, and the value of its tables, taken out of it.
-fn plans_and_tables(document: Value<'_>) -> Option<(Vec<Value<'_>>, Value<'_>)>
-    requires { is_script (tree_data document) ≡ false }
-    ensures { MatchOption result (IsBadTop (tree_data document.entry)) (λ p. HasLists (tree_data document.entry) (list_data p.0.items) (tree_data p.1)) }
+fn plans_and_tables(top: Top<'_>) -> Option<(Vec<Value<'_>>, serde_json::Value)>
+    requires kind { is_script (top_data top) ≡ false }
+    requires apart { IsApart top }
+    ensures { MatchOption result (IsBadTop (top_data top.entry)) (λ p. HasLists (top_data top.entry) (list_data p.0.items) (view p.1)) }
 {
-    let mut members = into_members(document)?;
-    let tables = take_member(&mut members, "tables")?;
-    let plans = take_member(&mut members, "plans")?;
-    let plans = into_items(plans)?;
+    let Top { tables, members } = top;
+    let tables = tables?;
+    let plans = into_list(members, "plans")?;
     Some((plans, tables))
 }
 
@@ -145,11 +153,11 @@ fn rest(
     alloc: Global,
     hashing: RandomState,
     plans: &[Plan],
-    tables: Value<'_>,
+    tables: serde_json::Value,
     head: Head,
 ) -> Result<(Tables, Limits, Option<TableLimits>), PlanFault>
-    ensures ok { IfOk result (λ p. AreRest (map plan_view plans.now) (tree_data tables.entry) head p) }
-    ensures err { IfErr result (λ f. (f ≡ PlanFault.OutOfMemory) ⊎ IsRefusal (map plan_view plans.now) (tree_data tables.entry) head f) }
+    ensures ok { IfOk result (λ p. AreRest (map plan_view plans.now) (view tables) head p) }
+    ensures err { IfErr result (λ f. (f ≡ PlanFault.OutOfMemory) ⊎ IsRefusal (map plan_view plans.now) (view tables) head f) }
 {
     if let Some(fault) = misfit(plans) {
         return Err(fault);
@@ -220,10 +228,10 @@ fn read_tables(
     alloc: Global,
     hashing: RandomState,
     version: Version,
-    tables: Value<'_>,
+    tables: serde_json::Value,
 ) -> Result<(Tables, Vec<TableNumber>), PlanFault>
-    ensures ok { IfOk result (λ p. AreTables version (tree_data tables.entry) p.0 p.1.items) }
-    ensures err { IfErr result (λ f. (f ≡ PlanFault.OutOfMemory) ⊎ IsTableRefusal version (tree_data tables.entry) f) }
+    ensures ok { IfOk result (λ p. AreTables version (view tables) p.0 p.1.items) }
+    ensures err { IfErr result (λ f. (f ≡ PlanFault.OutOfMemory) ⊎ IsTableRefusal version (view tables) f) }
 {
     match spelled(alloc, hashing, version, tables) {
         Ok(tables) => Ok(tables),
@@ -237,12 +245,11 @@ fn spelled(
     alloc: Global,
     hashing: RandomState,
     version: Version,
-    tables: Value<'_>,
+    tables: serde_json::Value,
 ) -> Result<(Tables, Vec<TableNumber>), TableFault>
-    ensures ok { IfOk result (λ p. AreTables version (tree_data tables.entry) p.0 p.1.items) }
-    ensures err { IfErr result (λ f. (f ≡ TableFault.OutOfMemory) ⊎ IsTableFault version (tree_data tables.entry) f) }
+    ensures ok { IfOk result (λ p. AreTables version (view tables) p.0 p.1.items) }
+    ensures err { IfErr result (λ f. (f ≡ TableFault.OutOfMemory) ⊎ IsTableFault version (view tables) f) }
 {
-    let tables = into_value(alloc, tables)?;
     match version {
         Version::First => {
             let tables = Tables::from_owned_value(alloc, hashing, tables)?;

@@ -4,6 +4,7 @@ ghost use Rattle.std.specs.Prelude.{◌≡◌, ◌⊎◌, true, map, codes, IfOk
 ghost use Rattle.dl_documents.specs.Document.{SpellsScript, is_script};
 ghost use Rattle.dl_documents.specs.Inside.Results.{HasHead, RefusedFor};
 ghost use Rattle.dl_documents.specs.Inside.Scripts.{AreCalls, IsFirstBadCall};
+ghost use Rattle.dl_documents.specs.Inside.Top.{top_data};
 ghost use Rattle.dl_documents.specs.Inside.Trees.{tree_data};
 
 use crate::call::call;
@@ -13,6 +14,7 @@ use crate::input::{Calls, Script, ScriptCall};
 use crate::member::into_list;
 use crate::table_limits::all_limits;
 use crate::table_numbers::script_numbers;
+use crate::top::Top;
 use json::Value;
 use std::alloc::Global;
 use std::hash::RandomState;
@@ -24,16 +26,16 @@ use std::hash::RandomState;
 pub(crate) fn script(
     alloc: Global,
     hashing: RandomState,
-    document: Value<'_>,
+    top: Top<'_>,
     head: Head,
 ) -> Result<Script, PlanFault>
-    requires kind { is_script (tree_data document) ≡ true }
-    requires head { HasHead (tree_data document) head }
-    ensures ok { IfOk result (SpellsScript (tree_data document.entry)) }
-    ensures err { IfErr result (RefusedFor (tree_data document.entry)) }
+    requires kind { is_script (top_data top) ≡ true }
+    requires head { HasHead (top_data top) head }
+    ensures ok { IfOk result (SpellsScript (top_data top.entry)) }
+    ensures err { IfErr result (RefusedFor (top_data top.entry)) }
 {
-    let numbers = script_numbers(alloc, hashing, head.version, &document)?;
-    let Some(items) = into_list(document, "calls") else {
+    let numbers = script_numbers(alloc, hashing, head.version, &top)?;
+    let Some(items) = into_list(top.members, "calls") else {
         return Err(PlanFault::Top);
     };
     let calls = calls(alloc, items)?;

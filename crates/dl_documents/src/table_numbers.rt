@@ -3,12 +3,14 @@
 ghost use Rattle.std.specs.Prelude.{◌≡◌, ◌⊎◌, Some, None, option_map, IfOk, IfErr};
 ghost use Rattle.dl_values.specs.TableLimits.{repeats};
 ghost use Rattle.dl_documents.specs.TableNumbers.{named, numbered, table_number_in, table_numbers_in, listed_numbers, script_numbers};
+ghost use Rattle.dl_documents.specs.Inside.Top.{top_data};
 ghost use Rattle.dl_documents.specs.Inside.Trees.{tree_data};
 
 use crate::argument::pair;
 use crate::fault::PlanFault;
 use crate::head::Version;
 use crate::member::member;
+use crate::top::Top;
 use crate::tree::{items, text, whole};
 use dl_source::TableNumber;
 use dl_values::{TABLE_BYTES, Text};
@@ -26,11 +28,11 @@ pub(crate) fn script_numbers(
     alloc: Global,
     hashing: RandomState,
     version: Version,
-    script: &Value<'_>,
+    script: &Top<'_>,
 ) -> Result<Vec<TableNumber>, PlanFault>
-    ensures ok { IfOk result (λ ns. Some ns.items ≡ script_numbers version (tree_data script.now)) }
+    ensures ok { IfOk result (λ ns. Some ns.items ≡ script_numbers version (top_data script.now)) }
     ensures err { IfErr result (λ f. (f ≡ PlanFault.OutOfMemory)
-        ⊎ ((f ≡ PlanFault.Top) × (None ≡ script_numbers version (tree_data script.now)))) }
+        ⊎ ((f ≡ PlanFault.Top) × (None ≡ script_numbers version (top_data script.now)))) }
 {
     match version {
         Version::First => Ok(Vec::new(alloc)),
@@ -45,9 +47,9 @@ pub(crate) fn script_numbers(
 fn listed_numbers(
     alloc: Global,
     hashing: RandomState,
-    script: &Value<'_>,
+    script: &Top<'_>,
 ) -> Result<Option<Vec<TableNumber>>, AllocError>
-    ensures { IfOk result (λ ns. option_map (λ v. v.items) ns ≡ listed_numbers (tree_data script.now)) }
+    ensures { IfOk result (λ ns. option_map (λ v. v.items) ns ≡ listed_numbers (top_data script.now)) }
 {
     let Some(list) = member(script, "tableLimits") else {
         return Ok(Some(Vec::new(alloc)));

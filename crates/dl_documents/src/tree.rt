@@ -1,47 +1,22 @@
-//! The tree of a document, whose texts are borrowed from the document's own.
+//! Trees of a document, whose texts are borrowed from its own.
 
-ghost use Rattle.std.specs.Prelude.{◌≡◌, ◌≢◌, is_some, option_map, IfOk, true, false};
+ghost use Rattle.std.specs.Prelude.{◌≡◌, is_some, option_map, IfOk};
 ghost use Rattle.json.specs.Value.{value_view, items_view, members_view};
 ghost use Rattle.serde_json.specs.Data.{no_members};
 ghost use Rattle.serde_json.specs.Find.{as_array, as_object, as_str, as_bool, as_number};
-ghost use Rattle.serde_json.specs.Read.{of_json, of_items, of_members, number_of, number_from, read};
+ghost use Rattle.serde_json.specs.Read.{of_json, of_items, of_members};
 ghost use Rattle.serde_json.specs.View as owned;
 ghost use Rattle.dl_source.specs.Spelling.{whole};
 ghost use Rattle.dl_documents.specs.Inside.Trees.{tree_data, list_data, object_data};
 
-use fast_float::Numeral;
-use json::{Error, Reader, Scratch, Value};
+use crate::number::number_of;
+use json::Value;
 use serde_json::{Map, Number};
 use std::alloc::{AllocError, Global};
 
-/// How deep a document's lists and objects nest at most.
-const MOST_DEPTH: usize = 127;
-
-/// The tree that a text is, if it is one.
-///
-/// # Errors
-/// `Invalid` where the text is none, and `OutOfMemory` where an allocation failed.
-pub(crate) fn parse<'a>(
-    alloc: Global,
-    text: &'a str,
-    scratch: &'a mut Scratch,
-) -> Result<Value<'a>, Error>
-    ensures ok { IfOk result (λ v. read text.now ≡ Some (tree_data v)) }
-    ensures err { result ≡ Err Error.Invalid → read text.now ≡ None }
-    ensures never_too_long { result ≢ Err Error.TooLong }
-    ensures never_duplicate { result ≢ Err Error.DuplicateKey }
-{
-    let mut reader = Reader::new(text, scratch)?;
-    let tree = Value::read(alloc, &mut reader, MOST_DEPTH)?;
-    if reader.next().is_some() || !has_fitting_numbers(&tree) {
-        return Err(Error::Invalid);
-    }
-    Ok(tree)
-}
-
 /// Whether each number in a tree is in range.
 #[cycle(fitting)]
-fn has_fitting_numbers(tree: &Value<'_>) -> bool
+pub(crate) fn has_fitting_numbers(tree: &Value<'_>) -> bool
     ensures { result ≡ is_some (of_json (value_view tree.now)) }
 {
     match tree {
@@ -74,35 +49,6 @@ fn members_fit(members: &[(&str, Value<'_>)]) -> bool
         }
     }
     true
-}
-
-/// The number that a token of JSON writes, if it is in range.
-fn number_of(text: &str) -> Option<Number>
-    ensures { option_map owned.number_view result ≡ number_of text.now }
-{
-    let bytes = text.as_bytes();
-    match bytes.first() {
-        Some(b'-') => negative(&Numeral::scan(&bytes[1..])),
-        _ => unsigned(&Numeral::scan(bytes)),
-    }
-}
-
-fn unsigned(numeral: &Numeral<'_>) -> Option<Number>
-    ensures { option_map owned.number_view result ≡ number_from false numeral.now }
-{
-    match numeral.to_u64() {
-        Some(number) => Number::from_u128(u128::from(number)),
-        None => Number::from_f64(numeral.to_float::<f64>(false)),
-    }
-}
-
-fn negative(numeral: &Numeral<'_>) -> Option<Number>
-    ensures { option_map owned.number_view result ≡ number_from true numeral.now }
-{
-    match numeral.to_i64(true) {
-        Some(number) if number < 0 => Number::from_i128(i128::from(number)),
-        _ => Number::from_f64(numeral.to_float::<f64>(true)),
-    }
 }
 
 // ---- looking into a tree
@@ -141,16 +87,6 @@ pub(crate) fn items<'v, 'a>(tree: &'v Value<'a>) -> Option<&'v [Value<'a>]>
 {
     match tree {
         Value::Array(items) => Some(items),
-        _ => None,
-    }
-}
-
-/// The members of an object, as its text has them: a name may stand twice.
-pub(crate) fn members<'v, 'a>(tree: &'v Value<'a>) -> Option<&'v [(&'a str, Value<'a>)]>
-    ensures { option_map (λ v. object_data v.now) result ≡ as_object (tree_data tree.now) }
-{
-    match tree {
-        Value::Object(members) => Some(members),
         _ => None,
     }
 }

@@ -1,5 +1,6 @@
 use Rattle.std.proofs.Common.{rules, ◌≡◌, map, Err, inl, inr}
-use Rattle.dl_documents.specs.Inside.Trees.{tree_data}
+use Rattle.dl_documents.specs.Inside.Top.{top_data}
+use Rattle.serde_json.specs.View.{view}
 use Rattle.dl_documents.specs.Steps.{plan_view}
 use Rattle.dl_documents.specs.Inside.PlanFiles.{rows_view, HasPlans, AreRead, AreRest}
 use Rattle.dl_documents.proofs.Order.{least_top}
@@ -12,37 +13,37 @@ returns-in_err-lists-clause-err c =
     let same : c.from_residual.result ≡ Err c.in_err-lists.field-0.0 = search rules in
     rw same (elim c.in_err-lists.ensures.err [
       | inl memory ↦ inl memory
-      | inr bad ↦ inr (rw bad.0 (least_top (tree_data c.args.document) c.args.head.version c.requires.head.version bad.1))
+      | inr bad ↦ inr (rw bad.0 (least_top (top_data c.args.top) c.args.head.version c.requires.head.version bad.1))
     ])
 
 pub returns-in_err-plans-clause-err : goal.returns-in_err-plans-clause-err
 returns-in_err-plans-clause-err c =
-    let top : HasPlans (tree_data c.args.document) (rows_view c.in_ok-lists.lists.items) (tree_data c.in_ok-lists.tables) = search rules in
+    let top : HasPlans (top_data c.args.top) (rows_view c.in_ok-lists.lists.items) (view c.in_ok-lists.tables) = search rules in
     let same : c.from_residual-in_err-plans.result ≡ Err c.in_err-plans.field-0.0 = search rules in
     rw same (elim c.in_err-plans.ensures.err [
       | inl memory ↦ inl memory
-      | inr bad ↦ inr (least_shape (tree_data c.args.document) c.args.head (rows_view c.in_ok-lists.lists.items) (tree_data c.in_ok-lists.tables)
+      | inr bad ↦ inr (least_shape (top_data c.args.top) c.args.head (rows_view c.in_ok-lists.lists.items) (view c.in_ok-lists.tables)
           c.requires.kind c.requires.head top c.in_err-plans.field-0.0 bad)
     ])
 
 pub returns-in_err-tables-clause-err : goal.returns-in_err-tables-clause-err
 returns-in_err-tables-clause-err c =
-    let top : HasPlans (tree_data c.args.document) (rows_view c.in_ok-lists.lists.items) (tree_data c.in_ok-lists.tables) = search rules in
+    let top : HasPlans (top_data c.args.top) (rows_view c.in_ok-lists.lists.items) (view c.in_ok-lists.tables) = search rules in
     let read : AreRead (rows_view c.in_ok-lists.lists.items) (map plan_view c.in_ok-plans.plans.items) = search rules in
     let same : c.from_residual-in_err-tables.result ≡ Err c.in_err-tables.field-0.0 = search rules in
     rw same (elim c.in_err-tables.ensures.err [
       | inl memory ↦ inl memory
-      | inr bad ↦ inr (least_refusal (tree_data c.args.document) c.args.head (rows_view c.in_ok-lists.lists.items) (tree_data c.in_ok-lists.tables)
+      | inr bad ↦ inr (least_refusal (top_data c.args.top) c.args.head (rows_view c.in_ok-lists.lists.items) (view c.in_ok-lists.tables)
           c.requires.kind c.requires.head top (map plan_view c.in_ok-plans.plans.items) read c.in_err-tables.field-0.0 (rw c.as_slice.ensures.value at bad))
     ])
 
 pub returns-clause-ok : goal.returns-clause-ok
 returns-clause-ok c =
-    let top : HasPlans (tree_data c.args.document) (rows_view c.in_ok-lists.lists.items) (tree_data c.in_ok-lists.tables) = search rules in
+    let top : HasPlans (top_data c.args.top) (rows_view c.in_ok-lists.lists.items) (view c.in_ok-lists.tables) = search rules in
     let read : AreRead (rows_view c.in_ok-lists.lists.items) (map plan_view c.in_ok-plans.plans.items) = search rules in
     let tables = c.in_ok-tables in
-    let rest : AreRest (map plan_view c.in_ok-plans.plans.items) (tree_data c.in_ok-lists.tables) c.args.head (tables.tables, tables.limits, tables.table_limits) =
+    let rest : AreRest (map plan_view c.in_ok-plans.plans.items) (view c.in_ok-lists.tables) c.args.head (tables.tables, tables.limits, tables.table_limits) =
     rw c.as_slice.ensures.value at c.in_ok-tables.ensures.ok in
-    spells (tree_data c.args.document) c.args.head (rows_view c.in_ok-lists.lists.items) (tree_data c.in_ok-lists.tables)
+    spells (top_data c.args.top) c.args.head (rows_view c.in_ok-lists.lists.items) (view c.in_ok-lists.tables)
     (record { limits = tables.limits; table_limits = tables.table_limits; tables = tables.tables; plans = c.in_ok-plans.plans }) c.requires.kind
     c.requires.head top read rest

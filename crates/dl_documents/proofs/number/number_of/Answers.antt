@@ -2,8 +2,8 @@ use Rattle.std.proofs.Common.{◌≡◌, ◌≢◌, drop, get_or, true, false, �
 use Rattle.std.specs.List.{slice_get}
 use Rattle.fast_float.specs.Text.{scan}
 use Rattle.serde_json.specs.Read.{number_of, number_from}
-use Rattle.dl_documents.proofs.tree.number_of.Goals as goal
-use Rattle.dl_documents.proofs.tree.number_of.Goals.{in_default-via-in-Some+in_default, in_default-via-in_default}
+use Rattle.dl_documents.proofs.number.number_of.Goals as goal
+use Rattle.dl_documents.proofs.number.number_of.Goals.{in_default-via-in-Some+in_default, in_default-via-in_default}
 
 first_is : (s : List ℕ) (n : ℕ) → slice_get s 0 ≡ Some n → get_or s 0 0 ≡ n
 first_is [] n e = absurd (cc)

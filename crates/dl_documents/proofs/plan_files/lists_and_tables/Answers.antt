@@ -1,13 +1,14 @@
 use Rattle.std.proofs.Common.{rules, arith, ◌≡◌, ◌⊎◌, ◌<◌, ◌≤◌, ◌==◌, ℕ, length, map, Bool, true, false, Err, inl, inr, refl, sym, ap, Some, ◌∙◌}
 use Rattle.std.proofs.lemmas.Bool.Decides.{nat_tests}
-use Rattle.serde_json.specs.View.{items_of}
+use Rattle.serde_json.specs.View.{view, items_of}
 use Rattle.std.proofs.lemmas.List.{length-map}
 use Rattle.dl_terms.specs.Plans.{ArePlans}
+use Rattle.dl_documents.specs.Inside.Top.{top_data}
 use Rattle.dl_documents.specs.Inside.Trees.{tree_data, list_data}
 use Rattle.dl_documents.specs.Faults.{HasOtherCount, HasNoPlan}
 use Rattle.dl_documents.specs.Inside.PlanFiles.{HasLists, row_tree, rows_view}
 use Rattle.dl_documents.proofs.TreeLists.{list_data_is, items_len-list_data, get_item-list_data}
-use Rattle.dl_documents.proofs.plan_files.top.Goals as goal
+use Rattle.dl_documents.proofs.plan_files.lists_and_tables.Goals as goal
 
 not_empty : (n : ℕ) → 1 ≤ n → (n == 0) ≡ true → ⊥
 not_empty n low e = grind (arith, nat_tests)
@@ -23,23 +24,23 @@ plans_count n some few = record { least = grind (arith, nat_tests); most = few }
 pub returns-then-is_empty-clause-err : goal.returns-then-is_empty-clause-err
 returns-then-is_empty-clause-err c =
     let plans = c.in-Some.plans.items in
-    let there : HasLists (tree_data c.args.document) (list_data plans) (tree_data c.in-Some.tables) = search rules in
+    let there : HasLists (top_data c.args.top) (list_data plans) (view c.in-Some.tables) = search rules in
     inr (
       refl,
-      HasOtherCount (list_data plans) c.requires there.list
+      HasOtherCount (list_data plans) c.requires.kind there.list
           (rw items_len-list_data (not_plans (length plans) c.is_empty.result (search rules) (search rules))),
     )
 
 pub returns-in_err-lists-clause-err : goal.returns-in_err-lists-clause-err
 returns-in_err-lists-clause-err c =
     let plans = c.in-Some.plans.items in
-    let there : HasLists (tree_data c.args.document) (list_data plans) (tree_data c.in-Some.tables) = search rules in
+    let there : HasLists (top_data c.args.top) (list_data plans) (view c.in-Some.tables) = search rules in
     let same : c.from_residual.result ≡ Err c.in_err-lists.field-0.0 = search rules in
     rw same (elim c.in_err-lists.ensures.err [
       | inl memory ↦ inl memory
       | inr bad ↦ inr (
         bad.0,
-        HasNoPlan (list_data plans) bad.1.0 bad.1.1 c.requires there.list (get_item-list_data plans bad.1.0 ∙ bad.1.2) bad.1.3,
+        HasNoPlan (list_data plans) bad.1.0 bad.1.1 c.requires.kind there.list (get_item-list_data plans bad.1.0 ∙ bad.1.2) bad.1.3,
       )
     ])
 
@@ -49,7 +50,7 @@ returns-in_default-clause-err c = inr (refl, c.in_default.ensures)
 pub returns-clause-ok : goal.returns-clause-ok
 returns-clause-ok c =
     let plans = c.in-Some.plans.items in
-    let there : HasLists (tree_data c.args.document) (list_data plans) (tree_data c.in-Some.tables) = search rules in
+    let there : HasLists (top_data c.args.top) (list_data plans) (view c.in-Some.tables) = search rules in
     let rows : map tree_data plans ≡ map row_tree (rows_view c.in_ok-lists.lists.items) = search rules in
     let size : length plans ≡ length (rows_view c.in_ok-lists.lists.items) = sym (length-map plans tree_data) ∙ (ap length rows ∙ length-map _ row_tree) in
     let some : c.is_empty.result ≡ false = search rules in

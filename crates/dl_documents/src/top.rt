@@ -1,0 +1,112 @@
+//! The top of a document: the members of its object.
+
+ghost use Rattle.std.specs.Prelude.{◌≡◌, ◌<◌, length, Some, IfOk, IfErr, OnOk};
+ghost use Rattle.serde_json.specs.Data.{Data, put};
+ghost use Rattle.serde_json.specs.Read.{read, max_depth};
+ghost use Rattle.dl_documents.specs.Inside.Results.{IsUnread};
+ghost use Rattle.dl_documents.specs.Inside.Tokens.{first_value, first_members};
+ghost use Rattle.dl_documents.specs.Inside.Top.{top_members, IsApart, IsTopOf};
+ghost use Rattle.dl_documents.specs.Inside.Trees.{tree_data};
+
+use crate::fault::PlanFault;
+use crate::owned_value::{begun_value, read_value};
+use crate::tree::has_fitting_numbers;
+use json::{Error, Reader, Scratch, Token, Value};
+use std::alloc::Global;
+
+/// How deep a document's lists and objects nest at most.
+const MOST_DEPTH: usize = 127;
+
+/// The members of a document's object. The tables live on when it is read, so they own their texts. All else is let go, and
+/// borrows them.
+#[derive(Drop)]
+pub(crate) struct Top<'a> {
+    /// The value of the member `tables`, if there is one.
+    pub(crate) tables: Option<serde_json::Value>,
+    /// The other members, as the text has them: a name may stand twice, and the last counts.
+    pub(crate) members: Vec<(&'a str, Value<'a>)>,
+}
+
+/// The top of the document that a text is. There is none where the document is no object.
+///
+/// # Errors
+/// `NotJson` where the text is no JSON, or a number in it is out of range; `OutOfMemory` where an allocation failed.
+pub(crate) fn read_top<'a>(
+    alloc: Global,
+    text: &'a str,
+    scratch: &'a mut Scratch,
+) -> Result<Option<Top<'a>>, PlanFault>
+    ensures ok { IfOk result (λ t. (d : Data) × (read text.now ≡ Some d) × IsTopOf d t) }
+    ensures err { IfErr result (IsUnread (read text.now)) }
+{
+    let mut reader = Reader::new(text, scratch)?;
+    let top = first_top(alloc, &mut reader)?;
+    if reader.next().is_some() {
+        return Err(PlanFault::NotJson);
+    }
+    Ok(top)
+}
+
+/// The top that the reader's first value has.
+fn first_top<'a>(alloc: Global, reader: &mut Reader<'a>) -> Result<Option<Top<'a>>, PlanFault>
+    ensures ok { IfOk result (λ t. (d : Data) × (first_value max_depth reader.old ≡ Some (d, reader.new)) × IsTopOf d t) }
+    ensures err { IfErr result (IsUnread (first_value max_depth reader.old)) }
+{
+    let token = reader.next().ok_or(PlanFault::NotJson)?;
+    if let Token::BeginObject = token {
+        let top = read_members(alloc, reader)?;
+        return Ok(Some(top));
+    }
+    drop(begun_value(alloc, token, reader, MOST_DEPTH)?);
+    Ok(None)
+}
+
+/// The top whose members are next.
+fn read_members<'a>(alloc: Global, reader: &mut Reader<'a>) -> Result<Top<'a>, PlanFault>
+    ensures ok { IfOk result (λ t. first_members 126 reader.old ≡ Some (top_members t, reader.new)) }
+    ensures apart { IfOk result IsApart }
+    ensures err { IfErr result (IsUnread (first_members 126 reader.old)) }
+{
+    let mut top = Top {
+        tables: None,
+        members: Vec::new(alloc),
+    };
+    'members: while let Some(name) = reader.next_key()? {
+        read_member(alloc, name, reader, &mut top)?;
+    }
+    Ok(top)
+}
+
+/// Adds a member to the top, whose value is next.
+fn read_member<'a>(
+    alloc: Global,
+    name: &'a str,
+    reader: &mut Reader<'a>,
+    top: &mut Top<'a>,
+) -> Result<(), PlanFault>
+    ensures ok { OnOk result ((d : Data) × (first_value 126 reader.old ≡ Some (d, reader.new)) × (top_members top.new ≡ put name.now d (top_members top.old))) }
+    ensures apart { OnOk result (IsApart top.old → IsApart top.new) }
+    ensures shorter { OnOk result (length reader.new < length reader.old) }
+    ensures err { IfErr result (IsUnread (first_value 126 reader.old)) }
+{
+    if name == "tables" {
+        top.tables = Some(read_value(alloc, reader, MOST_DEPTH - 1)?);
+    } else {
+        let value = read_borrowed(alloc, reader)?;
+        top.members.push((name, value))?;
+    }
+    Ok(())
+}
+
+/// The next value of the reader, which borrows its texts.
+fn read_borrowed<'a>(alloc: Global, reader: &mut Reader<'a>) -> Result<Value<'a>, PlanFault>
+    ensures ok { IfOk result (λ v. first_value 126 reader.old ≡ Some (tree_data v, reader.new)) }
+    ensures shorter { OnOk result (length reader.new < length reader.old) }
+    ensures err { IfErr result (IsUnread (first_value 126 reader.old)) }
+{
+    match Value::read(alloc, reader, MOST_DEPTH - 1) {
+        Ok(value) if has_fitting_numbers(&value) => Ok(value),
+        Ok(_) | Err(Error::Invalid) => Err(PlanFault::NotJson),
+        Err(_) => Err(PlanFault::OutOfMemory),
+    }
+}
