@@ -514,6 +514,16 @@ ROWS["a plan file is answered"] = [
 
 ROWS["other documents are no plan files"] = [
     refused("not json", ("[", 200), ("]", 200), about="200 lists in one another"),
+    refused("not json", "[1] 2"),
+    refused("not json", "[1"),
+    refused("not json", '{"version":1,"tables":[],"plans":[[]]'),
+    # lists and objects nest 127 deep at most, wherever they stand
+    refused("version", ("[", 127), ("]", 127), about="127 lists in one another"),
+    refused("not json", ("[", 128), ("]", 128), about="128 lists in one another"),
+    refused("table Shape", '{"version":1,"plans":[[]],"tables":', ("[", 126), ("]", 126), "}", about="tables 127 deep"),
+    refused("not json", '{"version":1,"plans":[[]],"tables":', ("[", 127), ("]", 127), "}", about="tables 128 deep"),
+    refused("plan 0 step 0", '{"version":1,"tables":[],"plans":', ("[", 126), ("]", 126), "}", about="plans 127 deep"),
+    refused("not json", '{"version":1,"tables":[],"plans":', ("[", 127), ("]", 127), "}", about="plans 128 deep"),
     refused("not json", b"\xff", about="one byte that is no UTF-8"),
     refused("version", "{}"),
     refused("version", "null"),
@@ -1027,6 +1037,7 @@ ROWS["of a name that stands twice the last counts"] = [
     refused("call 0", '{"script":1,"calls":[{"load":["t","a"],"clear":["t","a"],"load":["t","b"]}]}'),
     refused("plan 0 step 0", TERM, '{"load":["t","a"],"load":5}}]]}'),
     refused("table Shape", '{"version":1,"tables":[{"name":"t","rows":[],"rows":5}],"plans":[[]]}'),
+    refused("table Shape", '{"version":1,"tables":[],"plans":[[]],"tables":5}'),
 ]
 
 # A number that a float can't hold stands nowhere in JSON as it is read here, not even under a name that counts for nothing.
@@ -1034,7 +1045,9 @@ ROWS["a number out of range is no JSON"] = [
     refused("not json", '{"script":1,"calls":[],"maxCells":1e999}'),
     refused("not json", '{"script":3,"calls":[{"load":1e999}]}'),
     refused("not json", '{"version":1,"tables":[{"name":"t","rows":[["a",-1e999],["a",0]]}],"plans":[[]]}'),
+    refused("not json", '{"version":1,"tables":[1e999],"plans":[[]],"tables":[]}'),
     refused("not json", '{"version":1,"tables":[],"plans":[[]],"x":1e999,"x":0}'),
+    refused("not json", "[1e999]"),
     refused("plan 0 step 0", TERM, '{"value":1e308}}]]}'),
 ]
 
