@@ -1,9 +1,7 @@
 -- The members of an object, beside the list that its text has of them: a name may stand twice in it, and the last counts.
 use Rattle.std.proofs.Common.{◌≡◌, ◌∙◌, refl, sym, ap, ℕ, List, [], ◌∷◌, ◌++◌, get_or, Bool, true, false, ◌&&◌, cond, bytes_eq, nat_cmp, true≢false}
-use Rattle.std.proofs.Common.{Option, Some, None, option_map, Ordering, Less, Equal, Greater, is_eq}
-use Rattle.std.proofs.lemmas.Cmp.{nat_list_cmp_total, tied_itself}
+use Rattle.std.proofs.Common.{Option, Some, None, option_map, Ordering, Less, Equal, Greater}
 use Rattle.std.proofs.lemmas.List.Folds.{list_all-append}
-use Rattle.std.proofs.lemmas.Map.Text.{is_eq-slice_cmp}
 use Rattle.std.proofs.lemmas.Option.{get_or_from_slice_get}
 use Rattle.std.proofs.lemmas.Slice.Eq.{bytes_eq-Decides}
 use Rattle.std.specs.Borrow.{Bor}
@@ -25,6 +23,7 @@ use Rattle.dl_documents.specs.Inside.Trees.{number_or_null, data_of, members_dat
 use Rattle.dl_documents.specs.Inside.Members.{IsPlaceOf}
 use Rattle.dl_documents.specs.Reading.{one_of}
 use Rattle.dl_documents.proofs.Findings.{both_true}
+use Rattle.dl_documents.proofs.PutLaws.{same_text, same_name}
 
 -- a member as the text has it
 abbrev pub Member : Type 0
@@ -130,9 +129,6 @@ and_true : (a : Bool) → (a && true) ≡ a
 and_true true = refl
 and_true false = refl
 
-same_name : (k l : List ℕ) → slice_cmp nat_cmp k l ≡ Equal → k ≡ l
-same_name k l is = (bytes_eq-Decides k l).0 (sym (is_eq-slice_cmp k l) ∙ ap is_eq is)
-
 names_all-put_at : (o : Ordering) (test : List ℕ → Bool) (k l : List ℕ) (d e : Data) (ms : Members) → slice_cmp nat_cmp k l ≡ o
     → names_all test (put k d ms) ≡ (test k && names_all test ms)
     → names_all test (match_ordering o (member k d (member l e ms)) (member l d ms) (member l e (put k d ms))) ≡ (test k && (test l && names_all test ms))
@@ -169,9 +165,6 @@ abbrev IsAlone : List ℕ → Members → Type 0
 IsAlone name no_members = Unit {0}
 IsAlone name (member k d no_members) = k ≡ name
 IsAlone name (member k d (member l e ms)) = ⊥
-
-same_text : (name : List ℕ) → slice_cmp nat_cmp name name ≡ Equal
-same_text name = tied_itself nat_list_cmp_total name
 
 put_alone : (name : List ℕ) (d : Data) (ms : Members) → IsAlone name ms → put name d ms ≡ member name d no_members
 put_alone name d no_members is = refl

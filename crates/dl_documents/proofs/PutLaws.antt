@@ -7,8 +7,11 @@ use Rattle.std.specs.Cmp.Lexicographic.{slice_cmp}
 use Rattle.std.specs.Ordering.{match_ordering, ordering_reverse}
 use Rattle.serde_json.specs.Data.{Data, Members, no_members, member, put}
 
-same_text : (k : List ℕ) → slice_cmp nat_cmp k k ≡ Equal
+pub same_text : (k : List ℕ) → slice_cmp nat_cmp k k ≡ Equal
 same_text k = tied_itself nat_list_cmp_total k
+
+pub same_name : (k l : List ℕ) → slice_cmp nat_cmp k l ≡ Equal → k ≡ l
+same_name k l is = (bytes_eq-Decides k l).0 (sym (is_eq-slice_cmp k l) ∙ ap is_eq is)
 
 -- ---- the same name twice
 
@@ -54,9 +57,10 @@ module _ (k l : List ℕ) (less : slice_cmp nat_cmp k l ≡ Less) where
   swap_less d e no_members = rw (less, above) refl
   swap_less d e (member h f ms) = swap_at _ _ h d e f ms refl refl (swap_less d e ms)
 
-swap_by : (o : Ordering) (k l : List ℕ) (d e : Data) (ms : Members) → slice_cmp nat_cmp k l ≡ o → (k ≡ l → ⊥) → put k d (put l e ms) ≡ put l e (put k d ms)
+swap_by : (o : Ordering) (k l : List ℕ) (d e : Data) (ms : Members) → slice_cmp nat_cmp k l ≡ o → (k ≡ l → ⊥)
+    → put k d (put l e ms) ≡ put l e (put k d ms)
 swap_by Less k l d e ms is apart = swap_less k l is d e ms
-swap_by Equal k l d e ms is apart = absurd (apart ((bytes_eq-Decides k l).0 (sym (is_eq-slice_cmp k l) ∙ ap is_eq is)))
+swap_by Equal k l d e ms is apart = absurd (apart (same_name k l is))
 swap_by Greater k l d e ms is apart =
     let less : slice_cmp nat_cmp l k ≡ Less = nat_list_cmp_total.antisymm l k ∙ ap ordering_reverse is in
     sym (swap_less l k less e d ms)

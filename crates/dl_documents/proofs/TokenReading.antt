@@ -1,9 +1,9 @@
 -- The data of what tokens spell, one turn of the grammar's loops after another.
-use Rattle.std.proofs.Common.{◌≡◌, ◌∙◌, refl, sym, ap, ℕ, zero, suc, ◌-◌, ◌<◌, ◌≤◌, List, [], ◌∷◌, length, Option, Some, None, option_map, option_and_then, arith}
+use Rattle.std.proofs.Common.{◌≡◌, ◌∙◌, refl, sym, ap, ℕ, zero, suc, ◌-◌, ◌<◌, ◌≤◌, List, ◌∷◌, length, Option, Some, None, option_map, arith}
 use Rattle.std.proofs.lemmas.Option.{none-some, same_Some}
 use Rattle.json.proofs.Grammar.{value_is, value-begin_array, value-begin_object, items_end, items_more, items_fail, members_end, members_no_key, members_more, members_fail}
 use Rattle.json.specs.Json as json
-use Rattle.json.specs.Json.{Parse, parse_map, after_end_array, read_key, value, items, members, if_last}
+use Rattle.json.specs.Json.{Parse, parse_map, after_end_array, read_key, value, items, members}
 use Rattle.json.specs.Reads.{token_of}
 use Rattle.json.specs.Token.{Token}
 use Rattle.json.specs.declared.token.Token as token
@@ -155,23 +155,6 @@ module _ (p : Parse json.Json) where
     pub no_more_members : (n : ℕ) (ts r : List Token) → length ts ≤ n → read_key ts ≡ Some (None, r)
         → converted (λ ms. of_members ms found) (members p n ts) ≡ Some (found, r)
     no_more_members n ts r enough over = ap (converted (λ ms. of_members ms found)) (members_end p n ts r enough over)
-
--- ---- the whole text
-
--- the data of the whole text, of what its first value leaves
-abbrev pub whole : Option (json.Json × List Token) → Option Data
-whole o = option_and_then of_json (option_and_then (λ q. if_last q.0 q.1) o)
-
-pub whole_read : (o : Option (json.Json × List Token)) (d : Data) → converted of_json o ≡ Some (d, []) → whole o ≡ Some d
-whole_read o d e = let j = taken_apart of_json o d [] e in ap whole j.1 ∙ j.2
-
-pub more_left : (o : Option (json.Json × List Token)) (d : Data) (t : Token) (r : List Token) → converted of_json o ≡ Some (d, t ∷ r) → whole o ≡ None
-more_left o d t r e = ap whole (taken_apart of_json o d (t ∷ r) e).1
-
-pub whole_unread : (o : Option (json.Json × List Token)) → converted of_json o ≡ None → whole o ≡ None
-whole_unread None e = refl
-whole_unread (Some (j, [])) e = nothing [] (of_json j) e
-whole_unread (Some (j, t ∷ r)) e = refl
 
 -- ---- what is no object
 

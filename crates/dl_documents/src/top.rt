@@ -54,15 +54,15 @@ fn first_top<'a>(alloc: Global, reader: &mut Reader<'a>) -> Result<Option<Top<'a
 {
     let token = reader.next().ok_or(PlanFault::NotJson)?;
     if let Token::BeginObject = token {
-        let top = read_members(alloc, reader)?;
+        let top = begun_top(alloc, reader)?;
         return Ok(Some(top));
     }
     drop(begun_value(alloc, token, reader, MOST_DEPTH)?);
     Ok(None)
 }
 
-/// The top whose members are next.
-fn read_members<'a>(alloc: Global, reader: &mut Reader<'a>) -> Result<Top<'a>, PlanFault>
+/// The top whose brace was read.
+fn begun_top<'a>(alloc: Global, reader: &mut Reader<'a>) -> Result<Top<'a>, PlanFault>
     ensures ok { IfOk result (λ t. first_members 126 reader.old ≡ Some (top_members t, reader.new)) }
     ensures apart { IfOk result IsApart }
     ensures err { IfErr result (IsUnread (first_members 126 reader.old)) }

@@ -4,7 +4,7 @@ use Rattle.json.specs.Json.{read_key, value, members}
 use Rattle.serde_json.specs.Read.{of_members, converted}
 use Rattle.dl_documents.specs.Inside.Top.{top_members}
 use Rattle.dl_documents.proofs.TokenReading.{member_turn, no_value, no_key, no_more_members}
-use Rattle.dl_documents.proofs.top.read_members.Goals as goal
+use Rattle.dl_documents.proofs.top.begun_top.Goals as goal
 
 pub returns-in_err-name-clause-err : goal.returns-in_err-name-clause-err
 returns-in_err-name-clause-err c =

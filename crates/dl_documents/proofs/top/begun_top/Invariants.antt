@@ -4,7 +4,7 @@ use Rattle.json.specs.Json.{members, value}
 use Rattle.serde_json.specs.Data.{no_members}
 use Rattle.serde_json.specs.Read.{of_members, converted}
 use Rattle.dl_documents.specs.Inside.Top.{top_members, IsApart}
-use Rattle.dl_documents.proofs.top.read_members.Given as goal
+use Rattle.dl_documents.proofs.top.begun_top.Given as goal
 
 abbrev pub invariant-members : goal.invariant-members
 invariant-members l = record {
