@@ -30,17 +30,24 @@ impl Desk {
         ensures accepted { OnOk result ((history : List Atom) → StandsFor self.old.book history → refusal self.old.book.rules history (Loads keys.now) ≡ None) }
         ensures fault { IfErr result (λ fault. (history : List Atom) → StandsFor self.old.book history
             → IsRefusal self.old.book.rules history (Loads keys.now) fault) }
+        ensures nothing_prepared { OnErr result (self.new.prepared ≡ self.old.book) }
     {
         self.discard();
         let mut replies = Vec::with_capacity(alloc, keys.len())?;
         for key in keys {
-            replies.push_reserved(self.load_step(alloc, key)?);
+            match self.load_step(alloc, key) {
+                Ok(reply) => replies.push_reserved(reply),
+                Err(fault) => {
+                    self.discard();
+                    return Err(fault);
+                }
+            }
         }
         Ok(replies)
     }
 
     /// Prepares the load of a key: makes its allocations, and changes nothing that can be seen.
-    /// [`make_prepared`](Desk::make_prepared) then makes the call.
+    /// [`make_prepared`](Desk::make_prepared) then makes the call. A refused load leaves nothing prepared.
     ///
     /// # Errors
     /// As [`load`](Desk::load).
@@ -57,9 +64,16 @@ impl Desk {
             → refusal self.old.book.rules history (Loads (key.now ∷ [])) ≡ None) }
         ensures fault { IfErr result (λ fault. (history : List Atom) → StandsFor self.old.book history
             → IsRefusal self.old.book.rules history (Loads (key.now ∷ [])) fault) }
+        ensures nothing_prepared { OnErr result (self.new.prepared ≡ self.old.book) }
     {
         self.discard();
-        self.load_step(alloc, key)
+        match self.load_step(alloc, key) {
+            Ok(reply) => Ok(reply),
+            Err(fault) => {
+                self.discard();
+                Err(fault)
+            }
+        }
     }
 
     /// Loads a key: the cell that is held for it, or a new one in a batch (DataLoader: `load`).
@@ -77,6 +91,7 @@ impl Desk {
         ensures fault { IfErr result (λ fault. (history : List Atom) → StandsFor self.old.book history
             → IsRefusal self.old.book.rules history (Loads (key.now ∷ [])) fault) }
         ensures err { OnErr result (self.new.book ≡ self.old.book) }
+        ensures nothing_prepared { self.new.prepared ≡ self.new.book }
     {
         let reply = self.prepare_load(alloc, key)?;
         self.make_prepared();
@@ -102,6 +117,7 @@ impl Desk {
         ensures fault { IfErr result (λ fault. (history : List Atom) → StandsFor self.old.book history
             → IsRefusal self.old.book.rules history (Loads keys.now) fault) }
         ensures err { OnErr result (self.new.book ≡ self.old.book) }
+        ensures nothing_prepared { self.new.prepared ≡ self.new.book }
     {
         let replies = self.prepare_loads(alloc, keys)?;
         self.make_prepared();
@@ -121,9 +137,16 @@ impl Desk {
         ensures accepted { OnOk result ((history : List Atom) → StandsFor self.old.book history → refusal self.old.book.rules history (Primes key.now) ≡ None) }
         ensures fault { IfErr result (λ fault. (history : List Atom) → StandsFor self.old.book history
             → IsRefusal self.old.book.rules history (Primes key.now) fault) }
+        ensures nothing_prepared { OnErr result (self.new.prepared ≡ self.old.book) }
     {
         self.discard();
-        self.prime_step(key)
+        match self.prime_step(key) {
+            Ok(reply) => Ok(reply),
+            Err(fault) => {
+                self.discard();
+                Err(fault)
+            }
+        }
     }
 
     /// Begins a cell of the key in no batch, for an outcome that the caller has, unless the key is
@@ -140,6 +163,7 @@ impl Desk {
         ensures fault { IfErr result (λ fault. (history : List Atom) → StandsFor self.old.book history
             → IsRefusal self.old.book.rules history (Primes key.now) fault) }
         ensures err { OnErr result (self.new.book ≡ self.old.book) }
+        ensures nothing_prepared { self.new.prepared ≡ self.new.book }
     {
         let reply = self.prepare_prime(key)?;
         self.make_prepared();
@@ -153,6 +177,7 @@ impl Desk {
         ensures reply { IfOk result (λ sent. (history : List Atom) → StandsFor self.old.book history → sent.items ≡ jobs history) }
         ensures stands { OnOk result ((history : List Atom) → StandsFor self.old.book history
             → StandsFor self.new.prepared (after self.old.book.rules history Sends)) }
+        ensures nothing_prepared { OnErr result (self.new.prepared ≡ self.old.book) }
     {
         self.discard();
         let jobs = self.jobs(alloc)?;
@@ -169,6 +194,7 @@ impl Desk {
         ensures stands { OnOk result ((history : List Atom) → StandsFor self.old.book history
             → StandsFor self.new.book (after self.old.book.rules history Sends)) }
         ensures err { OnErr result (self.new.book ≡ self.old.book) }
+        ensures nothing_prepared { self.new.prepared ≡ self.new.book }
     {
         let jobs = self.prepare_dispatch(alloc)?;
         self.make_prepared();

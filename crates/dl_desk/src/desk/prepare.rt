@@ -1,6 +1,6 @@
 //! Calls in two steps: the first makes the allocations, the second can't fail.
 
-ghost use Rattle.std.specs.Prelude.{◌≡◌, List, None, IfOk, OnOk, IfErr};
+ghost use Rattle.std.specs.Prelude.{◌≡◌, List, None, IfOk, OnOk, IfErr, OnErr};
 ghost use Rattle.dl_desk.specs.History.{Atom};
 ghost use Rattle.dl_desk.specs.Calls.{DeskCall, Loads, Primes, Sends, refusal, IsRefusal, after};
 ghost use Rattle.dl_desk.specs.BatchBook.{StandsFor};
@@ -24,6 +24,7 @@ impl Desk {
         ensures accepted { OnOk result ((history : List Atom) → StandsFor self.old.book history → refusal self.old.book.rules history (Loads keys.now) ≡ None) }
         ensures fault { IfErr result (λ fault. (history : List Atom) → StandsFor self.old.book history
             → IsRefusal self.old.book.rules history (Loads keys.now) fault) }
+        ensures nothing_prepared { OnErr result (self.new.prepared ≡ self.old.book) }
     {
         let replies = self.prepare_loads(alloc, keys)?;
         Ok(Ready {
@@ -41,6 +42,7 @@ impl Desk {
         ensures accepted { OnOk result ((history : List Atom) → StandsFor self.old.book history → refusal self.old.book.rules history (Primes key.now) ≡ None) }
         ensures fault { IfErr result (λ fault. (history : List Atom) → StandsFor self.old.book history
             → IsRefusal self.old.book.rules history (Primes key.now) fault) }
+        ensures nothing_prepared { OnErr result (self.new.prepared ≡ self.old.book) }
     {
         let reply = self.prepare_prime(key)?;
         Ok(Ready {
@@ -53,6 +55,7 @@ impl Desk {
     pub fn ready_dispatch(&mut self, alloc: Global) -> Result<Ready, AllocError>
         ensures book { self.new.book ≡ self.old.book }
         ensures ready { IfOk result (IsReadyFor self.new Sends) }
+        ensures nothing_prepared { OnErr result (self.new.prepared ≡ self.old.book) }
     {
         let jobs = self.prepare_dispatch(alloc)?;
         Ok(Ready {
