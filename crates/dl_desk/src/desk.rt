@@ -214,6 +214,19 @@ impl Desk {
         self.is_prepared = false;
     }
 
+    /// Takes back what is prepared, for a call that is refused so.
+    // Out of line, so that calls that are made cost nothing of it.
+    #[cold]
+    #[inline(never)]
+    fn refuse(&mut self, fault: DeskFault) -> DeskFault
+        ensures fault { result ≡ fault }
+        ensures book { self.new.book ≡ self.old.book }
+        ensures prepared { self.new.prepared ≡ self.old.book }
+    {
+        self.discard();
+        fault
+    }
+
     /// Whether nothing is prepared.
     fn is_shown(&self) -> bool
         ensures shown { IsTrue result → self.now.prepared ≡ self.now.book }
@@ -423,7 +436,7 @@ impl Desk {
         Ok(DeskPrime::Primed(cell))
     }
 
-    /// Prepares the load of one more key. A refusal may leave part of the step prepared.
+    /// Prepares the load of one more key. A refusal takes back all that is prepared.
     // Inlined for the sake of loads that find their key.
     #[inline(always)]
     fn load_step(&mut self, alloc: Global, key: &FetchKey) -> Result<LoadReply, DeskFault>
@@ -435,18 +448,22 @@ impl Desk {
             → StandsFor self.new.prepared (Load key.now reply ∷ history)) }
         ensures within { OnOk result (self.new.prepared.cells ≤ self.new.prepared.rules.limits.max_cells) }
         ensures fault { IfErr result (RefusesStep self.old.prepared key.now) }
+        ensures nothing_prepared { OnErr result (self.new.prepared ≡ self.old.book) }
     {
         if self.is_full() {
             let limit = self.limits.max_cells();
             return match self.found(key) {
                 Some(cell) => Ok(LoadReply::Hit(cell)),
-                None => Err(DeskFault::CellsFull { limit }),
+                None => Err(self.refuse(DeskFault::CellsFull { limit })),
             };
         }
-        Ok(self.put(alloc, key)?)
+        match self.put(alloc, key) {
+            Ok(reply) => Ok(reply),
+            Err(AllocError) => Err(self.refuse(DeskFault::OutOfMemory)),
+        }
     }
 
-    /// Prepares a prime of the key. A refusal may leave part of the step prepared.
+    /// Prepares a prime of the key. A refusal takes back all that is prepared.
     fn prime_step(&mut self, key: &FetchKey) -> Result<DeskPrime, DeskFault>
         ensures book { self.new.book ≡ self.old.book }
         ensures rules { self.new.prepared.rules ≡ self.old.prepared.rules }
@@ -455,15 +472,19 @@ impl Desk {
             → StandsFor self.new.prepared (Prime key.now reply ∷ history)) }
         ensures within { OnOk result (self.new.prepared.cells ≤ self.new.prepared.rules.limits.max_cells) }
         ensures fault { IfErr result (RefusesStep self.old.prepared key.now) }
+        ensures nothing_prepared { OnErr result (self.new.prepared ≡ self.old.book) }
     {
         if self.is_full() {
             let limit = self.limits.max_cells();
             return match self.found(key) {
                 Some(_) => Ok(DeskPrime::Kept),
-                None => Err(DeskFault::CellsFull { limit }),
+                None => Err(self.refuse(DeskFault::CellsFull { limit })),
             };
         }
-        Ok(self.put_alone(key)?)
+        match self.put_alone(key) {
+            Ok(reply) => Ok(reply),
+            Err(AllocError) => Err(self.refuse(DeskFault::OutOfMemory)),
+        }
     }
 
     /// The jobs of the batches that are begun and not sent, with what is prepared. The error is

@@ -35,13 +35,7 @@ impl Desk {
         self.discard();
         let mut replies = Vec::with_capacity(alloc, keys.len())?;
         for key in keys {
-            match self.load_step(alloc, key) {
-                Ok(reply) => replies.push_reserved(reply),
-                Err(fault) => {
-                    self.discard();
-                    return Err(fault);
-                }
-            }
+            replies.push_reserved(self.load_step(alloc, key)?);
         }
         Ok(replies)
     }
@@ -67,13 +61,7 @@ impl Desk {
         ensures nothing_prepared { OnErr result (self.new.prepared ≡ self.old.book) }
     {
         self.discard();
-        match self.load_step(alloc, key) {
-            Ok(reply) => Ok(reply),
-            Err(fault) => {
-                self.discard();
-                Err(fault)
-            }
-        }
+        self.load_step(alloc, key)
     }
 
     /// Loads a key: the cell that is held for it, or a new one in a batch (DataLoader: `load`).
@@ -140,13 +128,7 @@ impl Desk {
         ensures nothing_prepared { OnErr result (self.new.prepared ≡ self.old.book) }
     {
         self.discard();
-        match self.prime_step(key) {
-            Ok(reply) => Ok(reply),
-            Err(fault) => {
-                self.discard();
-                Err(fault)
-            }
-        }
+        self.prime_step(key)
     }
 
     /// Begins a cell of the key in no batch, for an outcome that the caller has, unless the key is
