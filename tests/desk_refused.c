@@ -1,10 +1,12 @@
 /* A C program that makes the calls of dl_desk.h where a growth is refused: of each call its first growth, then its second, and so
  * on until it meets no refusal. A call that is refused a growth answers DL_OUT_OF_MEMORY or its own answer, and made again its own;
- * and so do all calls behind it. It is linked with refuse.c. It prints each check that fails, and how many calls passed. */
+ * and so do all calls behind it. It is linked with refuse.c, and first looks whether that refuses each way to grow: a sweep can't see
+ * which refusals it lacks. It prints each check that fails, and how many calls and ways passed. */
 #include "dl_desk.h"
 #include "refuse.h"
 
 #include <stdio.h>
+#include <stdlib.h>
 #include <string.h>
 
 typedef enum { OPEN, OPEN_BY_TABLE, LOAD, LOAD_MANY, PRIME, HELD, CLEAR, CLEAR_ALL, DISPATCH, MEMBER, KEY, SETTLE, FAIL, CLOSE } call_name;
@@ -193,10 +195,49 @@ static bool make_all(size_t place, long growth)
     return met;
 }
 
+enum { MALLOC, CALLOC, REALLOC, WAYS };
+
+static void *grow(unsigned way, void *block)
+{
+    switch (way) {
+    case MALLOC:
+        return malloc(8);
+    case CALLOC:
+        return calloc(2, 8);
+    default:
+        return realloc(block, 64);
+    }
+}
+
+/* How many of the ways to grow aren't refused where they should be: as the first growth, and as the second. */
+static unsigned ways_unrefused(void)
+{
+    static const char *const names[WAYS] = {"malloc", "calloc", "realloc"};
+    unsigned failed = 0;
+
+    for (unsigned way = 0; way < WAYS; way++) {
+        bool holds = true;
+        for (long nth = 1; nth <= 2; nth++) {
+            void *volatile block = malloc(16), *volatile before, *volatile given;
+            refuse_growth(nth);
+            before = nth == 2 ? malloc(8) : NULL;
+            given = grow(way, block);
+            holds &= growths_refused() == 1 && given == NULL && (before != NULL) == (nth == 2);
+            free(given == NULL ? block : given);
+            free(before);
+        }
+        failed += !holds;
+        if (!holds) {
+            printf("%s isn't refused\n", names[way]);
+        }
+    }
+    return failed;
+}
+
 int main(void)
 {
     bool grew[CLOSE + 1] = {false};
-    unsigned failed = 0;
+    unsigned unrefused = ways_unrefused(), failed = 0;
 
     for (size_t place = 0; place < COUNT; place++) {
         unsigned before = faults;
@@ -214,6 +255,7 @@ int main(void)
             printf("call %zu: no growth was refused\n", place);
         }
     }
-    printf("%ld growths refused\n%u passed, %u failed\n", refusals, failed < COUNT ? (unsigned)COUNT - failed : 0, failed);
+    failed += unrefused;
+    printf("%ld growths refused\n%u passed, %u failed\n", refusals, failed < COUNT ? COUNT + WAYS - failed : 0, failed);
     return failed == 0 ? 0 : 1;
 }
