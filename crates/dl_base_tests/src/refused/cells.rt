@@ -5,7 +5,7 @@ ghost use Rattle.dl_cells.specs.Cells.{row_len};
 
 use crate::refused::Stage;
 use dl_cells::CellRow;
-use dl_fixtures::made;
+use dl_fixtures::{Kind, Refusal, made};
 use std::io::Eprint;
 use std::process::Abort;
 
@@ -41,4 +41,19 @@ impl<R: Abort + Eprint> Stage<'_, R> {
         let reader = made!(self, "CellRow::reader", Err(_), row.reader(place));
         assert!(self.rt; reader.is_ok());
     }
+}
+
+/// Where the first growth behind those of cell 0 is refused, the last cell of its segment has a reader, and the first cell of the next
+/// segment has none.
+#[test]
+fn segments_have_32_cells(rt: HostRuntime) {
+    let row: CellRow<u8> = CellRow::new(rt.alloc(), 130).expect(&rt, "no row");
+    let first = row.reader(0);
+    assert!(rt; first.is_ok(), "cell 0");
+    let refusal = Refusal::of_each(rt.alloc(), Kind::Growth, 1);
+    refusal.begin();
+    let (last, next) = (row.reader(31), row.reader(32));
+    let was_refused = refusal.end(&rt, "CellRow::reader");
+    assert!(rt; last.is_ok(), "a cell of the same segment");
+    assert!(rt; next.is_err() == was_refused, "a cell of the next one");
 }
