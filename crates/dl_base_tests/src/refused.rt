@@ -27,6 +27,7 @@ impl<R: Abort + Eprint> Stage<'_, R> {
     fn use_all(&self) {
         self.use_values();
         self.use_mixed_desk();
+        self.use_primed_desks();
         self.use_desk_by_table();
         self.use_tables();
         self.use_cells();

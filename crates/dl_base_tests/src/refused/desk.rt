@@ -37,7 +37,18 @@ impl<R: Abort + Eprint> Stage<'_, R> {
         self.assert_batches(&desk);
         assert_is(self.rt, &desk.held(&a), &Some(2), "held");
         self.make_ready(&mut desk);
-        self.prime(&mut desk, &a);
+    }
+
+    /// The primes of a key on a new desk, and of the same key once it is held; and the same where each is made ready first.
+    pub(crate) fn use_primed_desks(&self) {
+        let limits = Limits::new(2, 8, 16).expect(self.rt, "no limits");
+        let a = self.key("t", "a");
+        for is_ready_first in [false, true] {
+            let mut desk = Desk::new(self.alloc, self.hashing, limits);
+            self.prime(&mut desk, &a, is_ready_first, DeskPrime::Primed(0));
+            self.load(&mut desk, &a, LoadReply::Hit(0));
+            self.prime(&mut desk, &a, is_ready_first, DeskPrime::Kept);
+        }
     }
 
     /// The batches of the desk are so, and there is no other.
@@ -92,15 +103,32 @@ impl<R: Abort + Eprint> Stage<'_, R> {
         assert_is(self.rt, &replies.as_slice(), &want.as_slice(), "load_many");
     }
 
-    /// Primes a key that is held, and one that is new.
-    fn prime(&self, desk: &mut Desk, held: &FetchKey) {
-        let ready = made_once!(self, "Desk::ready_prime", desk.ready_prime(held));
+    fn prime(&self, desk: &mut Desk, key: &FetchKey, is_ready_first: bool, want: DeskPrime) {
+        if is_ready_first {
+            return self.make_prime_ready(desk, key, want);
+        }
+        let reply = made!(
+            self,
+            "Desk::prime",
+            Err(DeskFault::OutOfMemory),
+            desk.prime(key)
+        );
+        assert_is(self.rt, &reply, &Ok(want), "prime");
+    }
+
+    /// A prime that is made ready, and then made.
+    fn make_prime_ready(&self, desk: &mut Desk, key: &FetchKey, want: DeskPrime) {
+        let ready = made!(
+            self,
+            "Desk::ready_prime",
+            Err(DeskFault::OutOfMemory),
+            desk.ready_prime(key)
+        );
         let ready = ready.expect(self.rt, "not ready");
-        let is_kept = matches!(ready.reply(), DeskReply::Primed(DeskPrime::Kept));
-        assert!(self.rt; is_kept, "ready_prime");
-        let key = self.key("t", "d");
-        let reply = made_once!(self, "Desk::prime", desk.prime(&key));
-        assert!(self.rt; reply == Ok(DeskPrime::Primed(4)), "prime");
+        let DeskReply::Primed(reply) = desk.commit(ready) else {
+            panic!(self.rt; "no prime");
+        };
+        assert_is(self.rt, &reply, &want, "ready_prime");
     }
 
     /// The jobs of a dispatch have so many keys.

@@ -6,7 +6,7 @@ use dl_desk::{
     BatchFault, FetchKey, Job, Json, KeyFault, Keys, List, Message, Outcome, TableLimit,
     TableLimitFault, TableLimits, Text,
 };
-use dl_fixtures::{made, made_once, outcome_text};
+use dl_fixtures::{json, made, made_once, outcome_text};
 use serde_json::Value;
 use std::io::Eprint;
 use std::process::Abort;
@@ -29,6 +29,7 @@ impl<R: Abort + Eprint> Stage<'_, R> {
         self.use_keys();
         self.use_texts();
         self.use_json();
+        self.take_out_shared();
         self.use_outcomes();
         let limits = self.limit_of("t", 7);
         let copy = made_once!(self, "TableLimits::try_copy", limits.try_copy());
@@ -86,7 +87,7 @@ impl<R: Abort + Eprint> Stage<'_, R> {
         assert_is(self.rt, &marked.as_str(), &"db down", "two texts");
     }
 
-    /// Makes a value, and takes it out while it is shared.
+    /// Makes a value and its text.
     fn use_json(&self) {
         let json = made!(
             self,
@@ -100,9 +101,23 @@ impl<R: Abort + Eprint> Stage<'_, R> {
         let text = made!(self, "Json::to_text", Err(_), copy.to_text(self.alloc));
         let text = text.expect(self.rt, "no text");
         assert_is(self.rt, &text.as_str(), &"true", "a value");
-        let value = made_once!(self, "Json::into_value", copy.into_value());
+    }
+
+    /// Takes a value out while another shares it.
+    fn take_out_shared(&self) {
+        let list = json(self.alloc, "[true]").expect(self.rt, "no value");
+        let value = made!(
+            self,
+            "Json::into_value",
+            Err(_),
+            self.copy(&list).into_value()
+        );
         let value = value.expect(self.rt, "no value");
-        assert!(self.rt; matches!(value, Value::Bool(true)), "a value");
+        assert!(self.rt; matches!(value, Value::Array(_)), "a value");
+    }
+
+    fn copy(&self, json: &Json) -> Json {
+        json.try_copy().expect(self.rt, "no copy")
     }
 
     fn use_outcomes(&self) {
