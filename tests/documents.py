@@ -1264,6 +1264,7 @@ ROWS["a run ends with its status"] = [
         output=Holding("Writes a plan file of version 1 as one of version 2", ("Usage: plans migrate", "--help")),
         is_read=False,
     ),
+    Row("the version", LOAD, ("--version", "-V", "--batches --version"), output=Holding("plans ", ("\n",)), is_read=False),
     Row("no document", b"", status=1, error="refused: not json\n"),
     Row("no version", b"[1]", ("--workers 1",), status=1, error="refused: version\n"),
     usage("no workers", "--workers 0", "invalid value '0' for '--workers <N>'"),

@@ -34,10 +34,17 @@ without_name s = record s { no_binary_name = true }
 abbrev pub migrate_app : App
 migrate_app = new_app (codes "migrate")
 
+-- what the command line of `plans` has beside its version
+abbrev pub plans_words_app : App
+plans_words_app =
+    with_subcommand (with_rule (with_rule (on_top without_name (new_app (codes "plans"))) workers_rule) batches_rule) migrate_app.top
+
+abbrev pub with_version : Shape → Shape
+with_version s = record s { has_version = true }
+
 -- the command line of `plans`
 abbrev pub plans_app : App
-plans_app =
-    with_subcommand (with_rule (with_rule (on_top without_name (new_app (codes "plans"))) workers_rule) batches_rule) migrate_app.top
+plans_app = on_top with_version plans_words_app
 
 -- that of `plan_picture`
 abbrev pub picture_app : App

@@ -2,7 +2,7 @@
 
 ghost use Rattle.std.specs.Prelude.{◌≡◌, IfOk, IfSome, map, false};
 ghost use Rattle.clap.specs.Words.{app_of, rule_of, found_of, matches_of, rows_of, subcommand_of, subcommand_rows_of};
-ghost use Rattle.dl_command.specs.Options.{plans_app, picture_app, app_of_program, workers_rule, batches_rule, AreGiven, AreGivenTo, ArePictureOptions};
+ghost use Rattle.dl_command.specs.Options.{plans_app, plans_words_app, picture_app, app_of_program, workers_rule, batches_rule, AreGiven, AreGivenTo, ArePictureOptions};
 
 use crate::settings::Options;
 use clap::error::ErrorKind;
@@ -120,9 +120,17 @@ fn refused(command: &mut Command<'_>, kind: ErrorKind, message: &str) -> Error {
     }
 }
 
-/// The command line of `plans`.
+/// The command line of `plans`, with the version of the program.
 fn command<'a>(alloc: Global) -> Result<Command<'a>, AllocError>
     ensures { IfOk result (λ c. app_of c ≡ plans_app) }
+{
+    let words = plans_words(alloc)?;
+    Ok(words.version("0.4.0"))
+}
+
+/// What the command line of `plans` has beside its version.
+fn plans_words<'a>(alloc: Global) -> Result<Command<'a>, AllocError>
+    ensures { IfOk result (λ c. app_of c ≡ plans_words_app) }
 {
     let migrate = Command::new(alloc, "migrate")
         .about("Writes a plan file of version 1 as one of version 2")
