@@ -1,11 +1,12 @@
 # `make` proves the crates that the program `plans` is made of, each as soon as those that it uses are, and builds crates/plans/out/plans.
 #
 # crates/NAME/out/kept is as old as the sources that were proved, and crates/NAME/out/log has what rt printed. Only these crates and their own
-# lines of crates.txt count. The longest chain is proved in place, by $(jobs) jobs, and the others by one job each. While rt works in a
-# folder it keeps others out of all folders below, so the others are proved in a copy of the sources, from which rt takes it over. That
-# needs the folder `shared`.
+# lines of crates.txt count. While rt works in a folder it keeps others out of all folders below. So the longest chain is proved in place, by
+# $(jobs) jobs, and what is beside it in copies of the sources, from which rt takes it over. That needs the folder `shared`.
 SHELL := bash
 chain := dl_values dl_desk dl_history dl_loader dl_haxl dl_scope plans
+# What is beside it is proved by one job each, but this by two, where the chain has several.
+large := dl_documents
 
 # How many crates at a time, without -j, and by how many jobs: a job takes up to 2.5 GB, and a crate of one job up to 5.
 room := $(shell awk '/^MemAvailable/ { print int($$2 / 2500000) }' /proc/meminfo)
@@ -42,7 +43,7 @@ crates/%/out/kept:
 rt = setpriv --pdeathsig TERM rt
 in_place = cd crates/$* && $(rt) lib --jobs $(jobs)
 apart = rm -rf $(@D)/apart/crates/*/{src,specs,proofs} && mkdir -p $(@D)/apart && tar -cf - --exclude=out crates.txt crates \
-	| tar -xf - -C $(@D)/apart && cd $(@D)/apart/crates/$* && nice -n 5 $(rt) lib --jobs $(if $(filter dl_documents,$*),2,1)
+	| tar -xf - -C $(@D)/apart && cd $(@D)/apart/crates/$* && nice -n 5 $(rt) lib --jobs $(if $(and $(filter-out 1,$(jobs)),$(filter $(large),$*)),2,1)
 program = cd crates/plans && $(rt) run -- --help && { [[ -f out/plans.stamp ]] || { echo 'error: a source changed, so try again' && false; }; }
 tell_why = grep -Em12 ': (not proved|no proof)|it is not proved|\berror(:|\[)' $(@D)/log || tail -n12 $(@D)/log; \
 	echo "plans: $* is not proved; the whole output is in $$PWD/$(@D)/log"
