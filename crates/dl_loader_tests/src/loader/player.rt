@@ -1,6 +1,6 @@
 //! The player of rows: it makes their calls, and asserts what they answer.
 
-ghost use Rattle.std.specs.Prelude.{◌≡◌, false, IfSome};
+ghost use Rattle.std.specs.Prelude.{◌≡◌, false, IfOk, IfSome};
 ghost use Rattle.dl_history.specs.Service.{Answers};
 ghost use Rattle.dl_loader.specs.Asks.{source_asked};
 ghost use Rattle.dl_loader.specs.Pass.{GaveTicket};
@@ -68,24 +68,29 @@ impl<'a, L: LoaderName, S: Source, R: Abort + Eprint + Wait> Scene<'a, L, S, R> 
     }
 
     pub(super) fn load(&self, pass: &mut Pass<L>, id: &str, want: Result<LoadReply, CallFault>) {
-        let key = user(self.rt, self.alloc, id);
-        let ticket = made!(
-            self,
-            "Loader::load",
-            Err(CallFault::OutOfMemory),
-            self.loader.load(self.rt, self.alloc, pass, &key)
-        );
-        let reply = match ticket {
+        let reply = match self.loaded(pass, id) {
             Ok(ticket) => Ok(ticket.reply()),
             Err(fault) => Err(fault),
         };
         assert_same(self.rt, "load", reply, want);
     }
 
+    /// What a load answers.
+    fn loaded(&self, pass: &mut Pass<L>, id: &str) -> Result<Ticket<'a, L>, CallFault>
+        ensures { IfOk result (λ ticket. GaveTicket pass.new.trace ticket false) }
+    {
+        let key = user(self.rt, self.alloc, id);
+        made!(
+            self,
+            "Loader::load",
+            Err(CallFault::OutOfMemory),
+            self.loader.load(self.rt, self.alloc, pass, &key)
+        )
+    }
+
     /// Loads a key that is held by the cell, and reads its outcome.
     fn read_held(&self, pass: &mut Pass<L>, (id, cell): (&str, u32), how: How, want: Option<&str>) {
-        let key = user(self.rt, self.alloc, id);
-        let ticket = self.loader.load(self.rt, self.alloc, pass, &key);
+        let ticket = self.loaded(pass, id);
         let mut ticket = ticket.expect(self.rt, "no ticket");
         let told = (ticket.reply(), ticket.cell());
         assert_same(self.rt, "reply", told, (LoadReply::Hit(cell), cell));

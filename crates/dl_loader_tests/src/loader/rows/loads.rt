@@ -124,24 +124,7 @@ fn rows_of_loads(rt: HostRuntime) {
     play_rows(&rt, rt.alloc(), &LOADS);
 }
 
-static PRIMES: [Row; 3] = [
-    // The batch of another key keeps the loader from being closed.
-    Row {
-        about: "a primed key",
-        limits: (2, 8, 16),
-        callers: 1,
-        parts: &[Part {
-            steps: &[
-                (0, Prime("u1", Value("1"), Ok(BEGINS_0))),
-                (0, Read("u1", 0, Look, Some("1"))),
-                (0, Tells(" 0 1, 2 calls, front 2")),
-                (0, Prime("u1", Value("1"), Ok(Kept))),
-                (0, LoadMany("u1 u2", Ok("hit 0, fresh 1 0"))),
-            ],
-            passes: 1,
-            close: Err(Unsettled { batch: 0 }),
-        }],
-    },
+static PRIMES: [Row; 2] = [
     // What is primed is read, whatever outcome it is.
     Row {
         about: "keys primed with failures",
