@@ -68,7 +68,7 @@ fn each_call<L: LoaderName + Send + Sync, S: Source, R: Threads + Wait + Sync>(
     limits: Limits,
 ) -> Result<History>
     requires source { opening.source ≡ source.now }
-    requires names { Names S.answer opening L.service L.parts L.log L.outcomes L.name }
+    requires names { Names S.answer opening L.service L.parts L.cells L.name }
 {
     let (loader, mut passes) = Loader::<L>::start(scene.alloc, opening)?;
     let called = match callers {

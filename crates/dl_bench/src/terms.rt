@@ -54,7 +54,7 @@ fn on_loader<L: LoaderName, S: Source, R: Wait>(
     terms: Terms,
 ) -> Result<History>
     requires source { opening.source ≡ source.now }
-    requires names { Names S.answer opening L.service L.parts L.log L.outcomes L.name }
+    requires names { Names S.answer opening L.service L.parts L.cells L.name }
 {
     let (loader, mut passes) = Loader::<L>::start(scene.alloc, opening)?;
     evaluate(scene, source, &loader, &mut passes, terms)?;

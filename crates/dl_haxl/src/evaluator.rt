@@ -3,7 +3,6 @@
 ghost use Rattle.std.specs.Prelude.{◌≡◌, ◌≤◌, ◌^◌, ◌<◌, [], true, IfErr, IfOk, OnErr, OnOk, length};
 ghost use Rattle.dl_history.specs.Entries.{front_of};
 ghost use Rattle.dl_loader.specs.Additions.{Grows, KeepsTickets};
-ghost use Rattle.dl_loader.specs.Book.{SomeStopped};
 ghost use Rattle.dl_terms.specs.Tree.{Tree, depth_of};
 ghost use Rattle.dl_terms.specs.View.{term_view};
 ghost use Rattle.dl_haxl.specs.Pairs.{all_show, outcomes_shown};
@@ -55,7 +54,7 @@ impl<'l, L: LoaderName, O: Outlet<L>> Evaluator<'l, L, O> {
         ensures rounds { IfOk result (λ r. r.1 ≤ depth_of (term_view term)) }
         ensures sent { SentMore (O.sent_by seat.old) (O.sent_by seat.new) }
         ensures older { KeepsTickets pass.old.trace pass.new.trace }
-        ensures fault { IfErr result (IsRunFault L.service pass.old.trace.caller) }
+        ensures fault { IfErr result (IsRunFault L.service pass.old.trace.caller pass.new.flags) }
         ensures grows { OnErr result (Grows pass.old.trace pass.new.trace) }
     {
         let mut run = TermRun::new(self.alloc, self.hashing, term)?;
@@ -81,7 +80,7 @@ impl<'l, L: LoaderName, O: Outlet<L>> Evaluator<'l, L, O> {
         ensures rounds { IfOk result (λ r. (t : Tree) → IsRunOf t (seen run.old) → r.1 ≤ depth_of t) }
         ensures sent { SentMore (O.sent_by seat.old) (O.sent_by seat.new) }
         ensures older { KeepsTickets pass.old.trace pass.new.trace }
-        ensures fault { IfErr result (IsRunFault L.service pass.old.trace.caller) }
+        ensures fault { IfErr result (IsRunFault L.service pass.old.trace.caller pass.new.flags) }
         ensures grows { OnErr result (Grows pass.old.trace pass.new.trace) }
     {
         laws::gives_by_depth();
@@ -122,7 +121,7 @@ impl<'l, L: LoaderName, O: Outlet<L>> Evaluator<'l, L, O> {
         ensures bound { OnOk result (front_of pass.new.trace.entries < 2 ^ 32) }
         ensures sent { SentMore (O.sent_by seat.old) (O.sent_by seat.new) }
         ensures older { KeepsTickets pass.old.trace pass.new.trace }
-        ensures fault { IfErr result (IsRunFault L.service pass.old.trace.caller) }
+        ensures fault { IfErr result (IsRunFault L.service pass.old.trace.caller pass.new.flags) }
         ensures grows { OnErr result (Grows pass.old.trace pass.new.trace) }
     {
         let mut tickets = self.loader.load_many(rt, self.alloc, pass, wanted)?;
@@ -147,7 +146,7 @@ fn read_each<L: LoaderName>(
     requires gave { GaveFresh pass.old.trace tickets.old }
     ensures reads { OnOk result (Reads pass.old.trace pass.new.trace tickets.old tickets.new) }
     ensures others { KeepsOthers tickets.old pass.old.trace pass.new.trace }
-    ensures stopped { OnErr result (SomeStopped L.service) }
+    ensures stopped { OnErr result (pass.new.flags.stopped ≡ true) }
     ensures grows { OnErr result (Grows pass.old.trace pass.new.trace) }
 {
     for ticket in tickets.iter_mut() {

@@ -50,7 +50,7 @@ pub fn run_term<L: LoaderName, R: Wait>(
     ensures rounds { IfOk result (λ r. r.1 ≤ depth_of (term_view term)) }
     ensures sent { OnErr result (SentMore (sent_jobs sender.old) (sent_jobs sender.new)) }
     ensures older { KeepsTickets pass.old.trace pass.new.trace }
-    ensures fault { IfErr result (IsRunFault L.service pass.old.trace.caller) }
+    ensures fault { IfErr result (IsRunFault L.service pass.old.trace.caller pass.new.flags) }
     ensures grows { OnErr result (Grows pass.old.trace pass.new.trace) }
 {
     let evaluator = Evaluator {
@@ -96,7 +96,7 @@ impl<L: LoaderName> Evaluator<'_, L, JobQueue> {
     fn fail_unsent(&self, rt: &impl Wait, pass: &mut Pass<L>, job: Job) -> Result<(), RunFault>
         ensures failed { OnOk result (WasMade L.service pass.old.trace (Fail job.batch Unsent) Done pass.new.trace) }
         ensures tickets { pass.new.trace.tickets ≡ pass.old.trace.tickets }
-        ensures fault { IfErr result (IsRunFault L.service pass.old.trace.caller) }
+        ensures fault { IfErr result (IsRunFault L.service pass.old.trace.caller pass.new.flags) }
         ensures grows { OnErr result (Grows pass.old.trace pass.new.trace) }
     {
         match self.loader.fail(rt, self.alloc, pass, job, GiveUp::Unsent) {

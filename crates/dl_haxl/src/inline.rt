@@ -44,7 +44,7 @@ pub fn run_inline<L: LoaderName, S: Source>(
         (λ lines. EvaluatesInline L.service pass.old.trace.caller (term_view term) lines r.0 r.1)) }
     ensures rounds { IfOk result (λ r. r.1 ≤ depth_of (term_view term)) }
     ensures older { KeepsTickets pass.old.trace pass.new.trace }
-    ensures fault { IfErr result (IsRunFault L.service pass.old.trace.caller) }
+    ensures fault { IfErr result (IsRunFault L.service pass.old.trace.caller pass.new.flags) }
     ensures grows { OnErr result (Grows pass.old.trace pass.new.trace) }
 {
     let outlet = OwnThread { source };
@@ -96,7 +96,7 @@ impl<L: LoaderName, S: Source> Evaluator<'_, L, OwnThread<'_, S>> {
         requires source { Answers (S.answer self.now.outlet.now.source.now) L.service }
         ensures ended { OnOk result (WasEnded L.service pass.old.trace job pass.new.trace) }
         ensures tickets { pass.new.trace.tickets ≡ pass.old.trace.tickets }
-        ensures fault { IfErr result (IsRunFault L.service pass.old.trace.caller) }
+        ensures fault { IfErr result (IsRunFault L.service pass.old.trace.caller pass.new.flags) }
         ensures grows { OnErr result (Grows pass.old.trace pass.new.trace) }
     {
         let settled = end_job(rt, self.alloc, self.loader, self.outlet.source, pass, job)?;

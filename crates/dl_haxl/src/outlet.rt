@@ -45,6 +45,6 @@ pub(crate) trait Outlet<L: LoaderName> {
             (λ ends sent. jobs_end pass.old.trace.caller jobs.items sent ends)) }
         ensures sent { SentMore (sent_by seat.old) (sent_by seat.new) }
         ensures tickets { pass.new.trace.tickets ≡ pass.old.trace.tickets }
-        ensures fault { IfErr result (IsRunFault L.service pass.old.trace.caller) }
+        ensures fault { IfErr result (IsRunFault L.service pass.old.trace.caller pass.new.flags) }
         ensures grows { OnErr result (Grows pass.old.trace pass.new.trace) };
 }

@@ -62,7 +62,7 @@ pub fn take_steps<L: LoaderName, R: Wait>(
         (λ lines sent. FollowsAndSends pass.old.trace.caller steps.items lines given.answers.items given.rounds sent)) }
     ensures sent { OnErr result (SentMore (sent_jobs sender.old) (sent_jobs sender.new)) }
     ensures older { KeepsTickets pass.old.trace pass.new.trace }
-    ensures fault { IfErr result (IsRunFault L.service pass.old.trace.caller) }
+    ensures fault { IfErr result (IsRunFault L.service pass.old.trace.caller pass.new.flags) }
     ensures grows { OnErr result (Grows pass.old.trace pass.new.trace) }
 {
     let evaluator = Evaluator {
@@ -100,7 +100,7 @@ impl<L: LoaderName> Evaluator<'_, L, JobQueue> {
             (λ lines sent. IsStep pass.old.trace.caller number step (stretch lines (answers_of number given) (rounds_of given) sent))) }
         ensures sent { OnErr result (SentMore (sent_jobs sender.old) (sent_jobs sender.new)) }
         ensures older { KeepsTickets pass.old.trace pass.new.trace }
-        ensures fault { IfErr result (IsRunFault L.service pass.old.trace.caller) }
+        ensures fault { IfErr result (IsRunFault L.service pass.old.trace.caller pass.new.flags) }
         ensures grows { OnErr result (Grows pass.old.trace pass.new.trace) }
     {
         match step {
@@ -126,7 +126,7 @@ impl<L: LoaderName> Evaluator<'_, L, JobQueue> {
         ensures primed { OnOk result (Adds pass.old.trace pass.new.trace
             (λ lines. (at : ℕ) × (reply : Reply) × (lines ≡ call_entry pass.old.trace.caller at (Prime key.now outcome) reply ∷ []))) }
         ensures tickets { pass.new.trace.tickets ≡ pass.old.trace.tickets }
-        ensures fault { IfErr result (IsRunFault L.service pass.old.trace.caller) }
+        ensures fault { IfErr result (IsRunFault L.service pass.old.trace.caller pass.new.flags) }
         ensures grows { OnErr result (Grows pass.old.trace pass.new.trace) }
     {
         match self.loader.prime(rt, self.alloc, pass, key, outcome)? {

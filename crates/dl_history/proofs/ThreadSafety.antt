@@ -18,6 +18,7 @@ use Rattle.dl_values.proofs.list.List.TheSendSync as list
 use Rattle.dl_values.proofs.outcome.BatchFault.TheSendSync as fault
 use Rattle.dl_history.proofs.event.Reply.TheSendSync as reply
 use Rattle.dl_history.proofs.shared.Shared.TheSendSync as shared
+use Rattle.dl_history.proofs.flags.Flags.TheSendSync as flags
 use Rattle.dl_values.specs.contracts.json.Json as Json
 use Rattle.dl_values.specs.contracts.outcome.Outcome as Outcome
 use Rattle.dl_values.specs.contracts.list.List as List
@@ -37,6 +38,7 @@ use Rattle.dl_history.specs.contracts.journal.Journal.TheInside as journal
 use Rattle.dl_history.specs.contracts.cell_rows.CellRows as CellRows
 use Rattle.dl_history.specs.contracts.cell_rows.CellRows.TheInside as rows
 use Rattle.dl_history.specs.contracts.cell_state.CellState as CellState
+use Rattle.dl_history.specs.contracts.flags.Flags as Flags
 use Rattle.dl_history.specs.contracts.ticket.Ticket as Ticket
 use Rattle.dl_history.specs.contracts.ticket.Ticket.TheInside as ticket
 use Rattle.dl_values.specs.contracts.limits.Limits as Limits
@@ -134,7 +136,10 @@ module _ (T : RattleType) (n : name.Ghosts T.Denot) (l : ledger.Ghosts T.Denot) 
     as_row_sync Limits.the_field (search (limits.the_sync) depth 10),
     (
       as_row_sync (Row.the_field Event.the_row) log_sync,
-      (as_row_sync (Row.the_field Ending.the_row) outcomes_sync, (search (as_row_sync, sendable) depth 10, tt)),
+      (
+        as_row_sync (Row.the_field Ending.the_row) outcomes_sync,
+        (as_row_sync Flags.the_field flags.the_field_sync, (search (as_row_sync, sendable) depth 10, tt)),
+      ),
     ),
   )
 

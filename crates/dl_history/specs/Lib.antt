@@ -6,6 +6,8 @@ pub mod Agreement
 pub mod Journal
 pub mod LoaderState
 pub mod ClosedHistory
+pub mod CellNames
+pub mod Flags
 pub mod Pass
 pub mod Additions
 pub mod Accounts

@@ -6,6 +6,7 @@ use Rattle.dl_desk.specs.declared.reply.LoadReply.{LoadReply}
 use Rattle.dl_history.specs.declared.event.Event.{Event}
 use Rattle.dl_history.specs.declared.event.Ending.{Ending}
 use Rattle.dl_history.specs.declared.pass.GivenTicket.{GivenTicket}
+use Rattle.dl_history.specs.Flags.{KnownFlags}
 use Rattle.dl_history.specs.Lists.{Every, Among, total, one_if}
 use Rattle.dl_history.specs.Entries.{event_at, Entry, Called, Saw, read, calls_of, IsOwn, front_of, Ordered, cell_of_load, cells_of, Answered}
 
@@ -20,11 +21,12 @@ pub record Trace : Type 0 where
 abbrev pub trace : ℕ → List Entry → List GivenTicket → Trace
 trace caller entries tickets = record { caller = caller; entries = entries; tickets = tickets }
 
--- what contracts see of a pass: its trace, and for how many more entries and tickets it has room
--- beside an entry for each ticket whose outcome isn't among the entries yet
+-- what contracts see of a pass: its trace, for how many more entries and tickets it has room
+-- beside an entry for each ticket whose outcome isn't among the entries yet, and what its caller was told of the loader's flags
 pub record Pass : Type 0 where
   pub trace : Trace
   pub spare : ℕ
+  pub flags : KnownFlags
 
 -- the fields of a pass, with how many entries and tickets there is room for, and its share of the ledger: so many parts,
 -- which have counted so many calls
@@ -40,12 +42,14 @@ pub record PassFields : Type 0 where
   pub spare : ℕ
   pub parts : ℕ
   pub counted : ℕ
+  pub flags : KnownFlags
 
 -- what contracts see of them
 abbrev pub pass_view : PassFields → Pass
 pass_view fields = record {
   trace = trace fields.caller fields.entries fields.tickets;
   spare = fields.spare;
+  flags = fields.flags;
 }
 
 -- how many of the tickets have no entry of their outcome

@@ -5,17 +5,19 @@ ghost use Rattle.dl_cells.specs.Cells.{row_len};
 ghost use Rattle.dl_values.specs.Limits.{AreLimits};
 
 use crate::event::{Ending, Event};
+use crate::flags::Flags;
 use crate::name::LoaderName;
-use dl_cells::CellRow;
+use dl_cells::{CellRow, Flag};
 use dl_desk::Limits;
 use std::marker::{Model, PhantomData};
 
-/// Where the events of a loader and the outcomes of its cells lie, and how many of both there may be. Contracts
+/// Where the events of a loader and the outcomes of its cells lie, how many of both there may be, and the loader's flags. Contracts
 /// see the limits.
 pub struct CellRows<L: LoaderName> {
     limits: Limits,
     log: CellRow<Event>,
     outcomes: CellRow<Ending>,
+    flags: Flags,
     of: PhantomData<L>,
 }
 
@@ -25,10 +27,12 @@ impl<L: LoaderName> Drop for CellRows<L> {
             limits: _,
             log,
             outcomes,
+            flags,
             of: _,
         } = self;
         drop(log);
         drop(outcomes);
+        drop(flags);
     }
 }
 
@@ -40,24 +44,31 @@ impl<L: LoaderName> Model for CellRows<L> {
 
     ghost view = { λ r. r.limits };
 
-    ghost invariant = { λ r. AreCellRows (record { limits = L.service.rules.limits; log = L.log; outcomes = L.outcomes })
-        (record { limits = r.limits; log = r.log; outcomes = r.outcomes }) };
+    ghost invariant = { λ r. AreCellRows (record { limits = L.service.rules.limits; cells = L.cells })
+        (record { limits = r.limits; cells = record { log = r.log; outcomes = r.outcomes; flags = r.flags } }) };
 }
 
 impl<L: LoaderName> CellRows<L> {
     /// The rows of the loader that `L` stands for, which have room for all that these limits let it have.
-    pub fn new(limits: Limits, log: CellRow<Event>, outcomes: CellRow<Ending>) -> CellRows<L>
+    pub fn new(
+        limits: Limits,
+        log: CellRow<Event>,
+        outcomes: CellRow<Ending>,
+        flags: Flags,
+    ) -> CellRows<L>
         requires limits { limits ≡ L.service.rules.limits }
-        requires log { log ≡ L.log }
-        requires outcomes { outcomes ≡ L.outcomes }
-        requires calls_fit { row_len L.log ≡ limits.max_calls }
-        requires cells_fit { row_len L.outcomes ≡ limits.max_cells }
+        requires log { log ≡ L.cells.log }
+        requires outcomes { outcomes ≡ L.cells.outcomes }
+        requires flags { flags ≡ L.cells.flags }
+        requires calls_fit { row_len L.cells.log ≡ limits.max_calls }
+        requires cells_fit { row_len L.cells.outcomes ≡ limits.max_cells }
         ensures { result ≡ limits }
     {
         CellRows {
             limits,
             log,
             outcomes,
+            flags,
             of: PhantomData,
         }
     }
@@ -79,32 +90,48 @@ impl<L: LoaderName> CellRows<L> {
 
     /// The row that the events lie in.
     pub(crate) fn log(&self) -> &CellRow<Event>
-        ensures row { result.now ≡ L.log }
-        ensures calls { row_len L.log ≡ L.service.rules.limits.max_calls }
+        ensures row { result.now ≡ L.cells.log }
+        ensures calls { row_len L.cells.log ≡ L.service.rules.limits.max_calls }
     {
         &self.log
     }
 
     /// The row that the outcomes of cells lie in.
     pub fn outcomes(&self) -> &CellRow<Ending>
-        ensures row { result.now ≡ L.outcomes }
-        ensures cells { row_len L.outcomes ≡ L.service.rules.limits.max_cells }
+        ensures row { result.now ≡ L.cells.outcomes }
+        ensures cells { row_len L.cells.outcomes ≡ L.service.rules.limits.max_cells }
     {
         &self.outcomes
     }
 
+    /// The flag that is raised when the loader is stopped.
+    pub(crate) fn stop(&self) -> &Flag
+        ensures { result.now ≡ L.cells.flags.stop }
+    {
+        &self.flags.stop
+    }
+
+    /// The flag that is raised when a cell refuses its outcome.
+    pub(crate) fn refusal(&self) -> &Flag
+        ensures { result.now ≡ L.cells.flags.refusal }
+    {
+        &self.flags.refusal
+    }
+
     /// Takes the rows apart: the one that the events lie in, and the one that the outcomes of cells lie in.
     pub(crate) fn into_parts(self) -> (CellRow<Event>, CellRow<Ending>)
-        ensures log { result.0 ≡ L.log }
-        ensures outcomes { result.1 ≡ L.outcomes }
-        ensures cells { row_len L.outcomes ≡ L.service.rules.limits.max_cells }
+        ensures log { result.0 ≡ L.cells.log }
+        ensures outcomes { result.1 ≡ L.cells.outcomes }
+        ensures cells { row_len L.cells.outcomes ≡ L.service.rules.limits.max_cells }
     {
         let CellRows {
             limits: _,
             log,
             outcomes,
+            flags,
             of: _,
         } = self;
+        drop(flags);
         (log, outcomes)
     }
 }

@@ -80,7 +80,7 @@ impl CellState {
 
     /// What is known of the cell is what was read of it, whichever threads know and read.
     pub(crate) fn agree<L: LoaderName>(&self, seen: &Read<L>)
-        requires { self.now.reader.cell ≡ cell_of L.outcomes seen.now.cell }
+        requires { self.now.reader.cell ≡ cell_of L.cells.outcomes seen.now.cell }
         ensures { IfSome self.now.reader.known (λ ending. ending ≡ seen.now.ending) }
     {
         seen.agree(&self.reader);

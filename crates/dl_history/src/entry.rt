@@ -51,7 +51,7 @@ impl<L: LoaderName> Model for PlacedEvent<L> {
 
     ghost view = { λ e. event_at e.at (event_known e.reader.known) };
 
-    ghost invariant = { λ e. (e.at < row_len L.log) × (e.reader.cell ≡ cell_of L.log e.at) × (e.reader.known ≡ Some (event_known e.reader.known)) };
+    ghost invariant = { λ e. (e.at < row_len L.cells.log) × (e.reader.cell ≡ cell_of L.cells.log e.at) × (e.reader.known ≡ Some (event_known e.reader.known)) };
 }
 
 impl<L: LoaderName> PlacedEvent<L> {
@@ -64,9 +64,9 @@ impl<L: LoaderName> PlacedEvent<L> {
         reader: &mut Reader<Event>,
         event: Event,
     ) -> Result<PlacedEvent<L>, Event>
-        requires row { row.now ≡ L.log }
-        requires in_row { at < row_len L.log }
-        requires of_cell { reader.old.cell ≡ cell_of L.log at }
+        requires row { row.now ≡ L.cells.log }
+        requires in_row { at < row_len L.cells.log }
+        requires of_cell { reader.old.cell ≡ cell_of L.cells.log at }
         ensures cell { reader.new.cell ≡ reader.old.cell }
         ensures stored { IfOk result (λ stored. stored ≡ event_at at event) }
         ensures back { IfErr result (λ back. back ≡ event) }
@@ -88,7 +88,7 @@ impl<L: LoaderName> PlacedEvent<L> {
 
     /// A reader of the event's cell, which knows the event.
     pub(crate) fn reader(&self) -> Reader<Event>
-        ensures known { IsKnown L.log self.now.at result }
+        ensures known { IsKnown L.cells.log self.now.at result }
         ensures event { event_known result.known ≡ self.now.event }
     {
         let _at = self.at;
@@ -97,7 +97,7 @@ impl<L: LoaderName> PlacedEvent<L> {
 
     /// A reader of the event's cell that knows an event knows this one, whichever threads hold the two.
     pub(crate) fn agree(&self, reader: &Reader<Event>)
-        requires { reader.now.cell ≡ cell_of L.log self.now.at }
+        requires { reader.now.cell ≡ cell_of L.cells.log self.now.at }
         ensures { IfSome reader.now.known (λ event. event ≡ self.now.event) }
     {
         self.reader.agree(reader);
@@ -126,15 +126,15 @@ impl<L: LoaderName> Model for Read<L> {
 
     ghost view = { λ s. read s.cell (ending_known s.reader.known) };
 
-    ghost invariant = { λ s. (s.cell < row_len L.outcomes) × (s.ended_at ≡ (ending_known s.reader.known).at) × (s.reader.cell ≡ cell_of L.outcomes s.cell)
+    ghost invariant = { λ s. (s.cell < row_len L.cells.outcomes) × (s.ended_at ≡ (ending_known s.reader.known).at) × (s.reader.cell ≡ cell_of L.cells.outcomes s.cell)
         × (s.reader.known ≡ Some (ending_known s.reader.known)) };
 }
 
 impl<L: LoaderName> Read<L> {
     /// The outcome that a reader of a cell knows, which the event at `at` gave the cell.
     pub(crate) fn of(cell: u32, at: u16, reader: Reader<Ending>) -> Read<L>
-        requires in_row { cell < row_len L.outcomes }
-        requires of_cell { reader.cell ≡ cell_of L.outcomes cell }
+        requires in_row { cell < row_len L.cells.outcomes }
+        requires of_cell { reader.cell ≡ cell_of L.cells.outcomes cell }
         requires known { IsSomeAnd reader.known (λ ending. ending.at ≡ at) }
         ensures { result ≡ read cell (ending_known reader.known) }
     {
@@ -162,7 +162,7 @@ impl<L: LoaderName> Read<L> {
 
     /// A reader of the cell that knows an outcome knows this one, whichever threads hold the two.
     pub(crate) fn agree(&self, reader: &Reader<Ending>)
-        requires { reader.now.cell ≡ cell_of L.outcomes self.now.cell }
+        requires { reader.now.cell ≡ cell_of L.cells.outcomes self.now.cell }
         ensures { IfSome reader.now.known (λ ending. ending ≡ self.now.ending) }
     {
         self.reader.agree(reader);

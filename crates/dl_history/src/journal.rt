@@ -56,7 +56,7 @@ impl<L: LoaderName> Model for Journal<L> {
       cells_spare = vec_capacity j.states - length j.states.items;
     } };
 
-    ghost invariant = { λ j. IsJournal L.log L.outcomes (record { counted = j.calls.total; readers = j.log.items; states = j.states.items }) };
+    ghost invariant = { λ j. IsJournal L.cells.log L.cells.outcomes (record { counted = j.calls.total; readers = j.log.items; states = j.states.items }) };
 }
 
 impl<L: LoaderName> Journal<L> {
@@ -123,7 +123,7 @@ impl<L: LoaderName> Journal<L> {
 
     /// Adds the next cell, which has no end yet.
     fn add_cell(&mut self, reader: Reader<Ending>)
-        requires cell { reader.cell ≡ cell_of L.outcomes (length self.old.cells) }
+        requires cell { reader.cell ≡ cell_of L.cells.outcomes (length self.old.cells) }
         requires unknown { reader.known ≡ None }
         requires room { 0 < self.old.cells_spare }
         ensures history { self.new.history ≡ self.old.history }
@@ -149,7 +149,7 @@ impl<L: LoaderName> Journal<L> {
     /// A reader of a cell that was begun, which knows what the cell shows.
     pub fn reader(&self, cell: u32) -> Reader<Ending>
         requires { cell < length self.now.cells }
-        ensures cell { result.cell ≡ cell_of L.outcomes cell }
+        ensures cell { result.cell ≡ cell_of L.cells.outcomes cell }
     {
         self.states[cell as usize].reader.again()
     }

@@ -1,6 +1,6 @@
 //! Names of loaders.
 
-ghost use Rattle.dl_cells.specs.Cells.{RowName, no_row};
+ghost use Rattle.dl_history.specs.CellNames.{CellNames, no_cells};
 ghost use Rattle.dl_history.specs.Service.{Service, no_service};
 
 use std::marker::Brand;
@@ -10,20 +10,15 @@ use std::sync::ledger::Ledger;
 /// whoever opens a loader calls a function over `L: LoaderName` at `std::marker::Brand`, which the
 /// proof then names after the opening. The number of callers is the ledger's number of parts.
 pub trait LoaderName: Ledger {
-    // The row that the history lies in.
-    ghost log: { RowName };
-
-    // The row that the outcomes of cells lie in.
-    ghost outcomes: { RowName };
+    // The row that the history lies in, the row that the outcomes of cells lie in, and the flags.
+    ghost cells: { CellNames };
 
     // What the loader serves by: how it makes batches, its callers, and the one function of its source.
     ghost service: { Service };
 }
 
 impl LoaderName for Brand {
-    ghost log = { no_row };
-
-    ghost outcomes = { no_row };
+    ghost cells = { no_cells };
 
     ghost service = { no_service };
 }

@@ -1,10 +1,11 @@
 //! Passes: what a caller knows of the history.
 
-ghost use Rattle.std.specs.Prelude.{◌≡◌, ◌+◌, ◌<◌, ◌≤◌, Bool, false, IfOk, IfSome, IsSome, OnErr, OnOk, Some, [], length, slice_get};
+ghost use Rattle.std.specs.Prelude.{◌≡◌, ◌+◌, ◌<◌, ◌≤◌, Bool, true, false, IfOk, IfSome, IsSome, OnErr, OnOk, Some, [], length, slice_get};
 ghost use Rattle.dl_history.specs.Accounts.{account_of};
 ghost use Rattle.dl_history.specs.Agreement.{IsAccount, places_of};
 ghost use Rattle.dl_history.specs.ClosedHistory.{outline_of};
 ghost use Rattle.dl_history.specs.Entries.{calls_of, cell_of_load, cells_of, ending_known, front_of};
+ghost use Rattle.dl_history.specs.Flags.{known_flags};
 ghost use Rattle.dl_history.specs.Lists.{Among, Every};
 ghost use Rattle.dl_history.specs.Pass.{GaveTicket, given, trace, with_saw, with_ticket, with_tickets};
 
@@ -12,6 +13,7 @@ mod audit;
 mod events;
 
 use crate::entry::{Entry, Read};
+use crate::flags::KnownFlags;
 use crate::journal::Journal;
 use crate::name::LoaderName;
 use crate::outline::Outline;
@@ -30,8 +32,8 @@ pub(crate) struct GivenTicket {
     seen: bool,
 }
 
-/// What one caller knows of the history: the calls that it made, the outcomes that it read, and the
-/// tickets that it was given. Contracts see these, and for how many more of them there is room.
+/// What one caller knows of the loader: the calls that it made, the outcomes that it read, the tickets that it was given, and
+/// whether it was refused since the loader is stopped. Contracts see these, and for how many more of them there is room.
 pub struct Pass<L: LoaderName> {
     caller: u32,
     entries: Vec<Entry<L>>,
@@ -45,6 +47,7 @@ pub struct Pass<L: LoaderName> {
     // For how many more entries and tickets there is room, beside an entry for each ticket that has none of its outcome.
     spare: usize,
     share: Share<L>,
+    flags: KnownFlags<L>,
 }
 
 impl<L: LoaderName> Drop for Pass<L> {
@@ -58,10 +61,12 @@ impl<L: LoaderName> Drop for Pass<L> {
             unseen: _,
             spare: _,
             share,
+            flags,
         } = self;
         drop(entries);
         drop(tickets);
         drop(share);
+        drop(flags);
     }
 }
 
@@ -87,7 +92,8 @@ impl<L: LoaderName> Pass<L> {
         requires caller { caller < L.service.callers }
         requires part { share.parts ≡ 1 }
         requires amount { share.amount ≡ 0 }
-        ensures { result.trace ≡ trace caller [] [] }
+        ensures trace { result.trace ≡ trace caller [] [] }
+        ensures flags { result.flags ≡ known_flags false false }
     {
         Pass {
             caller,
@@ -98,6 +104,7 @@ impl<L: LoaderName> Pass<L> {
             unseen: 0,
             spare: 0,
             share,
+            flags: KnownFlags::none(),
         }
     }
 
@@ -211,6 +218,31 @@ impl<L: LoaderName> Pass<L> {
         self.spare -= 1;
         self.tickets
             .push_reserved(GivenTicket { cell, seen: false });
+    }
+
+    /// What the caller was told of the loader's flags.
+    pub fn flags(&self) -> &KnownFlags<L>
+        ensures { result.now ≡ self.now.flags }
+    {
+        &self.flags
+    }
+
+    /// Learns that the loader is stopped from who knows it.
+    pub fn learn_stop(&mut self, flags: &KnownFlags<L>)
+        requires { flags.now.stopped ≡ true }
+        ensures trace { self.new.trace ≡ self.old.trace }
+        ensures flags { self.new.flags ≡ known_flags true self.old.flags.refused }
+    {
+        self.flags.learn_stop(flags);
+    }
+
+    /// Learns that a cell refused its outcome from who knows it.
+    pub fn learn_refusal(&mut self, flags: &KnownFlags<L>)
+        requires { flags.now.refused ≡ true }
+        ensures trace { self.new.trace ≡ self.old.trace }
+        ensures flags { self.new.flags ≡ known_flags self.old.flags.stopped true }
+    {
+        self.flags.learn_refusal(flags);
     }
 
     /// Adds the outcome that a ticket of this pass shows, once: where it is among the entries already,

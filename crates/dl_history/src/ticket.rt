@@ -48,8 +48,8 @@ impl<'a, L: LoaderName> Model for Ticket<'a, L> {
 
     ghost view = { λ t. ticket t.number t.reply t.reader.known };
 
-    ghost invariant = { λ t. (t.row.now ≡ L.outcomes) × (cell_of_load t.reply < row_len L.outcomes)
-        × (t.reader.cell ≡ cell_of L.outcomes (cell_of_load t.reply)) };
+    ghost invariant = { λ t. (t.row.now ≡ L.cells.outcomes) × (cell_of_load t.reply < row_len L.cells.outcomes)
+        × (t.reader.cell ≡ cell_of L.cells.outcomes (cell_of_load t.reply)) };
 }
 
 /// The cell of a load that was replied so.
@@ -71,9 +71,9 @@ impl<'a, L: LoaderName> Ticket<'a, L> {
         reply: LoadReply,
         reader: Reader<Ending>,
     ) -> Ticket<'a, L>
-        requires row { row.now ≡ L.outcomes }
-        requires in_row { cell_of_load reply < row_len L.outcomes }
-        requires of_cell { reader.cell ≡ cell_of L.outcomes (cell_of_load reply) }
+        requires row { row.now ≡ L.cells.outcomes }
+        requires in_row { cell_of_load reply < row_len L.cells.outcomes }
+        requires of_cell { reader.cell ≡ cell_of L.cells.outcomes (cell_of_load reply) }
         ensures { result ≡ ticket number reply reader.known }
     {
         Ticket {

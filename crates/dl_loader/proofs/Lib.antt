@@ -3,6 +3,7 @@ pub mod NewTickets
 pub mod LoadCells
 pub mod NewCells
 pub mod NextEvent
+mod StopCause
 pub mod CellEnds
 pub mod DueLemmas
 pub mod Preparations

@@ -38,7 +38,7 @@ ready_at limit front len false false false b f none = (ltb-false len front b, le
 pub ready_facts : (s : Service) (b : Book) (p : Trace) → unready s b p ≡ None
     → (front_of p.entries ≤ length b.history) × (length b.history < s.rules.limits.max_calls)
 ready_facts s b p none =
-    ready_at s.rules.limits.max_calls (front_of p.entries) (length b.history) b.stopped (nat_lt (length b.history) (front_of p.entries))
+    ready_at s.rules.limits.max_calls (front_of p.entries) (length b.history) b.flags.stopped (nat_lt (length b.history) (front_of p.entries))
     (nat_le s.rules.limits.max_calls (length b.history)) refl refl none
 
 -- ---- an event more

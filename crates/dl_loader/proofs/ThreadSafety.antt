@@ -9,19 +9,24 @@ use Rattle.std.proofs.Crossing.{crosses as owners_cross}
 use Rattle.std.specs.contracts.sync.Mutex as Mutex
 use Rattle.dl_desk.specs.contracts.desk.Desk as Desk
 use Rattle.dl_history.specs.contracts.cell_rows.CellRows as CellRows
+use Rattle.dl_history.specs.contracts.flags.KnownFlags as KnownFlags
 use Rattle.dl_history.specs.contracts.journal.Journal as Journal
 use Rattle.dl_loader.specs.contracts.book.Book as Book
 use Rattle.dl_loader.specs.contracts.book.Book.TheInside as book
 use Rattle.dl_loader.specs.contracts.loader.Loader as Loader
 use Rattle.dl_loader.specs.contracts.loader.Loader.TheInside as loader
 use Rattle.dl_desk.proofs.desk.Desk.TheSendSync as desk
+use Rattle.dl_history.proofs.flags.KnownFlags.TheSendSync as flags
 use Rattle.dl_history.proofs.ThreadSafety.{Journal-send, CellRows-sync}
 
 module _ (T : RattleType) (n : name.Ghosts T.Denot) (l : ledger.Ghosts T.Denot) where
   book_send : IsSend (book.the_row T n l)
   book_send = declared_send (book.the_type T n l) (
     as_row_send Desk.the_field (search (desk.the_send) depth 10),
-    (as_row_send (Journal.the_field T n l) (Journal-send T n l), (search (as_row_send, sendable) depth 10, tt)),
+    (
+      as_row_send (Journal.the_field T n l) (Journal-send T n l),
+      (as_row_send (KnownFlags.the_field T n l) (search (flags.the_send) depth 10), tt),
+    ),
   )
 
   pub Book-send : IsSend (Book.the_row T n l)

@@ -1,5 +1,5 @@
 -- What an event that was made leaves in the book and in the pass of its caller.
-use Rattle.std.specs.Prelude.{◌≡◌, ℕ, ◌≤◌, List, [], ◌∷◌, ◌++◌, length, Option}
+use Rattle.std.specs.Prelude.{◌≡◌, ℕ, ◌≤◌, true, List, [], ◌∷◌, ◌++◌, length, Option}
 use Rattle.dl_values.specs.declared.job.Job.{Job}
 use Rattle.dl_desk.specs.declared.reply.LoadReply.{LoadReply}
 use Rattle.dl_history.specs.declared.event.Event.{Event}
@@ -12,6 +12,8 @@ use Rattle.dl_history.specs.Entries.{front_of}
 use Rattle.dl_loader.specs.Book.{Book, Keeps}
 use Rattle.dl_loader.specs.Refusals.{IsRefusal}
 use Rattle.dl_history.specs.declared.fault.CallFault.{CallFault}
+use Rattle.dl_history.specs.declared.fault.CallFault.TheVariants.{Stopped}
+use Rattle.dl_history.specs.Flags.{KnownFlags}
 
 -- the event of a caller's call
 abbrev pub event_of : Trace → Call → Reply → Event
@@ -34,7 +36,7 @@ with_event p at call reply = with_tickets (with_call p at (event_of p call reply
 pub record Makes (before : Book) (old : Trace) (call : Call) (reply : Reply) (now : Book) (new : Trace) : Type 0 where
   pub history : now.history ≡ before.history ++ event_of old call reply ∷ []
   pub trace : new ≡ with_event old (length before.history) call reply
-  pub stopped : now.stopped ≡ before.stopped
+  pub flags : now.flags ≡ before.flags
 
 -- ---- what a caller knows of a call that was made under the lock
 
@@ -46,3 +48,7 @@ WasMade service old call reply new =
 -- at a book that keeps what the loader's does the call was refused so; that it was the locked one nothing says
 abbrev pub WasRefused : Service → Trace → Call → Option Job → CallFault → Type 0
 WasRefused service p call job fault = (before : Book) × Keeps service before × IsRefusal service before p call job fault
+
+-- Whoever is refused since the loader is stopped knows the flag that says so.
+abbrev pub KnowsStop : KnownFlags → CallFault → Type 0
+KnowsStop flags fault = fault ≡ Stopped → flags.stopped ≡ true

@@ -1,21 +1,21 @@
 -- What a loader is opened with.
 use Rattle.std.specs.Prelude.{◌≡◌, ℕ, ◌<◌, ◌≤◌, List}
-use Rattle.dl_cells.specs.Cells.{RowName, row_len}
+use Rattle.dl_cells.specs.Cells.{row_len}
 use Rattle.dl_values.specs.Key.{Key}
 use Rattle.dl_values.specs.Limits.{Limits, Rules}
 use Rattle.dl_values.specs.declared.outcome.BatchAnswer.{BatchAnswer}
+use Rattle.dl_history.specs.CellNames.{CellNames}
 use Rattle.dl_history.specs.Service.{Service, Answers, AnswersEach, service}
 use Rattle.dl_history.specs.declared.fault.StartFault.{StartFault}
 use Rattle.dl_history.specs.declared.fault.StartFault.TheVariants.{NoCallers, TooManyCallers, OutOfMemory}
 
 -- what contracts see of an opening: its source, how batches will be made, how many callers there will be,
--- the loader's two rows, and the name of the ledger that counts its events
+-- the loader's set-once cells, and the name of the ledger that counts its events
 pub record Opening (S : Type 0) : Type 0 where
   pub source : S
   pub rules : Rules
   pub callers : ℕ
-  pub log : RowName
-  pub outcomes : RowName
+  pub cells : CellNames
   pub ledger : ℕ
 
 -- the most callers of a loader
@@ -28,20 +28,19 @@ pub record AreCallers (callers : ℕ) : Type 0 where
   pub most : callers ≤ most_callers
 
 -- the fields of an opening, beside its source: its limits, how many callers there will be, the parts of the ledger, and the
--- loader's two rows
+-- loader's set-once cells
 pub record OpeningFields : Type 0 where
   pub limits : Limits
   pub callers : ℕ
   pub parts : ℕ
-  pub log : RowName
-  pub outcomes : RowName
+  pub cells : CellNames
 
 -- the rows have room for all calls and cells, and each caller has a part of the ledger
 pub record IsOpening (fields : OpeningFields) : Type 0 where
   pub parts_are : fields.parts ≡ fields.callers
   pub callers_are : AreCallers fields.callers
-  pub calls_fit : row_len fields.log ≡ fields.limits.max_calls
-  pub cells_fit : row_len fields.outcomes ≡ fields.limits.max_cells
+  pub calls_fit : row_len fields.cells.log ≡ fields.limits.max_calls
+  pub cells_fit : row_len fields.cells.outcomes ≡ fields.limits.max_cells
 
 -- the fault names the first cause why there can't be so many callers
 abbrev pub RefusedAs : ℕ → StartFault → Type 0
@@ -54,15 +53,14 @@ abbrev pub service_of : {S : Type 0} → (S → List Key → BatchAnswer) → Op
 service_of answer opening = service opening.rules opening.callers (answer opening.source)
 
 -- The loader that a type stands for is the one of the opening: what the type says of it is what it serves by, the number of the
--- ledger's parts, its two rows, and the ledger.
-pub record Names {S : Type 0} (answer : S → List Key → BatchAnswer) (opening : Opening S) (own : Service) (parts : ℕ) (log outcomes : RowName)
+-- ledger's parts, its set-once cells, and the ledger.
+pub record Names {S : Type 0} (answer : S → List Key → BatchAnswer) (opening : Opening S) (own : Service) (parts : ℕ) (cells : CellNames)
     (ledger : ℕ) : Type 0 where
   pub rules : opening.rules ≡ own.rules
   pub callers : opening.callers ≡ own.callers
   pub answers : Answers (answer opening.source) own
   pub parts_are : opening.callers ≡ parts
-  pub log_is : opening.log ≡ log
-  pub outcomes_are : opening.outcomes ≡ outcomes
+  pub cells_are : opening.cells ≡ cells
   pub ledger_is : opening.ledger ≡ ledger
 
 -- what holds of the fields of a loader: it has its number of callers, each with a part of the ledger, and its source

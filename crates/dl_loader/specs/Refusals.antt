@@ -22,7 +22,7 @@ use Rattle.dl_history.specs.Faults.{call_fault}
 -- the history is full.
 abbrev pub unready : Service → Book → Trace → Option CallFault
 unready service b p =
-    if b.stopped then Some Stopped
+    if b.flags.stopped then Some Stopped
     else if nat_lt (length b.history) (front_of p.entries) then Some (Behind (front_of p.entries) (length b.history))
     else if nat_le service.rules.limits.max_calls (length b.history) then Some (LogFull service.rules.limits.max_calls)
     else None

@@ -4,19 +4,20 @@ ghost use Rattle.std.specs.Prelude.{◌≡◌, ◌<◌, ◌≤◌, [], false, tr
 ghost use Rattle.dl_values.specs.Limits.{rules_by};
 ghost use Rattle.dl_loader.specs.Book.{Keeps, book};
 ghost use Rattle.dl_history.specs.Entries.{cell_of_load, front_of};
+ghost use Rattle.dl_history.specs.Flags.{known_flags};
 ghost use Rattle.dl_loader.specs.Refusals.{unready};
 
 mod close;
 mod record;
 
 use dl_desk::{Desk, Limits, LoadReply, TableLimits};
-use dl_history::{CallFault, CellRows, Journal, LoaderName, Pass, Ticket, load_cell};
+use dl_history::{CallFault, CellRows, Journal, KnownFlags, LoaderName, Pass, Ticket, load_cell};
 use std::alloc::Global;
 use std::hash::RandomState;
 use std::marker::Model;
-use std::sync::ledger;
+use std::sync::{Wait, ledger};
 
-/// What lies behind the lock of a loader: its desk, its history and cells, and whether it is stopped.
+/// What lies behind the lock of a loader: its desk, its history and cells, and what is known of its flags.
 ///
 /// Whenever the lock is free, the memo and the batches of the desk are those of the history, the history is
 /// legal, and each cell that has an end shows it, or refused it, and then the book keeps it.
@@ -24,7 +25,7 @@ use std::sync::ledger;
 pub struct Book<L: LoaderName> {
     desk: Desk,
     journal: Journal<L>,
-    stopped: bool,
+    flags: KnownFlags<L>,
 }
 
 impl<L: LoaderName> Model for Book<L> {
@@ -37,9 +38,9 @@ impl<L: LoaderName> Model for Book<L> {
 
     ghost coded = { Prim.hlevel (codes, event.the_row.coded, ending.the_row.coded) };
 
-    ghost view = { λ b. book b.journal.history b.desk.book b.journal.cells b.stopped };
+    ghost view = { λ b. book b.journal.history b.desk.book b.journal.cells b.flags };
 
-    ghost invariant = { λ b. Keeps L.service (book b.journal.history b.desk.book b.journal.cells b.stopped) };
+    ghost invariant = { λ b. Keeps L.service (book b.journal.history b.desk.book b.journal.cells b.flags) };
 }
 
 impl<L: LoaderName> Book<L> {
@@ -54,7 +55,7 @@ impl<L: LoaderName> Book<L> {
         requires rules { rules_by limits tables ≡ L.service.rules }
         requires none_counted { calls.total ≡ 0 }
         ensures history { result.history ≡ [] }
-        ensures not_stopped { result.stopped ≡ false }
+        ensures flags { result.flags ≡ known_flags false false }
     {
         let desk = match tables {
             Some(tables) => Desk::by_table(alloc, hashing, limits, tables),
@@ -63,7 +64,7 @@ impl<L: LoaderName> Book<L> {
         Book {
             desk,
             journal: Journal::new(alloc, calls),
-            stopped: false,
+            flags: KnownFlags::none(),
         }
     }
 
@@ -75,7 +76,7 @@ impl<L: LoaderName> Book<L> {
         ensures after { OnOk result (front_of pass.now.trace.entries ≤ length self.now.history) }
         ensures room { OnOk result (length self.now.history < L.service.rules.limits.max_calls) }
     {
-        if self.stopped {
+        if self.flags.is_stopped() {
             return Err(CallFault::Stopped);
         }
         let front = pass.front();
@@ -109,17 +110,27 @@ impl<L: LoaderName> Book<L> {
     }
 
     /// Stops the loader: no pass may make an event from then on.
-    pub(crate) fn stop(&mut self)
-        ensures { self.new ≡ book self.old.history self.old.desk self.old.cells true }
+    pub(crate) fn stop(&mut self, rt: &impl Wait, rows: &CellRows<L>)
+        ensures { self.new ≡ book self.old.history self.old.desk self.old.cells (known_flags true self.old.flags.refused) }
     {
-        self.stopped = true;
+        self.flags.stop(rt, rows);
     }
 
-    /// Whether the loader is stopped.
-    pub(crate) fn is_stopped(&self) -> bool
-        ensures { result ≡ self.now.stopped }
+    /// Notes that a cell refused its outcome, and tells a pass of it.
+    pub(crate) fn refuse(&mut self, rt: &impl Wait, rows: &CellRows<L>, pass: &mut Pass<L>)
+        ensures book { self.new ≡ book self.old.history self.old.desk self.old.cells (known_flags self.old.flags.stopped true) }
+        ensures trace { pass.new.trace ≡ pass.old.trace }
+        ensures flags { pass.new.flags ≡ known_flags pass.old.flags.stopped true }
     {
-        self.stopped
+        self.flags.refuse(rt, rows);
+        pass.learn_refusal(&self.flags);
+    }
+
+    /// What is known of the loader's flags.
+    pub(crate) fn flags(&self) -> &KnownFlags<L>
+        ensures { result.now ≡ self.now.flags }
+    {
+        &self.flags
     }
 
     /// What every book keeps: its history is legal, and all else is that of the history.

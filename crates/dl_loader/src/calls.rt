@@ -1,8 +1,7 @@
 //! The event calls. Each takes the lock, makes one event, and gives the lock back.
 
-ghost use Rattle.std.specs.Prelude.{◌≡◌, ◌+◌, ◌<◌, IfErr, IfOk, OnErr};
-ghost use Rattle.dl_loader.specs.Book.{SomeCellRefused};
-ghost use Rattle.dl_loader.specs.EventEffect.{WasMade, WasRefused, loads_of};
+ghost use Rattle.std.specs.Prelude.{◌≡◌, ◌+◌, ◌<◌, true, IfErr, IfOk, OnErr};
+ghost use Rattle.dl_loader.specs.EventEffect.{KnowsStop, WasMade, WasRefused, loads_of};
 ghost use Rattle.dl_loader.specs.Inside.Preparation.{ended_count};
 ghost use Rattle.dl_history.specs.Pass.{with_tickets};
 
@@ -36,10 +35,13 @@ impl<L: LoaderName> Loader<L> {
         ensures made { IfOk result (λ r. WasMade L.service pass.old.trace (C.call call.now) (C.told r.0) pass.new.trace) }
         ensures tickets { IfOk result (λ r. pass.new.trace.tickets ≡ (with_tickets pass.old.trace (loads_of (C.told r.0))).tickets) }
         ensures each { IfOk result (λ r. r.1.shown + r.1.refused ≡ ended_count (C.job call.now) (C.told r.0)) }
-        ensures refused { IfOk result (λ r. 0 < r.1.refused → SomeCellRefused L.service) }
+        ensures refused { IfOk result (λ r. 0 < r.1.refused → pass.new.flags.refused ≡ true) }
         ensures fault { IfErr result (WasRefused L.service pass.old.trace (C.call call.now) (C.job call.now)) }
+        ensures knows { IfErr result (KnowsStop pass.new.flags) }
         ensures unchanged { OnErr result (pass.new.trace ≡ pass.old.trace) }
     {
-        self.book.lock(rt).make(alloc, &self.rows, pass, call)
+        self.book
+            .lock(rt)
+            .make_known(rt, alloc, &self.rows, pass, call)
     }
 }

@@ -1,8 +1,8 @@
 //! The ends of jobs' batches by what a source answers.
 
-ghost use Rattle.std.specs.Prelude.{◌≡◌, ◌+◌, ◌<◌, IfErr, IfOk, OnErr, OnOk, length};
+ghost use Rattle.std.specs.Prelude.{◌≡◌, ◌+◌, ◌<◌, true, IfErr, IfOk, OnErr, OnOk, length};
 ghost use Rattle.dl_history.specs.Service.{Answers};
-ghost use Rattle.dl_loader.specs.Book.{SomeCellRefused};
+ghost use Rattle.dl_loader.specs.EventEffect.{KnowsStop};
 ghost use Rattle.dl_loader.specs.JobEnd.{WasEnded, WasNotEnded, WereEnded, WereEndedBefore};
 
 use crate::ask::GiveUp;
@@ -31,8 +31,9 @@ pub fn end_job<L: LoaderName, S: Source>(
     requires source { Answers (S.answer source.now) L.service }
     ensures ended { OnOk result (WasEnded L.service pass.old.trace job pass.new.trace) }
     ensures each { IfOk result (λ settled. settled.shown + settled.refused ≡ length job.keys) }
-    ensures refused { IfOk result (λ settled. 0 < settled.refused → SomeCellRefused L.service) }
+    ensures refused { IfOk result (λ settled. 0 < settled.refused → pass.new.flags.refused ≡ true) }
     ensures fault { IfErr result (WasNotEnded L.service pass.old.trace job) }
+    ensures knows { IfErr result (KnowsStop pass.new.flags) }
     ensures unchanged { OnErr result (pass.new.trace ≡ pass.old.trace) }
     ensures tickets { pass.new.trace.tickets ≡ pass.old.trace.tickets }
 {
@@ -62,6 +63,7 @@ pub fn end_jobs<L: LoaderName, S: Source>(
 ) -> Result<(), CallFault>
     requires source { Answers (S.answer source.now) L.service }
     ensures ended { OnOk result (WereEnded L.service pass.old.trace jobs.items pass.new.trace) }
+    ensures knows { IfErr result (KnowsStop pass.new.flags) }
     ensures stopped { IfErr result (WereEndedBefore L.service pass.old.trace jobs.items pass.new.trace) }
     ensures tickets { pass.new.trace.tickets ≡ pass.old.trace.tickets }
 {
@@ -81,8 +83,9 @@ fn give_up<L: LoaderName>(
 ) -> Result<Settled, CallFault>
     ensures ended { OnOk result (WasEnded L.service pass.old.trace job pass.new.trace) }
     ensures each { IfOk result (λ settled. settled.shown + settled.refused ≡ length job.keys) }
-    ensures refused { IfOk result (λ settled. 0 < settled.refused → SomeCellRefused L.service) }
+    ensures refused { IfOk result (λ settled. 0 < settled.refused → pass.new.flags.refused ≡ true) }
     ensures fault { IfErr result (WasNotEnded L.service pass.old.trace job) }
+    ensures knows { IfErr result (KnowsStop pass.new.flags) }
     ensures unchanged { OnErr result (pass.new.trace ≡ pass.old.trace) }
     ensures tickets { pass.new.trace.tickets ≡ pass.old.trace.tickets }
 {

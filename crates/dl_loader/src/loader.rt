@@ -1,9 +1,8 @@
 //! The shared loader.
 
-ghost use Rattle.std.specs.Prelude.{◌≡◌, Bool, IfErr, IfOk, IfSome, IsSome, None, OnErr, OnOk, Some, map};
+ghost use Rattle.std.specs.Prelude.{◌≡◌, Bool, true, IfErr, IfOk, IfSome, IsSome, None, OnErr, OnOk, Some, map};
 ghost use Rattle.dl_history.specs.declared.fault.StartFault.TheVariants.{OutOfMemory};
 ghost use Rattle.dl_history.specs.Entries.{cell_of_load, ending_known};
-ghost use Rattle.dl_loader.specs.Book.{SomeStopped};
 ghost use Rattle.dl_loader.specs.Opening.{Names};
 ghost use Rattle.dl_history.specs.Pass.{GaveTicket, new_traces, with_saw};
 
@@ -74,7 +73,7 @@ impl<L: LoaderName> Loader<L> {
         alloc: Global,
         opening: Opening<'_, S>,
     ) -> Result<(Loader<L>, Vec<Pass<L>>), StartFault>
-        requires names { Names S.answer opening L.service L.parts L.log L.outcomes L.name }
+        requires names { Names S.answer opening L.service L.parts L.cells L.name }
         ensures passes { IfOk result (λ r. map (λ p. p.trace) r.1.items ≡ new_traces 0 L.service.callers) }
         ensures fault { IfErr result (λ fault. fault ≡ OutOfMemory) }
     {
@@ -85,6 +84,7 @@ impl<L: LoaderName> Loader<L> {
             callers,
             log,
             outcomes,
+            flags,
             blank,
             ..
         } = opening;
@@ -93,7 +93,7 @@ impl<L: LoaderName> Loader<L> {
         let book = Book::new(alloc, hashing, limits, tables, calls);
         let loader = Loader {
             callers,
-            rows: CellRows::new(limits, log, outcomes),
+            rows: CellRows::new(limits, log, outcomes, flags),
             book: Mutex::new(book),
             changed: Condvar::new(),
         };
@@ -113,7 +113,7 @@ impl<L: LoaderName> Loader<L> {
     /// Stops the loader: from then on no pass may make an event, and no wait for a cell that has not ended
     /// goes on.
     pub fn stop(&self, rt: &impl Wait) {
-        self.book.lock(rt).stop();
+        self.book.lock(rt).stop(rt, &self.rows);
         self.wake();
     }
 
@@ -127,8 +127,8 @@ impl<L: LoaderName> Loader<L> {
     /// entries already, the pass stays as it is. Where the ticket shows its outcome at once, no lock is taken.
     ///
     /// # Errors
-    /// `Stopped` where the loader is stopped and the cell has not ended. The pass then tells what it told
-    /// before.
+    /// `Stopped` where the loader is stopped and the cell has not ended. The pass then knows that the loader is stopped, and tells else
+    /// what it told before.
     pub fn wait(
         &self,
         rt: &impl Wait,
@@ -145,31 +145,37 @@ impl<L: LoaderName> Loader<L> {
             × (pass.new.trace ≡ with_saw pass.old.trace ticket.old.number (cell_of_load ticket.old.reply) (ending_known ticket.new.known) seen)) }
         ensures unchanged { OnErr result (pass.new.trace ≡ pass.old.trace) }
         ensures none { OnErr result (ticket.new.known ≡ None) }
-        ensures stopped { OnErr result (SomeStopped L.service) }
+        ensures stopped { OnErr result (pass.new.flags.stopped ≡ true) }
     {
         if ticket.look().is_none() {
-            self.wait_for(rt, ticket)?;
+            self.wait_for(rt, pass, ticket)?;
         }
         pass.saw(ticket);
         Ok(())
     }
 
     /// Waits under the lock until the ticket shows its outcome.
-    fn wait_for(&self, rt: &impl Wait, ticket: &mut Ticket<'_, L>) -> Result<(), Stopped>
+    fn wait_for(
+        &self,
+        rt: &impl Wait,
+        pass: &mut Pass<L>,
+        ticket: &mut Ticket<'_, L>,
+    ) -> Result<(), Stopped>
         requires { ticket.old.known ≡ None }
         ensures number { ticket.new.number ≡ ticket.old.number }
         ensures reply { ticket.new.reply ≡ ticket.old.reply }
         ensures shown { OnOk result (IsSome ticket.new.known) }
         ensures none { OnErr result (ticket.new.known ≡ None) }
-        ensures stopped { OnErr result (SomeStopped L.service) }
+        ensures trace { pass.new.trace ≡ pass.old.trace }
+        ensures stopped { OnErr result (pass.new.flags.stopped ≡ true) }
     {
         let mut book = self.book.lock(rt);
         for _ in rt.forever() {
             if ticket.look().is_some() {
                 return Ok(());
             }
-            if book.is_stopped() {
-                book.keeps();
+            if book.flags().is_stopped() {
+                pass.learn_stop(book.flags());
                 return Err(Stopped);
             }
             book = self.changed.wait(rt, book);

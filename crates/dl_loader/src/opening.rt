@@ -7,7 +7,7 @@ ghost use Rattle.dl_loader.specs.Opening.{AreCallers, RefusedAs};
 
 use dl_cells::CellRow;
 use dl_desk::{Limits, TableLimits};
-use dl_history::{Ending, Event, StartFault};
+use dl_history::{Ending, Event, Flags, StartFault};
 use dl_source::Source;
 use std::alloc::Global;
 use std::hash::RandomState;
@@ -32,6 +32,7 @@ pub struct Opening<'s, S: Source> {
     pub(crate) callers: u32,
     pub(crate) log: CellRow<Event>,
     pub(crate) outcomes: CellRow<Ending>,
+    pub(crate) flags: Flags,
     pub(crate) blank: Blank,
 }
 
@@ -45,8 +46,7 @@ impl<'s, S: Source> Model for Opening<'s, S> {
       source = o.source.now;
       rules = rules_by o.limits o.tables;
       callers = o.blank.parts;
-      log = o.log;
-      outcomes = o.outcomes;
+      cells = record { log = o.log; outcomes = o.outcomes; flags = o.flags };
       ledger = o.blank.name;
     } };
 
@@ -54,8 +54,7 @@ impl<'s, S: Source> Model for Opening<'s, S> {
       limits = o.limits;
       callers = o.callers;
       parts = o.blank.parts;
-      log = o.log;
-      outcomes = o.outcomes;
+      cells = record { log = o.log; outcomes = o.outcomes; flags = o.flags };
     }) };
 }
 
@@ -126,6 +125,7 @@ impl<'s, S: Source> Opening<'s, S> {
             callers,
             log,
             outcomes,
+            flags: Flags::new(),
             blank: Blank::new(callers as u64),
         })
     }

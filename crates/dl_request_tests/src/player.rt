@@ -122,7 +122,7 @@ fn play<
     turns: &[Turn<'_>],
 ) -> Result<History, CloseFault>
     requires source { opening.source ≡ source.now }
-    requires names { Names S.answer opening L.service L.parts L.log L.outcomes L.name }
+    requires names { Names S.answer opening L.service L.parts L.cells L.name }
 {
     let started = Loader::<L>::start(stage.alloc, opening);
     let (loader, mut passes) = started.expect(stage.rt, "no loader");

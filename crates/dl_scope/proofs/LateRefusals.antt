@@ -15,7 +15,7 @@ use Rattle.dl_workers.specs.declared.worker.WorkerEnd.{WorkerEnd}
 use Rattle.dl_haxl.specs.RunFaults.{IsRunFault}
 use Rattle.dl_report.specs.declared.fault.RunFault.{RunFault}
 use Rattle.dl_report.specs.declared.step_answers.StepAnswers.{StepAnswers}
-use Rattle.dl_scope.specs.Faults.{AreEnds, MayServe, Met, RefusedAs}
+use Rattle.dl_scope.specs.Faults.{AreEnds, MayServe, Met, RefusedAs, MayMeet}
 use Rattle.dl_scope.specs.Inside.Results.{IsFaultOf, fault_of, met}
 use Rattle.dl_tasks.specs.WorkerRuns.{IsWorkerRun}
 use Rattle.dl_scope.specs.Inside.ThreadRuns.{IsPlanRun}
@@ -39,21 +39,22 @@ module _ {L : Type 0} (queue : JobQueue) (service : Service) where
   -- a fault that a plan's run met is one that evaluations of its caller may meet
   faults_may_be : (n k : ℕ) (tasks : List (PlanTask L)) (runs : List (PlanRun L)) (others : List Pass) → AllZip (IsPlanRun queue service) tasks runs
       → parts_of (map (λ task. task.pass) tasks ++ others) ≡ new_traces n k → (m : ℕ) (fault : RunFault) → Met (map fault_of runs) m fault
-      → IsRunFault service (n + m) fault
+      → MayMeet service (n + m) fault
   faults_may_be n k [] [] others kept is m fault at = absurd (let bad : ◌≡◌ {A = Option (Option RunFault)} None (Some (Some fault)) = at in cc)
   faults_may_be n k [] (run ∷ runs) others kept is m fault at = absurd kept
   faults_may_be n k (task ∷ tasks) [] others kept is m fault at = absurd kept
   faults_may_be n k (task ∷ tasks) (run ∷ runs) others (one, kept) is zero fault at =
       let first = fresh_first n k task.pass.trace (parts_of (map (λ (t : PlanTask L). t.pass) tasks ++ others)) is in
       let here : met run.given ≡ Some fault = cc in
-      let may : IsRunFault service task.pass.trace.caller fault =
-      subst (λ (g : Result StepAnswers RunFault). IfErr g (IsRunFault service task.pass.trace.caller)) (met_given run.given fault here) one.2 in
+      let flags = run.pass.flags in
+      let may : IsRunFault service task.pass.trace.caller flags fault =
+      subst (λ (g : Result StepAnswers RunFault). IfErr g (IsRunFault service task.pass.trace.caller flags)) (met_given run.given fault here) one.2 in
       let number : n ≡ n + 0 = omega arith in
-      subst (λ c. IsRunFault service c fault) (ap (λ (p : Trace). p.caller) first.1 ∙ number) may
+      (flags, subst (λ c. IsRunFault service c flags fault) (ap (λ (p : Trace). p.caller) first.1 ∙ number) may)
   faults_may_be n k (task ∷ tasks) (run ∷ runs) others (one, kept) is (suc m) fault at =
       let first = fresh_first n k task.pass.trace (parts_of (map (λ (t : PlanTask L). t.pass) tasks ++ others)) is in
       let number : suc n + m ≡ n + suc m = omega arith in
-      subst (λ c. IsRunFault service c fault) number (faults_may_be (suc n) first.0 tasks runs others kept first.2 m fault at)
+      subst (λ c. MayMeet service c fault) number (faults_may_be (suc n) first.0 tasks runs others kept first.2 m fault at)
 
   -- the runs of all plans and workers are their ends
   pub are_ends : (k workers : ℕ) (plans : List Plan) (tasks : List (PlanTask L)) (runs : List (PlanRun L)) (worker_tasks : List (WorkerTask L))
@@ -70,7 +71,7 @@ module _ {L : Type 0} (queue : JobQueue) (service : Service) where
       record {
         each_plan = omega (arith, long, each, all, same);
         each_worker = omega (arith, long2, each2, count);
-        may_be = λ n fault at. subst (λ m. IsRunFault service m fault) (none_before n)
+        may_be = λ n fault at. subst (λ m. MayMeet service m fault) (none_before n)
             (faults_may_be 0 k tasks runs (map (λ (task : WorkerTask L). task.pass) worker_tasks) kept is n fault at);
       }
 

@@ -1,6 +1,7 @@
 -- When plans are refused.
 use Rattle.std.specs.Prelude.{◌≡◌, ℕ, ◌+◌, ◌<◌, ◌≤◌, ◌⊎◌, List, length, Option, Some, slice_get}
 use Rattle.dl_history.specs.Agreement.{Account}
+use Rattle.dl_history.specs.Flags.{KnownFlags}
 use Rattle.dl_history.specs.Service.{Service}
 use Rattle.dl_haxl.specs.RunFaults.{IsRunFault}
 use Rattle.dl_report.specs.declared.fault.RunFault.{RunFault}
@@ -63,11 +64,15 @@ pub record WereStopped (faults : List (Option RunFault)) (ends : List WorkerEnd)
   pub none_own : (n : ℕ) (fault : RunFault) → Met faults n fault → IsStop fault
   pub some : AnyMet faults ⊎ AnyGaveUp ends
 
+-- a fault that an evaluation of the caller may meet, whatever is known of its loader's flags
+abbrev pub MayMeet : Service → ℕ → RunFault → Type 0
+MayMeet service caller fault = (flags : KnownFlags) × IsRunFault service caller flags fault
+
 -- so many plans and workers ended so, each plan with a fault that a caller's evaluations may meet, if with any
 pub record AreEnds (service : Service) (plans workers : ℕ) (faults : List (Option RunFault)) (ends : List WorkerEnd) : Type 0 where
   pub each_plan : length faults ≡ plans
   pub each_worker : length ends ≡ workers
-  pub may_be : (n : ℕ) (fault : RunFault) → Met faults n fault → IsRunFault service n fault
+  pub may_be : (n : ℕ) (fault : RunFault) → Met faults n fault → MayMeet service n fault
 
 -- there are such ends, of which this holds
 abbrev pub EndedSo : Service → ℕ → ℕ → (List (Option RunFault) → List WorkerEnd → Type 0) → Type 0

@@ -141,7 +141,7 @@ fn serve_at<
     plans: Vec<Plan>,
 ) -> Result<Report, ScopeFault>
     requires source { opening.source ≡ resources.now.source.now }
-    requires names { Names S.answer opening L.service L.parts L.log L.outcomes L.name }
+    requires names { Names S.answer opening L.service L.parts L.cells L.name }
     requires plans { ArePlans (length plans.items) }
     requires workers { AreWorkers setup.now.workers }
     requires callers { opening.callers ≡ length plans.items + setup.now.workers }

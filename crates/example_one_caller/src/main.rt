@@ -38,7 +38,7 @@ fn with_loader<L: LoaderName, S: Source, R: Wait + Print>(
     opening: Opening<'_, S>,
 ) -> Result<()>
     requires source { opening.source ≡ source.now }
-    requires names { Names S.answer opening L.service L.parts L.log L.outcomes L.name }
+    requires names { Names S.answer opening L.service L.parts L.cells L.name }
 {
     let (loader, mut passes) = Loader::<L>::start(alloc, opening)?;
     for pass in &mut passes {

@@ -51,7 +51,7 @@ fn use_loader<L: LoaderName + Send + Sync, R: Threads + Wait + Sync>(
     opening: Opening<'_, Restless>,
 ) -> Result<String>
     requires source { opening.source ≡ source.now }
-    requires names { Names answer_restless opening L.service L.parts L.log L.outcomes L.name }
+    requires names { Names answer_restless opening L.service L.parts L.cells L.name }
 {
     let (loader, mut passes) = Loader::<L>::start(alloc, opening)?;
     call_by_each(rt, alloc, source, &loader, passes.as_mut_slice());

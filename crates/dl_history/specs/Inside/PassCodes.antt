@@ -1,6 +1,6 @@
 -- How passes and tickets are told apart: a code for each, the tuple of what it has.
-use Rattle.std.specs.Prelude.{ℕ, List, Option, refl}
-use Rattle.std.specs.Coded.{Coded, code_by, coded_ℕ, coded_list, coded_option, coded×}
+use Rattle.std.specs.Prelude.{ℕ, Bool, List, Option, refl}
+use Rattle.std.specs.Coded.{Coded, code_by, coded_ℕ, coded_bool, coded_list, coded_option, coded×}
 use Rattle.dl_desk.specs.declared.reply.LoadReply.{LoadReply}
 use Rattle.dl_desk.specs.contracts.reply.LoadReply as reply
 use Rattle.dl_history.specs.declared.event.Ending.{Ending}
@@ -9,6 +9,7 @@ use Rattle.dl_history.specs.Entries.{Entry}
 use Rattle.dl_history.specs.Inside.Codes.{entry_code}
 use Rattle.dl_history.specs.declared.pass.GivenTicket.{GivenTicket}
 use Rattle.dl_history.specs.contracts.pass.GivenTicket as given
+use Rattle.dl_history.specs.Flags.{KnownFlags, known_flags}
 use Rattle.dl_history.specs.Pass.{Trace, trace, Pass, Ticket, ticket}
 
 -- a trace, by its caller, its entries and its tickets
@@ -16,9 +17,14 @@ abbrev pub trace_code : Coded Trace
 trace_code = code_by (ℕ × (List Entry × List GivenTicket)) (coded× coded_ℕ (coded× (coded_list entry_code) (coded_list given.the_row.coded)))
     (λ p. (p.caller, (p.entries, p.tickets))) (λ q. trace q.0 q.1.0 q.1.1) (λ _. refl)
 
--- a pass, by its trace and its room
+-- what is known of the flags, by the two of them
+abbrev pub flags_code : Coded KnownFlags
+flags_code = code_by (Bool × Bool) (coded× coded_bool coded_bool) (λ f. (f.stopped, f.refused)) (λ q. known_flags q.0 q.1) (λ _. refl)
+
+-- a pass, by its trace, its room and what is known of the flags
 abbrev pub pass_code : Coded Pass
-pass_code = code_by (Trace × ℕ) (coded× trace_code coded_ℕ) (λ p. (p.trace, p.spare)) (λ q. record { trace = q.0; spare = q.1 }) (λ _. refl)
+pass_code = code_by (Trace × (ℕ × KnownFlags)) (coded× trace_code (coded× coded_ℕ flags_code)) (λ p. (p.trace, (p.spare, p.flags)))
+    (λ q. record { trace = q.0; spare = q.1.0; flags = q.1.1 }) (λ _. refl)
 
 -- a ticket, by its number, its reply and what it knows
 abbrev pub ticket_code : Coded Ticket

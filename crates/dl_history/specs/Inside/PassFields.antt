@@ -17,4 +17,5 @@ fields_of p = record {
   spare = p.spare;
   parts = p.share.parts;
   counted = p.share.amount;
+  flags = p.flags;
 }

@@ -91,7 +91,7 @@ impl<L: LoaderName> Journal<L> {
         ensures history { self.new.history ≡ self.old.history }
         ensures cells { OnOk result (self.new.cells ≡ self.old.cells ++ repeat cells (waiting ∷ [])) }
         ensures room { OnOk result (0 < self.new.spare) }
-        ensures cell { IfOk result (λ reader. reader.cell ≡ cell_of L.log place) }
+        ensures cell { IfOk result (λ reader. reader.cell ≡ cell_of L.cells.log place) }
         ensures unchanged { OnErr result (self.new.cells ≡ self.old.cells) }
     {
         self.reserve()?;
@@ -111,9 +111,9 @@ impl<L: LoaderName> Journal<L> {
         first: u32,
         cells: u32,
     ) -> Result<(), AllocError>
-        requires row { row.now ≡ L.outcomes }
+        requires row { row.now ≡ L.cells.outcomes }
         requires first { first ≡ length self.old.cells }
-        requires in_row { first + cells ≤ row_len L.outcomes }
+        requires in_row { first + cells ≤ row_len L.cells.outcomes }
         requires fits { first + cells ≤ largest_limit }
         ensures history { self.new.history ≡ self.old.history }
         ensures cells { OnOk result (self.new.cells ≡ self.old.cells ++ repeat cells (waiting ∷ [])) }

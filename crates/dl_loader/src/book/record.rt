@@ -1,12 +1,11 @@
 //! The one step of a book: an event, whatever its call.
 
-ghost use Rattle.std.specs.Prelude.{◌≡◌, ◌+◌, ◌<◌, ◌≤◌, IfErr, IfOk, None, OnErr, OnOk, length};
+ghost use Rattle.std.specs.Prelude.{◌≡◌, ◌+◌, ◌<◌, ◌≤◌, true, IfErr, IfOk, None, OnErr, OnOk, length};
 ghost use Rattle.dl_history.specs.Entries.{cell_of_load};
 ghost use Rattle.dl_history.specs.Journal.{refusals};
 ghost use Rattle.dl_history.specs.Lists.{Every};
-ghost use Rattle.dl_loader.specs.Book.{SomeCellRefused};
 ghost use Rattle.dl_loader.specs.Inside.Preparation.{ended_count};
-ghost use Rattle.dl_loader.specs.EventEffect.{Makes, WasMade, WasRefused, loads_of};
+ghost use Rattle.dl_loader.specs.EventEffect.{KnowsStop, Makes, WasMade, WasRefused, loads_of};
 ghost use Rattle.dl_history.specs.Pass.{with_tickets};
 ghost use Rattle.dl_loader.specs.Refusals.{IsRefusal, refusal};
 
@@ -17,6 +16,7 @@ use crate::load_replies::begun_in;
 use crate::reply::Settled;
 use dl_history::{CallFault, CellRows, Event, LoaderName, Pass};
 use std::alloc::Global;
+use std::sync::Wait;
 
 impl<L: LoaderName> Book<L> {
     /// Makes a call as an event of the pass, which gets its tickets, and answers what the desk replied, and how the cells
@@ -82,14 +82,61 @@ impl<L: LoaderName> Book<L> {
         ensures tickets { IfOk result (λ r. pass.new.trace.tickets ≡ (with_tickets pass.old.trace (loads_of (C.told r.0))).tickets) }
         ensures begun { IfOk result (λ r. Every (λ load. cell_of_load load < length self.new.cells) (loads_of (C.told r.0))) }
         ensures each { IfOk result (λ r. r.1.shown + r.1.refused ≡ ended_count (C.job call.now) (C.told r.0)) }
-        ensures refused { IfOk result (λ r. 0 < r.1.refused → SomeCellRefused L.service) }
+        ensures flags { self.new.flags ≡ self.old.flags }
         ensures fault { IfErr result (WasRefused L.service pass.old.trace (C.call call.now) (C.job call.now)) }
+        ensures knows { IfErr result (KnowsStop pass.new.flags) }
         ensures unchanged { OnErr result (pass.new.trace ≡ pass.old.trace) }
     {
         self.keeps();
-        let made = self.record(alloc, rows, pass, call)?;
-        self.keeps();
+        match self.record(alloc, rows, pass, call) {
+            Ok(made) => {
+                self.keeps();
+                Ok(made)
+            }
+            Err(fault) => {
+                self.tell_stop(pass, fault);
+                Err(fault)
+            }
+        }
+    }
+
+    /// The same for a call that gives no tickets. The pass then knows of a cell that refused its outcome.
+    #[inline(always)]
+    pub(crate) fn make_known<C: EventCall>(
+        &mut self,
+        rt: &impl Wait,
+        alloc: Global,
+        rows: &CellRows<L>,
+        pass: &mut Pass<L>,
+        call: &C,
+    ) -> Result<(C::Reply, Settled), CallFault>
+        requires answers { C.brings call.now L.service.answer }
+        ensures made { IfOk result (λ r. WasMade L.service pass.old.trace (C.call call.now) (C.told r.0) pass.new.trace) }
+        ensures tickets { IfOk result (λ r. pass.new.trace.tickets ≡ (with_tickets pass.old.trace (loads_of (C.told r.0))).tickets) }
+        ensures each { IfOk result (λ r. r.1.shown + r.1.refused ≡ ended_count (C.job call.now) (C.told r.0)) }
+        ensures refused { IfOk result (λ r. 0 < r.1.refused → pass.new.flags.refused ≡ true) }
+        ensures stopped { self.new.flags.stopped ≡ self.old.flags.stopped }
+        ensures fault { IfErr result (WasRefused L.service pass.old.trace (C.call call.now) (C.job call.now)) }
+        ensures knows { IfErr result (KnowsStop pass.new.flags) }
+        ensures unchanged { OnErr result (pass.new.trace ≡ pass.old.trace) }
+    {
+        let made = self.make(alloc, rows, pass, call)?;
+        if made.1.refused > 0 {
+            self.refuse(rt, rows, pass);
+        }
         Ok(made)
+    }
+
+    /// Has the pass know that the loader is stopped, if its call was refused for that.
+    #[cold]
+    fn tell_stop(&self, pass: &mut Pass<L>, fault: CallFault)
+        requires { KnowsStop self.now.flags fault }
+        ensures trace { pass.new.trace ≡ pass.old.trace }
+        ensures knows { KnowsStop pass.new.flags fault }
+    {
+        if let CallFault::Stopped = fault {
+            pass.learn_stop(&self.flags);
+        }
     }
 }
 

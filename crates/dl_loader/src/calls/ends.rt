@@ -1,13 +1,12 @@
 //! The ends of batches.
 
 ghost use Rattle.dl_history.specs.Service.{Answers};
-ghost use Rattle.std.specs.Prelude.{◌≡◌, ◌+◌, ◌<◌, IfErr, IfOk, OnErr, OnOk, Some, length};
+ghost use Rattle.std.specs.Prelude.{◌≡◌, ◌+◌, ◌<◌, true, IfErr, IfOk, OnErr, OnOk, Some, length};
 ghost use Rattle.dl_source.specs.Fetched.{answer_of, job_of, source_of};
 ghost use Rattle.dl_history.specs.declared.event.Call.TheVariants as call;
 ghost use Rattle.dl_history.specs.declared.event.Reply.TheVariants as reply;
 ghost use Rattle.dl_loader.specs.Asks.{end_by, fault_of};
-ghost use Rattle.dl_loader.specs.Book.{SomeCellRefused};
-ghost use Rattle.dl_loader.specs.EventEffect.{WasMade, WasRefused};
+ghost use Rattle.dl_loader.specs.EventEffect.{KnowsStop, WasMade, WasRefused};
 
 use crate::ask::GiveUp;
 use crate::event_call::{Fail, Settle};
@@ -38,9 +37,10 @@ impl<L: LoaderName> Loader<L> {
             (WasMade L.service pass.old.trace (end_by (job_of fetched.entry).batch (answer_of fetched.entry)) reply.Done pass.new.trace) }
         ensures tickets { OnOk result (pass.new.trace.tickets ≡ pass.old.trace.tickets) }
         ensures each { IfOk result (λ settled. settled.shown + settled.refused ≡ length (job_of fetched.entry).keys) }
-        ensures refused { IfOk result (λ settled. 0 < settled.refused → SomeCellRefused L.service) }
+        ensures refused { IfOk result (λ settled. 0 < settled.refused → pass.new.flags.refused ≡ true) }
         ensures fault { IfErr result
             (λ e. WasRefused L.service pass.old.trace (end_by (job_of fetched.entry).batch (answer_of fetched.entry)) (Some (job_of fetched.entry)) e.0) }
+        ensures knows { IfErr result (λ e. KnowsStop pass.new.flags e.0) }
         ensures back { IfErr result (λ e. e.1 ≡ fetched.entry) }
         ensures unchanged { OnErr result (pass.new.trace ≡ pass.old.trace) }
     {
@@ -69,8 +69,9 @@ impl<L: LoaderName> Loader<L> {
         ensures made { OnOk result (WasMade L.service pass.old.trace (call.Fail job.batch (fault_of give_up)) reply.Done pass.new.trace) }
         ensures tickets { OnOk result (pass.new.trace.tickets ≡ pass.old.trace.tickets) }
         ensures each { IfOk result (λ settled. settled.shown + settled.refused ≡ length job.keys) }
-        ensures refused { IfOk result (λ settled. 0 < settled.refused → SomeCellRefused L.service) }
+        ensures refused { IfOk result (λ settled. 0 < settled.refused → pass.new.flags.refused ≡ true) }
         ensures fault { IfErr result (λ e. WasRefused L.service pass.old.trace (call.Fail job.batch (fault_of give_up)) (Some job) e.0) }
+        ensures knows { IfErr result (λ e. KnowsStop pass.new.flags e.0) }
         ensures back { IfErr result (λ e. e.1 ≡ job) }
         ensures unchanged { OnErr result (pass.new.trace ≡ pass.old.trace) }
     {

@@ -1,12 +1,11 @@
 //! The calls on keys, and the dispatch.
 
-ghost use Rattle.std.specs.Prelude.{◌≡◌, ◌<◌, ◌≤◌, None, IfErr, IfOk, OnErr, OnOk};
+ghost use Rattle.std.specs.Prelude.{◌≡◌, ◌<◌, ◌≤◌, true, None, IfErr, IfOk, OnErr, OnOk};
 ghost use Rattle.dl_history.specs.History.{primed};
 ghost use Rattle.dl_history.specs.declared.event.Call.TheVariants as call;
 ghost use Rattle.dl_history.specs.declared.event.Reply.TheVariants as reply;
 ghost use Rattle.dl_loader.specs.EventReplies.{refused_by, reply_by};
-ghost use Rattle.dl_loader.specs.Book.{SomeCellRefused};
-ghost use Rattle.dl_loader.specs.EventEffect.{WasMade, WasRefused};
+ghost use Rattle.dl_loader.specs.EventEffect.{KnowsStop, WasMade, WasRefused};
 
 use crate::event_call::{Clear, ClearAll, Dispatch, Prime};
 use crate::loader::Loader;
@@ -32,9 +31,10 @@ impl<L: LoaderName> Loader<L> {
         outcome: Outcome,
     ) -> Result<PrimeReply, CallFault>
         ensures made { IfOk result (λ r. WasMade L.service pass.old.trace (call.Prime key.now outcome) (reply_by r) pass.new.trace) }
-        ensures refused { IfOk result (λ r. 0 < refused_by r → SomeCellRefused L.service) }
+        ensures refused { IfOk result (λ r. 0 < refused_by r → pass.new.flags.refused ≡ true) }
         ensures tickets { OnOk result (pass.new.trace.tickets ≡ pass.old.trace.tickets) }
         ensures fault { IfErr result (WasRefused L.service pass.old.trace (call.Prime key.now outcome) None) }
+        ensures knows { IfErr result (KnowsStop pass.new.flags) }
         ensures unchanged { OnErr result (pass.new.trace ≡ pass.old.trace) }
     {
         let call = Prime {
@@ -59,6 +59,7 @@ impl<L: LoaderName> Loader<L> {
         ensures made { OnOk result (WasMade L.service pass.old.trace (call.Clear key.now) reply.Done pass.new.trace) }
         ensures tickets { OnOk result (pass.new.trace.tickets ≡ pass.old.trace.tickets) }
         ensures fault { IfErr result (WasRefused L.service pass.old.trace (call.Clear key.now) None) }
+        ensures knows { IfErr result (KnowsStop pass.new.flags) }
         ensures unchanged { OnErr result (pass.new.trace ≡ pass.old.trace) }
     {
         self.call(rt, alloc, pass, &Clear { key })?;
@@ -78,6 +79,7 @@ impl<L: LoaderName> Loader<L> {
         ensures made { OnOk result (WasMade L.service pass.old.trace call.ClearAll reply.Done pass.new.trace) }
         ensures tickets { OnOk result (pass.new.trace.tickets ≡ pass.old.trace.tickets) }
         ensures fault { IfErr result (WasRefused L.service pass.old.trace call.ClearAll None) }
+        ensures knows { IfErr result (KnowsStop pass.new.flags) }
         ensures unchanged { OnErr result (pass.new.trace ≡ pass.old.trace) }
     {
         self.call(rt, alloc, pass, &ClearAll)?;
@@ -97,6 +99,7 @@ impl<L: LoaderName> Loader<L> {
         ensures made { IfOk result (λ jobs. WasMade L.service pass.old.trace call.Dispatch (reply.Sent jobs.items) pass.new.trace) }
         ensures tickets { OnOk result (pass.new.trace.tickets ≡ pass.old.trace.tickets) }
         ensures fault { IfErr result (WasRefused L.service pass.old.trace call.Dispatch None) }
+        ensures knows { IfErr result (KnowsStop pass.new.flags) }
         ensures unchanged { OnErr result (pass.new.trace ≡ pass.old.trace) }
     {
         let (sent, _) = self.call(rt, alloc, pass, &Dispatch)?;

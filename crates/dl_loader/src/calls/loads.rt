@@ -3,7 +3,7 @@
 ghost use Rattle.std.specs.Prelude.{◌≡◌, false, IfErr, IfOk, None, OnErr, length, map};
 ghost use Rattle.dl_history.specs.declared.event.Call.TheVariants as call;
 ghost use Rattle.dl_history.specs.declared.event.Reply.TheVariants as reply;
-ghost use Rattle.dl_loader.specs.EventEffect.{WasMade, WasRefused};
+ghost use Rattle.dl_loader.specs.EventEffect.{KnowsStop, WasMade, WasRefused};
 ghost use Rattle.dl_history.specs.Pass.{GaveTicket, GaveTickets};
 
 use crate::book::Book;
@@ -31,6 +31,7 @@ impl<L: LoaderName> Loader<L> {
         ensures number { IfOk result (λ ticket. ticket.number ≡ length pass.old.trace.tickets) }
         ensures gave { IfOk result (λ ticket. GaveTicket pass.new.trace ticket false) }
         ensures fault { IfErr result (WasRefused L.service pass.old.trace (call.Load key.now) None) }
+        ensures knows { IfErr result (KnowsStop pass.new.flags) }
         ensures unchanged { OnErr result (pass.new.trace ≡ pass.old.trace) }
     {
         let mut book = self.book.lock(rt);
@@ -56,6 +57,7 @@ impl<L: LoaderName> Loader<L> {
         ensures each { IfOk result (λ tickets. length tickets.items ≡ length keys.now) }
         ensures gave { IfOk result (λ tickets. GaveTickets pass.new.trace (length pass.old.trace.tickets) tickets.items) }
         ensures fault { IfErr result (WasRefused L.service pass.old.trace (call.LoadMany keys.now) None) }
+        ensures knows { IfErr result (KnowsStop pass.new.flags) }
         ensures unchanged { OnErr result (pass.new.trace ≡ pass.old.trace) }
     {
         self.book.lock(rt).load_many(alloc, &self.rows, pass, keys)
@@ -78,6 +80,7 @@ impl<L: LoaderName> Book<L> {
         ensures each { IfOk result (λ tickets. length tickets.items ≡ length keys.now) }
         ensures gave { IfOk result (λ tickets. GaveTickets pass.new.trace (length pass.old.trace.tickets) tickets.items) }
         ensures fault { IfErr result (WasRefused L.service pass.old.trace (call.LoadMany keys.now) None) }
+        ensures knows { IfErr result (KnowsStop pass.new.flags) }
         ensures unchanged { OnErr result (pass.new.trace ≡ pass.old.trace) }
     {
         self.keeps();

@@ -19,7 +19,7 @@ pub(super) fn fill<L: LoaderName, S: Source, R: Abort + Wait>(
     alloc: Global,
     opening: Opening<'_, S>,
 ) -> History
-    requires names { Names S.answer opening L.service L.parts L.log L.outcomes L.name }
+    requires names { Names S.answer opening L.service L.parts L.cells L.name }
 {
     let (loader, mut passes) = Loader::<L>::start(alloc, opening).expect(rt, "no loader");
     let pass = passes.first_mut().expect(rt, "no pass");

@@ -22,7 +22,7 @@ pub(super) fn play<L: LoaderName, S: Source, R: Abort + Eprint + Wait>(
     parts: &[Part],
 ) -> bool
     requires source { opening.source ≡ source.now }
-    requires names { Names S.answer opening L.service L.parts L.log L.outcomes L.name }
+    requires names { Names S.answer opening L.service L.parts L.cells L.name }
 {
     let started = Loader::<L>::start(stage.alloc, opening);
     let is_out_of_memory = matches!(started, Err(StartFault::OutOfMemory));

@@ -28,7 +28,7 @@ pub(super) fn load_by_two<
     R: Abort + Eprint + Threads + Wait + Sync,
 >(stage: &Stage<'_, R>, source: &S, opening: Opening<'_, S>)
     requires source { opening.source ≡ source.now }
-    requires names { Names S.answer opening L.service L.parts L.log L.outcomes L.name }
+    requires names { Names S.answer opening L.service L.parts L.cells L.name }
 {
     let (rt, alloc) = (stage.rt, stage.alloc);
     let (loader, passes) = Loader::<L>::start(alloc, opening).expect(rt, "no loader");

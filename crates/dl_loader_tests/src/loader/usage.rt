@@ -24,7 +24,7 @@ pub(super) fn load_by_each<
     R: Abort + Threads + Wait + Sync,
 >(rt: &R, alloc: Global, source: &S, opening: Opening<'_, S>, key: &FetchKey) -> History
     requires source { opening.source ≡ source.now }
-    requires names { Names S.answer opening L.service L.parts L.log L.outcomes L.name }
+    requires names { Names S.answer opening L.service L.parts L.cells L.name }
 {
     let (loader, mut passes) = Loader::<L>::start(alloc, opening).expect(rt, "no loader");
     start_threads(rt, alloc, source, &loader, passes.as_mut_slice(), key);

@@ -84,7 +84,7 @@ pub(super) fn wait_at_once<
     R: Abort + Eprint + Threads + Wait + Sync,
 >(rt: &R, alloc: Global, source: &S, opening: Opening<'_, S>, crowd: &'static Crowd)
     requires source { opening.source ≡ source.now }
-    requires names { Names S.answer opening L.service L.parts L.log L.outcomes L.name }
+    requires names { Names S.answer opening L.service L.parts L.cells L.name }
 {
     let (loader, mut passes) = Loader::<L>::start(alloc, opening).expect(rt, "no loader");
     let meeting = Meeting {

@@ -203,7 +203,7 @@ fn play<L: LoaderName, S: Source, R: Abort + Eprint + Wait>(
     row: &Row,
 )
     requires source { opening.source ≡ source.now }
-    requires names { Names S.answer opening L.service L.parts L.log L.outcomes L.name }
+    requires names { Names S.answer opening L.service L.parts L.cells L.name }
 {
     let (rt, alloc) = (stage.rt, stage.alloc);
     let (loader, mut passes) = Loader::<L>::start(alloc, opening).expect(rt, "no loader");

@@ -21,4 +21,4 @@ module _ {L : Type 0} where
   IsPlanRun queue service task run = IsSenderOf queue run.sender
       × IfOk run.given (λ given. AddsAndSends task.pass.trace run.pass.trace (sent_jobs task.sender) (sent_jobs run.sender)
       (λ lines sent. FollowsAndSends task.pass.trace.caller task.plan.steps.items lines given.answers.items given.rounds sent))
-      × IfErr run.given (IsRunFault service task.pass.trace.caller)
+      × IfErr run.given (IsRunFault service task.pass.trace.caller run.pass.flags)

@@ -4,7 +4,7 @@ use Rattle.example_one_caller.proofs.main.Given as goal
 
 -- the type names the loader after its opening
 abbrev pub ghosts-with_loader-L-LoaderName : goal.ghosts-with_loader-L-LoaderName
-ghosts-with_loader-L-LoaderName g a = record { log = a.opening.log; outcomes = a.opening.outcomes; service = service_of answer_of a.opening }
+ghosts-with_loader-L-LoaderName g a = record { cells = a.opening.cells; service = service_of answer_of a.opening }
 
 abbrev pub ghosts-with_loader-L-Ledger : goal.ghosts-with_loader-L-Ledger
 ghosts-with_loader-L-Ledger g a = record { name = a.opening.ledger; parts = a.opening.callers }

@@ -4,7 +4,7 @@ use Rattle.dl_bench.proofs.shared.called.Given as goal
 
 -- the type names the loader after its opening
 abbrev pub ghosts-each_call-L-LoaderName : goal.ghosts-each_call-L-LoaderName
-ghosts-each_call-L-LoaderName g a = record { log = a.opening.log; outcomes = a.opening.outcomes; service = service_of answer_alike a.opening }
+ghosts-each_call-L-LoaderName g a = record { cells = a.opening.cells; service = service_of answer_alike a.opening }
 
 abbrev pub ghosts-each_call-L-Ledger : goal.ghosts-each_call-L-Ledger
 ghosts-each_call-L-Ledger g a = record { name = a.opening.ledger; parts = a.opening.callers }

@@ -4,7 +4,7 @@ use Rattle.dl_bench.proofs.terms.evaluated.Given as goal
 
 -- the type names the loader after its opening
 abbrev pub ghosts-on_loader-L-LoaderName : goal.ghosts-on_loader-L-LoaderName
-ghosts-on_loader-L-LoaderName g a = record { log = a.opening.log; outcomes = a.opening.outcomes; service = service_of answer_alike a.opening }
+ghosts-on_loader-L-LoaderName g a = record { cells = a.opening.cells; service = service_of answer_alike a.opening }
 
 abbrev pub ghosts-on_loader-L-Ledger : goal.ghosts-on_loader-L-Ledger
 ghosts-on_loader-L-Ledger g a = record { name = a.opening.ledger; parts = a.opening.callers }

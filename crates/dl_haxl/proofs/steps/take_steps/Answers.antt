@@ -96,7 +96,7 @@ returns-in_err-taken-clause-older g c =
 pub returns-in_err-taken-clause-fault : goal.returns-in_err-taken-clause-fault
 returns-in_err-taken-clause-fault g c =
     let same : c.from_residual.result ≡ Err c.in_err-taken.field-0.0 = search rules in
-    rw same (fault_of_same g.L.LoaderName.service c.loop-step.pass.trace.caller c.args.pass.now.trace.caller c.in_err-taken.field-0.0
+    rw same (fault_of_same g.L.LoaderName.service c.loop-step.pass.trace.caller c.args.pass.now.trace.caller c.take_step.new.pass.flags c.in_err-taken.field-0.0
     c.loop-step.invariant.leaves.2.0 c.in_err-taken.ensures.fault)
 
 pub returns-in_err-taken-clause-grows : goal.returns-in_err-taken-clause-grows

@@ -14,7 +14,7 @@ loop-caller-preserved g c =
       parts = omega arith;
       amount = omega arith;
       traces = fresh_next (λ p. p.trace) c.loop-caller.passes.items c.push_reserved.new.self.items c.fresh.result c.loop-caller.caller
-          c.push_reserved.ensures.items c.fresh.ensures c.loop-caller.invariant.traces;
+          c.push_reserved.ensures.items c.fresh.ensures.trace c.loop-caller.invariant.traces;
       count = search rules;
       room = rw c.push_reserved.ensures.capacity c.loop-caller.invariant.room;
     }

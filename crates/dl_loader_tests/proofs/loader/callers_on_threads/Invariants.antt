@@ -4,7 +4,7 @@ use Rattle.dl_loader_tests.proofs.loader.callers_on_threads.Given as goal
 
 -- the type names the loader after its opening
 abbrev pub ghosts-load_by_each-L-LoaderName : goal.ghosts-load_by_each-L-LoaderName
-ghosts-load_by_each-L-LoaderName g a = record { log = a.opening.log; outcomes = a.opening.outcomes; service = service_of answer_of a.opening }
+ghosts-load_by_each-L-LoaderName g a = record { cells = a.opening.cells; service = service_of answer_of a.opening }
 
 abbrev pub ghosts-load_by_each-L-Ledger : goal.ghosts-load_by_each-L-Ledger
 ghosts-load_by_each-L-Ledger g a = record { name = a.opening.ledger; parts = a.opening.callers }

@@ -4,7 +4,7 @@ use Rattle.histories.proofs.callers.called.Given as goal
 
 -- the type names the loader after its opening
 abbrev pub ghosts-use_loader-L-LoaderName : goal.ghosts-use_loader-L-LoaderName
-ghosts-use_loader-L-LoaderName g a = record { log = a.opening.log; outcomes = a.opening.outcomes; service = service_of answer_restless a.opening }
+ghosts-use_loader-L-LoaderName g a = record { cells = a.opening.cells; service = service_of answer_restless a.opening }
 
 abbrev pub ghosts-use_loader-L-Ledger : goal.ghosts-use_loader-L-Ledger
 ghosts-use_loader-L-Ledger g a = record { name = a.opening.ledger; parts = a.opening.callers }

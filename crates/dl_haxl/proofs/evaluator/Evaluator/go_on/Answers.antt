@@ -50,7 +50,7 @@ returns-in_err-tickets-clause-older g c =
 pub returns-in_err-tickets-clause-fault : goal.returns-in_err-tickets-clause-fault
 returns-in_err-tickets-clause-fault g c =
     let same : c.from_residual.result ≡ Err c.in_err-tickets.field-0.0 = search rules in
-    rw same (fault_of_same g.L.LoaderName.service c.loop.pass.trace.caller c.args.pass.now.trace.caller c.in_err-tickets.field-0.0
+    rw same (fault_of_same g.L.LoaderName.service c.loop.pass.trace.caller c.args.pass.now.trace.caller c.round.new.pass.flags c.in_err-tickets.field-0.0
     c.loop.invariant.grows.0 c.in_err-tickets.ensures.fault)
 
 pub loop-preserved : goal.loop-preserved

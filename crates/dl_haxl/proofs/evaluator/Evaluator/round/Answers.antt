@@ -33,7 +33,7 @@ returns-in_err-tickets g c =
       older = keeps_same old c.load_many.new.pass.trace (ap (λ (p : Trace). p.tickets) c.in_err-tickets.ensures.unchanged);
       fault =
           (let p = err_from_is_err_and c.from_residual.result c.from_residual.ensures.1 in
-          rw (p.1, p.2) (old, LoadMany c.args.wanted.now, None, refl, c.in_err-tickets.ensures.fault));
+          rw (p.1, p.2) (old, LoadMany c.args.wanted.now, None, refl, c.in_err-tickets.ensures.fault, c.in_err-tickets.ensures.knows));
       grows = on_err c.from_residual.result (subst (Grows old) (sym c.in_err-tickets.ensures.unchanged) (refl, [], sym (append-nil old.entries)));
     }
 
@@ -59,7 +59,7 @@ returns-in_err-jobs g c =
           (keeps_same loaded c.dispatch.new.pass.trace (ap (λ (p : Trace). p.tickets) c.in_err-jobs.ensures.unchanged));
       fault =
           (let p = err_from_is_err_and c.from_residual-in_err-jobs.result c.from_residual-in_err-jobs.ensures.1 in
-          rw (p.1, p.2) (loaded, Dispatch, None, loads.0, c.in_err-jobs.ensures.fault));
+          rw (p.1, p.2) (loaded, Dispatch, None, loads.0, c.in_err-jobs.ensures.fault, c.in_err-jobs.ensures.knows));
       grows = on_err r (subst (Grows old) (sym c.in_err-jobs.ensures.unchanged)
           loads);
     }
@@ -86,7 +86,7 @@ returns-in_err-give_out g c =
       older = keeps_after old c.load_many.new.pass.trace c.give_out.new.pass.trace
           (keeps_made s old c.load_many.new.pass.trace (LoadMany c.args.wanted.now) (Many replies) c.in_ok-tickets.ensures.made)
           (keeps_same c.load_many.new.pass.trace c.give_out.new.pass.trace (c.give_out.ensures.tickets ∙ c.in_ok-jobs.ensures.tickets));
-      fault = rw same (fault_of_same s dispatched.caller old.caller c.in_err-give_out.field-0.0 sent.0 c.in_err-give_out.ensures.fault);
+      fault = rw same (fault_of_same s dispatched.caller old.caller c.give_out.new.pass.flags c.in_err-give_out.field-0.0 sent.0 c.in_err-give_out.ensures.fault);
       grows = on_err r (grows_after old dispatched c.give_out.new.pass.trace sent c.in_err-give_out.ensures.grows);
     }
 

@@ -9,5 +9,5 @@ pub returns-clause-fault : goal.returns-clause-fault
 returns-clause-fault g c = elim c.match-fail.branch [
   | in-Ok w ↦ rw w.result-is (inr (w.in-Ok.ensures.refused w.if-settled-gt0.true))
   | in-Ok-2 w ↦ rw w.result-is tt
-  | in-Err w ↦ rw w.result-is (c.args.pass.now.trace, Fail c.args.job.batch Unsent, Some c.args.job, refl, w.in-Err.ensures.fault)
+  | in-Err w ↦ rw w.result-is (c.args.pass.now.trace, Fail c.args.job.batch Unsent, Some c.args.job, refl, w.in-Err.ensures.fault, w.in-Err.ensures.knows)
 ]

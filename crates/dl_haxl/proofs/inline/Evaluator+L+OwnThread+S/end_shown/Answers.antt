@@ -8,4 +8,5 @@ pub returns-in_err-settled-clause-fault : goal.returns-in_err-settled-clause-fau
 returns-in_err-settled-clause-fault g c =
     let p = err_from_is_err_and c.from_residual.result c.from_residual.ensures.1 in
     let old = c.args.pass.now.trace in
-    rw (p.1, p.2) (not_ended g.L.LoaderName.service old old.caller c.args.job c.in_err-settled.field-0.0 refl c.in_err-settled.ensures.fault)
+    rw (p.1, p.2) (not_ended g.L.LoaderName.service old c.end_job.new.pass.flags c.args.job c.in_err-settled.field-0.0 c.in_err-settled.ensures.fault
+    c.in_err-settled.ensures.knows)

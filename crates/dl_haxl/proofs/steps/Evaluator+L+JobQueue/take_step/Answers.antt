@@ -63,7 +63,7 @@ returns-in_err-clear-in-Clear-clause-older g c = keeps_same c.args.pass.now.trac
 pub returns-in_err-clear-in-Clear-clause-fault : goal.returns-in_err-clear-in-Clear-clause-fault
 returns-in_err-clear-in-Clear-clause-fault g c =
     let p = err_from_is_err_and c.from_residual-in_err-clear-in-Clear.result c.from_residual-in_err-clear-in-Clear.ensures.1 in
-    rw (p.1, p.2) (c.args.pass.now.trace, call.Clear c.in-Clear.key, None, refl, c.in_err-clear-in-Clear.ensures.fault)
+    rw (p.1, p.2) (c.args.pass.now.trace, call.Clear c.in-Clear.key, None, refl, c.in_err-clear-in-Clear.ensures.fault, c.in_err-clear-in-Clear.ensures.knows)
 
 pub returns-in_err-clear_all-in-ClearAll-clause-step : goal.returns-in_err-clear_all-in-ClearAll-clause-step
 returns-in_err-clear_all-in-ClearAll-clause-step g c = IfOk-from_err _ _ c.from_residual-in_err-clear_all-in-ClearAll.ensures.0
@@ -77,7 +77,7 @@ returns-in_err-clear_all-in-ClearAll-clause-older g c = keeps_same c.args.pass.n
 pub returns-in_err-clear_all-in-ClearAll-clause-fault : goal.returns-in_err-clear_all-in-ClearAll-clause-fault
 returns-in_err-clear_all-in-ClearAll-clause-fault g c =
     let p = err_from_is_err_and c.from_residual-in_err-clear_all-in-ClearAll.result c.from_residual-in_err-clear_all-in-ClearAll.ensures.1 in
-    rw (p.1, p.2) (c.args.pass.now.trace, call.ClearAll, None, refl, c.in_err-clear_all-in-ClearAll.ensures.fault)
+    rw (p.1, p.2) (c.args.pass.now.trace, call.ClearAll, None, refl, c.in_err-clear_all-in-ClearAll.ensures.fault, c.in_err-clear_all-in-ClearAll.ensures.knows)
 
 pub returns-in_err-prime-in-Prime-clause-fault : goal.returns-in_err-prime-in-Prime-clause-fault
 returns-in_err-prime-in-Prime-clause-fault g c =

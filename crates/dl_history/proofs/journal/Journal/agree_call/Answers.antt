@@ -15,7 +15,7 @@ agree-requires g c =
 pub returns-in-Some : goal.returns-in-Some
 returns-in-Some g c =
     let there = looked_up c.deref.result.now c.at.result c.in-Some.own.now c.in-Some.ensures.lookup.0 c.in-Some.ensures.lookup.1 in
-    let met = event_met g.L.LoaderName.log c.self.inside.log.items c.deref.result.now c.at.result c.args.stored.now.at c.in-Some.own.now c.args.stored.now.event
+    let met = event_met g.L.LoaderName.cells.log c.self.inside.log.items c.deref.result.now c.at.result c.args.stored.now.at c.in-Some.own.now c.args.stored.now.event
     c.self.invariant.known c.deref.ensures.value c.at.ensures there c.agree.ensures in
     subst (λ (es : List Event). IfSome (slice_get es c.args.stored.now.at) (λ x. x ≡ c.args.stored.now.event))
     (ap (λ (j : Journal). j.history) c.self.view_is) met

@@ -7,4 +7,5 @@ invariant-loop g l = record {
   is_finite : (goal.iterator-loop g).is_finite l.iterator';
   number : l.ticket.number ≡ l.fn.ticket.number;
   reply : l.ticket.reply ≡ l.fn.ticket.reply;
+  trace : l.pass.trace ≡ l.fn.pass.trace;
 }
