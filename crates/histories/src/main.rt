@@ -1,6 +1,7 @@
 //! Histories of shared loaders, for a script to hold against a loader of one thread: it serves the plan file that stands on standard
 //! input, or has callers of its own make calls over the tables of that file, while the source and the gate yield as a seed draws it.
-//! Then it prints what the report and the closed loader tell, a line of JSON for each answer, event and caller.
+//! Then it prints what the report and the closed loader tell, a line of JSON for each answer, event and caller, and how often the source was
+//! asked.
 #![tactic(auto)]
 
 mod callers;
@@ -13,6 +14,7 @@ use crate::restless::Restless;
 use anyhow::{Result, bail};
 use dl_documents::{Input, PlanFile, read_input};
 use std::env;
+use std::fmt::Write;
 use std::hash::RandomState;
 use std::io::Read;
 use std::sync::Wait;
@@ -41,7 +43,7 @@ fn main(rt: HostRuntime) -> Result<()> {
     Ok(())
 }
 
-/// The text of what was done with a file.
+/// The text of what was done with a file, and of how often its tables were asked.
 fn answered<R: AllocGlobal + Threads + Wait + Sync>(
     rt: &R,
     hashing: RandomState,
@@ -55,17 +57,20 @@ fn answered<R: AllocGlobal + Threads + Wait + Sync>(
         plans,
     } = file;
     let source = Restless::new(tables, command.seed);
-    if command.queue == 0 {
+    let mut text = if command.queue == 0 {
         drop(plans);
-        return callers::called(rt, hashing, &source, limits, table_limits, command.threads);
-    }
-    let setup = dl_scope::Setup {
-        limits,
-        tables: table_limits,
-        workers: command.threads,
-        queue: command.queue,
+        callers::called(rt, hashing, &source, limits, table_limits, command.threads)?
+    } else {
+        let setup = dl_scope::Setup {
+            limits,
+            tables: table_limits,
+            workers: command.threads,
+            queue: command.queue,
+        };
+        served::served(rt, rt.alloc(), hashing, &source, setup, plans)?
     };
-    Ok(served::served(rt, rt.alloc(), hashing, &source, setup, plans)?)
+    writeln!(text, "{{\"fetches\":{}}}", source.fetches())?;
+    Ok(text)
 }
 
 /// The command that the program's words spell: a seed, a number of threads, and the places of a queue.

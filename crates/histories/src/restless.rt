@@ -1,4 +1,4 @@
-//! Tables that yield.
+//! Tables that yield, and count how often they are asked.
 
 use dl_source::{BatchAnswer, Source, Tables};
 use dl_values::FetchKey;
@@ -7,12 +7,13 @@ use std::alloc::{AllocError, Global};
 use std::sync::atomic::{AtomicU64, Ordering};
 use std::thread::yield_now;
 
-/// Tables, and a gate, that yield as a seed draws it.
+/// Tables, and a gate, that yield as a seed draws it. They count how often they are asked for keys.
 #[derive(Drop)]
 pub(crate) struct Restless {
     tables: Tables,
     seed: u64,
     yields: AtomicU64,
+    fetches: AtomicU64,
 }
 
 impl Restless {
@@ -21,7 +22,13 @@ impl Restless {
             tables,
             seed,
             yields: AtomicU64::new(0),
+            fetches: AtomicU64::new(0),
         }
+    }
+
+    /// How often it was asked for keys.
+    pub(crate) fn fetches(&self) -> u64 {
+        self.fetches.load(Ordering::SeqCst)
     }
 }
 
@@ -60,6 +67,7 @@ impl Source for Restless {
     /// What the tables answer.
     fn fetch(&self, alloc: Global, keys: &[FetchKey]) -> Result<BatchAnswer, AllocError> {
         self.rest();
+        self.fetches.fetch_add(1, Ordering::SeqCst);
         self.tables.fetch(alloc, keys)
     }
 }
