@@ -16,7 +16,7 @@ mod waits;
 
 use crate::loader::largest::MOST;
 use crate::loader::stage::Stage;
-use crate::loader::step::Step::{ByLaw, Dispatch, Fail};
+use crate::loader::step::Step::{ByLaw, Dispatch, Fail, Settle, Stop};
 use crate::loader::step::{Asked, Row};
 use crate::loader::waits::{CALLERS, Crowd, Release};
 use dl_desk::Limits;
@@ -138,8 +138,8 @@ fn callers_on_threads<R: Abort + Threads + Wait + Sync>(
 }
 
 // Callers that wait for one batch that ends or fails, by a call or by the law, for several that end one after another, at a loader that is
-// stopped, and once all is over.
-static CROWDS: [Crowd; 8] = [
+// stopped, or stopped right after the end of what they wait for, and once all is over.
+static CROWDS: [Crowd; 9] = [
     Crowd {
         max_batch: 2,
         loads: &[("u1", ADA)],
@@ -174,6 +174,12 @@ static CROWDS: [Crowd; 8] = [
         max_batch: 1,
         loads: &[("u1", "memory")],
         release: Release::By(&[Dispatch(Ok("0: u1")), Fail(0, "u1", GiveUp::Memory, Ok(1))]),
+        is_late: false,
+    },
+    Crowd {
+        max_batch: 1,
+        loads: &[("u1", ADA)],
+        release: Release::By(&[Dispatch(Ok("0: u1")), Settle(0, "u1", Ok(1)), Stop]),
         is_late: false,
     },
     Crowd {
