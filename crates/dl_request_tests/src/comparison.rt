@@ -38,3 +38,14 @@ pub(crate) fn assert_batches(rt: &impl Abort, history: &History, want: &[Batch],
     }
     assert_is(rt, &batches.get(number).is_none(), &true, about);
 }
+
+/// How many batches the history has.
+pub(crate) fn count_batches(history: &History) -> u32 {
+    let batches = history.batches();
+    for number in 0..u32::MAX {
+        if batches.get(number).is_none() {
+            return number;
+        }
+    }
+    u32::MAX
+}

@@ -1,6 +1,6 @@
 //! Rows of plans, and how they are served: under a refusal, which may be of nothing.
 
-use crate::comparison::{Batch, assert_batches, assert_is};
+use crate::comparison::{Batch, assert_batches, assert_is, count_batches};
 use crate::requests::plans::PlanShape;
 use crate::stage::Stage;
 use dl_desk::Limits;
@@ -40,32 +40,36 @@ pub(crate) struct Row {
 }
 
 /// Serves the plans of a row as often as it says, each time with the report that it says. Where they are out of memory, since something
-/// was refused, they are served again at once.
+/// was refused, they are served again at once. Answers how many batches the histories of all these reports have.
 pub(crate) fn try_row<S: Source + Sync, G: Gate + Sync, R: Abort + Eprint + Threads + Wait + Sync>(
     stage: &Stage<'_, R>,
     source: &S,
     gate: &G,
     row: &Row,
-) {
+) -> u32 {
+    let mut batches: u32 = 0;
     for workers in row.workers {
         for _ in 0..row.times {
-            if !is_served(stage, source, gate, *workers, row, true) {
-                is_served(stage, source, gate, *workers, row, false);
-            }
+            let served = match serve_row(stage, source, gate, *workers, row, true) {
+                None => serve_row(stage, source, gate, *workers, row, false),
+                served => served,
+            };
+            batches = batches.saturating_add(served.expect(stage.rt, "refused nothing"));
         }
     }
+    batches
 }
 
-/// Serves the plans of a row by so many workers, refused or not. False where they are out of memory, since something was refused. Else
-/// there is the report that the row says, or the fault.
-fn is_served<S: Source + Sync, G: Gate + Sync, R: Abort + Eprint + Threads + Wait + Sync>(
+/// Serves the plans of a row by so many workers, refused or not. None where they are out of memory, since something was refused. Else
+/// there is the report that the row says, or the fault, and the answer is how many batches there were.
+fn serve_row<S: Source + Sync, G: Gate + Sync, R: Abort + Eprint + Threads + Wait + Sync>(
     stage: &Stage<'_, R>,
     source: &S,
     gate: &G,
     workers: u32,
     row: &Row,
     is_refused: bool,
-) -> bool {
+) -> Option<u32> {
     let (rt, alloc, hashing) = (stage.rt, stage.alloc, stage.hashing);
     let (max_batch, max_cells, max_calls) = row.most;
     let limits = Limits::new(max_batch, max_cells, max_calls);
@@ -81,18 +85,18 @@ fn is_served<S: Source + Sync, G: Gate + Sync, R: Abort + Eprint + Threads + Wai
     }
     let served = serve(rt, alloc, hashing, source, setup, plans, gate);
     let was_refused = stage.refusal.end(rt, "serve");
-    let fault = match served {
+    let (fault, batches) = match served {
         Ok(report) => {
             stage.assert_report(&report, row);
-            None
+            (None, count_batches(report.history()))
         }
-        Err(fault) => Some(fault),
+        Err(fault) => (Some(fault), 0),
     };
     if was_refused && stage.is_out_of_memory(fault) {
-        return false;
+        return None;
     }
     assert_is(rt, &fault, &row.fault, row.about);
-    true
+    Some(batches)
 }
 
 impl<R: Abort> Stage<'_, R> {

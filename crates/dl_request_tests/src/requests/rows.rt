@@ -1,12 +1,13 @@
 //! Plans that are served by one, two and three workers: their answers, their rounds, and the batches that these make; and many
 //! plans at a small queue, whose answers are those by one worker, whatever the schedule.
 
+use crate::comparison::assert_is;
 use crate::evaluations::TWO_FRIENDS;
 use crate::requests::plans::PlanShape;
 use crate::requests::plans::StepShape::{Clear, ClearAll, Eval, Prime};
 use crate::requests::row::{Answers, Row, try_row};
 use crate::stage::Setting;
-use dl_fixtures::{ADA, BEST, BOB, FRIENDS, Shape, U1, U2};
+use dl_fixtures::{ADA, BEST, BOB, CountedTables, FRIENDS, Shape, U1, U2};
 use dl_haxl::RunFault;
 use dl_loader::CallFault;
 use dl_scope::ScopeFault;
@@ -269,6 +270,7 @@ static CROWDS: [Row; 4] = [
     },
 ];
 
+// The source is asked once for each batch of a report's history.
 #[test]
 fn plans_by_any_number_of_workers(rt: HostRuntime) {
     let setting = Setting::new(&rt, rt.alloc());
@@ -281,7 +283,11 @@ fn plans_by_any_number_of_workers(rt: HostRuntime) {
         CROWDS.as_slice(),
     ] {
         for row in rows {
-            try_row(&stage, &setting.users, &NoGate, row);
+            let users = CountedTables::new(setting.copy_of_users(&rt));
+            let batches = try_row(&stage, &users, &NoGate, row);
+            if row.fault.is_none() {
+                assert_is(&rt, &users.fetches(), &batches, row.about);
+            }
         }
     }
 }
