@@ -1,3 +1,4 @@
 pub mod Bytes
+mod MigratedAnswers
 pub mod Runs
 pub mod Texts

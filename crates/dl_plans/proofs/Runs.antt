@@ -13,9 +13,10 @@ use Rattle.dl_documents.specs.declared.fault.PlanFault.TheVariants.{TooLarge, No
 use Rattle.dl_documents.specs.declared.fault.PlanFault.TheVariants.{Table, Limit, OutOfMemory}
 use Rattle.dl_documents.specs.declared.input.Input.{Input}
 use Rattle.dl_documents.specs.declared.input.Input.TheVariants as input
+use Rattle.dl_command.specs.declared.settings.Options.{Options}
 use Rattle.dl_migration.specs.Migration.{IsMigrated, IsOther}
 use Rattle.dl_plans.specs.Migration.{IsNotMigrated}
-use Rattle.dl_plans.specs.Run.{AppendsFront, IsDocument, IsRefusedBy, PlanRefusals, Writes, WritesFront}
+use Rattle.dl_plans.specs.Run.{AppendsFront, IsDocument, IsOutput, IsRefused, Writes, WritesFront}
 use Rattle.dl_plans.specs.declared.fault.RunError.{RunError}
 use Rattle.dl_plans.specs.declared.fault.RunError.TheVariants as error
 use Rattle.dl_plans.specs.declared.streams.TheConstants.{MOST_READ}
@@ -40,6 +41,9 @@ other_all bytes o = rw (all_read bytes (within (take MOST_READ bytes) o.reads.pa
 -- what is given for the first bytes is given for all
 abbrev pub IsForAll : (List ℕ → List ℕ → Type 0) → Type 0
 IsForAll IsGiven = (bytes text : List ℕ) → IsGiven (take MOST_READ bytes) text → IsGiven bytes text
+
+pub output_all : (options : Options) → IsForAll (IsOutput options)
+output_all options bytes text a = (a.0, document_all bytes a.0 a.1, a.2)
 
 pub run_writes : (IsGiven : List ℕ → List ℕ → Type 0) (all : IsForAll IsGiven) (held : Option (List ℕ)) (read text : List ℕ)
     (old new : Option (List ℕ)) → IfSome held (λ bytes. read ≡ take MOST_READ bytes) → IsGiven read text → Appends old new text
@@ -134,10 +138,10 @@ pub run_refused : (Says : List ℕ → RunError → Type 0) (all : IsSaidOfAll S
 run_refused Says all None read e is h = tt
 run_refused Says all (Some bytes) read e is h = all bytes e (rw is at h)
 
-pub refused_all : (Refuses : PlanRefusals) → IsSaidOfAll (IsRefusedBy Refuses)
-refused_all Refuses bytes error.Read h = h
-refused_all Refuses bytes (error.Refused f) h = least_all bytes f h
-refused_all Refuses bytes (error.Run f) h = (h.0, document_all bytes (input.Plans h.0) h.1, h.2)
-refused_all Refuses bytes error.Write h = h
-refused_all Refuses bytes error.OutOfMemory h = h
-refused_all Refuses bytes error.NotVersion1 h = h
+pub refused_all : (options : Options) → IsSaidOfAll (IsRefused options)
+refused_all options bytes error.Read h = h
+refused_all options bytes (error.Refused f) h = least_all bytes f h
+refused_all options bytes (error.Run f) h = (h.0, document_all bytes (input.Plans h.0) h.1, h.2)
+refused_all options bytes error.Write h = h
+refused_all options bytes error.OutOfMemory h = h
+refused_all options bytes error.NotVersion1 h = h

@@ -1,4 +1,5 @@
 pub mod ReportText
 pub mod Run
 pub mod Migration
+pub mod MigratedAnswers
 pub mod Status

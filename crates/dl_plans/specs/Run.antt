@@ -1,5 +1,5 @@
--- What a run reads and writes, by what it serves, and how it is refused.
-use Rattle.std.specs.Prelude.{ℕ, ◌≤◌, List, length, take, Option}
+-- What a run reads and writes, by what it serves, what it gives, and how it is refused.
+use Rattle.std.specs.Prelude.{◌≡◌, ℕ, ◌≤◌, List, length, take, Option}
 use Rattle.std.specs.Io.KnownBytes.{Appends, Consumes}
 use Rattle.serde_json.specs.Data.{Data}
 use Rattle.dl_documents.specs.Document.{IsTextOf, Spells}
@@ -9,9 +9,13 @@ use Rattle.dl_documents.specs.declared.input.Input.TheVariants as input
 use Rattle.dl_documents.specs.declared.input.PlanFile.{PlanFile}
 use Rattle.dl_history.specs.Service.{Service}
 use Rattle.dl_source.specs.Answer.{answer_of}
+use Rattle.dl_report.specs.Report.{Report}
 use Rattle.dl_report.specs.Setup.{service_of}
-use Rattle.dl_report.specs.declared.fault.ScopeFault.{ScopeFault}
 use Rattle.dl_report.specs.declared.setup.Setup.{Setup}
+use Rattle.dl_scope.specs.Faults.{RefusedAs}
+use Rattle.dl_scope.specs.Headline.{Headline}
+use Rattle.dl_scripts.specs.Output.{script_text}
+use Rattle.dl_plans.specs.ReportText.{report_text}
 use Rattle.dl_plans.specs.declared.fault.RunError.{RunError}
 use Rattle.dl_plans.specs.declared.fault.RunError.TheVariants.{Read, Refused, Run, Write, OutOfMemory, NotVersion1}
 use Rattle.dl_command.specs.declared.settings.Options.{Options}
@@ -65,18 +69,27 @@ pub record WritesFront (IsGiven : List ℕ → List ℕ → Type 0) (old new : O
   pub given : IsGiven bytes text
   pub written : AppendsFront old new text
 
+-- ---- what it gives
+
+-- The text that a document gives: that of a script, or that of a report that meets the headline for the tables, limits and
+-- plans of the file.
+abbrev pub Outputs : Options → Input → List ℕ → Type 0
+Outputs options (input.Script s) text = text ≡ script_text s
+Outputs options (input.Plans file) text = (r : Report) × Headline (file_service options file) file.plans.items r × (text ≡ report_text r options.batches)
+
+-- the text is an output for the bytes: they are a document's, which gives it
+abbrev pub IsOutput : Options → List ℕ → List ℕ → Type 0
+IsOutput options bytes text = (i : Input) × IsDocument bytes i × Outputs options i text
+
 -- ---- refusals
 
--- for which fault the plans of a file aren't served
-abbrev pub PlanRefusals : Type 1
-PlanRefusals = PlanFile → ScopeFault → Type 0
-
 -- where the error says that a document is refused, the refusal is the first that applies to it; where it says that plans aren't
--- served, they are those of the document; each version is answered
-abbrev pub IsRefusedBy : PlanRefusals → List ℕ → RunError → Type 0
-IsRefusedBy Refuses bytes Read = Unit {0}
-IsRefusedBy Refuses bytes (Refused fault) = IsLeast (Applies bytes) fault
-IsRefusedBy Refuses bytes (Run fault) = (file : PlanFile) × IsDocument bytes (input.Plans file) × Refuses file fault
-IsRefusedBy Refuses bytes Write = Unit {0}
-IsRefusedBy Refuses bytes OutOfMemory = Unit {0}
-IsRefusedBy Refuses bytes NotVersion1 = ⊥
+-- served, they are those of the document, and `serve` refuses them so; each version is answered
+abbrev pub IsRefused : Options → List ℕ → RunError → Type 0
+IsRefused options bytes Read = Unit {0}
+IsRefused options bytes (Refused fault) = IsLeast (Applies bytes) fault
+IsRefused options bytes (Run fault) = (file : PlanFile) × IsDocument bytes (input.Plans file)
+    × RefusedAs (file_service options file) (setup_of options file) file.plans.items fault
+IsRefused options bytes Write = Unit {0}
+IsRefused options bytes OutOfMemory = Unit {0}
+IsRefused options bytes NotVersion1 = ⊥

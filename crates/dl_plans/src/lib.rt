@@ -1,9 +1,10 @@
-//! What the programs `plans` and `plan_picture` share, and what `plans` has beside its call of `serve`: what a command line asks for, reading
-//! and writing, the text of a report, migration, and the lines and statuses of failures.
+//! What the program `plans` is made of: what a command line asks for, what a document gives, over a reader and a writer ([`run`]), the text of
+//! a report, migration, and the lines and statuses of failures. `plan_picture` shares most of it.
 #![tactic(auto)]
 
 mod answer_lines;
 mod batch_lines;
+mod document;
 mod fault;
 mod invocation;
 pub mod laws;
@@ -12,12 +13,13 @@ mod report;
 mod status;
 mod streams;
 
-pub use dl_command::{Options, not_text, options, out_of_range, workers};
+pub use dl_command::{Options, Program, not_text, options, out_of_range, workers};
 pub use dl_documents::{
     Calls, Input, MOST_BYTES, PlanFault, PlanFile, Script, ScriptCall, read_input,
 };
 pub use dl_migration::{MigrateFault, migrate};
 pub use dl_scripts::run_script;
+pub use document::run;
 pub use fault::RunError;
 pub use invocation::{asked, tell_no_options, told, words};
 pub use migration::run_migrate;

@@ -3,8 +3,7 @@
 ghost use Rattle.std.specs.Prelude.{◌≢◌, ◌+◌, IfErr, IfSome};
 ghost use Rattle.std.specs.Io.KnownBytes.{Keeps};
 ghost use Rattle.dl_documents.specs.Faults.{most_bytes};
-ghost use Rattle.dl_plans.specs.Run.{ReadsAtMost};
-ghost use Rattle.plan_picture.specs.Refusals.{IsRefused};
+ghost use Rattle.dl_plans.specs.Run.{IsRefused, ReadsAtMost};
 
 use crate::picture::picture;
 use dl_command::Options;

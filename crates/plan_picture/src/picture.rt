@@ -2,10 +2,9 @@
 
 ghost use Rattle.std.specs.Prelude.{◌≢◌, ℕ, List, IfErr, IfOk};
 ghost use Rattle.dl_command.specs.declared.settings.Options.{Options};
-ghost use Rattle.dl_plans.specs.Run.{file_service, setup_of};
+ghost use Rattle.dl_plans.specs.Run.{IsRefused, file_service, setup_of};
 ghost use Rattle.dl_scope.specs.Faults.{RefusedAs};
 ghost use Rattle.dl_scope.specs.Headline.{Headline};
-ghost use Rattle.plan_picture.specs.Refusals.{IsRefused};
 
 use dl_command::Options;
 use dl_documents::{Input, PlanFault, PlanFile, read_input};

@@ -1,14 +1,7 @@
-//! The program `plans`: it answers the document that stands on standard input.
-//!
-//! What calls `serve` stands here, so that no library below loads its proof too. All else that the program needs is `dl_plans`.
+//! The program `plans`: it answers the document that stands on standard input. All that it is made of is `dl_plans`.
 #![tactic(auto)]
 
-mod document;
-pub mod laws;
-
-use dl_command::{Options, Program};
-use dl_plans::{RunError, asked, run_migrate, told};
-use document::run;
+use dl_plans::{Options, Program, RunError, asked, run, run_migrate, told};
 use std::hash::RandomState;
 use std::io;
 use std::process::ExitCode;

@@ -2,7 +2,7 @@ use Rattle.std.proofs.Common.{subst}
 use Rattle.dl_documents.specs.declared.input.Input.TheVariants as input
 use Rattle.dl_plans.specs.Run.{IsDocument}
 use Rattle.dl_plans.proofs.Runs.{document_read}
-use Rattle.plans.proofs.document.output.Goals as goal
+use Rattle.dl_plans.proofs.document.output.Goals as goal
 
 pub returns-in-Ok-clause-ok : goal.returns-in-Ok-clause-ok
 returns-in-Ok-clause-ok g c =

@@ -17,7 +17,7 @@ use Rattle.dl_terms.specs.declared.plan.Plan.{Plan}
 use Rattle.dl_terms.specs.declared.plan.Step.{Step}
 use Rattle.dl_terms.specs.declared.plan.Step.TheVariants.{Prime, Clear, ClearAll, Eval}
 use Rattle.dl_plans.specs.Run.{setup_of}
-use Rattle.plans.specs.MigratedAnswers.{MigratedAnswersAreEqual}
+use Rattle.dl_plans.specs.MigratedAnswers.{MigratedAnswersAreEqual}
 
 -- ---- what the tree of a step tells
 

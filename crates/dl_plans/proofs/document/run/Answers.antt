@@ -1,13 +1,12 @@
 use Rattle.std.proofs.Common.{rules, string_bytes, ◌≡◌, Err}
-use Rattle.dl_plans.proofs.Runs.{refused_all, run_ok, run_writes_front, run_refused}
-use Rattle.plans.specs.Run.{IsOutput, IsRefused, Refuses}
-use Rattle.plans.proofs.Runs.{output_all}
-use Rattle.plans.proofs.document.run.Goals as goal
+use Rattle.dl_plans.specs.Run.{IsOutput, IsRefused}
+use Rattle.dl_plans.proofs.Runs.{output_all, refused_all, run_ok, run_refused, run_writes_front}
+use Rattle.dl_plans.proofs.document.run.Goals as goal
 
 pub returns-in_err-text-clause-refused : goal.returns-in_err-text-clause-refused
 returns-in_err-text-clause-refused g c =
     let same : c.from_residual-in_err-text.result ≡ Err c.in_err-text.field-0.0 = search rules in
-    rw same (run_refused (IsRefused c.args.options) (refused_all (Refuses c.args.options)) (g.R.Read.remaining c.args.reader.now) c.in_ok-bytes.bytes.items c.in_err-text.field-0.0 c.in_ok-bytes.ensures.bytes
+    rw same (run_refused (IsRefused c.args.options) (refused_all c.args.options) (g.R.Read.remaining c.args.reader.now) c.in_ok-bytes.bytes.items c.in_err-text.field-0.0 c.in_ok-bytes.ensures.bytes
     c.in_err-text.ensures.err)
 
 pub returns-clause-ok : goal.returns-clause-ok

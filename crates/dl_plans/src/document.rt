@@ -4,15 +4,17 @@ ghost use Rattle.std.specs.Prelude.{◌≡◌, ◌≢◌, ◌+◌, IfOk, IfErr, 
 ghost use Rattle.std.specs.Io.KnownBytes.{Keeps};
 ghost use Rattle.dl_documents.specs.Faults.{most_bytes};
 ghost use Rattle.dl_plans.specs.ReportText.{report_text};
-ghost use Rattle.dl_plans.specs.Run.{Writes, WritesFront, ReadsAtMost, file_service, setup_of};
+ghost use Rattle.dl_plans.specs.Run.{IsOutput, IsRefused, ReadsAtMost, Writes, WritesFront, file_service, setup_of};
 ghost use Rattle.dl_scope.specs.Faults.{RefusedAs};
 ghost use Rattle.dl_scope.specs.Headline.{Headline};
 ghost use Rattle.dl_scripts.specs.Output.{script_text};
-ghost use Rattle.plans.specs.Run.{IsOutput, IsRefused};
 
+use crate::QUEUE_PLACES;
+use crate::fault::RunError;
+use crate::report::report_text;
+use crate::streams::{read_all, write_all};
 use dl_command::Options;
 use dl_documents::{Input, PlanFault, PlanFile, Script, read_input};
-use dl_plans::{QUEUE_PLACES, RunError, read_all, report_text, write_all};
 use dl_scope::{Report, ScopeFault, Setup, serve};
 use dl_scripts::run_script;
 use dl_workers::NoGate;
@@ -27,11 +29,13 @@ use std::thread::Threads;
 /// a document has. The plans of a plan file are served at once, each on a thread of its own, and as many workers as the
 /// options say fetch for them; a script has no use for the options. Keys are hashed by `hashing`, of which nothing is seen.
 ///
+/// It is for the end of a process: what was read and made is left to the system, and isn't taken apart.
+///
 /// # Errors
 /// `Read` where the reader fails, `Refused` where what it holds is no document, `Run` where the plans of a plan file
 /// aren't served, `OutOfMemory` where an allocation failed, and `Write` where the writer fails. Only after `Write` something
 /// may be written: a front of the text.
-pub(crate) fn run<R: Read, W: Write, T: Threads + Wait + Sync>(
+pub fn run<R: Read, W: Write, T: Threads + Wait + Sync>(
     rt: &T,
     alloc: Global,
     hashing: RandomState,

@@ -1,2 +1,0 @@
-mod MigratedAnswers
-mod Runs

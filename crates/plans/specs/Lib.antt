@@ -1,2 +1,0 @@
-pub mod MigratedAnswers
-pub mod Run
