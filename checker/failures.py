@@ -1,0 +1,207 @@
+"""Finds the terms of a plan file that always fail. The program accepts them.
+
+Each term is evaluated over what its keys may have: their rows, and the values by which steps prime them. What a key without either would
+have is unknown, and so is what a term gives that always fails.
+"""
+
+from __future__ import annotations
+
+from collections.abc import Iterable, Iterator
+from typing import NamedTuple
+
+from checker.reading import Json, Path, Place
+from checker.wording import SCHEMA, Complaint, described, form, listed, nearest, route, shown
+
+ID = SCHEMA["$defs"]["id"]
+AN_ID_IS = f"an id is {form(ID)}"
+# What the schema doesn't say.
+MOST_ITEMS = 1_024
+# How many fields are listed.
+MOST_FIELDS = 8
+
+
+class Found(NamedTuple):
+    """A value that a term may have, and its place in the document: for a list that a term makes, that of the term."""
+
+    value: Json
+    path: Path
+
+
+class Failure(NamedTuple):
+    """Why a term always fails, what would be right, and the value that it fails by."""
+
+    cause: str
+    right: str
+    see: Path | None = None
+
+
+def is_id(value: Json) -> bool:
+    return isinstance(value, str) and ID["minLength"] <= len(value.encode()) <= ID["maxLength"]
+
+
+def members(value: Json) -> Iterator[str]:
+    """The names of the members that a value has, at any depth."""
+    if isinstance(value, dict):
+        yield from value
+    for part in value.values() if isinstance(value, dict) else value if isinstance(value, list) else []:
+        yield from members(part)
+
+
+def other_name(name: str, known: Iterable[str], otherwise: str) -> str:
+    """What to write for a name that isn't known."""
+    near = nearest(name, known)
+    return f'Did you mean "{near}"?' if near else otherwise
+
+
+def id_for(value: Json) -> str:
+    """What to write for a value that is no id."""
+    is_number = isinstance(value, int) and not isinstance(value, bool)
+    return f'Write the text "{value}".' if is_number else "Write an id."
+
+
+# ---- why a term fails, by the first of the values that it reads
+
+
+def no_field(form: str, field: str, part: list[Found]) -> Failure:
+    """Why none of a part's values has a field."""
+    value, path = part[0]
+    fails = f'so this "{form}" always fails (NoField)'
+    if isinstance(value, list):
+        right = 'Read it of one item at a time: write an "all" with a term for each.'
+        return Failure(f"You read {shown(field)} of a list, and a list has no fields, {fails}.", right, path)
+    if not isinstance(value, dict):
+        return Failure(f"You read {shown(field)} of {described(value)}, {fails}.", "Read it of an object.", path)
+    known = sorted({name for found in part if isinstance(found.value, dict) for name in found.value})
+    has = f"You can read {listed(map(shown, known[:MOST_FIELDS]), 'or')} here." if known else "Add it to the row."
+    return Failure(f"You read {shown(field)} of an object that doesn't have it, {fails}.", other_name(field, known, has), path)
+
+
+def no_key(field: str, read: list[Found]) -> Failure:
+    """Why none of the values that a follow reads is an id."""
+    value, path = read[0]
+    right = 'For a list of ids, write "each".' if isinstance(value, list) else id_for(value)
+    cause = f'{shown(field)} is {described(value)} here, and {AN_ID_IS}, so this "follow" always fails (NotAKey).'
+    return Failure(cause, right, path)
+
+
+def no_keys(field: str, read: list[Found]) -> Failure:
+    """Why none of the values that an each reads is a list of ids."""
+    value, path = read[0]
+    fails = 'so this "each" always fails'
+    if not isinstance(value, list):
+        right = 'For one id, write "follow".' if is_id(value) else "Write a list of ids."
+        return Failure(f"{shown(field)} is {described(value)} here and no list, {fails} (NotAList).", right, path)
+    if len(value) > MOST_ITEMS:
+        cause = f"{shown(field)} is a list of {len(value):,} items here, {fails} (TooMany)."
+        return Failure(cause, f"Write at most {MOST_ITEMS:,}.", path)
+    at, item = next((at, item) for at, item in enumerate(value) if not is_id(item))
+    cause = f"{shown(field)} has the item {shown(item)} here, and {AN_ID_IS}, {fails} (NotAKey)."
+    return Failure(cause, id_for(item), (*path, at))
+
+
+# ---- all terms
+
+
+class Terms:
+    """The terms of a plan file, with which nothing else may be wrong, and the warnings about those that were evaluated."""
+
+    def __init__(self, document: Json) -> None:
+        self.warnings: list[Complaint] = []
+        self.tables = [table["name"] for table in document["tables"]]
+        # The values that each key may have.
+        self.rows: dict[tuple[str, str], list[Found]] = {}
+        self.primed: set[str] = set()
+        for number, table in enumerate(document["tables"]):
+            for row, (key, value) in enumerate(table["rows"]):
+                self.rows[table["name"], key] = [Found(value, ("tables", number, "rows", row, 1))]
+        for path, taken in steps(document):
+            if "prime" in taken:
+                self.prime(path, *taken["prime"])
+        self.fields = dict.fromkeys(name for rows in self.rows.values() for row in rows for name in members(row.value))
+        for path, taken in steps(document):
+            if "eval" in taken:
+                self.values(taken["eval"], (*path, "eval"))
+
+    def prime(self, step: Path, key: list[str], outcome: Json) -> None:
+        table, name = key
+        self.primed.add(table)
+        if "value" in outcome:
+            self.rows.setdefault((table, name), []).append(Found(outcome["value"], (*step, "prime", 1, "value")))
+
+    def warn(self, failure: Failure, path: Path) -> None:
+        see = Place(failure.see) if failure.see else None
+        self.warnings.append(Complaint(failure.cause, failure.right, route(path), Place(path), see))
+
+    def values(self, term: Json, path: Path) -> list[Found] | None:
+        """The values that a term may have, or None if they are unknown."""
+        ((form, argument),) = term.items()
+        path = (*path, form)
+        if form == "value":
+            return [Found(argument, path)]
+        if form == "load":
+            self.look_up(argument[0], (*path, 0))
+            return self.rows.get((argument[0], argument[1]))
+        if form == "all":
+            for number, part in enumerate(argument):
+                self.values(part, (*path, number))
+            return [Found([], path)]
+        part = self.values(argument[0], (*path, 0))
+        if form == "pick":
+            return self.picked(form, argument[1], part, path)
+        # A table that isn't there comes first, since the rows of the right one may have the field.
+        self.look_up(argument[2], (*path, 2))
+        read = self.picked(form, argument[1], part, path)
+        if form == "follow":
+            return self.followed(argument, read, path)
+        if read and not any(is_list_of_ids(found.value) for found in read):
+            self.warn(no_keys(argument[1], read), (*path, 1))
+        return [Found([], path)]
+
+    def look_up(self, table: str, path: Path) -> None:
+        """Warns of a table that isn't there, and of which no step primes a key."""
+        if table in self.tables or table in self.primed:
+            return
+        cause = f'No table has the name {shown(table)}, so each of its keys is an error ("no table").'
+        self.warn(Failure(cause, other_name(table, self.tables, 'Add it to "tables".')), path)
+
+    def picked(self, form: str, field: str, part: list[Found] | None, path: Path) -> list[Found] | None:
+        """What the values of a part have as a field."""
+        if part is None:
+            if field not in self.fields:
+                cause = f'No row has {shown(field)}, so this "{form}" always fails.'
+                self.warn(Failure(cause, other_name(field, self.fields, "Add it to a row.")), (*path, 1))
+            return None
+        having = [found for found in part if isinstance(found.value, dict) and field in found.value]
+        if not having:
+            self.warn(no_field(form, field, part), (*path, 1))
+            return None
+        return [Found(found.value[field], (*found.path, field)) for found in having]
+
+    def followed(self, argument: Json, read: list[Found] | None, path: Path) -> list[Found] | None:
+        """The rows whose ids are read."""
+        if read is None:
+            return None
+        _, field, table = argument
+        ids = [found.value for found in read if is_id(found.value)]
+        if not ids:
+            self.warn(no_key(field, read), (*path, 1))
+        # A value that several keys lead to counts once, or a long term would have very many.
+        rows = {row.path: row for key in ids for row in self.rows.get((table, key), ())}
+        return list(rows.values()) or None
+
+
+def is_list_of_ids(value: Json) -> bool:
+    """Whether an each can go through a value."""
+    return isinstance(value, list) and len(value) <= MOST_ITEMS and all(map(is_id, value))
+
+
+def steps(document: Json) -> Iterator[tuple[Path, Json]]:
+    """The steps of a plan file, each with its path."""
+    for plan, taken in enumerate(document["plans"]):
+        for step, one in enumerate(taken):
+            yield ("plans", plan, step), one
+
+
+def warnings(document: Json) -> list[Complaint]:
+    """What makes terms of a document fail, in order: of a term after what makes its parts fail."""
+    return Terms(document).warnings if "version" in document else []
