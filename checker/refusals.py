@@ -196,6 +196,8 @@ def right_of(error: ValidationError, value: Json) -> str:
     text = f"Write {words(error.schema)}"
     if isinstance(value, float):
         return f"{text}, without a point or an exponent."
+    if "version" in missing(error):
+        return f'{text}. For a script, write "script" and "calls".'
     is_quoted = error.schema.get("type") == "integer" and isinstance(value, str) and value.isdigit()
     return text + (", without quotes." if is_quoted else ".")
 
