@@ -23,10 +23,12 @@ MOST_HEIGHT = 32
 LIMITS = {"maxBatchSize": "BatchLimit", "maxCells": "CellLimit", "maxCalls": "CallLimit"}
 TABLE_FAULTS = ["Shape", "BadKey", "TextTooLong", "NotWhole", "DuplicateTable", "DuplicateKey"]
 
-# Members that another version has, by the titles of the objects that don't have them, and what to do about them.
-OF_ANOTHER_VERSION = {
+# Members that another version or kind of document has, by the titles of the objects that don't have them, and what to do about them.
+ELSEWHERE = {
     ("a script of version 1", "tableLimits"): 'To use it, set "script" to 2.',
     ("a table of version 1", "maxBatchSize"): 'To use it, set "version" to 2.',
+    ("a plan file", "tableLimits"): 'Write "maxBatchSize" in each table that has a limit of its own.',
+    ("a plan file of version 1", "tableLimits"): 'Set "version" to 2, and write "maxBatchSize" in each table that has a limit of its own.',
 }
 
 
@@ -163,7 +165,7 @@ def within(document: Json, path: Path) -> str:
 def meant_by(name: str, schema: Json) -> str | None:
     """The member that another one of an object is most likely meant to be."""
     known = list(schema["properties"])
-    return None if name in known or (schema.get("title"), name) in OF_ANOTHER_VERSION else nearest(name, known)
+    return None if name in known or (schema.get("title"), name) in ELSEWHERE else nearest(name, known)
 
 
 def missing(error: ValidationError) -> list[str]:
@@ -210,7 +212,7 @@ def strange_members(error: ValidationError) -> Iterator[tuple[str, str, str]]:
             continue
         near = meant_by(name, error.schema)
         right = (f'Did you mean "{near}"? ' if near else "") + f"{title} is {form(error.schema)}."
-        right = OF_ANOTHER_VERSION.get((error.schema["title"], name), right)
+        right = ELSEWHERE.get((error.schema["title"], name), right)
         yield name, f"{title} has no member {shown(name)}.", right
 
 
