@@ -95,7 +95,8 @@ def titled(schema: Json) -> str:
 
 def words(schema: Json) -> str:
     """What you can write for this part of the schema."""
-    return f"{schema['title']}, {form(schema)}" if "title" in schema and "type" in schema else form(schema)
+    text = f"{schema['title']}, {form(schema)}" if "title" in schema and "type" in schema else form(schema)
+    return f"{text}, such as {shown(schema['examples'][0])}" if "examples" in schema else text
 
 
 def form(schema: Json) -> str:
@@ -112,7 +113,7 @@ def form(schema: Json) -> str:
     if "prefixItems" in schema:
         return "a list of " + listed([titled(item) for item in schema["prefixItems"]])
     if kind == "array":
-        return f"a list{between(schema, 'minItems', 'maxItems', 'items')}, each of them {titled(schema['items'])}"
+        return f"a list{between(schema, 'minItems', 'maxItems', 'items') or ' of items'}, each of them {titled(schema['items'])}"
     if kind == "integer":
         return "a whole number" + between(schema, "minimum", "maximum", "")
     return "a text" + between(schema, "minLength", "maxLength", "bytes")
