@@ -1051,6 +1051,14 @@ ROWS["a number out of range is no JSON"] = [
     refused("plan 0 step 0", TERM, '{"value":1e308}}]]}'),
 ]
 
+# So is a text with half of a surrogate pair.
+ROWS["half of a surrogate pair is no JSON"] = [
+    refused("not json", r'{"script":1,"calls":[{"load":["t","\ud800"]}]}'),
+    refused("not json", r'{"script":3,"calls":[],"x\udc00":0}'),
+    refused("not json", r'{"script":1,"calls":[],"maxCells":"\ud800\u0041","maxCells":1}'),
+    refused("top", r'{"script":1,"calls":[],"x":"\ud834\udd1e"}'),
+]
+
 ROWS["a refusal tells the place"] = [
     refused("call 10", '{"script":1,"calls":[', (STEP, 10), "5]}", about="an eleventh call that is none"),
     refused("plan 1 step 255", PLAN, "],[", (STEP, 255), "5]]}", about="a last step that is none, of the second plan"),
