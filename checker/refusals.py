@@ -196,12 +196,13 @@ def cause_of(error: ValidationError, value: Json) -> str:
 def right_of(error: ValidationError, value: Json) -> str:
     """What would be right there."""
     text = f"Write {words(error.schema)}"
-    if isinstance(value, float):
-        return f"{text}, without a point or an exponent."
     if "version" in missing(error):
         return f'{text}. For a script, write "script" and "calls".'
-    is_quoted = error.schema.get("type") == "integer" and isinstance(value, str) and value.isdigit()
-    return text + (", without quotes." if is_quoted else ".")
+    # The check of values is of their numbers alone.
+    is_of_numbers = error.schema.get("type") == "integer" or error.validator == "anyOf"
+    if is_of_numbers and isinstance(value, float):
+        return f"{text}, without a point or an exponent."
+    return text + (", without quotes." if is_of_numbers and isinstance(value, str) and value.isdigit() else ".")
 
 
 def strange_members(error: ValidationError) -> Iterator[tuple[str, str, str]]:

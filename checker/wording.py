@@ -13,7 +13,7 @@ SCHEMA: Json = json.loads((pathlib.Path(__file__).resolve().parent.parent / "doc
 
 # How many characters of a value are shown, and how alike a name must be to one that is offered instead.
 MOST_SHOWN = 100
-LEAST_LIKENESS = 0.7
+LEAST_LIKENESS = 0.75
 
 
 class Complaint(NamedTuple):
