@@ -107,7 +107,7 @@ class Terms:
 
     def __init__(self, document: Json) -> None:
         self.warnings: list[Complaint] = []
-        self.tables = [table["name"] for table in document["tables"]]
+        self.tables = dict.fromkeys(table["name"] for table in document["tables"])
         # The values that each key may have.
         self.rows: dict[tuple[str, str], list[Found]] = {}
         self.primed: set[str] = set()

@@ -69,7 +69,8 @@ def no_number(token: str) -> None:
 
 def spot(text: str, offset: int) -> str:
     """The line and column of a character of a text, both counted from 1."""
-    return f"line {text.count(chr(10), 0, offset) + 1:,}, column {offset - text.rfind(chr(10), 0, offset):,}"
+    line, column = text.count("\n", 0, offset) + 1, offset - text.rfind("\n", 0, offset)
+    return f"line {line}, column {column}"
 
 
 def decoded(document: bytes) -> str:
