@@ -1,14 +1,29 @@
-/* The desk for Python: a type over dl_desk.h that keeps, for each cell, who waits for it and then its outcome. It works under the
- * interpreter's lock, and a desk belongs to the thread and the event loop of its first load.
+/* The desk for Python: a type over dl_desk.h that keeps, for each cell, who waits for it and then its outcome, and that watches
+ * the tasks that send and fetch. It works under the interpreter's lock, and a desk belongs to the thread and the event loop of
+ * its first load.
  *
  * Any call of Python's may come back with another call of the same desk, by a finalizer if nothing else. So what the desk answers
- * is noted before the next such call, and a cell is looked up by its number after each. */
+ * is noted before the next such call, and a cell is looked up by its number after each. An interrupt comes only while Python's
+ * own code runs: so what has to be done as one is done here. */
+#define Py_LIMITED_API 0x030a0000
 #define PY_SSIZE_T_CLEAN
 #include <Python.h>
 
-#include <sys/random.h>
+#include <stdlib.h>
+#include <string.h>
 
 #include "dl_desk.h"
+
+/* What the extension has in each interpreter: references, and nothing else. */
+typedef struct {
+    PyObject *options[9]; /* their names */
+    PyObject *desk_type, *known_type, *loader_full, *no_args;
+    PyObject *get_running_loop, *future_type, *base_create_future, *cancelled_error, *invalid_state, *shield, *is_future,
+        *partial;
+    PyObject *add_done_callback, *batch_schedule_fn, *cancel, *cancelled, *check_options, *clear, *close, *create_future,
+        *create_task, *dispatch, *end_as, *exception, *fetch, *get, *pop, *result, *send_late, *set_exception, *set_result,
+        *setdefault, *task_ended, *thread_id;
+} Module;
 
 /* What a cell is. */
 typedef enum {
@@ -17,16 +32,26 @@ typedef enum {
     ENDED,     /* a future that is done */
     VALUE,     /* a value, of which nobody has a future */
     ERROR,     /* an exception, of which nobody has a future */
-    LOST       /* a load that raised: it has nothing, and no outcome */
+    GONE       /* it has nothing: its load has raised, or nobody can read its outcome any more */
 } CellState;
+
+/* What a loader knows of a key: its number, by which the desk knows it, and the cell that the desk holds for it, or NO_CELL. */
+typedef struct {
+    PyObject_HEAD
+    uint64_t number;
+    uint32_t place;
+} Known;
+
+#define NO_CELL UINT32_MAX
 
 typedef struct {
     PyObject *key;  /* the key as the caller gave it, or NULL */
     PyObject *what; /* of waiters: NULL, a future, or a list of them */
+    Known *known;   /* if the desk holds it for its key: that key, else NULL */
     CellState state;
 } Cell;
 
-/* How a cell ends. Of what is silent a loop makes no report where nobody asks for it. */
+/* How a cell ends. Of what is silent a loop makes no report if nobody asks for it. */
 typedef enum { WITH_VALUE, WITH_ERROR, WITH_SILENT_ERROR } Ending;
 
 /* What a loader has done. */
@@ -36,35 +61,70 @@ typedef struct {
 
 typedef struct {
     PyObject_HEAD
+    Module *module;
     dl_desk desk;
+    uint32_t max_batch, max_cells;
     Cell *cells; /* by their numbers */
     uint32_t cell_count, cell_room;
-    bool is_memo;              /* whether a load may find what an earlier one has loaded */
-    bool is_collecting;        /* whether what is collected will be sent */
-    PyObject *get_cache_key;   /* a callable, or NULL */
-    PyObject *cache_map;       /* a mapping that is the memo in the desk's place, or NULL */
-    PyObject *numbers;         /* a dict: the numbers of keys that are neither a str nor an int, or NULL */
-    unsigned long long unique; /* how many numbers were given to loads that find nothing */
-    PyObject *loop;            /* the event loop of the first load, or NULL */
-    unsigned long thread;      /* its thread */
-    PyObject *create_future;   /* the loop's own method, or NULL where it makes asyncio's futures */
-    PyObject *loop_dict;       /* the loop's `__dict__`, or NULL */
-    PyObject *run;             /* the loop's `_thread_id` as of a load, or NULL: while it is this very object, the loop runs on */
+    uint32_t held;           /* how many of them the desk holds */
+    uint32_t unended;        /* how many have no outcome, and how many calls look at cells meanwhile */
+    uint64_t first_batch;    /* how many batches desks before this one have sent */
+    uint32_t batch_count;    /* how many this one has sent */
+    bool is_memo;            /* whether a load may find what an earlier one has loaded */
+    bool is_collecting;      /* whether what is collected will be sent */
+    PyObject *get_cache_key; /* a callable, or NULL */
+    PyObject *cache_map;     /* a mapping that is the memo in the desk's place, or NULL */
+    PyObject *keys;          /* a dict: what is known of each key, or NULL */
+    uint64_t next_number;    /* none from this one on was given to a key */
+    PyObject *tasks;         /* a dict: of each task the list of its batches that haven't ended, or NULL */
+    PyObject *sending;       /* the list of the task that will send what is collected, or NULL */
+    PyObject *loop;          /* the event loop of the first load, or NULL */
+    unsigned long thread;    /* its thread */
+    PyObject *of_loop;       /* {"loop": loop}, or NULL */
+    PyObject *create_future; /* the loop's own method, or NULL if it makes asyncio's futures */
+    PyObject *loop_dict;     /* the loop's `__dict__`, or NULL */
+    PyObject *run;           /* the loop's `_thread_id` as of a load, or NULL: while it is this very object, the loop runs on */
     Counts counts;
 } Desk;
 
-/* What this module takes from asyncio, and the names of methods. */
-static PyObject *loader_full, *get_running_loop, *future_type, *base_create_future, *cancelled_error, *invalid_state;
-static PyObject *shield, *schedule_name, *create_future_name, *thread_id_name, *exception_name, *set_result_name,
-    *set_exception_name, *cancel_name, *pop_name, *get_name, *clear_name, *loop_names;
+/* What isn't in the limited API of each Python. */
 
-static PyObject *raise_code(uint32_t code)
+static PyObject *call_one(PyObject *callable, PyObject *argument)
+{
+    return PyObject_CallFunctionObjArgs(callable, argument, NULL);
+}
+
+static PyObject *call_method(PyObject *of, PyObject *name, PyObject *argument)
+{
+    return PyObject_CallMethodObjArgs(of, name, argument, NULL);
+}
+
+/* Puts a reference in the place of another one. */
+static void replace(PyObject **place, PyObject *given)
+{
+    PyObject *old = *place;
+
+    *place = given;
+    Py_XDECREF(old);
+}
+
+/* The name of an object's type. A new reference. */
+static PyObject *type_name(PyObject *of)
+{
+    return PyObject_GetAttrString((PyObject *)Py_TYPE(of), "__name__");
+}
+
+/* Errors. */
+
+static PyObject *raise_code(const Desk *self, uint32_t code)
 {
     switch (code) {
     case DL_OUT_OF_MEMORY:
         return PyErr_NoMemory();
     case DL_CELLS_FULL:
-        PyErr_SetString(loader_full, "the loader has begun as many cells as its max_cells: make a loader for each request");
+        PyErr_SetString(self->module->loader_full,
+                        "the loader holds as many cells as its max_cells: make a loader for each request, "
+                        "or clear one that lives longer (clear_all)");
         return NULL;
     case DL_BAD_LIMIT:
         PyErr_Format(PyExc_ValueError, "a limit is 1 to %d", DL_LARGEST_LIMIT);
@@ -90,118 +150,53 @@ static PyObject *raise_code(uint32_t code)
     }
 }
 
+/* Takes the exception that was raised. */
+static PyObject *take_error(void)
+{
+    PyObject *type, *error, *traceback;
+
+    PyErr_Fetch(&type, &error, &traceback);
+    PyErr_NormalizeException(&type, &error, &traceback);
+    if (traceback != NULL) {
+        PyException_SetTraceback(error, traceback);
+    }
+    Py_XDECREF(type);
+    Py_XDECREF(traceback);
+    return error;
+}
+
+/* Raises an exception that was taken. */
+static void raise_again(PyObject *error)
+{
+    PyErr_SetObject((PyObject *)Py_TYPE(error), error);
+    Py_DECREF(error);
+}
+
 /* Keys. */
 
-/* The two texts of a key: a str or an int as it is, each in a table of its own, so that "1" and 1 are two keys; and any other key
- * by its number, in a third table. A fourth has the numbers of loads that find nothing. */
+/* A key as the desk knows it: the digits of a number. Python's dict says which keys are one. So nobody but the loader chooses the
+ * desk's keys, and its hashes need no seed. */
 typedef struct {
-    const uint8_t *table, *id;
-    size_t table_len, id_len;
-    PyObject *owner; /* who owns the id's bytes, or NULL where the caller's key does */
-    uint8_t digits[24];
-} KeyTexts;
+    size_t len;
+    uint8_t digits[20];
+} KeyText;
 
-/* Ints below this hash as themselves, and so does each number that equals one. */
-#define LARGEST_PLAIN ((1LL << 60) - 1)
+/* The one table of a desk, and what a call of the desk takes of a key. */
+#define TABLE "k"
+#define KEY(text) (const uint8_t *)TABLE, sizeof TABLE - 1, (text).digits, (text).len
 
-static void number_texts(KeyTexts *texts, const char *table, long long number)
+static KeyText key_text(uint64_t number)
 {
-    uint8_t *end = texts->digits + sizeof texts->digits, *start = end;
-    unsigned long long rest = number < 0 ? 0ULL - (unsigned long long)number : (unsigned long long)number;
+    KeyText text = {.len = 1};
 
-    do {
-        *--start = (uint8_t)('0' + rest % 10);
-        rest /= 10;
-    } while (rest > 0);
-    if (number < 0) {
-        *--start = '-';
+    for (uint64_t rest = number / 10; rest > 0; rest /= 10) {
+        text.len++;
     }
-    texts->table = (const uint8_t *)table;
-    texts->id = start;
-    texts->id_len = (size_t)(end - start);
-}
-
-/* Whether objects of the type are equal and hashed as those of the base, from which it may be derived. */
-static bool is_plain(PyTypeObject *type, PyTypeObject *base)
-{
-    return type == base || (type->tp_hash == base->tp_hash && type->tp_richcompare == base->tp_richcompare);
-}
-
-/* An int that is its own hash, as a text. */
-static bool int_texts(PyObject *key, KeyTexts *texts)
-{
-    int overflow;
-    long long number = PyLong_AsLongLongAndOverflow(key, &overflow);
-
-    if (overflow != 0 || number > LARGEST_PLAIN || number < -LARGEST_PLAIN) {
-        return false;
+    for (size_t place = text.len; place > 0; place--) {
+        text.digits[place - 1] = (uint8_t)('0' + number % 10);
+        number /= 10;
     }
-    number_texts(texts, "ints", number);
-    return true;
-}
-
-/* Whether the key equals the int: 1, with the int's texts, or 0; or -1 with an exception. */
-static int equal_int_texts(PyObject *key, long long number, KeyTexts *texts)
-{
-    PyObject *given = PyLong_FromLongLong(number);
-    int is_equal = given == NULL ? -1 : PyObject_RichCompareBool(key, given, Py_EQ);
-
-    Py_XDECREF(given);
-    number_texts(texts, "ints", number);
-    return is_equal;
-}
-
-/* The same of whatever int the key equals, as 1.0 equals 1. A number that equals an int has its hash. */
-static int equal_number_texts(PyObject *key, Py_hash_t hash, KeyTexts *texts)
-{
-    PyNumberMethods *methods = Py_TYPE(key)->tp_as_number;
-    int is_equal;
-
-    if (methods == NULL || (methods->nb_int == NULL && methods->nb_float == NULL && !PyComplex_Check(key)) ||
-        hash > LARGEST_PLAIN || hash < -LARGEST_PLAIN) {
-        return 0;
-    }
-    is_equal = equal_int_texts(key, hash, texts);
-    /* -2 is also the hash of -1. */
-    return is_equal == 0 && hash == -2 ? equal_int_texts(key, -1, texts) : is_equal;
-}
-
-/* The number of any other key, which a new one gets where `is_given`: 1 with the texts; 0 where it has none; -1 with an
- * exception. */
-static int numbered_texts(Desk *self, PyObject *key, bool is_given, KeyTexts *texts)
-{
-    PyObject *number;
-    Py_hash_t hash = PyObject_Hash(key);
-    int found;
-
-    if (hash == -1) {
-        if (PyErr_ExceptionMatches(PyExc_TypeError)) {
-            PyErr_Format(PyExc_TypeError, "a key is hashable, and %.100s isn't: give get_cache_key", Py_TYPE(key)->tp_name);
-        }
-        return -1;
-    }
-    found = equal_number_texts(key, hash, texts);
-    if (found != 0) {
-        return found;
-    }
-    if (self->numbers == NULL && (!is_given || (self->numbers = PyDict_New()) == NULL)) {
-        return is_given ? -1 : 0;
-    }
-    if (is_given) {
-        PyObject *next = PyLong_FromSsize_t(PyDict_GET_SIZE(self->numbers));
-        number = next == NULL ? NULL : PyDict_SetDefault(self->numbers, key, next);
-        Py_XDECREF(next);
-        if (number == NULL) {
-            return -1;
-        }
-    } else {
-        number = PyDict_GetItemWithError(self->numbers, key);
-        if (number == NULL) {
-            return PyErr_Occurred() ? -1 : 0;
-        }
-    }
-    number_texts(texts, "keys", PyLong_AsLongLong(number));
-    return 1;
+    return text;
 }
 
 static bool is_key(PyObject *key)
@@ -212,81 +207,115 @@ static bool is_key(PyObject *key)
     return key != Py_None;
 }
 
-/* The key by which the memo knows a key: itself, or what get_cache_key makes of it. A new reference. */
+/* The key by which a key is remembered: itself, or what get_cache_key makes of it. A new reference. */
 static PyObject *cache_key_of(Desk *self, PyObject *key)
 {
     if (!is_key(key)) {
         return NULL;
     }
     if (self->get_cache_key != NULL) {
-        return PyObject_CallOneArg(self->get_cache_key, key);
+        return call_one(self->get_cache_key, key);
     }
     Py_INCREF(key);
     return key;
 }
 
-/* The texts of a key: 1; 0 where it isn't known, and won't be as `is_given` says; -1 with an exception. Where it isn't -1, the
- * owner is let go by the caller. */
-static int key_texts(Desk *self, PyObject *key, bool is_given, KeyTexts *texts)
+/* Says of a TypeError that a key can't be hashed, if that is why. */
+static void explain_unhashable(PyObject *cache_key)
 {
-    const char *id = NULL;
-    Py_ssize_t len = 0;
-    int found;
+    PyObject *error, *name;
 
-    texts->owner = NULL;
-    texts->table_len = 4;
-    if (!is_key(key)) {
+    if (!PyErr_ExceptionMatches(PyExc_TypeError)) {
+        return;
+    }
+    error = take_error();
+    if (PyObject_Hash(cache_key) == -1 && PyErr_ExceptionMatches(PyExc_TypeError) && (name = type_name(cache_key)) != NULL) {
+        PyErr_Format(PyExc_TypeError, "a key is hashable, and %S isn't: give get_cache_key", name);
+        Py_DECREF(name);
+        Py_DECREF(error);
+    } else {
+        raise_again(error);
+    }
+}
+
+/* The dict of the keys, made if `is_new`. A new reference, since a key's `__hash__` or `__eq__` may have the loader drop it. */
+static PyObject *keys_of(Desk *self, bool is_new)
+{
+    if (self->keys == NULL && is_new) {
+        self->keys = PyDict_New();
+    }
+    Py_XINCREF(self->keys);
+    return self->keys;
+}
+
+/* Begins to know a key, unless another call does so meanwhile: a key's `__hash__` and `__eq__` may load keys, and let other
+ * threads run. A new reference. */
+static Known *new_known(Desk *self, PyObject *keys, PyObject *cache_key)
+{
+    Known *known = PyObject_New(Known, (PyTypeObject *)self->module->known_type), *kept;
+
+    if (known == NULL) {
+        return NULL;
+    }
+    known->number = self->next_number++;
+    known->place = NO_CELL;
+    kept = (Known *)PyObject_CallMethodObjArgs(keys, self->module->setdefault, cache_key, known, NULL);
+    Py_DECREF(known);
+    return kept;
+}
+
+static void known_dealloc(PyObject *known)
+{
+    PyTypeObject *type = Py_TYPE(known);
+
+    PyObject_Free(known);
+    Py_DECREF(type);
+}
+
+/* What is known of a cache key, and of a new one if `is_new`: 1 with a new reference; 0 if nothing is; -1 with an exception. */
+static int find_known(Desk *self, PyObject *cache_key, bool is_new, Known **known)
+{
+    PyObject *keys = keys_of(self, is_new);
+
+    *known = keys == NULL ? NULL : (Known *)PyDict_GetItemWithError(keys, cache_key);
+    Py_XINCREF(*known);
+    if (*known == NULL && keys != NULL && is_new && !PyErr_Occurred()) {
+        *known = new_known(self, keys, cache_key);
+    }
+    Py_XDECREF(keys);
+    if (*known != NULL) {
+        return 1;
+    }
+    /* Nothing is asked of a dict that isn't there, but a key is hashable. */
+    if (PyErr_Occurred() || (keys == NULL && PyObject_Hash(cache_key) == -1)) {
+        explain_unhashable(cache_key);
         return -1;
     }
-    if (self->get_cache_key != NULL) {
-        key = texts->owner = PyObject_CallOneArg(self->get_cache_key, key);
-        if (key == NULL) {
-            return -1;
-        }
-    }
-    if (PyUnicode_CheckExact(key) && PyUnicode_IS_COMPACT_ASCII(key)) {
-        id = (const char *)PyUnicode_1BYTE_DATA(key);
-        len = PyUnicode_GET_LENGTH(key);
-    } else if (PyUnicode_Check(key) && is_plain(Py_TYPE(key), &PyUnicode_Type)) {
-        id = PyUnicode_AsUTF8AndSize(key, &len);
-        /* A surrogate is in no UTF-8. */
-        if (id == NULL && !PyErr_ExceptionMatches(PyExc_UnicodeEncodeError)) {
-            goto failed;
-        }
-        PyErr_Clear();
-    } else if (PyLong_Check(key) && is_plain(Py_TYPE(key), &PyLong_Type) && int_texts(key, texts)) {
-        return 1;
-    }
-    if (id != NULL && len > 0 && len <= DL_ID_BYTES) {
-        texts->table = (const uint8_t *)"text";
-        texts->id = (const uint8_t *)id;
-        texts->id_len = (size_t)len;
-        return 1;
-    }
-    found = numbered_texts(self, key, is_given, texts);
-    if (found >= 0) {
-        return found;
-    }
-failed:
-    Py_CLEAR(texts->owner);
-    return -1;
+    return 0;
 }
 
-/* Texts that no other load has. */
-static void unique_texts(Desk *self, KeyTexts *texts)
+/* The same of a key. */
+static int known_of(Desk *self, PyObject *key, bool is_new, Known **known)
 {
-    texts->owner = NULL;
-    texts->table_len = 4;
-    number_texts(texts, "once", (long long)self->unique++);
+    PyObject *cache_key = cache_key_of(self, key);
+    int found = cache_key == NULL ? -1 : find_known(self, cache_key, is_new, known);
+
+    Py_XDECREF(cache_key);
+    return found;
 }
 
-/* The texts of a key that is loaded: where the desk is no memo, they are those of no other. */
-static bool loaded_texts(Desk *self, PyObject *key, KeyTexts *texts)
+/* What is known of a key that is loaded. If the desk is no memo, that is nothing, and the key has the number of no other load. */
+static bool loaded_key(Desk *self, PyObject *key, Known **known, uint64_t *number)
 {
     if (self->is_memo) {
-        return key_texts(self, key, true, texts) == 1;
+        if (known_of(self, key, true, known) != 1) {
+            return false;
+        }
+        *number = (*known)->number;
+        return true;
     }
-    unique_texts(self, texts);
+    *known = NULL;
+    *number = self->next_number++;
     return is_key(key);
 }
 
@@ -306,23 +335,27 @@ static bool is_in_thread(const Desk *self)
 /* Takes on the loop of the first load. */
 static bool bind(Desk *self, PyObject *loop)
 {
-    PyObject *method = PyObject_GetAttr((PyObject *)Py_TYPE(loop), create_future_name);
+    PyObject *name = self->module->create_future, *method = PyObject_GetAttr((PyObject *)Py_TYPE(loop), name), *of_loop,
+             *own = NULL;
 
     if (method == NULL) {
         return false;
     }
     Py_DECREF(method);
-    if (method != base_create_future) {
-        method = PyObject_GetAttr(loop, create_future_name);
-        if (method == NULL) {
-            return false;
-        }
-        Py_XSETREF(self->create_future, method);
+    if (method != self->module->base_create_future && (own = PyObject_GetAttr(loop, name)) == NULL) {
+        return false;
     }
-    Py_XSETREF(self->loop_dict, PyObject_GenericGetDict(loop, NULL));
+    of_loop = Py_BuildValue("{sO}", "loop", loop);
+    if (of_loop == NULL) {
+        Py_XDECREF(own);
+        return false;
+    }
+    replace(&self->create_future, own);
+    replace(&self->of_loop, of_loop);
+    replace(&self->loop_dict, PyObject_GenericGetDict(loop, NULL));
     PyErr_Clear();
     Py_INCREF(loop);
-    Py_XSETREF(self->loop, loop);
+    replace(&self->loop, loop);
     self->thread = PyThread_get_thread_ident();
     return true;
 }
@@ -331,7 +364,7 @@ static bool bind(Desk *self, PyObject *loop)
  * borrowed. */
 static PyObject *current_run(const Desk *self)
 {
-    PyObject *run = self->loop_dict == NULL ? NULL : PyDict_GetItemWithError(self->loop_dict, thread_id_name);
+    PyObject *run = self->loop_dict == NULL ? NULL : PyDict_GetItemWithError(self->loop_dict, self->module->thread_id);
 
     if (run == NULL) {
         PyErr_Clear();
@@ -345,7 +378,7 @@ static bool find_loop(Desk *self)
     PyObject *loop, *run;
     bool is_own = false;
 
-    if (!is_in_thread(self) || (loop = PyObject_CallNoArgs(get_running_loop)) == NULL) {
+    if (!is_in_thread(self) || (loop = PyObject_CallNoArgs(self->module->get_running_loop)) == NULL) {
         return false;
     }
     if (loop == Py_None) {
@@ -363,47 +396,60 @@ static bool find_loop(Desk *self)
         run = current_run(self);
         run = run == Py_None ? NULL : run;
         Py_XINCREF(run);
-        Py_XSETREF(self->run, run);
+        replace(&self->run, run);
     }
     return is_own;
 }
 
-/* The same, found faster where the loop has run on since an earlier load. */
+/* The same, found faster if the loop has run on since an earlier load. */
 static bool is_on_loop(Desk *self)
 {
-    return (self->run != NULL && self->thread == PyThread_get_thread_ident() && current_run(self) == self->run) || find_loop(self);
+    return (self->run != NULL && self->thread == PyThread_get_thread_ident() && current_run(self) == self->run) ||
+           find_loop(self);
 }
 
 static PyObject *new_future(Desk *self)
 {
-    PyObject *args[2] = {NULL, self->loop};
-
     return self->create_future != NULL ? PyObject_CallNoArgs(self->create_future)
-                                       : PyObject_Vectorcall(future_type, args + 1, PY_VECTORCALL_ARGUMENTS_OFFSET, loop_names);
+                                       : PyObject_Call(self->module->future_type, self->module->no_args, self->of_loop);
 }
 
 /* What a RuntimeError tells in the place of an exception that a future can't hold. */
-#define GIVEN "a batch function gave %.100s"
-#define PRIMED "a key was primed with %.100s"
+#define GIVEN "a batch function gave %S"
+#define PRIMED "a key was primed with %S"
+#define TASK_ENDED "the loader's task ended with %S"
 #define NOT_CALLED "the loader's task was cancelled before it called the batch function"
 
-static bool is_cancelled(PyObject *error)
+static bool is_cancelled(const Desk *self, PyObject *error)
 {
-    return PyErr_GivenExceptionMatches(error, cancelled_error) != 0;
+    return PyErr_GivenExceptionMatches(error, self->module->cancelled_error) != 0;
 }
 
-/* An exception as a future can hold it and a waiter can see it: one that would end or cancel who waits is wrapped. A new reference,
- * or NULL. */
-static PyObject *held_error(PyObject *error, const char *told)
+/* Whether a waiter that is given this exception would be ended or cancelled by it, or its loop, or can't be given it. */
+static bool is_wrapped(const Desk *self, PyObject *error)
 {
-    PyObject *wrapped;
+    PyObject *const kinds[] = {PyExc_StopIteration, PyExc_GeneratorExit, PyExc_KeyboardInterrupt, PyExc_SystemExit};
 
-    if (!PyErr_GivenExceptionMatches(error, PyExc_StopIteration) && !is_cancelled(error) &&
-        !PyErr_GivenExceptionMatches(error, PyExc_GeneratorExit)) {
+    for (size_t i = 0; i < sizeof kinds / sizeof *kinds; i++) {
+        if (PyErr_GivenExceptionMatches(error, kinds[i])) {
+            return true;
+        }
+    }
+    return is_cancelled(self, error);
+}
+
+/* An exception as a future can hold it and a waiter can see it. A new reference, or NULL. */
+static PyObject *held_error(Desk *self, PyObject *error, const char *told)
+{
+    PyObject *name, *wrapped;
+
+    if (!is_wrapped(self, error)) {
         Py_INCREF(error);
         return error;
     }
-    wrapped = PyObject_CallFunction(PyExc_RuntimeError, "N", PyUnicode_FromFormat(told, Py_TYPE(error)->tp_name));
+    name = type_name(error);
+    wrapped = name == NULL ? NULL : PyObject_CallFunction(PyExc_RuntimeError, "N", PyUnicode_FromFormat(told, name));
+    Py_XDECREF(name);
     if (wrapped != NULL) {
         Py_INCREF(error);
         PyException_SetCause(wrapped, error);
@@ -411,20 +457,21 @@ static PyObject *held_error(PyObject *error, const char *told)
     return wrapped;
 }
 
-/* Gives a future its outcome: whether it took it. It doesn't where its waiter has cancelled it. */
-static bool end_future(PyObject *future, PyObject *outcome, Ending ending)
+/* Gives a future its outcome: whether it took it. It doesn't if its waiter has cancelled it. */
+static bool end_future(Desk *self, PyObject *future, PyObject *outcome, Ending ending)
 {
-    PyObject *none = PyObject_CallMethodOneArg(future, ending == WITH_VALUE ? set_result_name : set_exception_name, outcome);
+    Module *module = self->module;
+    PyObject *none = call_method(future, ending == WITH_VALUE ? module->set_result : module->set_exception, outcome);
 
     if (none != NULL && ending == WITH_SILENT_ERROR) {
         /* The loop reports no exception that was looked at. */
-        Py_SETREF(none, PyObject_CallMethodNoArgs(future, exception_name));
+        replace(&none, call_method(future, module->exception, NULL));
     }
     if (none != NULL) {
         Py_DECREF(none);
         return true;
     }
-    if (PyErr_ExceptionMatches(invalid_state)) {
+    if (PyErr_ExceptionMatches(module->invalid_state)) {
         PyErr_Clear();
     } else {
         /* The others are given theirs all the same. */
@@ -435,6 +482,30 @@ static bool end_future(PyObject *future, PyObject *outcome, Ending ending)
 
 /* Cells. */
 
+static bool is_unended(const Cell *cell)
+{
+    return cell->state == COLLECTED || cell->state == SENT;
+}
+
+/* Opens a new desk behind the loader, if so many cells more make the old one more than half full and nothing of it can be read or
+ * written any more: each of its cells is GONE then. If there is no memory for that, the old one stays. */
+static void renew(Desk *self, size_t count)
+{
+    dl_desk desk = {0};
+
+    if (self->cell_count + count <= self->max_cells / 2 || self->unended > 0 || self->held > 0 || self->cell_count == 0 ||
+        dl_desk_open(&desk, self->max_batch, self->max_cells, 0, 0) != DL_DONE) {
+        return;
+    }
+    dl_desk_close(&self->desk);
+    self->desk = desk;
+    self->cell_count = 0;
+    self->first_batch += self->batch_count;
+    self->batch_count = 0;
+    Py_CLEAR(self->keys);
+}
+
+/* Makes room for so many cells more. */
 static bool reserve_cells(Desk *self, size_t count)
 {
     size_t wanted = self->cell_count + count, room = self->cell_room;
@@ -450,7 +521,7 @@ static bool reserve_cells(Desk *self, size_t count)
     }
     room = room + room / 2 + 8;
     room = room < wanted ? wanted : room;
-    cells = PyMem_Resize(self->cells, Cell, room);
+    cells = PyMem_Realloc(self->cells, room * sizeof *cells);
     if (cells == NULL) {
         PyErr_NoMemory();
         return false;
@@ -461,136 +532,199 @@ static bool reserve_cells(Desk *self, size_t count)
 }
 
 /* Notes a cell that the desk has begun, for which there is room. */
-static void note_cell(Desk *self, PyObject *key, uint32_t number, CellState state)
+static void note_cell(Desk *self, PyObject *key, Known *known, uint32_t place, CellState state)
 {
     Py_XINCREF(key);
-    self->cells[number] = (Cell){key, NULL, state};
-    self->cell_count = number + 1;
+    Py_XINCREF(known);
+    self->cells[place] = (Cell){key, NULL, known, state};
+    self->cell_count = place + 1;
+    self->unended++;
+    if (known != NULL) {
+        known->place = place;
+        self->held++;
+    }
 }
 
-/* Lets go of a cell that has no outcome, nor will have one. */
-static void lose_cell(Desk *self, uint32_t number)
+/* Lets go of whatever a cell has. */
+static void lose_cell(Desk *self, uint32_t place)
 {
-    Cell *cell = &self->cells[number];
-    PyObject *key = cell->key, *what = cell->what;
+    Cell cell = self->cells[place];
 
-    *cell = (Cell){NULL, NULL, LOST};
-    Py_XDECREF(key);
-    Py_XDECREF(what);
+    self->cells[place] = (Cell){.state = GONE};
+    self->unended -= is_unended(&cell);
+    if (cell.known != NULL) {
+        cell.known->place = NO_CELL;
+        self->held--;
+    }
+    Py_XDECREF(cell.key);
+    Py_XDECREF(cell.what);
+    Py_XDECREF(cell.known);
 }
+
+/* Notes that the desk doesn't hold a cell any more: nobody can read its outcome then, if it has one. */
+static void unhold_cell(Desk *self, uint32_t place)
+{
+    Known *known = self->cells[place].known;
+
+    if (!is_unended(&self->cells[place])) {
+        lose_cell(self, place);
+    } else if (known != NULL) {
+        known->place = NO_CELL;
+        self->cells[place].known = NULL;
+        self->held--;
+        Py_DECREF(known);
+    }
+}
+
+/* The same of all cells, and of all keys. */
+static void unhold_all(Desk *self)
+{
+    PyObject *keys = self->keys;
+
+    self->keys = NULL;
+    self->unended++;
+    for (uint32_t place = 0; self->held > 0 && place < self->cell_count; place++) {
+        unhold_cell(self, place);
+    }
+    self->unended--;
+    Py_XDECREF(keys);
+}
+
+/* Has the desk forget a cell that it holds. If it has no memory for that, it forgets all: that takes none. */
+static void forget_cell(Desk *self, uint32_t place)
+{
+    KeyText text;
+
+    if (self->cells[place].known == NULL) {
+        return;
+    }
+    text = key_text(self->cells[place].known->number);
+    if (dl_desk_clear(&self->desk, KEY(text)) == DL_OUT_OF_MEMORY) {
+        dl_desk_clear_all(&self->desk);
+        unhold_all(self);
+    } else {
+        unhold_cell(self, place);
+    }
+}
+
+static PyObject *future_of(Desk *self, uint32_t place);
 
 /* A new future among those that wait for the cell. */
-static PyObject *new_waiter(Desk *self, uint32_t number)
+static PyObject *new_waiter(Desk *self, uint32_t place)
 {
-    PyObject *future = new_future(self);
+    PyObject *future = new_future(self), *list = NULL;
 
-    if (future == NULL) {
-        return NULL;
-    }
-    if (self->cells[number].what == NULL) {
-        Py_INCREF(future);
-        self->cells[number].what = future;
-        return future;
-    }
-    if (!PyList_CheckExact(self->cells[number].what)) {
-        PyObject *list = PyList_New(1);
-        if (list == NULL) {
-            Py_DECREF(future);
-            return NULL;
-        }
-        if (PyList_CheckExact(self->cells[number].what)) {
-            Py_DECREF(list);
-        } else {
-            PyList_SET_ITEM(list, 0, self->cells[number].what);
-            self->cells[number].what = list;
-        }
-    }
-    if (PyList_Append(self->cells[number].what, future) < 0) {
+    if (future != NULL && is_unended(&self->cells[place]) && self->cells[place].what != NULL &&
+        !PyList_CheckExact(self->cells[place].what) && (list = PyList_New(1)) == NULL) {
         Py_CLEAR(future);
     }
+    if (future != NULL && !is_unended(&self->cells[place])) {
+        replace(&future, future_of(self, place));
+    } else if (future != NULL && self->cells[place].what == NULL) {
+        Py_INCREF(future);
+        self->cells[place].what = future;
+    } else if (future != NULL) {
+        if (!PyList_CheckExact(self->cells[place].what)) {
+            PyList_SetItem(list, 0, self->cells[place].what);
+            self->cells[place].what = list;
+            list = NULL;
+        }
+        if (PyList_Append(self->cells[place].what, future) < 0) {
+            Py_CLEAR(future);
+        }
+    }
+    Py_XDECREF(list);
     return future;
 }
 
 /* The future of a cell that ended while nobody waited for it. */
-static PyObject *ended_future(Desk *self, uint32_t number)
+static PyObject *ended_future(Desk *self, uint32_t place)
 {
-    PyObject *outcome = self->cells[number].what, *future;
-    Ending ending = self->cells[number].state == ERROR ? WITH_ERROR : WITH_VALUE;
+    PyObject *outcome = self->cells[place].what, *future;
+    Ending ending = self->cells[place].state == ERROR ? WITH_ERROR : WITH_VALUE;
 
     Py_INCREF(outcome);
     future = new_future(self);
-    if (future != NULL && end_future(future, outcome, ending)) {
+    if (future != NULL && end_future(self, future, outcome, ending) && self->cells[place].what == outcome) {
         Py_INCREF(future);
-        self->cells[number].state = ENDED;
-        Py_SETREF(self->cells[number].what, future);
+        self->cells[place].state = ENDED;
+        replace(&self->cells[place].what, future);
     }
     Py_DECREF(outcome);
     return future;
 }
 
 /* A future of the cell's outcome: one of its own for who has to wait. */
-static PyObject *future_of(Desk *self, uint32_t number)
+static PyObject *future_of(Desk *self, uint32_t place)
 {
-    switch (self->cells[number].state) {
+    switch (self->cells[place].state) {
     case COLLECTED:
     case SENT:
-        return new_waiter(self, number);
+        return new_waiter(self, place);
     case VALUE:
     case ERROR:
-        return ended_future(self, number);
+        return ended_future(self, place);
     case ENDED:
-        Py_INCREF(self->cells[number].what);
-        return self->cells[number].what;
+        Py_INCREF(self->cells[place].what);
+        return self->cells[place].what;
     default:
-        PyErr_SetString(PyExc_SystemError, "the cell has no outcome");
+        PyErr_SetString(PyExc_RuntimeError, "the key was forgotten while it was loaded");
         return NULL;
     }
 }
 
-/* Ends a cell, and gives its waiters the outcome. */
-static void end_cell(Desk *self, uint32_t number, PyObject *outcome, Ending ending)
+/* Ends a cell, and gives its waiters the outcome. One that the desk doesn't hold keeps nothing of it. */
+static void end_cell(Desk *self, uint32_t place, PyObject *outcome, Ending ending)
 {
-    PyObject *waiters = self->cells[number].what, *ended = NULL;
-    Py_ssize_t count = waiters == NULL ? 0 : PyList_CheckExact(waiters) ? PyList_GET_SIZE(waiters) : 1;
+    PyObject *waiters = self->cells[place].what, *ended = NULL;
+    Py_ssize_t count = waiters == NULL ? 0 : PyList_CheckExact(waiters) ? PyList_Size(waiters) : 1;
 
     Py_INCREF(outcome);
-    self->cells[number].what = outcome;
-    self->cells[number].state = ending == WITH_VALUE ? VALUE : ERROR;
+    self->cells[place].what = outcome;
+    self->cells[place].state = ending == WITH_VALUE ? VALUE : ERROR;
     for (Py_ssize_t i = 0; i < count; i++) {
-        PyObject *future = PyList_CheckExact(waiters) ? PyList_GET_ITEM(waiters, i) : waiters;
-        if (end_future(future, outcome, ending)) {
+        PyObject *future = PyList_CheckExact(waiters) ? PyList_GetItem(waiters, i) : waiters;
+        if (end_future(self, future, outcome, ending)) {
             Py_INCREF(future);
-            Py_XSETREF(ended, future);
+            replace(&ended, future);
         }
     }
-    if (ended != NULL) {
-        self->cells[number].state = ENDED;
-        Py_SETREF(self->cells[number].what, ended);
+    if (self->cells[place].known == NULL) {
+        lose_cell(self, place);
+    } else if (ended != NULL && self->cells[place].what == outcome) {
+        self->cells[place].state = ENDED;
+        replace(&self->cells[place].what, ended);
+        ended = NULL;
     }
+    self->unended--;
+    Py_XDECREF(ended);
     Py_XDECREF(waiters);
 }
 
-/* Calls on keys. */
-
-/* Has what is collected sent, from the first fresh load on. */
-static bool schedule(Desk *self)
+/* Ends a cell with an exception, in a form that its waiters see. */
+static void end_with_error(Desk *self, uint32_t place, PyObject *error, Ending ending, const char *told)
 {
-    PyObject *none;
+    PyObject *held = held_error(self, error, told);
 
-    if (self->is_collecting) {
-        return true;
+    if (held == NULL) {
+        PyErr_Clear();
     }
-    self->is_collecting = true;
-    none = PyObject_CallMethodNoArgs((PyObject *)self, schedule_name);
-    if (none == NULL) {
-        self->is_collecting = false;
-        return false;
-    }
-    Py_DECREF(none);
-    return true;
+    end_cell(self, place, held == NULL ? PyExc_MemoryError : held, ending);
+    Py_XDECREF(held);
 }
 
-/* What the cache map answers to a call with the key and None: None where there is no map. */
+static void end_with(Desk *self, uint32_t place, PyObject *outcome, const char *told)
+{
+    if (PyExceptionInstance_Check(outcome)) {
+        end_with_error(self, place, outcome, WITH_ERROR, told);
+    } else {
+        end_cell(self, place, outcome, WITH_VALUE);
+    }
+}
+
+/* The cache map. */
+
+/* What the cache map answers to a call with the key and None: None if there is no map. */
 static PyObject *of_cache_map(Desk *self, PyObject *method, PyObject *cache_key)
 {
     if (self->cache_map == NULL) {
@@ -599,15 +733,25 @@ static PyObject *of_cache_map(Desk *self, PyObject *method, PyObject *cache_key)
     return PyObject_CallMethodObjArgs(self->cache_map, method, cache_key, Py_None, NULL);
 }
 
-/* Has the cache map forget a cell that fails, if it holds it still. */
-static void forget_mapped(Desk *self, uint32_t number)
+/* The same of a key that isn't a cache key yet. */
+static PyObject *of_cache_map_by_key(Desk *self, PyObject *method, PyObject *key)
 {
-    PyObject *key = self->cells[number].key, *what = self->cells[number].what;
+    PyObject *cache_key = self->desk.is_open ? cache_key_of(self, key) : raise_code(self, DL_CLOSED);
+    PyObject *answer = cache_key == NULL ? NULL : of_cache_map(self, method, cache_key);
+
+    Py_XDECREF(cache_key);
+    return answer;
+}
+
+/* Has the cache map forget a cell that fails, if it holds it still. */
+static void forget_mapped(Desk *self, uint32_t place)
+{
+    PyObject *key = self->cells[place].key, *what = self->cells[place].what;
     PyObject *cache_key = key == NULL ? NULL : cache_key_of(self, key);
-    PyObject *held = cache_key == NULL ? NULL : of_cache_map(self, get_name, cache_key);
+    PyObject *held = cache_key == NULL ? NULL : of_cache_map(self, self->module->get, cache_key);
 
     if (held != NULL && held == what) {
-        Py_SETREF(held, of_cache_map(self, pop_name, cache_key));
+        replace(&held, of_cache_map(self, self->module->pop, cache_key));
     }
     if (PyErr_Occurred()) {
         PyErr_WriteUnraisable((PyObject *)self);
@@ -616,56 +760,290 @@ static void forget_mapped(Desk *self, uint32_t number)
     Py_XDECREF(cache_key);
 }
 
-/* Forgets a fresh load whose call is about to raise, by the cache map too where that has it. */
-static void forget_load(Desk *self, uint32_t number, const KeyTexts *texts, bool is_mapped)
-{
-    PyObject *type, *value, *traceback;
+/* Faults. */
 
-    PyErr_Fetch(&type, &value, &traceback);
-    if (is_mapped) {
-        forget_mapped(self, number);
+/* Ends a cell with a fault, and forgets it, by the cache map too if that has it. Nobody is told of what was cancelled who doesn't
+ * ask, as asyncio has it. */
+static void fail_cell(Desk *self, uint32_t place, PyObject *fault, Ending ending, const char *told)
+{
+    forget_cell(self, place);
+    if (is_unended(&self->cells[place])) {
+        if (self->cache_map != NULL) {
+            forget_mapped(self, place);
+        }
+        end_with_error(self, place, fault, is_cancelled(self, fault) ? WITH_SILENT_ERROR : ending, told);
     }
-    dl_desk_clear(&self->desk, texts->table, texts->table_len, texts->id, texts->id_len);
-    lose_cell(self, number);
-    PyErr_Restore(type, value, traceback);
 }
 
-/* The future of a load that the desk has answered. If there is a cache map, it gets that of a fresh load. A fresh load that raises is
- * forgotten. */
-static PyObject *loaded_future(Desk *self, dl_loaded answer, const KeyTexts *texts, PyObject *cache_key)
+/* Ends what is collected and isn't sent: whether anything was. */
+static bool abandon(Desk *self, PyObject *fault, Ending ending)
+{
+    bool is_any = false;
+
+    self->is_collecting = false;
+    Py_CLEAR(self->sending);
+    self->unended++;
+    for (uint32_t place = 0; place < self->cell_count; place++) {
+        if (self->cells[place].state == COLLECTED) {
+            fail_cell(self, place, fault, ending, is_cancelled(self, fault) ? NOT_CALLED : TASK_ENDED);
+            is_any = true;
+        }
+    }
+    self->unended--;
+    return is_any;
+}
+
+/* Ends a batch with a fault of the whole, unless it has ended. */
+static void fail_batch(Desk *self, uint64_t batch, PyObject *fault, const char *told)
+{
+    uint32_t own = (uint32_t)(batch - self->first_batch);
+    dl_loaded member;
+
+    if (batch < self->first_batch || dl_desk_fail(&self->desk, own) != DL_DONE) {
+        return;
+    }
+    self->counts.failures++;
+    self->unended++;
+    for (uint32_t index = 0; (member = dl_desk_member(&self->desk, own, index)).code == DL_HIT; index++) {
+        unhold_cell(self, member.cell);
+        fail_cell(self, member.cell, fault, WITH_ERROR, told);
+    }
+    self->unended--;
+}
+
+/* The number of a batch in a list of pairs of a batch and its keys. */
+static uint64_t batch_at(PyObject *batches, Py_ssize_t place)
+{
+    return PyLong_AsUnsignedLongLong(PyTuple_GetItem(PyList_GetItem(batches, place), 0));
+}
+
+/* Ends each batch of a list that is still there, and takes it off. */
+static void fail_batches(Desk *self, PyObject *batches, PyObject *fault, const char *told)
+{
+    while (PyList_Size(batches) > 0) {
+        uint64_t batch = batch_at(batches, 0);
+        if (PyList_SetSlice(batches, 0, 1, NULL) < 0) {
+            PyErr_Clear();
+            return;
+        }
+        fail_batch(self, batch, fault, told);
+    }
+}
+
+/* Tasks. */
+
+/* Has the end of a task end the batches of its list that are still there. */
+static bool watch(Desk *self, PyObject *task, PyObject *batches)
+{
+    PyObject *ended = PyObject_GetAttr((PyObject *)self, self->module->task_ended), *none = NULL;
+
+    if (self->tasks == NULL) {
+        self->tasks = PyDict_New();
+    }
+    if (ended != NULL && self->tasks != NULL && PyDict_SetItem(self->tasks, task, batches) == 0 &&
+        (none = call_method(task, self->module->add_done_callback, ended)) == NULL) {
+        PyObject *error = take_error();
+        if (PyDict_DelItem(self->tasks, task) < 0) {
+            PyErr_Clear();
+        }
+        raise_again(error);
+    }
+    Py_XDECREF(ended);
+    Py_XDECREF(none);
+    return none != NULL;
+}
+
+/* Begins a task of a method that is a coroutine function, which is given the list of its batches. */
+static bool begin_task(Desk *self, PyObject *method, PyObject *batches)
+{
+    PyObject *coroutine = call_method((PyObject *)self, method, batches), *task = NULL;
+    bool is_begun;
+
+    if (coroutine != NULL && (task = call_method(self->loop, self->module->create_task, coroutine)) == NULL) {
+        PyObject *error = take_error(), *none = call_method(coroutine, self->module->close, NULL);
+        Py_XDECREF(none);
+        raise_again(error);
+    }
+    is_begun = task != NULL && watch(self, task, batches);
+    Py_XDECREF(coroutine);
+    Py_XDECREF(task);
+    return is_begun;
+}
+
+/* Why a task has ended: an exception. */
+static PyObject *fault_of(Desk *self, PyObject *task)
+{
+    PyObject *is_ended = call_method(task, self->module->cancelled, NULL), *fault = NULL;
+
+    if (is_ended == Py_True) {
+        fault = PyObject_CallNoArgs(self->module->cancelled_error);
+    } else if (is_ended != NULL && (fault = call_method(task, self->module->exception, NULL)) == Py_None) {
+        Py_DECREF(fault);
+        fault = PyObject_CallFunction(PyExc_RuntimeError, "s", "the loader's task ended before it had fetched its batch");
+    }
+    Py_XDECREF(is_ended);
+    return fault != NULL ? fault : take_error();
+}
+
+/* Ends what is collected, if the task that has ended would have sent it, and what it should have fetched. */
+static PyObject *desk_task_ended(Desk *self, PyObject *task)
+{
+    PyObject *batches = self->tasks == NULL ? NULL : PyDict_GetItemWithError(self->tasks, task), *fault;
+
+    if (batches == NULL) {
+        if (PyErr_Occurred()) {
+            return NULL;
+        }
+        Py_RETURN_NONE;
+    }
+    Py_INCREF(batches);
+    if (PyDict_DelItem(self->tasks, task) < 0) {
+        PyErr_Clear();
+    }
+    if (batches == self->sending || PyList_Size(batches) > 0) {
+        const char *told;
+        fault = fault_of(self, task);
+        told = is_cancelled(self, fault) ? NOT_CALLED : TASK_ENDED;
+        if (batches == self->sending) {
+            self->counts.failures += abandon(self, fault, WITH_ERROR);
+        }
+        fail_batches(self, batches, fault, told);
+        Py_DECREF(fault);
+    }
+    Py_DECREF(batches);
+    Py_RETURN_NONE;
+}
+
+/* Has a task begun for each batch of the list, and takes it off. */
+static bool fetch_each(Desk *self, PyObject *batches)
+{
+    while (PyList_Size(batches) > 0) {
+        PyObject *own = PyList_GetSlice(batches, 0, 1);
+        bool is_begun = own != NULL && begin_task(self, self->module->fetch, own) && PyList_SetSlice(batches, 0, 1, NULL) == 0;
+        Py_XDECREF(own);
+        if (!is_begun) {
+            return false;
+        }
+    }
+    return true;
+}
+
+static PyObject *desk_fetch_each(Desk *self, PyObject *batches)
+{
+    if (!fetch_each(self, batches)) {
+        return NULL;
+    }
+    Py_RETURN_NONE;
+}
+
+/* Has what is collected sent, from the first fresh load on. If that raises, what was collected meanwhile ends with that. */
+static bool schedule(Desk *self)
+{
+    PyObject *by = NULL, *batches = NULL, *done = NULL;
+    bool is_scheduled = false;
+
+    if (self->is_collecting) {
+        return true;
+    }
+    self->is_collecting = true;
+    by = PyObject_GetAttr((PyObject *)self, self->module->batch_schedule_fn);
+    if (by == Py_None) {
+        batches = PyList_New(0);
+        is_scheduled = batches != NULL && begin_task(self, self->module->send_late, batches);
+        if (is_scheduled) {
+            Py_INCREF(batches);
+            replace(&self->sending, batches);
+        }
+    } else if (by != NULL && (batches = PyObject_GetAttr((PyObject *)self, self->module->dispatch)) != NULL) {
+        done = call_one(by, batches);
+        is_scheduled = done != NULL;
+    }
+    Py_XDECREF(by);
+    Py_XDECREF(batches);
+    Py_XDECREF(done);
+    if (!is_scheduled) {
+        PyObject *error = take_error();
+        abandon(self, error, WITH_SILENT_ERROR);
+        raise_again(error);
+    }
+    return is_scheduled;
+}
+
+/* Loads. */
+
+/* Ends a fresh load whose call raises: for the others that wait for it, with what it raises. */
+static void undo_load(Desk *self, uint32_t place)
+{
+    PyObject *error = take_error();
+
+    if (self->cells[place].state == COLLECTED) {
+        fail_cell(self, place, error, WITH_SILENT_ERROR, GIVEN);
+    }
+    raise_again(error);
+}
+
+/* The future of a load that the desk has answered. If there is a cache map, it gets that of a fresh load. */
+static PyObject *loaded_future(Desk *self, dl_loaded answer, PyObject *cache_key)
 {
     PyObject *future = future_of(self, answer.cell);
     bool is_held = future != NULL && (cache_key == NULL || PyObject_SetItem(self->cache_map, cache_key, future) == 0);
 
     if (answer.code == DL_FRESH && (!is_held || !schedule(self))) {
-        forget_load(self, answer.cell, texts, is_held && cache_key != NULL);
+        undo_load(self, answer.cell);
         Py_CLEAR(future);
     }
     return future;
 }
 
 /* Loads a key by the desk, and notes it in the cache map by the other key, if there is one. */
-static PyObject *load_cell(Desk *self, PyObject *key, PyObject *cache_key)
+static PyObject *load_by_desk(Desk *self, PyObject *key, Known *known, uint64_t number, PyObject *cache_key)
 {
-    KeyTexts texts;
-    PyObject *future = NULL;
+    PyObject *future;
+    KeyText text = key_text(number);
     dl_loaded answer;
 
-    if (!loaded_texts(self, key, &texts)) {
+    if (!reserve_cells(self, 1)) {
         return NULL;
     }
-    if (reserve_cells(self, 1)) {
-        answer = dl_desk_load(&self->desk, texts.table, texts.table_len, texts.id, texts.id_len);
-        if (answer.code == DL_FRESH) {
-            note_cell(self, key, answer.cell, COLLECTED);
-        }
-        future = answer.code <= DL_FRESH ? loaded_future(self, answer, &texts, cache_key) : raise_code(answer.code);
-        if (future != NULL) {
-            self->counts.loads++;
-            self->counts.hits += answer.code == DL_HIT;
-        }
+    answer = dl_desk_load(&self->desk, KEY(text));
+    if (answer.code > DL_FRESH) {
+        return raise_code(self, answer.code);
     }
-    Py_XDECREF(texts.owner);
+    if (answer.code == DL_FRESH) {
+        note_cell(self, key, known, answer.cell, COLLECTED);
+    }
+    self->unended++;
+    future = loaded_future(self, answer, cache_key);
+    self->unended--;
+    if (future != NULL) {
+        self->counts.loads++;
+        self->counts.hits += answer.code == DL_HIT;
+    }
+    return future;
+}
+
+/* Loads a key. The desk isn't asked for a cell that it is known to hold and that has a future which is done. */
+static PyObject *load_cell(Desk *self, PyObject *key, PyObject *cache_key)
+{
+    PyObject *future;
+    Known *known;
+    uint64_t number;
+
+    if (self->held == 0) {
+        renew(self, 1);
+    }
+    if (!loaded_key(self, key, &known, &number)) {
+        return NULL;
+    }
+    if (known != NULL && known->place != NO_CELL && self->cells[known->place].state == ENDED) {
+        future = self->cells[known->place].what;
+        Py_INCREF(future);
+        self->counts.loads++;
+        self->counts.hits++;
+    } else {
+        future = load_by_desk(self, key, known, number, cache_key);
+    }
+    Py_XDECREF(known);
     return future;
 }
 
@@ -677,15 +1055,15 @@ static PyObject *load_mapped(Desk *self, PyObject *key)
     if (cache_key == NULL) {
         return NULL;
     }
-    held = of_cache_map(self, get_name, cache_key);
+    held = of_cache_map(self, self->module->get, cache_key);
     if (held != NULL && held != Py_None) {
         self->counts.loads++;
         self->counts.hits++;
     } else if (held != NULL) {
-        Py_SETREF(held, load_cell(self, key, cache_key));
+        replace(&held, load_cell(self, key, cache_key));
     }
     Py_DECREF(cache_key);
-    future = held == NULL ? NULL : PyObject_CallOneArg(shield, held);
+    future = held == NULL ? NULL : call_one(self->module->shield, held);
     Py_XDECREF(held);
     return future;
 }
@@ -698,102 +1076,91 @@ static PyObject *desk_load(Desk *self, PyObject *key)
     return self->cache_map == NULL ? load_cell(self, key, NULL) : load_mapped(self, key);
 }
 
-/* Several keys as dl_desk_load_many takes them. */
+/* Several keys as dl_desk_load_many takes them, and its answers. */
 typedef struct {
-    uint8_t *bytes;
-    size_t bytes_len;
-    KeyTexts *texts;
+    Known **known;
+    uint8_t *texts;
+    size_t texts_len;
     dl_key_lengths *lengths;
     dl_loaded *answers;
-    Py_ssize_t count;
+    size_t count;
 } Many;
 
 static void free_many(Many *many)
 {
-    for (Py_ssize_t i = 0; i < many->count; i++) {
-        Py_XDECREF(many->texts[i].owner);
+    for (size_t i = 0; many->known != NULL && i < many->count; i++) {
+        Py_XDECREF(many->known[i]);
     }
-    PyMem_Free(many->bytes);
+    PyMem_Free(many->known);
     PyMem_Free(many->texts);
     PyMem_Free(many->lengths);
     PyMem_Free(many->answers);
 }
 
-/* Reads the texts of the keys, which stand one after another then. A key's owner keeps its id alive meanwhile. */
+/* Finds what is known of the keys, and writes their texts, one after another. */
 static bool read_many(Desk *self, PyObject *keys, Many *many)
 {
-    Py_ssize_t count = PyTuple_GET_SIZE(keys);
-    uint8_t *end;
+    size_t count = (size_t)PyTuple_Size(keys);
 
-    many->texts = PyMem_New(KeyTexts, (size_t)count + 1);
-    many->lengths = PyMem_New(dl_key_lengths, (size_t)count + 1);
-    many->answers = PyMem_New(dl_loaded, (size_t)count + 1);
-    if (many->texts == NULL || many->lengths == NULL || many->answers == NULL) {
+    many->known = PyMem_New(Known *, count + 1);
+    many->texts = PyMem_New(uint8_t, (count + 1) * (sizeof TABLE - 1 + sizeof((KeyText *)0)->digits));
+    many->lengths = PyMem_New(dl_key_lengths, count + 1);
+    many->answers = PyMem_New(dl_loaded, count + 1);
+    if (many->known == NULL || many->texts == NULL || many->lengths == NULL || many->answers == NULL) {
         PyErr_NoMemory();
         return false;
     }
     for (; many->count < count; many->count++) {
-        KeyTexts *texts = &many->texts[many->count];
-        if (!loaded_texts(self, PyTuple_GET_ITEM(keys, many->count), texts)) {
+        uint64_t number;
+        KeyText text;
+        if (!loaded_key(self, PyTuple_GetItem(keys, (Py_ssize_t)many->count), &many->known[many->count], &number)) {
             return false;
         }
-        many->bytes_len += texts->table_len + texts->id_len;
-        many->lengths[many->count] = (dl_key_lengths){(uint32_t)texts->table_len, (uint32_t)texts->id_len};
-    }
-    many->bytes = PyMem_New(uint8_t, many->bytes_len + 1);
-    if (many->bytes == NULL) {
-        PyErr_NoMemory();
-        return false;
-    }
-    end = many->bytes;
-    for (Py_ssize_t i = 0; i < count; i++) {
-        memcpy(end, many->texts[i].table, many->texts[i].table_len);
-        end += many->texts[i].table_len;
-        memcpy(end, many->texts[i].id, many->texts[i].id_len);
-        end += many->texts[i].id_len;
+        text = key_text(number);
+        memcpy(many->texts + many->texts_len, TABLE, sizeof TABLE - 1);
+        memcpy(many->texts + many->texts_len + sizeof TABLE - 1, text.digits, text.len);
+        many->texts_len += sizeof TABLE - 1 + text.len;
+        many->lengths[many->count] = (dl_key_lengths){sizeof TABLE - 1, (uint32_t)text.len};
     }
     return true;
 }
 
-/* Forgets what a load of several keys has begun, and lets go of the futures that were made for it. */
-static void forget_many(Desk *self, const Many *many, PyObject *futures)
+/* Ends what a load of several keys has begun, and lets go of the futures that were made for it. */
+static void undo_many(Desk *self, const Many *many, PyObject *futures)
 {
-    PyObject *type, *value, *traceback;
+    PyObject *error = take_error();
 
-    PyErr_Fetch(&type, &value, &traceback);
-    for (Py_ssize_t i = 0; i < many->count; i++) {
-        const KeyTexts *texts = &many->texts[i];
-        if (many->answers[i].code == DL_FRESH) {
-            dl_desk_clear(&self->desk, texts->table, texts->table_len, texts->id, texts->id_len);
-            lose_cell(self, many->answers[i].cell);
-        }
-    }
-    for (Py_ssize_t i = 0; futures != NULL && i < PyList_GET_SIZE(futures); i++) {
-        PyObject *given = PyObject_CallMethodNoArgs(PyList_GET_ITEM(futures, i), cancel_name);
+    for (Py_ssize_t i = 0; futures != NULL && i < PyList_Size(futures); i++) {
+        PyObject *given = call_method(PyList_GetItem(futures, i), self->module->cancel, NULL);
         if (given == NULL) {
             PyErr_Clear();
         }
         Py_XDECREF(given);
     }
-    PyErr_Restore(type, value, traceback);
+    raise_again(error);
+    for (size_t i = 0; i < many->count; i++) {
+        if (many->answers[i].code == DL_FRESH) {
+            undo_load(self, many->answers[i].cell);
+        }
+    }
 }
 
 /* The futures of keys that the desk has loaded: all, or the fresh ones are forgotten. */
 static PyObject *loaded_futures(Desk *self, PyObject *keys, const Many *many)
 {
     PyObject *futures;
-    Py_ssize_t fresh = 0;
+    size_t fresh = 0;
     bool is_made;
 
-    for (Py_ssize_t i = 0; i < many->count; i++) {
+    for (size_t i = 0; i < many->count; i++) {
         if (many->answers[i].code == DL_FRESH) {
-            note_cell(self, PyTuple_GET_ITEM(keys, i), many->answers[i].cell, COLLECTED);
+            note_cell(self, PyTuple_GetItem(keys, (Py_ssize_t)i), many->known[i], many->answers[i].cell, COLLECTED);
             fresh++;
         }
     }
     futures = PyList_New(0);
     is_made = futures != NULL;
-    for (Py_ssize_t i = 0; is_made && i < many->count; i++) {
+    for (size_t i = 0; is_made && i < many->count; i++) {
         PyObject *future = future_of(self, many->answers[i].cell);
         is_made = future != NULL && PyList_Append(futures, future) == 0;
         Py_XDECREF(future);
@@ -802,10 +1169,10 @@ static PyObject *loaded_futures(Desk *self, PyObject *keys, const Many *many)
         is_made = schedule(self);
     }
     if (is_made) {
-        self->counts.loads += (unsigned long long)many->count;
-        self->counts.hits += (unsigned long long)(many->count - fresh);
+        self->counts.loads += many->count;
+        self->counts.hits += many->count - fresh;
     } else {
-        forget_many(self, many, futures);
+        undo_many(self, many, futures);
         Py_CLEAR(futures);
     }
     return futures;
@@ -820,132 +1187,243 @@ static PyObject *desk_load_all(Desk *self, PyObject *given)
     if (!is_on_loop(self) || (keys = PySequence_Tuple(given)) == NULL) {
         return NULL;
     }
-    if (read_many(self, keys, &many) && reserve_cells(self, (size_t)many.count)) {
-        uint32_t code = dl_desk_load_many(&self->desk, many.bytes, many.bytes_len, many.lengths, (size_t)many.count,
-                                          many.answers, (size_t)many.count);
-        futures = code == DL_DONE ? loaded_futures(self, keys, &many) : raise_code(code);
+    renew(self, (size_t)PyTuple_Size(keys));
+    if (read_many(self, keys, &many) && reserve_cells(self, many.count)) {
+        uint32_t code =
+            dl_desk_load_many(&self->desk, many.texts, many.texts_len, many.lengths, many.count, many.answers, many.count);
+        self->unended++;
+        futures = code == DL_DONE ? loaded_futures(self, keys, &many) : raise_code(self, code);
+        self->unended--;
     }
     free_many(&many);
     Py_DECREF(keys);
     return futures;
 }
 
-/* The same of a key that isn't a cache key yet. */
-static PyObject *of_cache_map_by_key(Desk *self, PyObject *method, PyObject *key)
-{
-    PyObject *cache_key = self->desk.is_open ? cache_key_of(self, key) : raise_code(DL_CLOSED);
-    PyObject *answer = cache_key == NULL ? NULL : of_cache_map(self, method, cache_key);
-
-    Py_XDECREF(cache_key);
-    return answer;
-}
-
 static PyObject *desk_held(Desk *self, PyObject *key)
 {
-    KeyTexts texts;
     dl_loaded answer = {DL_NONE, 0, 0};
+    PyObject *future;
+    Known *known;
     int found;
 
     if (!is_on_loop(self)) {
         return NULL;
     }
     if (!self->is_memo) {
-        return of_cache_map_by_key(self, get_name, key);
+        return of_cache_map_by_key(self, self->module->get, key);
     }
-    found = key_texts(self, key, false, &texts);
+    found = known_of(self, key, false, &known);
     if (found < 0) {
         return NULL;
     }
     if (found == 1) {
-        answer = dl_desk_held(&self->desk, texts.table, texts.table_len, texts.id, texts.id_len);
+        KeyText text = key_text(known->number);
+        answer = dl_desk_held(&self->desk, KEY(text));
+        Py_DECREF(known);
     }
-    Py_XDECREF(texts.owner);
     if (answer.code == DL_NONE) {
         Py_RETURN_NONE;
     }
-    return answer.code == DL_HIT ? future_of(self, answer.cell) : raise_code(answer.code);
+    if (answer.code != DL_HIT) {
+        return raise_code(self, answer.code);
+    }
+    self->unended++;
+    future = future_of(self, answer.cell);
+    self->unended--;
+    return future;
 }
 
-/* Begins a cell in no batch, for an outcome that the caller has, unless the key is held: its number, or None. */
-static PyObject *prime_cell(Desk *self, const KeyTexts *texts)
+/* Primes. */
+
+/* Begins a cell in no batch for an outcome that the caller has, unless the key is held: 1 with the cell; 0; or -1 with an
+ * exception. */
+static int prime_cell(Desk *self, Known *known, uint64_t number, uint32_t *place)
 {
+    KeyText text = key_text(number);
     dl_loaded answer;
 
     if (!reserve_cells(self, 1)) {
-        return NULL;
+        return -1;
     }
-    answer = dl_desk_prime(&self->desk, texts->table, texts->table_len, texts->id, texts->id_len);
+    answer = dl_desk_prime(&self->desk, KEY(text));
     if (answer.code == DL_HIT) {
-        Py_RETURN_NONE;
+        return 0;
     }
     if (answer.code != DL_FRESH) {
-        return raise_code(answer.code);
+        raise_code(self, answer.code);
+        return -1;
     }
-    note_cell(self, NULL, answer.cell, SENT);
-    return PyLong_FromUnsignedLong(answer.cell);
+    note_cell(self, NULL, known, answer.cell, SENT);
+    *place = answer.cell;
+    return 1;
+}
+
+/* The same of a key, if the desk is the memo. */
+static int prime_key(Desk *self, PyObject *key, uint32_t *place)
+{
+    Known *known;
+    int is_begun;
+
+    renew(self, 1);
+    if (known_of(self, key, true, &known) < 0) {
+        return -1;
+    }
+    is_begun = prime_cell(self, known, known->number, place);
+    Py_DECREF(known);
+    return is_begun;
 }
 
 /* The same by the cache map, which gets a future of the cell. */
-static PyObject *prime_mapped(Desk *self, PyObject *key)
+static int prime_mapped(Desk *self, PyObject *key, uint32_t *place)
 {
-    PyObject *cache_key = cache_key_of(self, key), *cell = NULL, *future = NULL;
-    KeyTexts texts;
+    PyObject *cache_key = cache_key_of(self, key), *held = NULL, *future = NULL;
+    int is_begun = -1;
 
-    if (cache_key == NULL) {
-        return NULL;
+    if (cache_key != NULL && is_on_loop(self)) {
+        held = of_cache_map(self, self->module->get, cache_key);
     }
-    cell = is_on_loop(self) ? of_cache_map(self, get_name, cache_key) : NULL;
-    if (cell == NULL || cell != Py_None) {
-        Py_DECREF(cache_key);
-        if (cell == NULL) {
-            return NULL;
-        }
-        Py_DECREF(cell);
-        Py_RETURN_NONE;
+    if (held != NULL && held != Py_None) {
+        is_begun = 0;
+    } else if (held != NULL) {
+        renew(self, 1);
+        is_begun = prime_cell(self, NULL, self->next_number++, place);
     }
-    unique_texts(self, &texts);
-    Py_SETREF(cell, prime_cell(self, &texts));
-    if (cell != NULL) {
-        future = new_waiter(self, (uint32_t)PyLong_AsUnsignedLong(cell));
-    }
-    if (future == NULL || PyObject_SetItem(self->cache_map, cache_key, future) < 0) {
-        Py_CLEAR(cell);
+    if (is_begun == 1 &&
+        ((future = new_waiter(self, *place)) == NULL || PyObject_SetItem(self->cache_map, cache_key, future) < 0)) {
+        lose_cell(self, *place);
+        is_begun = -1;
     }
     Py_XDECREF(future);
-    Py_DECREF(cache_key);
-    return cell;
+    Py_XDECREF(held);
+    Py_XDECREF(cache_key);
+    return is_begun;
 }
 
-static PyObject *desk_prime(Desk *self, PyObject *key)
+/* Ends a cell that was primed. */
+static void end_primed(Desk *self, uint32_t place, PyObject *outcome)
 {
-    KeyTexts texts;
-    PyObject *cell;
+    if (place >= self->cell_count || self->cells[place].state != SENT) {
+        return;
+    }
+    if (PyExceptionInstance_Check(outcome)) {
+        /* The loop doesn't report it: the caller knows it. */
+        end_with_error(self, place, outcome, WITH_SILENT_ERROR, PRIMED);
+    } else {
+        end_cell(self, place, outcome, WITH_VALUE);
+    }
+}
 
+static PyObject *desk_end_as(Desk *self, PyObject *const *args, Py_ssize_t count)
+{
+    uint32_t place;
+    PyObject *error, *outcome;
+
+    if (count != 2) {
+        PyErr_SetString(PyExc_TypeError, "_end_as takes a cell and a future");
+        return NULL;
+    }
+    place = (uint32_t)PyLong_AsUnsignedLong(args[0]);
+    error = call_method(args[1], self->module->exception, NULL);
+    outcome = error == Py_None ? call_method(args[1], self->module->result, NULL) : error != NULL ? error : take_error();
+    if (error == Py_None) {
+        Py_DECREF(error);
+    }
+    if (outcome == NULL) {
+        outcome = take_error();
+    }
+    end_primed(self, place, outcome);
+    Py_DECREF(outcome);
+    Py_RETURN_NONE;
+}
+
+/* Has a cell end as the future does. */
+static bool end_with_future(Desk *self, uint32_t place, PyObject *future)
+{
+    PyObject *end = PyObject_GetAttr((PyObject *)self, self->module->end_as);
+    PyObject *callback = end == NULL ? NULL : PyObject_CallFunction(self->module->partial, "Ok", end, (unsigned long)place);
+    PyObject *none = callback == NULL ? NULL : call_method(future, self->module->add_done_callback, callback);
+
+    Py_XDECREF(end);
+    Py_XDECREF(callback);
+    Py_XDECREF(none);
+    return none != NULL;
+}
+
+static PyObject *desk_prime(Desk *self, PyObject *const *args, Py_ssize_t count)
+{
+    PyObject *is_future;
+    uint32_t place;
+    int is_begun;
+
+    if (count != 2) {
+        PyErr_SetString(PyExc_TypeError, "_prime takes a key and a value");
+        return NULL;
+    }
     if (!is_in_thread(self)) {
         return NULL;
     }
-    if (!self->is_memo) {
-        return self->cache_map != NULL ? prime_mapped(self, key) : of_cache_map_by_key(self, get_name, key);
+    if (!self->is_memo && self->cache_map == NULL) {
+        return of_cache_map_by_key(self, self->module->get, args[0]);
     }
-    if (key_texts(self, key, true, &texts) < 0) {
+    is_future = call_one(self->module->is_future, args[1]);
+    if (is_future == NULL) {
         return NULL;
     }
-    cell = prime_cell(self, &texts);
-    Py_XDECREF(texts.owner);
-    return cell;
+    Py_DECREF(is_future);
+    is_begun = self->is_memo ? prime_key(self, args[0], &place) : prime_mapped(self, args[0], &place);
+    if (is_begun == 1 && is_future != Py_True) {
+        end_primed(self, place, args[1]);
+    } else if (is_begun == 1 && !end_with_future(self, place, args[1])) {
+        PyObject *error = take_error();
+        fail_cell(self, place, error, WITH_SILENT_ERROR, GIVEN);
+        raise_again(error);
+        return NULL;
+    }
+    if (is_begun < 0) {
+        return NULL;
+    }
+    Py_RETURN_NONE;
+}
+
+/* Clears. */
+
+/* Has the desk forget a key that is known, and forgets it. */
+static PyObject *clear_known(Desk *self, PyObject *cache_key, Known *known)
+{
+    KeyText text = key_text(known->number);
+    uint32_t code = dl_desk_clear(&self->desk, KEY(text));
+    PyObject *keys;
+    bool is_cleared;
+
+    if (code != DL_DONE) {
+        return raise_code(self, code);
+    }
+    if (known->place != NO_CELL) {
+        unhold_cell(self, known->place);
+    }
+    keys = keys_of(self, false);
+    is_cleared = keys == NULL || PyDict_DelItem(keys, cache_key) == 0 || PyErr_ExceptionMatches(PyExc_KeyError);
+    Py_XDECREF(keys);
+    if (!is_cleared) {
+        return NULL;
+    }
+    PyErr_Clear();
+    Py_INCREF(self);
+    return (PyObject *)self;
 }
 
 static PyObject *desk_clear(Desk *self, PyObject *key)
 {
-    KeyTexts texts;
-    uint32_t code = DL_DONE;
+    PyObject *cache_key, *answer = NULL;
+    Known *known;
     int found;
 
     if (!is_in_thread(self)) {
         return NULL;
     }
     if (!self->is_memo) {
-        PyObject *popped = of_cache_map_by_key(self, pop_name, key);
+        PyObject *popped = of_cache_map_by_key(self, self->module->pop, key);
         if (popped == NULL) {
             return NULL;
         }
@@ -953,19 +1431,20 @@ static PyObject *desk_clear(Desk *self, PyObject *key)
         Py_INCREF(self);
         return (PyObject *)self;
     }
-    found = key_texts(self, key, false, &texts);
-    if (found < 0) {
+    cache_key = cache_key_of(self, key);
+    if (cache_key == NULL) {
         return NULL;
     }
+    found = find_known(self, cache_key, false, &known);
     if (found == 1) {
-        code = dl_desk_clear(&self->desk, texts.table, texts.table_len, texts.id, texts.id_len);
+        answer = clear_known(self, cache_key, known);
+        Py_DECREF(known);
+    } else if (found == 0) {
+        Py_INCREF(self);
+        answer = (PyObject *)self;
     }
-    Py_XDECREF(texts.owner);
-    if (code != DL_DONE) {
-        return raise_code(code);
-    }
-    Py_INCREF(self);
-    return (PyObject *)self;
+    Py_DECREF(cache_key);
+    return answer;
 }
 
 static PyObject *desk_clear_all(Desk *self, PyObject *Py_UNUSED(nothing))
@@ -977,10 +1456,12 @@ static PyObject *desk_clear_all(Desk *self, PyObject *Py_UNUSED(nothing))
     }
     code = dl_desk_clear_all(&self->desk);
     if (code != DL_DONE) {
-        return raise_code(code);
+        return raise_code(self, code);
     }
+    unhold_all(self);
+    renew(self, self->max_cells);
     if (self->cache_map != NULL) {
-        PyObject *none = PyObject_CallMethodNoArgs(self->cache_map, clear_name);
+        PyObject *none = call_method(self->cache_map, self->module->clear, NULL);
         if (none == NULL) {
             return NULL;
         }
@@ -992,41 +1473,39 @@ static PyObject *desk_clear_all(Desk *self, PyObject *Py_UNUSED(nothing))
 
 /* Batches. */
 
-/* The keys of the members of a batch that have not been lost. */
+/* The keys of the members of a batch that are still collected. */
 static PyObject *batch_keys(Desk *self, uint32_t batch)
 {
     PyObject *keys = PyList_New(0);
     dl_loaded member;
 
     for (uint32_t index = 0; keys != NULL && (member = dl_desk_member(&self->desk, batch, index)).code == DL_HIT; index++) {
-        if (self->cells[member.cell].key != NULL && PyList_Append(keys, self->cells[member.cell].key) < 0) {
+        if (self->cells[member.cell].state == COLLECTED && PyList_Append(keys, self->cells[member.cell].key) < 0) {
             Py_CLEAR(keys);
         }
     }
     return keys;
 }
 
-/* The batches that the desk has sent, each by its number with the keys of its members. One whose loads have all raised is ended,
- * and isn't among them. */
-static PyObject *sent_batches(Desk *self, dl_dispatched sent)
+/* Adds the batches that the desk has sent to the list, each by its number with the keys of its members. One whose loads have all
+ * raised is ended, and isn't among them. */
+static bool list_batches(Desk *self, dl_dispatched sent, PyObject *batches)
 {
-    PyObject *batches = PyList_New(0);
+    bool is_listed = true;
 
-    for (uint32_t batch = sent.first; batches != NULL && batch < sent.first + sent.count; batch++) {
+    for (uint32_t batch = sent.first; is_listed && batch < sent.first + sent.count; batch++) {
         PyObject *keys = batch_keys(self, batch), *pair = NULL;
-        bool is_empty = keys != NULL && PyList_GET_SIZE(keys) == 0;
+        bool is_empty = keys != NULL && PyList_Size(keys) == 0;
         if (is_empty) {
             dl_desk_settle(&self->desk, batch);
         } else if (keys != NULL) {
-            pair = Py_BuildValue("(kO)", (unsigned long)batch, keys);
+            pair = Py_BuildValue("(KO)", (unsigned long long)(self->first_batch + batch), keys);
         }
-        if (!is_empty && (pair == NULL || PyList_Append(batches, pair) < 0)) {
-            Py_CLEAR(batches);
-        }
+        is_listed = is_empty || (pair != NULL && PyList_Append(batches, pair) == 0);
         Py_XDECREF(pair);
         Py_XDECREF(keys);
     }
-    return batches;
+    return is_listed;
 }
 
 /* Notes that the members of a batch are sent. The batch function has their keys, and a cache map may be asked for them. */
@@ -1045,74 +1524,61 @@ static void note_sent(Desk *self, uint32_t batch)
     }
 }
 
-static PyObject *desk_send(Desk *self, PyObject *Py_UNUSED(nothing))
+/* Sends what is collected, and adds its batches to the list. If that raises once the desk has sent, their loads end with that. */
+static bool send(Desk *self, PyObject *batches)
 {
-    dl_dispatched sent;
-    PyObject *batches;
+    Py_ssize_t before = PyList_Size(batches);
+    dl_dispatched sent = dl_desk_dispatch(&self->desk);
 
-    if (!is_on_loop(self)) {
-        return NULL;
-    }
-    sent = dl_desk_dispatch(&self->desk);
     if (sent.code != DL_DONE) {
-        return raise_code(sent.code);
-    }
-    self->is_collecting = false;
-    batches = sent_batches(self, sent);
-    if (batches != NULL) {
-        self->counts.batches += (unsigned long long)PyList_GET_SIZE(batches);
-        for (uint32_t batch = sent.first; batch < sent.first + sent.count; batch++) {
-            note_sent(self, batch);
-        }
-    }
-    return batches;
-}
-
-static bool is_number(PyObject *given, uint32_t *number)
-{
-    unsigned long value = PyLong_AsUnsignedLong(given);
-
-    if (value == (unsigned long)-1 && PyErr_Occurred()) {
+        raise_code(self, sent.code);
         return false;
     }
-    *number = value > UINT32_MAX ? UINT32_MAX : (uint32_t)value;
+    self->is_collecting = false;
+    Py_CLEAR(self->sending);
+    self->batch_count += (uint32_t)sent.count;
+    if (!list_batches(self, sent, batches)) {
+        PyObject *error = take_error();
+        PyList_SetSlice(batches, before, PyList_Size(batches), NULL);
+        self->counts.failures += abandon(self, error, WITH_ERROR);
+        raise_again(error);
+        return false;
+    }
+    self->counts.batches += (unsigned long long)(PyList_Size(batches) - before);
+    for (uint32_t batch = sent.first; batch < sent.first + sent.count; batch++) {
+        note_sent(self, batch);
+    }
     return true;
 }
 
-/* Ends a cell with an exception, in a form that its waiters see. */
-static void end_with_error(Desk *self, uint32_t number, PyObject *error, Ending ending, const char *told)
+static PyObject *desk_send(Desk *self, PyObject *batches)
 {
-    PyObject *held = held_error(error, told);
-
-    if (held == NULL) {
-        PyErr_Clear();
+    if (!is_on_loop(self) || (batches == self->sending && !send(self, batches))) {
+        return NULL;
     }
-    end_cell(self, number, held == NULL ? PyExc_MemoryError : held, ending);
-    Py_XDECREF(held);
+    Py_RETURN_NONE;
 }
 
-static void end_with(Desk *self, uint32_t number, PyObject *outcome, const char *told)
+static PyObject *desk_dispatch(Desk *self, PyObject *Py_UNUSED(nothing))
 {
-    if (PyExceptionInstance_Check(outcome)) {
-        end_with_error(self, number, outcome, WITH_ERROR, told);
-    } else {
-        end_cell(self, number, outcome, WITH_VALUE);
-    }
-}
+    PyObject *batches, *error;
+    bool is_sent;
 
-/* Ends a cell with the fault of its batch, and forgets it. Nobody is told of what was cancelled who doesn't ask, as asyncio has
- * it. */
-static void fail_cell(Desk *self, uint32_t number, PyObject *fault, bool is_called)
-{
-    if (self->cache_map != NULL) {
-        forget_mapped(self, number);
+    if (!is_on_loop(self) || (batches = PyList_New(0)) == NULL) {
+        return NULL;
     }
-    if (is_cancelled(fault)) {
-        end_with_error(self, number, fault, WITH_SILENT_ERROR, is_called ? GIVEN : NOT_CALLED);
-    } else {
-        end_with_error(self, number, fault, WITH_ERROR, GIVEN);
+    is_sent = send(self, batches) && fetch_each(self, batches);
+    if (!is_sent) {
+        error = take_error();
+        self->counts.failures += abandon(self, error, WITH_ERROR);
+        fail_batches(self, batches, error, GIVEN);
+        raise_again(error);
     }
-    lose_cell(self, number);
+    Py_DECREF(batches);
+    if (!is_sent) {
+        return NULL;
+    }
+    Py_RETURN_NONE;
 }
 
 /* The values of a batch function's answer, as many as there are members that wait for one: a tuple, or NULL with an exception. */
@@ -1126,112 +1592,61 @@ static PyObject *batch_values(Desk *self, uint32_t batch, PyObject *answer)
         count += self->cells[member.cell].state == SENT;
     }
     values = PySequence_Tuple(answer);
-    if (values != NULL && PyTuple_GET_SIZE(values) != count) {
+    if (values != NULL && PyTuple_Size(values) != count) {
         PyErr_Format(PyExc_TypeError,
-                     "a batch function answers a value for each of its keys; this one was asked for %zd and answered %zd",
-                     count, PyTuple_GET_SIZE(values));
+                     "a batch function answers a value for each of its keys; this one was asked for %zd and answered %zd", count,
+                     PyTuple_Size(values));
         Py_CLEAR(values);
     }
     return values;
 }
 
+/* Ends the only batch of a list with an outcome for each key, and takes it off. */
 static PyObject *desk_settle(Desk *self, PyObject *const *args, Py_ssize_t count)
 {
+    uint64_t number;
     uint32_t batch, code;
     PyObject *values;
     Py_ssize_t place = 0;
     dl_loaded member;
 
     if (count != 2) {
-        PyErr_SetString(PyExc_TypeError, "_settle takes a batch and an answer");
+        PyErr_SetString(PyExc_TypeError, "_settle takes a list of a batch and an answer");
         return NULL;
     }
-    if (!is_number(args[0], &batch) || (values = batch_values(self, batch, args[1])) == NULL) {
+    if (PyList_Size(args[0]) < 1 || (number = batch_at(args[0], 0)) < self->first_batch) {
+        return PyErr_Occurred() ? NULL : raise_code(self, DL_ENDED_BEFORE);
+    }
+    batch = (uint32_t)(number - self->first_batch);
+    values = batch_values(self, batch, args[1]);
+    if (values == NULL) {
         return NULL;
     }
     code = dl_desk_settle(&self->desk, batch);
-    if (code != DL_DONE) {
-        Py_DECREF(values);
-        return raise_code(code);
+    if (code == DL_DONE && PyList_SetSlice(args[0], 0, 1, NULL) < 0) {
+        PyErr_Clear();
     }
-    for (uint32_t index = 0; (member = dl_desk_member(&self->desk, batch, index)).code == DL_HIT; index++) {
+    self->unended++;
+    for (uint32_t index = 0; code == DL_DONE && (member = dl_desk_member(&self->desk, batch, index)).code == DL_HIT; index++) {
         if (self->cells[member.cell].state == SENT) {
-            end_with(self, member.cell, PyTuple_GET_ITEM(values, place++), GIVEN);
+            end_with(self, member.cell, PyTuple_GetItem(values, place++), GIVEN);
         }
     }
+    self->unended--;
     Py_DECREF(values);
+    if (code != DL_DONE) {
+        return raise_code(self, code);
+    }
     Py_RETURN_NONE;
 }
 
 static PyObject *desk_fail(Desk *self, PyObject *const *args, Py_ssize_t count)
 {
-    uint32_t batch, code;
-    dl_loaded member;
-
-    if (count != 3) {
-        PyErr_SetString(PyExc_TypeError, "_fail takes a batch, an exception, and whether the batch function was called");
-        return NULL;
-    }
-    if (!is_number(args[0], &batch)) {
-        return NULL;
-    }
-    code = dl_desk_fail(&self->desk, batch);
-    if (code == DL_ENDED_BEFORE) {
-        Py_RETURN_NONE;
-    }
-    if (code != DL_DONE) {
-        return raise_code(code);
-    }
-    self->counts.failures++;
-    for (uint32_t index = 0; (member = dl_desk_member(&self->desk, batch, index)).code == DL_HIT; index++) {
-        if (self->cells[member.cell].state == SENT) {
-            fail_cell(self, member.cell, args[1], args[2] == Py_True);
-        }
-    }
-    Py_RETURN_NONE;
-}
-
-/* Ends what is collected and can't be sent. A desk without the memory to send forgets all its keys: that takes no memory. */
-static PyObject *desk_abandon(Desk *self, PyObject *fault)
-{
-    bool is_any = false;
-
-    self->is_collecting = false;
-    for (uint32_t number = 0; number < self->cell_count; number++) {
-        if (self->cells[number].state == COLLECTED) {
-            fail_cell(self, number, fault, false);
-            is_any = true;
-        }
-    }
-    if (is_any) {
-        self->counts.failures++;
-        dl_desk_clear_all(&self->desk);
-    }
-    Py_RETURN_NONE;
-}
-
-static PyObject *desk_end(Desk *self, PyObject *const *args, Py_ssize_t count)
-{
-    uint32_t number;
-
     if (count != 2) {
-        PyErr_SetString(PyExc_TypeError, "_end takes a cell and an outcome");
+        PyErr_SetString(PyExc_TypeError, "_fail takes a list of batches and an exception");
         return NULL;
     }
-    if (!is_number(args[0], &number)) {
-        return NULL;
-    }
-    if (number < self->cell_count && self->cells[number].state == SENT) {
-        end_with(self, number, args[1], PRIMED);
-        if (self->cells[number].state == ENDED && PyExceptionInstance_Check(args[1])) {
-            /* It is looked at, so that the loop doesn't report it. */
-            PyObject *error = PyObject_CallMethodNoArgs(self->cells[number].what, exception_name);
-            if (error == NULL) {
-                return NULL;
-            }
-            Py_DECREF(error);
-        }
-    }
+    fail_batches(self, args[0], args[1], GIVEN);
     Py_RETURN_NONE;
 }
 
@@ -1248,12 +1663,21 @@ static PyObject *desk_cells(Desk *self, void *Py_UNUSED(closure))
     return PyLong_FromUnsignedLong(self->cell_count);
 }
 
+static PyObject *or_none(PyObject *given)
+{
+    given = given == NULL ? Py_None : given;
+    Py_INCREF(given);
+    return given;
+}
+
 static PyObject *desk_loop(Desk *self, void *Py_UNUSED(closure))
 {
-    PyObject *loop = self->loop == NULL ? Py_None : self->loop;
+    return or_none(self->loop);
+}
 
-    Py_INCREF(loop);
-    return loop;
+static PyObject *desk_sending(Desk *self, void *Py_UNUSED(closure))
+{
+    return or_none(self->sending);
 }
 
 /* Keeps an object, unless it is None. */
@@ -1261,68 +1685,124 @@ static void keep(PyObject **place, PyObject *given)
 {
     if (given != Py_None) {
         Py_INCREF(given);
-        Py_XSETREF(*place, given);
+        replace(place, given);
     }
 }
 
-/* A seed of two random numbers, of which the system gives several at once. */
-static bool take_seed(uint64_t seed[2])
-{
-    static uint64_t pool[32];
-    static size_t left;
+static void desk_dealloc(Desk *self);
 
-    if (left == 0) {
-        if (getrandom(pool, sizeof pool, 0) != (ssize_t)sizeof pool) {
-            PyErr_SetFromErrno(PyExc_OSError);
+/* A desk that isn't open. A type that is abstract is refused by Python. */
+static PyObject *desk_new(PyTypeObject *type, PyObject *Py_UNUSED(args), PyObject *Py_UNUSED(kwargs))
+{
+    newfunc plain = (newfunc)PyType_GetSlot(&PyBaseObject_Type, Py_tp_new);
+    PyTypeObject *base = type;
+    Desk *self;
+    Module *module;
+
+    while ((destructor)PyType_GetSlot(base, Py_tp_dealloc) != (destructor)desk_dealloc) {
+        base = (PyTypeObject *)PyType_GetSlot(base, Py_tp_base);
+    }
+    module = PyType_GetModuleState(base);
+    self = module == NULL ? NULL : (Desk *)plain(type, module->no_args, NULL);
+    if (self != NULL) {
+        self->module = module;
+    }
+    return (PyObject *)self;
+}
+
+/* The options of a loader, as its attributes have them. */
+typedef struct {
+    PyObject *batch_load_fn, *batch, *max_batch_size, *cache, *get_cache_key, *cache_map, *batch_schedule_fn, *name, *max_cells;
+} Options;
+
+enum { OPTIONS = sizeof(Options) / sizeof(PyObject *) };
+
+/* A limit that is an int within its bounds, or 0. None is the largest. */
+static uint32_t limit_of(PyObject *given)
+{
+    long limit = given == Py_None ? DL_LARGEST_LIMIT : PyLong_CheckExact(given) ? PyLong_AsLong(given) : 0;
+
+    if (PyErr_Occurred()) {
+        PyErr_Clear();
+    }
+    return limit >= 1 && limit <= DL_LARGEST_LIMIT ? (uint32_t)limit : 0;
+}
+
+/* Reads the options, and has those looked at that aren't plainly right. */
+static bool read_options(Desk *self, Options *options)
+{
+    PyObject **each = (PyObject **)options, *none;
+
+    for (int place = 0; place < OPTIONS; place++) {
+        each[place] = PyObject_GetAttr((PyObject *)self, self->module->options[place]);
+        if (each[place] == NULL && place == 0 && PyErr_ExceptionMatches(PyExc_AttributeError)) {
+            PyErr_Clear();
+            each[place] = or_none(NULL);
+        }
+        if (each[place] == NULL) {
             return false;
         }
-        left = sizeof pool / sizeof pool[0];
     }
-    seed[0] = pool[--left];
-    seed[1] = pool[--left];
-    return true;
+    if (PyCallable_Check(options->batch_load_fn) && options->get_cache_key == Py_None && options->cache_map == Py_None &&
+        options->batch_schedule_fn == Py_None && options->name == Py_None && limit_of(options->max_batch_size) > 0 &&
+        limit_of(options->max_cells) > 0) {
+        return true;
+    }
+    none = call_method((PyObject *)self, self->module->check_options, NULL);
+    Py_XDECREF(none);
+    return none != NULL;
 }
 
-static int desk_init(Desk *self, PyObject *args, PyObject *kwargs)
+static PyObject *desk_open(Desk *self, PyObject *Py_UNUSED(nothing))
 {
-    static char *names[] = {"max_batch", "max_cells", "is_memo", "get_cache_key", "cache_map", NULL};
-    unsigned int max_batch, max_cells;
-    int is_memo;
-    PyObject *get_cache_key, *cache_map;
-    uint64_t seed[2];
-    uint32_t code;
+    Options options = {0};
+    int is_batched, is_cached;
+    uint32_t code = DL_OUT_OF_MEMORY;
 
-    if (!PyArg_ParseTupleAndKeywords(args, kwargs, "IIpOO:Desk", names, &max_batch, &max_cells, &is_memo, &get_cache_key,
-                                     &cache_map)) {
-        return -1;
+    if (!read_options(self, &options) || (is_batched = PyObject_IsTrue(options.batch)) < 0 ||
+        (is_cached = PyObject_IsTrue(options.cache)) < 0) {
+        goto done;
     }
-    if (!take_seed(seed)) {
-        return -1;
-    }
-    code = dl_desk_open(&self->desk, max_batch, max_cells, seed[0], seed[1]);
+    self->max_batch = is_batched ? limit_of(options.max_batch_size) : 1;
+    self->max_cells = limit_of(options.max_cells);
+    /* The desk's keys are numbers that the loader gives in turn: nobody chooses them, so no seed has to be secret. */
+    code = dl_desk_open(&self->desk, self->max_batch, self->max_cells, 0, 0);
     if (code != DL_DONE) {
-        raise_code(code);
-        return -1;
+        raise_code(self, code);
+        goto done;
     }
-    self->is_memo = is_memo != 0 && cache_map == Py_None;
-    keep(&self->get_cache_key, get_cache_key);
-    keep(&self->cache_map, cache_map);
-    return 0;
+    self->is_memo = is_cached && options.cache_map == Py_None;
+    keep(&self->get_cache_key, options.get_cache_key);
+    if (is_cached) {
+        keep(&self->cache_map, options.cache_map);
+    }
+done:
+    for (int place = 0; place < OPTIONS; place++) {
+        Py_XDECREF(((PyObject **)&options)[place]);
+    }
+    if (code != DL_DONE) {
+        return NULL;
+    }
+    Py_RETURN_NONE;
 }
 
 static int desk_traverse(Desk *self, visitproc visit, void *arg)
 {
-    for (uint32_t number = 0; number < self->cell_count; number++) {
-        Py_VISIT(self->cells[number].key);
-        Py_VISIT(self->cells[number].what);
+    for (uint32_t place = 0; place < self->cell_count; place++) {
+        Py_VISIT(self->cells[place].key);
+        Py_VISIT(self->cells[place].what);
     }
     Py_VISIT(self->get_cache_key);
     Py_VISIT(self->cache_map);
-    Py_VISIT(self->numbers);
+    Py_VISIT(self->keys);
+    Py_VISIT(self->tasks);
+    Py_VISIT(self->sending);
     Py_VISIT(self->loop);
+    Py_VISIT(self->of_loop);
     Py_VISIT(self->create_future);
     Py_VISIT(self->loop_dict);
     Py_VISIT(self->run);
+    Py_VISIT(Py_TYPE(self));
     return 0;
 }
 
@@ -1335,15 +1815,19 @@ static int desk_forget(Desk *self)
     dl_desk_close(&self->desk);
     self->cells = NULL;
     self->cell_count = self->cell_room = 0;
-    for (uint32_t number = 0; number < count; number++) {
-        Py_XDECREF(cells[number].key);
-        Py_XDECREF(cells[number].what);
+    for (uint32_t place = 0; place < count; place++) {
+        Py_XDECREF(cells[place].key);
+        Py_XDECREF(cells[place].what);
+        Py_XDECREF(cells[place].known);
     }
     PyMem_Free(cells);
     Py_CLEAR(self->get_cache_key);
     Py_CLEAR(self->cache_map);
-    Py_CLEAR(self->numbers);
+    Py_CLEAR(self->keys);
+    Py_CLEAR(self->tasks);
+    Py_CLEAR(self->sending);
     Py_CLEAR(self->loop);
+    Py_CLEAR(self->of_loop);
     Py_CLEAR(self->create_future);
     Py_CLEAR(self->loop_dict);
     Py_CLEAR(self->run);
@@ -1352,9 +1836,12 @@ static int desk_forget(Desk *self)
 
 static void desk_dealloc(Desk *self)
 {
+    PyTypeObject *type = Py_TYPE(self);
+
     PyObject_GC_UnTrack(self);
     desk_forget(self);
-    Py_TYPE(self)->tp_free((PyObject *)self);
+    ((freefunc)PyType_GetSlot(type, Py_tp_free))(self);
+    Py_DECREF(type);
 }
 
 #define CALL(function) (PyCFunction)(void (*)(void))(function)
@@ -1367,16 +1854,32 @@ static PyMethodDef desk_methods[] = {
     {"clear", CALL(desk_clear), METH_O, PyDoc_STR("clear($self, key, /)\n--\n\nForgets the key, and answers the loader.")},
     {"clear_all", CALL(desk_clear_all), METH_NOARGS,
      PyDoc_STR("clear_all($self, /)\n--\n\nForgets all keys, and answers the loader.")},
-    {"_load_all", CALL(desk_load_all), METH_O, PyDoc_STR("The futures of the keys, in order. All are loaded, or none is.")},
-    {"_prime", CALL(desk_prime), METH_O, PyDoc_STR("Begins a cell for the key, unless one is held: its number, or None.")},
-    {"_end", CALL(desk_end), METH_FASTCALL, PyDoc_STR("Ends a cell that was primed.")},
-    {"_send", CALL(desk_send), METH_NOARGS, PyDoc_STR("Sends what is collected: the number and the keys of each batch.")},
+    {"_open", CALL(desk_open), METH_NOARGS, PyDoc_STR("_open($self, /)\n--\n\nOpens the desk with the loader's options: once.")},
+    {"_load_all", CALL(desk_load_all), METH_O,
+     PyDoc_STR("_load_all($self, keys, /)\n--\n\nThe futures of the keys, in order. All are loaded, or none is.")},
+    {"_prime", CALL(desk_prime), METH_FASTCALL,
+     PyDoc_STR("_prime($self, key, value, /)\n--\n\nHolds a value, an error or what a future ends with for the key, unless it is "
+               "held.")},
+    {"_end_as", CALL(desk_end_as), METH_FASTCALL,
+     PyDoc_STR("_end_as($self, cell, future, /)\n--\n\nEnds a cell that was primed as the future has ended.")},
+    {"_dispatch", CALL(desk_dispatch), METH_NOARGS,
+     PyDoc_STR("_dispatch($self, /)\n--\n\nSends what is collected, and has a task fetch each batch.")},
+    {"_send", CALL(desk_send), METH_O,
+     PyDoc_STR("_send($self, batches, /)\n--\n\nSends what is collected, if the list is that of the task that sends: the list "
+               "gets each "
+               "batch with its keys.")},
+    {"_fetch_each", CALL(desk_fetch_each), METH_O,
+     PyDoc_STR("_fetch_each($self, batches, /)\n--\n\nHas a task fetch each batch of the list.")},
     {"_settle", CALL(desk_settle), METH_FASTCALL,
-     PyDoc_STR("Ends a batch with an outcome for each key. An answer that has another number of them raises, and ends nothing.")},
+     PyDoc_STR(
+         "_settle($self, batches, answer, /)\n--\n\nEnds the only batch of the list with an outcome for each key. An answer that "
+         "has another number of them raises, and ends nothing.")},
     {"_fail", CALL(desk_fail), METH_FASTCALL,
-     PyDoc_STR("Ends a batch with a fault of the whole, unless it has ended: its keys are forgotten. Last stands whether the "
-               "batch function was called.")},
-    {"_abandon", CALL(desk_abandon), METH_O, PyDoc_STR("Ends what is collected with a fault.")},
+     PyDoc_STR("_fail($self, batches, fault, /)\n--\n\nEnds each batch of the list with a fault of the whole: its keys are "
+               "forgotten.")},
+    {"_task_ended", CALL(desk_task_ended), METH_O,
+     PyDoc_STR(
+         "_task_ended($self, task, /)\n--\n\nEnds whatever the task has left: what it was to send, and what it was to fetch.")},
     {"__class_getitem__", (PyCFunction)Py_GenericAlias, METH_O | METH_CLASS, NULL},
     {NULL, NULL, 0, NULL},
 };
@@ -1385,77 +1888,196 @@ static PyGetSetDef desk_getset[] = {
     {"_counts", (getter)desk_counts, NULL, PyDoc_STR("Loads, hits, batches, keys and failures."), NULL},
     {"_cells", (getter)desk_cells, NULL, PyDoc_STR("How many cells have begun."), NULL},
     {"_loop", (getter)desk_loop, NULL, PyDoc_STR("The event loop of the first load, or None."), NULL},
+    {"_sending", (getter)desk_sending, NULL, PyDoc_STR("The list of the task that will send, or None."), NULL},
     {NULL, NULL, NULL, NULL, NULL},
 };
 
-static PyTypeObject desk_type = {
-    PyVarObject_HEAD_INIT(NULL, 0)
-    .tp_name = "thrushscreen._desk.Desk",
-    .tp_basicsize = sizeof(Desk),
-    .tp_flags = Py_TPFLAGS_DEFAULT | Py_TPFLAGS_BASETYPE | Py_TPFLAGS_HAVE_GC,
-    .tp_doc = PyDoc_STR("The proved loader of one thread, and who waits for what. A subclass has `_schedule`, which has `_send` "
-                        "called."),
-    .tp_new = PyType_GenericNew,
-    .tp_init = (initproc)desk_init,
-    .tp_dealloc = (destructor)desk_dealloc,
-    .tp_traverse = (traverseproc)desk_traverse,
-    .tp_clear = (inquiry)desk_forget,
-    .tp_methods = desk_methods,
-    .tp_getset = desk_getset,
+static PyType_Slot desk_slots[] = {
+    {Py_tp_doc,
+     PyDoc_STR(
+         "The proved loader of one thread, and who waits for what. A subclass has `_send_late` and `_fetch`, of which tasks "
+         "are made.")},
+    {Py_tp_new, desk_new},
+    {Py_tp_dealloc, desk_dealloc},
+    {Py_tp_traverse, desk_traverse},
+    {Py_tp_clear, desk_forget},
+    {Py_tp_methods, desk_methods},
+    {Py_tp_getset, desk_getset},
+    {0, NULL},
+};
+
+static PyType_Spec desk_spec = {
+    .name = "thrushscreen._desk.Desk",
+    .basicsize = sizeof(Desk),
+    .flags = Py_TPFLAGS_DEFAULT | Py_TPFLAGS_BASETYPE | Py_TPFLAGS_HAVE_GC,
+    .slots = desk_slots,
+};
+
+static PyType_Slot known_slots[] = {
+    {Py_tp_doc, PyDoc_STR("What a loader knows of a key.")},
+    {Py_tp_dealloc, known_dealloc},
+    {0, NULL},
+};
+
+static PyType_Spec known_spec = {
+    .name = "thrushscreen._desk.Known",
+    .basicsize = sizeof(Known),
+    .flags = Py_TPFLAGS_DEFAULT,
+    .slots = known_slots,
+};
+
+/* The module. */
+
+/* Of each reference of a module that is a name: where it is, and the name. */
+static const struct {
+    size_t place;
+    const char *name;
+} names[] = {
+    {offsetof(Module, options[0]), "batch_load_fn"},
+    {offsetof(Module, options[1]), "batch"},
+    {offsetof(Module, options[2]), "max_batch_size"},
+    {offsetof(Module, options[3]), "cache"},
+    {offsetof(Module, options[4]), "get_cache_key"},
+    {offsetof(Module, options[5]), "cache_map"},
+    {offsetof(Module, options[6]), "batch_schedule_fn"},
+    {offsetof(Module, options[7]), "name"},
+    {offsetof(Module, options[8]), "max_cells"},
+    {offsetof(Module, add_done_callback), "add_done_callback"},
+    {offsetof(Module, batch_schedule_fn), "batch_schedule_fn"},
+    {offsetof(Module, cancel), "cancel"},
+    {offsetof(Module, cancelled), "cancelled"},
+    {offsetof(Module, check_options), "_check_options"},
+    {offsetof(Module, clear), "clear"},
+    {offsetof(Module, close), "close"},
+    {offsetof(Module, create_future), "create_future"},
+    {offsetof(Module, create_task), "create_task"},
+    {offsetof(Module, dispatch), "_dispatch"},
+    {offsetof(Module, end_as), "_end_as"},
+    {offsetof(Module, exception), "exception"},
+    {offsetof(Module, fetch), "_fetch"},
+    {offsetof(Module, get), "get"},
+    {offsetof(Module, pop), "pop"},
+    {offsetof(Module, result), "result"},
+    {offsetof(Module, send_late), "_send_late"},
+    {offsetof(Module, set_exception), "set_exception"},
+    {offsetof(Module, set_result), "set_result"},
+    {offsetof(Module, setdefault), "setdefault"},
+    {offsetof(Module, task_ended), "_task_ended"},
+    {offsetof(Module, thread_id), "_thread_id"},
+};
+
+/* Of each that another module has: where it is, and the two names. */
+static const struct {
+    size_t place;
+    const char *module, *name;
+} taken[] = {
+    {offsetof(Module, get_running_loop), "asyncio", "_get_running_loop"},
+    {offsetof(Module, future_type), "asyncio", "Future"},
+    {offsetof(Module, cancelled_error), "asyncio", "CancelledError"},
+    {offsetof(Module, invalid_state), "asyncio", "InvalidStateError"},
+    {offsetof(Module, shield), "asyncio", "shield"},
+    {offsetof(Module, is_future), "asyncio", "isfuture"},
+    {offsetof(Module, partial), "functools", "partial"},
+};
+
+static PyObject **reference(Module *module, size_t place)
+{
+    return (PyObject **)((char *)module + place);
+}
+
+static bool take_names(Module *module)
+{
+    for (size_t i = 0; i < sizeof names / sizeof *names; i++) {
+        if ((*reference(module, names[i].place) = PyUnicode_InternFromString(names[i].name)) == NULL) {
+            return false;
+        }
+    }
+    return true;
+}
+
+static bool take_others(Module *module)
+{
+    PyObject *loop_type;
+
+    for (size_t i = 0; i < sizeof taken / sizeof *taken; i++) {
+        PyObject *other = PyImport_ImportModule(taken[i].module);
+        PyObject *found = other == NULL ? NULL : PyObject_GetAttrString(other, taken[i].name);
+        Py_XDECREF(other);
+        if ((*reference(module, taken[i].place) = found) == NULL) {
+            return false;
+        }
+    }
+    replace(&module->base_create_future, PyImport_ImportModule("asyncio"));
+    loop_type = module->base_create_future == NULL ? NULL : PyObject_GetAttrString(module->base_create_future, "BaseEventLoop");
+    replace(&module->base_create_future, loop_type == NULL ? NULL : PyObject_GetAttr(loop_type, module->create_future));
+    Py_XDECREF(loop_type);
+    return module->base_create_future != NULL;
+}
+
+static int module_exec(PyObject *module)
+{
+    Module *state = PyModule_GetState(module);
+
+    state->no_args = PyTuple_New(0);
+    state->loader_full = PyErr_NewExceptionWithDoc("thrushscreen.LoaderFull", "A loader has as many cells as its ``max_cells``.",
+                                                   PyExc_RuntimeError, NULL);
+    state->desk_type = PyType_FromModuleAndSpec(module, &desk_spec, NULL);
+    state->known_type = PyType_FromModuleAndSpec(module, &known_spec, NULL);
+    if (state->no_args == NULL || state->loader_full == NULL || state->desk_type == NULL || state->known_type == NULL ||
+        !take_names(state) || !take_others(state)) {
+        return -1;
+    }
+    return PyModule_AddObjectRef(module, "Desk", state->desk_type) == 0 &&
+                   PyModule_AddObjectRef(module, "LoaderFull", state->loader_full) == 0
+               ? 0
+               : -1;
+}
+
+static int module_traverse(PyObject *module, visitproc visit, void *arg)
+{
+    Module *state = PyModule_GetState(module);
+
+    for (size_t place = 0; place < sizeof *state; place += sizeof(PyObject *)) {
+        Py_VISIT(*reference(state, place));
+    }
+    return 0;
+}
+
+static int module_clear(PyObject *module)
+{
+    Module *state = PyModule_GetState(module);
+
+    for (size_t place = 0; place < sizeof *state; place += sizeof(PyObject *)) {
+        Py_CLEAR(*reference(state, place));
+    }
+    return 0;
+}
+
+static void module_free(void *module)
+{
+    module_clear(module);
+}
+
+/* From Python 3.12 on there is one more slot, by which an interpreter with a lock of its own takes the module: the desk shares
+ * nothing. */
+enum { MULTIPLE_INTERPRETERS = 3, EACH_WITH_ITS_LOCK = 2 };
+
+static PyModuleDef_Slot module_slots[] = {
+    {Py_mod_exec, module_exec},
+    {0, NULL},
+    {0, NULL},
 };
 
 static struct PyModuleDef desk_module = {
-    PyModuleDef_HEAD_INIT,
-    .m_name = "thrushscreen._desk",
-    .m_doc = "The proved desk, by its C library.",
-    .m_size = -1,
+    PyModuleDef_HEAD_INIT,    .m_name = "thrushscreen._desk", .m_doc = "The proved desk, by its C library.",
+    .m_size = sizeof(Module), .m_slots = module_slots,        .m_traverse = module_traverse,
+    .m_clear = module_clear,  .m_free = module_free,
 };
-
-/* The names of methods that are called. */
-static bool intern_names(void)
-{
-    return (schedule_name = PyUnicode_InternFromString("_schedule")) != NULL &&
-           (exception_name = PyUnicode_InternFromString("exception")) != NULL &&
-           (thread_id_name = PyUnicode_InternFromString("_thread_id")) != NULL &&
-           (create_future_name = PyUnicode_InternFromString("create_future")) != NULL &&
-           (set_result_name = PyUnicode_InternFromString("set_result")) != NULL &&
-           (set_exception_name = PyUnicode_InternFromString("set_exception")) != NULL &&
-           (cancel_name = PyUnicode_InternFromString("cancel")) != NULL &&
-           (pop_name = PyUnicode_InternFromString("pop")) != NULL && (get_name = PyUnicode_InternFromString("get")) != NULL &&
-           (clear_name = PyUnicode_InternFromString("clear")) != NULL &&
-           (loop_names = Py_BuildValue("(s)", "loop")) != NULL;
-}
-
-static bool take_from_asyncio(void)
-{
-    PyObject *asyncio = PyImport_ImportModule("asyncio"), *base_loop = NULL;
-    bool is_taken = asyncio != NULL && (get_running_loop = PyObject_GetAttrString(asyncio, "_get_running_loop")) != NULL &&
-                    (future_type = PyObject_GetAttrString(asyncio, "Future")) != NULL &&
-                    (cancelled_error = PyObject_GetAttrString(asyncio, "CancelledError")) != NULL &&
-                    (shield = PyObject_GetAttrString(asyncio, "shield")) != NULL &&
-                    (invalid_state = PyObject_GetAttrString(asyncio, "InvalidStateError")) != NULL &&
-                    (base_loop = PyObject_GetAttrString(asyncio, "BaseEventLoop")) != NULL &&
-                    (base_create_future = PyObject_GetAttr(base_loop, create_future_name)) != NULL;
-
-    Py_XDECREF(base_loop);
-    Py_XDECREF(asyncio);
-    return is_taken;
-}
 
 PyMODINIT_FUNC PyInit__desk(void)
 {
-    PyObject *module;
-
-    loader_full = PyErr_NewExceptionWithDoc("thrushscreen.LoaderFull", "A loader has begun as many cells as its ``max_cells``.",
-                                            PyExc_RuntimeError, NULL);
-    if (loader_full == NULL || !intern_names() || !take_from_asyncio() || PyType_Ready(&desk_type) < 0) {
-        return NULL;
+    if (strtol(Py_GetVersion() + strlen("3."), NULL, 10) >= 12) {
+        module_slots[1] = (PyModuleDef_Slot){MULTIPLE_INTERPRETERS, (void *)EACH_WITH_ITS_LOCK};
     }
-    module = PyModule_Create(&desk_module);
-    if (module == NULL || PyModule_AddObjectRef(module, "Desk", (PyObject *)&desk_type) < 0 ||
-        PyModule_AddObjectRef(module, "LoaderFull", loader_full) < 0) {
-        Py_XDECREF(module);
-        return NULL;
-    }
-    return module;
+    return PyModuleDef_Init(&desk_module);
 }

@@ -4,11 +4,11 @@ from __future__ import annotations
 
 import asyncio
 from collections import deque
-from collections.abc import Awaitable, Callable, Coroutine, Generator, Hashable, Iterable, MutableMapping, Sequence
-from functools import partial
+from collections.abc import Awaitable, Callable, Generator, Hashable, Iterable, MutableMapping, Sequence
 from inspect import isawaitable
 from types import CoroutineType
 from typing import Any, Literal, NamedTuple, TypeVar, overload
+from weakref import WeakKeyDictionary
 
 from ._desk import Desk
 
@@ -33,7 +33,7 @@ class _Senders:
     may_send = False
 
 
-_senders: dict[asyncio.AbstractEventLoop, _Senders] = {}
+_senders: WeakKeyDictionary[asyncio.AbstractEventLoop, _Senders] = WeakKeyDictionary()
 
 
 class Counters(NamedTuple):
@@ -116,24 +116,22 @@ class DataLoader(Desk[K, V]):
             self.name = name
         if max_cells is not None:
             self.max_cells = max_cells
+        self._open()
+
+    def _check_options(self) -> None:
+        """Refuses options that aren't what they should be."""
         if not callable(getattr(self, "batch_load_fn", None)):
             raise TypeError("a loader needs a batch function")
-        if self.get_cache_key is not None:
-            _check_function("get_cache_key", self.get_cache_key)
-        if self.batch_schedule_fn is not None:
-            _check_function("batch_schedule_fn", self.batch_schedule_fn)
+        for option in ("get_cache_key", "batch_schedule_fn"):
+            if getattr(self, option) is not None:
+                _check_function(option, getattr(self, option))
         if self.cache_map is not None:
             _check_map(self.cache_map)
         if self.name is not None:
             _check_type("name", self.name, str)
-        largest = LARGEST_LIMIT if self.max_batch_size is None else self.max_batch_size
-        _check_limit("max_batch_size", largest)
+        if self.max_batch_size is not None:
+            _check_limit("max_batch_size", self.max_batch_size)
         _check_limit("max_cells", self.max_cells)
-        cache_map = self.cache_map if self.cache else None
-        super().__init__(largest if self.batch else 1, self.max_cells, self.cache, self.get_cache_key, cache_map)
-        # The task that will send what is collected, where one will, and those that fetch, by their batches.
-        self._sender: asyncio.Task[None] | None = None
-        self._fetches: dict[int, asyncio.Task[None]] = {}
 
     def __repr__(self) -> str:
         return f"<{type(self).__name__} {self.name!r}>" if self.name is not None else super().__repr__()
@@ -167,62 +165,33 @@ class DataLoader(Desk[K, V]):
 
     def prime(self: Loader, key: K, value: V | BaseException | asyncio.Future[V]) -> Loader:
         """Holds a value for the key, unless one is held. It may be an exception, or a future of either."""
-        cell = self._prime(key)
-        if cell is not None:
-            if asyncio.isfuture(value):
-                value.add_done_callback(partial(self._end_as, cell))
-            else:
-                self._end(cell, value)
+        self._prime(key, value)
         return self
 
-    def _end_as(self, cell: int, future: asyncio.Future[V]) -> None:
-        """Ends a cell as the future has ended."""
-        error = asyncio.CancelledError() if future.cancelled() else future.exception()
-        self._end(cell, future.result() if error is None else error)
+    # Whatever a task of these leaves is ended by the desk when the task ends: what it was to send, and the batches of its list.
 
-    def _schedule(self) -> None:
-        """Has what is collected from here on sent."""
-        if self.batch_schedule_fn is None:
-            self._sender = self._start(self._send_late())
-        else:
-            self.batch_schedule_fn(self._dispatch)
-
-    def _dispatch(self) -> None:
-        """Sends what is collected, and begins to fetch each batch."""
-        self._fetch_all(self._send())
-
-    async def _send_late(self) -> None:
+    async def _send_late(self, batches: list[tuple[int, list[K]]]) -> None:
         """Sends what is collected once callers that are a few tasks behind have made their loads. A batch that is alone is fetched
         by the same task."""
-        try:
+        if self._sending is not batches:
+            # It is an eager task, within the load that has begun it.
             await _NEXT_TURN
-            while self._sender is None:
-                # It is an eager task, within the load that has begun it.
-                await _NEXT_TURN
-            await self._others()
-            sender, self._sender = self._sender, None
-            batches = self._send()
-        except (Exception, asyncio.CancelledError) as fault:
-            self._sender = None
-            self._abandon(fault)
-            raise
+        ready = getattr(self._loop, "_ready", None)
+        if ready or _senders or type(ready) is not deque:
+            await self._others(ready)
+        self._send(batches)
         if len(batches) == 1:
-            batch, keys = batches[0]
-            self._fetches[batch] = sender
-            await self._fetch(batch, keys)
+            await self._fetch(batches)
         else:
-            self._fetch_all(batches)
+            self._fetch_each(batches)
 
-    async def _others(self) -> None:
+    async def _others(self, ready: object) -> None:
         """Waits until the event loop has nothing ready but senders, which then all send. A loop that is busy with other things is
         waited for while it brings loads, and for a few turns more."""
         loop = self._loop
-        ready = getattr(loop, "_ready", None)
         if not isinstance(ready, deque):
             # A loop that isn't asyncio's own doesn't tell what it has ready.
             await _NEXT_TURN
-            return
-        if not ready and loop not in _senders:
             return
         senders = _senders.setdefault(loop, _Senders())
         senders.count += 1
@@ -231,7 +200,7 @@ class DataLoader(Desk[K, V]):
             while not senders.may_send and quiet < MOST_QUIET_TURNS and turns < MOST_TURNS:
                 if len(ready) < senders.count:
                     senders.may_send = True
-                    del _senders[loop]
+                    _senders.pop(loop, None)
                 # Those that have waited before send first.
                 await _NEXT_TURN
                 turns += 1
@@ -240,56 +209,25 @@ class DataLoader(Desk[K, V]):
         finally:
             senders.count -= 1
             if not senders.count and _senders.get(loop) is senders:
-                del _senders[loop]
+                _senders.pop(loop, None)
 
-    def _fetch_all(self, batches: list[tuple[int, list[K]]]) -> None:
-        """Begins to fetch each batch."""
-        for place, (batch, keys) in enumerate(batches):
-            try:
-                task = self._start(self._fetch_soon(batch, keys))
-            except BaseException as fault:
-                for left, _ in batches[place:]:
-                    self._fail(left, fault, False)
-                raise
-            if not task.done():
-                self._fetches[batch] = task
-
-    async def _fetch_soon(self, batch: int, keys: list[K]) -> None:
+    async def _fetch(self, batches: list[tuple[int, list[K]]]) -> None:
+        """Fetches the only batch of a list, and ends it."""
         try:
-            await _NEXT_TURN
-        except asyncio.CancelledError as fault:
-            self._fail(batch, fault, False)
-            raise
-        await self._fetch(batch, keys)
-
-    async def _fetch(self, batch: int, keys: list[K]) -> None:
-        """Fetches a batch, and ends it."""
-        try:
-            fetching = self.batch_load_fn(keys)
+            fetching = self.batch_load_fn(batches[0][1])
             if type(fetching) is not CoroutineType:
                 _check_fetching(fetching)
             answer = await fetching
             if type(answer) is not list:
                 _check_answer(answer)
-            self._settle(batch, answer)
+            self._settle(batches, answer)
         except GeneratorExit:
-            # The event loop is gone, and who waited with it.
+            # The event loop is gone, and who waited with it. Or the batch function has raised it, and the task ends with that.
             raise
         except BaseException as fault:
-            self._fail(batch, fault, True)
+            self._fail(batches, fault)
             if not isinstance(fault, Exception):
                 raise
-        finally:
-            self._fetches.pop(batch, None)
-
-    def _start(self, step: Coroutine[Any, Any, None]) -> asyncio.Task[None]:
-        """A task that goes on with the step from its first turn on. Cancelled before, it still finds the step within its `try`."""
-        step.send(None)
-        try:
-            return self._loop.create_task(step)
-        except BaseException:
-            step.close()
-            raise
 
 
 class _Turn:
