@@ -1,5 +1,6 @@
 """The loader's own behaviour on an event loop: what DataLoader's documentation tells, and each refusal."""
 
+import abc
 import asyncio
 import gc
 import unittest
@@ -404,6 +405,28 @@ class Refusals(unittest.IsolatedAsyncioTestCase):
             kind = type("Own", (DataLoader,), {"batch_load_fn": answers([]), **options})
             with self.assertRaises(TypeError, msg=str(options)):
                 kind()
+
+    async def test_an_abstract_subclass_makes_no_loader(self):
+        class Abstract(DataLoader, abc.ABC):
+            @abc.abstractmethod
+            async def batch_load_fn(self, keys):
+                """What a subclass has."""
+
+            @abc.abstractmethod
+            def table(self):
+                """The same."""
+
+        class Whole(Abstract):
+            async def batch_load_fn(self, keys):
+                return keys
+
+            def table(self):
+                return "users"
+
+        for make in (Abstract, lambda: Abstract(answers(["a"]))):
+            with self.assertRaisesRegex(TypeError, "abstract"):
+                make()
+        self.assertEqual(await Whole().load("a"), "a")
 
     async def test_a_loader_opens_once(self):
         loader = loader_of([])

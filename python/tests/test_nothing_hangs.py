@@ -356,6 +356,39 @@ class Raised(unittest.IsolatedAsyncioTestCase):
         self.assertEqual(batches, [[1, 3]])
         self.assertEqual(loader.counters, Counters(loads=2, hits=0, batches=1, keys=2, failures=0))
 
+    async def test_a_schedule_that_loads_and_raises_ends_what_it_has_loaded(self):
+        batches = []
+
+        async def batch_load_fn(keys):
+            batches.append(list(keys))
+            return keys
+
+        for is_mapped in (False, True):
+            for is_sent in (False, True):
+                with self.subTest(is_mapped=is_mapped, is_sent=is_sent):
+                    loads = []
+
+                    def batch_schedule_fn(send, loads=loads, is_sent=is_sent):
+                        if loads:
+                            send()
+                            return
+                        loads += [loader.load(1), loader.load(1), loader.load(2), loader.load_many([1, 3])]
+                        if is_sent:
+                            send()
+                        raise OSError("no timer")
+
+                    batches.clear()
+                    loader = DataLoader(batch_load_fn, batch_schedule_fn=batch_schedule_fn, cache_map={} if is_mapped else None)
+                    with self.assertRaisesRegex(OSError, "no timer"):
+                        loader.load(1)
+                    outcomes = await soon(asyncio.gather(*loads, return_exceptions=True))
+                    if is_sent:
+                        self.assertEqual(outcomes, [1, 1, 2, [1, 3]])
+                    else:
+                        self.assertEqual([str(outcome) for outcome in [*outcomes[:3], *outcomes[3]]], ["no timer"] * 5)
+                    self.assertEqual(await soon(loader.load_many([1, 2, 3])), [1, 2, 3])
+                    self.assertEqual([key for batch in batches for key in batch], [1, 2, 3])
+
     async def test_a_call_that_raises_leaves_no_future_behind(self):
         gate = asyncio.Event()
         fails = [False, True]
