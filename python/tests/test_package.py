@@ -1,6 +1,5 @@
 """The package as an engineer meets it: its names, its types, and what it installs."""
 
-import ast
 import importlib.metadata
 import inspect
 import os
@@ -23,6 +22,9 @@ WRONG = {
     'number: int = await DataLoader[int, str](fetch).load(1)': "assignment",
     "several: list[str] = await DataLoader[int, str](fetch).load_many([1])": "assignment",
     "DataLoader[int, str](fetch).prime(1, 1)": "arg-type",
+    "held: asyncio.Future[str] = DataLoader[int, str](fetch).held(1)": "assignment",
+    "other: asyncio.Future[int] = DataLoader[int, str](fetch).load(1)": "assignment",
+    "keys: DataLoader[int, str] = DataLoader[int, str](fetch).clear(1).load(1)": "assignment",
     "DataLoader[str, str](fetch)": "arg-type",
     "DataLoader[int, str](fetch, get_cache_key=3)": "arg-type",
 }
@@ -65,20 +67,14 @@ class Files(unittest.TestCase):
         told = subprocess.run(["nm", "-D", "--defined-only", _desk.__file__], check=True, capture_output=True, text=True).stdout
         self.assertEqual([line.split()[-1] for line in told.splitlines()], ["PyInit__desk"])
 
+    def test_the_extension_is_for_each_python(self):
+        """`./test` installs the wheel that the first Python has built with each of them."""
+        self.assertEqual(pathlib.Path(_desk.__file__).name, "_desk.abi3.so")
+        self.assertRegex(importlib.metadata.distribution("thrushscreen").read_text("WHEEL"), "(?m)^Tag: cp310-abi3-linux_")
+
     def test_each_file_is_recorded(self):
         for file in importlib.metadata.files("thrushscreen"):
             self.assertTrue(file.locate().exists(), file)
-
-
-class Stub(unittest.TestCase):
-    def test_the_stub_tells_of_what_is_there(self):
-        tree = ast.parse((PACKAGE / "_desk.pyi").read_text())
-        for kind in [node for node in tree.body if isinstance(node, ast.ClassDef)]:
-            of = getattr(_desk, kind.name)
-            told = {node.name for node in kind.body if isinstance(node, ast.FunctionDef)}
-            self.assertEqual({name for name in told if not hasattr(of, name)}, set())
-            if kind.name == "Desk":
-                self.assertEqual({name for name in vars(of) if not name.startswith("__")}, told - {"__init__"})
 
 
 # Types don't depend on the Python that runs the tests.
@@ -96,6 +92,13 @@ if os.path.realpath(sys.executable).startswith("/usr/bin/"):
             ran = self.check("-p", "thrushscreen")
             self.assertEqual((ran.stdout, ran.returncode), ("", 0), ran.stderr)
             ran = self.check(TESTS / "typed.py")
+            self.assertEqual((ran.stdout, ran.returncode), ("", 0), ran.stderr)
+
+        def test_the_stub_is_of_what_is_there(self):
+            with tempfile.TemporaryDirectory() as cache:
+                environment = {**os.environ, "MYPYPATH": str(PACKAGE.parent), "MYPY_CACHE_DIR": cache}
+                command = [sys.executable, "-m", "mypy.stubtest", "--concise", "thrushscreen._desk"]
+                ran = subprocess.run(command, capture_output=True, text=True, env=environment, cwd=cache)
             self.assertEqual((ran.stdout, ran.returncode), ("", 0), ran.stderr)
 
         def test_wrong_programs_are_refused(self):
