@@ -1,4 +1,5 @@
-"""Builds the wheel with the C compiler and Python alone, over the library that `rt lib` proves and builds."""
+"""Builds the wheel with the C compiler and Python alone, over the library that `rt lib` proves and builds. One wheel is for each Python
+from 3.10 on: the extension keeps to what all of them have (the limited API)."""
 
 import base64
 import hashlib
@@ -6,6 +7,7 @@ import os
 import pathlib
 import re
 import shlex
+import shutil
 import subprocess
 import sys
 import sysconfig
@@ -30,6 +32,8 @@ def archives():
     """The archives of the desk and of its heap: those that DL_DESK_ARCHIVES names, or what `rt` builds."""
     if "DL_DESK_ARCHIVES" in os.environ:
         return shlex.split(os.environ["DL_DESK_ARCHIVES"])
+    if shutil.which("rt") is None:
+        sys.exit("thrushscreen: there is no rt on the path, the toolchain's command that proves and builds the library")
     subprocess.run(["rt", "lib"], cwd=CRATE, check=True)
     page = subprocess.run(["rt", "doc"], check=True, capture_output=True, text=True).stdout.strip()
     return [CRATE / "out" / "libdl_c.a", pathlib.Path(page).parent / "c" / "liblibc_c.a"]
@@ -47,13 +51,12 @@ def extension():
 
 def build_wheel(wheel_directory, config_settings=None, metadata_directory=None):
     """What pip calls."""
-    python = f"cp{sys.version_info.major}{sys.version_info.minor}"
-    tag = f"{python}-{python}{sys.abiflags}-{re.sub('[-.]', '_', sysconfig.get_platform())}"
+    tag = f"cp310-abi3-{re.sub('[-.]', '_', sysconfig.get_platform())}"
     info = f"thrushscreen-{VERSION}.dist-info"
     wheel = f"Wheel-Version: 1.0\nGenerator: thrushscreen ({VERSION})\nRoot-Is-Purelib: false\nTag: {tag}\n"
     sources = [file for file in sorted(PACKAGE.iterdir()) if file.suffix in (".py", ".pyi", ".typed")]
     files = {f"thrushscreen/{file.name}": file.read_bytes() for file in sources}
-    files[f"thrushscreen/_desk{sysconfig.get_config_var('EXT_SUFFIX')}"] = extension()
+    files["thrushscreen/_desk.abi3.so"] = extension()
     files[f"{info}/METADATA"] = METADATA.encode()
     files[f"{info}/WHEEL"] = wheel.encode()
     record = [f"{name},sha256={checksum(content)},{len(content)}\n" for name, content in files.items()]
