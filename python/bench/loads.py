@@ -1,103 +1,110 @@
-"""What a load costs by the clock, from the call to its outcome, here and in Debian's python3-promise, and what a loader of one key costs
-here and in a dozen lines of Python: medians of runs that take turns."""
+"""What a load costs in processor time: here, in Debian's python3-promise, and in a loader of plain Python (plain.py). Medians of runs that
+take turns, and each over that of plain Python."""
 
 import asyncio
 import statistics
 import sys
 import time
+import uuid
 
 sys.path.append("/usr/lib/python3/dist-packages")
 
+from plain import PlainLoader  # noqa: E402
 from promise import Promise  # noqa: E402
 from promise.dataloader import DataLoader as PromiseLoader  # noqa: E402
 
 from thrushscreen import DataLoader  # noqa: E402
 
-KEYS = [f"u{number}" for number in range(20_000)]
+COUNT = 10_000
+KEYS = {
+    "str": [f"u{number}" for number in range(COUNT)],
+    "int": list(range(COUNT)),
+    "UUID": [uuid.UUID(int=number * 7_919) for number in range(COUNT)],
+    "tuple": [("u", number) for number in range(COUNT)],
+}
 BATCH = 100
 LOADERS = 2_000
-RUNS = 20
+RUNS = 11
+
+clock = time.thread_time
 
 
 async def batch_load_fn(keys):
     return keys
 
 
-async def by_futures():
-    """Nanoseconds of a fresh load and of a hit."""
-    loader = DataLoader(batch_load_fn, max_batch_size=BATCH)
-    start = time.perf_counter()
-    futures = [loader.load(key) for key in KEYS]
-    await asyncio.gather(*futures)
-    between = time.perf_counter()
-    for key in KEYS:
-        loader.load(key).result()
-    end = time.perf_counter()
-    return between - start, end - between
+def promised(keys):
+    return Promise.resolve(keys)
+
+
+async def by_futures(kind, keys):
+    """Nanoseconds of a fresh load, of a hit, and of a key of a load_many."""
+    loader = kind(batch_load_fn, max_batch_size=BATCH)
+    start = clock()
+    await asyncio.gather(*[loader.load(key) for key in keys])
+    loaded = clock()
+    for key in keys:
+        loader.load(key)
+    hit = clock()
+    other = kind(batch_load_fn, max_batch_size=BATCH)
+    before = clock()
+    await other.load_many(keys)
+    return loaded - start, hit - loaded, clock() - before
 
 
 @Promise.safe
-def by_promises():
+def by_promises(keys):
     """The same."""
-    loader = PromiseLoader(Promise.resolve, max_batch_size=BATCH)
-    start = time.perf_counter()
-    promises = [loader.load(key) for key in KEYS]
-    Promise.all(promises).get()
-    between = time.perf_counter()
-    for key in KEYS:
-        loader.load(key).get()
-    end = time.perf_counter()
-    return between - start, end - between
-
-
-class Naive:
-    """A loader with neither limits nor errors."""
-
-    def __init__(self, batch_load_fn):
-        self.batch_load_fn = batch_load_fn
-        self.futures = {}
-        self.collected = []
-
-    def load(self, key):
-        future = self.futures.get(key)
-        if future is None:
-            loop = asyncio.get_running_loop()
-            future = self.futures[key] = loop.create_future()
-            if not self.collected:
-                loop.call_soon(self.dispatch)
-            self.collected.append(key)
-        return future
-
-    def dispatch(self):
-        keys, self.collected = self.collected, []
-        self.task = asyncio.get_running_loop().create_task(self.fetch(keys))
-
-    async def fetch(self, keys):
-        for key, value in zip(keys, await self.batch_load_fn(keys)):
-            self.futures[key].set_result(value)
+    loader = PromiseLoader(promised, max_batch_size=BATCH)
+    start = clock()
+    Promise.all([loader.load(key) for key in keys]).get()
+    loaded = clock()
+    for key in keys:
+        loader.load(key)
+    hit = clock()
+    other = PromiseLoader(promised, max_batch_size=BATCH)
+    before = clock()
+    other.load_many(keys).get()
+    return loaded - start, hit - loaded, clock() - before
 
 
 async def one_key(kind):
     """Nanoseconds of loaders that are made, load one key, and are dropped."""
-    start = time.perf_counter()
+    start = clock()
     for _ in range(LOADERS):
         await kind(batch_load_fn).load("u")
-    return (time.perf_counter() - start,)
+    return clock() - start
+
+
+def made(kind):
+    """Nanoseconds of loaders that are made and dropped."""
+    start = clock()
+    for _ in range(LOADERS):
+        kind(batch_load_fn)
+    return clock() - start
 
 
 def main():
-    runs = [("thrushscreen", [], []), ("promise", [], []), ("naive", [], [])]
+    kinds = {"thrushscreen": DataLoader, "plain": PlainLoader}
+    taken = {}
+
+    def note(what, name, seconds, count):
+        taken.setdefault(what, {}).setdefault(name, []).append(seconds / count * 1e9)
+
     for _ in range(RUNS):
-        runs[0][1].append(asyncio.run(by_futures()))
-        runs[1][1].append(by_promises().get())
-        runs[0][2].append(asyncio.run(one_key(DataLoader)))
-        runs[2][2].append(asyncio.run(one_key(Naive)))
-    for name, loads, loaders in runs:
-        if loads:
-            fresh, hit = (statistics.median(run) / len(KEYS) * 1e9 for run in zip(*loads))
-            print(f"{name}: a fresh load {fresh:,.0f} ns, a hit {hit:,.0f} ns")
-        if loaders:
-            print(f"{name}: a loader of one key {statistics.median(run for run, in loaders) / LOADERS * 1e9:,.0f} ns")
+        for of, keys in KEYS.items():
+            runs = {name: asyncio.run(by_futures(kind, keys)) for name, kind in kinds.items()}
+            runs["promise"] = by_promises(keys).get()
+            for name, run in runs.items():
+                for what, seconds in zip(("a fresh load", "a hit", "a key of a load_many"), run):
+                    note(f"{what}, {of}", name, seconds, COUNT)
+        for name, kind in kinds.items():
+            note("a loader of one key", name, asyncio.run(one_key(kind)), LOADERS)
+            note("a loader that is made", name, made(kind), LOADERS)
+    for what, by in sorted(taken.items()):
+        medians = {name: statistics.median(times) for name, times in by.items()}
+        told = [f"{name} {median:,.0f} ns ({median / medians['plain']:.2f})" for name, median in medians.items()]
+        print(f"{what}: {', '.join(told)}")
 
 
 if __name__ == "__main__":

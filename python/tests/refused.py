@@ -104,36 +104,36 @@ async def check(name, first, last, options):
     return isinstance(answer, MemoryError)
 
 
-class Caught(DataLoader):
-    """A loader whose batches wait to be settled from outside."""
+class Answered(DataLoader):
+    """A loader that is refused growths of the calls that end a batch."""
 
-    batches = None
+    first = last = 0
+    is_failed = None
 
     async def batch_load_fn(self, keys):
-        raise NotImplementedError
+        return ["A", "B", StopIteration("c")]
 
-    async def _fetch(self, batches):
-        self.batches = batches
-        await asyncio.get_running_loop().create_future()
+    def _settle(self, batches, answer):
+        settle, fail = super()._settle, super()._fail
+        outcome = refused(lambda: settle(batches, answer), self.first, self.last)
+        self.is_failed = isinstance(outcome, MemoryError)
+        if self.is_failed:
+            outcome = refused(lambda: fail(batches, OSError("down")), self.first, self.last)
+        assert outcome is None, outcome
+        assert batches == []
 
 
 async def check_answer(first, last):
     """The same of the answer of a batch."""
-    loader = Caught()
+    loader = Answered()
+    loader.first, loader.last = first, last
     loads = [loader.load(key) for key in ("a", "b", "b", "c")]
-    while loader.batches is None:
+    while loader.is_failed is None:
         await asyncio.sleep(0)
-    answer = refused(lambda: loader._settle(loader.batches, ["A", "B", StopIteration("c")]), first, last)
-    if isinstance(answer, MemoryError):
-        # Nothing has ended, and the batch can be failed.
-        assert not any(load.done() for load in loads)
-        answer = refused(lambda: loader._fail(loader.batches, OSError("down")), first, last)
-    assert answer is None, answer
     for load, wanted in zip(loads, ("A", "B", "B", RuntimeError)):
         assert load.done()
         error = load.exception()
         assert isinstance(error, (OSError, MemoryError)) or (type(error) if error else load.result()) == wanted, (load, first, last)
-    assert loader.batches == []
     return first < 20
 
 

@@ -91,8 +91,12 @@ def spelled(kind, what):
 
 def load_future(loader, key):
     hits = loader.counters.hits
+    # Of what is held the desk is asked, and of a load not always.
+    is_held = loader.held(key) is not None
     future = loader.load(key)
-    return loader.counters.hits > hits, future
+    is_hit = loader.counters.hits > hits
+    assert is_hit == is_held, f"the load of {key!r} is {'' if is_hit else 'not '}a hit"
+    return is_hit, future
 
 
 async def by_futures(limit, turns):

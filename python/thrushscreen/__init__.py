@@ -4,4 +4,4 @@ from ._desk import LoaderFull
 from .data_loader import Counters, DataLoader
 
 __all__ = ["Counters", "DataLoader", "LoaderFull"]
-__version__ = "0.2.1"
+__version__ = "0.3.0"

@@ -21,8 +21,8 @@ typedef struct {
     PyObject *get_running_loop, *future_type, *base_create_future, *cancelled_error, *invalid_state, *shield, *is_future,
         *partial;
     PyObject *add_done_callback, *batch_schedule_fn, *cancel, *cancelled, *check_options, *clear, *close, *create_future,
-        *create_task, *dispatch, *end_as, *exception, *fetch, *get, *pop, *result, *send_late, *set_exception, *set_result,
-        *setdefault, *task_ended, *thread_id;
+        *create_task, *dispatch, *end_as, *exception, *fetch, *get, *pop, *result, *set_exception, *set_result, *setdefault,
+        *task_ended, *thread_id;
 } Module;
 
 /* What a cell is. */
@@ -35,10 +35,12 @@ typedef enum {
     GONE       /* it has nothing: its load has raised, or nobody can read its outcome any more */
 } CellState;
 
-/* What a loader knows of a key: its number, by which the desk knows it, and the cell that the desk holds for it, or NO_CELL. */
+/* What a loader knows of a key: its number, by which the desk knows it; the cell that the desk holds for it, or NO_CELL; and that
+ * cell's future, if it is done, else NULL. The reference is the cell's. */
 typedef struct {
     PyObject_HEAD
     uint64_t number;
+    PyObject *done;
     uint32_t place;
 } Known;
 
@@ -259,6 +261,7 @@ static Known *new_known(Desk *self, PyObject *keys, PyObject *cache_key)
     }
     known->number = self->next_number++;
     known->place = NO_CELL;
+    known->done = NULL;
     kept = (Known *)PyObject_CallMethodObjArgs(keys, self->module->setdefault, cache_key, known, NULL);
     Py_DECREF(known);
     return kept;
@@ -554,6 +557,7 @@ static void lose_cell(Desk *self, uint32_t place)
     self->unended -= is_unended(&cell);
     if (cell.known != NULL) {
         cell.known->place = NO_CELL;
+        cell.known->done = NULL;
         self->held--;
     }
     Py_XDECREF(cell.key);
@@ -637,6 +641,19 @@ static PyObject *new_waiter(Desk *self, uint32_t place)
     return future;
 }
 
+/* Puts a future that is done in the place of a cell's outcome. */
+static void note_done(Desk *self, uint32_t place, PyObject *future)
+{
+    Cell *cell = &self->cells[place];
+
+    Py_INCREF(future);
+    cell->state = ENDED;
+    if (cell->known != NULL) {
+        cell->known->done = future;
+    }
+    replace(&cell->what, future);
+}
+
 /* The future of a cell that ended while nobody waited for it. */
 static PyObject *ended_future(Desk *self, uint32_t place)
 {
@@ -646,9 +663,7 @@ static PyObject *ended_future(Desk *self, uint32_t place)
     Py_INCREF(outcome);
     future = new_future(self);
     if (future != NULL && end_future(self, future, outcome, ending) && self->cells[place].what == outcome) {
-        Py_INCREF(future);
-        self->cells[place].state = ENDED;
-        replace(&self->cells[place].what, future);
+        note_done(self, place, future);
     }
     Py_DECREF(outcome);
     return future;
@@ -692,9 +707,7 @@ static void end_cell(Desk *self, uint32_t place, PyObject *outcome, Ending endin
     if (self->cells[place].known == NULL) {
         lose_cell(self, place);
     } else if (ended != NULL && self->cells[place].what == outcome) {
-        self->cells[place].state = ENDED;
-        replace(&self->cells[place].what, ended);
-        ended = NULL;
+        note_done(self, place, ended);
     }
     self->unended--;
     Py_XDECREF(ended);
@@ -853,10 +866,10 @@ static bool watch(Desk *self, PyObject *task, PyObject *batches)
     return none != NULL;
 }
 
-/* Begins a task of a method that is a coroutine function, which is given the list of its batches. */
-static bool begin_task(Desk *self, PyObject *method, PyObject *batches)
+/* Begins a task that fetches the only batch of its list, or sends first if the list is empty. */
+static bool begin_task(Desk *self, PyObject *batches)
 {
-    PyObject *coroutine = call_method((PyObject *)self, method, batches), *task = NULL;
+    PyObject *coroutine = call_method((PyObject *)self, self->module->fetch, batches), *task = NULL;
     bool is_begun;
 
     if (coroutine != NULL && (task = call_method(self->loop, self->module->create_task, coroutine)) == NULL) {
@@ -919,7 +932,7 @@ static bool fetch_each(Desk *self, PyObject *batches)
 {
     while (PyList_Size(batches) > 0) {
         PyObject *own = PyList_GetSlice(batches, 0, 1);
-        bool is_begun = own != NULL && begin_task(self, self->module->fetch, own) && PyList_SetSlice(batches, 0, 1, NULL) == 0;
+        bool is_begun = own != NULL && begin_task(self, own) && PyList_SetSlice(batches, 0, 1, NULL) == 0;
         Py_XDECREF(own);
         if (!is_begun) {
             return false;
@@ -949,7 +962,7 @@ static bool schedule(Desk *self)
     by = PyObject_GetAttr((PyObject *)self, self->module->batch_schedule_fn);
     if (by == Py_None) {
         batches = PyList_New(0);
-        is_scheduled = batches != NULL && begin_task(self, self->module->send_late, batches);
+        is_scheduled = batches != NULL && begin_task(self, batches);
         if (is_scheduled) {
             Py_INCREF(batches);
             replace(&self->sending, batches);
@@ -1035,8 +1048,8 @@ static PyObject *load_cell(Desk *self, PyObject *key, PyObject *cache_key)
     if (!loaded_key(self, key, &known, &number)) {
         return NULL;
     }
-    if (known != NULL && known->place != NO_CELL && self->cells[known->place].state == ENDED) {
-        future = self->cells[known->place].what;
+    if (known != NULL && known->done != NULL) {
+        future = known->done;
         Py_INCREF(future);
         self->counts.loads++;
         self->counts.hits++;
@@ -1893,10 +1906,8 @@ static PyGetSetDef desk_getset[] = {
 };
 
 static PyType_Slot desk_slots[] = {
-    {Py_tp_doc,
-     PyDoc_STR(
-         "The proved loader of one thread, and who waits for what. A subclass has `_send_late` and `_fetch`, of which tasks "
-         "are made.")},
+    {Py_tp_doc, PyDoc_STR("The proved loader of one thread, and who waits for what. A subclass has its options, and `_fetch`, of "
+                          "which tasks are made.")},
     {Py_tp_new, desk_new},
     {Py_tp_dealloc, desk_dealloc},
     {Py_tp_traverse, desk_traverse},
@@ -1958,7 +1969,6 @@ static const struct {
     {offsetof(Module, get), "get"},
     {offsetof(Module, pop), "pop"},
     {offsetof(Module, result), "result"},
-    {offsetof(Module, send_late), "_send_late"},
     {offsetof(Module, set_exception), "set_exception"},
     {offsetof(Module, set_result), "set_result"},
     {offsetof(Module, setdefault), "setdefault"},
