@@ -24,7 +24,8 @@ def refused(call, first, last):
     try:
         return call()
     except BaseException as fault:
-        return fault
+        # CPython has sixteen MemoryErrors that take no memory: none is kept by a frame.
+        return fault.with_traceback(None)
     finally:
         _testcapi.remove_mem_hooks()
 

@@ -41,8 +41,9 @@ class Interrupt:
 
 @contextlib.contextmanager
 def tracing(interrupt):
-    before = sys.gettrace()
-    sys.settrace(interrupt.trace)
+    # Python 3.11.2 lets go of a trace function that raises while it calls it.
+    before, trace = sys.gettrace(), interrupt.trace
+    sys.settrace(trace)
     try:
         yield
     finally:
@@ -136,6 +137,35 @@ class Raised(unittest.TestCase):
                 for options in ({}, {"max_batch_size": 1}):
                     with self.subTest(raised=type(raised), options=options):
                         run_on(asyncio.new_event_loop(), main(batch_load_fn, options))
+
+
+    def test_a_batch_function_that_ends_the_loop_ends_its_loads(self):
+        for raised in (KeyboardInterrupt(), SystemExit(3)):
+            for options in ({}, {"max_batch_size": 1}):
+                loop = asyncio.new_event_loop()
+                loop.set_exception_handler(lambda *_: None)
+                fails = [raised]
+
+                async def batch_load_fn(keys, fails=fails):
+                    if fails:
+                        raise fails.pop()
+                    return keys
+
+                async def main(loader):
+                    return await asyncio.gather(loader.load(1), loader.load(1), return_exceptions=True)
+
+                async def later(loader, task):
+                    for outcome in await soon(task):
+                        self.assertIsInstance(outcome, RuntimeError)
+                        self.assertIs(outcome.__cause__, raised)
+                    return await soon(loader.load_many([1, 2]))
+
+                loader = DataLoader(batch_load_fn, **options)
+                task = loop.create_task(main(loader))
+                with self.subTest(raised=type(raised), options=options):
+                    with self.assertRaises(type(raised)):
+                        loop.run_until_complete(task)
+                    self.assertEqual(run_on(loop, later(loader, task)), [1, 2])
 
 
 class Interrupted(unittest.TestCase):

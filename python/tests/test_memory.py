@@ -2,6 +2,7 @@
 
 import asyncio
 import gc
+import os
 import pathlib
 import subprocess
 import sys
@@ -283,8 +284,9 @@ if _testcapi is not None:
 
     class Refused(unittest.TestCase):
         def test_each_call_is_refused_each_growth_of_pythons_in_turn(self):
-            """In a program of its own, since a crash would end this one."""
-            ran = subprocess.run([sys.executable, REFUSED], capture_output=True, text=True, timeout=600)
+            """In a program of its own, since a crash would end this one; and not in asyncio's debug mode, in which CPython crashes itself."""
+            environment = {name: value for name, value in os.environ.items() if name not in ("PYTHONDEVMODE", "PYTHONASYNCIODEBUG")}
+            ran = subprocess.run([sys.executable, REFUSED], capture_output=True, text=True, env=environment)
             self.assertEqual((ran.stderr, ran.returncode), ("", 0), ran.stdout)
 
 
