@@ -118,6 +118,48 @@ class Calls(unittest.IsolatedAsyncioTestCase):
                 self.assertIsNotNone(loader.held(second))
                 self.assertIsNone(loader.clear(second).held(first))
 
+    async def test_a_key_that_loads_its_equal_is_one_with_it(self):
+        batches = []
+
+        async def batch_load_fn(keys):
+            batches.append([key.name for key in keys])
+            return keys
+
+        loader = DataLoader(batch_load_fn)
+        inner = []
+        outer = Calling("a", lambda: None if inner else inner.append(None) or inner.append(loader.load(Calling("a"))))
+        await soon(asyncio.gather(loader.load(outer), inner[1], loader.load(Calling("a"))))
+        loader.clear(Calling("a"))
+        counts = [0]
+
+        def once():
+            counts[0] += 1
+            if counts[0] == 2:
+                inner.append(loader.load(Calling("a")))
+
+        await soon(asyncio.gather(loader.load(Calling("a", once)), *inner[2:]))
+        await soon(asyncio.gather(loader.load(Calling("a")), *inner[2:]))
+        self.assertEqual((batches, len(inner)), ([["a"], ["a"]], 3))
+
+    async def test_a_value_that_loads_its_key_while_it_is_given_back_is_not_loaded_again(self):
+        loads = []
+
+        class Value:
+            """A value that loads its key when it goes."""
+
+            def __del__(self):
+                loads.append(loader.load("a"))
+
+        async def batch_load_fn(keys):
+            return [Value() if len(loads) == 0 else "new" for _ in keys]
+
+        loader = DataLoader(batch_load_fn)
+        await soon(loader.load("a"))
+        await asyncio.sleep(0)
+        loader.clear("a")
+        self.assertEqual(len(loads), 1)
+        self.assertEqual(await soon(loads[0]), "new")
+
     async def test_errors_of_a_key_are_passed_on(self):
         def fails():
             raise OSError("no hash")

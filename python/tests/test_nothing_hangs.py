@@ -935,6 +935,33 @@ class Late(unittest.TestCase):
     def test_loads_of_deeper_tasks_join_the_batch(self):
         self.assertEqual(self.batches_of(asyncio.new_event_loop(), 20), [list(range(20))])
 
+    def test_loads_join_the_batch_behind_a_busy_round_of_the_same_loop(self):
+        async def batch_load_fn(keys):
+            batches.append(list(keys))
+            return keys
+
+        async def deeper(loader, key, count):
+            loads = [loader.load(key)]
+            if key + 1 < count:
+                loads.append(asyncio.ensure_future(deeper(loader, key + 1, count)))
+            await asyncio.gather(*loads)
+
+        async def spin():
+            while True:
+                await asyncio.sleep(0)
+
+        async def main():
+            for is_busy in (True, False, True, False):
+                spinning = asyncio.ensure_future(spin()) if is_busy else None
+                await soon(deeper(DataLoader(batch_load_fn), 0, 4 if is_busy else 20))
+                if spinning is not None:
+                    spinning.cancel()
+                    await turns(2)
+
+        batches = []
+        run_on(asyncio.new_event_loop(), main())
+        self.assertEqual(batches, [list(range(4)), list(range(20))] * 2)
+
     def test_a_loop_that_does_not_tell_what_is_ready_waits_two_turns(self):
         self.assertEqual(self.batches_of(OtherLoop(), 2), [[0, 1]])
 
