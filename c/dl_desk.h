@@ -8,7 +8,7 @@
  * 0, and what a call writes overlaps nothing else that it is handed. It takes memory by malloc, realloc and free.
  *
  * Each call answers a code, also on a handle that is closed. A call that is refused (a code above DL_FRESH) leaves the desk as
- * it was. docs/EMBEDDING.md says what is proved of this, and what is owed to it.
+ * it was. docs/guide/c.md says what is proved of this, and what is owed to it.
  */
 #ifndef DL_DESK_H
 #define DL_DESK_H

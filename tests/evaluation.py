@@ -1,4 +1,4 @@
-"""What `plans --batches` prints of a plan file: a plain evaluation of a plan by one loader on one thread, as docs/FORMATS.md says.
+"""What `plans --batches` prints of a plan file: a plain evaluation of a plan by one loader on one thread, as docs/reference/formats.md says.
 
 It shares nothing with the program, and refuses no document.
 """

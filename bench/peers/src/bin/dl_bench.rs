@@ -1,4 +1,4 @@
-//! The workloads of the project's stopwatch, with the same words and the same counts. docs/PERFORMANCE.md says what each does.
+//! The workloads of the project's stopwatch, with the same words and the same counts. docs/contributing/performance.md says what each does.
 
 use peers::desk::{Desk, End, Limits, LoadReply, LARGEST_LIMIT};
 use peers::document::read_tables;
