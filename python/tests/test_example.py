@@ -18,7 +18,7 @@ class Examples(unittest.TestCase):
         self.check([TOP / "examples" / "server.py"], (TOP / "examples" / "server.out").read_text())
 
     def test_the_program_of_the_page(self):
-        page = (TOP / "docs/guide/c.md").read_text()
+        page = (TOP / "python/README.md").read_text()
         program, output = re.search(r"`hello\.py`:\n\n```python\n(.*?)```.*?```text\n(.*?)```", page, re.DOTALL).groups()
         self.check(["-c", program], output)
 
