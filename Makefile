@@ -51,4 +51,8 @@ tell_why = grep -Em12 ': (not proved|no proof)|it is not proved|\berror(:|\[)' $
 crates/%/out/line: always
 	@mkdir -p $(@D) && grep -E '^$*\b' crates.txt | cmp -s - $@ || grep -E '^$*\b' crates.txt >$@
 always:
-.PHONY: build always
+
+# Makes in dist/ what others install without the toolchain.
+release: build
+	mkdir -p crates/dl_c/out && cd crates/dl_c && { $(rt) lib >out/log 2>&1 || { tail -n12 out/log >&2; false; }; } && cd ../.. && ./release
+.PHONY: build always release

@@ -1,5 +1,5 @@
-"""Builds the wheel with the C compiler and Python alone, over the library that `rt lib` proves and builds. One wheel is for each Python
-from 3.10 on: the extension keeps to what all of them have (the limited API)."""
+"""Builds the wheel with the C compiler and Python alone, over the library that `rt lib` proves and builds, or over the one that a source
+distribution carries. One wheel is for each Python from 3.10 on: the extension keeps to what all of them have (the limited API)."""
 
 import base64
 import hashlib
@@ -12,11 +12,14 @@ import subprocess
 import sys
 import sysconfig
 import tempfile
+import time
 import zipfile
 
 HERE = pathlib.Path(__file__).resolve().parent
 PACKAGE = HERE / "thrushscreen"
 CRATE = HERE.parent / "crates" / "dl_c"
+# A source distribution has the header here, and the archives.
+CARRIED = HERE / "c"
 VERSION = re.search(r'^__version__ = "(.+)"', (PACKAGE / "__init__.py").read_text(), re.MULTILINE)[1]
 
 METADATA = f"""\
@@ -29,9 +32,13 @@ Requires-Python: >=3.10
 
 
 def archives():
-    """The archives of the desk and of its heap: those that DL_DESK_ARCHIVES names, or what `rt` builds."""
+    """The archives of the desk and of its heap: those that DL_DESK_ARCHIVES names, those that are carried, or what `rt` builds."""
     if "DL_DESK_ARCHIVES" in os.environ:
         return shlex.split(os.environ["DL_DESK_ARCHIVES"])
+    if CARRIED.exists():
+        if sysconfig.get_platform() != "linux-x86_64":
+            sys.exit("thrushscreen: the library that comes with this source is for Linux on x86_64 alone")
+        return [CARRIED / "libdl_c.a", CARRIED / "liblibc_c.a"]
     if shutil.which("rt") is None:
         sys.exit("thrushscreen: there is no rt on the path, the toolchain's command that proves and builds the library")
     subprocess.run(["rt", "lib"], cwd=CRATE, check=True)
@@ -41,30 +48,40 @@ def archives():
 
 def extension():
     """The bytes of the extension, which shows nothing but its module."""
+    header = CARRIED if CARRIED.exists() else HERE.parent / "c"
     with tempfile.TemporaryDirectory() as folder:
         built = pathlib.Path(folder, "_desk.so")
         command = [*shlex.split(os.environ.get("CC", "cc")), "-shared", "-fPIC", "-O3", "-Wall", "-Wextra", "-fvisibility=hidden"]
-        command += [*shlex.split(os.environ.get("CFLAGS", "")), f"-I{sysconfig.get_path('include')}", f"-I{HERE.parent / 'c'}"]
+        command += [*shlex.split(os.environ.get("CFLAGS", "")), f"-I{sysconfig.get_path('include')}", f"-I{header}"]
         subprocess.run([*command, "-o", built, PACKAGE / "_desk.c", *archives(), "-Wl,--exclude-libs,ALL"], check=True)
         return built.read_bytes()
 
 
 def build_wheel(wheel_directory, config_settings=None, metadata_directory=None):
     """What pip calls."""
-    tag = f"cp310-abi3-{re.sub('[-.]', '_', sysconfig.get_platform())}"
+    return write_wheel(wheel_directory, re.sub("[-.]", "_", sysconfig.get_platform()), extension(), {})
+
+
+def write_wheel(folder, platform, built, papers):
+    """Writes the wheel of an extension that was built for that platform, with further files of its dist-info, and answers its name."""
+    tag = f"cp310-abi3-{platform}"
     info = f"thrushscreen-{VERSION}.dist-info"
     wheel = f"Wheel-Version: 1.0\nGenerator: thrushscreen ({VERSION})\nRoot-Is-Purelib: false\nTag: {tag}\n"
     sources = [file for file in sorted(PACKAGE.iterdir()) if file.suffix in (".py", ".pyi", ".typed")]
     files = {f"thrushscreen/{file.name}": file.read_bytes() for file in sources}
-    files["thrushscreen/_desk.abi3.so"] = extension()
+    files["thrushscreen/_desk.abi3.so"] = built
+    files.update({f"{info}/{name}": content for name, content in papers.items()})
     files[f"{info}/METADATA"] = METADATA.encode()
     files[f"{info}/WHEEL"] = wheel.encode()
     record = [f"{name},sha256={checksum(content)},{len(content)}\n" for name, content in files.items()]
     files[f"{info}/RECORD"] = "".join([*record, f"{info}/RECORD,,\n"]).encode()
     name = f"thrushscreen-{VERSION}-{tag}.whl"
-    with zipfile.ZipFile(pathlib.Path(wheel_directory, name), "w", zipfile.ZIP_DEFLATED) as archive:
+    now = time.gmtime(int(os.environ.get("SOURCE_DATE_EPOCH", time.time())))[:6]
+    with zipfile.ZipFile(pathlib.Path(folder, name), "w") as archive:
         for file, content in files.items():
-            archive.writestr(file, content)
+            entry = zipfile.ZipInfo(file, now)
+            entry.external_attr = 0o100644 << 16
+            archive.writestr(entry, content, zipfile.ZIP_DEFLATED)
     return name
 
 
