@@ -8,7 +8,7 @@ use Rattle.dl_history.specs.declared.fault.CallFault.{CallFault}
 use Rattle.dl_loader.specs.EventEffect.{KnowsStop}
 use Rattle.dl_loader.specs.JobEnd.{WasNotEnded, end_answered, end_unanswered}
 use Rattle.dl_haxl.specs.RunFaults.{IsRunFault, SomeCallRefused}
-use Rattle.dl_report.specs.declared.fault.RunFault.{RunFault}
+use Rattle.dl_haxl.specs.declared.fault.RunFault.{RunFault}
 
 -- the same caller's
 pub fault_of_same : (s : Service) (now old : ℕ) (flags : KnownFlags) (fault : RunFault) → now ≡ old → IsRunFault s now flags fault

@@ -20,7 +20,7 @@ use Rattle.dl_terms.specs.declared.plan.Step.TheVariants.{Prime, Clear, ClearAll
 use Rattle.dl_loader.specs.Dispatches.{events_told, dispatched, dispatched_by, unsent, unsent_by}
 use Rattle.dl_haxl.specs.PlanEntries.{Stretch, stretch, IsStep, AreSteps, FollowsAndSends}
 use Rattle.dl_haxl.specs.Rounds.{EvaluatesQueued, HandedOver, Round, Rounds}
-use Rattle.dl_report.specs.declared.step_answer.StepAnswer.{StepAnswer}
+use Rattle.dl_haxl.specs.declared.step_answers.StepAnswer.{StepAnswer}
 
 -- of the jobs that dispatches among the entries handed out each was sent, or its batch failed as unsent
 abbrev pub EachSent : List Entry → List Job → Type 0

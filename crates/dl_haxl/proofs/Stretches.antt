@@ -21,7 +21,7 @@ use Rattle.dl_haxl.specs.Rounds.{AddsAndSends, Rounds, HandedOver}
 use Rattle.dl_terms.specs.declared.plan.Step.TheVariants.{Prime, Clear, ClearAll, Eval}
 use Rattle.dl_haxl.specs.PlanEntries.{Stretch, stretch, then, IsCall, IsStep, AreSteps, FollowsAndSends}
 use Rattle.dl_terms.specs.declared.plan.Step.{Step}
-use Rattle.dl_report.specs.declared.step_answer.StepAnswer.{StepAnswer}
+use Rattle.dl_haxl.specs.declared.step_answers.StepAnswer.{StepAnswer}
 
 -- stretches of the same entries, answers, rounds and jobs
 same_stretch : (ls ms : List Entry) (given bs : List StepAnswer) (m n : ℕ) (js ks : List Job) → ls ≡ ms → given ≡ bs → m ≡ n → js ≡ ks

@@ -11,7 +11,7 @@ use Rattle.dl_terms.specs.View.{term_view}
 use Rattle.dl_haxl.specs.Rounds.{EvaluatesQueued}
 use Rattle.dl_terms.specs.declared.plan.Step.{Step}
 use Rattle.dl_terms.specs.declared.plan.Step.TheVariants.{Prime, Clear, ClearAll, Eval}
-use Rattle.dl_report.specs.declared.step_answer.StepAnswer.{StepAnswer}
+use Rattle.dl_haxl.specs.declared.step_answers.StepAnswer.{StepAnswer}
 
 -- what a step leaves: entries of its caller, the answer of its term, if it has one, the rounds of loads that it took, and the
 -- jobs that were sent to the queue

@@ -7,8 +7,8 @@ use Rattle.dl_history.specs.declared.event.Call as event
 use Rattle.dl_loader.specs.EventEffect.{KnowsStop, WasRefused}
 use Rattle.dl_loader.specs.Pass.{Trace}
 use Rattle.dl_history.specs.declared.fault.CallFault.{CallFault}
-use Rattle.dl_report.specs.declared.fault.RunFault.{RunFault}
-use Rattle.dl_report.specs.declared.fault.RunFault.TheVariants.{Call, Stopped, OutOfMemory}
+use Rattle.dl_haxl.specs.declared.fault.RunFault.{RunFault}
+use Rattle.dl_haxl.specs.declared.fault.RunFault.TheVariants.{Call, Stopped, OutOfMemory}
 
 -- some call of the caller's was refused so, with the job that it would have ended, if it is an end
 abbrev pub SomeCallRefused : Service → ℕ → KnownFlags → CallFault → Type 0

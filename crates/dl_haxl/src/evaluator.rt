@@ -16,7 +16,7 @@ use crate::outlet::Outlet;
 use crate::run::TermRun;
 use dl_desk::FetchKey;
 use dl_loader::{Loader, LoaderName, Pass, Stopped, Ticket};
-use dl_report::RunFault;
+use crate::fault::RunFault;
 use dl_terms::{Answer, Term, laws};
 use futures::task::Poll;
 use std::alloc::Global;

@@ -18,7 +18,7 @@ use crate::outlet::Outlet;
 use dl_desk::Job;
 use dl_loader::{GiveUp, Loader, LoaderName, Pass};
 use dl_queue::{JobQueue, Sender};
-use dl_report::RunFault;
+use crate::fault::RunFault;
 use dl_terms::{Answer, Term};
 use std::alloc::Global;
 use std::hash::RandomState;

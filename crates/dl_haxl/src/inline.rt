@@ -14,7 +14,7 @@ use crate::evaluator::Evaluator;
 use crate::outlet::Outlet;
 use dl_desk::Job;
 use dl_loader::{Loader, LoaderName, Pass, end_job};
-use dl_report::RunFault;
+use crate::fault::RunFault;
 use dl_source::Source;
 use dl_terms::{Answer, Term};
 use std::alloc::Global;

@@ -17,14 +17,15 @@ mod inline;
 mod outlet;
 mod run;
 mod stage;
+mod step_answers;
 mod steps;
 mod ticket_outcomes;
 
-pub use dl_report::{RunFault, StepAnswer, StepAnswers};
 pub use dl_terms::{Answer, EvalFault, Step, Term, laws};
-pub use fault::PollFault;
+pub use fault::{PollFault, RunFault};
 pub use future::LoadFuture;
 pub use handover::run_term;
 pub use inline::run_inline;
 pub use run::TermRun;
+pub use step_answers::{StepAnswer, StepAnswers};
 pub use steps::take_steps;

@@ -10,7 +10,7 @@ ghost use Rattle.dl_haxl.specs.RunFaults.{IsRunFault};
 use crate::evaluator::Evaluator;
 use dl_desk::Job;
 use dl_loader::{LoaderName, Pass};
-use dl_report::RunFault;
+use crate::fault::RunFault;
 use std::sync::Wait;
 
 /// Where the jobs of a round go: to the source of the evaluating thread, or to fetch workers.

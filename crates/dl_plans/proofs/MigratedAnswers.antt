@@ -9,7 +9,7 @@ use Rattle.dl_migration.proofs.SecondVersion.{migrated_is_the_same}
 use Rattle.dl_source.specs.Answer.{answer_of}
 use Rattle.dl_source.specs.Tables.{Tables}
 use Rattle.dl_scope.specs.EqualAnswers.{evaluated, evaluations, AnswersAreEqual}
-use Rattle.dl_report.specs.Setup.{service_of}
+use Rattle.dl_scope.specs.Setup.{service_of}
 use Rattle.dl_scope.specs.Headline.{Headline}
 use Rattle.dl_scope.specs.OwnAnswers.{PrimesNoKey}
 use Rattle.dl_terms.specs.Tree.{Tree}

@@ -7,7 +7,7 @@ use Rattle.dl_history.specs.Lists.{Every}
 use Rattle.dl_migration.specs.Migrated.{migrated}
 use Rattle.dl_scope.specs.Headline.{Headline}
 use Rattle.dl_scope.specs.OwnAnswers.{NoneFailed, PrimesNoKey}
-use Rattle.dl_report.specs.Report.{Report}
+use Rattle.dl_scope.specs.Report.{Report}
 use Rattle.dl_plans.specs.Run.{file_service}
 use Rattle.dl_command.specs.declared.settings.Options.{Options}
 

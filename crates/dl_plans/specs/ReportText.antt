@@ -11,8 +11,8 @@ use Rattle.dl_desk.specs.declared.reply.End.TheVariants.{Settled, Failed}
 use Rattle.dl_history.specs.History.{keys_of, past}
 use Rattle.dl_scripts.specs.JsonText.{key_text, keys_text, quoted_text}
 use Rattle.dl_scripts.specs.Lines.{text_line}
-use Rattle.dl_report.specs.Report.{Report}
-use Rattle.dl_report.specs.declared.step_answer.StepAnswer.{StepAnswer}
+use Rattle.dl_scope.specs.Report.{Report}
+use Rattle.dl_haxl.specs.declared.step_answers.StepAnswer.{StepAnswer}
 use Rattle.dl_terms.specs.declared.answer.Answer.{Answer}
 use Rattle.dl_terms.specs.declared.answer.Answer.TheVariants.{Value, Fault}
 use Rattle.dl_terms.specs.declared.answer.EvalFault.{EvalFault}

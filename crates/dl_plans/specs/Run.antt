@@ -9,9 +9,9 @@ use Rattle.dl_documents.specs.declared.input.Input.TheVariants as input
 use Rattle.dl_documents.specs.declared.input.PlanFile.{PlanFile}
 use Rattle.dl_history.specs.Service.{Service}
 use Rattle.dl_source.specs.Answer.{answer_of}
-use Rattle.dl_report.specs.Report.{Report}
-use Rattle.dl_report.specs.Setup.{service_of}
-use Rattle.dl_report.specs.declared.setup.Setup.{Setup}
+use Rattle.dl_scope.specs.Report.{Report}
+use Rattle.dl_scope.specs.Setup.{service_of}
+use Rattle.dl_scope.specs.declared.setup.Setup.{Setup}
 use Rattle.dl_scope.specs.Faults.{RefusedAs}
 use Rattle.dl_scope.specs.Headline.{Headline}
 use Rattle.dl_scripts.specs.Output.{script_text}

@@ -5,7 +5,7 @@ ghost use Rattle.dl_scripts.specs.Lines.{text_line};
 ghost use Rattle.dl_plans.specs.ReportText.{answer_line, batch_fault_text, fault_text};
 
 use dl_desk::BatchFault;
-use dl_report::StepAnswer;
+use dl_scope::StepAnswer;
 use dl_scripts::{key_text, quoted_text};
 use dl_terms::{Answer, EvalFault};
 use std::alloc::{AllocError, Global};

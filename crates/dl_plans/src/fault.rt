@@ -1,7 +1,7 @@
 //! How a run of the program fails.
 
 use dl_documents::PlanFault;
-use dl_report::ScopeFault;
+use dl_scope::ScopeFault;
 use thiserror::Error;
 
 /// How a run of the program fails.

@@ -7,7 +7,7 @@ ghost use Rattle.dl_plans.specs.ReportText.{report_text, rounds_text};
 
 use crate::answer_lines::push_answers;
 use crate::batch_lines::push_batches;
-use dl_report::Report;
+use dl_scope::Report;
 use std::alloc::{AllocError, Global};
 use std::fmt::Write;
 

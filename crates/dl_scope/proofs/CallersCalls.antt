@@ -28,7 +28,7 @@ use Rattle.dl_terms.specs.declared.plan.Step.TheVariants.{Prime, Clear, ClearAll
 use Rattle.dl_haxl.specs.Rounds.{HandedOver, Rounds}
 use Rattle.dl_haxl.specs.PlanEntries.{Stretch, stretch, IsStep, AreSteps}
 use Rattle.dl_scope.specs.Headline.{HeadlineBut, Ends, TellsEnd}
-use Rattle.dl_report.specs.Report.{Report}
+use Rattle.dl_scope.specs.Report.{Report}
 
 -- ---- the calls of a caller
 

@@ -13,10 +13,10 @@ use Rattle.dl_terms.specs.declared.plan.Plan.{Plan}
 use Rattle.dl_terms.specs.declared.plan.Step.{Step}
 use Rattle.dl_terms.specs.declared.plan.Step.TheVariants.{Prime, Clear, ClearAll, Eval}
 use Rattle.dl_haxl.specs.PlanEntries.{Stretch, stretch, step_answer, IsStep, AreSteps}
-use Rattle.dl_report.specs.declared.step_answer.StepAnswer.{StepAnswer}
+use Rattle.dl_haxl.specs.declared.step_answers.StepAnswer.{StepAnswer}
 use Rattle.dl_scope.specs.EqualAnswers.{evaluated, evaluations, RestsOnTables, AnswersAreEqual}
 use Rattle.dl_scope.specs.OwnAnswers.{IsOwn, listed, AnswersByTables, OwnAnswersAreOne}
-use Rattle.dl_report.specs.Report.{Report}
+use Rattle.dl_scope.specs.Report.{Report}
 use Rattle.dl_scope.proofs.CallersCalls.{some_at, some_low}
 use Rattle.dl_scope.proofs.OwnAnswers.{answers_are_own}
 

@@ -15,12 +15,12 @@ use Rattle.dl_haxl.specs.PlanEntries.{Follows}
 use Rattle.dl_scope.specs.Headline.{Headline, HeadlineBut, TellsEnd}
 use Rattle.dl_workers.specs.GiveUps.{given_up}
 use Rattle.dl_scope.specs.Inside.ServedPlans.{AreServed, IsCounted}
-use Rattle.dl_report.specs.Report.{Report, report}
-use Rattle.dl_report.specs.declared.fault.ScopeFault.{ScopeFault}
-use Rattle.dl_report.specs.declared.fault.ScopeFault.TheVariants.{Unfetched}
-use Rattle.dl_report.specs.declared.setup.Setup.{Setup}
+use Rattle.dl_scope.specs.Report.{Report, report}
+use Rattle.dl_scope.specs.declared.fault.ScopeFault.{ScopeFault}
+use Rattle.dl_scope.specs.declared.fault.ScopeFault.TheVariants.{Unfetched}
+use Rattle.dl_scope.specs.declared.setup.Setup.{Setup}
 use Rattle.dl_terms.specs.declared.plan.Plan.{Plan}
-use Rattle.dl_report.specs.declared.step_answer.StepAnswer.{StepAnswer}
+use Rattle.dl_haxl.specs.declared.step_answers.StepAnswer.{StepAnswer}
 use Rattle.dl_scope.proofs.OneEnd.{end_once}
 use Rattle.dl_scope.proofs.TallyOfEvents.{sent_tallied, taken_tallied}
 use Rattle.dl_scope.proofs.PassPlaces.{parts_of, part_account, entries_at, plan_at, served_long, served_numbered, worker_after}

@@ -13,19 +13,18 @@ use Rattle.dl_history.specs.declared.fault.CloseFault.{CloseFault}
 use Rattle.dl_queue.specs.declared.queue.JobQueue.{JobQueue}
 use Rattle.dl_workers.specs.declared.worker.WorkerEnd.{WorkerEnd}
 use Rattle.dl_haxl.specs.RunFaults.{IsRunFault}
-use Rattle.dl_report.specs.declared.fault.RunFault.{RunFault}
-use Rattle.dl_report.specs.declared.step_answers.StepAnswers.{StepAnswers}
+use Rattle.dl_haxl.specs.declared.fault.RunFault.{RunFault}
+use Rattle.dl_haxl.specs.declared.step_answers.StepAnswers.{StepAnswers}
 use Rattle.dl_scope.specs.Faults.{AreEnds, MayServe, Met, RefusedAs, MayMeet}
 use Rattle.dl_scope.specs.Inside.Results.{IsFaultOf, fault_of, met}
-use Rattle.dl_tasks.specs.WorkerRuns.{IsWorkerRun}
-use Rattle.dl_scope.specs.Inside.ThreadRuns.{IsPlanRun}
-use Rattle.dl_report.specs.declared.fault.ScopeFault.{ScopeFault}
-use Rattle.dl_report.specs.declared.fault.ScopeFault.TheVariants.{NoPlans, TooManyPlans, BadWorkers, Start, Queue, Run, Stopped, Close, Unfetched, OutOfMemory}
-use Rattle.dl_tasks.specs.declared.tasks.PlanTask.{PlanTask}
-use Rattle.dl_tasks.specs.declared.runs.PlanRun.{PlanRun}
-use Rattle.dl_tasks.specs.declared.tasks.WorkerTask.{WorkerTask}
-use Rattle.dl_tasks.specs.declared.runs.WorkerRun.{WorkerRun}
-use Rattle.dl_report.specs.declared.setup.Setup.{Setup}
+use Rattle.dl_scope.specs.Inside.ThreadRuns.{IsPlanRun, IsWorkerRun}
+use Rattle.dl_scope.specs.declared.fault.ScopeFault.{ScopeFault}
+use Rattle.dl_scope.specs.declared.fault.ScopeFault.TheVariants.{NoPlans, TooManyPlans, BadWorkers, Start, Queue, Run, Stopped, Close, Unfetched, OutOfMemory}
+use Rattle.dl_scope.specs.declared.threads.tasks.PlanTask.{PlanTask}
+use Rattle.dl_scope.specs.declared.threads.runs.PlanRun.{PlanRun}
+use Rattle.dl_scope.specs.declared.threads.tasks.WorkerTask.{WorkerTask}
+use Rattle.dl_scope.specs.declared.threads.runs.WorkerRun.{WorkerRun}
+use Rattle.dl_scope.specs.declared.setup.Setup.{Setup}
 use Rattle.dl_scope.proofs.PlanFaults.{met_given}
 use Rattle.dl_scope.proofs.PassPlaces.{fresh_first, parts_of}
 use Rattle.dl_terms.specs.declared.plan.Plan.{Plan}

@@ -16,6 +16,9 @@ mod OwnSettles
 mod PassPlaces
 mod LateRefusals
 mod Seats
+mod ListLemmas
+mod ResultLemmas
+mod ThreadSafety
 mod SentCounts
 mod TallyOfEvents
 mod NoPrimes

@@ -18,11 +18,11 @@ use Rattle.dl_terms.specs.TermAnswers.{Pairs, outcome_in, gives}
 use Rattle.dl_terms.specs.Laws.{GivesOnce, GivesForEver}
 use Rattle.dl_terms.specs.Rounds.{Gains}
 use Rattle.dl_haxl.specs.PlanEntries.{stretch}
-use Rattle.dl_report.specs.Setup.{service_of}
+use Rattle.dl_scope.specs.Setup.{service_of}
 use Rattle.dl_scope.specs.Headline.{Headline, Ends}
 use Rattle.dl_scope.specs.OwnAnswers.{IsNoPrime, NonePrimed, AreOwn, listed, PrimesNoKey}
 use Rattle.dl_scope.specs.OwnAnswers.{AnswersByTables, AnswersAreOwn, OwnAnswersAreOne}
-use Rattle.dl_report.specs.Report.{Report}
+use Rattle.dl_scope.specs.Report.{Report}
 use Rattle.dl_terms.specs.declared.plan.Plan.{Plan}
 use Rattle.dl_terms.specs.declared.plan.Step.{Step}
 use Rattle.dl_terms.specs.declared.plan.Step.TheVariants.{Prime, Clear, ClearAll, Eval}

@@ -25,7 +25,7 @@ use Rattle.dl_haxl.specs.PlanEntries.{Stretch, stretch, step_answer, IsStep, Are
 use Rattle.dl_scope.specs.OwnAnswers.{AreOwn, IsOwn}
 use Rattle.dl_terms.specs.declared.plan.Step.{Step}
 use Rattle.dl_terms.specs.declared.plan.Step.TheVariants.{Prime, Clear, ClearAll, Eval}
-use Rattle.dl_report.specs.declared.step_answer.StepAnswer.{StepAnswer}
+use Rattle.dl_haxl.specs.declared.step_answers.StepAnswer.{StepAnswer}
 use Rattle.dl_scope.proofs.NoPrimes.{every_parts}
 
 -- each outcome that is read of a loadMany's cell is its key's own

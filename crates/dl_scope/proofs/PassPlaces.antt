@@ -4,7 +4,7 @@ use Rattle.std.proofs.Common.{Option, Some, None, Bool, true, false, ifâ—Œthenâ—
 use Rattle.std.specs.Prelude.{slice_get, nat_eq, IfOk, Result}
 use Rattle.std.specs.List.{AllZip}
 use Rattle.std.proofs.lemmas.Bool.Decides.{nat_tests}
-use Rattle.dl_report.specs.declared.fault.RunFault.{RunFault}
+use Rattle.dl_haxl.specs.declared.fault.RunFault.{RunFault}
 use Rattle.dl_history.specs.Agreement.{Account, account, entries_of}
 use Rattle.dl_history.specs.Entries.{Entry}
 use Rattle.dl_history.specs.Lists.{Every}
@@ -16,17 +16,16 @@ use Rattle.dl_queue.specs.declared.queue.JobQueue.{JobQueue}
 use Rattle.dl_haxl.specs.PlanEntries.{Follows, FollowsAndSends}
 use Rattle.dl_haxl.specs.Rounds.{AddsAndSends}
 use Rattle.dl_scope.specs.Headline.{TellsEnd}
-use Rattle.dl_tasks.specs.Results.{AllGave, Gave}
-use Rattle.dl_tasks.specs.WorkerRuns.{IsWorkerRun}
-use Rattle.dl_scope.specs.Inside.ThreadRuns.{IsPlanRun}
+use Rattle.dl_scope.specs.Inside.ThreadResults.{AllGave, Gave}
+use Rattle.dl_scope.specs.Inside.ThreadRuns.{IsPlanRun, IsWorkerRun}
 use Rattle.dl_scope.specs.Inside.ServedPlans.{AreServed, WorkersServed}
-use Rattle.dl_tasks.specs.declared.tasks.PlanTask.{PlanTask}
-use Rattle.dl_tasks.specs.declared.runs.PlanRun.{PlanRun}
-use Rattle.dl_tasks.specs.declared.tasks.WorkerTask.{WorkerTask}
-use Rattle.dl_tasks.specs.declared.runs.WorkerRun.{WorkerRun}
+use Rattle.dl_scope.specs.declared.threads.tasks.PlanTask.{PlanTask}
+use Rattle.dl_scope.specs.declared.threads.runs.PlanRun.{PlanRun}
+use Rattle.dl_scope.specs.declared.threads.tasks.WorkerTask.{WorkerTask}
+use Rattle.dl_scope.specs.declared.threads.runs.WorkerRun.{WorkerRun}
 use Rattle.dl_terms.specs.declared.plan.Plan.{Plan}
-use Rattle.dl_report.specs.declared.step_answer.StepAnswer.{StepAnswer}
-use Rattle.dl_report.specs.declared.step_answers.StepAnswers.{StepAnswers}
+use Rattle.dl_haxl.specs.declared.step_answers.StepAnswer.{StepAnswer}
+use Rattle.dl_haxl.specs.declared.step_answers.StepAnswers.{StepAnswers}
 use Rattle.dl_scope.proofs.WorkerPasses.{worked_adds}
 
 -- ---- fresh passes

@@ -6,13 +6,13 @@ use Rattle.std.proofs.lemmas.List.Elements.{recursion_from_All}
 use Rattle.std.proofs.lemmas.Option.{same_Some, slice_get-map}
 use Rattle.dl_workers.specs.declared.worker.WorkerEnd.{WorkerEnd}
 use Rattle.dl_workers.specs.declared.worker.WorkerEnd.TheVariants.{GaveUp}
-use Rattle.dl_report.specs.declared.fault.RunFault.{RunFault}
-use Rattle.dl_report.specs.declared.step_answers.StepAnswers.{StepAnswers}
+use Rattle.dl_haxl.specs.declared.fault.RunFault.{RunFault}
+use Rattle.dl_haxl.specs.declared.step_answers.StepAnswers.{StepAnswers}
 use Rattle.dl_scope.specs.Faults.{AnyGaveUp, AnyMet, IsLeastFault, IsStop, Met, WereStopped}
-use Rattle.dl_tasks.specs.Results.{WasTaken}
+use Rattle.dl_scope.specs.Inside.ThreadResults.{WasTaken}
 use Rattle.dl_scope.specs.Inside.Results.{MetNoOwn, fault_of, met}
-use Rattle.dl_tasks.specs.declared.runs.PlanRun.{PlanRun}
-use Rattle.dl_tasks.specs.declared.runs.WorkerRun.{WorkerRun}
+use Rattle.dl_scope.specs.declared.threads.runs.PlanRun.{PlanRun}
+use Rattle.dl_scope.specs.declared.threads.runs.WorkerRun.{WorkerRun}
 
 pub met_given : (given : Result StepAnswers RunFault) (fault : RunFault) → met given ≡ Some fault → given ≡ Err fault
 met_given (Ok given) fault is = absurd (let bad : ◌≡◌ {A = Option RunFault} None (Some fault) = is in cc)

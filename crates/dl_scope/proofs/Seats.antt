@@ -9,12 +9,11 @@ use Rattle.dl_queue.specs.Seats.{AreSeatsOf, IsSenderOf, IsTakerOf}
 use Rattle.dl_queue.specs.declared.queue.JobQueue.{JobQueue}
 use Rattle.dl_queue.specs.declared.seats.Sender.{Sender}
 use Rattle.dl_queue.specs.declared.seats.Taker.{Taker}
-use Rattle.dl_tasks.specs.WorkerRuns.{IsWorkerRun}
-use Rattle.dl_scope.specs.Inside.ThreadRuns.{IsPlanRun}
-use Rattle.dl_tasks.specs.declared.tasks.PlanTask.{PlanTask}
-use Rattle.dl_tasks.specs.declared.runs.PlanRun.{PlanRun}
-use Rattle.dl_tasks.specs.declared.tasks.WorkerTask.{WorkerTask}
-use Rattle.dl_tasks.specs.declared.runs.WorkerRun.{WorkerRun}
+use Rattle.dl_scope.specs.Inside.ThreadRuns.{IsPlanRun, IsWorkerRun}
+use Rattle.dl_scope.specs.declared.threads.tasks.PlanTask.{PlanTask}
+use Rattle.dl_scope.specs.declared.threads.runs.PlanRun.{PlanRun}
+use Rattle.dl_scope.specs.declared.threads.tasks.WorkerTask.{WorkerTask}
+use Rattle.dl_scope.specs.declared.threads.runs.WorkerRun.{WorkerRun}
 use Rattle.dl_loader.specs.Pass.{new_traces}
 
 module _ {L : Type 0} (queue : JobQueue) (service : Service) where

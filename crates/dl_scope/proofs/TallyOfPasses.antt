@@ -19,19 +19,18 @@ use Rattle.dl_workers.specs.declared.worker.WorkerEnd.{WorkerEnd}
 use Rattle.dl_loader.proofs.EndEntries.{TellEnds, ended_adds, tell_ends}
 use Rattle.dl_haxl.specs.PlanEntries.{FollowsAndSends}
 use Rattle.dl_haxl.specs.Rounds.{AddsAndSends}
-use Rattle.dl_report.specs.declared.fault.RunFault.{RunFault}
-use Rattle.dl_report.specs.declared.step_answer.StepAnswer.{StepAnswer}
-use Rattle.dl_report.specs.declared.step_answers.StepAnswers.{StepAnswers}
+use Rattle.dl_haxl.specs.declared.fault.RunFault.{RunFault}
+use Rattle.dl_haxl.specs.declared.step_answers.StepAnswer.{StepAnswer}
+use Rattle.dl_haxl.specs.declared.step_answers.StepAnswers.{StepAnswers}
 use Rattle.dl_haxl.proofs.JobCounts.{EachSent, follows_counted}
-use Rattle.dl_tasks.specs.Results.{AllGave, Gave}
+use Rattle.dl_scope.specs.Inside.ThreadResults.{AllGave, Gave}
 use Rattle.dl_scope.specs.Inside.Results.{IsDone}
-use Rattle.dl_tasks.specs.WorkerRuns.{IsWorkerRun}
-use Rattle.dl_scope.specs.Inside.ThreadRuns.{IsPlanRun}
+use Rattle.dl_scope.specs.Inside.ThreadRuns.{IsPlanRun, IsWorkerRun}
 use Rattle.dl_scope.specs.Inside.ServedPlans.{IsCounted}
-use Rattle.dl_tasks.specs.declared.tasks.PlanTask.{PlanTask}
-use Rattle.dl_tasks.specs.declared.runs.PlanRun.{PlanRun}
-use Rattle.dl_tasks.specs.declared.tasks.WorkerTask.{WorkerTask}
-use Rattle.dl_tasks.specs.declared.runs.WorkerRun.{WorkerRun}
+use Rattle.dl_scope.specs.declared.threads.tasks.PlanTask.{PlanTask}
+use Rattle.dl_scope.specs.declared.threads.runs.PlanRun.{PlanRun}
+use Rattle.dl_scope.specs.declared.threads.tasks.WorkerTask.{WorkerTask}
+use Rattle.dl_scope.specs.declared.threads.runs.WorkerRun.{WorkerRun}
 use Rattle.dl_scope.proofs.CallTotals.{long_each, total-map}
 use Rattle.dl_scope.proofs.PassPlaces.{added_to_fresh, fresh_first, parts_of}
 

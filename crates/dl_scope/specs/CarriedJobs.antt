@@ -6,7 +6,7 @@ use Rattle.dl_history.specs.History.{past}
 use Rattle.dl_history.specs.Service.{Service}
 use Rattle.dl_history.specs.declared.event.Event.{Event}
 use Rattle.dl_scope.specs.Headline.{Headline, HeadlineBut}
-use Rattle.dl_report.specs.Report.{Report}
+use Rattle.dl_scope.specs.Report.{Report}
 use Rattle.dl_terms.specs.declared.plan.Plan.{Plan}
 use Rattle.dl_loader.specs.Dispatches.{dispatched}
 

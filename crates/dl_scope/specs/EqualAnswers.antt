@@ -8,11 +8,11 @@ use Rattle.dl_terms.specs.View.{term_view}
 use Rattle.dl_terms.specs.declared.plan.Plan.{Plan}
 use Rattle.dl_terms.specs.declared.plan.Step.{Step}
 use Rattle.dl_terms.specs.declared.plan.Step.TheVariants.{Prime, Clear, ClearAll, Eval}
-use Rattle.dl_report.specs.Setup.{service_of}
+use Rattle.dl_scope.specs.Setup.{service_of}
 use Rattle.dl_scope.specs.Headline.{Headline}
 use Rattle.dl_scope.specs.OwnAnswers.{NoneFailed, PrimesNoKey}
-use Rattle.dl_report.specs.Report.{Report}
-use Rattle.dl_report.specs.declared.setup.Setup.{Setup}
+use Rattle.dl_scope.specs.Report.{Report}
+use Rattle.dl_scope.specs.declared.setup.Setup.{Setup}
 
 -- the tree of the term that the step evaluates, if it evaluates one
 abbrev pub evaluated : Step → Option Tree

@@ -4,8 +4,8 @@ use Rattle.dl_history.specs.Agreement.{Account}
 use Rattle.dl_history.specs.Flags.{KnownFlags}
 use Rattle.dl_history.specs.Service.{Service}
 use Rattle.dl_haxl.specs.RunFaults.{IsRunFault}
-use Rattle.dl_report.specs.declared.fault.RunFault.{RunFault}
-use Rattle.dl_report.specs.declared.fault.RunFault.TheVariants as run
+use Rattle.dl_haxl.specs.declared.fault.RunFault.{RunFault}
+use Rattle.dl_haxl.specs.declared.fault.RunFault.TheVariants as run
 use Rattle.dl_loader.specs.Book.{Keeps, Book}
 use Rattle.dl_loader.specs.CloseRefusals.{IsLeastOf, RefusesClose}
 use Rattle.dl_history.specs.declared.fault.CallFault.TheVariants as call
@@ -17,10 +17,10 @@ use Rattle.dl_queue.specs.QueueFaults as queue
 use Rattle.dl_workers.specs.declared.worker.WorkerEnd.{WorkerEnd}
 use Rattle.dl_workers.specs.declared.worker.WorkerEnd.TheVariants as end
 use Rattle.dl_scope.specs.Headline.{HeadlineBut}
-use Rattle.dl_report.specs.Report.{Report}
-use Rattle.dl_report.specs.declared.fault.ScopeFault.{ScopeFault}
-use Rattle.dl_report.specs.declared.fault.ScopeFault.TheVariants.{NoPlans, TooManyPlans, BadWorkers, Start, Queue, Run, Stopped, Close, Unfetched, OutOfMemory}
-use Rattle.dl_report.specs.declared.setup.Setup.{Setup}
+use Rattle.dl_scope.specs.Report.{Report}
+use Rattle.dl_scope.specs.declared.fault.ScopeFault.{ScopeFault}
+use Rattle.dl_scope.specs.declared.fault.ScopeFault.TheVariants.{NoPlans, TooManyPlans, BadWorkers, Start, Queue, Run, Stopped, Close, Unfetched, OutOfMemory}
+use Rattle.dl_scope.specs.declared.setup.Setup.{Setup}
 
 -- the most fetch workers
 abbrev pub most_workers : ℕ

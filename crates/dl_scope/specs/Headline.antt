@@ -9,11 +9,11 @@ use Rattle.dl_history.specs.declared.event.Call.{Call}
 use Rattle.dl_history.specs.declared.event.Call.TheVariants.{Load, LoadMany, Prime, Clear, ClearAll, Dispatch, Settle, Fail}
 use Rattle.dl_history.specs.declared.event.Event.{Event}
 use Rattle.dl_haxl.specs.PlanEntries.{Follows}
-use Rattle.dl_report.specs.Report.{Report}
+use Rattle.dl_scope.specs.Report.{Report}
 use Rattle.dl_workers.specs.GiveUps.{given_up}
 use Rattle.dl_loader.specs.Dispatches.{dispatched, unsent}
 use Rattle.dl_terms.specs.declared.plan.Plan.{Plan}
-use Rattle.dl_report.specs.declared.step_answer.StepAnswer.{StepAnswer}
+use Rattle.dl_haxl.specs.declared.step_answers.StepAnswer.{StepAnswer}
 
 -- the call ends this batch
 abbrev pub Ends : ℕ → Call → Type 0

@@ -1,3 +1,5 @@
 pub mod Results
 pub mod ThreadRuns
 pub mod ServedPlans
+pub mod Tasks
+pub mod ThreadResults

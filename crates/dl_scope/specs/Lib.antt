@@ -4,3 +4,5 @@ pub mod Faults
 pub mod Headline
 pub mod Inside
 pub mod OwnAnswers
+pub mod Report
+pub mod Setup

@@ -15,14 +15,14 @@ use Rattle.dl_terms.specs.Tree.{Tree}
 use Rattle.dl_terms.specs.View.{term_view}
 use Rattle.dl_terms.specs.declared.answer.Answer.{Answer}
 use Rattle.dl_terms.specs.declared.term.Term.{Term}
-use Rattle.dl_report.specs.Setup.{service_of}
+use Rattle.dl_scope.specs.Setup.{service_of}
 use Rattle.dl_scope.specs.Headline.{Headline}
-use Rattle.dl_report.specs.Report.{Report}
+use Rattle.dl_scope.specs.Report.{Report}
 use Rattle.dl_terms.specs.declared.plan.Plan.{Plan}
-use Rattle.dl_report.specs.declared.setup.Setup.{Setup}
+use Rattle.dl_scope.specs.declared.setup.Setup.{Setup}
 use Rattle.dl_terms.specs.declared.plan.Step.{Step}
 use Rattle.dl_terms.specs.declared.plan.Step.TheVariants.{Prime, Clear, ClearAll, Eval}
-use Rattle.dl_report.specs.declared.step_answer.StepAnswer.{StepAnswer}
+use Rattle.dl_haxl.specs.declared.step_answers.StepAnswer.{StepAnswer}
 
 -- what each answer of the source has for a key, whatever keys were asked with it
 abbrev pub AnswersOwn : Service → (Key → Outcome) → Type 0

@@ -5,12 +5,17 @@
 //! history, and its contract says what they are evidence of, whatever the schedule was.
 #![tactic(auto)]
 
+mod fault;
 pub mod laws;
-mod plans;
+mod report;
 mod results;
 mod scope;
+mod setup;
 mod threads;
 
-pub use dl_report::{Report, ScopeFault, Setup, StepAnswer};
+pub use dl_haxl::StepAnswer;
 pub use dl_terms::{MOST_PLANS, Plan, Step};
+pub use fault::ScopeFault;
+pub use report::Report;
 pub use scope::{MOST_WORKERS, serve};
+pub use setup::Setup;

@@ -2,14 +2,16 @@
 
 ghost use Rattle.std.specs.Prelude.{◌≡◌, ◌≤◌, ◌⊎◌, All, Err, IfErr, IfOk, MatchBool, MatchOption, OnOk, length, map};
 ghost use Rattle.dl_terms.specs.Plans.{most_plans};
-ghost use Rattle.dl_tasks.specs.Results.{AreResults, WasTaken};
+ghost use Rattle.dl_scope.specs.Inside.ThreadResults.{AreResults, WasTaken};
 ghost use Rattle.dl_scope.specs.Faults.{AnyGaveUp, AnyMet, IsLeastFault, IsStop};
-ghost use Rattle.dl_report.specs.declared.fault.ScopeFault.TheVariants.{OutOfMemory};
+ghost use Rattle.dl_scope.specs.declared.fault.ScopeFault.TheVariants.{OutOfMemory};
 ghost use Rattle.dl_scope.specs.Inside.Results.{IsDone, IsFaultOf, MetNoOwn, fault_of};
 
+use crate::fault::ScopeFault;
+use crate::threads::runs::{PlanRun, Runs, WorkerRun};
+use crate::threads::thread_results::ThreadResults;
+use dl_haxl::RunFault;
 use dl_loader::{CallFault, LoaderName};
-use dl_report::{RunFault, ScopeFault};
-use dl_tasks::{PlanRun, Runs, ThreadResults, WorkerRun};
 use dl_workers::WorkerEnd;
 use std::alloc::Global;
 

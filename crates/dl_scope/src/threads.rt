@@ -1,16 +1,30 @@
 //! The threads of a server: one for each worker and each plan, all at once.
+//!
+//! [`deal`](task_lists::deal) deals passes and seats out to the threads, a [`PlanTask`] or a [`WorkerTask`] for each. A thread gives back
+//! a [`PlanRun`] or a [`WorkerRun`](runs::WorkerRun), and [`ThreadResults`](thread_results::ThreadResults) puts these together, whose
+//! seats end the queue.
 
 ghost use Rattle.std.specs.Prelude.{◌≡◌, [], All, IfOk};
 ghost use Rattle.std.specs.List.{AllZip};
 ghost use Rattle.dl_history.specs.Service.{Answers};
 ghost use Rattle.dl_queue.specs.Seats.{IsSenderOf, IsTakerOf};
-ghost use Rattle.dl_tasks.specs.WorkerRuns.{IsWorkerRun};
-ghost use Rattle.dl_scope.specs.Inside.ThreadRuns.{IsPlanRun, SendsNothing};
+ghost use Rattle.dl_scope.specs.Inside.ThreadRuns.{IsPlanRun, IsWorkerRun, SendsNothing};
 
-use crate::plans::start_plan;
+mod plans;
+pub(crate) mod runs;
+pub(crate) mod server;
+pub(crate) mod task_lists;
+mod tasks;
+pub(crate) mod thread_results;
+mod workers;
+
+use crate::threads::plans::start_plan;
+use crate::threads::runs::{PlanRun, Runs, with_plan, with_worker};
+use crate::threads::server::Server;
+use crate::threads::tasks::{PlanTask, WorkerTask};
+use crate::threads::workers::start_worker;
 use dl_loader::LoaderName;
 use dl_source::Source;
-use dl_tasks::{PlanRun, PlanTask, Runs, Server, WorkerTask, start_worker, with_plan, with_worker};
 use dl_workers::{Gate, JobQueue, Sender};
 use std::alloc::AllocError;
 use std::sync::Wait;

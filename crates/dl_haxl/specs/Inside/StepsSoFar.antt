@@ -2,7 +2,7 @@
 use Rattle.std.specs.Prelude.{ℕ, List, [], ◌∷◌, Option, None, Some}
 use Rattle.dl_terms.specs.declared.answer.Answer.{Answer}
 use Rattle.dl_haxl.specs.PlanEntries.{step_answer}
-use Rattle.dl_report.specs.declared.step_answer.StepAnswer.{StepAnswer}
+use Rattle.dl_haxl.specs.declared.step_answers.StepAnswer.{StepAnswer}
 
 -- the answer of the step of this number, if it has a term
 abbrev pub answers_of : ℕ → Option (Answer × ℕ) → List StepAnswer

@@ -2,13 +2,13 @@
 use Rattle.std.specs.Prelude.{◌≡◌, ℕ, List, Option, Some, None, Result, Ok, Err, IfErr}
 use Rattle.dl_workers.specs.declared.worker.WorkerEnd.{WorkerEnd}
 use Rattle.dl_workers.specs.declared.worker.WorkerEnd.TheVariants.{Done}
-use Rattle.dl_report.specs.declared.fault.RunFault.{RunFault}
-use Rattle.dl_report.specs.declared.fault.ScopeFault.{ScopeFault}
-use Rattle.dl_report.specs.declared.fault.ScopeFault.TheVariants.{NoPlans, TooManyPlans, BadWorkers, Start, Queue, Run, Stopped, Close, Unfetched, OutOfMemory}
-use Rattle.dl_report.specs.declared.step_answers.StepAnswers.{StepAnswers}
+use Rattle.dl_haxl.specs.declared.fault.RunFault.{RunFault}
+use Rattle.dl_scope.specs.declared.fault.ScopeFault.{ScopeFault}
+use Rattle.dl_scope.specs.declared.fault.ScopeFault.TheVariants.{NoPlans, TooManyPlans, BadWorkers, Start, Queue, Run, Stopped, Close, Unfetched, OutOfMemory}
+use Rattle.dl_haxl.specs.declared.step_answers.StepAnswers.{StepAnswers}
 use Rattle.dl_scope.specs.Faults.{IsStop, IsLeastFault, WereStopped}
-use Rattle.dl_tasks.specs.declared.runs.PlanRun.{PlanRun}
-use Rattle.dl_tasks.specs.declared.runs.WorkerRun.{WorkerRun}
+use Rattle.dl_scope.specs.declared.threads.runs.PlanRun.{PlanRun}
+use Rattle.dl_scope.specs.declared.threads.runs.WorkerRun.{WorkerRun}
 
 -- the fault that steps met, or none
 abbrev pub met : Result StepAnswers RunFault → Option RunFault

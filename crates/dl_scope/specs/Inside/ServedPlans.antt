@@ -7,7 +7,7 @@ use Rattle.dl_queue.specs.declared.queue.Tally.{Tally}
 use Rattle.dl_haxl.specs.PlanEntries.{Follows}
 use Rattle.dl_scope.specs.Headline.{TellsEnd}
 use Rattle.dl_terms.specs.declared.plan.Plan.{Plan}
-use Rattle.dl_report.specs.declared.step_answer.StepAnswer.{StepAnswer}
+use Rattle.dl_haxl.specs.declared.step_answers.StepAnswer.{StepAnswer}
 
 -- ---- by their passes
 

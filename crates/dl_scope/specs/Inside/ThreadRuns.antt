@@ -1,14 +1,17 @@
--- What is known of what the threads of plans give back.
+-- What is known of what the threads of plans and workers give back.
 use Rattle.std.specs.Prelude.{◌≡◌, IfOk, IfErr}
 use Rattle.dl_history.specs.Service.{Service}
-use Rattle.dl_queue.specs.Seats.{IsSenderOf, sent_jobs}
+use Rattle.dl_queue.specs.Seats.{IsSenderOf, IsTakerOf, sent_jobs, taken_jobs}
 use Rattle.dl_queue.specs.declared.queue.JobQueue.{JobQueue}
 use Rattle.dl_queue.specs.declared.seats.Sender.{Sender}
 use Rattle.dl_haxl.specs.PlanEntries.{FollowsAndSends}
 use Rattle.dl_haxl.specs.Rounds.{AddsAndSends}
 use Rattle.dl_haxl.specs.RunFaults.{IsRunFault}
-use Rattle.dl_tasks.specs.declared.tasks.PlanTask.{PlanTask}
-use Rattle.dl_tasks.specs.declared.runs.PlanRun.{PlanRun}
+use Rattle.dl_scope.specs.declared.threads.tasks.PlanTask.{PlanTask}
+use Rattle.dl_scope.specs.declared.threads.tasks.WorkerTask.{WorkerTask}
+use Rattle.dl_scope.specs.declared.threads.runs.PlanRun.{PlanRun}
+use Rattle.dl_scope.specs.declared.threads.runs.WorkerRun.{WorkerRun}
+use Rattle.dl_workers.specs.WorkerResult.{Worked}
 
 -- the server's own sender is one of the queue still, and has sent nothing more
 abbrev pub SendsNothing : JobQueue → Sender → Sender → Type 0
@@ -22,3 +25,8 @@ module _ {L : Type 0} where
       × IfOk run.given (λ given. AddsAndSends task.pass.trace run.pass.trace (sent_jobs task.sender) (sent_jobs run.sender)
       (λ lines sent. FollowsAndSends task.pass.trace.caller task.plan.steps.items lines given.answers.items given.rounds sent))
       × IfErr run.given (IsRunFault service task.pass.trace.caller run.pass.flags)
+
+  -- The taker is one of the queue still, and the worker worked.
+  abbrev pub IsWorkerRun : JobQueue → Service → WorkerTask L → WorkerRun L → Type 0
+  IsWorkerRun queue service task run = IsTakerOf queue run.taker
+      × Worked service run.end (taken_jobs task.taker) (taken_jobs run.taker) task.pass.trace run.pass.trace

@@ -2,7 +2,7 @@ use Rattle.std.proofs.Common.{sym, subst, refl, take, length, arith}
 use Rattle.std.proofs.lemmas.List.{take_all}
 use Rattle.std.proofs.lemmas.List.Elements.{All-more, All-same}
 use Rattle.std.proofs.lemmas.Option.{slice_get_read}
-use Rattle.dl_tasks.specs.Results.{WasTaken}
+use Rattle.dl_scope.specs.Inside.ThreadResults.{WasTaken}
 use Rattle.dl_scope.proofs.PlanFaults.{met_at, taken_at}
 use Rattle.dl_scope.proofs.results.any_met.Goals as goal
 

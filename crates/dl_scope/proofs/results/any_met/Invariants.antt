@@ -1,6 +1,6 @@
 use Rattle.std.proofs.Common.{take}
 use Rattle.std.specs.Prelude.{All}
-use Rattle.dl_tasks.specs.Results.{WasTaken}
+use Rattle.dl_scope.specs.Inside.ThreadResults.{WasTaken}
 use Rattle.dl_scope.proofs.results.any_met.Given as goal
 
 abbrev pub invariant-loop-run : goal.invariant-loop-run

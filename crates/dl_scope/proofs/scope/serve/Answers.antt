@@ -1,5 +1,5 @@
 use Rattle.std.proofs.Common.{rules, ◌≡◌, Err, length, arith, refl}
-use Rattle.dl_report.specs.Setup.{service_of}
+use Rattle.dl_scope.specs.Setup.{service_of}
 use Rattle.dl_scope.proofs.scope.serve.Goals as goal
 
 pub returns-in_err-callers-clause-refused : goal.returns-in_err-callers-clause-refused

@@ -1,20 +1,21 @@
 use Rattle.std.proofs.Common.{subst}
+use Rattle.std.specs.Prelude.{Some}
+use Rattle.std.proofs.lemmas.List.Elements.{All-pop}
 use Rattle.dl_queue.specs.Seats.{IsSenderOf}
 use Rattle.dl_scope.specs.Inside.ThreadRuns.{IsPlanRun}
-use Rattle.dl_tasks.specs.declared.tasks.PlanTask.{PlanTask}
+use Rattle.dl_scope.specs.declared.threads.tasks.PlanTask.{PlanTask}
 use Rattle.dl_scope.proofs.ThreadJoins.{all_joined}
-use Rattle.dl_tasks.proofs.Seats.{all_front, all_last}
 use Rattle.dl_scope.proofs.threads.+run_plans.Goals as goal
 
 pub start_plan-requires-clause-seat : goal.start_plan-requires-clause-seat
 start_plan-requires-clause-seat g t c = λ κs live.
-    all_last (λ (task : PlanTask g.row.L.Denot). IsSenderOf c.args.server.now.queue.now task.sender) c.pop.new.self.items c.args.plans.items c.in-Some.task
-    c.in-Some.ensures.items c.requires.plans
+    (All-pop (λ (task : PlanTask g.row.L.Denot). IsSenderOf c.args.server.now.queue.now task.sender) c.args.plans.items c.pop.new.self.items (Some c.in-Some.task)
+    c.in-Some.ensures.items c.requires.plans).1
 
 pub run_plans-rest-requires-clause-plans : goal.run_plans-rest-requires-clause-plans
 run_plans-rest-requires-clause-plans g t c = λ κs live.
-    all_front (λ (task : PlanTask g.row.L.Denot). IsSenderOf c.args.server.now.queue.now task.sender) c.pop.new.self.items c.args.plans.items c.in-Some.task
-    c.in-Some.ensures.items c.requires.plans
+    (All-pop (λ (task : PlanTask g.row.L.Denot). IsSenderOf c.args.server.now.queue.now task.sender) c.args.plans.items c.pop.new.self.items (Some c.in-Some.task)
+    c.in-Some.ensures.items c.requires.plans).0
 
 -- with the task back at the end of the list that it was taken from
 pub returns : goal.returns

@@ -1,22 +1,22 @@
 use Rattle.std.proofs.Common.{subst}
+use Rattle.std.specs.Prelude.{Some}
+use Rattle.std.proofs.lemmas.List.Elements.{All-pop}
 use Rattle.std.specs.List.{AllZip}
 use Rattle.dl_queue.specs.Seats.{IsTakerOf}
-use Rattle.dl_tasks.specs.WorkerRuns.{IsWorkerRun}
-use Rattle.dl_scope.specs.Inside.ThreadRuns.{IsPlanRun, SendsNothing}
-use Rattle.dl_tasks.specs.declared.tasks.WorkerTask.{WorkerTask}
+use Rattle.dl_scope.specs.Inside.ThreadRuns.{IsPlanRun, IsWorkerRun, SendsNothing}
+use Rattle.dl_scope.specs.declared.threads.tasks.WorkerTask.{WorkerTask}
 use Rattle.dl_scope.proofs.ThreadJoins.{all_joined, others_stay}
-use Rattle.dl_tasks.proofs.Seats.{all_front, all_last}
 use Rattle.dl_scope.proofs.threads.+run_workers.Goals as goal
 
 pub start_worker-requires-clause-seat : goal.start_worker-requires-clause-seat
 start_worker-requires-clause-seat g t c = λ κs live.
-    all_last (λ (task : WorkerTask g.row.L.Denot). IsTakerOf c.args.server.now.queue.now task.taker) c.pop.new.self.items c.args.workers.items c.in-Some.task
-    c.in-Some.ensures.items c.requires.workers
+    (All-pop (λ (task : WorkerTask g.row.L.Denot). IsTakerOf c.args.server.now.queue.now task.taker) c.args.workers.items c.pop.new.self.items (Some c.in-Some.task)
+    c.in-Some.ensures.items c.requires.workers).1
 
 pub run_workers-rest-requires-clause-workers : goal.run_workers-rest-requires-clause-workers
 run_workers-rest-requires-clause-workers g t c = λ κs live.
-    all_front (λ (task : WorkerTask g.row.L.Denot). IsTakerOf c.args.server.now.queue.now task.taker) c.pop.new.self.items c.args.workers.items c.in-Some.task
-    c.in-Some.ensures.items c.requires.workers
+    (All-pop (λ (task : WorkerTask g.row.L.Denot). IsTakerOf c.args.server.now.queue.now task.taker) c.args.workers.items c.pop.new.self.items (Some c.in-Some.task)
+    c.in-Some.ensures.items c.requires.workers).0
 
 -- with the task back at the end of the list that it was taken from
 pub returns : goal.returns

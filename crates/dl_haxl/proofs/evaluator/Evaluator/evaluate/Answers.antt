@@ -11,7 +11,7 @@ use Rattle.dl_terms.specs.declared.answer.Answer.{Answer}
 use Rattle.dl_haxl.specs.Rounds.{AddsAndSends, Evaluates}
 use Rattle.dl_haxl.specs.Run.{IsRunOf, Run}
 use Rattle.dl_haxl.specs.RunView.{seen}
-use Rattle.dl_report.specs.declared.fault.RunFault.{RunFault}
+use Rattle.dl_haxl.specs.declared.fault.RunFault.{RunFault}
 use Rattle.dl_haxl.proofs.RoundSteps.{none_sent}
 use Rattle.dl_haxl.proofs.evaluator.Evaluator.evaluate.Goals as goal
 

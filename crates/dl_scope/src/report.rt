@@ -1,0 +1,94 @@
+//! What serving plans leaves.
+
+ghost use Rattle.std.specs.Prelude.{◌≡◌, map};
+ghost use Rattle.dl_scope.specs.Report.{report};
+
+use dl_haxl::StepAnswer;
+use dl_loader::History;
+use dl_workers::Tally;
+use std::marker::Model;
+
+/// What serving plans leaves: the answers of their terms, how many rounds of loads they took, the history that all loads,
+/// ends and reads are told by, and what went through the queue. It names no loader.
+pub struct Report {
+    answers: Vec<Vec<StepAnswer>>,
+    rounds: Vec<u64>,
+    history: History,
+    tally: Tally,
+}
+
+impl Drop for Report {
+    fn drop(self) {
+        let Report {
+            answers,
+            rounds,
+            history,
+            tally: _,
+        } = self;
+        drop(answers);
+        drop(rounds);
+        drop(history);
+    }
+}
+
+impl Model for Report {
+    ghost use Rattle.std.specs.Prelude.{map};
+    ghost use Rattle.dl_scope.specs.Report.{Report, report};
+    ghost use Rattle.std.specs.Coded.{codes};
+    ghost use Rattle.dl_history.specs.contracts.history.History as closed;
+    ghost use Rattle.dl_haxl.specs.contracts.step_answers.StepAnswer as answer;
+
+    ghost Value = { Report };
+
+    ghost coded = { Prim.hlevel (codes, answer.the_row.coded, closed.the_row.coded) };
+
+    ghost view = { λ r. report (map (λ a. a.items) r.answers.items) r.rounds.items r.history r.tally };
+}
+
+impl Report {
+    /// A report of these, which [`serve`](crate::serve) makes last.
+    pub(crate) fn of(
+        answers: Vec<Vec<StepAnswer>>,
+        rounds: Vec<u64>,
+        history: History,
+        tally: Tally,
+    ) -> Report
+        ensures { result ≡ report (map (λ a. a.items) answers.items) rounds.items history tally }
+    {
+        Report {
+            answers,
+            rounds,
+            history,
+            tally,
+        }
+    }
+
+    /// For each plan, in order, the answers of its terms, each with its step.
+    pub fn answers(&self) -> &[Vec<StepAnswer>]
+        ensures { map (λ a. a.items) result.now ≡ self.now.answers }
+    {
+        self.answers.as_slice()
+    }
+
+    /// For each plan, in order, how many rounds of loads its terms took.
+    pub fn rounds(&self) -> &[u64]
+        ensures { result.now ≡ self.now.rounds }
+    {
+        self.rounds.as_slice()
+    }
+
+    /// The history of the loader. Plan n is its caller n, and the workers are the callers after the plans. It takes no
+    /// memory.
+    pub fn history(&self) -> &History
+        ensures { result.now ≡ self.now.history }
+    {
+        &self.history
+    }
+
+    /// How many jobs were sent, taken and left.
+    pub fn tally(&self) -> Tally
+        ensures { result ≡ self.now.tally }
+    {
+        self.tally
+    }
+}

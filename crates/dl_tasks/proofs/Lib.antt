@@ -1,4 +1,0 @@
-mod ResultLemmas
-pub mod Seats
-mod TaskLists
-pub mod ThreadSafety

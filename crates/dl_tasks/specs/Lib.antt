@@ -1,3 +1,0 @@
-pub mod Results
-pub mod Tasks
-pub mod WorkerRuns
