@@ -56,9 +56,9 @@ found_step : (b : Bool) (o : Outcome) (x : Option Outcome) → IsSome x → IsSo
 found_step true o x some = refl
 found_step false o x some = some
 
-there : (ps : Pairs) (k : Key) (o : Outcome) (more : Pairs) → IsSome (outcome_in (ps ++ (k, o) ∷ more) k)
-there [] k o more = found_here k o more (key_eq k k) refl (key_eq-refl k)
-there (p ∷ ps) k o more = found_step (key_eq k p.0) p.1 (outcome_in (ps ++ (k, o) ∷ more) k) (there ps k o more)
+found-append : (ps : Pairs) (k : Key) (o : Outcome) (more : Pairs) → IsSome (outcome_in (ps ++ (k, o) ∷ more) k)
+found-append [] k o more = found_here k o more (key_eq k k) refl (key_eq-refl k)
+found-append (p ∷ ps) k o more = found_step (key_eq k p.0) p.1 (outcome_in (ps ++ (k, o) ∷ more) k) (found-append ps k o more)
 
 covered : (ks : List Key) (os : List Outcome) (ps : Pairs) → length os ≡ length ks → AllByRecursion (λ k. IsSome (outcome_in (ps ++ paired ks os) k)) ks
 covered [] os ps long = tt
@@ -67,7 +67,7 @@ covered (k ∷ ks) (o ∷ os) ps long =
     let less : length os ≡ length ks = omega arith in
     let one : Pairs = (k, o) ∷ [] in
     let split : (ps ++ one) ++ paired ks os ≡ ps ++ ((k, o) ∷ paired ks os) = append_assoc ps one (paired ks os) in
-    (there ps k o (paired ks os), subst (λ qs. AllByRecursion (λ j. IsSome (outcome_in qs j)) ks) split (covered ks os (ps ++ one) less))
+    (found-append ps k o (paired ks os), subst (λ qs. AllByRecursion (λ j. IsSome (outcome_in qs j)) ks) split (covered ks os (ps ++ one) less))
 
 -- ---- what a run learns of tickets that show their outcomes
 
@@ -117,7 +117,8 @@ module _ (JobsEnd : List Job → List Job → List Entry → Type 0) (caller : �
   below_depth law n before past earlier rounds some low =
       some (answered (outcome_in past) t (law t t n [] past (rounds_gain n before past earlier rounds) (whole t) low))
 
-  pub rounds_within : GivesByDepth → (n : ℕ) (lines : List Entry) (known : Pairs) (sent : List Job) → Rounds JobsEnd caller t n lines known sent → n ≤ depth_of t
+  pub rounds_within : GivesByDepth → (n : ℕ) (lines : List Entry) (known : Pairs) (sent : List Job) → Rounds JobsEnd caller t n lines known sent
+      → n ≤ depth_of t
   rounds_within law zero lines known sent rounds = omega arith
   rounds_within law (suc n) lines known sent (before, last, past, earlier, later, split, parted, rounds, round) =
       elim (cases_lt n (depth_of t)) [

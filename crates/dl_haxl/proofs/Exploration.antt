@@ -27,13 +27,14 @@ use Rattle.dl_loader.specs.Pass.{Ticket}
 
 -- ---- what is known more
 
-there : (b : Bool) (a o : Outcome) (x y : Option Outcome) → (x ≡ Some o → y ≡ Some o) → (if b then Some a else x) ≡ Some o → (if b then Some a else y) ≡ Some o
-there true a o x y next is = is
-there false a o x y next is = next is
+found_by : (b : Bool) (a o : Outcome) (x y : Option Outcome) → (x ≡ Some o → y ≡ Some o) → (if b then Some a else x) ≡ Some o
+    → (if b then Some a else y) ≡ Some o
+found_by true a o x y next is = is
+found_by false a o x y next is = next is
 
 pub more_known : (ps more : Pairs) → KnowsMore (outcome_in ps) (outcome_in (ps ++ more))
 more_known [] more k o is = absurd (none_absurd o is)
-more_known (p ∷ ps) more k o is = there (key_eq k p.0) p.1 o (outcome_in ps k) (outcome_in (ps ++ more) k) (more_known ps more k o) is
+more_known (p ∷ ps) more k o is = found_by (key_eq k p.0) p.1 o (outcome_in ps k) (outcome_in (ps ++ more) k) (more_known ps more k o) is
 
 more_and_more : (p q r : Key → Option Outcome) → KnowsMore p q → KnowsMore q r → KnowsMore p r
 more_and_more p q r first next k o is = next k o (first k o is)

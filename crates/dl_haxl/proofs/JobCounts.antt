@@ -30,7 +30,8 @@ EachSent lines sent = length sent + length (unsent (events_told lines)) ≡ leng
 
 pub told-append : (ls ms : List Entry) → events_told (ls ++ ms) ≡ events_told ls ++ events_told ms
 told-append ls ms =
-    ap (λ (ts : List PlacedEvent). map (λ (t : PlacedEvent). t.event) ts) (calls_of-append ls ms) ∙ map-append (λ (t : PlacedEvent). t.event) (calls_of ls) (calls_of ms)
+    let f : PlacedEvent → Event = λ t. t.event in
+    ap (map f) (calls_of-append ls ms) ∙ map-append f (calls_of ls) (calls_of ms)
 
 pub unsent_long : (ls ms : List Entry) → length (unsent (events_told (ls ++ ms))) ≡ length (unsent (events_told ls)) + length (unsent (events_told ms))
 unsent_long ls ms =

@@ -17,7 +17,7 @@ use Rattle.dl_loader.proofs.AdditionLemmas.{made_adds, gave_still, grows_after}
 use Rattle.dl_history.proofs.Tickets.{tickets_entries}
 use Rattle.dl_loader.proofs.TicketsStay.{keeps_same, number_low}
 use Rattle.dl_haxl.specs.Pairs.{outcomes_shown}
-use Rattle.dl_haxl.specs.Reads.{KeepsOthers, Reads}
+use Rattle.dl_haxl.specs.Inside.Reads.{KeepsOthers, Reads}
 use Rattle.dl_haxl.specs.Rounds.{AddsAndSends, Round, SentMore}
 use Rattle.dl_haxl.proofs.TicketReads.{reply_of, known_of, reads_shown}
 
@@ -57,7 +57,8 @@ pub made_front : (s : Service) (old new : Trace) (call : Call) (reply : Reply) �
 made_front s old new call reply (before, now, kept, keeps, after, made) =
     let called : Trace = with_call old (length before.history) (event_of old call reply) in
     let entries : new.entries ≡ called.entries = ap (λ (p : Trace). p.entries) made.trace ∙ tickets_entries called (loads_of reply) in
-    let last : length before.history + 1 ≤ front_of called.entries = front_last old.entries (Called (event_at (length before.history) (event_of old call reply))) in
+    let one = Called (event_at (length before.history) (event_of old call reply)) in
+    let last : length before.history + 1 ≤ front_of called.entries = front_last old.entries one in
     let most : length before.history + 1 ≤ front_of new.entries = subst (λ ls. length before.history + 1 ≤ front_of ls) (sym entries) last in
     omega (arith, after, most)
 

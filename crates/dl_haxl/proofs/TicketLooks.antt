@@ -18,9 +18,9 @@ known_self : (known : Option Ending) → IfSome known (λ e. known ≡ Some e)
 known_self None = tt
 known_self (Some e) = refl
 
-known_next : (a b c : Option Ending) → IfSome a (λ e. b ≡ Some e) → IfSome b (λ e. c ≡ Some e) → IfSome a (λ e. c ≡ Some e)
-known_next None b c first next = tt
-known_next (Some e) b c first next = subst (λ o. IfSome o (λ x. c ≡ Some x)) first next
+known-trans : (a b c : Option Ending) → IfSome a (λ e. b ≡ Some e) → IfSome b (λ e. c ≡ Some e) → IfSome a (λ e. c ≡ Some e)
+known-trans None b c first next = tt
+known-trans (Some e) b c first next = subst (λ o. IfSome o (λ x. c ≡ Some x)) first next
 
 pub later_self : (ts : List Ticket) → AllLater ts ts
 later_self [] = tt
@@ -30,7 +30,7 @@ pub later_next : (t u v : Ticket) → Later t u → Later u v → Later t v
 later_next t u v first next = record {
   number = next.number ∙ first.number;
   reply = next.reply ∙ first.reply;
-  known = known_next t.known u.known v.known first.known next.known;
+  known = known-trans t.known u.known v.known first.known next.known;
 }
 
 pub later_set : (ts us : List Ticket) (i : ℕ) (d v : Ticket) → AllLater ts us → i < length us → Later (get_or us i d) v → AllLater ts (set us i v)

@@ -14,7 +14,7 @@ use Rattle.dl_loader.specs.Pass.{Trace, Ticket, GaveTicket, given, with_saw}
 use Rattle.dl_loader.proofs.AdditionLemmas.{seen_once}
 use Rattle.dl_terms.proofs.Options.{none_absurd, some_same}
 use Rattle.dl_haxl.specs.Pairs.{outcomes_shown, with_shown, all_show}
-use Rattle.dl_haxl.specs.Reads.{KeepsOthers}
+use Rattle.dl_haxl.specs.Inside.Reads.{KeepsOthers}
 
 abbrev pub reply_of : Ticket → LoadReply
 reply_of t = t.reply
@@ -66,16 +66,16 @@ number_at first before ts j t numbers numbered is =
     let found = before_at before ts j t numbers is in
     sym found.2 ∙ numbered j found.0 found.1
 
-module _ (first i : ℕ) (old now next : Trace) (before ts : List Ticket) (d u : Ticket) (e : Ending) (so_far : Reading first i old now before ts) (lt : i < length ts)
-    (number : u.number ≡ (get_or ts i d).number) (reply : u.reply ≡ (get_or ts i d).reply) (shows : u.known ≡ Some e) where
+module _ (first i : ℕ) (old now next : Trace) (before ts : List Ticket) (d u : Ticket) (e : Ending) (so_far : Reading first i old now before ts)
+    (lt : i < length ts) (number : u.number ≡ (get_or ts i d).number) (reply : u.reply ≡ (get_or ts i d).reply) (shows : u.known ≡ Some e) where
   abbrev t : Ticket
   t = get_or ts i d
 
-  there : slice_get ts i ≡ Some t
-  there = slice_get-get_or ts i d lt
+  t_at : slice_get ts i ≡ Some t
+  t_at = slice_get-get_or ts i d lt
 
   t_number : t.number ≡ first + i
-  t_number = number_at first before ts i t so_far.numbers so_far.numbered there
+  t_number = number_at first before ts i t so_far.numbers so_far.numbered t_at
 
   other_number : (j : ℕ) (x : Ticket) → i + 1 ≤ j → slice_get ts j ≡ Some x → x.number ≢ t.number
   other_number j x low is same =
@@ -125,7 +125,7 @@ module _ (first i : ℕ) (old now next : Trace) (before ts : List Ticket) (d u :
     known = known_next;
     entries = entries_next (ap (λ (p : Trace). p.entries) is);
     others = λ n g other at.
-        let b = before_at before ts i t so_far.numbers there in
+        let b = before_at before ts i t so_far.numbers t_at in
         let apart : n ≢ t.number = λ same. other i b.0 b.1 (b.2 ∙ sym same) in
         ap (λ (p : Trace). slice_get p.tickets n) is
         ∙ (get-set_other now.tickets t.number n (given (cell_of_load t.reply) true) apart ∙ so_far.others n g other at);
@@ -135,7 +135,7 @@ module _ (first i : ℕ) (old now next : Trace) (before ts : List Ticket) (d u :
       → Reading first (i + 1) old next before (set ts i u)
   read_next seen gave is =
       let low : i ≤ i = omega arith in
-      let not_seen = seen_once now t seen (so_far.unseen i t low there) gave in
+      let not_seen = seen_once now t seen (so_far.unseen i t low t_at) gave in
       unread (is ∙ ap (with_saw now t.number (cell_of_load t.reply) e) not_seen)
 
 pub shown_ending : (o : Option Ending) → IsSome o → (e : Ending) × (o ≡ Some e)

@@ -1,2 +1,3 @@
 -- The words of private functions, which no public clause reaches.
 pub mod StepsSoFar
+pub mod Reads

@@ -2,7 +2,6 @@ pub mod PlanEntries
 pub mod Future
 pub mod Inside
 pub mod Pairs
-pub mod Reads
 pub mod Rounds
 pub mod Run
 pub mod RunFaults

@@ -58,7 +58,8 @@ pub record Round (JobsEnd : List Job → List Job → List Entry → Type 0) (ca
   pub reply_each : length replies ≡ length wanted
   pub read_each : length endings ≡ length wanted
   pub jobs_end : JobsEnd jobs sent ends
-  pub tells : lines ≡ call_entry caller load_at (LoadMany wanted) (Many replies) ∷ call_entry caller dispatch_at Dispatch (Sent jobs) ∷ (ends ++ saws replies endings)
+  pub tells : lines ≡ call_entry caller load_at (LoadMany wanted) (Many replies) ∷ call_entry caller dispatch_at Dispatch (Sent jobs)
+      ∷ (ends ++ saws replies endings)
   pub outcomes_are : outcomes ≡ map (λ e. e.outcome) endings
 
 module _ (JobsEnd : List Job → List Job → List Entry → Type 0) (caller : ℕ) (t : Tree) where

@@ -6,7 +6,7 @@ ghost use Rattle.dl_loader.specs.Additions.{Grows, KeepsTickets};
 ghost use Rattle.dl_terms.specs.Tree.{Tree, depth_of};
 ghost use Rattle.dl_terms.specs.View.{term_view};
 ghost use Rattle.dl_haxl.specs.Pairs.{all_show, outcomes_shown};
-ghost use Rattle.dl_haxl.specs.Reads.{GaveFresh, KeepsOthers, Reads};
+ghost use Rattle.dl_haxl.specs.Inside.Reads.{GaveFresh, KeepsOthers, Reads};
 ghost use Rattle.dl_haxl.specs.Rounds.{AddsAndSends, Evaluates, Round, SentMore};
 ghost use Rattle.dl_haxl.specs.Run.{IsRunOf, asked_by};
 ghost use Rattle.dl_haxl.specs.RunView.{seen};
@@ -128,6 +128,7 @@ impl<'l, L: LoaderName, O: Outlet<L>> Evaluator<'l, L, O> {
         let jobs = self.loader.dispatch(rt, self.alloc, pass)?;
         O::give_out(self, rt, seat, pass, jobs)?;
         read_each(rt, self.loader, pass, tickets.as_mut_slice())?;
+        // As its clause says, the greatest place fits a `u32`.
         let _front = pass.front();
         Ok(tickets)
     }

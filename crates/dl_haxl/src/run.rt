@@ -22,6 +22,7 @@ use std::hash::RandomState;
 /// key is wanted once in a run: its first outcome serves all of the term.
 ///
 /// A poll recurses as deep as the lists of the term stand in one another, as [`Term`] says.
+#[derive(Drop)]
 pub struct TermRun<'l, L: LoaderName> {
     alloc: Global,
     // What is left of the term.
@@ -142,21 +143,6 @@ impl<'l, L: LoaderName> TermRun<'l, L> {
             None => Stage::Wanting,
         };
         Ok(answer)
-    }
-}
-
-impl<L: LoaderName> Drop for TermRun<'_, L> {
-    fn drop(self) {
-        let TermRun {
-            alloc: _,
-            root,
-            asked,
-            tickets,
-            stage: _,
-        } = self;
-        drop(root);
-        drop(asked);
-        drop(tickets);
     }
 }
 

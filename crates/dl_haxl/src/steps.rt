@@ -79,6 +79,7 @@ pub fn take_steps<L: LoaderName, R: Wait>(
     let mut number: usize = 0;
     for step in steps {
         let taken = evaluator.take_step(rt, sender, pass, step)?;
+        // As its clause says, the calls fit a `usize`, and there are no more rounds than calls.
         let _calls = pass.calls();
         add(&mut given, number, taken)?;
         number += 1;

@@ -89,7 +89,8 @@ module _ (service : Service) (plans : List Plan) (answers : List (List StepAnswe
 
   -- the refusal, if there is one, names the least batch that was given up
   pub unfetched_of : (setup : Setup) (tally : Tally) (result : Result Report ScopeFault) → IsHistory service h
-      → IsCounted (length plans) (parts_of passes) tally → MayServe setup (length plans) → IfErr result (λ fault. (batch : ℕ) × (fault ≡ Unfetched batch) × IsLeastOf (Some batch) (given_up h.events))
+      → IsCounted (length plans) (parts_of passes) tally → MayServe setup (length plans)
+      → IfErr result (λ fault. (batch : ℕ) × (fault ≡ Unfetched batch) × IsLeastOf (Some batch) (given_up h.events))
       → IfErr result (RefusedAs service setup plans)
   unfetched_of setup tally (Ok r) closed counted may fault = tt
   unfetched_of setup tally (Err f) closed counted may (batch, is, least) =

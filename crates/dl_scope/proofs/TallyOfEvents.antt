@@ -35,7 +35,8 @@ ones false (t ∷ ts) = let rest = ones false ts in omega (arith, rest)
 ones_long : (n : ℕ) (p : Trace)
     → cond (nat_le n p.caller) (length (events_told p.entries)) 0 ≡ total_told (λ e. cond (nat_le n p.caller) 1 0) (calls_of p.entries)
 ones_long n p =
-    ap (λ k. cond (nat_le n p.caller) k 0) (length-map (calls_of p.entries) (λ (t : PlacedEvent). t.event)) ∙ sym (ones (nat_le n p.caller) (calls_of p.entries))
+    ap (λ k. cond (nat_le n p.caller) k 0) (length-map (calls_of p.entries) (λ (t : PlacedEvent). t.event))
+    ∙ sym (ones (nat_le n p.caller) (calls_of p.entries))
 
 pub ones_count : (test : Event → Bool) (es : List Event) → total (λ e. cond (test e) 1 0) es ≡ count_by test es
 ones_count test [] = refl

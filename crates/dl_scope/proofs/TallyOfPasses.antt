@@ -1,5 +1,6 @@
 -- What the tally of the queue counts, by what the passes tell: jobs of the plans' dispatches, and ends by the workers.
-use Rattle.std.proofs.Common.{◌≡◌, ◌∙◌, ap, sym, subst, refl, ℕ, suc, ◌+◌, ◌≤◌, Bool, true, false, List, [], ◌∷◌, ◌++◌, length, map, flat_map, arith, length-append}
+use Rattle.std.proofs.Common.{◌≡◌, ◌∙◌, ap, sym, subst, refl, ℕ, suc, ◌+◌, ◌≤◌, Bool, true, false, arith}
+use Rattle.std.proofs.Common.{List, [], ◌∷◌, ◌++◌, length, map, flat_map, length-append}
 use Rattle.std.proofs.Common.{nat_le, if◌then◌else◌}
 use Rattle.std.specs.Prelude.{IfOk, Result}
 use Rattle.std.specs.List.{AllByRecursion, AllZip}
@@ -76,7 +77,8 @@ module _ {L : Type 0} (queue : JobQueue) (service : Service) (plans : ℕ) where
 
   -- what the plans sent is what their dispatches handed out, but for what failed as unsent
   pub record PlansCount (runs : List (PlanRun L)) : Type 0 where
-    pub sent : total (λ run. length (sent_jobs run.sender)) runs + total (λ run. unsent_in run.pass.trace) runs ≡ total (λ run. dispatched_in run.pass.trace) runs
+    pub sent : total (λ run. length (sent_jobs run.sender)) runs + total (λ run. unsent_in run.pass.trace) runs
+        ≡ total (λ run. dispatched_in run.pass.trace) runs
     pub taken : total (λ run. taken_in plans run.pass.trace) runs ≡ 0
 
   pub plans_count : (n k : ℕ) (tasks : List (PlanTask L)) (runs : List (PlanRun L)) (answers : List (List StepAnswer)) (rounds : List ℕ) (others : List Pass)

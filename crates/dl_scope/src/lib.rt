@@ -3,6 +3,8 @@
 //! [`serve`] starts a thread for each plan and for each worker. Each plan takes its steps in order; the keys that its terms
 //! wait for are loaded by the shared loader, and the workers fetch the batches. The [`Report`] has the answers and the
 //! history, and its contract says what they are evidence of, whatever the schedule was.
+//!
+//! A report's `drop` is written out, since other crates own reports: it is proved once, and called wherever one is let go.
 #![tactic(auto)]
 
 mod fault;

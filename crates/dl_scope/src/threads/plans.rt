@@ -23,7 +23,11 @@ fn run_plan<L: LoaderName, S, G, R: Wait>(
     requires seat { IsSenderOf server.now.queue.now task.sender }
     ensures run { IsPlanRun server.now.queue.now L.service task result }
 {
-    let (mut pass, mut sender, plan) = task.into_parts();
+    let PlanTask {
+        mut pass,
+        mut sender,
+        plan,
+    } = task;
     let steps = plan.into_steps();
     let (alloc, hashing) = (server.resources.alloc, server.resources.hashing);
     let (loader, queue) = (server.loader, server.queue);

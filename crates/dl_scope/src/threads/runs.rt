@@ -10,6 +10,7 @@ use dl_workers::{Sender, Taker, WorkerEnd};
 use std::alloc::AllocError;
 
 /// What a plan's thread gives back.
+#[derive(Drop)]
 pub(crate) struct PlanRun<L: LoaderName> {
     /// The pass of the plan's caller.
     pub(crate) pass: Pass<L>,
@@ -17,19 +18,6 @@ pub(crate) struct PlanRun<L: LoaderName> {
     pub(crate) sender: Sender,
     /// What the steps gave, or the fault that one of them met.
     pub(crate) given: Result<StepAnswers, RunFault>,
-}
-
-impl<L: LoaderName> Drop for PlanRun<L> {
-    fn drop(self) {
-        let PlanRun {
-            pass,
-            sender,
-            given,
-        } = self;
-        drop(pass);
-        drop(sender);
-        drop(given);
-    }
 }
 
 impl<L: LoaderName> PlanRun<L> {
@@ -47,7 +35,7 @@ impl<L: LoaderName> PlanRun<L> {
             given,
         } = self;
         let Ok(given) = given else { unreachable!() };
-        let (answers, rounds) = given.into_parts();
+        let StepAnswers { answers, rounds } = given;
         all.passes.push(pass)?;
         all.senders.push(sender)?;
         all.answers.push(answers)?;
@@ -57,6 +45,7 @@ impl<L: LoaderName> PlanRun<L> {
 }
 
 /// What a worker's thread gives back.
+#[derive(Drop)]
 pub(crate) struct WorkerRun<L: LoaderName> {
     /// The pass of the worker's caller.
     pub(crate) pass: Pass<L>,
@@ -64,18 +53,6 @@ pub(crate) struct WorkerRun<L: LoaderName> {
     pub(crate) taker: Taker,
     /// How the work ended.
     pub(crate) end: WorkerEnd,
-}
-
-impl<L: LoaderName> Drop for WorkerRun<L> {
-    fn drop(self) {
-        let WorkerRun {
-            pass,
-            taker,
-            end: _,
-        } = self;
-        drop(pass);
-        drop(taker);
-    }
 }
 
 impl<L: LoaderName> WorkerRun<L> {

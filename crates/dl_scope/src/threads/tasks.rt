@@ -1,6 +1,5 @@
 //! What each thread of a server is given, and what that of a worker does with it.
 
-ghost use Rattle.std.specs.Prelude.{◌≡◌};
 ghost use Rattle.dl_history.specs.Service.{Answers};
 ghost use Rattle.dl_queue.specs.Seats.{IsTakerOf};
 ghost use Rattle.dl_scope.specs.Inside.ThreadRuns.{IsWorkerRun};
@@ -14,6 +13,7 @@ use dl_workers::{Gate, Sender, Taker, work};
 use std::sync::Wait;
 
 /// What a plan's thread is given.
+#[derive(Drop)]
 pub(crate) struct PlanTask<L: LoaderName> {
     /// The pass of the plan's caller.
     pub(crate) pass: Pass<L>,
@@ -23,41 +23,13 @@ pub(crate) struct PlanTask<L: LoaderName> {
     pub(crate) plan: Plan,
 }
 
-impl<L: LoaderName> Drop for PlanTask<L> {
-    fn drop(self) {
-        let PlanTask { pass, sender, plan } = self;
-        drop(pass);
-        drop(sender);
-        drop(plan);
-    }
-}
-
-impl<L: LoaderName> PlanTask<L> {
-    /// The pass, the sender and the plan, taken apart.
-    pub(crate) fn into_parts(self) -> (Pass<L>, Sender, Plan)
-        ensures pass { result.0 ≡ self.pass }
-        ensures sender { result.1 ≡ self.sender }
-        ensures plan { result.2 ≡ self.plan }
-    {
-        let PlanTask { pass, sender, plan } = self;
-        (pass, sender, plan)
-    }
-}
-
 /// What a worker's thread is given.
+#[derive(Drop)]
 pub(crate) struct WorkerTask<L: LoaderName> {
     /// The pass of the worker's caller.
     pub(crate) pass: Pass<L>,
     /// Its seat at the queue.
     pub(crate) taker: Taker,
-}
-
-impl<L: LoaderName> Drop for WorkerTask<L> {
-    fn drop(self) {
-        let WorkerTask { pass, taker } = self;
-        drop(pass);
-        drop(taker);
-    }
 }
 
 impl<L: LoaderName> WorkerTask<L> {

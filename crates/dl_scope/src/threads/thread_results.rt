@@ -13,6 +13,7 @@ use std::alloc::{AllocError, Global};
 use std::sync::Wait;
 
 /// What the threads gave back: passes in the order of their callers, seats, and for each plan what its steps gave.
+#[derive(Drop)]
 pub(crate) struct ThreadResults<L: LoaderName> {
     /// The passes, those of the plans first.
     pub(crate) passes: Vec<Pass<L>>,
@@ -24,23 +25,6 @@ pub(crate) struct ThreadResults<L: LoaderName> {
     pub(crate) answers: Vec<Vec<StepAnswer>>,
     /// For each plan how many rounds of loads they took.
     pub(crate) rounds: Vec<u64>,
-}
-
-impl<L: LoaderName> Drop for ThreadResults<L> {
-    fn drop(self) {
-        let ThreadResults {
-            passes,
-            senders,
-            takers,
-            answers,
-            rounds,
-        } = self;
-        drop(passes);
-        drop(senders);
-        drop(takers);
-        drop(answers);
-        drop(rounds);
-    }
 }
 
 /// What serving plans leaves before the loader is closed.

@@ -86,8 +86,9 @@ returns-in_err-taken-clause-follows g c = IfOk-from_err _ _ c.from_residual.ensu
 pub returns-in_err-taken-clause-sent : goal.returns-in_err-taken-clause-sent
 returns-in_err-taken-clause-sent g c =
     let so_far = c.loop-step.invariant.leaves in
+    let sent = c.in_err-taken.ensures.sent in
     on_err c.from_residual.result
-    (sent_after (sent_jobs c.args.sender.now) (sent_jobs c.loop-step.sender) (sent_jobs c.take_step.new.sender) (so_far.0, so_far.1) c.in_err-taken.ensures.sent)
+    (sent_after (sent_jobs c.args.sender.now) (sent_jobs c.loop-step.sender) (sent_jobs c.take_step.new.sender) (so_far.0, so_far.1) sent)
 
 pub returns-in_err-taken-clause-older : goal.returns-in_err-taken-clause-older
 returns-in_err-taken-clause-older g c =

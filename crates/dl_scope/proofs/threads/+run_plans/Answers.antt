@@ -9,13 +9,13 @@ use Rattle.dl_scope.proofs.threads.+run_plans.Goals as goal
 
 pub start_plan-requires-clause-seat : goal.start_plan-requires-clause-seat
 start_plan-requires-clause-seat g t c = λ κs live.
-    (All-pop (λ (task : PlanTask g.row.L.Denot). IsSenderOf c.args.server.now.queue.now task.sender) c.args.plans.items c.pop.new.self.items (Some c.in-Some.task)
-    c.in-Some.ensures.items c.requires.plans).1
+    let is_seat : PlanTask g.row.L.Denot → Type 0 = λ task. IsSenderOf c.args.server.now.queue.now task.sender in
+    (All-pop is_seat c.args.plans.items c.pop.new.self.items (Some c.in-Some.task) c.in-Some.ensures.items c.requires.plans).1
 
 pub run_plans-rest-requires-clause-plans : goal.run_plans-rest-requires-clause-plans
 run_plans-rest-requires-clause-plans g t c = λ κs live.
-    (All-pop (λ (task : PlanTask g.row.L.Denot). IsSenderOf c.args.server.now.queue.now task.sender) c.args.plans.items c.pop.new.self.items (Some c.in-Some.task)
-    c.in-Some.ensures.items c.requires.plans).0
+    let is_seat : PlanTask g.row.L.Denot → Type 0 = λ task. IsSenderOf c.args.server.now.queue.now task.sender in
+    (All-pop is_seat c.args.plans.items c.pop.new.self.items (Some c.in-Some.task) c.in-Some.ensures.items c.requires.plans).0
 
 -- with the task back at the end of the list that it was taken from
 pub returns : goal.returns

@@ -10,13 +10,13 @@ use Rattle.dl_scope.proofs.threads.+run_workers.Goals as goal
 
 pub start_worker-requires-clause-seat : goal.start_worker-requires-clause-seat
 start_worker-requires-clause-seat g t c = λ κs live.
-    (All-pop (λ (task : WorkerTask g.row.L.Denot). IsTakerOf c.args.server.now.queue.now task.taker) c.args.workers.items c.pop.new.self.items (Some c.in-Some.task)
-    c.in-Some.ensures.items c.requires.workers).1
+    let is_seat : WorkerTask g.row.L.Denot → Type 0 = λ task. IsTakerOf c.args.server.now.queue.now task.taker in
+    (All-pop is_seat c.args.workers.items c.pop.new.self.items (Some c.in-Some.task) c.in-Some.ensures.items c.requires.workers).1
 
 pub run_workers-rest-requires-clause-workers : goal.run_workers-rest-requires-clause-workers
 run_workers-rest-requires-clause-workers g t c = λ κs live.
-    (All-pop (λ (task : WorkerTask g.row.L.Denot). IsTakerOf c.args.server.now.queue.now task.taker) c.args.workers.items c.pop.new.self.items (Some c.in-Some.task)
-    c.in-Some.ensures.items c.requires.workers).0
+    let is_seat : WorkerTask g.row.L.Denot → Type 0 = λ task. IsTakerOf c.args.server.now.queue.now task.taker in
+    (All-pop is_seat c.args.workers.items c.pop.new.self.items (Some c.in-Some.task) c.in-Some.ensures.items c.requires.workers).0
 
 -- with the task back at the end of the list that it was taken from
 pub returns : goal.returns

@@ -11,7 +11,7 @@ use Rattle.dl_loader.proofs.AdditionLemmas.{grows_after}
 use Rattle.dl_loader.proofs.TicketsStay.{keeps_after, keeps_made, keeps_same}
 use Rattle.dl_loader.specs.Pass.{Trace}
 use Rattle.dl_haxl.specs.Pairs.{all_show, outcomes_shown}
-use Rattle.dl_haxl.specs.Reads.{GaveFresh, Reads}
+use Rattle.dl_haxl.specs.Inside.Reads.{GaveFresh, Reads}
 use Rattle.dl_haxl.specs.Rounds.{AddsAndSends, Round}
 use Rattle.dl_haxl.proofs.Faults.{fault_of_same}
 use Rattle.dl_haxl.proofs.TicketReads.{reply_of, reads_shown}
@@ -86,7 +86,8 @@ returns-in_err-give_out g c =
       older = keeps_after old c.load_many.new.pass.trace c.give_out.new.pass.trace
           (keeps_made s old c.load_many.new.pass.trace (LoadMany c.args.wanted.now) (Many replies) c.in_ok-tickets.ensures.made)
           (keeps_same c.load_many.new.pass.trace c.give_out.new.pass.trace (c.give_out.ensures.tickets ∙ c.in_ok-jobs.ensures.tickets));
-      fault = rw same (fault_of_same s dispatched.caller old.caller c.give_out.new.pass.flags c.in_err-give_out.field-0.0 sent.0 c.in_err-give_out.ensures.fault);
+      fault = rw same
+          (fault_of_same s dispatched.caller old.caller c.give_out.new.pass.flags c.in_err-give_out.field-0.0 sent.0 c.in_err-give_out.ensures.fault);
       grows = on_err r (grows_after old dispatched c.give_out.new.pass.trace sent c.in_err-give_out.ensures.grows);
     }
 

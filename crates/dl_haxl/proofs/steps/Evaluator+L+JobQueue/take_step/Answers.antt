@@ -11,7 +11,8 @@ use Rattle.dl_queue.specs.Seats.{sent_jobs}
 use Rattle.dl_haxl.proofs.RoundSteps.{none_sent}
 use Rattle.dl_haxl.proofs.Stretches.{call_step, made_step}
 use Rattle.dl_haxl.proofs.steps.Evaluator+L+JobQueue.take_step.Goals as goal
-use Rattle.dl_haxl.proofs.steps.Evaluator+L+JobQueue.take_step.Goals.{in-Prime+in_ok-prime-in-Prime, in-Clear+in_ok-clear-in-Clear, in-ClearAll+in_ok-clear_all-in-ClearAll}
+use Rattle.dl_haxl.proofs.steps.Evaluator+L+JobQueue.take_step.Goals.{in-Prime+in_ok-prime-in-Prime, in-Clear+in_ok-clear-in-Clear}
+use Rattle.dl_haxl.proofs.steps.Evaluator+L+JobQueue.take_step.Goals.{in-ClearAll+in_ok-clear_all-in-ClearAll}
 
 -- the entries that a term's evaluation added, and the jobs that it sent, are those of the step
 pub returns-in-Eval-clause-step : goal.returns-in-Eval-clause-step
@@ -58,7 +59,8 @@ pub returns-in_err-clear-in-Clear-clause-sent : goal.returns-in_err-clear-in-Cle
 returns-in_err-clear-in-Clear-clause-sent g c = on_err c.from_residual-in_err-clear-in-Clear.result (none_sent (sent_jobs c.args.sender.now))
 
 pub returns-in_err-clear-in-Clear-clause-older : goal.returns-in_err-clear-in-Clear-clause-older
-returns-in_err-clear-in-Clear-clause-older g c = keeps_same c.args.pass.now.trace c.clear.new.pass.trace (ap (λ (t : Trace). t.tickets) c.in_err-clear-in-Clear.ensures.unchanged)
+returns-in_err-clear-in-Clear-clause-older g c =
+    keeps_same c.args.pass.now.trace c.clear.new.pass.trace (ap (λ (t : Trace). t.tickets) c.in_err-clear-in-Clear.ensures.unchanged)
 
 pub returns-in_err-clear-in-Clear-clause-fault : goal.returns-in_err-clear-in-Clear-clause-fault
 returns-in_err-clear-in-Clear-clause-fault g c =
@@ -72,7 +74,8 @@ pub returns-in_err-clear_all-in-ClearAll-clause-sent : goal.returns-in_err-clear
 returns-in_err-clear_all-in-ClearAll-clause-sent g c = on_err c.from_residual-in_err-clear_all-in-ClearAll.result (none_sent (sent_jobs c.args.sender.now))
 
 pub returns-in_err-clear_all-in-ClearAll-clause-older : goal.returns-in_err-clear_all-in-ClearAll-clause-older
-returns-in_err-clear_all-in-ClearAll-clause-older g c = keeps_same c.args.pass.now.trace c.clear_all.new.pass.trace (ap (λ (t : Trace). t.tickets) c.in_err-clear_all-in-ClearAll.ensures.unchanged)
+returns-in_err-clear_all-in-ClearAll-clause-older g c =
+    keeps_same c.args.pass.now.trace c.clear_all.new.pass.trace (ap (λ (t : Trace). t.tickets) c.in_err-clear_all-in-ClearAll.ensures.unchanged)
 
 pub returns-in_err-clear_all-in-ClearAll-clause-fault : goal.returns-in_err-clear_all-in-ClearAll-clause-fault
 returns-in_err-clear_all-in-ClearAll-clause-fault g c =
@@ -87,12 +90,14 @@ returns-in_err-prime-in-Prime-clause-fault g c =
 pub returns-in_err-clear-in-Clear-clause-grows : goal.returns-in_err-clear-in-Clear-clause-grows
 returns-in_err-clear-in-Clear-clause-grows g c =
     let old = c.args.pass.now.trace in
-    on_err c.from_residual-in_err-clear-in-Clear.result (subst (Grows old) (sym c.in_err-clear-in-Clear.ensures.unchanged) (refl, [], sym (append-nil old.entries)))
+    on_err c.from_residual-in_err-clear-in-Clear.result
+    (subst (Grows old) (sym c.in_err-clear-in-Clear.ensures.unchanged) (refl, [], sym (append-nil old.entries)))
 
 pub returns-in_err-clear_all-in-ClearAll-clause-grows : goal.returns-in_err-clear_all-in-ClearAll-clause-grows
 returns-in_err-clear_all-in-ClearAll-clause-grows g c =
     let old = c.args.pass.now.trace in
-    on_err c.from_residual-in_err-clear_all-in-ClearAll.result (subst (Grows old) (sym c.in_err-clear_all-in-ClearAll.ensures.unchanged) (refl, [], sym (append-nil old.entries)))
+    on_err c.from_residual-in_err-clear_all-in-ClearAll.result
+    (subst (Grows old) (sym c.in_err-clear_all-in-ClearAll.ensures.unchanged) (refl, [], sym (append-nil old.entries)))
 
 -- ---- an evaluation that failed
 

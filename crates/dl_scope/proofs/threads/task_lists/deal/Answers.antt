@@ -31,19 +31,18 @@ returns g c =
     let same = ap length c.in_ok-plans.ensures.plans in
     let same2 = ap length c.in_ok-workers.ensures.takers in
     let seats = c.requires.seats in
+    let takers_are = c.in_ok-workers.ensures.takers in
     let of_queue = All-pop (IsSenderOf queue) senders left (Some own) popped seats.senders_of in
     let unused = All-pop (λ s. sent_jobs s ≡ []) senders left (Some own) popped c.requires.none_sent in
     record {
       dealt = record {
         passes_are = ap (λ passes. passes ++ map (λ task. task.pass) workers) c.in_ok-plans.ensures.passes ∙ sym c.in_ok-workers.ensures.passes;
         plans_are = c.in_ok-plans.ensures.plans;
-        senders_of = All-from_map (IsSenderOf queue) (λ task. task.sender) plans left c.in_ok-plans.ensures.senders
-            of_queue.0;
-        takers_of = All-from_map (IsTakerOf queue) (λ task. task.taker) workers c.args.takers.items c.in_ok-workers.ensures.takers seats.takers_of;
+        senders_of = All-from_map (IsSenderOf queue) (λ task. task.sender) plans left c.in_ok-plans.ensures.senders of_queue.0;
+        takers_of = All-from_map (IsTakerOf queue) (λ task. task.taker) workers c.args.takers.items takers_are seats.takers_of;
         own_is = of_queue.1;
-        none_sent = All-from_map (λ s. sent_jobs s ≡ []) (λ task. task.sender) plans left c.in_ok-plans.ensures.senders
-            unused.0;
-        none_taken = All-from_map (λ t. taken_jobs t ≡ []) (λ task. task.taker) workers c.args.takers.items c.in_ok-workers.ensures.takers c.requires.none_taken;
+        none_sent = All-from_map (λ s. sent_jobs s ≡ []) (λ task. task.sender) plans left c.in_ok-plans.ensures.senders unused.0;
+        none_taken = All-from_map (λ t. taken_jobs t ≡ []) (λ task. task.taker) workers c.args.takers.items takers_are c.requires.none_taken;
         own_unused = unused.1;
         all_senders = omega (arith, long, same, c.requires.senders, seats.all_senders);
         all_takers = omega (arith, long2, same2, seats.all_takers);

@@ -1,10 +1,9 @@
-use Rattle.std.proofs.Common.{◌∙◌, ◌++◌, ◌∷◌, [], ap}
 use Rattle.dl_scope.proofs.threads.runs.PlanRun.add_to.Goals as goal
 
 pub returns-clause-gave : goal.returns-clause-gave
 returns-clause-gave g c = (
   c.in-Ok.given,
   c.in-Ok.is,
-  c.in_ok-push-3.ensures.items ∙ ap (λ given. c.args.all.now.answers.items ++ given ∷ []) c.into_parts-answers.ensures.answers,
-  c.in_ok-push-4.ensures.items ∙ ap (λ n. c.args.all.now.rounds.items ++ n ∷ []) c.into_parts-answers.ensures.rounds,
+  c.in_ok-push-3.ensures.items,
+  c.in_ok-push-4.ensures.items,
 )
