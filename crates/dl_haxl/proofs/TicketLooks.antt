@@ -52,12 +52,12 @@ and_false : (b : Bool) → b && false ≡ false
 and_false true = refl
 and_false false = refl
 
-pub unshown : (us : List Ticket) (i : ℕ) (v : Ticket) → i < length us → v.known ≡ None → all_show (set us i v) ≡ false
-unshown [] i v lt none = absurd (omega arith)
-unshown (u ∷ us) zero v lt none = ap (λ (o : Option Ending). is_some o && all_show us) none
-unshown (u ∷ us) (suc i) v lt none =
+pub set_unshown : (us : List Ticket) (i : ℕ) (v : Ticket) → i < length us → v.known ≡ None → all_show (set us i v) ≡ false
+set_unshown [] i v lt none = absurd (omega arith)
+set_unshown (u ∷ us) zero v lt none = ap (λ (o : Option Ending). is_some o && all_show us) none
+set_unshown (u ∷ us) (suc i) v lt none =
     let below : i < length us = omega arith in
-    ap (λ b. is_some u.known && b) (unshown us i v below none) ∙ and_false (is_some u.known)
+    ap (λ b. is_some u.known && b) (set_unshown us i v below none) ∙ and_false (is_some u.known)
 
 pub shown_more : (us : List Ticket) (i : ℕ) (v : Ticket) → i < length us → all_show (take i us) ≡ true → is_some v.known ≡ true
     → all_show (take (i + 1) (set us i v)) ≡ true
@@ -91,14 +91,14 @@ shown_long (t ∷ ts) all =
 
 -- ---- what a look answers
 
-pub nothing : {A : Type 0} (r : Option A) (test : Bool) (a b : Type 0) → is_some r ≡ not test → test ≡ true → IfNone r (a × b) → b
-nothing None test a b is holds both = both.1
-nothing (Some x) test a b is holds both = absurd (let bad : ◌≡◌ {A = Bool} true false = is ∙ ap not holds in cc)
+pub look_none : {A : Type 0} (r : Option A) (test : Bool) (a b : Type 0) → is_some r ≡ not test → test ≡ true → IfNone r (a × b) → b
+look_none None test a b is holds both = both.1
+look_none (Some x) test a b is holds both = absurd (let bad : ◌≡◌ {A = Bool} true false = is ∙ ap not holds in cc)
 
-pub something : (r : Option (Bor Outcome)) (test : Bool) (t : Ticket) → is_some r ≡ not test → test ≡ false → IfSome r (λ outcome. Shows t outcome.now)
+pub look_some : (r : Option (Bor Outcome)) (test : Bool) (t : Ticket) → is_some r ≡ not test → test ≡ false → IfSome r (λ outcome. Shows t outcome.now)
     → is_some t.known ≡ true
-something None test t is fails shown = absurd (let bad : ◌≡◌ {A = Bool} false true = is ∙ ap not fails in cc)
-something (Some x) test t is fails (ending, known, outcome) = ap is_some known
+look_some None test t is fails shown = absurd (let bad : ◌≡◌ {A = Bool} false true = is ∙ ap not fails in cc)
+look_some (Some x) test t is fails (ending, known, outcome) = ap is_some known
 
 -- a look at a ticket that shows its outcome changes nothing
 pub same_look : (ts : List Ticket) (i : ℕ) (d v : Ticket) → all_show ts ≡ true → i < length ts → Later (get_or ts i d) v → set ts i v ≡ ts

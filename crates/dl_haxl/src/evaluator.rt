@@ -12,11 +12,11 @@ ghost use Rattle.dl_haxl.specs.Run.{IsRunOf, asked_by};
 ghost use Rattle.dl_haxl.specs.RunView.{seen};
 ghost use Rattle.dl_haxl.specs.RunFaults.{IsRunFault};
 
+use crate::fault::RunFault;
 use crate::outlet::Outlet;
 use crate::run::TermRun;
 use dl_desk::FetchKey;
 use dl_loader::{Loader, LoaderName, Pass, Stopped, Ticket};
-use crate::fault::RunFault;
 use dl_terms::{Answer, Term, laws};
 use futures::task::Poll;
 use std::alloc::Global;

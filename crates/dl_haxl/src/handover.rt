@@ -14,11 +14,11 @@ ghost use Rattle.dl_haxl.specs.Rounds.{AddsAndSends, EvaluatesQueued, HandedOver
 ghost use Rattle.dl_haxl.specs.RunFaults.{IsRunFault};
 
 use crate::evaluator::Evaluator;
+use crate::fault::RunFault;
 use crate::outlet::Outlet;
 use dl_desk::Job;
 use dl_loader::{GiveUp, Loader, LoaderName, Pass};
 use dl_queue::{JobQueue, Sender};
-use crate::fault::RunFault;
 use dl_terms::{Answer, Term};
 use std::alloc::Global;
 use std::hash::RandomState;

@@ -11,10 +11,10 @@ ghost use Rattle.dl_haxl.specs.Rounds.{EndedInline, EvaluatesInline};
 ghost use Rattle.dl_haxl.specs.RunFaults.{IsRunFault};
 
 use crate::evaluator::Evaluator;
+use crate::fault::RunFault;
 use crate::outlet::Outlet;
 use dl_desk::Job;
 use dl_loader::{Loader, LoaderName, Pass, end_job};
-use crate::fault::RunFault;
 use dl_source::Source;
 use dl_terms::{Answer, Term};
 use std::alloc::Global;

@@ -8,9 +8,9 @@ ghost use Rattle.dl_haxl.specs.Rounds.{AddsAndSends, SentMore};
 ghost use Rattle.dl_haxl.specs.RunFaults.{IsRunFault};
 
 use crate::evaluator::Evaluator;
+use crate::fault::RunFault;
 use dl_desk::Job;
 use dl_loader::{LoaderName, Pass};
-use crate::fault::RunFault;
 use std::sync::Wait;
 
 /// Where the jobs of a round go: to the source of the evaluating thread, or to fetch workers.

@@ -11,11 +11,11 @@ ghost use Rattle.dl_haxl.specs.Rounds.{AddsAndSends, SentMore};
 ghost use Rattle.dl_haxl.specs.RunFaults.{IsRunFault};
 
 use crate::evaluator::Evaluator;
+use crate::fault::RunFault;
+use crate::step_answers::{StepAnswer, StepAnswers};
 use dl_desk::{FetchKey, Outcome};
 use dl_loader::{Loader, LoaderName, Pass, PrimeReply};
 use dl_queue::{JobQueue, Sender};
-use crate::fault::RunFault;
-use crate::step_answers::{StepAnswer, StepAnswers};
 use dl_terms::{Answer, Step};
 use std::alloc::{AllocError, Global};
 use std::hash::RandomState;

@@ -1,3 +1,4 @@
+-- The words of private functions, which no public clause reaches.
 pub mod Results
 pub mod ThreadRuns
 pub mod ServedPlans
