@@ -6,10 +6,10 @@ use Rattle.dl_desk.specs.declared.reply.DeskPrime.{DeskPrime}
 use Rattle.dl_desk.specs.Events.{atoms}
 use Rattle.dl_desk.specs.Calls.{Loads, after}
 use Rattle.dl_desk.specs.declared.reply.LoadReply.{LoadReply}
-use Rattle.dl_history.specs.declared.event.Event.{Event}
-use Rattle.dl_history.specs.declared.event.Call.{Call}
-use Rattle.dl_history.specs.declared.event.Reply.{Reply}
-use Rattle.dl_history.specs.declared.event.Reply.TheVariants.{Many, Loaded, Primed, Done, Sent}
+use Rattle.dl_desk.specs.declared.event.Event.{Event}
+use Rattle.dl_desk.specs.declared.event.Call.{Call}
+use Rattle.dl_desk.specs.declared.event.Reply.{Reply}
+use Rattle.dl_desk.specs.declared.event.Reply.TheVariants.{Many, Loaded, Primed, Done, Sent}
 use Rattle.dl_loader.specs.Book.{Book, Keeps}
 use Rattle.dl_history.specs.Entries.{cell_of_load, Called, event_at, cells_of}
 use Rattle.dl_history.specs.History.{past}
@@ -22,9 +22,9 @@ use Rattle.dl_history.proofs.Pasts.{legal_at, legal_atoms, atoms_next, get-appen
 use Rattle.dl_history.proofs.CellsOfCalls.{replies_low, replies_long}
 use Rattle.dl_history.proofs.EntryLists.{cells_of-append}
 use Rattle.dl_desk.specs.declared.reply.DeskPrime.TheVariants as prime
-use Rattle.dl_history.specs.declared.event.Call.TheVariants as call
+use Rattle.dl_desk.specs.declared.event.Call.TheVariants as call
 use Rattle.dl_history.specs.History as history
-use Rattle.dl_history.specs.declared.event.Reply.TheVariants as answered
+use Rattle.dl_desk.specs.declared.event.Reply.TheVariants as answered
 
 -- ---- as a book has them
 

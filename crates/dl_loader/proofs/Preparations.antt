@@ -7,13 +7,13 @@ use Rattle.dl_desk.specs.Calls.{Primes, refusal, unfit}
 use Rattle.dl_desk.specs.BatchBook.{BatchBook, StandsFor}
 use Rattle.dl_values.specs.declared.outcome.Outcome.{Outcome}
 use Rattle.dl_desk.specs.declared.reply.DeskPrime.{DeskPrime}
-use Rattle.dl_history.specs.declared.event.Call.{Call}
+use Rattle.dl_desk.specs.declared.event.Call.{Call}
 use Rattle.dl_values.specs.declared.outcome.BatchAnswer.{BatchAnswer}
 use Rattle.dl_loader.specs.declared.dues.Due.{Due}
 use Rattle.dl_loader.specs.Inside.Dues.{AreDue, end_refusal, outcome_by}
 use Rattle.dl_loader.specs.Inside.Preparation.{IsPrepared, cell_primed, ended_count, cells_ended}
 use Rattle.std.proofs.lemmas.List.{length-map}
-use Rattle.dl_history.specs.declared.event.Call.TheVariants.{Prime, Settle}
+use Rattle.dl_desk.specs.declared.event.Call.TheVariants.{Prime, Settle}
 use Rattle.dl_history.specs.History.{primed, keys_of, call_of, reply_to, MayBeMade}
 use Rattle.std.specs.Option.{option_or}
 use Rattle.std.proofs.lemmas.Bool.{leb-false}
@@ -25,7 +25,7 @@ use Rattle.dl_values.proofs.KeyLemmas.{key_eq-same, key_eq-refl}
 use Rattle.dl_values.specs.declared.outcome.BatchAnswer.TheVariants.{Each, Break}
 use Rattle.dl_values.specs.declared.job.Job.{Job}
 use Rattle.dl_source.specs.Source.{IsFor}
-use Rattle.dl_history.specs.declared.event.Reply.TheVariants.{Done}
+use Rattle.dl_desk.specs.declared.event.Reply.TheVariants.{Done}
 use Rattle.dl_history.specs.declared.fault.CallFault.{CallFault}
 use Rattle.dl_history.specs.declared.fault.CallFault.TheVariants.{WrongKeys}
 use Rattle.dl_loader.specs.Asks.{end_by}

@@ -2,8 +2,8 @@
 
 ghost use Rattle.std.specs.Prelude.{◌≡◌, None, [], ◌∷◌};
 ghost use Rattle.dl_desk.specs.Calls.{Loads};
-ghost use Rattle.dl_history.specs.declared.event.Call.TheVariants as made;
-ghost use Rattle.dl_history.specs.declared.event.Reply.TheVariants as reply;
+ghost use Rattle.dl_desk.specs.declared.event.Call.TheVariants as made;
+ghost use Rattle.dl_desk.specs.declared.event.Reply.TheVariants as reply;
 ghost use Rattle.dl_loader.specs.Inside.Preparation.{IsReady};
 
 use crate::event_call::{EventCall, Prepared};

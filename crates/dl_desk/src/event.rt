@@ -1,8 +1,9 @@
 //! The events of a shared loader: who called what, and what was replied.
 
 use crate::replies::{Jobs, Replies};
+use crate::reply::LoadReply;
 use crate::shared::Shared;
-use dl_desk::{BatchFault, FetchKey, Keys, LoadReply, Outcome, Outcomes};
+use dl_values::{BatchFault, FetchKey, Keys, Outcome, Outcomes};
 
 /// A call of a shared loader, with its arguments.
 #[derive(Debug, Drop)]

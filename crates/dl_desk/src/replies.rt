@@ -1,6 +1,7 @@
 //! Lists in the replies of events.
 
-use dl_desk::{Job, List, LoadReply};
+use crate::reply::LoadReply;
+use dl_values::{Job, List};
 
 /// The replies to the loads of a loadMany, in the order of its keys.
 pub type Replies = List<LoadReply>;
