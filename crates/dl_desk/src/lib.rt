@@ -6,6 +6,7 @@
 #![tactic(auto)]
 
 mod batch;
+mod call;
 mod desk;
 mod event;
 mod fault;
@@ -19,6 +20,7 @@ mod table_book;
 mod table_map;
 mod table_name;
 
+pub use call::DeskCall;
 pub use desk::{BatchView, Desk};
 pub use dl_values::{
     BatchAnswer, BatchFault, FetchKey, ID_BYTES, Job, Json, KeyFault, Keys, LARGEST_LIMIT,

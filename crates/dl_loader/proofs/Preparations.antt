@@ -3,7 +3,8 @@ use Rattle.std.proofs.Common.{◌≡◌, ◌∙◌, sym, ap, ℕ, List, length, 
 use Rattle.std.proofs.Common.{Some, IsSome, slice_get, option_map, is_some, nat_le, Decides, arith}
 use Rattle.dl_values.specs.Key.{Key, key_eq}
 use Rattle.dl_desk.specs.History.{Atom, prime_reply, cells, begun, sent, end_of, members, MayEnd}
-use Rattle.dl_desk.specs.Calls.{Primes, refusal, unfit}
+use Rattle.dl_desk.specs.Calls.{refusal, unfit}
+use Rattle.dl_desk.specs.declared.call.DeskCall.TheVariants as asked
 use Rattle.dl_desk.specs.BatchBook.{BatchBook, StandsFor}
 use Rattle.dl_values.specs.declared.outcome.Outcome.{Outcome}
 use Rattle.dl_desk.specs.declared.reply.DeskPrime.{DeskPrime}
@@ -42,7 +43,7 @@ prime_each dues prime.Kept same = same
 
 -- a prime is prepared where the desk has accepted it and replies so
 pub prime_prepared : {desk : BatchBook} {call : Call} {at : ℕ} {dues : List Due} {brings : (List Key → BatchAnswer) → Type 0} (k : Key) (o : Outcome)
-    (r : DeskPrime) → ((h : List Atom) → StandsFor desk h → r ≡ prime_reply h k) → ((h : List Atom) → StandsFor desk h → refusal desk.rules h (Primes k) ≡ None)
+    (r : DeskPrime) → ((h : List Atom) → StandsFor desk h → r ≡ prime_reply h k) → ((h : List Atom) → StandsFor desk h → refusal desk.rules h (asked.Prime k) ≡ None)
     → call ≡ Prime k o → AreDue call at (cell_primed r) dues → IsPrepared desk (record { call = Prime k o; job = None; brings = brings })
     (record { at = at; reply = primed r; dues = dues })
 prime_prepared {desk} {call} {at} {dues} k o r told accepted is due = record {

@@ -4,7 +4,8 @@ use Rattle.dl_values.specs.Key.{Key}
 use Rattle.dl_values.specs.declared.job.Job.{Job}
 use Rattle.dl_values.specs.declared.outcome.BatchAnswer.{BatchAnswer}
 use Rattle.dl_desk.specs.History.{Atom, members, prime_reply}
-use Rattle.dl_desk.specs.Calls.{DeskCall, after}
+use Rattle.dl_desk.specs.Calls.{after}
+use Rattle.dl_desk.specs.declared.call.DeskCall.{DeskCall}
 use Rattle.dl_desk.specs.BatchBook.{BatchBook, Desk, StandsFor}
 use Rattle.dl_desk.specs.declared.reply.DeskPrime.{DeskPrime}
 use Rattle.dl_desk.specs.declared.reply.DeskPrime.TheVariants as prime
