@@ -4,7 +4,7 @@
 # lines of crates.txt count. While rt works in a folder it keeps others out of all folders below. So the longest chain is proved in place, by
 # $(jobs) jobs, and what is beside it in copies of the sources, from which rt takes it over. That needs the folder `shared`.
 SHELL := bash
-chain := dl_values dl_desk dl_history dl_loader dl_haxl dl_scope plans
+chain := dl_values dl_desk dl_history dl_loader dl_haxl dl_scope dl_plans plans
 # What is beside it is proved by one job each, but this by two, where the chain has several.
 large := dl_documents
 

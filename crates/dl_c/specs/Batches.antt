@@ -1,7 +1,9 @@
 -- The calls on batches as C makes them.
 use Rattle.std.specs.Prelude.{◌≡◌, ℕ, ◌<◌, List, slice_get, IfSome, nat_le, if◌then◌else◌}
 use Rattle.dl_desk.specs.History.{Atom, begun, members, jobs, jobs_from}
-use Rattle.dl_desk.specs.Calls.{DeskCall, Sends, refusal}
+use Rattle.dl_desk.specs.Calls.{refusal}
+use Rattle.dl_desk.specs.declared.call.DeskCall.{DeskCall}
+use Rattle.dl_desk.specs.declared.call.DeskCall.TheVariants.{Dispatch}
 use Rattle.dl_desk.specs.BatchBook.{BatchBook, StandsFor}
 use Rattle.dl_c.specs.declared.codes.TheConstants.{DONE, OUT_OF_MEMORY, NO_BATCH}
 use Rattle.dl_c.specs.declared.answers.Loaded.{Loaded}
@@ -14,7 +16,7 @@ use Rattle.dl_c.specs.Calls.{Makes}
 
 -- The answer to a dispatch: the batches that it sends stand in a row.
 pub record AnswersDispatch (answer : Dispatched) (old new : BatchBook) : Type 0 where
-  pub made : answer.code ≡ DONE → Makes old Sends new
+  pub made : answer.code ≡ DONE → Makes old Dispatch new
   pub sent : answer.code ≡ DONE → (history : List Atom) → StandsFor old history → answer ≡ sent_as (jobs history)
   pub in_a_row : answer.code ≡ DONE → (history : List Atom) → StandsFor old history → jobs history ≡ jobs_from history answer.first answer.count
   pub refused : DONE < answer.code → (answer ≡ record { code = OUT_OF_MEMORY; first = 0; count = 0 }) × (new ≡ old)

@@ -2,7 +2,9 @@
 use Rattle.std.specs.Prelude.{◌≡◌, ℕ, ◌<◌, ◌≤◌, ◌⊎◌, List, [], ◌∷◌, None}
 use Rattle.dl_values.specs.Key.{Key}
 use Rattle.dl_desk.specs.History.{Atom, load_reply, prime_reply, held}
-use Rattle.dl_desk.specs.Calls.{DeskCall, Loads, Primes, Clears, refusal, after}
+use Rattle.dl_desk.specs.Calls.{refusal, after}
+use Rattle.dl_desk.specs.declared.call.DeskCall.{DeskCall}
+use Rattle.dl_desk.specs.declared.call.DeskCall.TheVariants.{Load, Prime, Clear}
 use Rattle.dl_desk.specs.BatchBook.{BatchBook, StandsFor}
 use Rattle.dl_c.specs.declared.codes.TheConstants.{DONE, FRESH, OUT_OF_MEMORY}
 use Rattle.dl_c.specs.declared.answers.Loaded.{Loaded}
@@ -29,13 +31,13 @@ pub record AnswersKeyed (k : Key) (call : DeskCall) (code : ℕ) (old new : Batc
 
 -- the answer to a load of the key
 pub record AnswersLoad (k : Key) (answer : Loaded) (old new : BatchBook) : Type 0 where
-  pub call : AnswersKeyed k (Loads (k ∷ [])) answer.code old new
+  pub call : AnswersKeyed k (Load k) answer.code old new
   pub cell : answer.code ≤ FRESH → (history : List Atom) → StandsFor old history → answer ≡ loaded_as (load_reply old.rules history k)
   pub none : FRESH < answer.code → answer ≡ refused_as answer.code
 
 -- the answer to a prime of the key
 pub record AnswersPrime (k : Key) (answer : Loaded) (old new : BatchBook) : Type 0 where
-  pub call : AnswersKeyed k (Primes k) answer.code old new
+  pub call : AnswersKeyed k (Prime k) answer.code old new
   pub cell : answer.code ≤ FRESH → (history : List Atom) → StandsFor old history → answer ≡ primed_as (prime_reply history k)
   pub none : FRESH < answer.code → answer ≡ refused_as answer.code
 
@@ -48,6 +50,6 @@ pub record AnswersHeld (k : Key) (answer : Loaded) (old new : BatchBook) : Type 
 
 -- the answer to a clear of the key
 pub record AnswersClear (k : Key) (code : ℕ) (old new : BatchBook) : Type 0 where
-  pub call : AnswersKeyed k (Clears k) code old new
+  pub call : AnswersKeyed k (Clear k) code old new
   pub done : code ≤ FRESH → code ≡ DONE
   pub fault : FRESH < code → IsKeyFault k code

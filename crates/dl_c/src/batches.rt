@@ -2,7 +2,7 @@
 
 ghost use Rattle.std.specs.Prelude.{◌≡◌, ◌<◌, List, IfSome, slice_get};
 ghost use Rattle.dl_desk.specs.History.{Atom, members};
-ghost use Rattle.dl_desk.specs.Calls.{Settles, Fails};
+ghost use Rattle.dl_desk.specs.declared.call.DeskCall.TheVariants.{Settle, Fail};
 ghost use Rattle.dl_desk.specs.BatchBook.{StandsFor};
 ghost use Rattle.dl_c.specs.Answers.{refused_as};
 ghost use Rattle.dl_c.specs.Keys.{Spells};
@@ -123,7 +123,7 @@ fn spell(desk: &Desk, batch: u32, index: u32, texts: &mut KeyTexts) -> u32
 #[unsafe(no_mangle)]
 pub extern "C" fn dl_desk_settle(alloc: Global, handle: &mut Handle, batch: u32) -> u32
     ensures closed { OnClosed handle.old handle.new (result ≡ CLOSED) }
-    ensures desk { OnDesk handle.old handle.new (AnswersEnd (Settles batch) result) }
+    ensures desk { OnDesk handle.old handle.new (AnswersEnd (Settle batch) result) }
 {
     let Some(mut kept) = take(alloc, handle) else {
         return CLOSED;
@@ -134,7 +134,7 @@ pub extern "C" fn dl_desk_settle(alloc: Global, handle: &mut Handle, batch: u32)
 }
 
 fn settle(desk: &mut Desk, batch: u32) -> u32
-    ensures { AnswersEnd (Settles batch) result desk.old.book desk.new.book }
+    ensures { AnswersEnd (Settle batch) result desk.old.book desk.new.book }
 {
     match desk.settle(batch) {
         Ok(()) => DONE,
@@ -148,7 +148,7 @@ fn settle(desk: &mut Desk, batch: u32) -> u32
 #[unsafe(no_mangle)]
 pub extern "C" fn dl_desk_fail(alloc: Global, handle: &mut Handle, batch: u32) -> u32
     ensures closed { OnClosed handle.old handle.new (result ≡ CLOSED) }
-    ensures desk { OnDesk handle.old handle.new (AnswersEnd (Fails batch) result) }
+    ensures desk { OnDesk handle.old handle.new (AnswersEnd (Fail batch) result) }
 {
     let Some(mut kept) = take(alloc, handle) else {
         return CLOSED;
@@ -159,7 +159,7 @@ pub extern "C" fn dl_desk_fail(alloc: Global, handle: &mut Handle, batch: u32) -
 }
 
 fn fail(desk: &mut Desk, batch: u32) -> u32
-    ensures { AnswersEnd (Fails batch) result desk.old.book desk.new.book }
+    ensures { AnswersEnd (Fail batch) result desk.old.book desk.new.book }
 {
     match desk.fail(batch) {
         Ok(()) => DONE,

@@ -2,7 +2,7 @@
 
 ghost use Rattle.std.specs.Prelude.{◌≡◌, ◌<◌, ◌≤◌, ◌∷◌, [], List};
 ghost use Rattle.dl_desk.specs.History.{Atom, load_reply, prime_reply};
-ghost use Rattle.dl_desk.specs.Calls.{Loads, Primes, Clears, ClearsAll};
+ghost use Rattle.dl_desk.specs.declared.call.DeskCall.TheVariants.{Load, Prime, Clear, ClearAll};
 ghost use Rattle.dl_desk.specs.BatchBook.{StandsFor};
 ghost use Rattle.dl_c.specs.declared.codes.TheConstants.{FRESH};
 ghost use Rattle.dl_c.specs.Answers.{loaded_as, primed_as, refused_as};
@@ -52,10 +52,10 @@ fn load(alloc: Global, kept: &mut KeptDesk, table: &[u8], id: &[u8]) -> Loaded
 }
 
 fn load_key(alloc: Global, desk: &mut Desk, key: &FetchKey) -> Loaded
-    ensures made { result.code ≤ FRESH → Makes desk.old.book (Loads (key.now ∷ [])) desk.new.book }
+    ensures made { result.code ≤ FRESH → Makes desk.old.book (Load key.now) desk.new.book }
     ensures cell { result.code ≤ FRESH → (history : List Atom) → StandsFor desk.old.book history
         → result ≡ loaded_as (load_reply desk.old.book.rules history key.now) }
-    ensures refused { FRESH < result.code → Refuses desk.old.book (Loads (key.now ∷ [])) result.code desk.new.book }
+    ensures refused { FRESH < result.code → Refuses desk.old.book (Load key.now) result.code desk.new.book }
     ensures none { FRESH < result.code → result ≡ refused_as result.code }
 {
     match desk.load(alloc, key) {
@@ -100,9 +100,9 @@ fn prime(alloc: Global, kept: &mut KeptDesk, table: &[u8], id: &[u8]) -> Loaded
 }
 
 fn prime_key(desk: &mut Desk, key: &FetchKey) -> Loaded
-    ensures made { result.code ≤ FRESH → Makes desk.old.book (Primes key.now) desk.new.book }
+    ensures made { result.code ≤ FRESH → Makes desk.old.book (Prime key.now) desk.new.book }
     ensures cell { result.code ≤ FRESH → (history : List Atom) → StandsFor desk.old.book history → result ≡ primed_as (prime_reply history key.now) }
-    ensures refused { FRESH < result.code → Refuses desk.old.book (Primes key.now) result.code desk.new.book }
+    ensures refused { FRESH < result.code → Refuses desk.old.book (Prime key.now) result.code desk.new.book }
     ensures none { FRESH < result.code → result ≡ refused_as result.code }
 {
     match desk.prime(key) {
@@ -181,7 +181,7 @@ fn clear(alloc: Global, kept: &mut KeptDesk, table: &[u8], id: &[u8]) -> u32
 pub extern "C" fn dl_desk_clear_all(alloc: Global, handle: &mut Handle) -> u32
     ensures closed { OnClosed handle.old handle.new (result ≡ CLOSED) }
     ensures done { OnDesk handle.old handle.new (λ _ _. result ≡ DONE) }
-    ensures desk { OnDesk handle.old handle.new (λ old new. Makes old ClearsAll new) }
+    ensures desk { OnDesk handle.old handle.new (λ old new. Makes old ClearAll new) }
 {
     let Some(mut kept) = take(alloc, handle) else {
         return CLOSED;

@@ -3,7 +3,7 @@
 ghost use Rattle.std.specs.Prelude.{◌≡◌, ◌<◌, ◌≤◌, ◌+◌, List, length, map, drop, OnOk, IfOk, IfErr};
 ghost use Rattle.std.specs.List.{All};
 ghost use Rattle.dl_desk.specs.History.{Atom, load_replies};
-ghost use Rattle.dl_desk.specs.Calls.{Loads};
+ghost use Rattle.dl_desk.specs.declared.call.DeskCall.TheVariants.{LoadMany};
 ghost use Rattle.dl_desk.specs.BatchBook.{StandsFor};
 ghost use Rattle.dl_c.specs.Answers.{loaded_as};
 ghost use Rattle.dl_values.specs.KeyTexts.{IsKeyText};
@@ -105,10 +105,10 @@ fn next_key(alloc: Global, texts: &[u8], lengths: KeyLengths) -> Result<(FetchKe
 
 fn load_keys(alloc: Global, desk: &mut Desk, keys: &[FetchKey], answers: &mut [Loaded]) -> u32
     requires { length keys.now ≡ length answers.old }
-    ensures made { result ≡ DONE → Makes desk.old.book (Loads keys.now) desk.new.book }
+    ensures made { result ≡ DONE → Makes desk.old.book (LoadMany keys.now) desk.new.book }
     ensures cells { result ≡ DONE → (history : List Atom) → StandsFor desk.old.book history
         → answers.new ≡ map loaded_as (load_replies desk.old.book.rules history keys.now) }
-    ensures refused { DONE < result → Refuses desk.old.book (Loads keys.now) result desk.new.book }
+    ensures refused { DONE < result → Refuses desk.old.book (LoadMany keys.now) result desk.new.book }
     ensures none { DONE < result → answers.new ≡ answers.old }
 {
     match desk.load_many(alloc, keys) {

@@ -10,7 +10,8 @@ use Rattle.dl_desk.specs.declared.reply.LoadReply.{LoadReply}
 use Rattle.dl_desk.specs.declared.reply.LoadReply.TheVariants.{Hit, Fresh}
 use Rattle.dl_desk.specs.declared.fault.DeskFault.{DeskFault}
 use Rattle.dl_desk.specs.declared.fault.DeskFault.TheVariants.{NoBatch, NotSent, SettledBefore, CellsFull, OutOfMemory}
-use Rattle.dl_desk.specs.Calls.{new_count, full, IsRefusal, Loads}
+use Rattle.dl_desk.specs.Calls.{new_count, full, IsRefusal}
+use Rattle.dl_desk.specs.declared.call.DeskCall.TheVariants.{LoadMany}
 use Rattle.dl_desk.specs.BatchBook.{BatchBook, StandsFor}
 use Rattle.dl_desk.specs.Preparation.{RefusesStep}
 use Rattle.dl_values.proofs.KeyLemmas.{key_eq-same}
@@ -117,7 +118,7 @@ cells-fresh rules history k rest is =
 
 -- the load of a further key is refused, so the loads of the whole list are
 pub refused_at : (rules : Rules) (history : List Atom) (xs : List Key) (k : Key) (rest : List Key) (book : BatchBook) (fault : DeskFault) → book.rules ≡ rules
-    → StandsFor book (loaded rules history xs) → RefusesStep book k fault → IsRefusal rules history (Loads (xs ++ k ∷ rest)) fault
+    → StandsFor book (loaded rules history xs) → RefusesStep book k fault → IsRefusal rules history (LoadMany (xs ++ k ∷ rest)) fault
 refused_at rules history xs k rest book (CellsFull limit) same stands refuses =
     let none : held (loaded rules history xs) k ≡ None = sym (stands.memo k) ∙ refuses.2 in
     let at_limit : cells (loaded rules history xs) ≡ rules.limits.max_cells = sym stands.cells ∙ (refuses.1 ∙ ap (λ (r : Rules). r.limits.max_cells) same) in

@@ -16,6 +16,7 @@ pub mod TwoBooks
 pub mod TableJoins
 pub mod Counts
 pub mod Loads
+pub mod Plays
 pub mod EndLemmas
 pub mod MemoView
 pub mod BatchEnd

@@ -6,7 +6,8 @@ use Rattle.dl_values.specs.Limits.{Rules}
 use Rattle.dl_desk.specs.History.{Atom, Load, load_reply, loaded, load_replies}
 use Rattle.dl_desk.specs.declared.reply.LoadReply.{LoadReply}
 use Rattle.dl_desk.specs.declared.fault.DeskFault.{DeskFault}
-use Rattle.dl_desk.specs.Calls.{Loads, refusal, IsRefusal}
+use Rattle.dl_desk.specs.Calls.{refusal, IsRefusal}
+use Rattle.dl_desk.specs.declared.call.DeskCall.TheVariants.{LoadMany}
 use Rattle.dl_desk.specs.BatchBook.{BatchBook, Desk, StandsFor}
 use Rattle.dl_desk.specs.Preparation.{RefusesStep}
 use Rattle.dl_desk.proofs.Counts.{loaded-append, load_replies-snoc, full-none, refused_at}
@@ -58,7 +59,7 @@ pub loading_all : (book : BatchBook) (desk : Desk) (keys : List Key) (i : ℕ) (
 loading_all book desk keys i replies high l = rw (take_all i keys high) at l
 
 pub loading_accepted : (book : BatchBook) (desk : Desk) (keys : List Key) (replies : List LoadReply) → Loading book desk keys replies → (history : List Atom)
-    → StandsFor book history → refusal book.rules history (Loads keys) ≡ None
+    → StandsFor book history → refusal book.rules history (LoadMany keys) ≡ None
 loading_accepted book desk keys replies l history stands =
     let s : StandsFor desk.prepared (loaded book.rules history keys) = l.stands history stands in
     let w : desk.prepared.cells ≤ book.rules.limits.max_cells = rw l.rules at l.within in
@@ -67,9 +68,9 @@ loading_accepted book desk keys replies l history stands =
 -- a refused step refuses the call
 pub loading_refused : (book : BatchBook) (desk : Desk) (keys : List Key) (i : ℕ) (replies : List LoadReply) (k : Key) (fault : DeskFault) → i < length keys
     → k ≡ get_or keys i k → Loading book desk (take i keys) replies → RefusesStep desk.prepared k fault → (history : List Atom) → StandsFor book history
-    → IsRefusal book.rules history (Loads keys) fault
+    → IsRefusal book.rules history (LoadMany keys) fault
 loading_refused book desk keys i replies k fault low at l refuses history stands =
     let split : take i keys ++ k ∷ drop (i + 1) keys ≡ keys = ap (λ (ys : List Key). take i keys ++ ys)
     (ap (λ (x : Key). x ∷ drop (i + 1) keys) at ∙ sym (drop_more keys i k low)) ∙ take-append-drop i keys in
-    let P : List Key → Type 0 = λ ks. IsRefusal book.rules history (Loads ks) fault in
+    let P : List Key → Type 0 = λ ks. IsRefusal book.rules history (LoadMany ks) fault in
     subst P split (refused_at book.rules history (take i keys) k (drop (i + 1) keys) desk.prepared fault l.rules (l.stands history stands) refuses)

@@ -1,25 +1,29 @@
 -- A call that a desk has prepared.
-use Rattle.std.specs.Prelude.{◌≡◌, List}
+use Rattle.std.specs.Prelude.{◌≡◌, List, [], ◌∷◌}
 use Rattle.dl_values.specs.Limits.{Rules}
 use Rattle.dl_desk.specs.History.{Atom, load_replies, prime_reply, jobs}
-use Rattle.dl_desk.specs.Calls.{DeskCall, Loads, Primes, Clears, ClearsAll, Sends, Settles, Fails, after}
+use Rattle.dl_desk.specs.Calls.{after}
 use Rattle.dl_desk.specs.BatchBook.{Desk, StandsFor}
+use Rattle.dl_desk.specs.declared.call.DeskCall.{DeskCall}
+use Rattle.dl_desk.specs.declared.call.DeskCall.TheVariants.{Load, LoadMany, Prime, Clear, ClearAll, Dispatch, Settle, Fail}
 use Rattle.dl_desk.specs.declared.reply.DeskReply.{DeskReply}
 use Rattle.dl_desk.specs.declared.reply.DeskReply.TheVariants as reply
 use Rattle.dl_desk.specs.declared.ready.Ready.{Ready}
 
 -- the reply is that to the call
 abbrev pub IsReplyTo : Rules → List Atom → DeskCall → DeskReply → Type 0
-IsReplyTo rules history (Loads ks) (reply.Loads replies) = replies.items ≡ load_replies rules history ks
-IsReplyTo rules history (Primes k) (reply.Primed primed) = primed ≡ prime_reply history k
-IsReplyTo rules history Sends (reply.Sent sent) = sent.items ≡ jobs history
-IsReplyTo rules history (Loads ks) _ = ⊥
-IsReplyTo rules history (Primes k) _ = ⊥
-IsReplyTo rules history Sends _ = ⊥
-IsReplyTo rules history (Clears k) _ = ⊥
-IsReplyTo rules history ClearsAll _ = ⊥
-IsReplyTo rules history (Settles b) _ = ⊥
-IsReplyTo rules history (Fails b) _ = ⊥
+IsReplyTo rules history (Load k) (reply.Loads replies) = replies.items ≡ load_replies rules history (k ∷ [])
+IsReplyTo rules history (LoadMany ks) (reply.Loads replies) = replies.items ≡ load_replies rules history ks
+IsReplyTo rules history (Prime k) (reply.Primed primed) = primed ≡ prime_reply history k
+IsReplyTo rules history Dispatch (reply.Sent sent) = sent.items ≡ jobs history
+IsReplyTo rules history (Load k) _ = ⊥
+IsReplyTo rules history (LoadMany ks) _ = ⊥
+IsReplyTo rules history (Prime k) _ = ⊥
+IsReplyTo rules history Dispatch _ = ⊥
+IsReplyTo rules history (Clear k) _ = ⊥
+IsReplyTo rules history ClearAll _ = ⊥
+IsReplyTo rules history (Settle b) _ = ⊥
+IsReplyTo rules history (Fail b) _ = ⊥
 
 -- what is prepared in the desk is the call, and the reply is the call's
 pub record IsReadyFor (desk : Desk) (call : DeskCall) (ready : Ready) : Type 0 where

@@ -14,6 +14,7 @@ ghost use Rattle.dl_desk.specs.Preparation.{members_at, has_room_in, book_room, 
 mod batch_view;
 mod calls;
 mod ends;
+mod play;
 mod prepare;
 
 use crate::batch::StoredBatch;

@@ -6,22 +6,30 @@
 #![tactic(auto)]
 
 mod batch;
+mod call;
 mod desk;
+mod event;
 mod fault;
 pub mod laws;
 mod memo_and_batches;
 mod ready;
+mod replies;
 mod reply;
+mod shared;
 mod table_book;
 mod table_map;
 mod table_name;
 
+pub use call::DeskCall;
 pub use desk::{BatchView, Desk};
 pub use dl_values::{
     BatchAnswer, BatchFault, FetchKey, ID_BYTES, Job, Json, KeyFault, Keys, LARGEST_LIMIT,
     LimitFault, Limits, List, Message, Outcome, Outcomes, TABLE_BYTES, TableLimit, TableLimitFault,
     TableLimits, Text, has_float,
 };
+pub use event::{Call, Ending, Event, Reply};
 pub use fault::DeskFault;
 pub use ready::Ready;
+pub use replies::{Jobs, Replies};
 pub use reply::{BatchState, DeskPrime, DeskReply, End, LoadReply};
+pub use shared::Shared;

@@ -4,8 +4,8 @@ use Rattle.dl_values.specs.declared.job.Job.{Job}
 use Rattle.dl_values.specs.declared.outcome.BatchFault.TheVariants.{Unsent}
 use Rattle.dl_history.specs.Entries.{Entry}
 use Rattle.dl_history.specs.Service.{Service}
-use Rattle.dl_history.specs.declared.event.Call.TheVariants.{Fail}
-use Rattle.dl_history.specs.declared.event.Reply.TheVariants.{Done}
+use Rattle.dl_desk.specs.declared.event.Call.TheVariants.{Fail}
+use Rattle.dl_desk.specs.declared.event.Reply.TheVariants.{Done}
 use Rattle.dl_loader.specs.Additions.{call_entry}
 use Rattle.dl_loader.specs.EventEffect.{WasMade}
 use Rattle.dl_loader.specs.Pass.{Trace}

@@ -7,8 +7,8 @@ use Rattle.dl_values.specs.Key.{Key}
 use Rattle.dl_values.specs.declared.outcome.Outcome.{Outcome}
 use Rattle.dl_values.specs.declared.job.Job.{Job}
 use Rattle.dl_history.specs.Entries.{Entry, PlacedEvent, calls_of}
-use Rattle.dl_history.specs.declared.event.Event.{Event}
-use Rattle.dl_history.specs.declared.event.Ending.{Ending}
+use Rattle.dl_desk.specs.declared.event.Event.{Event}
+use Rattle.dl_desk.specs.declared.event.Ending.{Ending}
 use Rattle.dl_history.proofs.EntryLists.{calls_of-append}
 use Rattle.dl_loader.specs.Additions.{saws}
 use Rattle.dl_terms.specs.TermAnswers.{Pairs}

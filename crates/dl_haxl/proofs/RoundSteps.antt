@@ -6,10 +6,10 @@ use Rattle.dl_values.specs.Key.{Key}
 use Rattle.dl_values.specs.declared.job.Job.{Job}
 use Rattle.dl_history.specs.Entries.{Entry, Called, event_at, entry_front, front_of}
 use Rattle.dl_history.specs.Service.{Service}
-use Rattle.dl_history.specs.declared.event.Call.{Call}
-use Rattle.dl_history.specs.declared.event.Reply.{Reply}
-use Rattle.dl_history.specs.declared.event.Call.TheVariants.{LoadMany, Dispatch}
-use Rattle.dl_history.specs.declared.event.Reply.TheVariants.{Many, Sent}
+use Rattle.dl_desk.specs.declared.event.Call.{Call}
+use Rattle.dl_desk.specs.declared.event.Reply.{Reply}
+use Rattle.dl_desk.specs.declared.event.Call.TheVariants.{LoadMany, Dispatch}
+use Rattle.dl_desk.specs.declared.event.Reply.TheVariants.{Many, Sent}
 use Rattle.dl_loader.specs.Additions.{call_entry, saws, Grows, KeepsTickets}
 use Rattle.dl_loader.specs.EventEffect.{WasMade, event_of, loads_of}
 use Rattle.dl_loader.specs.Pass.{Trace, Ticket, GaveTickets, with_call}

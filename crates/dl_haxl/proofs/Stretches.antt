@@ -3,16 +3,16 @@ use Rattle.std.proofs.Common.{◌≡◌, ◌∙◌, ap, sym, subst, refl, ℕ, s
 use Rattle.std.proofs.Common.{length-append}
 use Rattle.dl_history.specs.Entries.{Entry, calls_of}
 use Rattle.dl_history.specs.Service.{Service}
-use Rattle.dl_history.specs.declared.event.Call.{Call}
-use Rattle.dl_history.specs.declared.event.Reply.{Reply}
+use Rattle.dl_desk.specs.declared.event.Call.{Call}
+use Rattle.dl_desk.specs.declared.event.Reply.{Reply}
 use Rattle.dl_loader.specs.EventEffect.{WasMade}
 use Rattle.dl_loader.proofs.AdditionLemmas.{made_adds}
 use Rattle.dl_history.proofs.EntryLists.{calls_of-append}
 use Rattle.dl_loader.specs.Additions.{Adds}
 use Rattle.dl_loader.specs.Pass.{Trace}
 use Rattle.dl_values.specs.declared.job.Job.{Job}
-use Rattle.dl_history.specs.declared.event.Call.TheVariants.{LoadMany, Dispatch}
-use Rattle.dl_history.specs.declared.event.Reply.TheVariants.{Many, Sent}
+use Rattle.dl_desk.specs.declared.event.Call.TheVariants.{LoadMany, Dispatch}
+use Rattle.dl_desk.specs.declared.event.Reply.TheVariants.{Many, Sent}
 use Rattle.dl_loader.specs.Additions.{call_entry, saws}
 use Rattle.dl_terms.specs.TermAnswers.{Pairs, frontier}
 use Rattle.dl_terms.specs.Tree.{Tree}

@@ -8,7 +8,7 @@ use Rattle.std.proofs.lemmas.List.{take_more_set, set-get_or}
 use Rattle.dl_terms.proofs.Options.{some_same}
 use Rattle.std.proofs.lemmas.List.Folds.{list_all-append}
 use Rattle.dl_values.specs.declared.outcome.Outcome.{Outcome}
-use Rattle.dl_history.specs.declared.event.Ending.{Ending}
+use Rattle.dl_desk.specs.declared.event.Ending.{Ending}
 use Rattle.dl_loader.specs.Pass.{Ticket, Shows, ticket}
 use Rattle.dl_haxl.specs.Pairs.{Later, AllLater, all_show, outcomes_shown, with_shown}
 

@@ -7,7 +7,7 @@ use Rattle.std.proofs.lemmas.Option.{slice_get-get_or, slice_get-map}
 use Rattle.std.proofs.Math.Seq.{map-set_same}
 use Rattle.dl_desk.specs.declared.reply.LoadReply.{LoadReply}
 use Rattle.dl_desk.proofs.Tails.{get-set_other}
-use Rattle.dl_history.specs.declared.event.Ending.{Ending}
+use Rattle.dl_desk.specs.declared.event.Ending.{Ending}
 use Rattle.dl_history.specs.Entries.{Entry, Saw, cell_of_load, read}
 use Rattle.dl_loader.specs.Additions.{saws}
 use Rattle.dl_loader.specs.Pass.{Trace, Ticket, GaveTicket, given, with_saw}

@@ -3,7 +3,7 @@ pub use Rattle.dl_terms.specs.Asked.{paired}
 use Rattle.std.specs.Prelude.{◌≡◌, Bool, List, [], ◌∷◌, Option, Some, None, IfSome, is_some}
 use Rattle.std.specs.List.{list_all, AllZip}
 use Rattle.dl_values.specs.declared.outcome.Outcome.{Outcome}
-use Rattle.dl_history.specs.declared.event.Ending.{Ending}
+use Rattle.dl_desk.specs.declared.event.Ending.{Ending}
 use Rattle.dl_loader.specs.Pass.{Ticket}
 
 -- the ticket later: the same load, and what it showed it shows

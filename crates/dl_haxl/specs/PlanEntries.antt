@@ -2,9 +2,9 @@
 use Rattle.std.specs.Prelude.{◌≡◌, ℕ, suc, ◌+◌, List, [], ◌∷◌, ◌++◌}
 use Rattle.dl_values.specs.declared.job.Job.{Job}
 use Rattle.dl_history.specs.Entries.{Entry}
-use Rattle.dl_history.specs.declared.event.Call.{Call}
-use Rattle.dl_history.specs.declared.event.Call.TheVariants as call
-use Rattle.dl_history.specs.declared.event.Reply.{Reply}
+use Rattle.dl_desk.specs.declared.event.Call.{Call}
+use Rattle.dl_desk.specs.declared.event.Call.TheVariants as call
+use Rattle.dl_desk.specs.declared.event.Reply.{Reply}
 use Rattle.dl_loader.specs.Additions.{call_entry}
 use Rattle.dl_terms.specs.declared.answer.Answer.{Answer}
 use Rattle.dl_terms.specs.View.{term_view}

@@ -7,9 +7,9 @@ use Rattle.dl_values.specs.declared.job.Job.{Job}
 use Rattle.dl_desk.specs.declared.reply.LoadReply.{LoadReply}
 use Rattle.dl_history.specs.Entries.{Entry}
 use Rattle.dl_history.specs.Service.{Service}
-use Rattle.dl_history.specs.declared.event.Call.TheVariants.{LoadMany, Dispatch, Fail}
-use Rattle.dl_history.specs.declared.event.Ending.{Ending}
-use Rattle.dl_history.specs.declared.event.Reply.TheVariants.{Many, Sent, Done}
+use Rattle.dl_desk.specs.declared.event.Call.TheVariants.{LoadMany, Dispatch, Fail}
+use Rattle.dl_desk.specs.declared.event.Ending.{Ending}
+use Rattle.dl_desk.specs.declared.event.Reply.TheVariants.{Many, Sent, Done}
 use Rattle.dl_loader.specs.Additions.{call_entry, saws, Adds}
 use Rattle.dl_loader.specs.Pass.{Trace}
 use Rattle.dl_terms.specs.declared.answer.Answer.{Answer}

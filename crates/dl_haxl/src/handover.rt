@@ -3,8 +3,8 @@
 ghost use Rattle.std.specs.Prelude.{◌≡◌, ◌≤◌, ◌++◌, ℕ, List, IfErr, IfOk, OnErr, OnOk};
 ghost use Rattle.dl_values.specs.declared.outcome.BatchFault.TheVariants.{Unsent};
 ghost use Rattle.dl_values.specs.declared.job.Job.{Job};
-ghost use Rattle.dl_history.specs.declared.event.Call.TheVariants.{Fail};
-ghost use Rattle.dl_history.specs.declared.event.Reply.TheVariants.{Done};
+ghost use Rattle.dl_desk.specs.declared.event.Call.TheVariants.{Fail};
+ghost use Rattle.dl_desk.specs.declared.event.Reply.TheVariants.{Done};
 ghost use Rattle.dl_loader.specs.Additions.{Grows, KeepsTickets};
 ghost use Rattle.dl_loader.specs.EventEffect.{WasMade};
 ghost use Rattle.dl_terms.specs.Tree.{depth_of};

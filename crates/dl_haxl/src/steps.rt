@@ -1,8 +1,8 @@
 //! How the steps of a plan are taken.
 
 ghost use Rattle.std.specs.Prelude.{◌≡◌, ◌+◌, ◌^◌, ◌<◌, ◌∷◌, ◌++◌, [], ℕ, IfErr, IfOk, OnErr, OnOk};
-ghost use Rattle.dl_history.specs.declared.event.Call.TheVariants.{Prime};
-ghost use Rattle.dl_history.specs.declared.event.Reply.{Reply};
+ghost use Rattle.dl_desk.specs.declared.event.Call.TheVariants.{Prime};
+ghost use Rattle.dl_desk.specs.declared.event.Reply.{Reply};
 ghost use Rattle.dl_loader.specs.Additions.{Adds, Grows, KeepsTickets, call_entry};
 ghost use Rattle.dl_queue.specs.Seats.{IsSenderOf, sent_jobs};
 ghost use Rattle.dl_haxl.specs.PlanEntries.{FollowsAndSends, IsStep, stretch};

@@ -4,8 +4,8 @@ use Rattle.std.proofs.Common.{Some, None, IfSome, IsSome, slice_get, sum_by, ref
 use Rattle.std.proofs.lemmas.List.Elements.{filter-append}
 use Rattle.dl_desk.specs.History.{cells}
 use Rattle.dl_desk.specs.Events.{atoms}
-use Rattle.dl_history.specs.declared.event.Event.{Event}
-use Rattle.dl_history.specs.declared.event.Ending.{Ending}
+use Rattle.dl_desk.specs.declared.event.Event.{Event}
+use Rattle.dl_desk.specs.declared.event.Ending.{Ending}
 use Rattle.dl_history.specs.declared.cell_state.Mark.{Mark}
 use Rattle.dl_history.specs.declared.cell_state.Mark.TheVariants.{Waiting, Ended, Refused}
 use Rattle.dl_history.specs.Agreement.{Account, accounts_by, HasEach, HasCalls, places_of, Tells, Agrees, Meets, Fits}

@@ -15,7 +15,7 @@ use Rattle.dl_desk.specs.declared.reply.End.{End}
 use Rattle.dl_desk.specs.declared.reply.End.TheVariants.{Settled, Failed}
 use Rattle.dl_desk.proofs.Facts.{fresh_cell, named}
 use Rattle.dl_desk.proofs.LawEnds.{made_kept, atoms_legal}
-use Rattle.dl_history.specs.declared.event.Event as event
+use Rattle.dl_desk.specs.declared.event.Event as event
 use Rattle.dl_history.specs.Service.{Service, AnswersEach}
 use Rattle.dl_history.specs.History.{past, ending_of}
 use Rattle.dl_history.specs.History as legal

@@ -11,8 +11,8 @@ use Rattle.dl_desk.specs.Events.{atoms, ends, cell_batch}
 use Rattle.dl_values.specs.declared.outcome.Outcome.{Outcome}
 use Rattle.dl_values.specs.declared.outcome.Outcome.TheVariants.{BatchFailed}
 use Rattle.dl_values.specs.declared.outcome.BatchFault.{BatchFault}
-use Rattle.dl_history.specs.declared.event.Event.{Event}
-use Rattle.dl_history.specs.declared.event.Call.TheVariants.{Settle, Fail}
+use Rattle.dl_desk.specs.declared.event.Event.{Event}
+use Rattle.dl_desk.specs.declared.event.Call.TheVariants.{Settle, Fail}
 use Rattle.dl_history.specs.Service.{Service, AnswersEach}
 use Rattle.dl_history.specs.History.{made, as_made, past, keys_of, MayBeMade, IsNext, IsLegal, ending_of}
 use Rattle.dl_history.proofs.Pasts.{legal_atoms, legal_next}

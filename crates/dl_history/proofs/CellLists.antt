@@ -2,7 +2,7 @@
 use Rattle.std.proofs.Common.{◌≡◌, ◌∙◌, sym, ap, subst, ℕ, zero, suc, ◌-◌, ◌<◌, ◌≤◌, ◌⊎◌, inl, inr, Bool, true, false, List, [], ◌∷◌, ◌++◌, length, set, Option}
 use Rattle.std.proofs.Common.{Some, None, MatchBool, slice_get, refl, arith}
 use Rattle.std.specs.List.{repeat}
-use Rattle.dl_history.specs.declared.event.Ending.{Ending}
+use Rattle.dl_desk.specs.declared.event.Ending.{Ending}
 use Rattle.dl_history.specs.declared.cell_state.Mark.{Mark}
 use Rattle.dl_history.specs.declared.cell_state.Mark.TheVariants.{Waiting, Ended, Refused}
 use Rattle.dl_history.specs.Journal.{Cell, waiting, showing, refused, Refuses}

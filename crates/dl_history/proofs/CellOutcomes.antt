@@ -5,8 +5,8 @@ use Rattle.std.proofs.lemmas.Bool.{cases_lt}
 use Rattle.dl_desk.specs.Events.{Placed, atoms, ending, outcome, outcome_given}
 use Rattle.dl_desk.specs.History.{cells}
 use Rattle.dl_values.specs.declared.outcome.Outcome.{Outcome}
-use Rattle.dl_history.specs.declared.event.Event.{Event}
-use Rattle.dl_history.specs.declared.event.Ending.{Ending}
+use Rattle.dl_desk.specs.declared.event.Event.{Event}
+use Rattle.dl_desk.specs.declared.event.Ending.{Ending}
 use Rattle.dl_history.specs.History.{AllEnded}
 use Rattle.dl_history.specs.Service.{Service, AnswersEach}
 use Rattle.dl_history.specs.History.{IsLegal, past, end_with, ending_of}

@@ -12,8 +12,8 @@ use Rattle.dl_desk.specs.Calls.{after}
 use Rattle.dl_desk.specs.declared.reply.LoadReply.{LoadReply}
 use Rattle.dl_desk.specs.declared.reply.LoadReply.TheVariants.{Hit, Fresh}
 use Rattle.dl_desk.proofs.Facts.{fresh_cell}
-use Rattle.dl_history.specs.declared.event.Event.{Event}
-use Rattle.dl_history.specs.declared.event.Call.{Call}
+use Rattle.dl_desk.specs.declared.event.Event.{Event}
+use Rattle.dl_desk.specs.declared.event.Call.{Call}
 use Rattle.dl_history.specs.Entries.{cell_of_load, answered}
 use Rattle.dl_history.specs.History.{past, reply_to, IsNext, as_made, past_onto, call_of, IsLegal}
 use Rattle.dl_history.specs.Lists.{Every}
@@ -22,7 +22,7 @@ use Rattle.dl_history.proofs.Pasts.{legal_atoms, atoms_next, take-get, legal_fro
 use Rattle.std.proofs.lemmas.List.{take-append-drop}
 use Rattle.dl_desk.specs.Events as desk
 use Rattle.dl_desk.proofs.LawEnds.{made-le}
-use Rattle.dl_history.specs.declared.event.Call.TheVariants.{Load, LoadMany, Prime, Clear, ClearAll, Dispatch, Settle, Fail}
+use Rattle.dl_desk.specs.declared.event.Call.TheVariants.{Load, LoadMany, Prime, Clear, ClearAll, Dispatch, Settle, Fail}
 use Rattle.dl_history.proofs.ListLemmas.{every_map}
 
 -- ---- the cell that is held

@@ -11,10 +11,10 @@ use Rattle.dl_desk.specs.declared.reply.LoadReply.{LoadReply}
 use Rattle.dl_desk.specs.declared.reply.LoadReply.TheVariants.{Hit, Fresh}
 use Rattle.dl_desk.specs.declared.reply.DeskPrime.{DeskPrime}
 use Rattle.dl_desk.specs.declared.reply.DeskPrime.TheVariants as prime
-use Rattle.dl_history.specs.declared.event.Event.{Event}
-use Rattle.dl_history.specs.declared.event.Call.{Call}
-use Rattle.dl_history.specs.declared.event.Call.TheVariants.{Load, LoadMany, Prime, Clear, ClearAll, Dispatch, Settle, Fail}
-use Rattle.dl_history.specs.declared.event.Reply.TheVariants.{Primed, Kept}
+use Rattle.dl_desk.specs.declared.event.Event.{Event}
+use Rattle.dl_desk.specs.declared.event.Call.{Call}
+use Rattle.dl_desk.specs.declared.event.Call.TheVariants.{Load, LoadMany, Prime, Clear, ClearAll, Dispatch, Settle, Fail}
+use Rattle.dl_desk.specs.declared.event.Reply.TheVariants.{Primed, Kept}
 use Rattle.dl_history.specs.Service.{Service}
 use Rattle.dl_history.specs.History.{made, gave, as_made, past, primed, reply_to, IsNext, IsLegal, ending_of}
 use Rattle.dl_history.proofs.Pasts.{past-snoc, length-past, legal_past, legal_atoms, legal_next}

@@ -21,10 +21,10 @@ use Rattle.dl_desk.proofs.LawFresh as fresh
 use Rattle.dl_desk.proofs.LawBatches as batches
 use Rattle.dl_desk.proofs.LawEnds as ends
 use Rattle.dl_desk.proofs.LawOutcomes as outcomes
-use Rattle.dl_history.specs.declared.event.Event.{Event}
-use Rattle.dl_history.specs.declared.event.Ending.{Ending}
-use Rattle.dl_history.specs.declared.event.Call.{Call}
-use Rattle.dl_history.specs.declared.event.Call.TheVariants.{Load, LoadMany, Prime, Clear, ClearAll, Dispatch, Settle, Fail}
+use Rattle.dl_desk.specs.declared.event.Event.{Event}
+use Rattle.dl_desk.specs.declared.event.Ending.{Ending}
+use Rattle.dl_desk.specs.declared.event.Call.{Call}
+use Rattle.dl_desk.specs.declared.event.Call.TheVariants.{Load, LoadMany, Prime, Clear, ClearAll, Dispatch, Settle, Fail}
 use Rattle.dl_history.specs.Service.{Service}
 use Rattle.dl_history.specs.History.{IsLegal, end_with, past, made, primed, reply_to}
 use Rattle.dl_history.specs.Laws.{loads_in, LoadsFresh, Forgets, ForgetsBetween, FreshLoadsAreApart, BatchesAreWithinLimits, EndsStay, EventsAreCalls}

@@ -12,7 +12,7 @@ use Rattle.dl_history.specs.declared.entry.EntryKind.{EntryKind}
 use Rattle.dl_history.specs.declared.entry.EntryKind.TheVariants as kind
 use Rattle.dl_history.specs.Lists.{Every, places, one_if}
 use Rattle.dl_history.specs.Service.{Service}
-use Rattle.dl_history.specs.declared.event.Event.{Event}
+use Rattle.dl_desk.specs.declared.event.Event.{Event}
 
 -- ---- the entries of a caller
 

@@ -6,10 +6,10 @@ use Rattle.std.proofs.lemmas.List.{map-set}
 use Rattle.std.proofs.lemmas.Bool.{ltb-false}
 use Rattle.std.proofs.lemmas.Option.{slice_get-map, slice_get_past}
 use Rattle.dl_cells.specs.Cells.{RowName, Reader, Agrees}
-use Rattle.dl_history.specs.declared.event.Ending.{Ending}
+use Rattle.dl_desk.specs.declared.event.Ending.{Ending}
 use Rattle.dl_history.specs.declared.cell_state.Mark.TheVariants.{Ended, Refused}
 use Rattle.dl_history.specs.declared.cell_state.CellState.{CellState}
-use Rattle.dl_history.specs.declared.event.Event.{Event}
+use Rattle.dl_desk.specs.declared.event.Event.{Event}
 use Rattle.dl_history.specs.Journal.{Cell, showing, refused, Refuses, AreKnown, IsKnown, JournalFields, IsJournal, cell_by, cells_by, events_known}
 use Rattle.dl_history.specs.Entries.{event_known}
 use Rattle.dl_history.proofs.Pasts.{get-snoc}

@@ -9,7 +9,7 @@ use Rattle.dl_desk.specs.History as atom
 use Rattle.dl_desk.specs.Events.{Made, One, Many, with_loads, with_made, atoms}
 use Rattle.dl_desk.specs.Events as desk
 use Rattle.dl_desk.specs.declared.reply.LoadReply.{LoadReply}
-use Rattle.dl_history.specs.declared.event.Event.{Event}
+use Rattle.dl_desk.specs.declared.event.Event.{Event}
 use Rattle.dl_history.specs.History.{as_made, past_onto, past}
 
 -- ---- one past after another

@@ -16,16 +16,16 @@ use Rattle.dl_values.proofs.key.Keys.TheSendSync as keys
 use Rattle.dl_values.proofs.message.Message.TheSendSync as message
 use Rattle.dl_values.proofs.list.List.TheSendSync as list
 use Rattle.dl_values.proofs.outcome.BatchFault.TheSendSync as fault
-use Rattle.dl_history.proofs.event.Reply.TheSendSync as reply
-use Rattle.dl_history.proofs.shared.Shared.TheSendSync as shared
+use Rattle.dl_desk.proofs.event.Reply.TheSendSync as reply
+use Rattle.dl_desk.proofs.shared.Shared.TheSendSync as shared
 use Rattle.dl_history.proofs.flags.Flags.TheSendSync as flags
 use Rattle.dl_values.specs.contracts.json.Json as Json
 use Rattle.dl_values.specs.contracts.outcome.Outcome as Outcome
 use Rattle.dl_values.specs.contracts.list.List as List
-use Rattle.dl_history.specs.contracts.shared.Shared as Shared
-use Rattle.dl_history.specs.contracts.event.Call as Call
-use Rattle.dl_history.specs.contracts.event.Event as Event
-use Rattle.dl_history.specs.contracts.event.Ending as Ending
+use Rattle.dl_desk.specs.contracts.shared.Shared as Shared
+use Rattle.dl_desk.specs.contracts.event.Call as Call
+use Rattle.dl_desk.specs.contracts.event.Event as Event
+use Rattle.dl_desk.specs.contracts.event.Ending as Ending
 use Rattle.dl_history.specs.contracts.cell_state.Mark as Mark
 use Rattle.std.specs.contracts.alloc.Global as Heap
 use Rattle.std.specs.contracts.impls.GlobalAllocator.TheImpl.{ghosts}

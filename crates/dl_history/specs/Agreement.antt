@@ -4,7 +4,7 @@ use Rattle.dl_history.specs.Entries.{Entry, Called, Saw, calls_of, IsOwn, front_
 use Rattle.dl_history.specs.History.{ending_of}
 use Rattle.dl_history.specs.Journal.{Cell, cell_refused}
 use Rattle.dl_history.specs.Lists.{Every, Among, places}
-use Rattle.dl_history.specs.declared.event.Event.{Event}
+use Rattle.dl_desk.specs.declared.event.Event.{Event}
 
 -- ---- accounts
 

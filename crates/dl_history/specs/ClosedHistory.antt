@@ -11,7 +11,7 @@ use Rattle.dl_history.specs.Lists.{Every}
 use Rattle.dl_history.specs.Service.{Service, AnswersEach}
 use Rattle.dl_history.specs.declared.entry.EntryKind.{EntryKind}
 use Rattle.dl_history.specs.declared.entry.EntryKind.TheVariants as kind
-use Rattle.dl_history.specs.declared.event.Event.{Event}
+use Rattle.dl_desk.specs.declared.event.Event.{Event}
 
 -- the events in order, and an account for each caller
 pub record History : Type 0 where

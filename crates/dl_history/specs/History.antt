@@ -7,7 +7,8 @@ use Rattle.dl_desk.specs.History.{Atom, MayEnd, begun, end_of, members, load_rep
 use Rattle.dl_desk.specs.History as atom
 use Rattle.dl_desk.specs.Events.{Made, One, Many, Gave, Nothing, Given, Each, Broke, atoms, ended, outcome}
 use Rattle.dl_desk.specs.Events as desk
-use Rattle.dl_desk.specs.Calls.{DeskCall, Loads, Primes, Clears, ClearsAll, Sends, Settles, Fails}
+use Rattle.dl_desk.specs.declared.call.DeskCall.{DeskCall}
+use Rattle.dl_desk.specs.declared.call.DeskCall.TheVariants as asked
 use Rattle.dl_values.specs.declared.outcome.Outcome.{Outcome}
 use Rattle.dl_values.specs.declared.outcome.BatchFault.{BatchFault}
 use Rattle.dl_values.specs.declared.outcome.BatchFault.TheVariants.{Source, Memory, Unsent}
@@ -16,12 +17,12 @@ use Rattle.dl_desk.specs.declared.reply.DeskPrime.TheVariants as prime
 use Rattle.dl_values.specs.declared.outcome.BatchAnswer.{BatchAnswer}
 use Rattle.dl_values.specs.declared.outcome.BatchAnswer.TheVariants as answered
 use Rattle.dl_history.specs.Service.{Service}
-use Rattle.dl_history.specs.declared.event.Event.{Event}
-use Rattle.dl_history.specs.declared.event.Ending.{Ending}
-use Rattle.dl_history.specs.declared.event.Call.{Call}
-use Rattle.dl_history.specs.declared.event.Call.TheVariants.{Load, LoadMany, Prime, Clear, ClearAll, Dispatch, Settle, Fail}
-use Rattle.dl_history.specs.declared.event.Reply.{Reply}
-use Rattle.dl_history.specs.declared.event.Reply.TheVariants.{Loaded, Many as ManyReplies, Primed, Kept, Done, Sent}
+use Rattle.dl_desk.specs.declared.event.Event.{Event}
+use Rattle.dl_desk.specs.declared.event.Ending.{Ending}
+use Rattle.dl_desk.specs.declared.event.Call.{Call}
+use Rattle.dl_desk.specs.declared.event.Call.TheVariants.{Load, LoadMany, Prime, Clear, ClearAll, Dispatch, Settle, Fail}
+use Rattle.dl_desk.specs.declared.event.Reply.{Reply}
+use Rattle.dl_desk.specs.declared.event.Reply.TheVariants.{Loaded, Many as ManyReplies, Primed, Kept, Done, Sent}
 
 -- ---- events as the definitions of one thread have them
 
@@ -74,16 +75,16 @@ reply_to rules history Dispatch = Sent (jobs history)
 reply_to rules history (Settle b os) = Done
 reply_to rules history (Fail b fault) = Done
 
--- the call as a desk has it, where a load is a loadMany of its one key
+-- the call as a desk has it
 abbrev pub call_of : Call → DeskCall
-call_of (Load k) = Loads (k ∷ [])
-call_of (LoadMany ks) = Loads ks
-call_of (Prime k o) = Primes k
-call_of (Clear k) = Clears k
-call_of ClearAll = ClearsAll
-call_of Dispatch = Sends
-call_of (Settle b os) = Settles b
-call_of (Fail b fault) = Fails b
+call_of (Load k) = asked.Load k
+call_of (LoadMany ks) = asked.LoadMany ks
+call_of (Prime k o) = asked.Prime k
+call_of (Clear k) = asked.Clear k
+call_of ClearAll = asked.ClearAll
+call_of Dispatch = asked.Dispatch
+call_of (Settle b os) = asked.Settle b
+call_of (Fail b fault) = asked.Fail b
 
 -- the keys of a batch's members, in order
 abbrev pub keys_of : List Atom → ℕ → List Key

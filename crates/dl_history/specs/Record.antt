@@ -1,7 +1,7 @@
 -- What a recorded event leaves, before its tickets are given and its cells end.
 use Rattle.std.specs.Prelude.{◌≡◌, ℕ, [], ◌∷◌, ◌++◌, length}
 use Rattle.std.specs.List.{repeat}
-use Rattle.dl_history.specs.declared.event.Event.{Event}
+use Rattle.dl_desk.specs.declared.event.Event.{Event}
 use Rattle.dl_history.specs.Journal.{Journal, waiting}
 use Rattle.dl_history.specs.Pass.{Trace, with_call}
 

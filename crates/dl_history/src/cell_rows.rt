@@ -4,11 +4,10 @@ ghost use Rattle.std.specs.Prelude.{◌≡◌};
 ghost use Rattle.dl_cells.specs.Cells.{row_len};
 ghost use Rattle.dl_values.specs.Limits.{AreLimits};
 
-use crate::event::{Ending, Event};
 use crate::flags::Flags;
 use crate::name::LoaderName;
 use dl_cells::{CellRow, Flag};
-use dl_desk::Limits;
+use dl_desk::{Ending, Event, Limits};
 use std::marker::{Model, PhantomData};
 
 /// Where the events of a loader and the outcomes of its cells lie, how many of both there may be, and the loader's flags. Contracts

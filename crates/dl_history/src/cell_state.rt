@@ -2,15 +2,14 @@
 
 ghost use Rattle.std.specs.Prelude.{◌≡◌, ◌<◌, IfSome, MatchBool, None, Option, Some, option_copied, option_map};
 ghost use Rattle.dl_cells.specs.Cells.{cell_of, row_len};
-ghost use Rattle.dl_history.specs.declared.event.Ending.{Ending};
+ghost use Rattle.dl_desk.specs.declared.event.Ending.{Ending};
 ghost use Rattle.dl_history.specs.declared.cell_state.Mark.TheVariants.{Waiting, Ended, Refused};
 ghost use Rattle.dl_history.specs.LoaderState.{ShowsEnd};
 
 use crate::entry::Read;
-use crate::event::Ending;
 use crate::name::LoaderName;
 use dl_cells::{CellRow, Reader};
-use dl_desk::Outcome;
+use dl_desk::{Ending, Outcome};
 
 /// Whether a cell took the outcome that it was given.
 #[derive(Drop)]

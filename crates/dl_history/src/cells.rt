@@ -2,14 +2,13 @@
 
 ghost use Rattle.std.specs.Prelude.{◌≡◌, ◌≤◌, Option, length, option_copied, option_map, slice_get};
 ghost use Rattle.dl_cells.specs.Cells.{row_len};
-ghost use Rattle.dl_history.specs.declared.event.Ending.{Ending};
+ghost use Rattle.dl_desk.specs.declared.event.Ending.{Ending};
 ghost use Rattle.dl_history.specs.Journal.{AreOwn, cells_by};
 ghost use Rattle.dl_history.specs.LoaderState.{ShownAs};
 
 use crate::cell_state::CellState;
-use crate::event::Ending;
 use dl_cells::CellRow;
-use dl_desk::Outcome;
+use dl_desk::{Ending, Outcome};
 use std::marker::Model;
 
 /// The cells that were begun of a loader that was closed, in order, each with what became of it.
@@ -23,7 +22,7 @@ impl Model for Cells {
     ghost use Rattle.std.specs.Prelude.{◌≤◌, List, length};
     ghost use Rattle.std.specs.Coded.{codes};
     ghost use Rattle.dl_cells.specs.Cells.{row_len};
-    ghost use Rattle.dl_history.specs.contracts.event.Ending as ending;
+    ghost use Rattle.dl_desk.specs.contracts.event.Ending as ending;
     ghost use Rattle.dl_history.specs.Journal.{AreOwn, Cell, cells_by};
 
     ghost Value = { List Cell };

@@ -6,10 +6,10 @@ ghost use Rattle.dl_history.specs.Agreement.{Meets};
 ghost use Rattle.dl_history.specs.Entries.{event_at, read, event_known, ending_known, kind_of, Called, Saw};
 ghost use Rattle.dl_history.specs.Journal.{IsKnown};
 
-use crate::event::{Ending, Event};
 use crate::journal::Journal;
 use crate::name::LoaderName;
 use dl_cells::{CellRow, Reader};
+use dl_desk::{Ending, Event};
 use std::marker::{Model, PhantomData};
 
 /// What an entry of a pass is.

@@ -3,8 +3,8 @@
 ghost use Rattle.std.specs.Prelude.{◌≡◌, length, option_copied, slice_get};
 ghost use Rattle.dl_history.specs.Journal.{AreKnown, events_known};
 
-use crate::event::Event;
 use dl_cells::{CellRow, Reader};
+use dl_desk::Event;
 use std::marker::Model;
 
 /// The events of a loader that was closed, in order, each in its cell of the log. Contracts see the list.
@@ -17,8 +17,8 @@ pub struct Events {
 impl Model for Events {
     ghost use Rattle.std.specs.Prelude.{List};
     ghost use Rattle.std.specs.Coded.{coded_list};
-    ghost use Rattle.dl_history.specs.declared.event.Event.{Event};
-    ghost use Rattle.dl_history.specs.contracts.event.Event as event;
+    ghost use Rattle.dl_desk.specs.declared.event.Event.{Event};
+    ghost use Rattle.dl_desk.specs.contracts.event.Event as event;
     ghost use Rattle.dl_history.specs.Journal.{AreKnown, events_known};
 
     ghost Value = { List Event };

@@ -53,7 +53,7 @@ impl Drop for History {
 
 impl Model for History {
     ghost use Rattle.std.specs.Coded.{codes};
-    ghost use Rattle.dl_history.specs.contracts.event.Event as event;
+    ghost use Rattle.dl_desk.specs.contracts.event.Event as event;
     ghost use Rattle.dl_history.specs.Inside.Codes.{account_code};
     ghost use Rattle.dl_history.specs.ClosedHistory.{History, AreHistoryFields, accounts_at, history_of};
     ghost use Rattle.dl_history.specs.LoaderState.{loader_state};

@@ -11,11 +11,11 @@ use crate::cell_rows::CellRows;
 use crate::cell_state::CellState;
 use crate::cells::Cells;
 use crate::entry::PlacedEvent;
-use crate::event::{Ending, Event};
 use crate::events::Events;
 use crate::name::LoaderName;
 pub use append::AppendFault;
 use dl_cells::Reader;
+use dl_desk::{Ending, Event};
 use std::alloc::{AllocError, Global};
 use std::marker::Model;
 use std::sync::ledger;
@@ -41,8 +41,8 @@ impl<L: LoaderName> Drop for Journal<L> {
 impl<L: LoaderName> Model for Journal<L> {
     ghost use Rattle.std.specs.Coded.{codes};
     ghost use Rattle.std.specs.Prelude.{◌-◌, length, vec_capacity};
-    ghost use Rattle.dl_history.specs.contracts.event.Event as event;
-    ghost use Rattle.dl_history.specs.contracts.event.Ending as ending;
+    ghost use Rattle.dl_desk.specs.contracts.event.Event as event;
+    ghost use Rattle.dl_desk.specs.contracts.event.Ending as ending;
     ghost use Rattle.dl_history.specs.Journal.{Journal, IsJournal, events_known, cells_by};
 
     ghost Value = { Journal };

@@ -6,10 +6,9 @@ ghost use Rattle.dl_history.specs.Entries.{cell_of_load, ending_known, read};
 ghost use Rattle.dl_history.specs.Pass.{Shows, ticket};
 
 use crate::entry::Read;
-use crate::event::Ending;
 use crate::name::LoaderName;
 use dl_cells::{CellRow, Reader};
-use dl_desk::{LoadReply, Outcome};
+use dl_desk::{Ending, LoadReply, Outcome};
 use std::marker::{Model, PhantomData};
 
 /// A caller's hold on the cell of a load, which shows the outcome once the cell has ended. Contracts

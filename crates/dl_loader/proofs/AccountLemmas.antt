@@ -2,7 +2,7 @@
 use Rattle.std.proofs.Common.{◌≡◌, ℕ, ◌<◌, List, [], ◌∷◌, length, map, sum_by, refl, arith}
 use Rattle.std.proofs.lemmas.List.{length-map}
 use Rattle.dl_values.specs.Limits.{AreLimits}
-use Rattle.dl_history.specs.declared.event.Event.{Event}
+use Rattle.dl_desk.specs.declared.event.Event.{Event}
 use Rattle.dl_history.specs.Agreement.{Account, HasEach, NoneBehind, places_of, Fits}
 use Rattle.dl_history.specs.ClosedHistory.{IsHistory, history_of, Outline, outline_of}
 use Rattle.dl_history.specs.History.{IsLegal}

@@ -1,8 +1,8 @@
 -- What a call that was made, or an outcome that was read, adds to a pass: all that a crate above needs of both.
 use Rattle.std.proofs.Common.{◌≡◌, ◌∙◌, sym, ap, refl, ℕ, Bool, false, List, [], ◌∷◌, ◌++◌, length, Option, Some, append_assoc}
 use Rattle.dl_desk.specs.declared.reply.LoadReply.{LoadReply}
-use Rattle.dl_history.specs.declared.event.Call.{Call}
-use Rattle.dl_history.specs.declared.event.Reply.{Reply}
+use Rattle.dl_desk.specs.declared.event.Call.{Call}
+use Rattle.dl_desk.specs.declared.event.Reply.{Reply}
 use Rattle.dl_history.specs.Entries.{Entry, cell_of_load}
 use Rattle.dl_history.specs.Service.{Service}
 use Rattle.dl_history.specs.Additions.{call_entry, Grows}

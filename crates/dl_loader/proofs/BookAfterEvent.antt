@@ -11,8 +11,8 @@ use Rattle.dl_desk.specs.Events.{atoms}
 use Rattle.dl_desk.specs.Calls.{after}
 use Rattle.dl_desk.specs.BatchBook.{BatchBook, StandsFor}
 use Rattle.dl_desk.specs.declared.fault.DeskFault.{DeskFault}
-use Rattle.dl_history.specs.declared.event.Event.{Event}
-use Rattle.dl_history.specs.declared.event.Call.{Call}
+use Rattle.dl_desk.specs.declared.event.Event.{Event}
+use Rattle.dl_desk.specs.declared.event.Call.{Call}
 use Rattle.dl_history.specs.Service.{Service}
 use Rattle.dl_history.specs.History.{past, call_of, reply_to, ending_of}
 use Rattle.dl_history.specs.Journal.{Cell, waiting, is_refused, refusals}

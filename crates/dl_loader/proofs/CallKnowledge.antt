@@ -6,9 +6,9 @@ use Rattle.dl_history.specs.History.{past, reply_to, IsLegal}
 use Rattle.dl_history.specs.Pass.{Trace}
 use Rattle.dl_loader.specs.Book.{Book, Keeps}
 use Rattle.dl_loader.specs.EventEffect.{event_of, Makes}
-use Rattle.dl_history.specs.declared.event.Event.{Event}
-use Rattle.dl_history.specs.declared.event.Call.{Call}
-use Rattle.dl_history.specs.declared.event.Reply.{Reply}
+use Rattle.dl_desk.specs.declared.event.Event.{Event}
+use Rattle.dl_desk.specs.declared.event.Call.{Call}
+use Rattle.dl_desk.specs.declared.event.Reply.{Reply}
 use Rattle.dl_history.proofs.Pasts.{legal_at}
 
 -- the reply is the one that the history gives

@@ -12,10 +12,10 @@ use Rattle.dl_history.proofs.Pasts.{get-inside, get-append_at}
 use Rattle.dl_history.proofs.CellLists.{shows_same, open_waits}
 use Rattle.std.proofs.lemmas.List.{length-map, length_push}
 use Rattle.dl_values.specs.declared.outcome.Outcome.{Outcome}
-use Rattle.dl_history.specs.declared.event.Call.{Call}
-use Rattle.dl_history.specs.declared.event.Call.TheVariants.{Settle, Load, LoadMany, Prime, Clear, ClearAll, Dispatch, Fail}
-use Rattle.dl_history.specs.declared.event.Event.{Event}
-use Rattle.dl_history.specs.declared.event.Ending.{Ending}
+use Rattle.dl_desk.specs.declared.event.Call.{Call}
+use Rattle.dl_desk.specs.declared.event.Call.TheVariants.{Settle, Load, LoadMany, Prime, Clear, ClearAll, Dispatch, Fail}
+use Rattle.dl_desk.specs.declared.event.Event.{Event}
+use Rattle.dl_desk.specs.declared.event.Ending.{Ending}
 use Rattle.dl_loader.specs.Inside.Dues.{outcome_by, CanEnd}
 use Rattle.dl_loader.specs.Inside.Preparation.{cells_ended, cell_primed}
 use Rattle.dl_history.proofs.Endings.{member_open, member_begun, members_distinct, others_stay, primed_cell, primed_end, primed_others}

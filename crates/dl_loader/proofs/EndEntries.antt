@@ -5,8 +5,8 @@ use Rattle.dl_values.specs.declared.outcome.BatchAnswer.{BatchAnswer}
 use Rattle.dl_values.specs.declared.outcome.BatchAnswer.TheVariants.{Each, Break}
 use Rattle.dl_history.specs.Entries.{Entry}
 use Rattle.dl_history.specs.Service.{Service}
-use Rattle.dl_history.specs.declared.event.Call.{Call}
-use Rattle.dl_history.specs.declared.event.Reply.TheVariants.{Done}
+use Rattle.dl_desk.specs.declared.event.Call.{Call}
+use Rattle.dl_desk.specs.declared.event.Reply.TheVariants.{Done}
 use Rattle.dl_loader.specs.Additions.{call_entry, Adds}
 use Rattle.dl_loader.specs.Asks.{end_by}
 use Rattle.dl_loader.specs.Pass.{Trace}

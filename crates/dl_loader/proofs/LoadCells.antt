@@ -4,12 +4,12 @@ use Rattle.dl_values.specs.Key.{Key}
 use Rattle.dl_desk.specs.History.{cells, load_replies, loaded, prime_reply}
 use Rattle.dl_desk.specs.declared.reply.DeskPrime.{DeskPrime}
 use Rattle.dl_desk.specs.Events.{atoms}
-use Rattle.dl_desk.specs.Calls.{Loads, after}
+use Rattle.dl_desk.specs.Calls.{after}
 use Rattle.dl_desk.specs.declared.reply.LoadReply.{LoadReply}
-use Rattle.dl_history.specs.declared.event.Event.{Event}
-use Rattle.dl_history.specs.declared.event.Call.{Call}
-use Rattle.dl_history.specs.declared.event.Reply.{Reply}
-use Rattle.dl_history.specs.declared.event.Reply.TheVariants.{Many, Loaded, Primed, Done, Sent}
+use Rattle.dl_desk.specs.declared.event.Event.{Event}
+use Rattle.dl_desk.specs.declared.event.Call.{Call}
+use Rattle.dl_desk.specs.declared.event.Reply.{Reply}
+use Rattle.dl_desk.specs.declared.event.Reply.TheVariants.{Many, Loaded, Primed, Done, Sent}
 use Rattle.dl_loader.specs.Book.{Book, Keeps}
 use Rattle.dl_history.specs.Entries.{cell_of_load, Called, event_at, cells_of}
 use Rattle.dl_history.specs.History.{past}
@@ -22,22 +22,23 @@ use Rattle.dl_history.proofs.Pasts.{legal_at, legal_atoms, atoms_next, get-appen
 use Rattle.dl_history.proofs.CellsOfCalls.{replies_low, replies_long}
 use Rattle.dl_history.proofs.EntryLists.{cells_of-append}
 use Rattle.dl_desk.specs.declared.reply.DeskPrime.TheVariants as prime
-use Rattle.dl_history.specs.declared.event.Call.TheVariants as call
+use Rattle.dl_desk.specs.declared.event.Call.TheVariants as call
 use Rattle.dl_history.specs.History as history
-use Rattle.dl_history.specs.declared.event.Reply.TheVariants as answered
+use Rattle.dl_desk.specs.declared.event.Reply.TheVariants as answered
 
 -- ---- as a book has them
 
 -- the cells of the loads that a book's last event made
 loads_last : (s : Service) (b now : Book) (p new : Trace) (c : Call) (r : Reply) (ks : List Key) → Keeps s b → Keeps s now → Makes b p c r now new
-    → history.call_of c ≡ Loads ks → Every (λ x. cell_of_load x < length now.cells) (load_replies s.rules (atoms (past b.history)) ks)
+    → after s.rules (atoms (past b.history)) (history.call_of c) ≡ loaded s.rules (atoms (past b.history)) ks
+    → Every (λ x. cell_of_load x < length now.cells) (load_replies s.rules (atoms (past b.history)) ks)
 loads_last s b now p new c r ks before kept made is =
     let H = atoms (past b.history) in
     let e : Event = event_of p c r in
     let legal : history.IsLegal s (b.history ++ e ∷ []) = subst (λ (es : List Event). history.IsLegal s es) made.history kept.legal in
     let next = legal_at s b.history [] e legal in
     let all : atoms (past now.history) ≡ loaded s.rules H ks =
-    ap (λ (es : List Event). atoms (past es)) made.history ∙ (atoms_next s b.history e next ∙ ap (after s.rules H) is) in
+    ap (λ (es : List Event). atoms (past es)) made.history ∙ (atoms_next s b.history e next ∙ is) in
     let count : length now.cells ≡ cells (loaded s.rules H ks) = kept.all_cells ∙ (kept.desk.cells ∙ ap cells all) in
     rw count (replies_low s.rules H (legal_atoms s b.history before.legal) ks)
 

@@ -9,7 +9,8 @@ use Rattle.dl_values.specs.Limits.{Rules}
 use Rattle.dl_desk.specs.History.{Atom, begins, count_cell, cells, held, load_reply, load_replies, loaded, prime_reply, prime_reply_at}
 use Rattle.dl_desk.specs.History.{jobs}
 use Rattle.dl_desk.specs.BatchBook.{BatchBook, StandsFor}
-use Rattle.dl_desk.specs.Calls.{Loads, Primes, new_count, full, refusal, after}
+use Rattle.dl_desk.specs.Calls.{new_count, full, refusal, after}
+use Rattle.dl_desk.specs.declared.call.DeskCall.TheVariants as asked
 use Rattle.dl_desk.specs.declared.fault.DeskFault.{DeskFault}
 use Rattle.dl_desk.specs.declared.fault.DeskFault.TheVariants.{CellsFull}
 use Rattle.dl_desk.specs.declared.reply.LoadReply.{LoadReply}
@@ -18,8 +19,8 @@ use Rattle.dl_desk.specs.declared.reply.DeskPrime.TheVariants.{Primed, Kept}
 use Rattle.dl_desk.proofs.Counts.{cells-loaded}
 use Rattle.dl_loader.specs.Inside.NewCells.{begun_by, cells_begun, begun_in}
 use Rattle.dl_desk.specs.declared.reply.DeskPrime.{DeskPrime}
-use Rattle.dl_history.specs.declared.event.Call.{Call}
-use Rattle.dl_history.specs.declared.event.Call.TheVariants.{Load, LoadMany, Prime, Clear, ClearAll, Dispatch, Settle, Fail}
+use Rattle.dl_desk.specs.declared.event.Call.{Call}
+use Rattle.dl_desk.specs.declared.event.Call.TheVariants.{Load, LoadMany, Prime, Clear, ClearAll, Dispatch, Settle, Fail}
 use Rattle.dl_history.specs.History.{call_of, reply_to, primed}
 use Rattle.dl_desk.specs.History as atom
 use Rattle.dl_desk.specs.Calls as desk
@@ -89,7 +90,7 @@ keys_fit rules history ks none =
     fits_at rules.limits.max_cells (cells history + new_count history ks) (nat_lt rules.limits.max_cells (cells history + new_count history ks)) refl none
 
 -- after loads that are not refused there are no more cells than there may be
-pub loads_fit : (rules : Rules) (history : List Atom) (ks : List Key) (old : BatchBook) → StandsFor old history → refusal rules history (Loads ks) ≡ None
+pub loads_fit : (rules : Rules) (history : List Atom) (ks : List Key) (old : BatchBook) → StandsFor old history → refusal rules history (asked.LoadMany ks) ≡ None
     → old.cells + cells_begun (load_replies rules history ks) ≤ rules.limits.max_cells
 loads_fit rules history ks old before none =
     let low = keys_fit rules history ks none in
@@ -119,7 +120,7 @@ primed_unheld history c (Some d) is = absurd (let bad : Kept ≡ Primed c = is i
 
 -- after such a prime that is not refused there are no more cells than there may be
 pub primed_fits : (rules : Rules) (history : List Atom) (k : Key) (c : ℕ) (old : BatchBook) → prime_reply history k ≡ Primed c → StandsFor old history
-    → refusal rules history (Primes k) ≡ None → old.cells + 1 ≤ rules.limits.max_cells
+    → refusal rules history (asked.Prime k) ≡ None → old.cells + 1 ≤ rules.limits.max_cells
 primed_fits rules history k c old is before none =
     let unheld : held history k ≡ None = primed_unheld history c (held history k) is in
     let one : new_count history (k ∷ []) ≡ 1 = rw unheld refl in
@@ -154,7 +155,7 @@ begun_by_reply rules h (Settle b os) old new before now = let same = same_cells 
 begun_by_reply rules h (Fail b fault) old new before now = let same = same_cells h (atom.Fail b) old new refl before now in omega arith
 
 prime_fits : (rules : Rules) (h : List Atom) (k : Key) (old : BatchBook) (r : DeskPrime) → prime_reply h k ≡ r → StandsFor old h
-    → desk.refusal rules h (desk.Primes k) ≡ None → old.cells ≤ rules.limits.max_cells → old.cells + begun_in (primed r) ≤ rules.limits.max_cells
+    → desk.refusal rules h (asked.Prime k) ≡ None → old.cells ≤ rules.limits.max_cells → old.cells + begun_in (primed r) ≤ rules.limits.max_cells
 prime_fits rules h k old (prime.Primed c) is before none fit = primed_fits rules h k c old is before none
 prime_fits rules h k old prime.Kept is before none fit = omega arith
 

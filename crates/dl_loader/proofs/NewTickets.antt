@@ -6,10 +6,10 @@ use Rattle.std.proofs.lemmas.Option.{slice_get-map}
 use Rattle.dl_values.specs.Key.{Key}
 use Rattle.dl_desk.specs.declared.reply.LoadReply.{LoadReply}
 use Rattle.dl_history.specs.declared.pass.GivenTicket.{GivenTicket}
-use Rattle.dl_history.specs.declared.event.Call.{Call}
-use Rattle.dl_history.specs.declared.event.Reply.{Reply}
-use Rattle.dl_history.specs.declared.event.Call.TheVariants.{LoadMany}
-use Rattle.dl_history.specs.declared.event.Reply.TheVariants.{Many}
+use Rattle.dl_desk.specs.declared.event.Call.{Call}
+use Rattle.dl_desk.specs.declared.event.Reply.{Reply}
+use Rattle.dl_desk.specs.declared.event.Call.TheVariants.{LoadMany}
+use Rattle.dl_desk.specs.declared.event.Reply.TheVariants.{Many}
 use Rattle.dl_loader.specs.Book.{Book}
 use Rattle.dl_loader.specs.EventEffect.{event_of, loads_of, Makes}
 use Rattle.dl_history.specs.Entries.{cell_of_load}

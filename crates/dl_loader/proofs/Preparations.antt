@@ -3,17 +3,18 @@ use Rattle.std.proofs.Common.{◌≡◌, ◌∙◌, sym, ap, ℕ, List, length, 
 use Rattle.std.proofs.Common.{Some, IsSome, slice_get, option_map, is_some, nat_le, Decides, arith}
 use Rattle.dl_values.specs.Key.{Key, key_eq}
 use Rattle.dl_desk.specs.History.{Atom, prime_reply, cells, begun, sent, end_of, members, MayEnd}
-use Rattle.dl_desk.specs.Calls.{Primes, refusal, unfit}
+use Rattle.dl_desk.specs.Calls.{refusal, unfit}
+use Rattle.dl_desk.specs.declared.call.DeskCall.TheVariants as asked
 use Rattle.dl_desk.specs.BatchBook.{BatchBook, StandsFor}
 use Rattle.dl_values.specs.declared.outcome.Outcome.{Outcome}
 use Rattle.dl_desk.specs.declared.reply.DeskPrime.{DeskPrime}
-use Rattle.dl_history.specs.declared.event.Call.{Call}
+use Rattle.dl_desk.specs.declared.event.Call.{Call}
 use Rattle.dl_values.specs.declared.outcome.BatchAnswer.{BatchAnswer}
 use Rattle.dl_loader.specs.declared.dues.Due.{Due}
 use Rattle.dl_loader.specs.Inside.Dues.{AreDue, end_refusal, outcome_by}
 use Rattle.dl_loader.specs.Inside.Preparation.{IsPrepared, cell_primed, ended_count, cells_ended}
 use Rattle.std.proofs.lemmas.List.{length-map}
-use Rattle.dl_history.specs.declared.event.Call.TheVariants.{Prime, Settle}
+use Rattle.dl_desk.specs.declared.event.Call.TheVariants.{Prime, Settle}
 use Rattle.dl_history.specs.History.{primed, keys_of, call_of, reply_to, MayBeMade}
 use Rattle.std.specs.Option.{option_or}
 use Rattle.std.proofs.lemmas.Bool.{leb-false}
@@ -25,7 +26,7 @@ use Rattle.dl_values.proofs.KeyLemmas.{key_eq-same, key_eq-refl}
 use Rattle.dl_values.specs.declared.outcome.BatchAnswer.TheVariants.{Each, Break}
 use Rattle.dl_values.specs.declared.job.Job.{Job}
 use Rattle.dl_source.specs.Source.{IsFor}
-use Rattle.dl_history.specs.declared.event.Reply.TheVariants.{Done}
+use Rattle.dl_desk.specs.declared.event.Reply.TheVariants.{Done}
 use Rattle.dl_history.specs.declared.fault.CallFault.{CallFault}
 use Rattle.dl_history.specs.declared.fault.CallFault.TheVariants.{WrongKeys}
 use Rattle.dl_loader.specs.Asks.{end_by}
@@ -42,7 +43,7 @@ prime_each dues prime.Kept same = same
 
 -- a prime is prepared where the desk has accepted it and replies so
 pub prime_prepared : {desk : BatchBook} {call : Call} {at : ℕ} {dues : List Due} {brings : (List Key → BatchAnswer) → Type 0} (k : Key) (o : Outcome)
-    (r : DeskPrime) → ((h : List Atom) → StandsFor desk h → r ≡ prime_reply h k) → ((h : List Atom) → StandsFor desk h → refusal desk.rules h (Primes k) ≡ None)
+    (r : DeskPrime) → ((h : List Atom) → StandsFor desk h → r ≡ prime_reply h k) → ((h : List Atom) → StandsFor desk h → refusal desk.rules h (asked.Prime k) ≡ None)
     → call ≡ Prime k o → AreDue call at (cell_primed r) dues → IsPrepared desk (record { call = Prime k o; job = None; brings = brings })
     (record { at = at; reply = primed r; dues = dues })
 prime_prepared {desk} {call} {at} {dues} k o r told accepted is due = record {

@@ -9,8 +9,8 @@ use Rattle.dl_source.specs.declared.source.Source.{Ghosts}
 use Rattle.dl_source.specs.Fetched.{source_of, job_of, answer_of}
 use Rattle.dl_loader.specs.declared.ask.Ask.{Ask}
 use Rattle.dl_loader.specs.declared.ask.Ask.TheVariants as ask
-use Rattle.dl_history.specs.declared.event.Call.{Call}
-use Rattle.dl_history.specs.declared.event.Call.TheVariants.{Load, LoadMany, Prime, Clear, ClearAll, Dispatch, Settle, Fail}
+use Rattle.dl_desk.specs.declared.event.Call.{Call}
+use Rattle.dl_desk.specs.declared.event.Call.TheVariants.{Load, LoadMany, Prime, Clear, ClearAll, Dispatch, Settle, Fail}
 use Rattle.dl_loader.specs.declared.ask.GiveUp.{GiveUp}
 use Rattle.dl_loader.specs.declared.ask.GiveUp.TheVariants.{Memory, Unsent}
 

@@ -5,7 +5,7 @@ use Rattle.dl_history.specs.Flags.{KnownFlags}
 use Rattle.dl_history.specs.Service.{Service}
 use Rattle.dl_history.specs.Journal.{Cell}
 use Rattle.dl_history.specs.LoaderState.{LoaderState, loader_state, IsLoaderState}
-use Rattle.dl_history.specs.declared.event.Event.{Event}
+use Rattle.dl_desk.specs.declared.event.Event.{Event}
 
 -- What contracts see of a book: the history, the desk with its memo and batches, each cell that was begun,
 -- and what is known of the loader's flags.

@@ -10,7 +10,7 @@ use Rattle.dl_history.specs.History.{past, HasEnd}
 use Rattle.dl_history.specs.Lists.{Every, Among, one_if}
 use Rattle.dl_history.specs.declared.fault.CloseFault.{CloseFault}
 use Rattle.dl_history.specs.declared.fault.CloseFault.TheVariants.{PassesMissing, Behind, Unshown, Unsettled, OutOfMemory}
-use Rattle.dl_history.specs.declared.event.Event.{Event}
+use Rattle.dl_desk.specs.declared.event.Event.{Event}
 use Rattle.dl_loader.specs.declared.loader.close.PassFront.{PassFront}
 
 -- ---- passes

@@ -3,11 +3,11 @@ use Rattle.std.specs.Prelude.{ℕ, List, [], ◌∷◌, flat_map, map}
 use Rattle.dl_values.specs.declared.job.Job.{Job}
 use Rattle.dl_values.specs.declared.outcome.BatchFault.TheVariants.{Memory, Unsent, Source}
 use Rattle.dl_history.specs.Entries.{Entry, calls_of}
-use Rattle.dl_history.specs.declared.event.Call.{Call}
-use Rattle.dl_history.specs.declared.event.Call.TheVariants.{Load, LoadMany, Prime, Clear, ClearAll, Dispatch, Settle, Fail}
-use Rattle.dl_history.specs.declared.event.Event.{Event}
-use Rattle.dl_history.specs.declared.event.Reply.{Reply}
-use Rattle.dl_history.specs.declared.event.Reply.TheVariants.{Loaded, Many, Primed, Kept, Done, Sent}
+use Rattle.dl_desk.specs.declared.event.Call.{Call}
+use Rattle.dl_desk.specs.declared.event.Call.TheVariants.{Load, LoadMany, Prime, Clear, ClearAll, Dispatch, Settle, Fail}
+use Rattle.dl_desk.specs.declared.event.Event.{Event}
+use Rattle.dl_desk.specs.declared.event.Reply.{Reply}
+use Rattle.dl_desk.specs.declared.event.Reply.TheVariants.{Loaded, Many, Primed, Kept, Done, Sent}
 
 -- the events of the calls among the entries, in order
 abbrev pub events_told : List Entry → List Event

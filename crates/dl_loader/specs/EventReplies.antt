@@ -1,7 +1,7 @@
 -- What event calls answer beside tickets and jobs.
 use Rattle.std.specs.Prelude.{ℕ, cond}
-use Rattle.dl_history.specs.declared.event.Reply.{Reply}
-use Rattle.dl_history.specs.declared.event.Reply.TheVariants.{Primed, Kept}
+use Rattle.dl_desk.specs.declared.event.Reply.{Reply}
+use Rattle.dl_desk.specs.declared.event.Reply.TheVariants.{Primed, Kept}
 use Rattle.dl_loader.specs.declared.reply.PrimeReply.{PrimeReply}
 use Rattle.dl_loader.specs.declared.reply.PrimeReply.TheVariants as prime
 

@@ -9,9 +9,9 @@ use Rattle.dl_loader.specs.EventEffect.{WasMade, WasRefused}
 use Rattle.dl_loader.specs.Pass.{Trace}
 use Rattle.dl_history.specs.Entries.{Entry}
 use Rattle.dl_history.specs.Service.{Service}
-use Rattle.dl_history.specs.declared.event.Call.{Call}
-use Rattle.dl_history.specs.declared.event.Call.TheVariants.{Fail}
-use Rattle.dl_history.specs.declared.event.Reply.TheVariants.{Done}
+use Rattle.dl_desk.specs.declared.event.Call.{Call}
+use Rattle.dl_desk.specs.declared.event.Call.TheVariants.{Fail}
+use Rattle.dl_desk.specs.declared.event.Reply.TheVariants.{Done}
 use Rattle.dl_history.specs.declared.fault.CallFault.{CallFault}
 
 -- the end of a job's batch by the source's answer to the job's keys

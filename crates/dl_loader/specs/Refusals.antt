@@ -13,7 +13,7 @@ use Rattle.dl_history.specs.History.{past, keys_of, call_of}
 use Rattle.dl_history.specs.Entries.{front_of}
 use Rattle.dl_history.specs.Pass.{Trace}
 use Rattle.dl_loader.specs.Book.{Book}
-use Rattle.dl_history.specs.declared.event.Call.{Call}
+use Rattle.dl_desk.specs.declared.event.Call.{Call}
 use Rattle.dl_history.specs.declared.fault.CallFault.{CallFault}
 use Rattle.dl_history.specs.declared.fault.CallFault.TheVariants.{Stopped, Behind, LogFull, WrongKeys, OutOfMemory, LogRefused}
 use Rattle.dl_history.specs.Faults.{call_fault}

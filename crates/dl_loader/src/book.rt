@@ -30,8 +30,8 @@ pub struct Book<L: LoaderName> {
 
 impl<L: LoaderName> Model for Book<L> {
     ghost use Rattle.std.specs.Coded.{codes};
-    ghost use Rattle.dl_history.specs.contracts.event.Event as event;
-    ghost use Rattle.dl_history.specs.contracts.event.Ending as ending;
+    ghost use Rattle.dl_desk.specs.contracts.event.Event as event;
+    ghost use Rattle.dl_desk.specs.contracts.event.Ending as ending;
     ghost use Rattle.dl_loader.specs.Book.{Book, book, Keeps};
 
     ghost Value = { Book };

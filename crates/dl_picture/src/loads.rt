@@ -3,7 +3,7 @@
 ghost use Rattle.std.specs.Prelude.{◌≡◌, ◌+◌, ◌∷◌, ◌++◌, [], ℕ, List, IfOk, count_by, length, option_copied, slice_get, take};
 ghost use Rattle.dl_desk.specs.declared.reply.LoadReply.{LoadReply};
 ghost use Rattle.dl_history.specs.Lists.{one_if};
-ghost use Rattle.dl_history.specs.declared.event.Event.{Event};
+ghost use Rattle.dl_desk.specs.declared.event.Event.{Event};
 ghost use Rattle.dl_picture.specs.Numbers.{AreLoadNumbers, events_by, is_by, is_hit, is_round, load_replies, replies_in, round_events};
 
 use dl_desk::LoadReply;

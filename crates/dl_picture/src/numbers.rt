@@ -1,7 +1,7 @@
 //! The numbers of a picture.
 
 ghost use Rattle.std.specs.Prelude.{◌≡◌, ℕ, List, IfOk};
-ghost use Rattle.dl_history.specs.declared.event.Event.{Event};
+ghost use Rattle.dl_desk.specs.declared.event.Event.{Event};
 ghost use Rattle.dl_documents.specs.declared.input.Script.{Script};
 ghost use Rattle.dl_picture.specs.Numbers.{AreHistoryNumbers, ArePlanNumbers, fetches_alone};
 ghost use Rattle.dl_picture.specs.Script.{AreScriptNumbers, IsRunOf};

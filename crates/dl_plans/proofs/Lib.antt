@@ -1,4 +1,7 @@
+mod BatchTexts
 pub mod Bytes
+mod CommandMatches
+mod KeyTexts
 mod MigratedAnswers
 pub mod Runs
-pub mod Texts
+mod Scripts

@@ -13,7 +13,7 @@ use Rattle.dl_documents.specs.declared.fault.PlanFault.TheVariants.{TooLarge, No
 use Rattle.dl_documents.specs.declared.fault.PlanFault.TheVariants.{Table, Limit, OutOfMemory}
 use Rattle.dl_documents.specs.declared.input.Input.{Input}
 use Rattle.dl_documents.specs.declared.input.Input.TheVariants as input
-use Rattle.dl_command.specs.declared.settings.Options.{Options}
+use Rattle.dl_plans.specs.declared.settings.Options.{Options}
 use Rattle.dl_migration.specs.Migration.{IsMigrated, IsOther}
 use Rattle.dl_plans.specs.Migration.{IsNotMigrated}
 use Rattle.dl_plans.specs.Run.{AppendsFront, IsDocument, IsOutput, IsRefused, Writes, WritesFront}

@@ -1,4 +1,8 @@
+pub mod JsonText
+pub mod ReplyLines
+pub mod ScriptText
 pub mod ReportText
+pub mod Options
 pub mod Run
 pub mod Migration
 pub mod MigratedAnswers

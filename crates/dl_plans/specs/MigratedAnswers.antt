@@ -9,7 +9,7 @@ use Rattle.dl_scope.specs.Headline.{Headline}
 use Rattle.dl_scope.specs.OwnAnswers.{NoneFailed, PrimesNoKey}
 use Rattle.dl_scope.specs.Report.{Report}
 use Rattle.dl_plans.specs.Run.{file_service}
-use Rattle.dl_command.specs.declared.settings.Options.{Options}
+use Rattle.dl_plans.specs.declared.settings.Options.{Options}
 
 -- no plan of the file primes a key
 abbrev pub PrimesNone : PlanFile → Type 0

@@ -9,8 +9,8 @@ use Rattle.dl_values.specs.declared.outcome.BatchFault.TheVariants.{Source, Memo
 use Rattle.dl_desk.specs.declared.reply.End.{End}
 use Rattle.dl_desk.specs.declared.reply.End.TheVariants.{Settled, Failed}
 use Rattle.dl_history.specs.History.{keys_of, past}
-use Rattle.dl_scripts.specs.JsonText.{key_text, keys_text, quoted_text}
-use Rattle.dl_scripts.specs.Lines.{text_line}
+use Rattle.dl_plans.specs.JsonText.{key_text, keys_text, quoted_text}
+use Rattle.dl_plans.specs.ReplyLines.{text_line}
 use Rattle.dl_scope.specs.Report.{Report}
 use Rattle.dl_haxl.specs.declared.step_answers.StepAnswer.{StepAnswer}
 use Rattle.dl_terms.specs.declared.answer.Answer.{Answer}

@@ -14,11 +14,11 @@ use Rattle.dl_scope.specs.Setup.{service_of}
 use Rattle.dl_scope.specs.declared.setup.Setup.{Setup}
 use Rattle.dl_scope.specs.Faults.{RefusedAs}
 use Rattle.dl_scope.specs.Headline.{Headline}
-use Rattle.dl_scripts.specs.Output.{script_text}
+use Rattle.dl_plans.specs.ScriptText.{script_text}
 use Rattle.dl_plans.specs.ReportText.{report_text}
 use Rattle.dl_plans.specs.declared.fault.RunError.{RunError}
 use Rattle.dl_plans.specs.declared.fault.RunError.TheVariants.{Read, Refused, Run, Write, OutOfMemory, NotVersion1}
-use Rattle.dl_command.specs.declared.settings.Options.{Options}
+use Rattle.dl_plans.specs.declared.settings.Options.{Options}
 
 -- ---- what is read
 

@@ -1,12 +1,12 @@
 //! Writing the lines of answers.
 
 ghost use Rattle.std.specs.Prelude.{◌≡◌, ◌++◌, IfOk, OnOk, codes, decimal, flat_map, string_bytes};
-ghost use Rattle.dl_scripts.specs.Lines.{text_line};
+ghost use Rattle.dl_plans.specs.ReplyLines.{text_line};
 ghost use Rattle.dl_plans.specs.ReportText.{answer_line, batch_fault_text, fault_text};
 
+use crate::json_text::{key_text, quoted_text};
 use dl_desk::BatchFault;
 use dl_scope::StepAnswer;
-use dl_scripts::{key_text, quoted_text};
 use dl_terms::{Answer, EvalFault};
 use std::alloc::{AllocError, Global};
 use std::fmt::Write;

@@ -1,9 +1,10 @@
 //! What a program is asked for, and how it ends, over a runtime.
 
+use crate::command::Program;
 use crate::fault::RunError;
+use crate::settings::Options;
 use crate::status::{FAILED, RAN, command_status, words_status};
 use clap::error::ErrorKind;
-use dl_command::{Options, Program};
 use std::hash::RandomState;
 use std::random::RandomSource;
 use std::rt::Env;

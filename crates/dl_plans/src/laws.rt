@@ -1,7 +1,7 @@
 //! Laws of command lines, and of plan files that are migrated, for every one of them. Each function does nothing: its contract is the law.
 
 ghost use Rattle.std.specs.Prelude.{◌≡◌};
-ghost use Rattle.dl_command.specs.Options as command;
+ghost use Rattle.dl_plans.specs.Options as command;
 ghost use Rattle.dl_migration.specs.SecondVersion.{MigratedIsTheSame, MigratedReadsTheSame};
 ghost use Rattle.dl_plans.specs.MigratedAnswers.{MigratedAnswersAreEqual};
 ghost use Rattle.dl_scope.specs.Faults as scope;

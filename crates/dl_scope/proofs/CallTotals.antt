@@ -8,7 +8,7 @@ use Rattle.dl_history.specs.Entries.{PlacedEvent, Entry, Called, Saw, calls_of}
 use Rattle.dl_history.specs.History.{IsLegal}
 use Rattle.dl_history.specs.Lists.{Every, total, one_if, places}
 use Rattle.dl_history.specs.Service.{Service}
-use Rattle.dl_history.specs.declared.event.Event.{Event}
+use Rattle.dl_desk.specs.declared.event.Event.{Event}
 use Rattle.dl_history.proofs.ListLemmas.{every_from}
 use Rattle.dl_history.proofs.Pasts.{get-append_at}
 

@@ -10,11 +10,11 @@ use Rattle.dl_history.specs.Agreement.{account, Agrees, Tells, entries_of, place
 use Rattle.dl_history.specs.Entries.{Entry, Called, Saw, PlacedEvent}
 use Rattle.dl_history.specs.Lists.{Every, Among, places}
 use Rattle.dl_history.specs.Service.{Service}
-use Rattle.dl_history.specs.declared.event.Call.{Call}
-use Rattle.dl_history.specs.declared.event.Call.TheVariants.{LoadMany, Dispatch, Fail}
-use Rattle.dl_history.specs.declared.event.Call.TheVariants as call
-use Rattle.dl_history.specs.declared.event.Ending.{Ending}
-use Rattle.dl_history.specs.declared.event.Event.{Event}
+use Rattle.dl_desk.specs.declared.event.Call.{Call}
+use Rattle.dl_desk.specs.declared.event.Call.TheVariants.{LoadMany, Dispatch, Fail}
+use Rattle.dl_desk.specs.declared.event.Call.TheVariants as call
+use Rattle.dl_desk.specs.declared.event.Ending.{Ending}
+use Rattle.dl_desk.specs.declared.event.Event.{Event}
 use Rattle.dl_history.proofs.HistoryLemmas.{entries_agree}
 use Rattle.dl_history.proofs.ListLemmas.{every_append, every_among}
 use Rattle.dl_loader.specs.Additions.{saws}

@@ -17,9 +17,9 @@ use Rattle.dl_desk.proofs.Facts.{sent-le}
 use Rattle.dl_history.specs.History.{past, call_of, MayBeMade, IsNext, IsLegal, AllEnded}
 use Rattle.dl_history.specs.Lists.{one_if, total}
 use Rattle.dl_history.specs.Service.{Service}
-use Rattle.dl_history.specs.declared.event.Event.{Event}
-use Rattle.dl_history.specs.declared.event.Call.{Call}
-use Rattle.dl_history.specs.declared.event.Call.TheVariants.{Load, LoadMany, Prime, Clear, ClearAll, Dispatch, Settle, Fail}
+use Rattle.dl_desk.specs.declared.event.Event.{Event}
+use Rattle.dl_desk.specs.declared.event.Call.{Call}
+use Rattle.dl_desk.specs.declared.event.Call.TheVariants.{Load, LoadMany, Prime, Clear, ClearAll, Dispatch, Settle, Fail}
 use Rattle.dl_history.proofs.ListLemmas.{total-append}
 use Rattle.dl_history.proofs.Pasts.{by_events, atoms_next}
 use Rattle.dl_scope.proofs.OneEnd.{loads_end_none}

@@ -11,11 +11,11 @@ use Rattle.dl_history.specs.Entries.{cell_of_load}
 use Rattle.dl_history.specs.History.{made, past, reply_to, call_of, IsNext, IsLegal}
 use Rattle.dl_history.specs.Lists.{Every}
 use Rattle.dl_history.specs.Service.{Service}
-use Rattle.dl_history.specs.declared.event.Event.{Event}
-use Rattle.dl_history.specs.declared.event.Call.{Call}
-use Rattle.dl_history.specs.declared.event.Call.TheVariants.{Load, LoadMany, Prime, Clear, ClearAll, Dispatch, Settle, Fail}
-use Rattle.dl_history.specs.declared.event.Reply.{Reply}
-use Rattle.dl_history.specs.declared.event.Reply.TheVariants.{Loaded, Many, Primed, Kept, Done, Sent}
+use Rattle.dl_desk.specs.declared.event.Event.{Event}
+use Rattle.dl_desk.specs.declared.event.Call.{Call}
+use Rattle.dl_desk.specs.declared.event.Call.TheVariants.{Load, LoadMany, Prime, Clear, ClearAll, Dispatch, Settle, Fail}
+use Rattle.dl_desk.specs.declared.event.Reply.{Reply}
+use Rattle.dl_desk.specs.declared.event.Reply.TheVariants.{Loaded, Many, Primed, Kept, Done, Sent}
 use Rattle.dl_history.proofs.Pasts.{get-snoc, past-snoc, by_events, atoms_next}
 use Rattle.dl_scope.specs.OwnAnswers.{IsNoPrime, NonePrimed}
 use Rattle.dl_scope.proofs.LoadedCells.{LoadBegan, began_made, PrimesNone, replies_began}

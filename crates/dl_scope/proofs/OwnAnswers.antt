@@ -7,10 +7,10 @@ use Rattle.dl_values.proofs.KeyLemmas.{key_eq-same}
 use Rattle.dl_history.specs.Agreement.{account, Agrees, entries_of}
 use Rattle.dl_history.specs.Lists.{Every}
 use Rattle.dl_history.specs.Service.{Service}
-use Rattle.dl_history.specs.declared.event.Call.{Call}
-use Rattle.dl_history.specs.declared.event.Call.TheVariants.{Load, LoadMany, Dispatch, Settle, Fail}
-use Rattle.dl_history.specs.declared.event.Call.TheVariants as call
-use Rattle.dl_history.specs.declared.event.Event.{Event}
+use Rattle.dl_desk.specs.declared.event.Call.{Call}
+use Rattle.dl_desk.specs.declared.event.Call.TheVariants.{Load, LoadMany, Dispatch, Settle, Fail}
+use Rattle.dl_desk.specs.declared.event.Call.TheVariants as call
+use Rattle.dl_desk.specs.declared.event.Event.{Event}
 use Rattle.dl_history.proofs.HistoryLemmas.{entries_agree}
 use Rattle.dl_history.proofs.ListLemmas.{every_at, every_from}
 use Rattle.dl_source.specs.Answer.{answer_of}

@@ -16,10 +16,10 @@ use Rattle.dl_source.specs.Tables.{Tables}
 use Rattle.dl_history.specs.Entries.{cell_of_load}
 use Rattle.dl_history.specs.History.{past, IsLegal, ending_of}
 use Rattle.dl_history.specs.Service.{Service}
-use Rattle.dl_history.specs.declared.event.Event.{Event}
-use Rattle.dl_history.specs.declared.event.Ending.{Ending}
-use Rattle.dl_history.specs.declared.event.Call.TheVariants.{LoadMany}
-use Rattle.dl_history.specs.declared.event.Reply.TheVariants.{Many}
+use Rattle.dl_desk.specs.declared.event.Event.{Event}
+use Rattle.dl_desk.specs.declared.event.Ending.{Ending}
+use Rattle.dl_desk.specs.declared.event.Call.TheVariants.{LoadMany}
+use Rattle.dl_desk.specs.declared.event.Reply.TheVariants.{Many}
 use Rattle.dl_history.proofs.CellBatches.{member_cell, members-apart}
 use Rattle.dl_history.proofs.PastEnds.{batched_unprimed}
 use Rattle.dl_history.proofs.Pasts.{legal_past, legal_atoms}

@@ -9,10 +9,10 @@ use Rattle.dl_history.specs.Agreement.{Tells}
 use Rattle.dl_history.specs.Entries.{Entry, cell_of_load}
 use Rattle.dl_history.specs.History.{ending_of}
 use Rattle.dl_history.specs.Lists.{Every, Among}
-use Rattle.dl_history.specs.declared.event.Call.TheVariants as call
-use Rattle.dl_history.specs.declared.event.Ending.{Ending}
-use Rattle.dl_history.specs.declared.event.Event.{Event}
-use Rattle.dl_history.specs.declared.event.Reply.TheVariants.{Many, Sent}
+use Rattle.dl_desk.specs.declared.event.Call.TheVariants as call
+use Rattle.dl_desk.specs.declared.event.Ending.{Ending}
+use Rattle.dl_desk.specs.declared.event.Event.{Event}
+use Rattle.dl_desk.specs.declared.event.Reply.TheVariants.{Many, Sent}
 use Rattle.dl_history.proofs.ListLemmas.{every_append}
 use Rattle.dl_loader.specs.Additions.{call_entry, saws}
 use Rattle.dl_terms.specs.TermAnswers.{Pairs, frontier, gives}

@@ -14,9 +14,9 @@ use Rattle.dl_desk.proofs.Facts.{end_of-unsent}
 use Rattle.dl_desk.proofs.LawEnds.{atoms_legal, last-unended}
 use Rattle.dl_history.specs.History.{made, gave, as_made, past, primed, reply_to, keys_of, MayBeMade, IsNext, IsLegal}
 use Rattle.dl_history.specs.Service.{Service}
-use Rattle.dl_history.specs.declared.event.Event.{Event}
-use Rattle.dl_history.specs.declared.event.Call.{Call}
-use Rattle.dl_history.specs.declared.event.Call.TheVariants.{Load, LoadMany, Prime, Clear, ClearAll, Dispatch, Settle, Fail}
+use Rattle.dl_desk.specs.declared.event.Event.{Event}
+use Rattle.dl_desk.specs.declared.event.Call.{Call}
+use Rattle.dl_desk.specs.declared.event.Call.TheVariants.{Load, LoadMany, Prime, Clear, ClearAll, Dispatch, Settle, Fail}
 use Rattle.dl_history.proofs.CellBatches.{members_stay, ends_may_end}
 use Rattle.dl_history.proofs.Pasts.{past-snoc, by_events, next_replied, legal_past}
 use Rattle.dl_scope.specs.OwnAnswers.{AnswersOwn, IsNoFail, NoneFailed}

@@ -13,9 +13,9 @@ use Rattle.dl_desk.proofs.Facts.{sent-le, end_of-unsent}
 use Rattle.dl_history.specs.History.{past, reply_to, call_of, IsNext, IsLegal, AllEnded}
 use Rattle.dl_history.specs.Lists.{total}
 use Rattle.dl_history.specs.Service.{Service}
-use Rattle.dl_history.specs.declared.event.Event.{Event}
-use Rattle.dl_history.specs.declared.event.Call.{Call}
-use Rattle.dl_history.specs.declared.event.Call.TheVariants.{Load, LoadMany, Prime, Clear, ClearAll, Dispatch, Settle, Fail}
+use Rattle.dl_desk.specs.declared.event.Event.{Event}
+use Rattle.dl_desk.specs.declared.event.Call.{Call}
+use Rattle.dl_desk.specs.declared.event.Call.TheVariants.{Load, LoadMany, Prime, Clear, ClearAll, Dispatch, Settle, Fail}
 use Rattle.dl_history.proofs.ListLemmas.{total-append}
 use Rattle.dl_history.proofs.Pasts.{by_events, atoms_next, legal_atoms}
 use Rattle.dl_loader.specs.Dispatches.{dispatched, dispatched_by}

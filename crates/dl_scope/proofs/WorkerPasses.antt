@@ -5,8 +5,8 @@ use Rattle.dl_values.specs.declared.outcome.BatchAnswer.TheVariants.{Each, Break
 use Rattle.dl_values.specs.declared.job.Job.{Job}
 use Rattle.dl_history.specs.Lists.{Every}
 use Rattle.dl_history.specs.Service.{Service}
-use Rattle.dl_history.specs.declared.event.Call.{Call}
-use Rattle.dl_history.specs.declared.event.Reply.TheVariants.{Done}
+use Rattle.dl_desk.specs.declared.event.Call.{Call}
+use Rattle.dl_desk.specs.declared.event.Reply.TheVariants.{Done}
 use Rattle.dl_history.proofs.ListLemmas.{every_append}
 use Rattle.dl_loader.specs.Additions.{Adds, call_entry}
 use Rattle.dl_loader.specs.Asks.{end_by}

@@ -4,7 +4,7 @@ use Rattle.dl_desk.specs.Events.{atoms}
 use Rattle.dl_desk.specs.History.{begun}
 use Rattle.dl_history.specs.History.{past}
 use Rattle.dl_history.specs.Service.{Service}
-use Rattle.dl_history.specs.declared.event.Event.{Event}
+use Rattle.dl_desk.specs.declared.event.Event.{Event}
 use Rattle.dl_scope.specs.Headline.{Headline, HeadlineBut}
 use Rattle.dl_scope.specs.Report.{Report}
 use Rattle.dl_terms.specs.declared.plan.Plan.{Plan}

@@ -5,9 +5,9 @@ use Rattle.dl_values.specs.declared.outcome.BatchAnswer.TheVariants as answered
 use Rattle.dl_values.specs.declared.outcome.Outcome.{Outcome}
 use Rattle.dl_history.specs.Lists.{Every}
 use Rattle.dl_history.specs.Service.{Service}
-use Rattle.dl_history.specs.declared.event.Call.{Call}
-use Rattle.dl_history.specs.declared.event.Call.TheVariants as call
-use Rattle.dl_history.specs.declared.event.Event.{Event}
+use Rattle.dl_desk.specs.declared.event.Call.{Call}
+use Rattle.dl_desk.specs.declared.event.Call.TheVariants as call
+use Rattle.dl_desk.specs.declared.event.Event.{Event}
 use Rattle.dl_source.specs.Answer.{answer_of, found, outcome_of}
 use Rattle.dl_source.specs.Tables.{Tables}
 use Rattle.dl_terms.specs.TermAnswers.{Pairs, gives}

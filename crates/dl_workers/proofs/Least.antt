@@ -5,7 +5,7 @@ use Rattle.std.specs.Prelude.{flat_map, slice_get}
 use Rattle.std.proofs.lemmas.Bool.{cases_lt}
 use Rattle.std.proofs.lemmas.List.Concat.{flat_map-append}
 use Rattle.dl_history.specs.Lists.{Among}
-use Rattle.dl_history.specs.declared.event.Event.{Event}
+use Rattle.dl_desk.specs.declared.event.Event.{Event}
 use Rattle.dl_history.proofs.ListLemmas.{among_longer, every_append, every_weaker}
 use Rattle.dl_history.proofs.Pasts.{get-append_at, take-get}
 use Rattle.dl_loader.specs.CloseRefusals.{IsLeastOf}

@@ -1,9 +1,9 @@
 -- Batches that failed without an answer of the source.
 use Rattle.std.specs.Prelude.{ℕ, List, [], ◌∷◌, flat_map}
 use Rattle.dl_values.specs.declared.outcome.BatchFault.TheVariants.{Memory, Unsent, Source}
-use Rattle.dl_history.specs.declared.event.Call.{Call}
-use Rattle.dl_history.specs.declared.event.Call.TheVariants.{Load, LoadMany, Prime, Clear, ClearAll, Dispatch, Settle, Fail}
-use Rattle.dl_history.specs.declared.event.Event.{Event}
+use Rattle.dl_desk.specs.declared.event.Call.{Call}
+use Rattle.dl_desk.specs.declared.event.Call.TheVariants.{Load, LoadMany, Prime, Clear, ClearAll, Dispatch, Settle, Fail}
+use Rattle.dl_desk.specs.declared.event.Event.{Event}
 
 -- the batch that the call fails without an answer of the source, if it does
 abbrev pub given_up_by : Call → List ℕ

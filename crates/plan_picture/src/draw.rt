@@ -6,8 +6,7 @@ ghost use Rattle.dl_documents.specs.Faults.{most_bytes};
 ghost use Rattle.dl_plans.specs.Run.{IsRefused, ReadsAtMost};
 
 use crate::picture::picture;
-use dl_command::Options;
-use dl_plans::{RunError, read_all, write_all};
+use dl_plans::{Options, RunError, read_all, write_all};
 use std::alloc::Global;
 use std::hash::RandomState;
 use std::io::{Read, Write};

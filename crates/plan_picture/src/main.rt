@@ -4,8 +4,7 @@
 mod draw;
 mod picture;
 
-use dl_command::{Options, Program};
-use dl_plans::{RunError, asked, told};
+use dl_plans::{Options, Program, RunError, asked, told};
 use draw::run_draw;
 use std::hash::RandomState;
 use std::io;

@@ -1,15 +1,14 @@
 //! The picture of a document.
 
 ghost use Rattle.std.specs.Prelude.{◌≢◌, ℕ, List, IfErr, IfOk};
-ghost use Rattle.dl_command.specs.declared.settings.Options.{Options};
+ghost use Rattle.dl_plans.specs.declared.settings.Options.{Options};
 ghost use Rattle.dl_plans.specs.Run.{IsRefused, file_service, setup_of};
 ghost use Rattle.dl_scope.specs.Faults.{RefusedAs};
 ghost use Rattle.dl_scope.specs.Headline.{Headline};
 
-use dl_command::Options;
 use dl_documents::{Input, PlanFault, PlanFile, read_input};
 use dl_picture::{history_picture, script_picture};
-use dl_plans::{QUEUE_PLACES, RunError};
+use dl_plans::{Options, QUEUE_PLACES, RunError};
 use dl_scope::{MOST_PLANS, Report, ScopeFault, Setup, serve};
 use dl_workers::NoGate;
 use std::alloc::{AllocError, Global};

@@ -1,8 +1,9 @@
 //! The calls on keys, each prepared and then shown, and the dispatch.
 
-ghost use Rattle.std.specs.Prelude.{◌≡◌, ◌≤◌, ◌∷◌, [], List, None, IfOk, OnOk, IfErr, OnErr};
+ghost use Rattle.std.specs.Prelude.{◌≡◌, List, None, IfOk, OnOk, IfErr, OnErr};
 ghost use Rattle.dl_desk.specs.History.{Atom, load_reply, load_replies, loaded, prime_reply, jobs};
-ghost use Rattle.dl_desk.specs.Calls.{Loads, Primes, Clears, ClearsAll, Sends, refusal, IsRefusal, after};
+ghost use Rattle.dl_desk.specs.Calls.{refusal, IsRefusal, after};
+ghost use Rattle.dl_desk.specs.declared.call.DeskCall.TheVariants.{Load, LoadMany, Prime, Clear, ClearAll, Dispatch};
 ghost use Rattle.dl_desk.specs.BatchBook.{StandsFor};
 
 use crate::desk::Desk;
@@ -27,9 +28,9 @@ impl Desk {
             → replies.items ≡ load_replies self.old.book.rules history keys.now) }
         ensures stands { OnOk result ((history : List Atom) → StandsFor self.old.book history
             → StandsFor self.new.prepared (loaded self.old.book.rules history keys.now)) }
-        ensures accepted { OnOk result ((history : List Atom) → StandsFor self.old.book history → refusal self.old.book.rules history (Loads keys.now) ≡ None) }
+        ensures accepted { OnOk result ((history : List Atom) → StandsFor self.old.book history → refusal self.old.book.rules history (LoadMany keys.now) ≡ None) }
         ensures fault { IfErr result (λ fault. (history : List Atom) → StandsFor self.old.book history
-            → IsRefusal self.old.book.rules history (Loads keys.now) fault) }
+            → IsRefusal self.old.book.rules history (LoadMany keys.now) fault) }
         ensures nothing_prepared { OnErr result (self.new.prepared ≡ self.old.book) }
     {
         self.discard();
@@ -53,11 +54,11 @@ impl Desk {
         ensures reply { IfOk result (λ reply. (history : List Atom) → StandsFor self.old.book history
             → reply ≡ load_reply self.old.book.rules history key.now) }
         ensures stands { OnOk result ((history : List Atom) → StandsFor self.old.book history
-            → StandsFor self.new.prepared (after self.old.book.rules history (Loads (key.now ∷ [])))) }
+            → StandsFor self.new.prepared (after self.old.book.rules history (Load key.now))) }
         ensures accepted { OnOk result ((history : List Atom) → StandsFor self.old.book history
-            → refusal self.old.book.rules history (Loads (key.now ∷ [])) ≡ None) }
+            → refusal self.old.book.rules history (Load key.now) ≡ None) }
         ensures fault { IfErr result (λ fault. (history : List Atom) → StandsFor self.old.book history
-            → IsRefusal self.old.book.rules history (Loads (key.now ∷ [])) fault) }
+            → IsRefusal self.old.book.rules history (Load key.now) fault) }
         ensures nothing_prepared { OnErr result (self.new.prepared ≡ self.old.book) }
     {
         self.discard();
@@ -73,11 +74,11 @@ impl Desk {
         ensures reply { IfOk result (λ reply. (history : List Atom) → StandsFor self.old.book history
             → reply ≡ load_reply self.old.book.rules history key.now) }
         ensures stands { OnOk result ((history : List Atom) → StandsFor self.old.book history
-            → StandsFor self.new.book (after self.old.book.rules history (Loads (key.now ∷ [])))) }
+            → StandsFor self.new.book (after self.old.book.rules history (Load key.now))) }
         ensures accepted { OnOk result ((history : List Atom) → StandsFor self.old.book history
-            → refusal self.old.book.rules history (Loads (key.now ∷ [])) ≡ None) }
+            → refusal self.old.book.rules history (Load key.now) ≡ None) }
         ensures fault { IfErr result (λ fault. (history : List Atom) → StandsFor self.old.book history
-            → IsRefusal self.old.book.rules history (Loads (key.now ∷ [])) fault) }
+            → IsRefusal self.old.book.rules history (Load key.now) fault) }
         ensures err { OnErr result (self.new.book ≡ self.old.book) }
         ensures nothing_prepared { self.new.prepared ≡ self.new.book }
     {
@@ -100,10 +101,10 @@ impl Desk {
         ensures replies { IfOk result (λ replies. (history : List Atom) → StandsFor self.old.book history
             → replies.items ≡ load_replies self.old.book.rules history keys.now) }
         ensures stands { OnOk result ((history : List Atom) → StandsFor self.old.book history
-            → StandsFor self.new.book (after self.old.book.rules history (Loads keys.now))) }
-        ensures accepted { OnOk result ((history : List Atom) → StandsFor self.old.book history → refusal self.old.book.rules history (Loads keys.now) ≡ None) }
+            → StandsFor self.new.book (after self.old.book.rules history (LoadMany keys.now))) }
+        ensures accepted { OnOk result ((history : List Atom) → StandsFor self.old.book history → refusal self.old.book.rules history (LoadMany keys.now) ≡ None) }
         ensures fault { IfErr result (λ fault. (history : List Atom) → StandsFor self.old.book history
-            → IsRefusal self.old.book.rules history (Loads keys.now) fault) }
+            → IsRefusal self.old.book.rules history (LoadMany keys.now) fault) }
         ensures err { OnErr result (self.new.book ≡ self.old.book) }
         ensures nothing_prepared { self.new.prepared ≡ self.new.book }
     {
@@ -121,10 +122,10 @@ impl Desk {
         ensures rules { self.new.prepared.rules ≡ self.old.book.rules }
         ensures reply { IfOk result (λ reply. (history : List Atom) → StandsFor self.old.book history → reply ≡ prime_reply history key.now) }
         ensures stands { OnOk result ((history : List Atom) → StandsFor self.old.book history
-            → StandsFor self.new.prepared (after self.old.book.rules history (Primes key.now))) }
-        ensures accepted { OnOk result ((history : List Atom) → StandsFor self.old.book history → refusal self.old.book.rules history (Primes key.now) ≡ None) }
+            → StandsFor self.new.prepared (after self.old.book.rules history (Prime key.now))) }
+        ensures accepted { OnOk result ((history : List Atom) → StandsFor self.old.book history → refusal self.old.book.rules history (Prime key.now) ≡ None) }
         ensures fault { IfErr result (λ fault. (history : List Atom) → StandsFor self.old.book history
-            → IsRefusal self.old.book.rules history (Primes key.now) fault) }
+            → IsRefusal self.old.book.rules history (Prime key.now) fault) }
         ensures nothing_prepared { OnErr result (self.new.prepared ≡ self.old.book) }
     {
         self.discard();
@@ -140,10 +141,10 @@ impl Desk {
         ensures rules { self.new.book.rules ≡ self.old.book.rules }
         ensures reply { IfOk result (λ reply. (history : List Atom) → StandsFor self.old.book history → reply ≡ prime_reply history key.now) }
         ensures stands { OnOk result ((history : List Atom) → StandsFor self.old.book history
-            → StandsFor self.new.book (after self.old.book.rules history (Primes key.now))) }
-        ensures accepted { OnOk result ((history : List Atom) → StandsFor self.old.book history → refusal self.old.book.rules history (Primes key.now) ≡ None) }
+            → StandsFor self.new.book (after self.old.book.rules history (Prime key.now))) }
+        ensures accepted { OnOk result ((history : List Atom) → StandsFor self.old.book history → refusal self.old.book.rules history (Prime key.now) ≡ None) }
         ensures fault { IfErr result (λ fault. (history : List Atom) → StandsFor self.old.book history
-            → IsRefusal self.old.book.rules history (Primes key.now) fault) }
+            → IsRefusal self.old.book.rules history (Prime key.now) fault) }
         ensures err { OnErr result (self.new.book ≡ self.old.book) }
         ensures nothing_prepared { self.new.prepared ≡ self.new.book }
     {
@@ -158,7 +159,7 @@ impl Desk {
         ensures rules { self.new.prepared.rules ≡ self.old.book.rules }
         ensures reply { IfOk result (λ sent. (history : List Atom) → StandsFor self.old.book history → sent.items ≡ jobs history) }
         ensures stands { OnOk result ((history : List Atom) → StandsFor self.old.book history
-            → StandsFor self.new.prepared (after self.old.book.rules history Sends)) }
+            → StandsFor self.new.prepared (after self.old.book.rules history Dispatch)) }
         ensures nothing_prepared { OnErr result (self.new.prepared ≡ self.old.book) }
     {
         self.discard();
@@ -174,7 +175,7 @@ impl Desk {
         ensures rules { self.new.book.rules ≡ self.old.book.rules }
         ensures reply { IfOk result (λ sent. (history : List Atom) → StandsFor self.old.book history → sent.items ≡ jobs history) }
         ensures stands { OnOk result ((history : List Atom) → StandsFor self.old.book history
-            → StandsFor self.new.book (after self.old.book.rules history Sends)) }
+            → StandsFor self.new.book (after self.old.book.rules history Dispatch)) }
         ensures err { OnErr result (self.new.book ≡ self.old.book) }
         ensures nothing_prepared { self.new.prepared ≡ self.new.book }
     {
@@ -187,7 +188,7 @@ impl Desk {
     pub fn clear(&mut self, key: &FetchKey)
         ensures rules { self.new.book.rules ≡ self.old.book.rules }
         ensures stands { (history : List Atom) → StandsFor self.old.book history
-            → StandsFor self.new.book (after self.old.book.rules history (Clears key.now)) }
+            → StandsFor self.new.book (after self.old.book.rules history (Clear key.now)) }
     {
         self.discard();
         if self.memo.swap_remove(key).is_some() {
@@ -199,7 +200,7 @@ impl Desk {
     /// Forgets all keys (DataLoader: `clearAll`).
     pub fn clear_all(&mut self)
         ensures rules { self.new.book.rules ≡ self.old.book.rules }
-        ensures stands { (history : List Atom) → StandsFor self.old.book history → StandsFor self.new.book (after self.old.book.rules history ClearsAll) }
+        ensures stands { (history : List Atom) → StandsFor self.old.book history → StandsFor self.new.book (after self.old.book.rules history ClearAll) }
     {
         self.discard();
         self.memo.truncate(0);

@@ -4,7 +4,8 @@ ghost use Rattle.std.specs.Prelude.{◌≡◌, ◌<◌, ◌∷◌, [], length, L
 ghost use Rattle.std.specs.Map.{lookup};
 ghost use Rattle.dl_values.specs.Key.{key_eq};
 ghost use Rattle.dl_desk.specs.History.{Atom};
-ghost use Rattle.dl_desk.specs.Calls.{Settles, Fails, refusal, after, ended_so, unfit};
+ghost use Rattle.dl_desk.specs.Calls.{refusal, after, ended_so, unfit};
+ghost use Rattle.dl_desk.specs.declared.call.DeskCall.TheVariants.{Settle, Fail};
 ghost use Rattle.dl_desk.specs.BatchBook.{StandsFor, batch_view};
 ghost use Rattle.dl_desk.specs.Preparation.{RefusesEnd, MayEndIn, Forgets, set_end};
 
@@ -91,10 +92,10 @@ impl Desk {
     pub fn settle(&mut self, number: u32) -> Result<(), DeskFault>
         ensures rules { self.new.book.rules ≡ self.old.book.rules }
         ensures stands { OnOk result ((history : List Atom) → StandsFor self.old.book history
-            → StandsFor self.new.book (after self.old.book.rules history (Settles number))) }
-        ensures accepted { OnOk result ((history : List Atom) → StandsFor self.old.book history → refusal self.old.book.rules history (Settles number) ≡ None) }
+            → StandsFor self.new.book (after self.old.book.rules history (Settle number))) }
+        ensures accepted { OnOk result ((history : List Atom) → StandsFor self.old.book history → refusal self.old.book.rules history (Settle number) ≡ None) }
         ensures fault { IfErr result (λ fault. (history : List Atom) → StandsFor self.old.book history
-            → refusal self.old.book.rules history (Settles number) ≡ Some fault) }
+            → refusal self.old.book.rules history (Settle number) ≡ Some fault) }
         ensures err { OnErr result (self.new.book ≡ self.old.book) }
     {
         self.check_end(number)?;
@@ -110,10 +111,10 @@ impl Desk {
     pub fn fail(&mut self, number: u32) -> Result<(), DeskFault>
         ensures rules { self.new.book.rules ≡ self.old.book.rules }
         ensures stands { OnOk result ((history : List Atom) → StandsFor self.old.book history
-            → StandsFor self.new.book (after self.old.book.rules history (Fails number))) }
-        ensures accepted { OnOk result ((history : List Atom) → StandsFor self.old.book history → refusal self.old.book.rules history (Fails number) ≡ None) }
+            → StandsFor self.new.book (after self.old.book.rules history (Fail number))) }
+        ensures accepted { OnOk result ((history : List Atom) → StandsFor self.old.book history → refusal self.old.book.rules history (Fail number) ≡ None) }
         ensures fault { IfErr result (λ fault. (history : List Atom) → StandsFor self.old.book history
-            → refusal self.old.book.rules history (Fails number) ≡ Some fault) }
+            → refusal self.old.book.rules history (Fail number) ≡ Some fault) }
         ensures err { OnErr result (self.new.book ≡ self.old.book) }
     {
         self.check_end(number)?;

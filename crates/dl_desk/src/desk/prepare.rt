@@ -2,7 +2,9 @@
 
 ghost use Rattle.std.specs.Prelude.{◌≡◌, List, None, IfOk, OnOk, IfErr, OnErr};
 ghost use Rattle.dl_desk.specs.History.{Atom};
-ghost use Rattle.dl_desk.specs.Calls.{DeskCall, Loads, Primes, Sends, refusal, IsRefusal, after};
+ghost use Rattle.dl_desk.specs.Calls.{refusal, IsRefusal, after};
+ghost use Rattle.dl_desk.specs.declared.call.DeskCall.{DeskCall};
+ghost use Rattle.dl_desk.specs.declared.call.DeskCall.TheVariants.{LoadMany, Prime, Dispatch};
 ghost use Rattle.dl_desk.specs.BatchBook.{StandsFor};
 ghost use Rattle.dl_desk.specs.Ready.{IsReadyFor, IsReplyTo};
 
@@ -20,10 +22,10 @@ impl Desk {
     /// As `load_many`.
     pub fn ready_loads(&mut self, alloc: Global, keys: &[FetchKey]) -> Result<Ready, DeskFault>
         ensures book { self.new.book ≡ self.old.book }
-        ensures ready { IfOk result (IsReadyFor self.new (Loads keys.now)) }
-        ensures accepted { OnOk result ((history : List Atom) → StandsFor self.old.book history → refusal self.old.book.rules history (Loads keys.now) ≡ None) }
+        ensures ready { IfOk result (IsReadyFor self.new (LoadMany keys.now)) }
+        ensures accepted { OnOk result ((history : List Atom) → StandsFor self.old.book history → refusal self.old.book.rules history (LoadMany keys.now) ≡ None) }
         ensures fault { IfErr result (λ fault. (history : List Atom) → StandsFor self.old.book history
-            → IsRefusal self.old.book.rules history (Loads keys.now) fault) }
+            → IsRefusal self.old.book.rules history (LoadMany keys.now) fault) }
         ensures nothing_prepared { OnErr result (self.new.prepared ≡ self.old.book) }
     {
         let replies = self.prepare_loads(alloc, keys)?;
@@ -38,10 +40,10 @@ impl Desk {
     /// As `prime`.
     pub fn ready_prime(&mut self, key: &FetchKey) -> Result<Ready, DeskFault>
         ensures book { self.new.book ≡ self.old.book }
-        ensures ready { IfOk result (IsReadyFor self.new (Primes key.now)) }
-        ensures accepted { OnOk result ((history : List Atom) → StandsFor self.old.book history → refusal self.old.book.rules history (Primes key.now) ≡ None) }
+        ensures ready { IfOk result (IsReadyFor self.new (Prime key.now)) }
+        ensures accepted { OnOk result ((history : List Atom) → StandsFor self.old.book history → refusal self.old.book.rules history (Prime key.now) ≡ None) }
         ensures fault { IfErr result (λ fault. (history : List Atom) → StandsFor self.old.book history
-            → IsRefusal self.old.book.rules history (Primes key.now) fault) }
+            → IsRefusal self.old.book.rules history (Prime key.now) fault) }
         ensures nothing_prepared { OnErr result (self.new.prepared ≡ self.old.book) }
     {
         let reply = self.prepare_prime(key)?;
@@ -54,7 +56,7 @@ impl Desk {
     /// The error is a failed allocation.
     pub fn ready_dispatch(&mut self, alloc: Global) -> Result<Ready, AllocError>
         ensures book { self.new.book ≡ self.old.book }
-        ensures ready { IfOk result (IsReadyFor self.new Sends) }
+        ensures ready { IfOk result (IsReadyFor self.new Dispatch) }
         ensures nothing_prepared { OnErr result (self.new.prepared ≡ self.old.book) }
     {
         let jobs = self.prepare_dispatch(alloc)?;

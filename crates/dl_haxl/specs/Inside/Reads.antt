@@ -1,6 +1,6 @@
 -- What a pass gains by reading the outcomes of tickets.
 use Rattle.std.specs.Prelude.{◌≡◌, ◌≢◌, ℕ, List, ◌++◌, map, Some, slice_get}
-use Rattle.dl_history.specs.declared.event.Ending.{Ending}
+use Rattle.dl_desk.specs.declared.event.Ending.{Ending}
 use Rattle.dl_loader.specs.Additions.{saws}
 use Rattle.dl_loader.specs.Pass.{Trace, Ticket, GaveTickets}
 use Rattle.dl_history.specs.declared.pass.GivenTicket.{GivenTicket}

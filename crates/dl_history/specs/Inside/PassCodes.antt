@@ -3,8 +3,8 @@ use Rattle.std.specs.Prelude.{ℕ, Bool, List, Option, refl}
 use Rattle.std.specs.Coded.{Coded, code_by, coded_ℕ, coded_bool, coded_list, coded_option, coded×}
 use Rattle.dl_desk.specs.declared.reply.LoadReply.{LoadReply}
 use Rattle.dl_desk.specs.contracts.reply.LoadReply as reply
-use Rattle.dl_history.specs.declared.event.Ending.{Ending}
-use Rattle.dl_history.specs.contracts.event.Ending as ending
+use Rattle.dl_desk.specs.declared.event.Ending.{Ending}
+use Rattle.dl_desk.specs.contracts.event.Ending as ending
 use Rattle.dl_history.specs.Entries.{Entry}
 use Rattle.dl_history.specs.Inside.Codes.{entry_code}
 use Rattle.dl_history.specs.declared.pass.GivenTicket.{GivenTicket}

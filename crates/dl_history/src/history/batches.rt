@@ -61,8 +61,8 @@ pub struct Batches<'a> {
 impl<'a> Model for Batches<'a> {
     ghost use Rattle.std.specs.Prelude.{List};
     ghost use Rattle.std.specs.Coded.{coded_list};
-    ghost use Rattle.dl_history.specs.declared.event.Event.{Event};
-    ghost use Rattle.dl_history.specs.contracts.event.Event as event;
+    ghost use Rattle.dl_desk.specs.declared.event.Event.{Event};
+    ghost use Rattle.dl_desk.specs.contracts.event.Event as event;
 
     ghost Value = { List Event };
 

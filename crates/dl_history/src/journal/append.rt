@@ -10,10 +10,10 @@ ghost use Rattle.dl_history.specs.Journal.{waiting};
 
 use crate::cell_rows::CellRows;
 use crate::entry::PlacedEvent;
-use crate::event::{Ending, Event};
 use crate::journal::Journal;
 use crate::name::LoaderName;
 use dl_cells::{CellRow, Reader};
+use dl_desk::{Ending, Event};
 use std::alloc::AllocError;
 use std::sync::ledger::Share;
 

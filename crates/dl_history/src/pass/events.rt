@@ -6,10 +6,10 @@ ghost use Rattle.dl_history.specs.Record.{NothingMade, Recorded};
 
 use crate::cell_rows::CellRows;
 use crate::entry::Entry;
-use crate::event::Event;
 use crate::journal::{AppendFault, Journal};
 use crate::name::LoaderName;
 use crate::pass::Pass;
+use dl_desk::Event;
 
 impl<L: LoaderName> Pass<L> {
     /// Adds an event of this caller, for which the pass has room, to the journal, with as many cells as it begins, and to

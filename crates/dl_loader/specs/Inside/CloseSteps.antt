@@ -5,7 +5,7 @@ use Rattle.dl_history.specs.ClosedHistory.{IsHistory, Outline, accounts_at, hist
 use Rattle.dl_history.specs.History.{AllEnded}
 use Rattle.dl_history.specs.Lists.{Every}
 use Rattle.dl_history.specs.Service.{Service}
-use Rattle.dl_history.specs.declared.event.Event.{Event}
+use Rattle.dl_desk.specs.declared.event.Event.{Event}
 use Rattle.dl_loader.specs.Book.{Book}
 use Rattle.dl_loader.specs.declared.loader.close.PassFront.{PassFront}
 use Rattle.dl_loader.specs.CloseRefusals.{TellWhole}

@@ -11,8 +11,8 @@ use Rattle.dl_values.specs.declared.outcome.Outcome.TheVariants.{BatchFailed}
 use Rattle.dl_desk.specs.declared.reply.End.{End}
 use Rattle.dl_desk.specs.declared.reply.End.TheVariants.{Settled, Failed}
 use Rattle.dl_loader.specs.declared.dues.Due.{Due}
-use Rattle.dl_history.specs.declared.event.Call.{Call}
-use Rattle.dl_history.specs.declared.event.Call.TheVariants.{Prime, Settle, Fail}
+use Rattle.dl_desk.specs.declared.event.Call.{Call}
+use Rattle.dl_desk.specs.declared.event.Call.TheVariants.{Prime, Settle, Fail}
 use Rattle.dl_history.specs.declared.fault.CallFault.{CallFault}
 use Rattle.dl_history.specs.declared.fault.CallFault.TheVariants.{WrongKeys}
 use Rattle.dl_history.specs.History.{keys_of}

@@ -2,8 +2,8 @@
 use Rattle.std.specs.Prelude.{ℕ, List, sum_by}
 use Rattle.dl_desk.specs.declared.reply.LoadReply.{LoadReply}
 use Rattle.dl_desk.specs.declared.reply.LoadReply.TheVariants.{Hit, Fresh}
-use Rattle.dl_history.specs.declared.event.Reply.{Reply}
-use Rattle.dl_history.specs.declared.event.Reply.TheVariants.{Loaded, Many, Primed}
+use Rattle.dl_desk.specs.declared.event.Reply.{Reply}
+use Rattle.dl_desk.specs.declared.event.Reply.TheVariants.{Loaded, Many, Primed}
 
 -- a fresh load begins a cell, and a load of a key that is held begins none
 abbrev pub begun_by : LoadReply → ℕ

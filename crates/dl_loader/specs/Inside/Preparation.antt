@@ -4,14 +4,15 @@ use Rattle.dl_values.specs.Key.{Key}
 use Rattle.dl_values.specs.declared.job.Job.{Job}
 use Rattle.dl_values.specs.declared.outcome.BatchAnswer.{BatchAnswer}
 use Rattle.dl_desk.specs.History.{Atom, members, prime_reply}
-use Rattle.dl_desk.specs.Calls.{DeskCall, after}
+use Rattle.dl_desk.specs.Calls.{after}
+use Rattle.dl_desk.specs.declared.call.DeskCall.{DeskCall}
 use Rattle.dl_desk.specs.BatchBook.{BatchBook, Desk, StandsFor}
 use Rattle.dl_desk.specs.declared.reply.DeskPrime.{DeskPrime}
 use Rattle.dl_desk.specs.declared.reply.DeskPrime.TheVariants as prime
-use Rattle.dl_history.specs.declared.event.Call.{Call}
-use Rattle.dl_history.specs.declared.event.Call.TheVariants.{Prime, Settle, Fail}
-use Rattle.dl_history.specs.declared.event.Reply.{Reply}
-use Rattle.dl_history.specs.declared.event.Reply.TheVariants.{Primed}
+use Rattle.dl_desk.specs.declared.event.Call.{Call}
+use Rattle.dl_desk.specs.declared.event.Call.TheVariants.{Prime, Settle, Fail}
+use Rattle.dl_desk.specs.declared.event.Reply.{Reply}
+use Rattle.dl_desk.specs.declared.event.Reply.TheVariants.{Primed}
 use Rattle.dl_history.specs.History.{MayBeMade, reply_to}
 use Rattle.dl_loader.specs.declared.dues.Due.{Due}
 use Rattle.dl_history.specs.declared.fault.CallFault.{CallFault}

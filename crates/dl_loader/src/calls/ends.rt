@@ -3,8 +3,8 @@
 ghost use Rattle.dl_history.specs.Service.{Answers};
 ghost use Rattle.std.specs.Prelude.{◌≡◌, ◌+◌, ◌<◌, true, IfErr, IfOk, OnErr, OnOk, Some, length};
 ghost use Rattle.dl_source.specs.Fetched.{answer_of, job_of, source_of};
-ghost use Rattle.dl_history.specs.declared.event.Call.TheVariants as call;
-ghost use Rattle.dl_history.specs.declared.event.Reply.TheVariants as reply;
+ghost use Rattle.dl_desk.specs.declared.event.Call.TheVariants as call;
+ghost use Rattle.dl_desk.specs.declared.event.Reply.TheVariants as reply;
 ghost use Rattle.dl_loader.specs.Asks.{end_by, fault_of};
 ghost use Rattle.dl_loader.specs.EventEffect.{KnowsStop, WasMade, WasRefused};
 

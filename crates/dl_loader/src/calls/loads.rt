@@ -1,8 +1,8 @@
 //! The loads of keys.
 
 ghost use Rattle.std.specs.Prelude.{◌≡◌, false, IfErr, IfOk, None, OnErr, length, map};
-ghost use Rattle.dl_history.specs.declared.event.Call.TheVariants as call;
-ghost use Rattle.dl_history.specs.declared.event.Reply.TheVariants as reply;
+ghost use Rattle.dl_desk.specs.declared.event.Call.TheVariants as call;
+ghost use Rattle.dl_desk.specs.declared.event.Reply.TheVariants as reply;
 ghost use Rattle.dl_loader.specs.EventEffect.{KnowsStop, WasMade, WasRefused};
 ghost use Rattle.dl_history.specs.Pass.{GaveTicket, GaveTickets};
 

@@ -1,10 +1,10 @@
 //! The calls on keys, and the dispatch.
 
 ghost use Rattle.std.specs.Prelude.{◌≡◌, [], None};
-ghost use Rattle.dl_desk.specs.Calls.{Primes, Sends};
+ghost use Rattle.dl_desk.specs.declared.call.DeskCall.TheVariants as asked;
 ghost use Rattle.dl_history.specs.History.{primed};
-ghost use Rattle.dl_history.specs.declared.event.Call.TheVariants as made;
-ghost use Rattle.dl_history.specs.declared.event.Reply.TheVariants as reply;
+ghost use Rattle.dl_desk.specs.declared.event.Call.TheVariants as made;
+ghost use Rattle.dl_desk.specs.declared.event.Reply.TheVariants as reply;
 ghost use Rattle.dl_loader.specs.Inside.Preparation.{IsReady, cell_primed};
 ghost use Rattle.dl_loader.specs.EventEffect.{loads_of};
 
@@ -122,7 +122,7 @@ impl EventCall for Prime<'_> {
 
     ghost told = { primed };
 
-    ghost ready = { λ c desk. IsReady desk (Primes c.key.now) };
+    ghost ready = { λ c desk. IsReady desk (asked.Prime c.key.now) };
 
     fn prepare(
         &self,
@@ -209,7 +209,7 @@ impl EventCall for Dispatch {
 
     ghost told = { λ jobs. reply.Sent jobs };
 
-    ghost ready = { λ _ desk. IsReady desk Sends };
+    ghost ready = { λ _ desk. IsReady desk asked.Dispatch };
 
     fn prepare(
         &self,

@@ -1,9 +1,9 @@
 //! The loads of keys.
 
 ghost use Rattle.std.specs.Prelude.{◌≡◌, None, [], ◌∷◌};
-ghost use Rattle.dl_desk.specs.Calls.{Loads};
-ghost use Rattle.dl_history.specs.declared.event.Call.TheVariants as made;
-ghost use Rattle.dl_history.specs.declared.event.Reply.TheVariants as reply;
+ghost use Rattle.dl_desk.specs.declared.call.DeskCall.TheVariants as asked;
+ghost use Rattle.dl_desk.specs.declared.event.Call.TheVariants as made;
+ghost use Rattle.dl_desk.specs.declared.event.Reply.TheVariants as reply;
 ghost use Rattle.dl_loader.specs.Inside.Preparation.{IsReady};
 
 use crate::event_call::{EventCall, Prepared};
@@ -27,7 +27,7 @@ impl EventCall for Load<'_> {
 
     ghost told = { λ r. reply.Loaded r };
 
-    ghost ready = { λ c desk. IsReady desk (Loads (c.key.now ∷ [])) };
+    ghost ready = { λ c desk. IsReady desk (asked.Load c.key.now) };
 
     #[inline(always)]
     fn prepare(
@@ -79,7 +79,7 @@ impl EventCall for LoadMany<'_> {
 
     ghost told = { λ rs. reply.Many rs };
 
-    ghost ready = { λ c desk. IsReady desk (Loads c.keys.now) };
+    ghost ready = { λ c desk. IsReady desk (asked.LoadMany c.keys.now) };
 
     fn prepare(
         &self,

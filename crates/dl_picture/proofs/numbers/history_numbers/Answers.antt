@@ -1,7 +1,7 @@
 use Rattle.std.proofs.Common.{List, subst, None}
 use Rattle.dl_desk.specs.Events.{atoms}
 use Rattle.dl_history.specs.History.{past}
-use Rattle.dl_history.specs.declared.event.Event.{Event}
+use Rattle.dl_desk.specs.declared.event.Event.{Event}
 use Rattle.dl_picture.specs.Numbers.{AreBatchNumbers, AreLoadNumbers, events_by, load_replies}
 use Rattle.dl_picture.proofs.EventCounts.{all_events}
 use Rattle.dl_picture.proofs.numbers.history_numbers.Goals as goal

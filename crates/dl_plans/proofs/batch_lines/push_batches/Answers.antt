@@ -1,7 +1,7 @@
 use Rattle.std.proofs.Common.{string_bytes, arith}
 use Rattle.dl_desk.specs.Events.{atoms}
 use Rattle.dl_history.specs.History.{past}
-use Rattle.dl_plans.proofs.Texts.{batch_more}
+use Rattle.dl_plans.proofs.BatchTexts.{batch_more}
 use Rattle.dl_plans.proofs.batch_lines.push_batches.Goals as goal
 
 pub batches-preserved : goal.batches-preserved

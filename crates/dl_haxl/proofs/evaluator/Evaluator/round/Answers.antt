@@ -4,8 +4,8 @@ use Rattle.std.proofs.lemmas.Result.{IfOk-from_err, err_from_is_err_and}
 use Rattle.std.specs.Vec.{with_items}
 use Rattle.dl_values.proofs.Errors.{on_err}
 use Rattle.dl_history.specs.Service.{Service}
-use Rattle.dl_history.specs.declared.event.Call.TheVariants.{LoadMany, Dispatch}
-use Rattle.dl_history.specs.declared.event.Reply.TheVariants.{Many, Sent}
+use Rattle.dl_desk.specs.declared.event.Call.TheVariants.{LoadMany, Dispatch}
+use Rattle.dl_desk.specs.declared.event.Reply.TheVariants.{Many, Sent}
 use Rattle.dl_loader.specs.Additions.{Grows}
 use Rattle.dl_loader.proofs.AdditionLemmas.{grows_after}
 use Rattle.dl_loader.proofs.TicketsStay.{keeps_after, keeps_made, keeps_same}

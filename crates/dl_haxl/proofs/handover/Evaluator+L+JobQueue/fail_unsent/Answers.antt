@@ -1,6 +1,6 @@
 use Rattle.std.proofs.Common.{refl, inr, Some}
 use Rattle.dl_values.specs.declared.outcome.BatchFault.TheVariants.{Unsent}
-use Rattle.dl_history.specs.declared.event.Call.TheVariants.{Fail}
+use Rattle.dl_desk.specs.declared.event.Call.TheVariants.{Fail}
 use Rattle.dl_haxl.proofs.handover.Evaluator+L+JobQueue.fail_unsent.Goals as goal
 use Rattle.dl_haxl.proofs.handover.Evaluator+L+JobQueue.fail_unsent.Goals.{in-Ok, in-Ok-2, in-Err}
 

@@ -1,6 +1,6 @@
 use Rattle.std.proofs.Common.{refl, None}
 use Rattle.std.proofs.lemmas.Result.{err_from_is_err_and}
-use Rattle.dl_history.specs.declared.event.Call.TheVariants.{Prime}
+use Rattle.dl_desk.specs.declared.event.Call.TheVariants.{Prime}
 use Rattle.dl_haxl.proofs.steps.Evaluator+L+JobQueue.prime.Goals as goal
 
 -- the prime was refused

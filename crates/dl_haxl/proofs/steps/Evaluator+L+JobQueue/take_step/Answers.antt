@@ -1,8 +1,8 @@
 use Rattle.std.proofs.Common.{◌≡◌, ◌∙◌, [], ap, append-nil, refl, subst, sym, Err, None, rules}
 use Rattle.std.proofs.lemmas.Result.{IfOk-from_err, err_from_is_err_and}
 use Rattle.dl_values.proofs.Errors.{on_err}
-use Rattle.dl_history.specs.declared.event.Call.TheVariants as call
-use Rattle.dl_history.specs.declared.event.Reply.TheVariants.{Done}
+use Rattle.dl_desk.specs.declared.event.Call.TheVariants as call
+use Rattle.dl_desk.specs.declared.event.Reply.TheVariants.{Done}
 use Rattle.dl_terms.specs.declared.plan.Step.TheVariants.{Prime, Clear, ClearAll}
 use Rattle.dl_loader.specs.Additions.{Grows}
 use Rattle.dl_loader.proofs.TicketsStay.{keeps_same}

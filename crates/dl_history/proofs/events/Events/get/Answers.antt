@@ -1,6 +1,6 @@
 use Rattle.std.proofs.Common.{◌≡◌, ◌∙◌, ap, subst, Bor, List, Some, option_copied, slice_get, arith}
 use Rattle.dl_cells.specs.Cells.{Reader}
-use Rattle.dl_history.specs.declared.event.Event.{Event}
+use Rattle.dl_desk.specs.declared.event.Event.{Event}
 use Rattle.dl_history.proofs.JournalLemmas.{event_seen}
 use Rattle.dl_history.proofs.ListLemmas.{looked_up}
 use Rattle.dl_history.proofs.events.Events.get.Goals as goal

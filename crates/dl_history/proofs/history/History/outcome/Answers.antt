@@ -4,7 +4,7 @@ use Rattle.dl_values.specs.declared.outcome.Outcome.{Outcome}
 use Rattle.dl_history.specs.ClosedHistory.{History, IsHistory}
 use Rattle.dl_history.specs.History.{past}
 use Rattle.dl_history.specs.LoaderState.{loader_state}
-use Rattle.dl_history.specs.declared.event.Event.{Event}
+use Rattle.dl_desk.specs.declared.event.Event.{Event}
 use Rattle.dl_history.proofs.CellOutcomes.{kept_outcome, outcome_begun}
 use Rattle.dl_history.proofs.history.History.outcome.Goals as goal
 

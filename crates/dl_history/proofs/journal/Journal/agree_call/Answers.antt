@@ -1,5 +1,5 @@
 use Rattle.std.proofs.Common.{◌≡◌, ap, Some, IfSome, List, slice_get, subst}
-use Rattle.dl_history.specs.declared.event.Event.{Event}
+use Rattle.dl_desk.specs.declared.event.Event.{Event}
 use Rattle.dl_history.specs.Journal.{Journal}
 use Rattle.dl_history.proofs.JournalLemmas.{event_met, event_unmet}
 use Rattle.dl_history.proofs.ListLemmas.{looked_up}

@@ -1,0 +1,98 @@
+//! The events of a shared loader: who called what, and what was replied.
+
+use crate::replies::{Jobs, Replies};
+use crate::reply::LoadReply;
+use crate::shared::Shared;
+use dl_values::{BatchFault, FetchKey, Keys, Outcome, Outcomes};
+
+/// A call of a shared loader, with its arguments.
+#[derive(Debug, Drop)]
+pub enum Call {
+    /// The load of a key.
+    Load(FetchKey),
+    /// The loads of several keys in order, as one call.
+    LoadMany(Keys),
+    /// The prime of a key with an outcome.
+    Prime(FetchKey, Shared<Outcome>),
+    /// The memo forgets a key.
+    Clear(FetchKey),
+    /// The memo forgets all keys.
+    ClearAll,
+    /// Every batch that was begun and not sent is sent.
+    Dispatch,
+    /// A batch ends with an outcome for each member, in order.
+    Settle {
+        batch: u32,
+        outcomes: Shared<Outcomes>,
+    },
+    /// A batch fails as a whole.
+    Fail {
+        batch: u32,
+        fault: BatchFault,
+    },
+}
+
+/// The reply to a call of a shared loader.
+#[derive(Debug, Drop)]
+pub enum Reply {
+    /// To a load.
+    Loaded(LoadReply),
+    /// To a loadMany: a reply for each key, in order.
+    Many(Shared<Replies>),
+    /// To a prime of a key that wasn't held: the new cell.
+    Primed(u32),
+    /// To a prime of a key that is held: nothing changed.
+    Kept,
+    /// To a clear, a clearAll, a settle and a fail.
+    Done,
+    /// To a dispatch: the jobs, in order.
+    Sent(Shared<Jobs>),
+}
+
+/// A call of a shared loader with its reply. Its place in the history is how many events stand before it.
+#[derive(Debug)]
+pub struct Event {
+    /// The caller, counted from 0.
+    pub caller: u32,
+    /// What was called.
+    pub call: Call,
+    /// What was replied.
+    pub reply: Reply,
+}
+
+// Most events are loads, of which only the key is let go.
+impl Drop for Event {
+    #[inline(always)]
+    fn drop(self) {
+        let Event {
+            caller: _,
+            call,
+            reply,
+        } = self;
+        match call {
+            Call::Load(key) => drop(key),
+            other => drop(other),
+        }
+        match reply {
+            Reply::Loaded(_) => {}
+            other => drop(other),
+        }
+    }
+}
+
+/// What a cell of a shared loader shows once it has ended: its outcome, and the place of the event that
+/// gave it the outcome.
+#[derive(Debug)]
+pub struct Ending {
+    /// The place: a history has at most 65,536 events, so it is below that.
+    pub at: u16,
+    /// The outcome.
+    pub outcome: Outcome,
+}
+
+impl Drop for Ending {
+    fn drop(self) {
+        let Ending { at: _, outcome } = self;
+        drop(outcome);
+    }
+}

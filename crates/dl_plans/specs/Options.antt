@@ -1,0 +1,91 @@
+-- The command lines of `plans` and of `plan_picture`, and what their matches give.
+use Rattle.std.specs.Prelude.{◌≡◌, ◌≤◌, ◌↔◌, ℕ, ◌∷◌, [], List, true, false, IsTrue, pos, codes, Option, Some, option_map}
+use Rattle.std.specs.Str.Parse.{digits_value, without_leading_plus, IsNumeral}
+use Rattle.clap.specs.Words.{App, Shape, Row, Rule, Text, new_app, new_rule, one_of, with_rule, with_subcommand}
+use Rattle.clap.specs.Simple.{on_top}
+use Rattle.clap.specs.declared.builder.action.ArgAction.TheVariants.{SetTrue}
+use Rattle.clap.specs.declared.builder.value_parser.ValueParser.TheVariants as vp
+use Rattle.dl_plans.specs.declared.command.Program.{Program}
+use Rattle.dl_plans.specs.declared.command.Program.TheVariants.{Plans, PlanPicture}
+use Rattle.dl_plans.specs.declared.settings.Options.{Options}
+
+-- the most fetch workers
+abbrev pub most_workers : ℕ
+most_workers = 16
+
+-- `--workers N`, a number from 1 to the most, and 3 where it isn't given
+abbrev pub workers_rule : Rule
+workers_rule = record (new_rule (codes "workers")) {
+  long = Some (codes "workers");
+  value_names = 1;
+  parser = Some (vp.Signed (pos 1) (pos most_workers));
+  defaults = codes "3" ∷ [];
+}
+
+-- `--batches`, a flag
+abbrev pub batches_rule : Rule
+batches_rule = record (new_rule (codes "batches")) { long = Some (codes "batches"); action = Some SetTrue }
+
+-- the words stand behind the program's name
+abbrev pub without_name : Shape → Shape
+without_name s = record s { no_binary_name = true }
+
+-- `migrate`, which has no option
+abbrev pub migrate_app : App
+migrate_app = new_app (codes "migrate")
+
+-- what the command line of `plans` has beside its version
+abbrev pub plans_words_app : App
+plans_words_app =
+    with_subcommand (with_rule (with_rule (on_top without_name (new_app (codes "plans"))) workers_rule) batches_rule) migrate_app.top
+
+abbrev pub with_version : Shape → Shape
+with_version s = record s { has_version = true }
+
+-- the command line of `plans`
+abbrev pub plans_app : App
+plans_app = on_top with_version plans_words_app
+
+-- that of `plan_picture`
+abbrev pub picture_app : App
+picture_app = with_rule (on_top without_name (new_app (codes "plan_picture"))) workers_rule
+
+abbrev pub app_of_program : Program → App
+app_of_program Plans = plans_app
+app_of_program PlanPicture = picture_app
+
+-- the name of a subcommand that was used, beside what its own matches give
+abbrev pub name_of : Option (Text × List Row) → Option Text
+name_of = option_map (λ used. used.0)
+
+-- a text is this number in decimal
+pub record IsDecimal (text : Text) (n : ℕ) : Type 0 where
+  pub numeral : IsNumeral 10 (without_leading_plus text)
+  pub value : n ≡ digits_value 10 (without_leading_plus text)
+
+-- a row of the matches is this number in decimal
+pub record GivesNumber (rows : List Row) (id : Text) (n : ℕ) : Type 0 where
+  pub text : Text
+  pub row : one_of id rows ≡ Some text
+  pub decimal : IsDecimal text n
+
+-- the options that the matches of `plans` give, and the subcommand that was used
+pub record AreGiven (rows : List Row) (used : Option (Text × List Row)) (o : Options) : Type 0 where
+  pub workers : GivesNumber rows (codes "workers") o.workers
+  pub least : 1 ≤ o.workers
+  pub most : o.workers ≤ most_workers
+  pub batches : one_of (codes "batches") rows ≡ Some (codes "true") → o.batches ≡ true
+  pub no_batches : one_of (codes "batches") rows ≡ Some (codes "false") → o.batches ≡ false
+  pub migrate : IsTrue o.migrate ↔ (name_of used ≡ Some (codes "migrate"))
+
+-- the options that the matches of `plan_picture` give
+pub record ArePictureOptions (rows : List Row) (o : Options) : Type 0 where
+  pub workers : GivesNumber rows (codes "workers") o.workers
+  pub least : 1 ≤ o.workers
+  pub most : o.workers ≤ most_workers
+  pub no_batches : o.batches ≡ false
+
+-- the options that the matches give to a program
+abbrev pub AreGivenTo : Program → List Row → Option (Text × List Row) → Options → Type 0
+AreGivenTo Plans rows used o = AreGiven rows used o
+AreGivenTo PlanPicture rows used o = ArePictureOptions rows o

@@ -1,0 +1,84 @@
+//! Writing the lines of replies and refusals.
+
+ghost use Rattle.std.specs.Prelude.{◌≡◌, ◌≢◌, ◌++◌, OnOk, string_bytes};
+ghost use Rattle.dl_plans.specs.ReplyLines.{done_line, load_line, many_lines, prime_line, job_line, sent_lines, refused_line};
+
+use crate::json_text::key_text;
+use dl_desk::{DeskFault, DeskPrime, Job, LoadReply};
+use std::alloc::{AllocError, Global};
+use std::fmt::Write;
+
+/// The line of a call that is answered with nothing.
+pub(crate) fn push_done(out: &mut String) -> Result<(), AllocError>
+    ensures { OnOk result (string_bytes out.new ≡ string_bytes out.old ++ done_line) }
+{
+    writeln!(out, "ok")
+}
+
+/// The line of a reply to a load.
+pub(crate) fn push_load(out: &mut String, reply: LoadReply) -> Result<(), AllocError>
+    ensures { OnOk result (string_bytes out.new ≡ string_bytes out.old ++ load_line reply) }
+{
+    match reply {
+        LoadReply::Hit(cell) => writeln!(out, "hit {cell}"),
+        LoadReply::Fresh { cell, batch } => writeln!(out, "fresh {cell} {batch}"),
+    }
+}
+
+/// The lines of the replies to a loadMany.
+pub(crate) fn push_many(out: &mut String, replies: &[LoadReply]) -> Result<(), AllocError>
+    ensures { OnOk result (string_bytes out.new ≡ string_bytes out.old ++ many_lines replies.now) }
+{
+    writeln!(out, "many {}", replies.len())?;
+    'replies: for reply in replies {
+        push_load(out, *reply)?;
+    }
+    Ok(())
+}
+
+/// The line of a reply to a prime.
+pub(crate) fn push_prime(out: &mut String, reply: DeskPrime) -> Result<(), AllocError>
+    ensures { OnOk result (string_bytes out.new ≡ string_bytes out.old ++ prime_line reply) }
+{
+    match reply {
+        DeskPrime::Primed(cell) => writeln!(out, "primed {cell}"),
+        DeskPrime::Kept => writeln!(out, "kept"),
+    }
+}
+
+/// The lines of the jobs that a dispatch sent.
+pub(crate) fn push_sent(alloc: Global, out: &mut String, jobs: &[Job]) -> Result<(), AllocError>
+    ensures { OnOk result (string_bytes out.new ≡ string_bytes out.old ++ sent_lines jobs.now) }
+{
+    writeln!(out, "sent {}", jobs.len())?;
+    'jobs: for job in jobs {
+        push_job(alloc, out, job)?;
+    }
+    Ok(())
+}
+
+/// The line of a refusal. A failed allocation has none, and is the error itself.
+pub(crate) fn push_refusal(out: &mut String, fault: DeskFault) -> Result<(), AllocError>
+    ensures line { OnOk result (string_bytes out.new ≡ string_bytes out.old ++ refused_line fault) }
+    ensures memory { OnOk result (fault ≢ DeskFault.OutOfMemory) }
+{
+    match fault {
+        DeskFault::NoBatch => writeln!(out, "refused NoBatch"),
+        DeskFault::NotSent => writeln!(out, "refused NotSent"),
+        DeskFault::SettledBefore => writeln!(out, "refused SettledBefore"),
+        DeskFault::CellsFull { limit } => writeln!(out, "refused CellsFull {limit}"),
+        DeskFault::OutOfMemory => Err(AllocError),
+    }
+}
+
+/// The line of a job: its batch and its keys.
+fn push_job(alloc: Global, out: &mut String, job: &Job) -> Result<(), AllocError>
+    ensures { OnOk result (string_bytes out.new ≡ string_bytes out.old ++ job_line job.now) }
+{
+    write!(out, "job {}", job.batch)?;
+    'keys: for key in job.keys.as_slice() {
+        let text = key_text(alloc, key)?;
+        write!(out, " {text}")?;
+    }
+    writeln!(out)
+}

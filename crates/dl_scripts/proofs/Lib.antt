@@ -1,2 +1,0 @@
-mod Scripts
-mod Texts

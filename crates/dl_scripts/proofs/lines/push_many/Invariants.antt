@@ -1,8 +1,0 @@
--- The lines of the replies so far stand behind the first.
-use Rattle.std.proofs.Common.{◌≡◌, ◌++◌, codes, decimal, flat_map, length, string_bytes, take}
-use Rattle.dl_scripts.specs.Lines.{text_line, load_line}
-use Rattle.dl_scripts.proofs.lines.push_many.Given as goal
-
-abbrev pub invariant-replies : goal.invariant-replies
-invariant-replies l = string_bytes l.out ≡ string_bytes l.fn.out ++ (text_line (codes "many " ++ decimal (length l.replies)) ++ flat_map load_line
-    (take l.reply-index l.replies))

@@ -1,3 +1,0 @@
-pub mod JsonText
-pub mod Lines
-pub mod Output
