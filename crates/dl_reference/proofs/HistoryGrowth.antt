@@ -1,5 +1,5 @@
 -- How the history grows along a list of atoms.
-use Rattle.std.proofs.Common.{◌≡◌, ℕ, ◌+◌, ◌<◌, List, Bool, true, false, if◌then◌else◌, nat_eq, Option, Some, None, option_map, Vec, Global, [], ◌∷◌, ◌++◌}
+use Rattle.std.proofs.Common.{◌≡◌, ℕ, ◌+◌, ◌<◌, List, Bool, true, false, if◌then◌else◌, nat_eq, Option, Some, None, option_map, [], ◌∷◌, ◌++◌}
 use Rattle.std.proofs.Common.{length, get_or, take, refl, ap, sym, ◌∙◌}
 use Rattle.std.proofs.lemmas.List.{take_more}
 use Rattle.dl_desk.specs.History as desk
@@ -38,7 +38,7 @@ none_named None a e never = sym e
 none_named (Some b) a e never = absurd (never b refl)
 
 -- an atom that is no dispatch sends nothing
-pub sent_other : (a : Atom) (before : List desk.Atom) → ((js : Vec Job Global) → a ≡ Dispatch js → ⊥) → desk.sent (desk_atom a ∷ before) ≡ desk.sent before
+pub sent_other : (a : Atom) (before : List desk.Atom) → ((js : List Job) → a ≡ Dispatch js → ⊥) → desk.sent (desk_atom a ∷ before) ≡ desk.sent before
 sent_other (Load k r) before never = refl
 sent_other (Prime k r) before never = refl
 sent_other (Clear k) before never = refl

@@ -4,7 +4,9 @@ use Rattle.std.proofs.lemmas.Bool.Decides.{nat_tests}
 use Rattle.dl_values.specs.Key.{Key}
 use Rattle.dl_values.specs.Limits.{Rules}
 use Rattle.dl_desk.specs.History.{Atom, Load, begun, sent, end_of, MayEnd, load_reply, IsLegal, loaded}
-use Rattle.dl_desk.specs.Calls.{DeskCall, Loads, Primes, Clears, ClearsAll, Sends, Settles, Fails, unfit, refusal, after}
+use Rattle.dl_desk.specs.Calls.{unfit, refusal, after}
+use Rattle.dl_desk.specs.declared.call.DeskCall.{DeskCall}
+use Rattle.dl_desk.specs.declared.call.DeskCall.TheVariants as asked
 use Rattle.dl_desk.specs.declared.reply.End.{End}
 use Rattle.dl_desk.specs.declared.fault.DeskFault.{DeskFault}
 use Rattle.dl_desk.specs.declared.fault.DeskFault.TheVariants.{NoBatch, NotSent, SettledBefore}
@@ -26,13 +28,14 @@ may_end history b fit = by (nat_le (begun history) b) (nat_le (sent history) b) 
 
 after_legal : (rules : Rules) (history : List Atom) (call : DeskCall) → refusal rules history call ≡ None → IsLegal rules history
     → IsLegal rules (after rules history call)
-after_legal rules history (Loads ks) fit legal = loaded_legal rules history ks legal
-after_legal rules history (Primes k) fit legal = (refl, legal)
-after_legal rules history (Clears k) fit legal = (tt, legal)
-after_legal rules history ClearsAll fit legal = (tt, legal)
-after_legal rules history Sends fit legal = (refl, legal)
-after_legal rules history (Settles b) fit legal = (may_end history b fit, legal)
-after_legal rules history (Fails b) fit legal = (may_end history b fit, legal)
+after_legal rules history (asked.Load k) fit legal = (refl, legal)
+after_legal rules history (asked.LoadMany ks) fit legal = loaded_legal rules history ks legal
+after_legal rules history (asked.Prime k) fit legal = (refl, legal)
+after_legal rules history (asked.Clear k) fit legal = (tt, legal)
+after_legal rules history asked.ClearAll fit legal = (tt, legal)
+after_legal rules history asked.Dispatch fit legal = (refl, legal)
+after_legal rules history (asked.Settle b) fit legal = (may_end history b fit, legal)
+after_legal rules history (asked.Fail b) fit legal = (may_end history b fit, legal)
 
 -- the history that an accepted call leaves
 pub legal_after : (rules : Rules) (history : List Atom) (call : DeskCall) → refusal rules history call ≡ None → (longer : List Atom)

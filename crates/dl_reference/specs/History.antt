@@ -12,7 +12,7 @@ desk_atom (Load k r) = desk.Load k r
 desk_atom (Prime k r) = desk.Prime k r
 desk_atom (Clear k) = desk.Clear k
 desk_atom ClearAll = desk.ClearAll
-desk_atom (Dispatch js) = desk.Dispatch js.items
+desk_atom (Dispatch js) = desk.Dispatch js
 desk_atom (Settle b) = desk.Settle b
 desk_atom (Fail b) = desk.Fail b
 

@@ -3,7 +3,7 @@
 ghost use Rattle.std.specs.Prelude.{◌≡◌};
 ghost use Rattle.dl_desk.specs.History as desk;
 
-use dl_desk::{DeskPrime, End, FetchKey, Job, LoadReply};
+use dl_desk::{DeskPrime, End, FetchKey, Jobs, LoadReply, Shared};
 
 /// A call that was accepted, with its reply. A `loadMany` stands as its loads, one after another.
 #[derive(Debug, Drop)]
@@ -17,7 +17,7 @@ pub enum Atom {
     /// A clear of all keys.
     ClearAll,
     /// A dispatch, with its jobs.
-    Dispatch(Vec<Job>),
+    Dispatch(Shared<Jobs>),
     /// A batch was settled.
     Settle(u32),
     /// A batch failed.

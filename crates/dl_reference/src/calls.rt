@@ -7,52 +7,13 @@ ghost use Rattle.dl_desk.specs.History.{IsLegal, loaded, load_replies};
 ghost use Rattle.dl_desk.specs.Calls as desk;
 ghost use Rattle.dl_reference.specs.History.{desk_atom, history_of};
 ghost use Rattle.dl_reference.specs.Rules.{rules_of};
-ghost use Rattle.dl_reference.specs.Replies.{asked, said, answer, reply_at, left};
 
 use crate::atom::Atom;
 use crate::counts::{begun, cells, end_of, sent};
 use crate::memo::held;
 use crate::replies::{Rules, jobs, load_reply, prime_reply};
-use dl_desk::{DeskFault, DeskPrime, FetchKey, Job, LoadReply};
+use dl_desk::{DeskCall, DeskFault, DeskPrime, FetchKey, List, LoadReply, Reply, Shared};
 use std::alloc::{AllocError, Global};
-
-/// A call of a loader.
-#[derive(Debug, Drop)]
-pub enum Call {
-    /// A load of a key.
-    Load(FetchKey),
-    /// Loads of several keys, in order.
-    LoadMany(Vec<FetchKey>),
-    /// A prime of a key.
-    Prime(FetchKey),
-    /// A clear of a key.
-    Clear(FetchKey),
-    /// A clear of all keys.
-    ClearAll,
-    /// A dispatch of the batches that wait.
-    Dispatch,
-    /// The batch of this number has its outcomes.
-    Settle(u32),
-    /// The batch of this number failed.
-    Fail(u32),
-}
-
-/// What a call replies.
-#[derive(Debug, Drop)]
-pub enum Reply {
-    /// The reply to a load.
-    Loaded(LoadReply),
-    /// The replies to the loads of several keys.
-    Many(Vec<LoadReply>),
-    /// The reply to a prime.
-    Primed(DeskPrime),
-    /// The reply to a clear, a settle or a fail.
-    Done,
-    /// The jobs of a dispatch.
-    Sent(Vec<Job>),
-    /// The call was refused.
-    Refused(DeskFault),
-}
 
 /// Whether one of the keys is the key.
 fn has_key(keys: &[FetchKey], key: &FetchKey) -> bool
@@ -100,14 +61,18 @@ fn unfit(history: &[Atom], number: usize) -> Option<DeskFault>
 }
 
 /// The refusal of a call, if it is refused.
-pub fn refusal(rules: &Rules, history: &[Atom], call: &Call) -> Option<DeskFault>
-    ensures { result ≡ desk.refusal (rules_of rules.now) (history_of history.now) (asked call.now) }
+pub fn refusal(rules: &Rules, history: &[Atom], call: &DeskCall) -> Option<DeskFault>
+    ensures { result ≡ desk.refusal (rules_of rules.now) (history_of history.now) call.now }
 {
     match call {
-        Call::Load(key) | Call::Prime(key) => full(rules, history, std::slice::from_ref(key)),
-        Call::LoadMany(keys) => full(rules, history, keys.as_slice()),
-        Call::Clear(_) | Call::ClearAll | Call::Dispatch => None,
-        Call::Settle(batch) | Call::Fail(batch) => unfit(history, *batch as usize),
+        DeskCall::Load(key) | DeskCall::Prime(key) => full(
+            rules,
+            history,
+            std::slice::from_ref(key),
+        ),
+        DeskCall::LoadMany(keys) => full(rules, history, keys.as_slice()),
+        DeskCall::Clear(_) | DeskCall::ClearAll | DeskCall::Dispatch => None,
+        DeskCall::Settle(batch) | DeskCall::Fail(batch) => unfit(history, *batch as usize),
     }
 }
 
@@ -143,65 +108,67 @@ fn accept(
     alloc: Global,
     rules: &Rules,
     history: &mut Vec<Atom>,
-    call: &Call,
+    call: &DeskCall,
 ) -> Result<Reply, AllocError>
-    ensures reply { IfOk result (λ r. said r ≡ answer (rules_of rules.now) (history_of history.old.items) call.now) }
-    ensures history { OnOk result (history_of history.new.items ≡ desk.after (rules_of rules.now) (history_of history.old.items) (asked call.now)) }
+    ensures reply { IfOk result (λ r. r ≡ desk.reply_to (rules_of rules.now) (history_of history.old.items) call.now) }
+    ensures history { OnOk result (history_of history.new.items ≡ desk.after (rules_of rules.now) (history_of history.old.items) call.now) }
 {
     match call {
-        Call::Load(key) => {
+        DeskCall::Load(key) => {
             let reply = load_reply(alloc, rules, history.as_slice(), key)?;
             add(history, Atom::Load(key.try_copy()?, reply))?;
             Ok(Reply::Loaded(reply))
         }
-        Call::LoadMany(keys) => {
+        DeskCall::LoadMany(keys) => {
             let replies = load_all(alloc, rules, history, keys.as_slice())?;
-            Ok(Reply::Many(replies))
+            Ok(Reply::Many(Shared::new(alloc, List::new(replies))?))
         }
-        Call::Prime(key) => {
+        DeskCall::Prime(key) => {
             let reply = prime_reply(history.as_slice(), key)?;
             add(history, Atom::Prime(key.try_copy()?, reply))?;
-            Ok(Reply::Primed(reply))
+            Ok(match reply {
+                DeskPrime::Primed(cell) => Reply::Primed(cell),
+                DeskPrime::Kept => Reply::Kept,
+            })
         }
-        Call::Clear(key) => {
+        DeskCall::Clear(key) => {
             add(history, Atom::Clear(key.try_copy()?))?;
             Ok(Reply::Done)
         }
-        Call::ClearAll => {
+        DeskCall::ClearAll => {
             add(history, Atom::ClearAll)?;
             Ok(Reply::Done)
         }
-        Call::Dispatch => {
-            let reply = jobs(alloc, history.as_slice())?;
-            let kept = jobs(alloc, history.as_slice())?;
-            add(history, Atom::Dispatch(kept))?;
-            Ok(Reply::Sent(reply))
+        DeskCall::Dispatch => {
+            let jobs = Shared::new(alloc, List::new(jobs(alloc, history.as_slice())?))?;
+            add(history, Atom::Dispatch(jobs.try_copy()?))?;
+            Ok(Reply::Sent(jobs))
         }
-        Call::Settle(batch) => {
+        DeskCall::Settle(batch) => {
             add(history, Atom::Settle(*batch))?;
             Ok(Reply::Done)
         }
-        Call::Fail(batch) => {
+        DeskCall::Fail(batch) => {
             add(history, Atom::Fail(*batch))?;
             Ok(Reply::Done)
         }
     }
 }
 
-/// The reply to a call, which is added to the history unless it is refused. A legal history stays
+/// What a call is answered: its refusal, or its reply, and then it is added to the history. A legal history stays
 /// legal. After a failed allocation the history is of no use.
-pub fn reply_to(
+pub fn answer(
     alloc: Global,
     rules: &Rules,
     history: &mut Vec<Atom>,
-    call: &Call,
-) -> Result<Reply, AllocError>
-    ensures reply { IfOk result (λ r. said r ≡ reply_at (rules_of rules.now) (history_of history.old.items) call.now) }
-    ensures history { OnOk result (history_of history.new.items ≡ left (rules_of rules.now) (history_of history.old.items) call.now) }
+    call: &DeskCall,
+) -> Result<Result<Reply, DeskFault>, AllocError>
+    ensures answer { IfOk result (λ told. told ≡ desk.answer (rules_of rules.now) (history_of history.old.items) call.now) }
+    ensures history { OnOk result (history_of history.new.items ≡ desk.next (rules_of rules.now) (history_of history.old.items) call.now) }
     ensures legal { OnOk result (IsLegal (rules_of rules.now) (history_of history.old.items) → IsLegal (rules_of rules.now) (history_of history.new.items)) }
 {
     match refusal(rules, history.as_slice(), call) {
-        Some(fault) => Ok(Reply::Refused(fault)),
-        None => accept(alloc, rules, history, call),
+        Some(fault) => Ok(Err(fault)),
+        None => Ok(Ok(accept(alloc, rules, history, call)?)),
     }
 }

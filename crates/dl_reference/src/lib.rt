@@ -18,7 +18,7 @@ mod memo;
 mod replies;
 
 pub use atom::Atom;
-pub use calls::{Call, Reply, refusal, reply_to};
+pub use calls::{answer, refusal};
 pub use counts::{begun, cells, end_of, members, sent};
 pub use memo::held;
 pub use replies::{Rules, jobs, load_reply, prime_reply, room};

@@ -1,18 +1,14 @@
 use Rattle.std.proofs.Common.{◌≡◌, sym, ap, ◌∙◌, None}
-use Rattle.std.proofs.lemmas.Result.{on_ok_weaker}
 use Rattle.dl_desk.specs.Calls.{refusal}
 use Rattle.dl_reference.specs.History.{history_of}
 use Rattle.dl_reference.specs.Rules.{rules_of}
-use Rattle.dl_reference.specs.Replies.{asked}
 use Rattle.dl_reference.proofs.LegalHistories.{legal_after}
-use Rattle.dl_reference.proofs.calls.reply_to.Goals as goal
+use Rattle.dl_reference.proofs.calls.answer.Goals as goal
 
-pub returns-in-None-clause-legal : goal.returns-in-None-clause-legal
-returns-in-None-clause-legal c =
+pub returns-in_ok-accept-in-None-clause-legal : goal.returns-in_ok-accept-in-None-clause-legal
+returns-in_ok-accept-in-None-clause-legal c =
     let rules = rules_of c.args.rules.now in
-    let call = asked c.args.call.now in
+    let call = c.args.call.now in
     let fit : refusal rules (history_of c.args.history.now.items) call ≡ None =
     ap (λ atoms. refusal rules (history_of atoms) call) (sym c.as_slice.ensures.value) ∙ sym c.in-None.ensures in
-    on_ok_weaker
-    c.accept.result (λ is legal. legal_after rules (history_of c.args.history.now.items) call fit (history_of c.accept.new.history.items) is legal)
-    c.accept.ensures.history
+    legal_after rules (history_of c.args.history.now.items) call fit (history_of c.accept.new.history.items) c.in_ok-accept-in-None.ensures.history
