@@ -19,7 +19,7 @@ SpellsEach S no_items (x ∷ xs) = ⊥
 SpellsEach S (item d ds) [] = ⊥
 SpellsEach S (item d ds) (x ∷ xs) = S d x × SpellsEach S ds xs
 
--- a list of what spells the values
+-- a list whose items spell the values
 abbrev pub SpellsList : {X : Type 0} → (Data → X → Type 0) → Data → List X → Type 0
 SpellsList S d xs = (ds : Items) × (d ≡ array ds) × SpellsEach S ds xs
 
@@ -27,7 +27,7 @@ SpellsList S d xs = (ds : Items) × (d ≡ array ds) × SpellsEach S ds xs
 abbrev pub SpellsMember : {X : Type 0} → (Data → X → Type 0) → Option Data → List X → Type 0
 SpellsMember S m xs = (d : Data) × (m ≡ Some d) × SpellsList S d xs
 
--- a member that may be absent, and then stands for the empty list
+-- a member that may be absent, which then spells the empty list
 abbrev pub SpellsOptional : {X : Type 0} → (Data → X → Type 0) → Option Data → List X → Type 0
 SpellsOptional S m xs = ((m ≡ None) × (xs ≡ [])) ⊎ SpellsMember S m xs
 
@@ -37,7 +37,7 @@ SpellsOptional S m xs = ((m ≡ None) × (xs ≡ [])) ⊎ SpellsMember S m xs
 abbrev pub pair : List ℕ → Data → Data
 pair id d = array (item (string id) (item d no_items))
 
--- what stands beside the id: any value in a row, a text in an error and in a break
+-- what a pair has after its id: any value in a row, a text in an error and in a break
 abbrev pub row_of : Data → Option Finding
 row_of d = Some (Row d)
 
