@@ -65,8 +65,8 @@ names_all test (member name d ms) = test name && names_all test ms
 abbrev pub has_only : (List ℕ → Bool) → Data → Bool
 has_only test d = option_map_or (names_all test) (as_object d) false
 
--- A table is an object with a name and rows, and perhaps errors and breaks, and lists them in this order. The names of its
--- members pass the test.
+-- A table is an object with a name and rows, and perhaps errors and breaks, and lists them in this order. Its members
+-- pass the test by their names.
 pub record SpellsTable (is_member : List ℕ → Bool) (d : Data) (t : List ℕ × Table) : Type 0 where
   pub members : has_only is_member d ≡ true
   pub name : get (codes "name") d ≡ Some (string t.0)

@@ -88,7 +88,7 @@ fn explore_chain(
     Ok(None)
 }
 
-/// Explores a part, and takes its answer out through the frames, until there is something to wait for or no frame is left.
+/// Explores a part, and takes its answer out through the frames, until it has to wait or no frame is left.
 #[cycle(exploring)]
 fn climb(
     alloc: Global,

@@ -23,10 +23,10 @@ use dl_values::{FetchKey, Json, Text};
 /// ```
 ///
 /// # Stack
-/// To count a term's depth or height, or to drop it, takes a stack as deep as the term is high. To make its node and
-/// explore that takes one as deep as its lists lie inside one another. Nothing bounds a term, so if strangers send you
-/// terms, bound the height. A chain of picks as high as 7,000 had room in 8 MiB of stack when we counted its depth and
-/// height, without optimisation.
+/// `depth`, `height` and dropping a term recurse as deep as the term is high. [`unexplored`](crate::unexplored) and
+/// [`explore`](crate::explore) recurse as deep as its lists lie inside one another. Nothing bounds a term: if strangers
+/// send you terms, bound their height. With 8 MiB of stack and an unoptimised build, `depth` and `height` had room for
+/// a chain of picks of height 7,000.
 #[derive(Debug, Drop)]
 pub enum Term {
     /// A value.
