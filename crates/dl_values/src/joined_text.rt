@@ -1,4 +1,4 @@
-//! Two texts joined into one, which lies in its own value if it is short.
+//! Two texts joined into one, which takes no memory of its own if it is short.
 
 ghost use Rattle.std.specs.Prelude.{◌≡◌};
 ghost use Rattle.std.specs.Str.{bytes_eq};

@@ -1,7 +1,7 @@
 //! Keys, outcomes, jobs and limits: the values that every crate above passes around.
 //!
-//! A key is two texts, and a value is a JSON tree. `try_copy` gives you one more handle on the same key, value or
-//! message, and allocates nothing. Contracts see them as plain lists and trees.
+//! A key is two texts, and a value is a JSON tree. A copy of a key, a value or a message shares what it copies and
+//! allocates nothing (`try_copy`). Contracts see them as plain lists and trees.
 #![tactic(auto)]
 
 mod fault;

@@ -33,9 +33,9 @@ impl Drop for Outcome {
 pub enum BatchFault {
     /// The source broke, with this text.
     Source(Message),
-    /// Memory ran out before the batch was answered.
+    /// Memory ran out before the batch had an answer.
     Memory,
-    /// The batch was never handed to a worker.
+    /// The batch never got to a worker.
     Unsent,
 }
 
