@@ -130,7 +130,8 @@ impl<L: LoaderName> Loader<L> {
     }
 
     /// Waits until the ticket shows its outcome, and adds that to the entries of the pass, unless it is there already.
-    /// The ticket must be one that this pass got. If it shows its outcome at once, the call takes no lock.
+    /// The ticket must be one that this pass got. If it shows its outcome at once, the call takes no lock. If nobody
+    /// ends its batch and nobody stops the loader, the call waits for ever.
     ///
     /// # Errors
     /// `Stopped` if the loader is stopped and the ticket shows nothing yet. The pass then knows that the loader is
