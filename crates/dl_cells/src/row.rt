@@ -72,10 +72,10 @@ impl<T: Drop> CellRow<T> {
         Ok(CellRow { segments, len })
     }
 
-    /// A reader of cell `i` that knows nothing yet.
+    /// A reader of cell `i` that knows nothing yet. If the cell's segment isn't there, the call makes it.
     ///
     /// # Errors
-    /// `AllocError` if memory runs out. That can only happen to the first reader in a segment, which makes it.
+    /// `AllocError` if memory runs out for that.
     // Inlined, since each event makes a reader, and mostly of a cell whose segment is there.
     #[inline(always)]
     pub fn reader(&self, i: u32) -> Result<Reader<T>, AllocError>
