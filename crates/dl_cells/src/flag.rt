@@ -1,4 +1,4 @@
-//! Flags that are raised once.
+//! Flags that stay raised.
 
 ghost use Rattle.std.specs.Prelude.{◌≡◌, IfSome};
 
@@ -7,7 +7,7 @@ use boxcar::slot::Written;
 use boxcar::tag::Tag;
 use std::marker::Model;
 
-/// A flag that is raised at most once, and stays raised. Any thread may raise it through a `&`, and no call waits.
+/// A flag that any thread may raise through a `&`, and that then stays raised. No call waits.
 ///
 /// In clauses a flag is its name.
 #[derive(Drop)]
@@ -31,7 +31,7 @@ impl Flag {
         }
     }
 
-    /// Raises the flag, and gives what shows that it is raised. `None` only while another thread is raising it.
+    /// Raises the flag, and gives you what shows that it is raised. Returns `None` only while another thread raises it.
     pub fn raise(&self) -> Option<Raised>
         ensures { IfSome result (λ raised. raised ≡ self.now) }
     {
@@ -44,7 +44,7 @@ impl Flag {
     }
 }
 
-/// What shows that a flag is raised. Only [`Flag::raise`] makes one, so whoever has one knows it for good.
+/// What shows that a flag is raised. Only [`Flag::raise`] makes one, so if you have one, you know it for good.
 ///
 /// In clauses it is the name of the flag. It takes no bytes, borrows nothing, and may go to another thread.
 #[derive(Drop)]
@@ -61,7 +61,7 @@ impl Model for Raised {
 }
 
 impl Raised {
-    /// The same again, as for another holder.
+    /// The same once more, for another holder.
     pub fn again(&self) -> Raised
         ensures { result ≡ self.now }
     {

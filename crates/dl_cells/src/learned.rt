@@ -1,4 +1,4 @@
-//! What was learned of one `OnceBox`, in a form that can be read through a shared reference.
+//! What someone has learned of one `OnceBox`, in a form that you can read through a shared reference.
 ghost use Rattle.std.specs.Prelude.{◌≡◌, ℕ, IfSome, IsSome};
 ghost use Rattle.std.specs.declared.option.Option.{Option};
 ghost use Rattle.std.specs.declared.option.Option.TheVariants.{Some};
@@ -10,10 +10,10 @@ ghost use Rattle.dl_cells.specs.Cells.{Agrees};
 use once_cell::race::{Note, OnceBox};
 use std::marker::{Model, PhantomData};
 
-/// What was learned of one `OnceBox`. It takes no bytes.
+/// What someone has learned of one `OnceBox`. It takes no bytes.
 ///
-/// A `Note` says what it knows only behind a `&mut`. All that a note knows stays true for good,
-/// so here a `&` is enough to compare it and to have it again.
+/// A `Note` says what it knows only behind a `&mut`. All that a note knows stays true for good, so here a `&` is enough
+/// to compare and to copy it.
 pub(crate) struct Learned<T> {
     marker: PhantomData<T>,
     pub(crate) ghost cell: { ℕ },
@@ -38,7 +38,7 @@ impl<T> Learned<T> {
         }
     }
 
-    /// The same again, as for another thread.
+    /// The same once more, for another thread.
     pub(crate) fn again(&self) -> Learned<T>
         ensures cell { result.cell ≡ self.now.cell }
         ensures known { result.known ≡ self.now.known }
@@ -54,14 +54,14 @@ impl<T> Learned<T> {
         ensures { IfSome other.now.known (Agrees self.now.known) }
     {}
 
-    /// Makes a note of the same cell know what is known here.
+    /// Makes a note of the same cell know what this knows.
     fn teach(&self, note: &mut Note<T>)
         requires { note.old.cell ≡ self.now.cell }
         ensures cell { note.new.cell ≡ note.old.cell }
         ensures known { note.new.known ≡ self.now.known }
     {}
 
-    /// A note of the cell that knows what is known here.
+    /// A note of the cell that knows what this knows.
     fn note(&self, cell: &OnceBox<T>) -> Note<T>
         requires { self.now.cell ≡ cell_name cell.now }
         ensures cell { result.cell ≡ self.now.cell }
@@ -72,7 +72,7 @@ impl<T> Learned<T> {
         note
     }
 
-    /// The value of a cell that is known to be set.
+    /// The value of a cell, of which this knows that it has one.
     pub(crate) fn get<'a>(&self, cell: &'a OnceBox<T>) -> &'a T
         requires of_cell { self.now.cell ≡ cell_name cell.now }
         requires known { IsSome self.now.known }

@@ -1,13 +1,10 @@
-//! Rows of cells that are set at most once, shared by many threads without a lock.
+//! Rows of cells that threads set at most once, and read without a lock.
 //!
-//! A cell is set by `CellRow::show` and read by `CellRow::look`, both with a `Reader` of that cell. The
-//! reader keeps what its holder has learned: once it knows the cell's value it is answered that value
-//! for ever, and two readers of one cell that know its value know the same one (`Reader::agree`).
+//! You set a cell by [`CellRow::show`] and read it by [`CellRow::look`], both with a [`Reader`] of that cell. The
+//! reader keeps what you have learned: once it knows the cell's value, it gives you that value for ever. Two readers of
+//! one cell that know its value know the same one ([`Reader::agree`]).
 //!
-//! A [`Flag`] is such a cell without a value: all that is known of it is that it is raised.
-//!
-//! `show` takes a reader because only a reader can say what came of it: that the cell now holds the
-//! value that was passed, or which value it held before.
+//! A [`Flag`] is such a cell without a value: all that you can learn of it is that somebody has raised it.
 #![tactic(auto)]
 
 mod flag;

@@ -9,11 +9,10 @@ use crate::segment::Segment;
 use boxcar::slot::Written;
 use std::marker::Model;
 
-/// What one holder knows of one cell of a `CellRow`: nothing yet, or the cell's value for good.
+/// What one holder knows of one cell of a [`CellRow`](crate::CellRow): nothing yet, or the cell's value for good.
 ///
-/// In clauses it is a `Reader`: `cell` says which cell it is of, and `known` is the value, once it
-/// was seen. A reader borrows nothing, and may lie in a struct or go to another thread. It takes two
-/// bytes.
+/// A reader borrows nothing: you can put it in a struct or send it to another thread. It takes two bytes. In clauses it
+/// is a `Reader`: `cell` says which cell it is of, and `known` is the value once it has seen that.
 pub struct Reader<T> {
     pub(crate) segment: Learned<Segment<T>>,
     // The place in the segment, which has 32 cells.
@@ -46,7 +45,7 @@ impl<T> Model for Reader<T> {
 }
 
 impl<T> Reader<T> {
-    /// A second reader of the same cell that knows the same, as for another thread.
+    /// A second reader of the same cell that knows the same, for another thread.
     pub fn again(&self) -> Reader<T>
         ensures { result ≡ self.now }
     {

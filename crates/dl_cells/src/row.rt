@@ -13,13 +13,28 @@ use once_cell::race::OnceBox;
 use std::alloc::{AllocError, Global};
 use std::marker::Model;
 
-/// A row of cells, each of which is set at most once. Any thread may set or read a cell through a `&`,
-/// and no call waits.
+/// A row of cells, each of which takes a value at most once. Any thread may set or read a cell through a `&`, and no
+/// call waits.
 ///
-/// The cells lie in segments of 32. A segment is made when the first reader of one of its cells is,
-/// so a row of which little is used takes little memory: a pointer for each segment.
+/// The cells are in segments of 32. The first reader of a cell in a segment makes it, so a row that you hardly use
+/// takes little memory: a pointer for each segment. In clauses a row is its name: `row_len` is how many cells it has,
+/// and `cell_of` the name of one.
 ///
-/// In clauses a row is its name: `row_len` is how many cells it has, and `cell_of` the name of one.
+/// # Examples
+/// Shows a copy of a value in a cell, and asks whether the cell took it, from `crates/dl_base_tests`:
+///
+/// ```rust
+/// let mut reader = row.reader(place).expect(rt, "no memory");
+/// let copy = value.clone().expect(rt, "no memory");
+/// row.show(place, &mut reader, copy).is_ok()
+/// ```
+///
+/// Looks at a cell, from the same crate:
+///
+/// ```rust
+/// let mut reader = cell.reader.again();
+/// cell.row.look(cell.place, &mut reader).copied()
+/// ```
 pub struct CellRow<T> {
     segments: Vec<OnceBox<Segment<T>>>,
     len: u32,
@@ -45,7 +60,10 @@ impl<T> Model for CellRow<T> {
 }
 
 impl<T: Drop> CellRow<T> {
-    /// A row of `len` empty cells. Fails only where an allocation fails.
+    /// A row of `len` empty cells.
+    ///
+    /// # Errors
+    /// `AllocError` if memory runs out.
     pub fn new(alloc: Global, len: u32) -> Result<CellRow<T>, AllocError>
         ensures { IfOk result (λ row. row_len row ≡ len) }
     {
@@ -54,8 +72,10 @@ impl<T: Drop> CellRow<T> {
         Ok(CellRow { segments, len })
     }
 
-    /// A reader of cell `i` that knows nothing yet. Makes the cell's segment where it isn't there, and
-    /// fails only where that allocation fails.
+    /// A reader of cell `i` that knows nothing yet. If the cell's segment isn't there, the call makes it.
+    ///
+    /// # Errors
+    /// `AllocError` if memory runs out for that.
     // Inlined, since each event makes a reader, and mostly of a cell whose segment is there.
     #[inline(always)]
     pub fn reader(&self, i: u32) -> Result<Reader<T>, AllocError>
@@ -79,8 +99,11 @@ impl<T: Drop> CellRow<T> {
         })
     }
 
-    /// Sets cell `i` to `value`: the reader then knows that value, and knew nothing before. Where the
-    /// cell was set before, or another thread is setting it, hands `value` back.
+    /// Sets cell `i` to `value`. The reader knew nothing of the cell before, and knows that value now.
+    ///
+    /// # Errors
+    /// You get `value` back if the cell has one already, or if another thread is just setting it. The reader then knows
+    /// what it knew before.
     // Inlined, so that a value is made where it will lie, and not moved there.
     #[inline(always)]
     pub fn show(&self, i: u32, reader: &mut Reader<T>, value: T) -> Result<(), T>
@@ -102,8 +125,8 @@ impl<T: Drop> CellRow<T> {
 }
 
 impl<T> CellRow<T> {
-    /// The value of cell `i`, if it was shown. From then on the reader knows it, and is answered it
-    /// each time. A reader that knows a value is never answered `None`.
+    /// The value of cell `i`, if it has one. From then on the reader knows it, gives you the same value each time, and
+    /// never `None`.
     pub fn look<'a>(&'a self, i: u32, reader: &mut Reader<T>) -> Option<&'a T>
         requires in_row { i < row_len self.now }
         requires of_cell { reader.old.cell ≡ cell_of self.now i }
@@ -122,7 +145,7 @@ impl<T> CellRow<T> {
         }
     }
 
-    /// The cell that the segment of cell `i` is kept in.
+    /// The cell that keeps the segment of cell `i`.
     fn home(&self, i: u32) -> &OnceBox<Segment<T>>
         requires { i < row_len self.now }
         ensures { cell_name result.now ≡ (cell_of self.now i).segment }

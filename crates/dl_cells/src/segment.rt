@@ -1,4 +1,4 @@
-//! Thirty-two cells that are made together.
+//! Thirty-two cells that a row makes together.
 ghost use Rattle.std.specs.Prelude.{◌≡◌, ◌<◌, slice_index, ⊤};
 
 use boxcar::slot::{OnceSlot, SlotRule};
@@ -42,7 +42,7 @@ impl<T> Model for Segment<T> {
 }
 
 impl<T: Drop> Segment<T> {
-    /// A segment of empty cells. The error is a failed allocation.
+    /// A segment of empty cells. Fails if memory runs out.
     pub(crate) fn new(alloc: Global) -> Result<Segment<T>, AllocError> {
         let mut cells = Vec::new(alloc);
         cells.resize_with(SEGMENT as usize, || OnceSlot::new(&Tag::empty()))?;

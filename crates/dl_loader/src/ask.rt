@@ -3,7 +3,7 @@
 use dl_desk::{FetchKey, Job, Outcome};
 use dl_source::{Fetched, Source};
 
-/// An event call with its arguments.
+/// An event call with its arguments, for [`laws::event`](crate::laws::event).
 #[derive(Drop)]
 pub enum Ask<'a, S: Source> {
     /// `load`
@@ -24,11 +24,11 @@ pub enum Ask<'a, S: Source> {
     Fail(Job, GiveUp),
 }
 
-/// Why a batch that was sent is failed without an answer.
+/// Why you fail a batch that went out, without an answer.
 #[derive(Clone, Copy, Debug, PartialEq, Eq)]
 pub enum GiveUp {
-    /// Memory ran out before the batch was answered.
+    /// Memory ran out before the batch had an answer.
     Memory,
-    /// The batch was never handed to a worker.
+    /// The batch never got to a worker.
     Unsent,
 }

@@ -17,10 +17,10 @@ use std::hash::RandomState;
 use std::marker::Model;
 use std::sync::{Wait, ledger};
 
-/// What lies behind the lock of a loader: its desk, its history and cells, and what is known of its flags.
+/// What lies behind the lock of a loader: its desk, its history and cells, and what it knows of its flags.
 ///
-/// Whenever the lock is free, the memo and the batches of the desk are those of the history, the history is
-/// legal, and each cell that has an end shows it, or refused it, and then the book keeps it.
+/// Whenever the lock is free, the memo and the batches of the desk are those of the history, the history is legal, and
+/// each cell that has an end shows it, or refused it, and then the book keeps it.
 #[derive(Drop)]
 pub struct Book<L: LoaderName> {
     desk: Desk,
@@ -44,7 +44,7 @@ impl<L: LoaderName> Model for Book<L> {
 }
 
 impl<L: LoaderName> Book<L> {
-    /// The book of a loader that had no call.
+    /// The book of a loader that has had no call.
     pub(crate) fn new(
         alloc: Global,
         hashing: RandomState,
@@ -68,7 +68,7 @@ impl<L: LoaderName> Book<L> {
         }
     }
 
-    /// Whether a pass may make an event now. The error is the first of these causes that applies: `Stopped`, `Behind`,
+    /// Whether a pass may make an event now. Fails by the first of these causes that applies: `Stopped`, `Behind`,
     /// `LogFull`.
     fn admit(&self, rows: &CellRows<L>, pass: &Pass<L>) -> Result<(), CallFault>
         ensures ok { OnOk result (unready L.service self.now pass.now.trace ≡ None) }
@@ -94,7 +94,7 @@ impl<L: LoaderName> Book<L> {
         Ok(())
     }
 
-    /// A ticket of this number for a load that was replied so.
+    /// A ticket of this number for a load with this reply.
     pub(crate) fn ticket<'a>(
         &self,
         rows: &'a CellRows<L>,
@@ -109,14 +109,14 @@ impl<L: LoaderName> Book<L> {
         Ticket::new(rows.outcomes(), number, reply, reader)
     }
 
-    /// Stops the loader: no pass may make an event from then on.
+    /// Stops the loader: no pass makes an event from then on.
     pub(crate) fn stop(&mut self, rt: &impl Wait, rows: &CellRows<L>)
         ensures { self.new ≡ book self.old.history self.old.desk self.old.cells (known_flags true self.old.flags.refused) }
     {
         self.flags.stop(rt, rows);
     }
 
-    /// Notes that a cell refused its outcome, and tells a pass of it.
+    /// Notes that a cell refused its outcome, and lets a pass know.
     pub(crate) fn refuse(&mut self, rt: &impl Wait, rows: &CellRows<L>, pass: &mut Pass<L>)
         ensures book { self.new ≡ book self.old.history self.old.desk self.old.cells (known_flags self.old.flags.stopped true) }
         ensures trace { pass.new.trace ≡ pass.old.trace }
@@ -126,14 +126,15 @@ impl<L: LoaderName> Book<L> {
         pass.learn_refusal(&self.flags);
     }
 
-    /// What is known of the loader's flags.
+    /// What the book knows of the loader's flags.
     pub(crate) fn flags(&self) -> &KnownFlags<L>
         ensures { result.now ≡ self.now.flags }
     {
         &self.flags
     }
 
-    /// What every book keeps: its history is legal, and all else is that of the history.
+    /// What every book keeps: its history is legal, and all else is that of the history. The call does nothing when it
+    /// runs; its clause is for your proof.
     pub fn keeps(&self)
         ensures { Keeps L.service self.now }
     {

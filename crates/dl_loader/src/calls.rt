@@ -17,11 +17,11 @@ use std::alloc::Global;
 use std::sync::Wait;
 
 impl<L: LoaderName> Loader<L> {
-    /// Makes a call that gives no tickets as an event of the pass, and answers what the desk replied, and how the cells that
-    /// it ends took their outcomes.
+    /// Makes a call that gives no tickets as an event of the pass. Answers what the desk replied, and how the cells
+    /// that the call ends took their outcomes.
     ///
     /// # Errors
-    /// Those of `Book::make`. The pass then tells what it told before.
+    /// Those of `Book::make`. A rejected call leaves the calls, reads and tickets of the pass as they were.
     // The one place for all of them at which the book is locked and given back, whichever way the call goes.
     #[inline(always)]
     fn call<C: EventCall>(

@@ -1,4 +1,4 @@
-//! What the cells of a batch's members are due when the batch ends.
+//! What the cells of a batch's members get when the batch ends.
 
 ghost use Rattle.std.specs.Prelude.{◌≡◌, ℕ, ◌+◌, ◌<◌, ◌≤◌, IfOk, IsSome, Some, length, map};
 ghost use Rattle.dl_loader.specs.Inside.Dues.{AreDue, AreGiven, CanEnd, outcome_by};
@@ -16,8 +16,8 @@ pub(crate) struct Due {
 }
 
 impl Due {
-    /// The due of a cell: the outcome that a call at a place of the history brings its member. The error is that the outcome
-    /// can't be shared.
+    /// The due of a cell: the outcome that a call at a place of the history brings its member. Fails if a reference
+    /// count of the outcome would overflow.
     fn new(at: u16, cell: u32, call: &Call, place: usize) -> Result<Due, AllocError>
         requires { IsSome (outcome_by call.now place) }
         ensures cell { IfOk result (λ due. due.cell ≡ cell) }
@@ -32,8 +32,8 @@ impl Due {
     }
 }
 
-/// The dues of the cells of a batch's members, in order, by a call at a place of the history that ends the
-/// batch. The error is a failed allocation.
+/// The dues of the cells of a batch's members, in order, by a call at a place of the history that ends the batch. Fails
+/// if memory runs out.
 pub(crate) fn dues(
     alloc: Global,
     at: u16,
@@ -50,7 +50,7 @@ pub(crate) fn dues(
     Ok(dues)
 }
 
-/// Gives the cells their dues, and tells how many of them refused.
+/// Gives the cells their dues, and counts those that refuse.
 // Inlined for the sake of calls that end no cell.
 #[inline(always)]
 #[tactic(auto, using(crate::proofs::DueLemmas::given_none))]
@@ -79,7 +79,7 @@ pub(crate) fn give<L: LoaderName>(
     refused
 }
 
-/// The same outcomes, each shared. The error is a failed allocation.
+/// The same outcomes, each shared. Fails if memory runs out.
 pub(crate) fn copy_outcomes(alloc: Global, outcomes: &Outcomes) -> Result<Outcomes, AllocError>
     ensures { IfOk result (λ copies. copies ≡ outcomes.now) }
 {

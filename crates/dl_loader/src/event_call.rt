@@ -1,4 +1,4 @@
-//! The event calls: what each prepares in the desk, and then shows there.
+//! The event calls: what each prepares in the desk and then shows there.
 
 ghost use Rattle.std.specs.Prelude.{◌≡◌, List, Option, IfErr, IfOk, OnOk};
 ghost use Rattle.dl_values.specs.Key.{Key};
@@ -23,7 +23,8 @@ pub(crate) use keys::{Clear, ClearAll, Dispatch, Prime};
 pub(crate) use loads::{Load, LoadMany};
 use std::alloc::Global;
 
-/// What is prepared for a call: what its event will tell, the ends that it gives to cells, and what the desk replies.
+/// What a call has prepared: the call and the reply of its event, the ends that it gives to cells, and what the desk
+/// replies.
 #[derive(Drop)]
 pub(crate) struct Prepared<R> {
     pub(crate) call: Call,
@@ -52,10 +53,10 @@ pub(crate) trait EventCall {
     // The desk is ready to show it.
     ghost ready: { Self → book.Desk → Type 0 };
 
-    /// Makes its allocations, for an event at this place, and changes nothing that can be seen of the desk.
+    /// Makes its allocations, for an event at this place, and changes nothing that you can see of the desk.
     ///
     /// # Errors
-    /// The cause for which the desk refuses it, or `WrongKeys`; else `OutOfMemory`.
+    /// The cause by which the desk rejects it, or `WrongKeys`; else `OutOfMemory`.
     fn prepare(
         &self,
         alloc: Global,
@@ -76,11 +77,11 @@ pub(crate) trait EventCall {
         requires { ready self.now desk.old }
         ensures { Steps desk.old.book desk.new.book (call_of (call self.now)) };
 
-    /// The loads that are replied to, for each of which the caller gets a ticket.
+    /// The loads that this reply answers. For each of them the caller gets a ticket.
     fn loads(reply: &Self::Reply) -> &[LoadReply]
         ensures { loads_of (told reply.now) ≡ result.now };
 
-    /// What the history tells of the desk's reply.
+    /// The desk's reply as the history has it.
     fn tell(reply: Self::Reply) -> Reply
         ensures { result ≡ told reply };
 }

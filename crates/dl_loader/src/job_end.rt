@@ -1,4 +1,4 @@
-//! The ends of jobs' batches by what a source answers.
+//! Ending the batches of jobs by what a source answers.
 
 ghost use Rattle.std.specs.Prelude.{◌≡◌, ◌+◌, ◌<◌, true, IfErr, IfOk, OnErr, OnOk, length};
 ghost use Rattle.dl_history.specs.Service.{Answers};
@@ -14,12 +14,12 @@ use dl_source::{Source, fetch_job};
 use std::alloc::Global;
 use std::sync::Wait;
 
-/// Ends the batch of a job by what the loader's source answers to its keys, or, where an allocation fails,
-/// as one that failed since memory ran out.
+/// Ends the batch of a job: asks the loader's source for the job's keys, and settles the batch by the answer. If memory
+/// runs out for that, it fails the batch instead, as [`GiveUp::Memory`].
 ///
 /// # Errors
-/// Those of [`Loader::settle`] and of [`Loader::fail`]; `OutOfMemory` only where an allocation fails for the
-/// failure too. The pass then tells what it told before.
+/// Those of [`Loader::settle`] and [`Loader::fail`]. `OutOfMemory` comes only if memory runs out for the failure too.
+/// The job is gone, and the pass has the calls, reads and tickets that it had.
 pub fn end_job<L: LoaderName, S: Source>(
     rt: &impl Wait,
     alloc: Global,
@@ -49,10 +49,11 @@ pub fn end_job<L: LoaderName, S: Source>(
     }
 }
 
-/// Ends the batches of jobs, each as [`end_job`] does, in order.
+/// Ends the batch of each job as [`end_job`] does, in order.
 ///
 /// # Errors
-/// The first that [`end_job`] answers. The pass then tells of the jobs before that one alone.
+/// The first error of [`end_job`]. The jobs before that one have ended, and the others are gone. So stop the loader, or
+/// whoever waits for their keys waits for ever.
 pub fn end_jobs<L: LoaderName, S: Source>(
     rt: &impl Wait,
     alloc: Global,
@@ -73,7 +74,7 @@ pub fn end_jobs<L: LoaderName, S: Source>(
     Ok(())
 }
 
-/// Ends the batch of a job as one that failed since memory ran out.
+/// Fails the batch of a job, since memory ran out.
 fn give_up<L: LoaderName>(
     rt: &impl Wait,
     alloc: Global,

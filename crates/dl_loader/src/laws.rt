@@ -1,4 +1,4 @@
-//! One event, made on the locked book, what all looks of one cell have in common, and the laws of histories.
+//! One event on the locked book, what all looks of one cell have in common, and the laws of histories.
 
 ghost use Rattle.dl_history.specs.Service.{Answers};
 ghost use Rattle.std.specs.Prelude.{◌≡◌, ◌+◌, None, IfErr, IfOk, IfSome, OnErr, OnOk};
@@ -22,12 +22,13 @@ use dl_history::{CallFault, CellRows, LoaderName, Pass, Reply};
 use dl_source::Source;
 use std::alloc::Global;
 
-/// Makes one event of a pass on the book, and answers its reply and how many cells refused the outcome that
-/// it gave them. This is what each event call does under the lock. Where the event ended a batch, those that wait for a
-/// ticket are woken, and go on once the book is given back.
+/// Makes one event of a pass on the book. You get the reply, and how many cells refused the outcome that the event gave
+/// them. This is what each event call does under the lock. If the event ended a batch, it wakes those that wait for a
+/// ticket, and they go on once you give the book back.
 ///
 /// # Errors
-/// The first cause of [`CallFault`] that applies, with the ask. The book and the pass are then as they were.
+/// The first cause of [`CallFault`] that applies, with the ask. The book is then as it was, and so are the calls, reads
+/// and tickets of the pass.
 pub fn event<'a, L: LoaderName, S: Source>(
     alloc: Global,
     loader: &Loader<L>,
@@ -57,7 +58,7 @@ pub fn event<'a, L: LoaderName, S: Source>(
     }
 }
 
-/// Makes the event that is asked for.
+/// Makes the event of an ask.
 fn make<L: LoaderName, S: Source>(
     alloc: Global,
     rows: &CellRows<L>,

@@ -1,8 +1,9 @@
-//! The shared loader: one memo, its batches and its history behind one lock, and cells that are read
-//! beside it.
+//! The loader that threads share: a memo, its batches and its history behind one lock, and cells that you read without
+//! the lock.
 //!
-//! Each call of a caller is one event of the loader's history, made under the lock. What a caller
-//! knows of the history stands in its [`Pass`].
+//! You make an [`Opening`], start the loader by [`Loader::start`], make calls with a [`Pass`] for each caller, and
+//! close the loader to get its [`History`]. Each call is one event of the history, and happens under the lock. A pass
+//! has what its caller called and read.
 #![tactic(auto)]
 
 mod ask;

@@ -34,7 +34,7 @@ pub(crate) fn cells_begun(replies: &[LoadReply]) -> usize
     cells
 }
 
-/// How many cells the loads began, where these are no more than may be begun.
+/// How many cells the loads began, if these are no more than a loader may begin.
 pub(crate) fn new_cells<L: LoaderName>(rows: &CellRows<L>, replies: &[LoadReply]) -> u32
     requires { cells_begun replies.now ≤ L.service.rules.limits.max_cells }
     ensures { result ≡ cells_begun replies.now }
@@ -45,7 +45,7 @@ pub(crate) fn new_cells<L: LoaderName>(rows: &CellRows<L>, replies: &[LoadReply]
     cells as u32
 }
 
-/// How many cells a call began that was replied so, where these are no more than may be begun.
+/// How many cells a call with this reply began, if these are no more than a loader may begin.
 #[inline(always)]
 pub(crate) fn begun_in<L: LoaderName>(rows: &CellRows<L>, reply: &Reply) -> u32
     requires { begun_in reply.now ≤ L.service.rules.limits.max_cells }
@@ -60,8 +60,7 @@ pub(crate) fn begun_in<L: LoaderName>(rows: &CellRows<L>, reply: &Reply) -> u32
 }
 
 impl<L: LoaderName> Book<L> {
-    /// A ticket for each of these replies to the last loads of the pass, put into a list that has room for
-    /// them.
+    /// Makes a ticket for each of these replies to the last loads of the pass. The list has room for them.
     pub(crate) fn make_tickets<'a>(
         &self,
         rows: &'a CellRows<L>,

@@ -18,7 +18,11 @@ use std::marker::Model;
 use std::sync::ledger::Share;
 use std::sync::{Condvar, Mutex, MutexGuard, Wait};
 
-/// A loader that threads share by reference. Each of its callers has a [`Pass`].
+/// A loader that threads share by reference. Each of its callers makes its calls with a [`Pass`] of its own.
+///
+/// A rejected call leaves the calls, reads and tickets of its pass as they were. It says why by a
+/// [`CallFault`](crate::CallFault): its first variant that applies, or `OutOfMemory`. `Behind` and `LogRefused` never
+/// come in a run: treat them as a bug.
 ///
 /// # Examples
 /// Loads a user, sends the batch, ends its job, and prints the outcome, from `crates/example_one_caller`:
@@ -67,8 +71,11 @@ impl<L: LoaderName> Model for Loader<L> {
 }
 
 impl<L: LoaderName> Loader<L> {
-    /// The loader of an opening, with an empty history, and a pass for each caller, of which none has an
-    /// entry. `L` is to stand for this opening. The error is a failed allocation.
+    /// Starts the loader of an opening. You get the loader, with an empty history, and an empty pass for each caller,
+    /// in order. `L` must name this opening: see [`Opening`].
+    ///
+    /// # Errors
+    /// `OutOfMemory`.
     pub fn start<S: Source>(
         alloc: Global,
         opening: Opening<'_, S>,
@@ -100,35 +107,35 @@ impl<L: LoaderName> Loader<L> {
         Ok((loader, passes))
     }
 
-    /// The book, which lies behind the loader's lock. Whoever has it keeps all others from their calls, and its own
-    /// calls of the loader would wait for ever.
+    /// Lends you the book, which lies behind the loader's lock. While you have it, nobody else's calls go on, and a
+    /// call of your own waits for ever.
     ///
-    /// It is lent for the law of one event: [`laws::event`](crate::laws::event) makes an event on it, and wakes those that
-    /// wait where the event ended a batch. Beside that a program learns of it what every book keeps ([`Book::keeps`]), and can do
-    /// nothing with it: it can't stop it, show one of its cells, or put another book in its place.
+    /// The book is there for the law of one event: [`laws::event`](crate::laws::event) makes an event on it, and wakes
+    /// those that wait if the event ended a batch. Apart from that, you learn from it what every book keeps
+    /// ([`Book::keeps`]). You can't stop it, show one of its cells, or put another book in its place.
     pub fn lock(&self, rt: &impl Wait) -> MutexGuard<'_, Book<L>> {
         self.book.lock(rt)
     }
 
-    /// Stops the loader: from then on no pass may make an event, and no wait for a cell that has not ended
-    /// goes on.
+    /// Stops the loader: from then on it rejects every call, and every wait for a cell that has not ended.
     pub fn stop(&self, rt: &impl Wait) {
         self.book.lock(rt).stop(rt, &self.rows);
         self.wake();
     }
 
-    /// Wakes those that wait for a ticket: a batch has ended, or the loader is stopped. Where the book is lent they go on once
-    /// it is given back.
+    /// Wakes those that wait for a ticket: a batch has ended, or the loader is stopped. If someone has the book, they
+    /// go on once it is back.
     pub(crate) fn wake(&self) {
         self.changed.notify_all();
     }
 
-    /// Waits until the ticket shows its outcome, and adds that to the pass, once: where it is among the
-    /// entries already, the pass stays as it is. Where the ticket shows its outcome at once, no lock is taken.
+    /// Waits until the ticket shows its outcome, and adds that to the entries of the pass, unless it is there already.
+    /// The ticket must be one that this pass got. If it shows its outcome at once, the call takes no lock. If nobody
+    /// ends its batch and nobody stops the loader, the call waits for ever.
     ///
     /// # Errors
-    /// `Stopped` where the loader is stopped and the cell has not ended. The pass then knows that the loader is stopped, and tells else
-    /// what it told before.
+    /// `Stopped` if the loader is stopped and the ticket shows nothing yet. The pass then knows that the loader is
+    /// stopped; its calls, reads and tickets are as they were.
     pub fn wait(
         &self,
         rt: &impl Wait,

@@ -1,4 +1,4 @@
-//! What a loader is opened with.
+//! What you open a loader with.
 
 ghost use Rattle.std.specs.Prelude.{◌≡◌, IfOk, IfErr, OnOk};
 ghost use Rattle.dl_cells.specs.Cells.{row_len};
@@ -17,17 +17,27 @@ use std::sync::ledger::Blank;
 /// The most callers of a loader.
 pub const MOST_CALLERS: u32 = 32;
 
-/// A loader that isn't started yet: its source, its limits, how many callers it will have, and the rows
-/// that its history and its outcomes will lie in.
+/// A loader that you have not started yet: its source, its limits, its number of callers, and the rows in which its
+/// history and its outcomes will lie.
 ///
-/// Whoever has one calls a function over `L: LoaderName` at `std::marker::Brand`, which then starts it:
-/// from there on the type `L` stands for this loader.
+/// To start it, call a function that is generic in `L: LoaderName` at `std::marker::Brand`, and there
+/// [`Loader::start`](crate::Loader::start). From then on the type `L` names this loader, so you can't use the pass of
+/// one loader with another.
+///
+/// # Examples
+/// Opens a loader for one caller, from `crates/example_one_caller`. Its `with_loader` starts the loader:
+///
+/// ```rust
+/// let limits = Limits::new(64, 1_024, 4_096)?;
+/// let opening = Opening::new(rt.alloc(), hashing, &users, limits, 1)?;
+/// with_loader::<Brand, _, _>(&rt, rt.alloc(), &users, opening)
+/// ```
 #[derive(Drop)]
 pub struct Opening<'s, S: Source> {
     source: &'s S,
     pub(crate) hashing: RandomState,
     pub(crate) limits: Limits,
-    // Where each batch is of one table.
+    // If each batch is of one table.
     pub(crate) tables: Option<TableLimits>,
     pub(crate) callers: u32,
     pub(crate) log: CellRow<Event>,
@@ -59,8 +69,8 @@ impl<'s, S: Source> Model for Opening<'s, S> {
 }
 
 impl<'s, S: Source> Opening<'s, S> {
-    /// An opening of a loader over a source, whose batches may mix tables. The loader hashes keys by `hashing`,
-    /// of which nothing is seen.
+    /// An opening over a source, for 1 to [`MOST_CALLERS`] callers and batches that may mix tables. The loader hashes
+    /// keys by `hashing`, and nothing that you see depends on it.
     ///
     /// # Errors
     /// The first cause of [`StartFault`] that applies, in its order.
@@ -80,8 +90,8 @@ impl<'s, S: Source> Opening<'s, S> {
         Opening::of(alloc, hashing, source, limits, None, callers)
     }
 
-    /// An opening of a loader over a source, each of whose batches is of one table, and has at most as many keys as the
-    /// limit of that table, or else `max_batch` of the limits. All else is as in [`new`](Opening::new).
+    /// An opening of a loader each of whose batches has keys of one table: at most as many as that table's limit says,
+    /// or else `max_batch` of the limits. All else is as in [`new`](Opening::new).
     ///
     /// # Errors
     /// As [`new`](Opening::new).
@@ -131,10 +141,10 @@ impl<'s, S: Source> Opening<'s, S> {
     }
 }
 
-/// The rows that the history and the outcomes of a loader will lie in, where it may have so many callers.
+/// The rows in which the history and the outcomes of a loader will lie.
 ///
 /// # Errors
-/// `NoCallers` and `TooManyCallers` where it may not; `OutOfMemory`.
+/// `NoCallers` or `TooManyCallers` if a loader can't have as many callers; `OutOfMemory`.
 fn rows(
     alloc: Global,
     limits: Limits,

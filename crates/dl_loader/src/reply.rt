@@ -1,12 +1,12 @@
-//! What event calls answer, where it is neither a ticket nor a job.
+//! What event calls answer, apart from tickets and jobs.
 
-/// What a prime answers.
+/// What a prime answers. That the new cell refused the outcome, `shown: false`, never comes in a run. No proof excludes
+/// it, since none says that a set on an empty cell succeeds.
 #[derive(Clone, Copy, Debug, PartialEq, Eq)]
 pub enum PrimeReply {
-    /// The key wasn't held and has a new cell, which shows the outcome. That it refused it, `shown: false`, never comes
-    /// in a run; no proof excludes it, since none says that a set on an empty cell succeeds. Treat it as a bug.
+    /// The key has a new cell, which shows the outcome. `shown: false` never comes in a run: treat it as a bug.
     Primed { cell: u32, shown: bool },
-    /// The key is held: nothing changed (DataLoader: `prime`).
+    /// The loader holds the key already: nothing changed (DataLoader: `prime`).
     Kept,
 }
 
@@ -15,7 +15,7 @@ pub enum PrimeReply {
 pub struct Settled {
     /// How many cells show their outcome.
     pub shown: u32,
-    /// How many cells refused it. Above 0 it never comes in a run; no proof excludes it, since none says that a set on
-    /// an empty cell succeeds. Treat it as a bug.
+    /// How many cells refused it. A number above 0 never comes in a run: treat it as a bug. No proof excludes it, since
+    /// none says that a set on an empty cell succeeds.
     pub refused: u32,
 }

@@ -7,7 +7,8 @@ use Rattle.dl_queue.specs.declared.seats.Sender.{Sender}
 use Rattle.dl_queue.specs.declared.seats.Taker.{Taker}
 use Rattle.dl_queue.specs.declared.queue.Tally.{Tally}
 
--- The jobs that all takers took, with those that are left, are the jobs that all senders sent, each as often. The tally counts them.
+-- The jobs that all takers took, with those that are left, are the jobs that all senders sent, each as often. The tally
+-- counts them.
 pub record Balances (senders : List Sender) (takers : List Taker) (tally : Tally) : Type 0 where
   pub left : List Job
   pub same : EachAsOften (flat_map taken_jobs takers ++ left) (flat_map sent_jobs senders)

@@ -1,4 +1,4 @@
--- The rule of the queue's channel: no item is lost, doubled or made up.
+-- The rule of the queue's channel: it loses, doubles and makes up no item.
 use Rattle.std.specs.Prelude.{◌≡◌, ℕ, ◌+◌, ◌<◌, Bool, true, false, List, [], ◌∷◌, ◌++◌, sum_by, count_by}
 use mathlib.Core.Option.{some}
 use lib.ListN.{get_elem?}
@@ -8,7 +8,7 @@ use Rattle.dl_queue.specs.declared.rule.Item.{Item}
 use Rattle.dl_queue.specs.declared.rule.Item.TheVariants.{Work, End}
 use Rattle.dl_queue.specs.declared.rule.Traffic.{Traffic}
 
--- an traffic of so many seats, of so many in all, which sent and took these items
+-- the traffic of `seats` seats out of `all`, which sent and took these items
 abbrev pub traffic : ℕ → ℕ → List Item → List Item → Traffic
 traffic seats all sent taken = record { seats = seats; all = all; sent = sent; taken = taken }
 
@@ -24,11 +24,11 @@ has_end [] = false
 has_end (Work job ∷ items) = has_end items
 has_end (End ∷ items) = true
 
--- a pass that stands for a seat knows how many seats all passes stand for
+-- a pass of at least one seat knows how many seats all passes have together
 abbrev pub KnowsAll : List Traffic → Type 0
 KnowsAll views = (pass : ℕ) (v : Traffic) → get_elem? views pass ≡ some v → 0 < v.seats → v.all ≡ sum_by (λ u. u.seats) views
 
--- a pass that stands for no seat has sent and taken nothing
+-- a pass of no seat has sent and taken nothing
 abbrev pub IdleIsEmpty : List Traffic → Type 0
 IdleIsEmpty views = (pass : ℕ) (v : Traffic) → get_elem? views pass ≡ some v → v.seats ≡ 0 → (v.sent ≡ []) × (v.taken ≡ [])
 

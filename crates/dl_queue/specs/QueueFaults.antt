@@ -1,9 +1,9 @@
--- Which numbers a queue may have, and when others are refused.
+-- Which numbers a queue may have, and which fault you get for others.
 use Rattle.std.specs.Prelude.{◌≡◌, ℕ, ◌<◌, ◌≤◌, ◌⊎◌}
 use Rattle.dl_queue.specs.declared.fault.QueueFault.{QueueFault}
 use Rattle.dl_queue.specs.declared.fault.QueueFault.TheVariants.{BadCapacity, BadCounts, OutOfMemory}
 
--- the most jobs that a queue may have room for
+-- the most jobs that you may give a queue room for
 abbrev pub largest_capacity : ℕ
 largest_capacity = 1024
 
@@ -11,7 +11,7 @@ largest_capacity = 1024
 abbrev pub most_seats : ℕ
 most_seats = 32
 
--- a number of jobs that a queue may have room for
+-- a number of jobs that you may give a queue room for
 pub record IsCapacity (n : ℕ) : Type 0 where
   pub least : 1 ≤ n
   pub most : n ≤ largest_capacity

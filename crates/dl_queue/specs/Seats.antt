@@ -47,10 +47,10 @@ pub record AreSeatsOf (q : JobQueue) (senders : List Sender) (takers : List Take
 abbrev pub queue_room : JobQueue → ℕ
 queue_room q = ruled_capacity (sends_on q.sends)
 
--- a seat that has sent nothing, where the queue has so many seats
+-- a seat that has sent nothing, at a queue of `seats` seats
 abbrev pub IsNewSender : ℕ → Sender → Type 0
 IsNewSender seats s = ((view s.pass).all ≡ seats) × (sent_jobs s ≡ [])
 
--- a seat that has taken nothing, where the queue has so many seats
+-- a seat that has taken nothing, at a queue of `seats` seats
 abbrev pub IsNewTaker : ℕ → Taker → Type 0
 IsNewTaker seats t = ((view t.pass).all ≡ seats) × (taken_jobs t ≡ [])

@@ -11,7 +11,7 @@ use crate::seats::{Sender, Taker};
 use crossbeam_channel::{Pass, RuledSender};
 use std::alloc::{AllocError, Global};
 
-/// Lets the first pass, which stands for one seat of one, stand for `more` seats more.
+/// Makes the first pass, which is that of one seat, the pass of `more` seats more.
 pub(crate) fn widen(
     sends: &RuledSender<Item, Traffic, Lossless>,
     whole: &mut Pass<Item, Traffic>,
@@ -27,7 +27,7 @@ pub(crate) fn widen(
     }
 }
 
-/// Deals seats of senders from a pass that stands for more seats than that.
+/// Deals the seats of senders from a pass of more seats than that.
 pub(crate) fn deal_senders(
     sends: &RuledSender<Item, Traffic, Lossless>,
     alloc: Global,
@@ -51,7 +51,7 @@ pub(crate) fn deal_senders(
     Ok(seats)
 }
 
-/// Deals the seats of takers from a pass that stands for just as many. It becomes the last of them.
+/// Deals the seats of takers from a pass of exactly as many seats. It becomes the last of them.
 pub(crate) fn deal_takers(
     sends: &RuledSender<Item, Traffic, Lossless>,
     alloc: Global,

@@ -1,4 +1,4 @@
-//! The queue of jobs: a bounded channel under the rule that no item is lost, doubled or made up.
+//! The queue of jobs: a bounded channel under the rule that it loses, doubles and makes up no item.
 
 ghost use Rattle.std.specs.Prelude.{◌≡◌, ◌<◌, ◌≤◌};
 ghost use Rattle.crossbeam_channel.specs.Ends.{sends_on, receives_on};
@@ -14,31 +14,35 @@ use std::alloc::{AllocError, Global};
 use std::sync::Wait;
 use std::sync::atomic::{AtomicBool, Ordering};
 
-/// The most jobs that a queue may have room for.
+/// The most jobs that you may give a queue room for.
 pub const LARGEST_CAPACITY: u32 = 1024;
 
 /// The most senders, and the most takers, of a queue.
 pub const MOST_SEATS: u32 = 32;
 
-/// What went through a queue, in numbers of jobs.
+/// How many jobs went through a queue.
 #[derive(Clone, Copy, Debug, PartialEq, Eq)]
 pub struct Tally {
     /// The jobs that all senders sent.
     pub sent: u64,
     /// The jobs that all takers took.
     pub taken: u64,
-    /// The jobs that were sent and not taken.
+    /// The jobs that senders sent and nobody took.
     pub left: u64,
 }
 
-/// A queue that carries jobs from the threads that hold a [`Sender`] to those that hold a
-/// [`Taker`]. Threads share it by reference.
+/// A queue that carries jobs from the threads that hold a [`Sender`] to those that hold a [`Taker`]. Threads share it
+/// by reference. It loses, doubles and makes up no job: [`finish`](JobQueue::finish) says so, once you give all seats
+/// back.
 ///
 /// # Examples
-/// A job is sent and taken, on one thread, from `crates/dl_loader_tests`. `dl_workers::work` takes jobs until
-/// the queue is shut.
+/// Sends a job and takes it, all on one thread, from `crates/dl_loader_tests`. In a program `dl_workers::work` takes
+/// the jobs until you shut the queue.
 ///
 /// ```rust
+/// let made = JobQueue::new(rt.alloc(), 64, 1, 1);
+/// let (queue, mut senders, mut takers) = made.expect(&rt, "no queue");
+/// let job = job(&rt, rt.alloc(), 7);
 /// let sent = queue.send(&rt, &mut senders[0], job);
 /// queue.shut(&rt, &mut senders[0]);
 /// let taken = queue.take(&rt, &mut takers[0]);
@@ -78,8 +82,8 @@ impl JobQueue {
     ghost use Rattle.dl_queue.specs.Balance.{Balances};
     ghost use Rattle.dl_queue.specs.LosslessRule.{traffic};
 
-    /// A queue with room for `capacity` jobs, and its seats. The allocations are made here: no other
-    /// call of the queue takes memory.
+    /// A queue with room for `capacity` jobs, and its seats. It takes its memory here: no other call of the queue
+    /// allocates.
     ///
     /// # Errors
     /// The first cause of [`QueueFault`] that applies, in its order.
@@ -112,7 +116,7 @@ impl JobQueue {
         }
     }
 
-    /// A queue of numbers that are in range.
+    /// A queue of these numbers, which are in range.
     fn open(
         alloc: Global,
         capacity: u32,
@@ -146,10 +150,10 @@ impl JobQueue {
         Ok((queue, sender_seats, taker_seats))
     }
 
-    /// Sends a job, and waits where the queue is full.
+    /// Sends a job. The call waits while the queue is full.
     ///
     /// # Errors
-    /// The job comes back where the queue was shut, or where the seat has sent `u32::MAX` jobs.
+    /// You get the job back if the queue is shut, or if the seat has sent `u32::MAX` jobs.
     pub fn send<R: Wait>(&self, rt: &R, sender: &mut Sender, job: Job) -> Result<(), Job>
         requires { IsSenderOf self.now sender.old }
         ensures seat { IsSenderOf self.now sender.new }
@@ -170,9 +174,10 @@ impl JobQueue {
         }
     }
 
-    /// Takes a job, and waits where there is none. The answer is `None` where the queue was shut
-    /// and this taker got its end mark, then and from then on, or where the seat has taken
-    /// `u32::MAX` jobs.
+    /// Takes a job. The call waits while there is none.
+    ///
+    /// Returns `None` if the queue is shut and this taker has got its end mark, and from then on. It also returns
+    /// `None` if the seat has taken `u32::MAX` jobs.
     pub fn take<R: Wait>(&self, rt: &R, taker: &mut Taker) -> Option<Job>
         requires { IsTakerOf self.now taker.old }
         ensures seat { IsTakerOf self.now taker.new }
@@ -195,8 +200,8 @@ impl JobQueue {
         }
     }
 
-    /// Takes the next item, and waits where there is none. The channel tells that no sender is left by an error, which never
-    /// comes: the queue is a sender itself.
+    /// Takes the next item, and waits while there is none. The channel gives an error if it has no sender left, which
+    /// never happens: the queue is a sender itself.
     fn receive<R: Wait>(&self, rt: &R, pass: &mut Pass<Item, Traffic>) -> Item
         requires seat { IsSeatAt (sends_on self.now.sends) pass.old }
         requires some_seat { 0 < (view pass.old).seats }
@@ -212,12 +217,12 @@ impl JobQueue {
         unreachable!()
     }
 
-    /// Shuts the queue: a send that begins once this has returned gives its job back, and each taker
-    /// first gets the jobs that are left and then an end mark. A second call does nothing.
+    /// Shuts the queue: a send that begins after this has returned gives its job back, and each taker gets first the
+    /// jobs that are left and then an end mark. A second call does nothing.
     ///
-    /// A send that had begun before may put its job behind the end marks, where it is left, or wait
-    /// for ever where there is no place for it. So shut a queue once all sends have returned, or make
-    /// it with a place for the job of each other sender.
+    /// A send that began before may still put its job behind the end marks, and then nobody takes it; or, if there is
+    /// no room, it may wait for ever. So shut a queue after all sends have returned, or make it with room for one job
+    /// more for each other sender.
     pub fn shut<R: Wait>(&self, rt: &R, sender: &mut Sender)
         requires { IsSenderOf self.now sender.old }
         ensures seat { IsSenderOf self.now sender.new }
@@ -240,7 +245,7 @@ impl JobQueue {
         let _ = self.put(rt, &mut sender.pass, Item::End);
     }
 
-    /// Puts an item into the channel, and waits where that is full. The item comes back where it can't be put.
+    /// Puts an item into the channel, and waits while that is full. You get back an item that the channel can't take.
     fn put<R: Wait>(&self, rt: &R, pass: &mut Pass<Item, Traffic>, item: Item) -> Result<(), Item>
         requires seat { IsSeatAt (sends_on self.now.sends) pass.old }
         requires some_seat { 0 < (view pass.old).seats }
@@ -255,8 +260,9 @@ impl JobQueue {
         }
     }
 
-    /// Ends the queue, given back all of its seats, and counts the jobs. It takes the handle as
-    /// the other calls do, and doesn't wait.
+    /// Ends the queue and counts its jobs. Give all its seats back: the jobs that the takers took, with those that are
+    /// left, are the jobs that the senders sent, each as often. The call doesn't wait; it takes the handle as the other
+    /// calls do.
     pub fn finish<R: Wait>(self, _rt: &R, mut senders: Vec<Sender>, takers: Vec<Taker>) -> Tally
         requires seats { AreSeatsOf self senders.items takers.items }
         ensures balance { Balances senders.items takers.items result }

@@ -1,5 +1,5 @@
-//! The rule that the queue's channel keeps under every schedule: each item that was sent was taken
-//! or is still in the channel, as often as it was sent.
+//! The rule that the queue's channel keeps under every schedule: what senders sent is what takers took and what the
+//! channel still holds, each item as often.
 
 use crossbeam_channel::protocol::{Join, Lesson, Outcome, Protocol, Split};
 use dl_values::Job;
@@ -14,11 +14,11 @@ pub(crate) enum Item {
     End,
 }
 
-/// What a pass of the channel knows, its view. It exists in proofs alone: no value is made of it.
+/// What a pass of the channel knows, its view. It exists in proofs alone: nobody makes a value of it.
 pub(crate) struct Traffic {
-    /// For how many seats the pass stands.
+    /// How many seats the pass is for.
     pub(crate) seats: u64,
-    /// How many seats there are in all, where the pass stands for one.
+    /// How many seats there are in all, if the pass is for any.
     pub(crate) all: u64,
     /// What these seats sent, in order.
     pub(crate) sent: LinkedList<Item>,
@@ -38,8 +38,8 @@ impl Protocol<Item, Traffic> for Lossless {
     ghost first = { traffic 1 1 [] [] };
 }
 
-/// A split that makes room for one more seat: the pass that stands for all seats stands for one
-/// more. The new pass stands for none and is let go.
+/// A split that makes room for one seat more: the pass of all seats becomes that of one seat more. The new pass is for
+/// none, and goes away.
 pub(crate) struct Widen;
 
 impl Split<Traffic> for Widen {
@@ -63,7 +63,7 @@ impl Split<Traffic> for Deal {
     ghost right = { λ v. traffic 1 v.all [] [] };
 }
 
-/// A join: the seats of one pass, and what they sent and took, go over to another.
+/// A join: the seats of one pass go over to another, with what they sent and took.
 pub(crate) struct Gather;
 
 impl Join<Traffic> for Gather {
@@ -107,8 +107,7 @@ impl Lesson<Item, Traffic> for Takes {
     ghost fact = { λ v items. ⊤ };
 }
 
-/// What a pass that stands for all seats learns: what they sent is what they took and what the
-/// channel holds.
+/// What the pass of all seats learns: what they sent is what they took and what the channel holds.
 pub(crate) struct Whole;
 
 impl Lesson<Item, Traffic> for Whole {

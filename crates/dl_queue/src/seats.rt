@@ -7,7 +7,7 @@ ghost use Rattle.dl_queue.specs.LosslessRule.{has_end, traffic, jobs};
 use crate::rule::{Item, Traffic};
 use crossbeam_channel::Pass;
 
-/// A sender's seat at one queue. It knows the jobs that it sent, in order.
+/// A sender's seat at one queue, by which you send jobs there. It knows, in proofs, the jobs that it sent, in order.
 pub struct Sender {
     pub(crate) pass: Pass<Item, Traffic>,
     pub(crate) sent: u32,
@@ -16,7 +16,7 @@ pub struct Sender {
     ghost none_taken: { (view pass).taken ≡ [] },
 }
 
-/// A taker's seat at one queue. It knows the jobs that it took, in order.
+/// A taker's seat at one queue, by which you take jobs there. It knows, in proofs, the jobs that it took, in order.
 pub struct Taker {
     pub(crate) pass: Pass<Item, Traffic>,
     pub(crate) taken: u32,

@@ -21,18 +21,18 @@ abbrev pub found_in : Option Table → List ℕ → Result Finding (List ℕ)
 found_in None id = Err (codes "no table")
 found_in (Some rows) id = ok_or (finding_at rows id) (codes "no row")
 
--- what is listed under a key, or why nothing is
+-- what tables list under a key, or why they list nothing
 abbrev pub found : Tables → Key → Result Finding (List ℕ)
 found tables k = found_in (lookup (bytes_eq k.table) tables) k.id
 
--- the outcome of a key: its row or its error (that of a break is never answered)
+-- the outcome of a key: its row or its error (no answer has that of a break)
 abbrev pub outcome_of : Result Finding (List ℕ) → Outcome
 outcome_of (Ok (Row v)) = Value v
 outcome_of (Ok (Error t)) = KeyError t
 outcome_of (Ok (Break t)) = KeyError t
 outcome_of (Err t) = KeyError t
 
--- the text under which a key breaks its batch
+-- the text by which a key breaks its batch
 abbrev pub break_of : Result Finding (List ℕ) → Option (List ℕ)
 break_of (Ok (Row v)) = None
 break_of (Ok (Error t)) = None

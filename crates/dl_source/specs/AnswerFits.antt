@@ -1,4 +1,4 @@
--- The tables' answer has as many outcomes as there are keys.
+-- The answer of tables has as many outcomes as there are keys, or breaks.
 use Rattle.std.specs.Prelude.{◌≡◌, ℕ, List, Option, Some, None, length}
 use Rattle.std.proofs.lemmas.List.{length-map}
 use Rattle.dl_values.specs.Key.{Key}

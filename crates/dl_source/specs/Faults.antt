@@ -1,4 +1,4 @@
--- When a tree is refused as tables.
+-- Which fault you get instead of tables.
 use Rattle.std.specs.Prelude.{◌≡◌, ◌⊎◌, ℕ, ◌<◌, ◌&&◌, ◌||◌, List, length, Bool, true, false, not, nat_lt, nat_le}
 use Rattle.std.specs.List.{list_any}
 use Rattle.serde_json.specs.Data.{Data}
@@ -50,13 +50,13 @@ has_other_number tables = list_any (λ t. list_any (λ e. is_not_whole e.1) t.1)
 abbrev pub has_repeated_key : Tables → Bool
 has_repeated_key tables = list_any (λ t. repeats t.1) tables
 
--- ---- refusals, where a relation says which tables a tree spells
+-- ---- faults, by a relation `Spells` that says which tables a tree spells
 
--- the tree spells tables of which the test is true
+-- the tree spells tables for which the test is true
 abbrev pub Has : (Data → Tables → Type 0) → (Tables → Bool) → Data → Type 0
 Has Spells test d = (tables : Tables) × Spells d tables × (test tables ≡ true)
 
--- what each refusal comes from
+-- what each fault comes from
 abbrev pub Causes : (Data → Tables → Type 0) → Data → TableFault → Type 0
 Causes Spells d Shape = (tables : Tables) → Spells d tables → ⊥
 Causes Spells d BadKey = Has Spells has_bad_key d
@@ -66,7 +66,7 @@ Causes Spells d DuplicateTable = Has Spells repeats d
 Causes Spells d DuplicateKey = Has Spells has_repeated_key d
 Causes Spells d OutOfMemory = ⊥
 
--- the faults are tested in this order
+-- the order of the faults
 abbrev pub number : TableFault → ℕ
 number Shape = 1
 number BadKey = 2
@@ -76,7 +76,7 @@ number DuplicateTable = 5
 number DuplicateKey = 6
 number OutOfMemory = 7
 
--- the tree gives cause for the fault, and for none that is tested before it
+-- the tree gives cause for this fault, and for none that comes before it
 pub record IsLeast (Spells : Data → Tables → Type 0) (d : Data) (f : TableFault) : Type 0 where
   pub cause : Causes Spells d f
   pub least : (g : TableFault) → number g < number f → Causes Spells d g → ⊥

@@ -13,7 +13,7 @@ pub record NumberedTable : Type 0 where
 abbrev pub numbered : List ℕ → Option ℤ → Table → NumberedTable
 numbered name number findings = record { name = name; number = number; findings = findings }
 
--- the code of these, by which a proof tells two apart
+-- the code of these, by which a proof distinguishes two
 abbrev pub numbered_table_code : Coded NumberedTable
 numbered_table_code =
     code_by (List ℕ × (Option ℤ × Table)) (coded× (coded_list coded_ℕ) (coded× (coded_option coded_ℤ) table_code))
@@ -23,7 +23,7 @@ numbered_table_code =
 abbrev pub table_of : NumberedTable → List ℕ × Table
 table_of t = (t.name, t.findings)
 
--- the number of a table, beside the table's name
+-- the number of a table, with the name of the table
 abbrev pub number_of : NumberedTable → Option TableNumber
 number_of t = option_map (λ n. record { table = t.name; number = n }) t.number
 

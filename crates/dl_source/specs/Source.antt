@@ -1,4 +1,4 @@
--- What every answer of a source keeps to.
+-- What every answer of a source keeps.
 use Rattle.std.specs.Prelude.{◌≡◌, List, length, ⊤}
 use Rattle.dl_values.specs.Key.{Key}
 use Rattle.dl_values.specs.declared.outcome.BatchAnswer.{BatchAnswer}

@@ -19,7 +19,7 @@ SpellsEach S no_items (x ∷ xs) = ⊥
 SpellsEach S (item d ds) [] = ⊥
 SpellsEach S (item d ds) (x ∷ xs) = S d x × SpellsEach S ds xs
 
--- a list of what spells the values
+-- a list whose items spell the values
 abbrev pub SpellsList : {X : Type 0} → (Data → X → Type 0) → Data → List X → Type 0
 SpellsList S d xs = (ds : Items) × (d ≡ array ds) × SpellsEach S ds xs
 
@@ -27,7 +27,7 @@ SpellsList S d xs = (ds : Items) × (d ≡ array ds) × SpellsEach S ds xs
 abbrev pub SpellsMember : {X : Type 0} → (Data → X → Type 0) → Option Data → List X → Type 0
 SpellsMember S m xs = (d : Data) × (m ≡ Some d) × SpellsList S d xs
 
--- a member that may be absent, and then stands for the empty list
+-- a member that may be absent, which then spells the empty list
 abbrev pub SpellsOptional : {X : Type 0} → (Data → X → Type 0) → Option Data → List X → Type 0
 SpellsOptional S m xs = ((m ≡ None) × (xs ≡ [])) ⊎ SpellsMember S m xs
 
@@ -37,7 +37,7 @@ SpellsOptional S m xs = ((m ≡ None) × (xs ≡ [])) ⊎ SpellsMember S m xs
 abbrev pub pair : List ℕ → Data → Data
 pair id d = array (item (string id) (item d no_items))
 
--- what stands beside the id: any value in a row, a text in an error and in a break
+-- what a pair has after its id: any value in a row, a text in an error and in a break
 abbrev pub row_of : Data → Option Finding
 row_of d = Some (Row d)
 
@@ -65,8 +65,8 @@ names_all test (member name d ms) = test name && names_all test ms
 abbrev pub has_only : (List ℕ → Bool) → Data → Bool
 has_only test d = option_map_or (names_all test) (as_object d) false
 
--- A table is an object with a name and rows, and perhaps errors and breaks, and lists them in this order. The names of its
--- members pass the test.
+-- A table is an object with a name and rows, and perhaps errors and breaks, and lists them in this order. Its members
+-- pass the test by their names.
 pub record SpellsTable (is_member : List ℕ → Bool) (d : Data) (t : List ℕ × Table) : Type 0 where
   pub members : has_only is_member d ≡ true
   pub name : get (codes "name") d ≡ Some (string t.0)

@@ -17,7 +17,7 @@ Tables = List (List ℕ × Table)
 abbrev pub named : {X : Type 0} → List (String Global × X) → List (List ℕ × X)
 named es = map (λ e. (string_bytes e.0, e.1)) es
 
--- the codes of these, by which a proof tells two apart
+-- the codes of these, by which a proof distinguishes two
 abbrev pub finding_code : Coded (List ℕ × Finding)
 finding_code = coded× (coded_list coded_ℕ) finding.the_row.coded
 

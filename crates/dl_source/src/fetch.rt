@@ -1,4 +1,4 @@
-//! Asking a source for a job's keys.
+//! Asking a source for the keys of a job.
 
 ghost use Rattle.std.specs.Prelude.{◌≡◌, IfOk, IfErr};
 ghost use Rattle.dl_source.specs.Fetched.{source_of, job_of};
@@ -8,10 +8,10 @@ use crate::source::Source;
 use dl_values::Job;
 use std::alloc::{AllocError, Global};
 
-/// Asks the source for the job's keys.
+/// Asks the source for the job's keys. A loader settles a batch only by what this call gives you.
 ///
 /// # Errors
-/// A failed allocation, with the job.
+/// The job and `AllocError`, if memory runs out.
 pub fn fetch_job<'s, S: Source>(
     alloc: Global,
     source: &'s S,

@@ -1,12 +1,12 @@
-//! A job together with what its source answered.
+//! A job together with its source's answer.
 
 ghost use Rattle.std.specs.Prelude.{◌≡◌};
 
 use crate::source::Source;
 use dl_values::{BatchAnswer, FetchKey, Job};
 
-/// A job and what its source answered to the job's keys; [`fetch_job`](crate::fetch_job) makes one.
-/// The type keeps that the answer is the source's own.
+/// A job and what its source answered to the job's keys. Only [`fetch_job`](crate::fetch_job) makes one, so the answer
+/// is always the source's own.
 #[derive(Drop)]
 pub struct Fetched<'s, S: Source> {
     source: &'s S,
@@ -46,7 +46,7 @@ impl<'s, S: Source> Fetched<'s, S> {
         self.job.keys.as_slice()
     }
 
-    /// What the source answered to the keys.
+    /// What the source answered: as many outcomes as there are keys, or a break.
     pub fn answer(&self) -> &BatchAnswer
         ensures answer { result.now ≡ answer_of self.now }
         ensures own { result.now ≡ S.answer (source_of self.now) (job_of self.now).keys }
@@ -55,7 +55,7 @@ impl<'s, S: Source> Fetched<'s, S> {
         &self.answer
     }
 
-    /// The job alone.
+    /// The job, without the answer.
     pub fn into_job(self) -> Job
         ensures { result ≡ job_of self.entry }
     {
@@ -63,7 +63,7 @@ impl<'s, S: Source> Fetched<'s, S> {
         job
     }
 
-    /// The job and the answer, to move both on.
+    /// The job and the answer, moved out.
     pub fn into_parts(self) -> (Job, BatchAnswer)
         ensures job { result.0 ≡ job_of self.entry }
         ensures answer { result.1 ≡ answer_of self.entry }

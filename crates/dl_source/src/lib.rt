@@ -1,4 +1,4 @@
-//! Where the keys of a batch get their outcomes: sources, and tables read from JSON as a source.
+//! Sources, which answer the keys of a batch, and tables that you read from JSON and use as a source.
 #![tactic(auto)]
 
 mod fault;

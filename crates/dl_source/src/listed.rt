@@ -1,4 +1,4 @@
-//! Tables as their document lists them, taken out of it.
+//! Tables as their document lists them, moved out of it.
 
 ghost use Rattle.std.specs.Prelude.{◌≡◌, false, option_map, IfOk, string_bytes};
 ghost use Rattle.std.specs.List.{list_any};
@@ -24,7 +24,7 @@ pub(crate) enum Kind {
     Break,
 }
 
-/// What stands beside an id.
+/// What a list pairs with an id.
 #[derive(Drop)]
 pub(crate) enum Listed {
     Row(Value),
@@ -33,7 +33,7 @@ pub(crate) enum Listed {
 }
 
 impl Kind {
-    /// What stands beside an id in a list of this kind, if it may stand there.
+    /// What a list of this kind pairs with an id, if the value may be that.
     #[inline(always)]
     pub(crate) fn listed(self, value: Value) -> Option<Listed>
         ensures { option_map spelled result ≡ finding_of self (view value) }
@@ -65,7 +65,7 @@ impl Listed {
         }
     }
 
-    /// The finding that it spells. The error is a failed allocation.
+    /// The finding that it spells. Fails if memory runs out.
     pub(crate) fn into_finding(self, alloc: Global) -> Result<Finding, AllocError>
         requires { is_not_whole (spelled self) ≡ false }
         ensures { IfOk result (λ e. e ≡ spelled self) }
@@ -78,7 +78,7 @@ impl Listed {
     }
 }
 
-/// An id and what stands beside it. Contracts see the finding that the two spell.
+/// An id and what its list pairs with it. Contracts see the finding that the two spell.
 #[derive(Drop)]
 pub(crate) struct ListedFinding {
     id: String,
@@ -105,7 +105,7 @@ impl ListedFinding {
         ListedFinding { id, listed }
     }
 
-    /// The id and what stands beside it, to move both on.
+    /// The id and what its list pairs with it, moved out.
     pub(crate) fn into_parts(self) -> (String, Listed)
         ensures { self ≡ (string_bytes result.0, spelled result.1) }
     {
@@ -113,7 +113,7 @@ impl ListedFinding {
         (id, listed)
     }
 
-    /// Whether no key can have the id.
+    /// Whether a key can't have the id.
     pub(crate) fn has_bad_id(&self) -> bool
         ensures { result ≡ has_bad_id self.now }
     {
@@ -127,7 +127,7 @@ impl ListedFinding {
         self.listed.is_long()
     }
 
-    /// Whether it is a value with a number that is not whole.
+    /// Whether it is a value with a number that isn't whole.
     pub(crate) fn is_not_whole(&self) -> bool
         ensures { result ≡ is_not_whole self.now.1 }
     {
@@ -135,7 +135,7 @@ impl ListedFinding {
     }
 }
 
-/// A table's name, its number, if it has one, and its findings. Contracts see the table that these spell.
+/// A table's name, its number if it has one, and its findings. Contracts see the table that these spell.
 #[derive(Drop)]
 pub(crate) struct ListedTable {
     name: String,
@@ -175,7 +175,7 @@ impl ListedTable {
         self.name.as_str()
     }
 
-    /// The name and the findings, to move both on.
+    /// The name and the findings, moved out.
     pub(crate) fn into_parts(self) -> (String, Vec<ListedFinding>)
         ensures { table_of self ≡ (string_bytes result.0, result.1.items) }
     {
@@ -183,7 +183,7 @@ impl ListedTable {
         (name, findings)
     }
 
-    /// Its number, if it has one, beside a copy of its name. The error is a failed allocation.
+    /// Its number, if it has one, with a copy of its name. Fails if memory runs out.
     pub(crate) fn to_number(&self, alloc: Global) -> Result<Option<TableNumber>, AllocError>
         ensures { IfOk result (λ n. n ≡ number_of self.now) }
     {
@@ -196,14 +196,14 @@ impl ListedTable {
         }
     }
 
-    /// Whether no key can have the name.
+    /// Whether a key can't have the name.
     pub(crate) fn has_bad_name(&self) -> bool
         ensures { result ≡ has_bad_name (table_of self.now) }
     {
         !is_sized(self.name.as_str(), TABLE_BYTES)
     }
 
-    /// Whether no key can have one of the ids.
+    /// Whether there is an id that a key can't have.
     pub(crate) fn has_bad_id(&self) -> bool
         ensures { result ≡ list_any has_bad_id self.now.findings }
     {
@@ -217,7 +217,7 @@ impl ListedTable {
         self.findings.iter().any(|finding| finding.is_long())
     }
 
-    /// Whether a value has a number that is not whole.
+    /// Whether a value has a number that isn't whole.
     pub(crate) fn has_other_number(&self) -> bool
         ensures { result ≡ list_any (λ e. is_not_whole e.1) self.now.findings }
     {

@@ -1,4 +1,4 @@
-//! What a source is.
+//! Sources: where outcomes come from.
 
 ghost use Rattle.std.specs.Prelude.{◌≡◌, List, IfOk};
 ghost use Rattle.dl_values.specs.Key.{Key};
@@ -8,11 +8,14 @@ ghost use Rattle.dl_source.specs.Source.{IsFor};
 use dl_values::{BatchAnswer, FetchKey};
 use std::alloc::{AllocError, Global};
 
-/// Where outcomes come from. A source answers by one function of the keys: asked twice, it answers
-/// the same.
+/// Where outcomes come from. A source can't change its answer: the same keys always get the same answer.
+///
+/// For data of your own you write three things: `answer`, a definition of what the source answers to any list of keys;
+/// `fits`, a proof that it has as many outcomes as there are keys, or breaks; and `fetch`, which computes it.
 ///
 /// # Examples
-/// A source that answers by a function of its own, from `crates/example_own_source`, where `answer_of` and `answer_fits` stand:
+/// A source with an answer of its own, from `crates/example_own_source`. Its `specs/Domains.antt` has `answer_of` and
+/// `answer_fits`:
 ///
 /// ```rust
 /// impl Source for Domains {
@@ -36,7 +39,11 @@ pub trait Source {
     // The one function: what the source answers to a list of keys.
     ghost answer: { Self → List Key → BatchAnswer };
 
-    /// The answer to these keys, in their order. The error is a failed allocation.
+    /// Answers these keys, in their order. If one key fails, say so in its outcome; if all of them fail together,
+    /// answer `Break`.
+    ///
+    /// # Errors
+    /// `AllocError` if memory runs out.
     fn fetch(&self, alloc: Global, keys: &[FetchKey]) -> Result<BatchAnswer, AllocError>
         ensures { IfOk result (λ a. a ≡ answer self.now keys.now) };
 

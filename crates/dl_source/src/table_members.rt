@@ -1,4 +1,4 @@
-//! The members of a table, taken out of its object.
+//! The members of a table, moved out of its object.
 
 ghost use Rattle.std.specs.Prelude.{◌≡◌, false, MatchOption, string_bytes};
 ghost use Rattle.std.specs.List.{list_all};
@@ -13,7 +13,7 @@ use crate::table_reader::Version;
 use crate::tree::{into_members, take_member};
 use serde_json::{Map, Value};
 
-/// The members that a table may have, each if it is there.
+/// The members that a table may have, each if the object has it.
 #[derive(Drop)]
 pub(crate) struct TableMembers {
     pub(crate) name: Option<Value>,
@@ -23,7 +23,7 @@ pub(crate) struct TableMembers {
     pub(crate) breaks: Option<Value>,
 }
 
-/// The members of a value, if it is an object with no others than a table may have.
+/// The members of a value, if it is an object whose members a table may have.
 pub(crate) fn table_members(version: Version, value: Value) -> Option<TableMembers>
     ensures { MatchOption result (has_only (is_member_of version) (view value) ≡ false) (AreTableMembers version (view value)) }
 {
@@ -34,7 +34,7 @@ pub(crate) fn table_members(version: Version, value: Value) -> Option<TableMembe
     Some(taken(members))
 }
 
-/// The members, taken out of their object.
+/// Moves the members out of their object.
 fn taken(mut members: Map<String, Value>) -> TableMembers
     ensures { AreMembers (object (members_view members.entries)) result }
 {

@@ -7,8 +7,8 @@ use crate::listed::ListedTable;
 use dl_values::Text;
 use std::alloc::{AllocError, Global};
 
-/// The whole number that a table has of its own, as its document gives it: nothing is known of its size but that an `i64` or a
-/// `u64` holds it.
+/// The number that a document gives one of its tables, as `maxBatchSize`. An `i64` or a `u64` holds it; it may be out
+/// of range for a limit.
 #[derive(Debug, Drop)]
 pub struct TableNumber {
     /// The table's name.
@@ -17,7 +17,7 @@ pub struct TableNumber {
     pub number: i128,
 }
 
-/// The numbers of the tables, in their order. The error is a failed allocation.
+/// The numbers of the tables, in their order. Fails if memory runs out.
 pub(crate) fn numbers_of(
     alloc: Global,
     tables: &[ListedTable],

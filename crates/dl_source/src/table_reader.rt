@@ -1,5 +1,5 @@
-//! Reading tables from a JSON value, in two steps: what the document lists is taken out of it and
-//! tested, and then put into tables.
+//! Reads tables from a JSON value in two steps: first it moves out and tests what the document lists, and then it makes
+//! tables of that.
 
 ghost use Rattle.std.specs.Prelude.{◌≡◌, option_map, option_and_then, IfOk, string_bytes};
 ghost use Rattle.serde_json.specs.Find.{as_str};
@@ -50,7 +50,7 @@ pub(crate) enum Version {
     Second,
 }
 
-/// The tables that the value lists, taken out of it. The only faults are `Shape` and `OutOfMemory`.
+/// The tables that the value lists, moved out of it. It fails only by `Shape` or `OutOfMemory`.
 pub(crate) fn read_tables(
     alloc: Global,
     version: Version,
@@ -107,7 +107,7 @@ fn read_optional_number(number: Option<Value>) -> Result<Option<i128>, TableFaul
     }
 }
 
-/// The value as a whole number, if it is one: one that an `i64` or a `u64` holds.
+/// The value as a whole number, if an `i64` or a `u64` holds it.
 fn whole_number(value: &Value) -> Option<i128>
     ensures { result ≡ whole (view value.now) }
 {
@@ -170,7 +170,7 @@ fn read_finding(kind: Kind, pair: Value) -> Option<ListedFinding>
     Some(ListedFinding::new(into_text(id)?, kind.listed(value)?))
 }
 
-/// The least fault of what the tables hold, but for repetitions.
+/// The first fault of what the tables list, repetitions aside.
 pub(crate) fn content_fault(tables: &[ListedTable]) -> Option<TableFault>
     ensures { result ≡ content_fault (tables_of tables.now) }
 {
@@ -205,7 +205,7 @@ fn has_other_number(tables: &[ListedTable]) -> bool
     tables.iter().any(|table| table.has_other_number())
 }
 
-/// Whether two tables have one name. The error is a failed allocation.
+/// Whether two tables have the same name. Fails if memory runs out.
 pub(crate) fn repeats_name(
     alloc: Global,
     hashing: RandomState,

@@ -1,4 +1,4 @@
-//! Tables as a source.
+//! Tables that you read from JSON and use as a source.
 
 ghost use Rattle.std.specs.Prelude.{◌≡◌, ◌⊎◌, [], ◌∷◌, ◌++◌, true, false, not, if◌then◌else◌, option_copied, string_bytes, IfOk, IfErr, OnOk};
 ghost use Rattle.std.specs.List.{list_any};
@@ -25,13 +25,13 @@ use std::marker::Model;
 pub enum Finding {
     /// The row's value.
     Row(Json),
-    /// The id has no value: why.
+    /// Why the id has no value.
     Error(Message),
-    /// A batch that asks for the id fails: why.
+    /// Why a batch fails if it asks for the id.
     Break(Message),
 }
 
-/// What one table lists. Contracts see the findings in the order in which they were added.
+/// What one table lists. Contracts see its findings in the order in which it got them.
 pub(crate) struct Table {
     findings: IndexMap<String, Finding, RandomState>,
 }
@@ -53,8 +53,19 @@ impl Model for Table {
     ghost view = { λ t. named t.findings.entries };
 }
 
-/// Tables with their names, which are a source. Contracts see the tables in the order of their
-/// document, and in each its rows, then its errors, then its breaks.
+/// Tables with their names. They answer a list of keys as a [`Source`]: if a table lists one of the keys under its
+/// breaks, by the text of the first such key; else by an outcome for each key, which is its row, its error, `no row` or
+/// `no table`.
+///
+/// Contracts see the tables in the order of their document, and in each its rows, then its errors, then its breaks.
+///
+/// # Examples
+/// A table with two users, from `crates/example_two_requests`:
+///
+/// ```rust
+/// let rows = r#"[{"name": "user", "rows": [["u1", "Ada"], ["u2", "Bob"]]}]"#;
+/// let users = Tables::from_owned_value(alloc, hashing, Value::from_str(alloc, rows)?)?;
+/// ```
 pub struct Tables {
     tables: IndexMap<String, Table, RandomState>,
     no_table: Message,
@@ -88,7 +99,7 @@ impl Model for Tables {
 }
 
 impl Table {
-    /// An empty table with room for so many findings. The error is a failed allocation.
+    /// An empty table with room for `capacity` findings. Fails if memory runs out.
     fn with_capacity(
         alloc: Global,
         hashing: RandomState,
@@ -100,7 +111,7 @@ impl Table {
         Ok(Table { findings })
     }
 
-    /// The table of these findings, or None where an id is listed twice. The error is a failed allocation.
+    /// The table of these findings, or `None` if they have an id twice. Fails if memory runs out.
     fn from_listed(
         alloc: Global,
         hashing: RandomState,
@@ -120,8 +131,8 @@ impl Table {
         Ok(Some(table))
     }
 
-    /// Adds a finding under a new id. Where the id is listed, the finding takes the place of its own,
-    /// and the answer is false. The error is a failed allocation.
+    /// Adds a finding under a new id. If the table lists the id already, the finding replaces the old one, and the
+    /// answer is false. Fails if memory runs out.
     fn add(&mut self, id: String, finding: Finding) -> Result<bool, AllocError>
         ensures found { IfOk result (λ new. new ≡ not (lists (string_bytes id) self.old)) }
         ensures added { result ≡ Ok true → self.new ≡ self.old ++ (string_bytes id, finding) ∷ [] }
@@ -143,14 +154,17 @@ impl Tables {
     ghost use Rattle.dl_source.specs.Faults.{Causes, RefusedFor};
     ghost use Rattle.dl_source.specs.Inside.Reading.{fault_of};
 
-    /// The tables that a JSON value spells: a list of objects with the members `name` (a text),
-    /// `rows` (a list of pairs of an id and any value) and, if wanted, `errors` and `breaks` (lists
-    /// of pairs of an id and a text). A pair is a list of two. Names and ids are hashed by `hashing`, of which
-    /// nothing is seen.
+    /// Reads tables from a JSON value. The value is a list of objects, and each has these members:
+    ///
+    /// - `name`: the table's name, a text
+    /// - `rows`: a list of pairs of an id and any value
+    /// - `errors` and `breaks`, which are optional: lists of pairs of an id and a text
+    ///
+    /// A pair is a list of two. `hashing` hashes names and ids, and nothing that you see depends on it.
     ///
     /// # Errors
-    /// The first cause of [`TableFault`] that applies anywhere in the value, in its order, or a
-    /// failed allocation.
+    /// The first cause of [`TableFault`], in its order, that applies anywhere in the value. `OutOfMemory` may come
+    /// before any of them.
     pub fn from_value(
         alloc: Global,
         hashing: RandomState,
@@ -163,11 +177,11 @@ impl Tables {
         Tables::from_owned_value(alloc, hashing, value.clone()?)
     }
 
-    /// The tables that a JSON value spells, as [`from_value`](Tables::from_value) reads them. Rows and ids are moved out of the
-    /// value, and not copied.
+    /// Reads tables as [`from_value`](Tables::from_value) does, but moves rows and ids out of the value instead of
+    /// copying them.
     ///
     /// # Errors
-    /// Those of [`from_value`](Tables::from_value).
+    /// As [`from_value`](Tables::from_value).
     pub fn from_owned_value(
         alloc: Global,
         hashing: RandomState,
@@ -181,13 +195,12 @@ impl Tables {
         Tables::from_listed(alloc, hashing, listed)
     }
 
-    /// The tables that a JSON value spells, as [`from_value`](Tables::from_value) reads them, but for one more member that a
-    /// table may have: `maxBatchSize`, a whole number, as an `i64` or a `u64` is. Beside the tables stand the numbers that are
-    /// given, in the order of the tables; a table without one gives none. What a number says is up to the caller.
+    /// Reads tables as [`from_value`](Tables::from_value) does, and each may have one member more: `maxBatchSize`, a
+    /// whole number that an `i64` or a `u64` holds. With the tables you get these numbers, in the order of the tables;
+    /// a table without one gives none. What they mean is up to you.
     ///
     /// # Errors
-    /// The first cause of [`TableFault`] that applies anywhere in the value, in its order, or a
-    /// failed allocation. A number that is not whole is one of `Shape`.
+    /// As [`from_value`](Tables::from_value). A `maxBatchSize` that isn't such a number is a `Shape`.
     pub fn from_value_2(
         alloc: Global,
         hashing: RandomState,
@@ -200,11 +213,11 @@ impl Tables {
         Tables::from_owned_value_2(alloc, hashing, value.clone()?)
     }
 
-    /// The tables that a JSON value spells, and their numbers, as [`from_value_2`](Tables::from_value_2) reads them. Rows and ids
-    /// are moved out of the value, and not copied.
+    /// Reads tables and their numbers as [`from_value_2`](Tables::from_value_2) does, but moves rows and ids out of the
+    /// value instead of copying them.
     ///
     /// # Errors
-    /// Those of [`from_value_2`](Tables::from_value_2).
+    /// As [`from_value_2`](Tables::from_value_2).
     pub fn from_owned_value_2(
         alloc: Global,
         hashing: RandomState,
@@ -220,7 +233,7 @@ impl Tables {
         Ok((tables, numbers))
     }
 
-    /// The tables that a document lists, or their least fault.
+    /// The tables that a document lists, or their first fault.
     fn from_listed(
         alloc: Global,
         hashing: RandomState,
@@ -238,7 +251,7 @@ impl Tables {
         Tables::from_tested(alloc, hashing, listed)
     }
 
-    /// These tables, which passed the other tests, or the one fault that is found only now, that an id is listed twice.
+    /// These tables, which passed the other tests, or the one fault that shows only now: a table has an id twice.
     fn from_tested(
         alloc: Global,
         hashing: RandomState,
@@ -256,7 +269,7 @@ impl Tables {
         Ok(tables)
     }
 
-    /// Adds a table under a new name, unless the table lists an id twice.
+    /// Adds a table under a new name, unless the table has an id twice.
     fn add_listed(
         &mut self,
         alloc: Global,
@@ -287,7 +300,7 @@ impl Tables {
         })
     }
 
-    /// Adds a table under a new name. The error is a failed allocation.
+    /// Adds a table under a new name. Fails if memory runs out.
     fn add(&mut self, name: String, table: Table) -> Result<(), AllocError>
         requires { lists (string_bytes name) self.old ≡ false }
         ensures { OnOk result (self.new ≡ self.old ++ (string_bytes name, table) ∷ []) }
@@ -296,8 +309,8 @@ impl Tables {
         Ok(())
     }
 
-    /// Adds the outcome of each key, up to the first that is listed under its table's breaks, whose
-    /// text is the answer. The error is a failed allocation.
+    /// Adds the outcome of each key. At the first key that its table lists under its breaks, it stops and answers that
+    /// text. Fails if memory runs out.
     fn add_outcomes(
         &self,
         outcomes: &mut Vec<Outcome>,
@@ -317,7 +330,7 @@ impl Tables {
         Ok(None)
     }
 
-    /// What is listed under the key, or why nothing is.
+    /// What the tables list under the key, or why they list nothing.
     fn finding(&self, key: &FetchKey) -> Result<&Finding, &Message>
         ensures { result_copied result ≡ found self.now key.now }
     {
@@ -336,8 +349,8 @@ impl Source for Tables {
 
     ghost fits = { answer_fits };
 
-    /// The text of the first key that is listed under its table's breaks; without one, each key's
-    /// row or error, or that it has no row or no table.
+    /// The text of the first key that its table lists under its breaks. Without one, each key's row or error, or that
+    /// it has no row or no table.
     fn fetch(&self, alloc: Global, keys: &[FetchKey]) -> Result<BatchAnswer, AllocError> {
         let mut outcomes = Vec::with_capacity(alloc, keys.len())?;
         match self.add_outcomes(&mut outcomes, keys)? {

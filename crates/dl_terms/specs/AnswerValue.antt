@@ -1,4 +1,4 @@
--- The tree that a value of an answer stands for.
+-- The tree of a value that an answer gives.
 use Rattle.serde_json.specs.Data.{Data, array}
 use Rattle.serde_json.specs.View.{items_of}
 use Rattle.dl_terms.specs.declared.answer_value.Shape.{Shape}

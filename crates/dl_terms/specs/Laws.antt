@@ -13,19 +13,19 @@ use Rattle.dl_terms.specs.Rounds.{Gains, GainsFrontier, PartOf}
 abbrev pub GivesOnce : Type 0
 GivesOnce = (t : Tree) (p : Pairs) (a b : Answer) → gives t p a → gives t p b → a ≡ b
 
--- it keeps its answer when pairs are gained
+-- it keeps its answer as pairs come in
 abbrev pub GivesForEver : Type 0
 GivesForEver = (t : Tree) (p q : Pairs) (a : Answer) → Gains p q → gives t p a → gives t q a
 
--- it gives an answer exactly where it waits for no key
+-- it gives an answer exactly if it waits for no key
 abbrev pub GivesOrWaits : Type 0
 GivesOrWaits = (t : Tree) (p : Pairs) → ((a : Answer) × gives t p a) ↔ (frontier t p ≡ [])
 
--- after r rounds, of which each gains the whole frontier, each part of depth at most r gives an answer
+-- after r rounds that each gain the whole frontier, each part of depth at most r gives an answer
 abbrev pub GivesByDepth : Type 0
 GivesByDepth = (t s : Tree) (r : ℕ) (p q : Pairs) → GainsFrontier t r p q → PartOf s t → depth_of s ≤ r → (a : Answer) × gives s q a
 
--- what is computed is what the rules give
+-- the definitions compute what the rules give
 abbrev pub GivesByRules : Type 0
 GivesByRules = (t : Tree) (p : Pairs) (a : Answer) → Gives p t a ↔ gives t p a
 
@@ -33,7 +33,7 @@ GivesByRules = (t : Tree) (p : Pairs) (a : Answer) → Gives p t a ↔ gives t p
 abbrev pub WaitsForUnknown : Type 0
 WaitsForUnknown = (t : Tree) (p : Pairs) → All (λ k. outcome_in p k ≡ None) (frontier t p)
 
--- and each of them stands there once
+-- and each of them is there once
 abbrev pub WaitsOnce : Type 0
 WaitsOnce = (t : Tree) (p : Pairs) → IsDistinct key_eq (frontier t p)
 

@@ -1,5 +1,5 @@
--- What a term gives, and which keys it waits for, where some keys have their outcomes (Haxl: a
--- computation is `Done` with an answer or `Blocked` on its fetches).
+-- What a term gives, and which keys it waits for, if some keys have their outcomes (Haxl: a computation is `Done` with
+-- an answer or `Blocked` on its fetches).
 use Rattle.std.specs.Prelude.{◌≡◌, ℕ, List, [], ◌∷◌, ◌++◌, filter, not, length, Bool, ◌&&◌, nat_le, nat_lt, Option, Some, None, option_map, option_and_then}
 use Rattle.std.specs.Prelude.{if◌then◌else◌}
 use Rattle.serde_json.specs.Data.{Data, array, Items, no_items, item}
@@ -13,7 +13,7 @@ use Rattle.dl_terms.specs.declared.answer.EvalFault.{EvalFault}
 use Rattle.dl_terms.specs.declared.answer.EvalFault.TheVariants as why
 use Rattle.dl_terms.specs.Tree.{Name, Tree, ended, load, pick, follow, each, all, Trees, no_trees, tree}
 
--- pairs of a key and its outcome; of two pairs of one key the first counts
+-- pairs of a key and its outcome; of two pairs with the same key the first counts
 abbrev pub Pairs : Type 0
 Pairs = List (Key × Outcome)
 
@@ -44,7 +44,7 @@ pub data Target : Type 0 where
   key : Key → Target
   none : EvalFault → Target
 
--- the texts have the lengths of a key's
+-- both texts have a length that a key allows
 abbrev pub is_key : Name → Name → Bool
 is_key table id = nat_le 1 (length table) && nat_le (length table) table_bytes && nat_le 1 (length id) && nat_le (length id) id_bytes
 
@@ -123,7 +123,7 @@ abbrev pub waits_after : Option Answer → (Answer → List Key) → List Key
 waits_after None next = []
 waits_after (Some a) next = next a
 
--- ---- what a term answers, where `known` says the outcome of each key that has one
+-- ---- what a term answers, if `known` gives the outcome of each key that has one
 
 module _ (known : Key → Option Outcome) where
   abbrev pub load_answer : Key → Option Answer
@@ -154,7 +154,7 @@ module _ (known : Key → Option Outcome) where
     answers no_trees = Some []
     answers (tree t ts) = both (answer t) (answers ts)
 
-  -- ---- the keys of the loads that wait, left to right, as often as they stand there
+  -- ---- the keys of the loads that wait, left to right, each as often as a load of it waits
 
   abbrev pub load_waits : Key → List Key
   load_waits k = load_waits_for k (known k)

@@ -34,7 +34,7 @@ abbrev mutual
   depth_of_all no_trees = 0
   depth_of_all (tree t ts) = max (depth_of t) (depth_of_all ts)
 
--- how many forms stand in one another at most
+-- how many forms are inside one another at most
 abbrev mutual
   pub height_of : Tree → ℕ
   height_of (ended a) = 1

@@ -1,4 +1,4 @@
--- The tree that a `Term` stands for.
+-- The tree that contracts see of a `Term`.
 use Rattle.std.specs.Prelude.{List, [], ◌∷◌, map}
 use Rattle.dl_terms.specs.Tree.{Tree, ended, load, pick, follow, each, all, Trees, no_trees, tree}
 use Rattle.dl_terms.specs.declared.answer.Answer.TheVariants as answer

@@ -1,29 +1,29 @@
-//! What the evaluation of a term ends with.
+//! What a term ends with.
 
 use crate::answer_value::AnswerValue;
 use dl_values::{BatchFault, FetchKey, Message};
 
-/// What the evaluation of a term ends with.
+/// What a term ends with: a value, or a fault that says why it has none.
 #[derive(Debug, Drop)]
 pub enum Answer {
     /// The value.
     Value(AnswerValue),
-    /// Why there is none. Of several parts that failed it is the leftmost one's.
+    /// Why there is no value. If several parts failed, it is the fault of the leftmost.
     Fault(EvalFault),
 }
 
 /// Why a term has no value.
 #[derive(Debug, Drop)]
 pub enum EvalFault {
-    /// The key's outcome was an error, of this text.
+    /// The key's outcome is an error, with this text.
     Key { key: FetchKey, text: Message },
-    /// The batch that the key was loaded in failed.
+    /// The batch in which the key was loaded failed.
     Batch { key: FetchKey, fault: BatchFault },
-    /// The value is no object, or has no member of this name.
+    /// The value isn't an object, or has no member of this name.
     NoField,
-    /// A value that was to be an id is no text of 1 to 256 bytes.
+    /// A value in the place of an id isn't a text of 1 to 256 bytes.
     NotAKey,
-    /// A value that was to be a list of ids is no list.
+    /// A value in the place of a list of ids isn't a list.
     NotAList,
     /// A list of ids has more than 1,024 items.
     TooMany,

@@ -13,14 +13,14 @@ use std::fmt;
 use std::fmt::Write;
 use std::marker::Model;
 
-/// A value that an answer gives: a row, a part of one, or the list of what several parts gave. The rows in it are shared, and their
-/// numbers are whole. Contracts see its tree.
+/// A value that an answer gives: a row, a part of one, or the list of what several parts gave. It shares its rows, and
+/// its numbers are whole. Contracts see its tree.
 #[cycle(answer_value)]
 pub struct AnswerValue {
     shape: Shape,
 }
 
-/// What a value is made of.
+/// What a value consists of.
 #[cycle(answer_value)]
 enum Shape {
     /// A row, or a part of one.
@@ -67,7 +67,7 @@ impl Model for AnswerValue {
 }
 
 impl AnswerValue {
-    /// The value that a row is, shared.
+    /// The value of a row, which it shares.
     pub fn row(row: Json) -> AnswerValue
         ensures { result ≡ row }
     {
@@ -76,7 +76,7 @@ impl AnswerValue {
         }
     }
 
-    /// The list of values.
+    /// The list of these values.
     pub fn list(values: Vec<AnswerValue>) -> AnswerValue
         ensures { result ≡ array (items_of values.items) }
     {
@@ -85,7 +85,7 @@ impl AnswerValue {
         }
     }
 
-    /// The member of this name, if the value is an object that has one.
+    /// The member of this name, if the value is an object that has one. A list has none.
     pub fn get(&self, name: &str) -> Option<&Value>
         ensures member { option_map (λ v. view v.now) result ≡ get name.now self.now }
         ensures whole { IfSome result (λ v. has_float (view v.now) ≡ false) }
@@ -104,7 +104,10 @@ impl AnswerValue {
         }
     }
 
-    /// The same value as one JSON value, which shares a row and copies what stands in lists. The error is a failed allocation.
+    /// The same value as one JSON value. It shares a row, and copies what is in a list.
+    ///
+    /// # Errors
+    /// `AllocError` if memory runs out, or if a reference count would overflow.
     pub fn to_json(&self, alloc: Global) -> Result<Json, AllocError>
         ensures { IfOk result (λ j. j ≡ self.now) }
     {
@@ -114,7 +117,10 @@ impl AnswerValue {
         }
     }
 
-    /// The value's text without spaces, its members in the order of their names. The error is a failed allocation.
+    /// The value as compact JSON: no spaces, and the members of an object in the order of their names.
+    ///
+    /// # Errors
+    /// `AllocError` if memory runs out.
     pub fn to_text(&self, alloc: Global) -> Result<String, AllocError>
         ensures { IfOk result (λ s. string_bytes s ≡ compact_text self.now) }
     {
@@ -161,7 +167,7 @@ fn push_list(alloc: Global, values: &Vec<AnswerValue>, text: &mut String) -> Res
     Ok(())
 }
 
-/// Appends the text of a list of primitives. They are copied into one value, since a text for each takes longer.
+/// Appends the text of a list of primitives. It copies them into one value, since a text for each takes longer.
 fn push_primitives(
     alloc: Global,
     values: &Vec<AnswerValue>,

@@ -1,4 +1,4 @@
-//! The keys that a run of a term has asked for.
+//! The keys that a run of a term asks for.
 
 ghost use Rattle.std.specs.Prelude.{◌≤◌, length};
 
@@ -7,8 +7,9 @@ use indexmap::IndexSet;
 use std::alloc::{AllocError, Global};
 use std::hash::RandomState;
 
-/// The keys that a run of a term has asked for, in the order in which it first did. The first of them have outcomes, which are
-/// lent from where they stand. The others are wanted.
+/// The keys that a run of a term has asked for, each once, in the order in which it first asked. The first of them have
+/// outcomes, which this value borrows. It *wants* the others: load them, and hand in their outcomes by
+/// [`learn`](Asked::learn).
 pub struct Asked<'l> {
     keys: IndexSet<FetchKey, RandomState>,
     // Those of the first keys.
@@ -23,7 +24,7 @@ impl<'l> Asked<'l> {
     ghost use Rattle.dl_terms.specs.TermAnswers.{load_waits};
     ghost use Rattle.dl_terms.specs.Asked.{LearnsFirst, known_of, pairs_of, wanted_of};
 
-    /// No keys yet. They will be hashed by `hashing`, of which nothing is seen.
+    /// No keys yet. `hashing` will hash them, and nothing that you see depends on it.
     pub fn new(alloc: Global, hashing: RandomState) -> Asked<'l>
         ensures pairs { pairs_of result ≡ [] }
         ensures wanted { wanted_of result ≡ [] }
@@ -34,14 +35,17 @@ impl<'l> Asked<'l> {
         }
     }
 
-    /// The keys without an outcome, in order.
+    /// The keys without an outcome, in the order in which to hand these in.
     pub fn wanted(&self) -> &[FetchKey]
         ensures { result.now ≡ wanted_of self.now }
     {
         &self.keys.as_slice()[self.outcomes.len()..]
     }
 
-    /// Takes the outcome of the first wanted key. The error is a failed allocation.
+    /// Hands in the outcome of the first wanted key. There must be one.
+    ///
+    /// # Errors
+    /// `AllocError` if memory runs out.
     pub fn learn(&mut self, outcome: &'l Outcome) -> Result<(), AllocError>
         requires { wanted_of self.old ≢ [] }
         ensures { OnOk result (LearnsFirst self.old self.new outcome.now) }
@@ -50,7 +54,8 @@ impl<'l> Asked<'l> {
         Ok(())
     }
 
-    /// Asks for a key: its place, and its outcome, if it has one. A key without one is wanted from then on.
+    /// Asks for a key. You get its place and, if it has one, its outcome. A key without an outcome is wanted from then
+    /// on.
     pub(crate) fn ask(&mut self, key: &FetchKey) -> Result<(usize, Option<&'l Outcome>), AllocError>
         ensures outcome { IfOk result (λ r. option_map (λ o. o.now) r.1 ≡ known_of self.old key.now) }
         ensures wanted { OnOk result (wanted_of self.new
@@ -61,7 +66,7 @@ impl<'l> Asked<'l> {
         Ok((place, self.outcomes.get(place).copied()))
     }
 
-    /// The outcome of a key, if it has one and was asked for in this place. No hash is taken.
+    /// The outcome of a key, if it has one and this is its place. It takes no hash.
     pub(crate) fn outcome_at(&self, place: usize, key: &FetchKey) -> Option<&'l Outcome>
         ensures { IfSome result (λ o. known_of self.now key.now ≡ Some o.now) }
     {

@@ -26,12 +26,12 @@ use std::mem;
 /// The most items of a list of ids.
 const MOST_ITEMS: usize = 1_024;
 
-/// A round: takes the node as far as the known outcomes reach, in place, and asks for each key that
-/// it then waits for, left to right. The node has ended exactly if it waits for none. A run of a term
-/// calls it once all the keys that it wanted before have outcomes.
+/// One round: takes the node as far as the known outcomes reach, in place, and asks for each key that it then waits
+/// for, left to right. The node has ended exactly if it waits for none. Between two rounds, hand in the outcomes of all
+/// the keys that it wants.
 ///
 /// # Errors
-/// A failed allocation, which leaves a node that is of no more use.
+/// `AllocError` if memory runs out. The node is then of no more use.
 #[cycle(exploring)]
 pub fn explore(alloc: Global, node: &mut Node, asked: &mut Asked<'_>) -> Result<(), AllocError>
     ensures reduces { OnOk result (Reduces (known_of asked.old) (node_view node.old) (node_view node.new)) }
@@ -46,8 +46,8 @@ pub fn explore(alloc: Global, node: &mut Node, asked: &mut Asked<'_>) -> Result<
     Ok(())
 }
 
-/// A round of the node in its place, and what it becomes, where it becomes another. In this case what is left in the place
-/// is of no use.
+/// A round of the node in its place. If it becomes another node, you get that one, and what is left in the place is of
+/// no use.
 #[cycle(exploring)]
 fn explore_inside(
     alloc: Global,
@@ -67,7 +67,7 @@ fn explore_inside(
     }
 }
 
-/// A round of a part in frames. Without frames they become the part.
+/// A round of a part in frames. Once no frame is left, the node becomes the part.
 #[cycle(exploring)]
 fn explore_chain(
     alloc: Global,
@@ -88,7 +88,7 @@ fn explore_chain(
     Ok(None)
 }
 
-/// Explores a part, and takes its answer out through the frames, until there is something to wait for or no frame is left.
+/// Explores a part, and takes its answer out through the frames, until it has to wait or no frame is left.
 #[cycle(exploring)]
 fn climb(
     alloc: Global,
@@ -152,7 +152,7 @@ fn explore_all(
     Ok(())
 }
 
-/// What comes of the answer of a part in a frame.
+/// What comes of a part's answer in a frame.
 fn go_on(
     alloc: Global,
     frame: Frame,
@@ -187,7 +187,7 @@ fn pick_value(alloc: Global, value: &AnswerValue, field: &Text) -> Result<Answer
     }
 }
 
-/// The load of the id that the field of a value is.
+/// The load of the id in the field of a value.
 fn follow(
     alloc: Global,
     value: &AnswerValue,
@@ -252,7 +252,7 @@ fn load_list(
     }
 }
 
-/// Parts that were explored together: what they answer, if all have ended.
+/// What parts answer together after a round of each, if all have ended.
 fn gather(alloc: Global, parts: Vec<Node>) -> Result<Node, AllocError>
     ensures { IfOk result (λ n. GathersOn (nodes_view parts.items) (node_view n)) }
 {
@@ -270,7 +270,7 @@ fn have_ended(parts: &[Node]) -> bool
     parts.iter().all(|part| part.has_ended())
 }
 
-/// What parts that have ended answer together.
+/// What parts answer together once all have ended.
 fn answer_all(alloc: Global, parts: Vec<Node>) -> Result<Answer, AllocError>
     requires { IsSome (results_of (nodes_view parts.items)) }
     ensures { IfOk result (λ a. option_map gathered (results_of (nodes_view parts.items)) ≡ Some a) }

@@ -1,5 +1,4 @@
-//! Laws of what terms give, for every term and all outcomes. Each function does nothing: its
-//! contract is the law.
+//! Laws of what terms give, for every term and all outcomes. Each function does nothing: its contract is the law.
 
 ghost use Rattle.dl_terms.specs.Laws.{GivesOnce, GivesForEver, GivesOrWaits, GivesByDepth, GivesByRules, WaitsForUnknown, WaitsOnce, WantsFrontier};
 
@@ -8,23 +7,23 @@ pub fn gives_once()
     ensures { GivesOnce }
 {}
 
-/// A term keeps its answer when more keys have their outcomes.
+/// A term keeps its answer as more keys get their outcomes.
 pub fn gives_for_ever()
     ensures { GivesForEver }
 {}
 
-/// A term gives an answer exactly where it waits for no key.
+/// A term gives an answer exactly if it waits for no key.
 pub fn gives_or_waits()
     ensures { GivesOrWaits }
 {}
 
-/// When the outcomes of all keys that the term waits for were gained so many times, each of its
-/// parts that is at most so deep gives an answer.
+/// After r rounds that each bring the outcomes of all keys that the term waits for, each of its parts of depth at most
+/// r gives an answer.
 pub fn gives_by_depth()
     ensures { GivesByDepth }
 {}
 
-/// What is computed of a term is what the rules of its forms give.
+/// The answer that the definitions compute is the one that the rules of a term's forms give.
 pub fn gives_by_rules()
     ensures { GivesByRules }
 {}
@@ -39,7 +38,7 @@ pub fn waits_once()
     ensures { WaitsOnce }
 {}
 
-/// A round that begins with no wanted keys leaves exactly those that the term waits for, in order.
+/// A round that begins with no wanted keys leaves exactly the keys that the term waits for, in order.
 pub fn wants_frontier()
     ensures { WantsFrontier }
 {}

@@ -1,9 +1,10 @@
-//! Fetch terms and their evaluator (Haxl): what a term answers from the outcomes known so far, and
-//! which keys it waits for.
+//! Fetch terms and their evaluator, as in Haxl: what a term answers from the outcomes that you have, and which keys it
+//! waits for.
 //!
-//! A [`Term`] says what to load and how to go on from it. [`unexplored`] makes it into a [`Node`], and
-//! [`explore`] rewrites that in place, once for each round of loads, until it is the term's
-//! [`Answer`]. The crate loads nothing itself: the runs above it hand in what they have loaded.
+//! A [`Term`] says what to load and how to go on from it. You make it into a [`Node`] by [`unexplored`] and call
+//! [`explore`] once for each round of loads. That rewrites the node in place, until it is the term's [`Answer`]. The
+//! crate loads nothing itself: between two rounds you load the keys of [`Asked::wanted`], and hand in their outcomes by
+//! [`Asked::learn`].
 #![tactic(auto)]
 
 mod answer;

@@ -1,4 +1,4 @@
-//! What is left of a term while its keys are loaded.
+//! What is left of a term while you load its keys.
 
 ghost use Rattle.std.specs.Prelude.{◌≡◌, None, IfOk, is_some};
 ghost use Rattle.dl_terms.specs.View.{term_view, terms_view};
@@ -11,36 +11,36 @@ use dl_values::{FetchKey, Text};
 use std::alloc::{AllocError, Global};
 use std::mem;
 
-/// What is left of a term, with the answers of the parts that have ended. A run of a term holds one,
-/// made by [`unexplored`] and rewritten in place by [`explore`](crate::explore), once a round.
+/// What is left of a term, with the answers of the parts that have ended. [`unexplored`] makes one, and
+/// [`explore`](crate::explore) rewrites it in place, once a round.
 #[derive(Drop)]
 pub enum Node {
     /// It has ended.
     Done(Answer),
-    /// The load of a key, and the place of the key among those that were asked for, where it was.
+    /// The load of a key, and its place among the keys that the run asked for, if it did.
     Load { key: FetchKey, place: usize },
-    /// What is made of the part's answer, frame by frame. The last frame is the innermost.
+    /// What the frames make of the part's answer, one after the other. The last frame is the innermost.
     Chain { part: Box<Node>, frames: Vec<Frame> },
     /// What the parts answer together.
     All(Vec<Node>),
 }
 
-/// What is made of the answer of a part.
+/// What to make of the answer of a part.
 #[derive(Drop)]
 pub enum Frame {
     /// Its field.
     Pick { field: Text },
-    /// The load of the id that its field is.
+    /// The load of the id in its field.
     Follow { field: Text, table: Text },
     /// The loads of the ids that its field lists.
     Each { field: Text, table: Text },
 }
 
-/// Stands in a node's place while the node is rewritten.
+/// Fills a node's place while the node changes.
 pub(crate) const HOLLOW: Node = Node::Done(Answer::Fault(EvalFault::NoField));
 
 impl Node {
-    /// The answer, moved out, of a node that has ended. Another node stays as it is.
+    /// Moves the answer out of a node that has ended. Returns `None` if it hasn't, and then changes nothing.
     pub fn take_answer(&mut self) -> Option<Answer>
         ensures answer { result ≡ result_of (node_view self.old) }
         ensures kept { result ≡ None → self.new ≡ self.old }
@@ -52,7 +52,7 @@ impl Node {
         }
     }
 
-    /// The answer of a node that has ended.
+    /// The answer, if the node has ended.
     pub fn into_answer(self) -> Option<Answer>
         ensures { result ≡ result_of (node_view self) }
     {
@@ -69,7 +69,7 @@ impl Node {
         }
     }
 
-    /// Whether it has ended.
+    /// Whether the node has ended, so that it is an answer.
     pub fn has_ended(&self) -> bool
         ensures { result ≡ is_some (result_of (node_view self.now)) }
     {
@@ -81,8 +81,10 @@ impl Node {
     }
 }
 
-/// The node of a term of which nothing was explored yet. A run calls it when it is made. The error
-/// is a failed allocation.
+/// The node of a term before its first round.
+///
+/// # Errors
+/// `AllocError` if memory runs out.
 #[cycle(making)]
 pub fn unexplored(alloc: Global, term: Term) -> Result<Node, AllocError>
     ensures { IfOk result (λ n. node_view n ≡ term_view term) }
@@ -109,7 +111,7 @@ pub fn unexplored(alloc: Global, term: Term) -> Result<Node, AllocError>
     }
 }
 
-/// The node of a part in frames.
+/// A part, put into frames.
 fn in_frames(alloc: Global, part: Node, frames: Vec<Frame>) -> Result<Node, AllocError>
     ensures { IfOk result (λ n. node_view n ≡ framed frames.items (node_view part)) }
 {

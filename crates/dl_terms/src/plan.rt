@@ -5,7 +5,7 @@ ghost use Rattle.std.specs.Prelude.{◌≡◌};
 use crate::term::Term;
 use dl_values::{FetchKey, Outcome};
 
-/// The most plans that are served at once.
+/// The most plans that you can serve at once.
 pub const MOST_PLANS: usize = 16;
 
 /// One step of a plan.
@@ -36,7 +36,7 @@ impl Drop for Plan {
 }
 
 impl Plan {
-    /// The steps, taken out of the plan.
+    /// The steps, moved out of the plan.
     pub fn into_steps(self) -> Vec<Step>
         ensures { result ≡ self.steps }
     {

@@ -34,7 +34,7 @@ fn loaded(key: &FetchKey, outcome: &Outcome) -> Result<Answer, AllocError>
     }
 }
 
-/// The load of a key: its answer, if the key has an outcome. Else the key is wanted.
+/// The load of a key: its answer, if the key has an outcome. Else the run wants the key.
 fn load(key: FetchKey, asked: &mut Asked<'_>) -> Result<Node, AllocError>
     ensures stands { IfOk result (λ n. LoadsTarget (known_of asked.old) (Target.key key) (node_view n)) }
     ensures wanted { OnOk result (wanted_of asked.new
@@ -48,7 +48,7 @@ fn load(key: FetchKey, asked: &mut Asked<'_>) -> Result<Node, AllocError>
     }
 }
 
-/// The load of a key that was asked for in this place, or of one that wasn't asked for yet.
+/// The load of a key that has this place among those asked for, or that the run hasn't asked for yet.
 pub(crate) fn load_again(
     key: &FetchKey,
     place: usize,
@@ -65,7 +65,7 @@ pub(crate) fn load_again(
     }
 }
 
-/// The key that a value names in a table, if it is an id.
+/// The key that a value names in a table, if the value is an id.
 fn key_in(alloc: Global, table: &Text, id: &Value) -> Result<Option<FetchKey>, AllocError>
     ensures { IfOk result (λ k. target_of k ≡ value_target table.now (view id.now)) }
 {
@@ -84,7 +84,7 @@ fn key_in(alloc: Global, table: &Text, id: &Value) -> Result<Option<FetchKey>, A
     }
 }
 
-/// The load of the id that a value is in a table.
+/// The load of a value as an id of a table.
 pub(crate) fn load_id(
     alloc: Global,
     table: &Text,
@@ -103,7 +103,7 @@ pub(crate) fn load_id(
     }
 }
 
-/// The loads of the ids that values are in a table.
+/// The loads of values as ids of a table.
 pub(crate) fn load_ids(
     alloc: Global,
     table: &Text,

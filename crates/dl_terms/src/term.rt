@@ -6,18 +6,12 @@ ghost use Rattle.dl_terms.specs.View.{term_view};
 
 use dl_values::{FetchKey, Json, Text};
 
-/// What to load, and how to go on from what was loaded (Haxl: a computation of `Done` and
-/// `Blocked`).
-///
-/// The text of a `table` has 1 to 64 bytes.
-///
-/// What counts a term's depth and height recurses as deep as the term is high, and so does dropping one. Making its node
-/// and exploring that recurse as deep as its lists stand in one another. A term is as high as its maker wants. With 8 MiB
-/// of stack and an unoptimised build, counting the depth and height of a chain of picks held at a height of 7,000. Whoever
-/// takes terms from strangers bounds their height.
+/// What to load, and how to go on from what you get (Haxl: a computation of `Done` and `Blocked`). Give each `table` 1
+/// to 64 bytes: with any other length its loads give `NotAKey`.
 ///
 /// # Examples
-/// The domain that another one lies in, from `crates/example_own_source`: it is loaded, and then the one that its field `parent` names.
+/// The domain in which another one lies, from `crates/example_own_source`: it loads the domain, and then the one that
+/// its field `parent` names.
 ///
 /// ```rust
 /// let domain = Term::Load(FetchKey::new(alloc, "domain", id)?);
@@ -27,6 +21,12 @@ use dl_values::{FetchKey, Json, Text};
 ///     table: Text::new(alloc, "domain")?,
 /// };
 /// ```
+///
+/// # Stack
+/// `depth`, `height` and dropping a term recurse as deep as the term is high. [`unexplored`](crate::unexplored) and
+/// [`explore`](crate::explore) recurse as deep as its lists lie inside one another. Nothing bounds a term: if strangers
+/// send you terms, bound their height. With 8 MiB of stack and an unoptimised build, `depth` and `height` had room for
+/// a chain of picks of height 7,000.
 #[derive(Debug, Drop)]
 pub enum Term {
     /// A value.
@@ -38,14 +38,13 @@ pub enum Term {
         part: Box<Term>,
         field: Text,
     },
-    /// What the load of an id gives: the field of the part's value is the id, in the table.
+    /// What you get if you load, from the table, the id in the field of the part's value.
     Follow {
         part: Box<Term>,
         field: Text,
         table: Text,
     },
-    /// The list of what the loads of ids give: the field of the part's value is the list of the ids,
-    /// in the table. It has at most 1,024 items.
+    /// What you get if you load, from the table, each of the ids, at most 1,024, in the field of the part's value.
     Each {
         part: Box<Term>,
         field: Text,
@@ -56,7 +55,7 @@ pub enum Term {
 }
 
 impl Term {
-    /// The most rounds of loads that the term takes, or the greatest `u32` where they are more.
+    /// The most rounds of loads that the term takes, or `u32::MAX` if they are more.
     pub fn depth(&self) -> u32
         ensures { result ≡ min (depth_of (term_view self.now)) (2 ^ 32 - 1) }
     {
@@ -75,7 +74,7 @@ impl Term {
         }
     }
 
-    /// How high the term is as a tree, or the greatest `u32` where it is higher.
+    /// How high the term is as a tree, or `u32::MAX` if it is higher. A value and a load have height 1.
     pub fn height(&self) -> u32
         ensures { result ≡ min (height_of (term_view self.now)) (2 ^ 32 - 1) }
     {

@@ -14,13 +14,13 @@ table_bytes = 64
 abbrev pub id_bytes : ℕ
 id_bytes = 256
 
--- the texts have the lengths of a key's
+-- both texts have a length that a key allows
 pub record IsKey (k : Key) : Type 0 where
   pub some_table : 1 ≤ length k.table
   pub short_table : length k.table ≤ table_bytes
   pub some_id : 1 ≤ length k.id
   pub short_id : length k.id ≤ id_bytes
 
--- two keys are one: their tables are, and their ids are
+-- two keys are equal if their tables are, and their ids are
 abbrev pub key_eq : Key → Key → Bool
 key_eq a b = bytes_eq a.table b.table && bytes_eq a.id b.id

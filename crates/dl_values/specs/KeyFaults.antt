@@ -1,4 +1,4 @@
--- When a pair of texts is refused as a key.
+-- Which fault you get instead of a key.
 use Rattle.std.specs.Prelude.{◌≡◌, ℕ, ◌<◌, ◌≤◌, List, length}
 use Rattle.dl_values.specs.Key.{IsKey, table_bytes, id_bytes}
 use Rattle.dl_values.specs.declared.fault.KeyFault.{KeyFault}

@@ -7,10 +7,10 @@ use Rattle.dl_values.specs.Key.{Key}
 use Rattle.dl_values.specs.Inside.KeyText.{marked}
 use Rattle.dl_values.specs.Inside.HashedText.{hashed}
 
--- keys are ordered by table, and keys of one table by id, each by its bytes
+-- keys go by table, and keys of one table by id, byte by byte
 abbrev pub key_cmp : Key → Key → Ordering
 key_cmp = then_cmp (on (λ k. k.table) (slice_cmp nat_cmp)) (on (λ k. k.id) (slice_cmp nat_cmp))
 
--- a hash reads both texts as one, and before them how many bytes the table has
+-- a hash reads the number of bytes of the table, and then both texts, as one text
 abbrev pub key_input : Key → List (List ℕ)
 key_input k = hashed (marked k) ∷ []

@@ -8,12 +8,12 @@ pub record AreTexts (first second : List ℕ) : Type 0 where
   pub first_is : IsUtf8 first
   pub second_is : IsUtf8 second
 
--- two texts of UTF-8 with the lengths of a key's
+-- two texts of UTF-8, with lengths that a key allows
 pub record IsKeyText (k : Key) : Type 0 where
   pub table : IsUtf8 k.table
   pub id : IsUtf8 k.id
   pub lengths : IsKey k
 
--- the most bytes of a text that stands in its own value
+-- the most bytes of a short text
 abbrev pub short_bytes : ℕ
 short_bytes = 39

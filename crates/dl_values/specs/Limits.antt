@@ -1,10 +1,10 @@
--- The limits of a loader, and how its batches are made.
+-- The limits of a loader, and how it makes its batches.
 use Rattle.std.specs.Prelude.{◌≡◌, ℕ, ◌<◌, ◌≤◌, ◌⊎◌, List, Option, Some, None, unwrap_or, bytes_eq}
 use Rattle.std.specs.Map.{lookup}
 use Rattle.dl_values.specs.declared.fault.LimitFault.{LimitFault}
 use Rattle.dl_values.specs.declared.fault.LimitFault.TheVariants.{BatchLimit, CellLimit, CallLimit}
 
--- the limits of a loader: the most members of a batch, the most cells and the most calls
+-- the limits of a loader: the most keys of a batch, the most cells and the most calls
 pub record Limits : Type 0 where
   pub max_batch : ℕ
   pub max_cells : ℕ
@@ -19,7 +19,7 @@ pub record IsLimit (n : ℕ) : Type 0 where
   pub least : 1 ≤ n
   pub most : n ≤ largest_limit
 
--- a number that no limit may be
+-- a number that can't be a limit
 abbrev pub IsNoLimit : ℕ → Type 0
 IsNoLimit n = (n ≡ 0) ⊎ (largest_limit < n)
 
@@ -29,14 +29,14 @@ pub record AreLimits (l : Limits) : Type 0 where
   pub cells : IsLimit l.max_cells
   pub calls : IsLimit l.max_calls
 
--- the fault names the first of three numbers that is no limit
+-- the fault names the first of the three numbers that can't be a limit
 abbrev pub RefusedAs : ℕ → ℕ → ℕ → LimitFault → Type 0
 RefusedAs batch cells calls BatchLimit = IsNoLimit batch
 RefusedAs batch cells calls CellLimit = IsLimit batch × IsNoLimit cells
 RefusedAs batch cells calls CallLimit = IsLimit batch × IsLimit cells × IsNoLimit calls
 
--- How a loader makes its batches: its limits and, where each batch is of one table, the tables that
--- have a limit of their own. With none of these a batch may mix tables.
+-- How a loader makes its batches. Without `tables` a batch may mix tables. With them each batch is of one table, and
+-- they are those that have a limit of their own.
 pub record Rules : Type 0 where
   pub limits : Limits
   pub tables : Option (List (List ℕ × ℕ))
@@ -49,7 +49,7 @@ mixed limits = record { limits = limits; tables = None }
 abbrev pub by_table : Limits → List (List ℕ × ℕ) → Rules
 by_table limits tables = record { limits = limits; tables = Some tables }
 
--- batches may mix tables or, where tables may have limits of their own, are each of one table
+-- batches may mix tables or, if you give tables with limits of their own, are each of one table
 abbrev pub rules_by : Limits → Option (List (List ℕ × ℕ)) → Rules
 rules_by limits tables = record { limits = limits; tables = tables }
 
@@ -57,6 +57,6 @@ abbrev pub limit_by : ℕ → Option (List (List ℕ × ℕ)) → List ℕ → �
 limit_by max_batch None table = max_batch
 limit_by max_batch (Some ts) table = unwrap_or (lookup (bytes_eq table) ts) max_batch
 
--- the most members of a batch with keys of the table (DataLoader: maxBatchSize)
+-- the most keys of a batch, if they are of the table (DataLoader: maxBatchSize)
 abbrev pub limit_of : Rules → List ℕ → ℕ
 limit_of rules table = limit_by rules.limits.max_batch rules.tables table

@@ -1,4 +1,4 @@
--- Limits of tables of their own, and when a list of such is refused.
+-- Limits that tables have of their own, and which lists of them a loader doesn't take.
 use Rattle.std.specs.Prelude.{◌≡◌, ℕ, List, [], ◌∷◌, map, length, Bool, false, not, ◌||◌, ◌&&◌, Option, Some, None, if◌then◌else◌}
 use Rattle.std.specs.Prelude.{bytes_eq, nat_eq, nat_lt, nat_le, String, string_bytes}
 use Rattle.std.specs.List.{list_any}
@@ -14,11 +14,11 @@ use Rattle.dl_values.specs.declared.table_limits.TableLimit.{TableLimit}
 abbrev pub named : {X : Type 0} → List (String Global × X) → List (List ℕ × X)
 named es = map (λ e. (string_bytes e.0, e.1)) es
 
--- the name stands in the list
+-- the list has the name
 abbrev pub lists : {X : Type 0} → List ℕ → List (List ℕ × X) → Bool
 lists name es = list_any (λ e. bytes_eq name e.0) es
 
--- some name stands twice
+-- the list has a name twice
 abbrev pub repeats : {X : Type 0} → List (List ℕ × X) → Bool
 repeats [] = false
 repeats (e ∷ es) = lists e.0 es || repeats es

@@ -1,16 +1,16 @@
-//! What a source is handed.
+//! What a source gets to fetch.
 
 ghost use Rattle.std.specs.Prelude.{◌≡◌, IfOk};
 
 use crate::key::Keys;
 use std::alloc::AllocError;
 
-/// A batch that was sent: the keys to fetch, in order.
+/// A batch that went out: what a source has to fetch.
 #[derive(Debug)]
 pub struct Job {
     /// The batch's number.
     pub batch: u32,
-    /// Its members' keys.
+    /// The batch's keys, in order.
     pub keys: Keys,
 }
 
@@ -22,7 +22,10 @@ impl Drop for Job {
 }
 
 impl Job {
-    /// An equal job, which shares the keys. The error is that the reference count would overflow.
+    /// An equal job, which shares the keys.
+    ///
+    /// # Errors
+    /// `AllocError` if the reference count would overflow.
     pub fn try_copy(&self) -> Result<Job, AllocError>
         ensures { IfOk result (λ j. j ≡ self.now) }
     {

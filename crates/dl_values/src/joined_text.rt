@@ -1,4 +1,4 @@
-//! Two texts as one, which stands in its own value where it is short.
+//! Two texts joined into one, which takes no memory of its own if it is short.
 
 ghost use Rattle.std.specs.Prelude.{◌≡◌};
 ghost use Rattle.std.specs.Str.{bytes_eq};
@@ -41,7 +41,7 @@ impl JoinedText {
         }
     }
 
-    /// Whether the texts are the same, wherever they stand.
+    /// Whether the texts are the same, short or long.
     #[cold]
     fn is_same(&self, other: &JoinedText) -> bool
         ensures { result ≡ bytes_eq (bytes_of self.now) (bytes_of other.now) }
@@ -50,7 +50,7 @@ impl JoinedText {
     }
 }
 
-/// Two short texts are compared by their blocks.
+/// Compares two short texts by their blocks.
 impl PartialEq for JoinedText {
     ghost eq = { λ a b. bytes_eq (bytes_of a) (bytes_of b) };
 

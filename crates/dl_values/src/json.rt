@@ -10,8 +10,8 @@ use std::fmt;
 use std::marker::Model;
 use std::sync::Arc;
 
-/// A JSON value all of whose numbers are whole, as an `i64` or a `u64` is. A copy shares the value
-/// and costs one atomic step. Contracts see its tree.
+/// A JSON value whose numbers are all whole, so that an `i64` or a `u64` holds each. A copy shares the value and costs
+/// one atomic step. Contracts see its tree.
 pub struct Json {
     value: Arc<Value>,
 }
@@ -42,8 +42,10 @@ impl Model for Json {
 }
 
 impl Json {
-    /// The value, whose numbers are whole: [`has_float`] tells whether they are. The error is a failed
-    /// allocation.
+    /// Takes a value without floats: ask [`has_float`] first.
+    ///
+    /// # Errors
+    /// `AllocError` if memory runs out.
     pub fn new(alloc: Global, value: Value) -> Result<Json, AllocError>
         requires { has_float (view value) ≡ false }
         ensures { IfOk result (λ j. j ≡ view value) }
@@ -60,7 +62,10 @@ impl Json {
         &self.value
     }
 
-    /// The value, which is copied where others share it. The error is a failed allocation.
+    /// The value itself, moved out. If others share it, you get a copy.
+    ///
+    /// # Errors
+    /// `AllocError` if memory runs out.
     pub fn into_value(self) -> Result<Value, AllocError>
         ensures { IfOk result (λ v. view v ≡ self) }
     {
@@ -68,7 +73,10 @@ impl Json {
         Arc::unwrap_or_clone(value)
     }
 
-    /// The same value, shared. The error is that the reference count would overflow.
+    /// The same value, shared.
+    ///
+    /// # Errors
+    /// `AllocError` if the reference count would overflow.
     pub fn try_copy(&self) -> Result<Json, AllocError>
         ensures { IfOk result (λ j. j ≡ self.now) }
     {
@@ -76,8 +84,10 @@ impl Json {
         Ok(Json { value })
     }
 
-    /// The value's text without spaces, its members in the order of their names. The error is a failed
-    /// allocation.
+    /// The value as compact JSON: no spaces, and the members of an object in the order of their names.
+    ///
+    /// # Errors
+    /// `AllocError` if memory runs out.
     pub fn to_text(&self, alloc: Global) -> Result<String, AllocError>
         ensures { IfOk result (λ s. string_bytes s ≡ compact_text self.now) }
     {
@@ -91,7 +101,7 @@ impl fmt::Debug for Json {
     }
 }
 
-/// Whether a number inside the value is not whole, so that `serde_json` holds it as a float.
+/// Whether a number anywhere in the value isn't whole, so that `serde_json` holds it as a float.
 #[cycle(whole)]
 #[inline(always)]
 pub fn has_float(value: &Value) -> bool

@@ -1,4 +1,4 @@
-//! Keys, and lists of them that several places share.
+//! Keys, and lists of keys that several places share.
 
 ghost use Rattle.std.specs.Prelude.{◌≡◌, ◌+◌, ◌<◌, ◌≤◌, IfOk, IfErr, OnErr, IfSome, IfNone, length, IsTrue, ◌↔◌};
 ghost use Rattle.std.proofs.Common.{rules};
@@ -28,8 +28,8 @@ pub const TABLE_BYTES: usize = 64;
 /// The most bytes of a key's id.
 pub const ID_BYTES: usize = 256;
 
-/// The two texts of a key as one: a character whose code is how many bytes the table has, then the table, then the id.
-/// So no two keys have one text, and a hash reads both as one.
+/// The two texts of a key in one: a character whose code is the number of the table's bytes, then the table, then the
+/// id. So no two keys have the same text, and a hash reads both in one go.
 #[derive(Drop)]
 struct KeyText {
     text: JoinedText,
@@ -48,7 +48,7 @@ impl Model for KeyText {
 }
 
 impl KeyText {
-    /// The table and the id as one text, which is short.
+    /// Joins a table and an id that together are short.
     #[inline(always)]
     fn short(table: &str, id: &str) -> KeyText
         requires key { IsKey (record { table = table.now; id = id.now }) }
@@ -61,7 +61,7 @@ impl KeyText {
         }
     }
 
-    /// The same of bytes, if they are texts.
+    /// Joins two pieces that together are short, if they are UTF-8.
     #[inline(always)]
     fn read_short(table: &[u8], id: &[u8]) -> Option<KeyText>
         requires key { IsKey (record { table = table.now; id = id.now }) }
@@ -75,7 +75,8 @@ impl KeyText {
         })
     }
 
-    /// The table and the id as one text, which is longer and has an owner of its own. The error is a failed allocation.
+    /// Joins a table and an id that together are long. The text gets memory of its own, and the call fails if memory
+    /// runs out.
     fn long(alloc: Global, table: &str, id: &str) -> Result<KeyText, AllocError>
         requires key { IsKey (record { table = table.now; id = id.now }) }
         requires long { short_bytes < 1 + length table.now + length id.now }
@@ -133,16 +134,24 @@ impl fmt::Debug for KeyText {
     }
 }
 
-/// Whether the bytes have the lengths of a key's texts.
+/// Whether a key may have a table and an id of these lengths.
 fn have_lengths(table: &[u8], id: &[u8]) -> bool
     ensures { IsTrue result ↔ IsKey (record { table = table.now; id = id.now }) }
 {
     !table.is_empty() && table.len() <= TABLE_BYTES && !id.is_empty() && id.len() <= ID_BYTES
 }
 
-/// What a loader is asked for: a table and an id in it. A copy shares the texts and costs one
-/// atomic step. Equality and order are over the table, then the id, by their bytes; a hash reads both
-/// as one text.
+/// What you ask a loader for: a table and an id in it. A copy shares the texts and costs one atomic step.
+///
+/// Equality and order go by the table and then by the id, byte by byte. A hash reads both in one go.
+///
+/// # Examples
+/// Makes a key and loads it, from `crates/example_one_caller`:
+///
+/// ```rust
+/// let key = FetchKey::new(alloc, "user", "u1")?;
+/// let mut ticket = loader.load(rt, alloc, pass, &key)?;
+/// ```
 #[derive(Debug)]
 pub struct FetchKey {
     both: Arc<KeyText>,
@@ -167,10 +176,10 @@ impl Model for FetchKey {
 }
 
 impl FetchKey {
-    /// A key of a table and an id, each of at least one byte.
+    /// A key from a table of 1 to [`TABLE_BYTES`] bytes and an id of 1 to [`ID_BYTES`].
     ///
     /// # Errors
-    /// The first cause of [`KeyFault`] that applies, in its order.
+    /// The first cause of [`KeyFault`] that applies, in its order. `OutOfMemory` comes only if the two texts are a key.
     pub fn new(alloc: Global, table: &str, id: &str) -> Result<FetchKey, KeyFault>
         ensures ok { IfOk result (λ k. (k ≡ record { table = table.now; id = id.now }) × IsKey k) }
         ensures err { IfErr result (RefusedAs table.now id.now) }
@@ -194,7 +203,7 @@ impl FetchKey {
         Ok(FetchKey { both })
     }
 
-    /// The same of two texts that together are long. The error is a failed allocation.
+    /// The key of two texts that together are long. Fails if memory runs out.
     #[cold]
     fn long(alloc: Global, table: &str, id: &str) -> Result<FetchKey, AllocError>
         requires key { IsKey (record { table = table.now; id = id.now }) }
@@ -205,8 +214,12 @@ impl FetchKey {
         Ok(FetchKey { both })
     }
 
-    /// The key of two texts that are these bytes, or none where they are no key's. It takes the memory of the spare key, if
-    /// there is one that nobody shares. The error is a failed allocation.
+    /// A key from two pieces of bytes. You get `None` if they aren't UTF-8 or don't have the lengths of a key's texts.
+    ///
+    /// The call reuses the memory of the spare key, if you give one that nobody else shares.
+    ///
+    /// # Errors
+    /// `AllocError` if memory runs out, which only happens if the bytes are a key's.
     pub fn read(
         alloc: Global,
         spare: Option<FetchKey>,
@@ -230,7 +243,7 @@ impl FetchKey {
         Ok(Some(key))
     }
 
-    /// The same of bytes that together are long.
+    /// The key of two pieces of bytes that together are long.
     #[cold]
     fn read_long(
         alloc: Global,
@@ -252,7 +265,7 @@ impl FetchKey {
         Ok(Some(key))
     }
 
-    /// The key of a text, in the memory of the spare key if there is one that nobody shares. The error is a failed allocation.
+    /// The key of a text, in the memory of the spare key if nobody else shares that. Fails if memory runs out.
     #[inline(always)]
     fn of(alloc: Global, spare: Option<FetchKey>, both: KeyText) -> Result<FetchKey, AllocError>
         requires { IsKey both }
@@ -284,7 +297,10 @@ impl FetchKey {
         self.both.parts().1
     }
 
-    /// The same key. It shares the texts. The error is that the reference count would overflow.
+    /// The same key. It shares the texts.
+    ///
+    /// # Errors
+    /// `AllocError` if the reference count would overflow.
     pub fn try_copy(&self) -> Result<FetchKey, AllocError>
         ensures { IfOk result (λ k. k ≡ self.now) }
     {
@@ -353,8 +369,8 @@ impl Hash for FetchKey {
     }
 }
 
-/// A list of keys that several places share, as a job's. A copy costs one atomic step. Contracts
-/// see the list.
+/// A list of keys that several places share, such as the keys of a job. A copy costs one atomic step. Contracts see the
+/// list.
 #[derive(Debug)]
 pub struct Keys {
     keys: Arc<Vec<FetchKey>>,
@@ -378,7 +394,10 @@ impl Model for Keys {
 }
 
 impl Keys {
-    /// A list of these keys. The error is a failed allocation.
+    /// Moves the keys into a list that you can share.
+    ///
+    /// # Errors
+    /// `AllocError` if memory runs out.
     pub fn new(alloc: Global, keys: Vec<FetchKey>) -> Result<Keys, AllocError>
         ensures { IfOk result (λ k. k ≡ keys.items) }
     {
@@ -386,7 +405,10 @@ impl Keys {
         Ok(Keys { keys })
     }
 
-    /// A list of copies of the keys. The error is a failed allocation.
+    /// A list of copies, which share their texts with the keys.
+    ///
+    /// # Errors
+    /// `AllocError` if memory runs out, or if a reference count would overflow.
     pub fn copy_of(alloc: Global, keys: &[FetchKey]) -> Result<Keys, AllocError>
         ensures { IfOk result (λ k. k ≡ keys.now) }
     {
@@ -400,7 +422,10 @@ impl Keys {
         self.keys.as_slice()
     }
 
-    /// The same list, shared. The error is that the reference count would overflow.
+    /// The same list, shared.
+    ///
+    /// # Errors
+    /// `AllocError` if the reference count would overflow.
     pub fn try_copy(&self) -> Result<Keys, AllocError>
         ensures { IfOk result (λ k. k ≡ self.now) }
     {

@@ -1,7 +1,7 @@
-//! The values that every loader here speaks of: keys, what their loads end with, jobs, and limits.
+//! Keys, outcomes, jobs and limits: the values that every crate above passes around.
 //!
-//! A key is two texts, a value is a JSON tree, and each is shared by a copy that allocates nothing. Their contracts see
-//! them as plain lists and trees.
+//! A key is two texts, and a value is a JSON tree. A copy of a key, a value or a message shares what it copies and
+//! allocates nothing (`try_copy`). Contracts see them as plain lists and trees.
 #![tactic(auto)]
 
 mod fault;

@@ -6,11 +6,20 @@ ghost use Rattle.dl_values.specs.Limits.{AreLimits, RefusedAs, largest_limit};
 use crate::fault::LimitFault;
 use std::marker::Model;
 
-/// The greatest number that a limit may be.
+/// The largest number that a limit may be.
 pub const LARGEST_LIMIT: u32 = 65_536;
 
-/// How much a loader takes: the most keys of a batch (DataLoader's `maxBatchSize`), the most cells
-/// and the most calls. Each is 1 to [`LARGEST_LIMIT`].
+/// How much a loader takes: the most keys of a batch (DataLoader's `maxBatchSize`), the most cells and the most calls.
+/// Each is 1 to [`LARGEST_LIMIT`].
+///
+/// # Examples
+/// Opens a loader for one caller with 64 keys in a batch, 1,024 cells and 4,096 calls at most, from
+/// `crates/example_one_caller`:
+///
+/// ```rust
+/// let limits = Limits::new(64, 1_024, 4_096)?;
+/// let opening = Opening::new(rt.alloc(), hashing, &users, limits, 1)?;
+/// ```
 #[derive(Clone, Copy, Debug)]
 pub struct Limits {
     max_batch: u32,
@@ -31,10 +40,10 @@ impl Model for Limits {
 }
 
 impl Limits {
-    /// The limits of these numbers: keys of a batch, cells, calls.
+    /// Takes the most keys of a batch, the most cells and the most calls, in this order.
     ///
     /// # Errors
-    /// The first of the three that is not 1 to [`LARGEST_LIMIT`].
+    /// The first of the three that isn't 1 to [`LARGEST_LIMIT`].
     pub fn new(max_batch: u32, max_cells: u32, max_calls: u32) -> Result<Limits, LimitFault>
         ensures ok { IfOk result (λ l. (l ≡ record { max_batch = max_batch; max_cells = max_cells; max_calls = max_calls }) × AreLimits l) }
         ensures err { IfErr result (RefusedAs max_batch max_cells max_calls) }

@@ -1,4 +1,4 @@
-//! Lists that are made once.
+//! Lists that never change once you have made them.
 
 ghost use Rattle.std.specs.Prelude.{◌≡◌, IfOk};
 
@@ -6,7 +6,7 @@ use crate::job::Job;
 use std::alloc::{AllocError, Global};
 use std::marker::Model;
 
-/// A `Vec` that contracts see as the list of its items.
+/// A `Vec` that you can only read. Contracts see it as the list of its items.
 #[derive(Debug)]
 pub struct List<T> {
     items: Vec<T>,
@@ -31,7 +31,7 @@ impl<T> Model for List<T> {
 }
 
 impl<T> List<T> {
-    /// A list of these items.
+    /// Takes the items.
     pub fn new(items: Vec<T>) -> List<T>
         ensures { result ≡ items.items }
     {
@@ -47,7 +47,10 @@ impl<T> List<T> {
 }
 
 impl<T: Copy> List<T> {
-    /// A list of copies of the items. The error is a failed allocation.
+    /// A list of copies of the items.
+    ///
+    /// # Errors
+    /// `AllocError` if memory runs out.
     pub fn copy_of(alloc: Global, items: &[T]) -> Result<List<T>, AllocError>
         ensures { IfOk result (λ copies. copies ≡ items.now) }
     {
@@ -58,7 +61,10 @@ impl<T: Copy> List<T> {
 }
 
 impl List<Job> {
-    /// Copies of the jobs, which share the keys. The error is a failed allocation.
+    /// Copies of the jobs, which share their keys with them.
+    ///
+    /// # Errors
+    /// `AllocError` if memory runs out, or if a reference count would overflow.
     pub fn copy_of(alloc: Global, jobs: &[Job]) -> Result<List<Job>, AllocError>
         ensures { IfOk result (λ copies. copies ≡ jobs.now) }
     {

@@ -7,8 +7,7 @@ use std::alloc::{AllocError, Global};
 use std::marker::Model;
 use std::sync::Arc;
 
-/// The text of an error that several places share. A copy costs one atomic step. Contracts see its
-/// bytes.
+/// The text of an error, which several places share. A copy costs one atomic step. Contracts see its bytes.
 #[derive(Debug)]
 pub struct Message {
     text: Arc<Text>,
@@ -31,7 +30,10 @@ impl Model for Message {
 }
 
 impl Message {
-    /// A message of this text. The error is a failed allocation.
+    /// Copies a text into a message.
+    ///
+    /// # Errors
+    /// `AllocError` if memory runs out.
     pub fn new(alloc: Global, text: &str) -> Result<Message, AllocError>
         ensures { IfOk result (λ m. m ≡ text.now) }
     {
@@ -46,7 +48,10 @@ impl Message {
         self.text.as_str()
     }
 
-    /// The same message, shared. The error is that the reference count would overflow.
+    /// The same message, shared.
+    ///
+    /// # Errors
+    /// `AllocError` if the reference count would overflow.
     pub fn try_copy(&self) -> Result<Message, AllocError>
         ensures { IfOk result (λ m. m ≡ self.now) }
     {

@@ -1,4 +1,4 @@
-//! What a key's load ends with, and what a source answers.
+//! What the load of a key ends with, and what a source answers.
 
 ghost use Rattle.std.specs.Prelude.{◌≡◌, IfOk};
 
@@ -7,7 +7,7 @@ use crate::list::List;
 use crate::message::Message;
 use std::alloc::AllocError;
 
-/// What a key's load ends with.
+/// What the load of a key ends with.
 #[derive(Debug)]
 pub enum Outcome {
     /// The key's value.
@@ -33,9 +33,9 @@ impl Drop for Outcome {
 pub enum BatchFault {
     /// The source broke, with this text.
     Source(Message),
-    /// Memory ran out before the batch was answered.
+    /// Memory ran out before the batch had an answer.
     Memory,
-    /// The batch was never handed to a worker.
+    /// The batch never got to a worker.
     Unsent,
 }
 
@@ -49,7 +49,10 @@ impl Drop for BatchFault {
 }
 
 impl Outcome {
-    /// The same outcome, shared. The error is that the reference count would overflow.
+    /// The same outcome, shared.
+    ///
+    /// # Errors
+    /// `AllocError` if a reference count would overflow.
     pub fn try_copy(&self) -> Result<Outcome, AllocError>
         ensures { IfOk result (λ o. o ≡ self.now) }
     {
@@ -62,7 +65,10 @@ impl Outcome {
 }
 
 impl BatchFault {
-    /// The same fault, shared. The error is that the reference count would overflow.
+    /// The same fault, shared.
+    ///
+    /// # Errors
+    /// `AllocError` if a reference count would overflow.
     pub fn try_copy(&self) -> Result<BatchFault, AllocError>
         ensures { IfOk result (λ f. f ≡ self.now) }
     {
@@ -74,7 +80,7 @@ impl BatchFault {
     }
 }
 
-/// Outcomes in the order of their keys.
+/// Outcomes, in the order of their keys.
 pub type Outcomes = List<Outcome>;
 
 /// What a source answers to a list of keys.

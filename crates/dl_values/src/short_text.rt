@@ -1,4 +1,4 @@
-//! Texts that stand in their own value.
+//! Texts that are short enough to lie in their own value.
 
 ghost use Rattle.std.specs.Prelude.{◌≡◌, ◌+◌, ◌<◌, ◌≤◌, ◌↔◌, ◌∷◌, ◌++◌, length, IfSome, IfNone, IsTrue};
 ghost use Rattle.std.specs.Int.{w64, from_le_bytes};
@@ -12,19 +12,19 @@ ghost use Rattle.dl_values.specs.Inside.ShortText.{block_bytes};
 use std::marker::Model;
 use std::str;
 
-/// The bytes in which a short text stands: with the counts of an `Arc` it takes a block of 80 bytes.
+/// How many bytes hold a short text: with the counts of an `Arc` it takes a block of 80 bytes.
 const BLOCK_BYTES: usize = 40;
 
-/// The most bytes of a text that stands in its own value. One more stands behind it.
+/// The most bytes of a short text. One more byte follows it in its block.
 pub(crate) const SHORT_BYTES: usize = BLOCK_BYTES - 1;
 
 /// A byte that no text has.
 const BEHIND: u8 = 255;
 
-/// A text of at most [`SHORT_BYTES`] bytes. Contracts see them.
+/// A text of at most [`SHORT_BYTES`] bytes. Contracts see its bytes.
 #[derive(Drop)]
 pub(crate) struct ShortText {
-    // The text, behind it a byte that no text has, and then zeros.
+    // The text, then a byte that no text has, and then zeros.
     bytes: [u8; BLOCK_BYTES],
     len: usize,
 }
@@ -41,7 +41,7 @@ impl Model for ShortText {
 }
 
 impl ShortText {
-    /// The character of an ASCII code, right after it a text, and after that another.
+    /// An ASCII character, and then two texts, joined without a gap.
     #[inline(always)]
     pub(crate) fn joined(mark: u8, first: &str, second: &str) -> ShortText
         requires mark { mark < 128 }
@@ -54,7 +54,7 @@ impl ShortText {
         }
     }
 
-    /// The same of bytes, if they are two texts.
+    /// The same from bytes, if they are two texts of UTF-8.
     #[inline(always)]
     pub(crate) fn read(mark: u8, first: &[u8], second: &[u8]) -> Option<ShortText>
         requires mark { mark < 128 }
@@ -79,7 +79,7 @@ impl ShortText {
         unsafe { str::from_utf8_unchecked(&self.bytes[..self.len]) }
     }
 
-    /// The text and what fills it up, to the end of a word.
+    /// The text and its filling, up to the end of a word of eight bytes.
     #[inline(always)]
     pub(crate) fn words(&self) -> &[u8]
         ensures { result.now ≡ filled (word_end (length self.now)) self.now }
@@ -88,8 +88,9 @@ impl ShortText {
     }
 }
 
-/// Texts are compared by their blocks, without a look at their lengths. Two blocks are equal exactly where the texts are: behind the
-/// text a block has one byte that isn't zero, and then zeros alone, so the last byte that isn't zero tells where the text ends.
+/// Compares two texts by their blocks, without a look at their lengths. Two blocks are equal exactly if the texts are:
+/// after the text a block has one byte that isn't zero, and then only zeros, so the last byte that isn't zero marks the
+/// end of the text.
 impl PartialEq for ShortText {
     ghost eq = { bytes_eq };
 
@@ -113,7 +114,7 @@ fn is_same_block(a: &[u8; BLOCK_BYTES], b: &[u8; BLOCK_BYTES]) -> bool
         & is_same_word(&a[32..], &b[32..])
 }
 
-/// Whether eight bytes are eight others, compared as numbers.
+/// Compares eight bytes with eight others, as numbers.
 #[inline(always)]
 fn is_same_word(a: &[u8], b: &[u8]) -> bool
     requires first { length a.now ≡ 8 }
@@ -134,7 +135,7 @@ fn word_of(bytes: &[u8]) -> u64
     ])
 }
 
-/// The bytes in which a mark and two pieces stand, one right after the other.
+/// A block with a mark and two pieces, joined without a gap.
 #[inline(always)]
 fn block_of(mark: u8, first: &[u8], second: &[u8]) -> [u8; BLOCK_BYTES]
     requires { 1 + length first.now + length second.now ≤ short_bytes }
@@ -150,7 +151,7 @@ fn block_of(mark: u8, first: &[u8], second: &[u8]) -> [u8; BLOCK_BYTES]
     bytes
 }
 
-/// Whether the bytes are a text that may be cut at the seam.
+/// Whether the bytes are a text that you may cut at the seam.
 #[inline(always)]
 fn is_cut(bytes: &[u8], seam: usize) -> bool
     requires { seam ≤ length bytes.now }
@@ -160,7 +161,7 @@ fn is_cut(bytes: &[u8], seam: usize) -> bool
     bytes.is_ascii() || is_cut_of_any(bytes, seam)
 }
 
-/// The same, of bytes that are not all ASCII.
+/// The same for bytes that aren't all ASCII.
 #[cold]
 fn is_cut_of_any(bytes: &[u8], seam: usize) -> bool
     ensures { IsTrue result ↔ (IsUtf8 bytes.now × IsCharBoundary bytes.now seam) }

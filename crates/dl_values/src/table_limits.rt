@@ -1,4 +1,4 @@
-//! Limits of tables of their own.
+//! Limits that tables have of their own.
 
 ghost use Rattle.std.specs.Prelude.{◌≡◌, ◌⊎◌, None, Some, true, false, bytes_eq, IfOk, IfErr, IfSome};
 ghost use Rattle.std.specs.Map.{lookup};
@@ -14,15 +14,17 @@ use std::collections::BTreeMap;
 use std::marker::Model;
 use std::sync::Arc;
 
-/// A table and the most keys of a batch of it, 1 to [`LARGEST_LIMIT`](crate::LARGEST_LIMIT).
+/// A table, and the most keys of a batch of that table.
 #[derive(Debug, Drop)]
 pub struct TableLimit {
+    /// The table's name. [`TableLimits::new`] takes 1 to [`TABLE_BYTES`] bytes.
     pub table: Text,
+    /// The most keys of a batch. [`TableLimits::new`] takes 1 to [`LARGEST_LIMIT`](crate::LARGEST_LIMIT).
     pub limit: u32,
 }
 
-/// The tables that have a limit of their own, where each batch is of one table. A copy costs one atomic step.
-/// Contracts see the tables with their limits, each once.
+/// The tables that have a limit of their own, for a loader whose batches each have keys of one table. A copy costs one
+/// atomic step. Contracts see the tables with their limits, each table once.
 #[derive(Debug)]
 pub struct TableLimits {
     limits: Arc<BTreeMap<String, u32>>,
@@ -71,11 +73,11 @@ impl<T: Drop> From<AllocFailed<T>> for TableLimitFault {
 }
 
 impl TableLimits {
-    /// The limits of these tables, of which there may be none.
+    /// Takes the tables and their limits; the list may be empty.
     ///
     /// # Errors
-    /// The first cause of [`TableLimitFault`] that applies anywhere in the list, in its order. But two limits of one table are
-    /// found while memory is taken, so `OutOfMemory` may come before.
+    /// The first cause of [`TableLimitFault`], in its order, that applies anywhere in the list. `OutOfMemory` may come
+    /// before `DuplicateTable`, which the call looks for while it takes memory.
     pub fn new(alloc: Global, limits: Vec<TableLimit>) -> Result<TableLimits, TableLimitFault>
         ensures ok { IfOk result (λ t. GiveTheSame t (pairs limits.items) × (fault_of limits.items ≡ None)) }
         ensures err { IfErr result (λ f. (f ≡ TableLimitFault.OutOfMemory) ⊎ (fault_of limits.items ≡ Some f)) }
@@ -92,7 +94,7 @@ impl TableLimits {
         TableLimits::of(alloc, &limits)
     }
 
-    /// The limits of tables, unless one stands twice.
+    /// The limits of tables, unless the list names a table twice.
     fn of(alloc: Global, limits: &[TableLimit]) -> Result<TableLimits, TableLimitFault>
         requires { has_other_limit limits.now ≡ false }
         ensures ok { IfOk result (λ t. GiveTheSame t (pairs limits.now) × (repeats (pairs limits.now) ≡ false)) }
@@ -117,14 +119,18 @@ impl TableLimits {
         self.limits.get(table).copied()
     }
 
-    /// What all limits of tables keep: each number that a table has may be a limit.
+    /// What all limits of tables keep: each is 1 to [`LARGEST_LIMIT`](crate::LARGEST_LIMIT). The call does nothing when
+    /// it runs; its clause is for proofs.
     pub fn keeps(&self)
         ensures { AreTableLimits self.now }
     {
         let _ = &self.limits;
     }
 
-    /// The same limits, shared. The error is that the reference count would overflow.
+    /// The same limits, shared.
+    ///
+    /// # Errors
+    /// `AllocError` if the reference count would overflow.
     pub fn try_copy(&self) -> Result<TableLimits, AllocError>
         ensures { IfOk result (λ t. t ≡ self.now) }
     {

@@ -1,4 +1,4 @@
-//! Texts, which contracts see as their bytes.
+//! Texts that own their bytes.
 
 ghost use Rattle.std.specs.Prelude.{◌≡◌, ◌<◌, ◌∷◌, ◌++◌, IfOk, bytes_eq, string_bytes};
 ghost use Rattle.std.proofs.Common.{rules};
@@ -13,7 +13,7 @@ use std::cmp::Ordering;
 use std::hash::{Hash, Hasher};
 use std::marker::Model;
 
-/// A text with an owner. Contracts see its bytes.
+/// A text that owns its bytes. Contracts see the bytes.
 #[derive(Debug)]
 pub struct Text {
     text: String,
@@ -35,7 +35,10 @@ impl Model for Text {
 }
 
 impl Text {
-    /// A copy of a text. The error is a failed allocation.
+    /// Copies a text.
+    ///
+    /// # Errors
+    /// `AllocError` if memory runs out.
     pub fn new(alloc: Global, text: &str) -> Result<Text, AllocError>
         ensures { IfOk result (λ t. t ≡ text.now) }
     {
@@ -43,7 +46,10 @@ impl Text {
         Ok(Text { text })
     }
 
-    /// The character of an ASCII code, right after it a text, and after that another. The error is a failed allocation.
+    /// An ASCII character, given by its code, and then two texts, joined without a gap.
+    ///
+    /// # Errors
+    /// `AllocError` if memory runs out.
     pub fn marked(alloc: Global, mark: u8, first: &str, second: &str) -> Result<Text, AllocError>
         requires { mark < 128 }
         ensures { IfOk result (λ t. t ≡ mark ∷ (first.now ++ second.now)) }
@@ -62,7 +68,10 @@ impl Text {
         self.text.as_str()
     }
 
-    /// An equal text. The error is a failed allocation.
+    /// An equal text, in memory of its own.
+    ///
+    /// # Errors
+    /// `AllocError` if memory runs out.
     pub fn try_copy(&self) -> Result<Text, AllocError>
         ensures { IfOk result (λ t. t ≡ self.now) }
     {

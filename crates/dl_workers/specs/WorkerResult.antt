@@ -7,19 +7,19 @@ use Rattle.dl_loader.specs.JobEnd.{WereEnded}
 use Rattle.dl_workers.specs.declared.worker.WorkerEnd.{WorkerEnd}
 use Rattle.dl_workers.specs.declared.worker.WorkerEnd.TheVariants.{Done, GaveUp}
 
--- some jobs more were taken
+-- the taker took some jobs more
 abbrev pub Took : List Job → List Job → Type 0
 Took old new = (jobs : List Job) × (new ≡ old ++ jobs)
 
--- A worker took so many jobs, and the batch of each was ended, in order. Nothing else was called.
+-- A worker took this many jobs and ended the batch of each, in order. It made no other call.
 pub record EndedEach (service : Service) (batches : ℕ) (old new : List Job) (before after : Trace) : Type 0 where
   pub jobs : List Job
   pub taken : new ≡ old ++ jobs
   pub count : batches ≡ length jobs
   pub ended : WereEnded service before jobs after
 
--- A worker took jobs, and the batch of each was ended, in order, up to this one, which was ended or not. The jobs that
--- it took after that were dropped.
+-- A worker took jobs and ended the batch of each, in order, up to this one, which it ended or not. Then it only took
+-- jobs, and dropped them.
 pub record EndedBefore (service : Service) (batch : ℕ) (old new : List Job) (before after : Trace) : Type 0 where
   pub jobs : List Job
   pub job : Job

@@ -7,8 +7,8 @@ ghost use Rattle.dl_workers.specs.GiveUps.{given_up, given_up_by};
 use dl_desk::BatchFault;
 use dl_loader::{Call, History};
 
-/// The least batch of a history that failed since memory ran out or since its job was not sent, so without an answer of the
-/// source. Where there is none, each batch that ended was answered.
+/// The least batch that failed without an answer of the source: because memory ran out, or because its job was not
+/// sent. Returns `None` if each batch that ended did so by an answer.
 pub fn least_given_up(history: &History) -> Option<u32>
     ensures { IsLeastOf result (given_up history.now.events) }
 {
@@ -22,7 +22,7 @@ pub fn least_given_up(history: &History) -> Option<u32>
     least
 }
 
-/// The least of the batches that were found and the one that this call gives up, if it does.
+/// The least of the batches so far and the one that this call gives up, if it does.
 fn least_with(found: Option<u32>, call: &Call) -> Option<u32>
     ensures { (ns : List ℕ) → IsLeastOf found ns → IsLeastOf result (ns ++ given_up_by call.now) }
 {
@@ -35,7 +35,7 @@ fn least_with(found: Option<u32>, call: &Call) -> Option<u32>
     }
 }
 
-/// The least of the batches that were found and one more.
+/// The least of the batches so far and one more.
 fn least_of(found: Option<u32>, batch: u32) -> u32
     ensures { (ns : List ℕ) → IsLeastOf found ns → IsLeastOf (Some result) (ns ++ batch ∷ []) }
 {

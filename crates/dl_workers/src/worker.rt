@@ -17,18 +17,25 @@ use std::sync::Wait;
 /// How a worker ended.
 #[derive(Clone, Copy, Debug, PartialEq, Eq)]
 pub enum WorkerEnd {
-    /// The queue was shut, or the seat is full: the worker took so many jobs, and ended the batch of each.
+    /// The queue is shut, or the seat is full. The worker took this many jobs, and ended the batch of each.
     Done { batches: u32 },
-    /// The worker stopped the loader, since it couldn't end this batch, or since a cell of it refused its outcome.
+    /// The worker stopped the loader: it couldn't end this batch, or a cell of it refused its outcome.
     GaveUp { batch: u32 },
 }
 
-/// Takes jobs from a queue until it is shut, and ends the batch of each as [`end_job`] does: by what the loader's
-/// source answers, or, where an allocation fails, as one that failed since memory ran out. The gate is told of each
-/// step.
+/// Takes jobs from a queue until it is shut, and ends the batch of each as [`end_job`] does: by what the source answers
+/// or, if memory runs out for that, as one that failed. Call it on a thread of its own, with the source of the loader
+/// and a seat at the queue. The gate hears of each step.
 ///
-/// Where a batch can't be ended, or a cell of it refuses its outcome, the worker stops the loader, takes the jobs
-/// that are left until the queue is shut, and drops them.
+/// If the worker can't end a batch, or a cell of it refuses its outcome, it stops the loader. Then it takes the jobs
+/// that are left, until the queue is shut, and drops them.
+///
+/// # Examples
+/// From `crates/dl_loader_tests`, with a gate of the test:
+///
+/// ```rust
+/// let end = work(rt, alloc, loader, source, pass, queue, taker, &gate);
+/// ```
 pub fn work<L: LoaderName, S: Source, G: Gate, R: Wait>(
     rt: &R,
     alloc: Global,
@@ -68,7 +75,7 @@ pub fn work<L: LoaderName, S: Source, G: Gate, R: Wait>(
     unreachable!()
 }
 
-/// What a worker ends batches by.
+/// What a worker needs to end batches.
 #[derive(Drop)]
 struct Worker<'a, L: LoaderName, S, G> {
     alloc: Global,
@@ -78,7 +85,7 @@ struct Worker<'a, L: LoaderName, S, G> {
 }
 
 impl<L: LoaderName, S: Source, G: Gate> Worker<'_, L, S, G> {
-    /// Ends the batch of a job, between the two steps that the gate is told of, and answers whether each of its cells
+    /// Ends the batch of a job, and lets the gate hear of it before and after. The answer is whether each of its cells
     /// took its outcome.
     fn end_shown(&self, rt: &impl Wait, pass: &mut Pass<L>, job: Job) -> bool
         requires source { Answers (S.answer self.now.source.now) L.service }

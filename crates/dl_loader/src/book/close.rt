@@ -41,7 +41,7 @@ impl<L: LoaderName> Book<L> {
         None
     }
 
-    /// Whether a batch has ended, if it was begun.
+    /// Whether a batch has ended, or `None` if it has not begun.
     fn has_ended(&self, batch: u32) -> Option<bool>
         ensures begun { IfSome result (λ ended. batch < begun (atoms (past self.now.history))) }
         ensures ended { IfSome result (λ ended. MatchBool ended (HasEnd self.now.history batch) (end_of (atoms (past self.now.history)) batch ≡ None)) }
@@ -51,8 +51,8 @@ impl<L: LoaderName> Book<L> {
         Some(matches!(view.state(), BatchState::Settled | BatchState::Failed))
     }
 
-    /// Holds the passes of all callers against the book: what it has at the places of their entries, or of their cells, is
-    /// what they tell, and they have each of its events. It changes nothing.
+    /// Compares the passes of all callers with the book: what it has at the places of their entries, or of their cells,
+    /// is what they say, and they have each of its events. It changes nothing.
     pub(crate) fn audit(&mut self, passes: &mut [Pass<L>])
         requires parts { L.parts ≡ L.service.callers }
         requires each { HasEach L.service.callers (accounts_of passes.old) }
@@ -65,7 +65,7 @@ impl<L: LoaderName> Book<L> {
         Pass::audit(&mut self.journal, passes);
     }
 
-    /// Takes the book apart: the desk and the journal, which are those of the history.
+    /// Takes the book apart into the desk and the journal, which are those of the history.
     pub(crate) fn into_parts(self) -> (Desk, Journal<L>)
         ensures kept { loader_state result.1.history result.0.book result.1.cells ≡ state_of self }
     {

@@ -19,12 +19,12 @@ use std::alloc::Global;
 use std::sync::Wait;
 
 impl<L: LoaderName> Book<L> {
-    /// Makes a call as an event of the pass, which gets its tickets, and answers what the desk replied, and how the cells
-    /// that it ends took their outcomes.
+    /// Makes a call as an event of the pass, which gets its tickets. Answers what the desk replied, and how the cells
+    /// that the call ends took their outcomes.
     ///
     /// # Errors
     /// The first of these causes that applies: `Stopped`, `Behind`, `LogFull`, the call's own; else `OutOfMemory` or
-    /// `LogRefused`. The book and the pass then tell what they told before.
+    /// `LogRefused`. The book is then as it was, and so are the calls, reads and tickets of the pass.
     // Inlined, so that an event is made where it will lie, and not moved there.
     #[inline(always)]
     pub(crate) fn record<C: EventCall>(
@@ -100,7 +100,7 @@ impl<L: LoaderName> Book<L> {
         }
     }
 
-    /// The same for a call that gives no tickets. The pass then knows of a cell that refused its outcome.
+    /// The same for a call that gives no tickets. If a cell refused its outcome, the pass then knows that.
     #[inline(always)]
     pub(crate) fn make_known<C: EventCall>(
         &mut self,
@@ -127,7 +127,7 @@ impl<L: LoaderName> Book<L> {
         Ok(made)
     }
 
-    /// Has the pass know that the loader is stopped, if its call was refused for that.
+    /// Lets the pass know that the loader is stopped, if its call failed by that.
     #[cold]
     fn tell_stop(&self, pass: &mut Pass<L>, fault: CallFault)
         requires { KnowsStop self.now.flags fault }
@@ -140,7 +140,7 @@ impl<L: LoaderName> Book<L> {
     }
 }
 
-/// So many cells took their outcome, where so many of them refused it.
+/// The end of `cells` cells, `refused` of which refused their outcome.
 fn settled<L: LoaderName>(rows: &CellRows<L>, cells: usize, refused: usize) -> Settled
     requires few { cells ≤ L.service.rules.limits.max_cells }
     requires among { refused ≤ cells }

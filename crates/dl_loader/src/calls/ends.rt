@@ -19,12 +19,12 @@ use std::alloc::Global;
 use std::sync::Wait;
 
 impl<L: LoaderName> Loader<L> {
-    /// Ends a batch by what the loader's source answered to it: with the outcomes of its keys, or, where the
-    /// source breaks, as one that failed with the break's text.
+    /// Ends a batch by what the loader's source answered to it: each key gets its outcome or, if the source breaks, the
+    /// batch fails with the break's text. [`fetch_job`](dl_source::fetch_job) gives you `fetched`.
     ///
     /// # Errors
-    /// `Stopped`, `Behind`, `LogFull`, `NoBatch`, `NotSent`, `SettledBefore`, `WrongKeys`, `OutOfMemory`,
-    /// `LogRefused`, with what was fetched. The pass then tells what it told before.
+    /// `Stopped`, `Behind`, `LogFull`, `NoBatch`, `NotSent`, `SettledBefore`, `WrongKeys`, `OutOfMemory`, `LogRefused`.
+    /// You get `fetched` back.
     pub fn settle<'s, S: Source>(
         &self,
         rt: &impl Wait,
@@ -53,11 +53,11 @@ impl<L: LoaderName> Loader<L> {
         }
     }
 
-    /// Fails a batch that is given up.
+    /// Fails a batch that you give up: each load in it ends with that failure.
     ///
     /// # Errors
-    /// `Stopped`, `Behind`, `LogFull`, `NoBatch`, `NotSent`, `SettledBefore`, `WrongKeys`, `OutOfMemory`,
-    /// `LogRefused`, with the job. The pass then tells what it told before.
+    /// `Stopped`, `Behind`, `LogFull`, `NoBatch`, `NotSent`, `SettledBefore`, `WrongKeys`, `OutOfMemory`, `LogRefused`.
+    /// You get the job back.
     pub fn fail(
         &self,
         rt: &impl Wait,

@@ -16,12 +16,11 @@ use std::alloc::Global;
 use std::sync::Wait;
 
 impl<L: LoaderName> Loader<L> {
-    /// Gives a key that isn't held a new cell, which ends with the outcome at once. Where the key is held
-    /// nothing changes, but for the history (DataLoader: `prime`).
+    /// Gives a key that the loader doesn't hold a new cell, which ends with the outcome at once. If the loader holds
+    /// the key, nothing changes but the history (DataLoader: `prime`).
     ///
     /// # Errors
-    /// `Stopped`, `Behind`, `LogFull`, `CellsFull`, `OutOfMemory`, `LogRefused`. The pass then tells what it
-    /// told before.
+    /// `Stopped`, `Behind`, `LogFull`, `CellsFull`, `OutOfMemory`, `LogRefused`.
     pub fn prime(
         &self,
         rt: &impl Wait,
@@ -45,10 +44,10 @@ impl<L: LoaderName> Loader<L> {
         Ok(prime_reply(reply, ended))
     }
 
-    /// Forgets the key, if it is held (DataLoader: `clear`).
+    /// Forgets the key, if the loader holds it (DataLoader: `clear`).
     ///
     /// # Errors
-    /// `Stopped`, `Behind`, `LogFull`, `OutOfMemory`, `LogRefused`. The pass then tells what it told before.
+    /// `Stopped`, `Behind`, `LogFull`, `OutOfMemory`, `LogRefused`.
     pub fn clear(
         &self,
         rt: &impl Wait,
@@ -69,7 +68,7 @@ impl<L: LoaderName> Loader<L> {
     /// Forgets all keys (DataLoader: `clearAll`).
     ///
     /// # Errors
-    /// `Stopped`, `Behind`, `LogFull`, `OutOfMemory`, `LogRefused`. The pass then tells what it told before.
+    /// `Stopped`, `Behind`, `LogFull`, `OutOfMemory`, `LogRefused`.
     pub fn clear_all(
         &self,
         rt: &impl Wait,
@@ -86,10 +85,11 @@ impl<L: LoaderName> Loader<L> {
         Ok(())
     }
 
-    /// Sends every batch that was begun and not sent, in order, each as a job.
+    /// Sends every batch that has not gone out yet, in order, each as a job. Nobody dispatches for you. Then end each
+    /// job, by [`end_jobs`](crate::end_jobs) for example: until you do, nobody gets the outcomes of its keys.
     ///
     /// # Errors
-    /// `Stopped`, `Behind`, `LogFull`, `OutOfMemory`, `LogRefused`. The pass then tells what it told before.
+    /// `Stopped`, `Behind`, `LogFull`, `OutOfMemory`, `LogRefused`.
     pub fn dispatch(
         &self,
         rt: &impl Wait,
@@ -107,7 +107,7 @@ impl<L: LoaderName> Loader<L> {
     }
 }
 
-/// What a prime answers that the desk replied to so, where its cell took its outcome so.
+/// What a prime answers, by the desk's reply and by how the cell took its outcome.
 fn prime_reply(prime: DeskPrime, ended: Settled) -> PrimeReply
     ensures told { reply_by result ≡ primed prime }
     ensures refused { refused_by result ≤ ended.refused }

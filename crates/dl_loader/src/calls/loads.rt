@@ -15,11 +15,12 @@ use std::alloc::Global;
 use std::sync::Wait;
 
 impl<L: LoaderName> Loader<L> {
-    /// Loads a key. The ticket will show its outcome (DataLoader: `load`).
+    /// Loads a key. You get a ticket, which shows the outcome once there is one (DataLoader: `load`). If the loader
+    /// holds the key, the ticket is for the cell that it has. Else the key gets a new cell and joins a batch, which
+    /// [`dispatch`](Loader::dispatch) sends.
     ///
     /// # Errors
-    /// `Stopped`, `Behind`, `LogFull`, `CellsFull`, `OutOfMemory`, `LogRefused`. The pass then tells what it
-    /// told before.
+    /// `Stopped`, `Behind`, `LogFull`, `CellsFull`, `OutOfMemory`, `LogRefused`.
     pub fn load<'a>(
         &'a self,
         rt: &impl Wait,
@@ -40,11 +41,10 @@ impl<L: LoaderName> Loader<L> {
         Ok(book.ticket(&self.rows, number, reply))
     }
 
-    /// Loads keys in order, as one call, and answers a ticket for each (DataLoader: `loadMany`).
+    /// Loads keys in order, as one call, and gives you a ticket for each (DataLoader: `loadMany`).
     ///
     /// # Errors
-    /// `Stopped`, `Behind`, `LogFull`, `CellsFull`, `OutOfMemory`, `LogRefused`. The pass then tells what it
-    /// told before.
+    /// `Stopped`, `Behind`, `LogFull`, `CellsFull`, `OutOfMemory`, `LogRefused`.
     pub fn load_many<'a>(
         &'a self,
         rt: &impl Wait,
@@ -65,8 +65,8 @@ impl<L: LoaderName> Loader<L> {
 }
 
 impl<L: LoaderName> Book<L> {
-    /// Makes the loads of keys as one event, and answers a ticket for each. The errors are those of
-    /// [`Loader::load_many`](crate::Loader::load_many).
+    /// Makes the loads of keys as one event, with a ticket for each. It fails as
+    /// [`Loader::load_many`](crate::Loader::load_many) does.
     #[inline(always)]
     fn load_many<'a>(
         &mut self,

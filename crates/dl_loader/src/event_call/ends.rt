@@ -65,7 +65,7 @@ impl<S: Source> EventCall for Settle<'_, '_, S> {
     }
 }
 
-/// The fail of a batch that is given up.
+/// The failure of a batch that its caller gives up.
 #[derive(Drop)]
 pub(crate) struct Fail<'a> {
     pub(crate) job: &'a Job,
@@ -114,7 +114,7 @@ impl EventCall for Fail<'_> {
     }
 }
 
-/// The cells of a batch's members, in order, where the batch may end and these are its keys.
+/// The cells of a batch's members, in order, if the batch may end and these are its keys.
 fn cells_of<'a>(desk: &'a Desk, batch: u32, keys: &[FetchKey]) -> Result<&'a [u32], CallFault>
     ensures cells { IfOk result (λ cells. (history : List Atom) → StandsFor desk.now.book history → cells.now ≡ map (λ m. m.1) (members history batch)) }
     ensures each { IfOk result (λ cells. length cells.now ≡ length keys.now) }
@@ -129,7 +129,7 @@ fn cells_of<'a>(desk: &'a Desk, batch: u32, keys: &[FetchKey]) -> Result<&'a [u3
     Ok(view.cells())
 }
 
-/// The call that ends a batch by what its source answered. The error is a failed allocation.
+/// The call that ends a batch by what its source answered. Fails if memory runs out.
 fn end_call(alloc: Global, batch: u32, answer: &BatchAnswer) -> Result<Call, AllocError>
     ensures { IfOk result (λ call. call ≡ end_by batch answer.now) }
 {
@@ -155,7 +155,7 @@ fn end_as(answer: &BatchAnswer) -> End
     }
 }
 
-/// The fault of a batch that is given up.
+/// The fault of a batch that its caller gives up.
 fn batch_fault(give_up: GiveUp) -> BatchFault
     ensures { result ≡ fault_of give_up }
 {

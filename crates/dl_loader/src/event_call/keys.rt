@@ -16,7 +16,7 @@ use std::alloc::Global;
 use std::marker::Model;
 use std::slice;
 
-/// The clear of a key: the memo forgets it, if it is held.
+/// The clear of a key: the memo forgets it, if it holds it.
 #[derive(Drop)]
 pub(crate) struct Clear<'a> {
     pub(crate) key: &'a FetchKey,
@@ -106,7 +106,7 @@ impl EventCall for ClearAll {
     }
 }
 
-/// The prime of a key with an outcome: a key that isn't held gets a cell that ends with it.
+/// The prime of a key with an outcome: a key that the memo doesn't hold gets a cell that ends with it.
 #[derive(Drop)]
 pub(crate) struct Prime<'a> {
     pub(crate) key: &'a FetchKey,
@@ -160,7 +160,7 @@ impl EventCall for Prime<'_> {
     }
 }
 
-/// The jobs of a dispatch, to hand out, and as its event has them. Contracts see the list.
+/// The jobs of a dispatch, to hand out, and once more for its event. Contracts see the list.
 #[derive(Drop)]
 pub(crate) struct SentJobs {
     jobs: Vec<Job>,
@@ -196,7 +196,7 @@ impl SentJobs {
     }
 }
 
-/// The dispatch: every batch that was begun and not sent is sent, each as a job.
+/// The dispatch: it sends every batch that has not gone out yet, each as a job.
 #[derive(Drop)]
 pub(crate) struct Dispatch;
 

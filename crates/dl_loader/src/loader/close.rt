@@ -23,11 +23,13 @@ pub(crate) struct PassFront {
 }
 
 impl<L: LoaderName> Loader<L> {
-    /// Closes the loader: its history, and with it the entries of the passes, which are their callers' parts of
-    /// the history. A stopped loader can be closed too.
+    /// Closes the loader. Give it the passes of all callers, and you get the history: one that a single-threaded data
+    /// loader could have had over this loader's source, in which every batch has an end. The entries of each pass are
+    /// its caller's part. You can close a stopped loader too.
     ///
     /// # Errors
-    /// The first cause of [`CloseFault`] that applies, with the loader and the passes as they were.
+    /// The first cause of [`CloseFault`] that applies, with the loader and the passes. `OutOfMemory` may come before
+    /// any other.
     pub fn close(
         self,
         alloc: Global,
@@ -66,7 +68,7 @@ impl<L: LoaderName> Loader<L> {
     }
 }
 
-/// The outlines of the passes, in order, where the loader may be closed with them.
+/// The outlines of the passes, in order, if the loader may close with them.
 fn outlines<L: LoaderName>(
     alloc: Global,
     rows: &CellRows<L>,
@@ -88,7 +90,7 @@ fn outlines<L: LoaderName>(
     Ok(outlines_of(alloc, passes)?)
 }
 
-/// The outlines of the passes, in order. The error is a failed allocation.
+/// The outlines of the passes, in order. Fails if memory runs out.
 fn outlines_of<L: LoaderName>(alloc: Global, passes: &[Pass<L>]) -> Result<Vec<Outline>, AllocError>
     ensures { IfOk result (λ made. made.items ≡ map outline_of (accounts_of passes.now)) }
 {
@@ -99,7 +101,7 @@ fn outlines_of<L: LoaderName>(alloc: Global, passes: &[Pass<L>]) -> Result<Vec<O
     Ok(outlines)
 }
 
-/// Whether the loader may be closed with these passes, but for a failed allocation.
+/// Whether the loader may close with these passes, if memory suffices.
 fn check<L: LoaderName>(
     rows: &CellRows<L>,
     callers: u32,
@@ -160,7 +162,7 @@ fn passes_of<L: LoaderName>(caller: u32, passes: &[Pass<L>]) -> usize
     own
 }
 
-/// The least caller whose pass has seen more than so many events, and the front of that pass.
+/// The least caller whose pass has seen more than `len` events, and the front of that pass.
 fn behind<L: LoaderName>(len: usize, passes: &[Pass<L>]) -> Option<PassFront>
     ensures some { IfSome result (IsBehind len (accounts_of passes.now)) }
     ensures none { IfNone result (NoneBehind len (accounts_of passes.now)) }
@@ -176,7 +178,8 @@ fn behind<L: LoaderName>(len: usize, passes: &[Pass<L>]) -> Option<PassFront>
     found
 }
 
-/// What was found, or the caller of one pass more with its front, where that is the lesser one.
+/// The pass found so far or one pass more, whichever has the lesser caller, if that one has seen more than `len`
+/// events.
 fn earlier(len: usize, found: Option<PassFront>, next: PassFront) -> Option<PassFront>
     ensures { result ≡ earlier len found next }
 {

@@ -18,7 +18,7 @@ pub(crate) fn least_unshown<L: LoaderName>(journal: &Journal<L>, passes: &[Pass<
     least
 }
 
-/// The least of the cells that were found and of those that refused their outcome and have an entry here.
+/// The least of the cells so far and of those that refused their outcome and have an entry here.
 fn least_in<L: LoaderName>(
     journal: &Journal<L>,
     found: Option<u32>,
@@ -47,7 +47,7 @@ fn least_at<L: LoaderName>(
     }
 }
 
-/// The least of the cells that were found and one more.
+/// The least of the cells so far and one more.
 fn least_of(found: Option<u32>, cell: u32) -> u32
     ensures { (ns : List ℕ) → IsLeastOf found ns → IsLeastOf (Some result) (ns ++ cell ∷ []) }
 {
