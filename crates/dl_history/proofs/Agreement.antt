@@ -17,11 +17,11 @@ use Rattle.dl_history.specs.Entries.{PlacedEvent, Read, Entry, Called, Saw, call
 use Rattle.dl_history.specs.History.{past, IsLegal, ending_of}
 use Rattle.dl_history.specs.Journal.{Cell, is_refused}
 use Rattle.dl_history.specs.Lists.{Every, places}
-use Rattle.dl_history.specs.Service.{Service, AnswersEach}
+use Rattle.dl_desk.specs.Service.{Service, AnswersEach}
 use Rattle.dl_history.proofs.AllCellsEnd.{shows_end}
 use Rattle.dl_history.proofs.PlaceCounts.{Rises, StandsAt, Stand, AreOwn, each_is_its_part}
-use Rattle.dl_history.proofs.Pasts.{get-inside}
-use Rattle.dl_history.proofs.ListLemmas.{every_among, every_append_both, every_from}
+use Rattle.dl_history.proofs.ListLemmas.{get-inside, every_among, every_append_both, every_from}
+use Rattle.dl_history.proofs.Pasts.{legal_place}
 use Rattle.dl_history.proofs.CellsOfCalls.{AllBelow, answered_low}
 
 -- ---- one entry
@@ -158,7 +158,7 @@ all_have callers es states (a ∷ accounts) fronts fits places = (
 all_once : (s : Service) (es : List Event) (accounts : List Account) → IsLegal s es → HasEach s.callers accounts
     → Every (λ (e : Event). accounts_by e.caller accounts ≡ 1) es
 all_once s es accounts legal each =
-    every_from (λ (e : Event). accounts_by e.caller accounts ≡ 1) es (λ k e got. let next = legal.at k e got in each e.caller next.caller)
+    every_from (λ (e : Event). accounts_by e.caller accounts ≡ 1) es (λ k e got. let next = legal_place s es k e legal got in each e.caller next.caller)
 
 fronts_of : (len : ℕ) (accounts : List Account) → NoneBehind len accounts → Every (λ a. front_of a.entries ≤ len) accounts
 fronts_of len accounts seen = every_from (λ (a : Account). front_of a.entries ≤ len) accounts (λ k a got. seen a (k, got))

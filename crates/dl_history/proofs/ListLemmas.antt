@@ -1,9 +1,47 @@
 -- Lists that grow at their end, or of which one element is changed.
-use Rattle.std.proofs.Common.{◌≡◌, sym, ℕ, zero, suc, ◌+◌, true, nat_lt, List, [], ◌∷◌, ◌++◌, length, set, Option, Some, None, slice_get, get_or, arith}
-use Rattle.std.proofs.Common.{subst, map, refl}
+use Rattle.std.proofs.Common.{◌≡◌, sym, ap, subst, ℕ, zero, suc, ◌+◌, ◌<◌, ◌⊎◌, inl, inr, true, nat_lt, List, [], ◌∷◌, ◌++◌, length, take, map, set, Option}
+use Rattle.std.proofs.Common.{Some, None, slice_get, get_or, refl, arith}
 use Rattle.std.proofs.lemmas.Bool.{ltb-true}
 use Rattle.std.proofs.lemmas.Option.{slice_get_read}
 use Rattle.dl_history.specs.Lists.{Every, Among, total}
+
+-- ---- the element at a place
+
+-- below the length of a list, what follows it changes nothing
+pub get-append : {X : Type 0} (xs ys : List X) (i : ℕ) → i < length xs → slice_get (xs ++ ys) i ≡ slice_get xs i
+get-append [] ys i low = absurd (omega arith)
+get-append (x ∷ xs) ys zero low = refl
+get-append (x ∷ xs) ys (suc i) low = get-append xs ys i (omega arith)
+
+-- at its length stands the first of what follows it
+pub get-append_at : {X : Type 0} (xs : List X) (y : X) (ys : List X) → slice_get (xs ++ y ∷ ys) (length xs) ≡ Some y
+get-append_at [] y ys = refl
+get-append_at (x ∷ xs) y ys = get-append_at xs y ys
+
+-- an element of a list with one more is one of the list's, or the one more
+pub get-snoc : {X : Type 0} (xs : List X) (y z : X) (i : ℕ) → slice_get (xs ++ y ∷ []) i ≡ Some z
+    → ((i < length xs) × (slice_get xs i ≡ Some z)) ⊎ ((i ≡ length xs) × (z ≡ y))
+get-snoc {X} [] y z zero got = let two : ◌≡◌ {A = Option X} (Some y) (Some z) = got in let is : z ≡ y = cc in inr (refl, is)
+get-snoc {X} [] y z (suc i) got = absurd (let bad : ◌≡◌ {A = Option X} None (Some z) = got in cc)
+get-snoc (x ∷ xs) y z zero got = inl (omega arith, got)
+get-snoc {X} (x ∷ xs) y z (suc i) got = by (get-snoc xs y z i got)
+  where
+    by : ((i < length xs) × (slice_get xs i ≡ Some z)) ⊎ ((i ≡ length xs) × (z ≡ y))
+        → ((suc i < length (x ∷ xs)) × (slice_get xs i ≡ Some z)) ⊎ ((suc i ≡ length (x ∷ xs)) × (z ≡ y))
+    by (inl old) = inl (let l = old.0 in omega arith, old.1)
+    by (inr new) = inr (let l = new.0 in omega arith, new.1)
+
+-- a list has an element at each place below its length
+pub get-inside : {X : Type 0} (xs : List X) (i : ℕ) → i < length xs → slice_get xs i ≡ None → ⊥
+get-inside [] i low none = absurd (omega arith)
+get-inside {X} (x ∷ xs) zero low none = let bad : ◌≡◌ {A = Option X} (Some x) None = none in cc
+get-inside (x ∷ xs) (suc i) low none = get-inside xs i (omega arith) none
+
+-- the front up to an element and that element
+pub take-get : {X : Type 0} (xs : List X) (i : ℕ) (x : X) → slice_get xs i ≡ Some x → take (suc i) xs ≡ take i xs ++ x ∷ []
+take-get {X} [] i x got = absurd (let bad : ◌≡◌ {A = Option X} None (Some x) = got in cc)
+take-get {X} (y ∷ xs) zero x got = let two : ◌≡◌ {A = Option X} (Some y) (Some x) = got in let is : y ≡ x = cc in rw is refl
+take-get {X} (y ∷ xs) (suc i) x got = ap (λ (zs : List X). y ∷ zs) (take-get xs i x got)
 
 -- what stands at a place still does in a longer list
 pub get_longer : {X : Type 0} (xs ys : List X) (i : ℕ) (x : X) → slice_get xs i ≡ Some x → slice_get (xs ++ ys) i ≡ Some x

@@ -10,7 +10,7 @@ use Rattle.dl_desk.specs.declared.event.Ending.{Ending}
 use Rattle.dl_history.specs.Journal.{Cell, waiting, showing, refused, Refuses, is_refused, refusals}
 use Rattle.dl_history.specs.LoaderState.{ShowsEnd}
 use Rattle.dl_loader.specs.Inside.Dues.{outcome_by, AreDue, CanEnd, AreGiven}
-use Rattle.dl_history.proofs.Pasts.{get-snoc, get-append_at}
+use Rattle.dl_history.proofs.ListLemmas.{get-snoc, get-append_at}
 use Rattle.dl_history.proofs.ListLemmas.{get_longer}
 use Rattle.dl_history.proofs.CellLists.{get-set_same, get-set_other, gets_end}
 

@@ -1,5 +1,5 @@
 -- What is known of what the threads of workers give back.
-use Rattle.dl_history.specs.Service.{Service}
+use Rattle.dl_desk.specs.Service.{Service}
 use Rattle.dl_queue.specs.Seats.{IsTakerOf, taken_jobs}
 use Rattle.dl_queue.specs.declared.queue.JobQueue.{JobQueue}
 use Rattle.dl_tasks.specs.declared.runs.WorkerRun.{WorkerRun}
