@@ -6,14 +6,17 @@ use Rattle.std.specs.List.{zip}
 use Rattle.std.specs.Map.{lookup}
 use Rattle.std.proofs.lemmas.List.{append-nil, map-append}
 use Rattle.dl_values.specs.Key.{Key}
-use Rattle.dl_values.specs.Limits.{Rules}
 use Rattle.dl_desk.specs.Laws.{OutcomesStay}
-use Rattle.dl_desk.specs.History.{Atom, Load, Begun, begins, cells, is_number, add_member, members}
-use Rattle.dl_desk.specs.Events.{Made, One, Many, Gave, Nothing, Given, Each, Broke, Event, with_loads, with_made, atoms, IsLegalPast, cell_batch, Placed}
-use Rattle.dl_desk.specs.Events.{ending, batch_cells, outcome_given, outcome}
-use Rattle.dl_desk.specs.declared.reply.LoadReply.{LoadReply}
+use Rattle.dl_desk.specs.Service.{Service}
+use Rattle.dl_desk.specs.Legal.{IsLegal}
+use Rattle.dl_desk.specs.History.{Atom, Begun, begins, cells, is_number, add_member, members}
+use Rattle.dl_desk.specs.Events.{call_atoms, atoms, cell_batch, Placed, ending, batch_cells, outcome_given, outcome}
+use Rattle.dl_desk.specs.declared.event.Event.{Event}
+use Rattle.dl_desk.specs.declared.event.Call.{Call}
+use Rattle.dl_desk.specs.declared.event.Call.TheVariants.{Load, LoadMany, Prime, Clear, ClearAll, Dispatch, Settle, Fail}
 use Rattle.dl_values.specs.declared.outcome.Outcome.{Outcome}
-use Rattle.dl_desk.proofs.LawEnds.{made-le, made_kept, ended-low, ending_stays}
+use Rattle.dl_desk.proofs.LawEnds.{cells-append, batch_stays, ended-low, ending_stays}
+use Rattle.dl_desk.proofs.PastAtoms.{legal_before}
 
 -- ---- members are added at the end
 
@@ -36,20 +39,15 @@ extends_atom b (Some g) ms = by (is_number b g.batch)
     by true = record { more = (g.key, g.cell) ∷ []; is = refl }
     by false = extends_same ms
 
-extends_loads : (ks : List Key) (rs : List LoadReply) (history : List Atom) (b : ℕ) → Extends (members history b) (members (with_loads ks rs history) b)
-extends_loads [] rs history b = extends_same (members history b)
-extends_loads (k ∷ ks) [] history b = extends_same (members history b)
-extends_loads (k ∷ ks) (r ∷ rs) history b = extends_on (members history b) (members (Load k r ∷ history) b)
-    (members (with_loads ks rs (Load k r ∷ history)) b) (extends_atom b (begins (Load k r)) (members history b)) (extends_loads ks rs (Load k r ∷ history) b)
-
-extends_made : (m : Made) (history : List Atom) (b : ℕ) → Extends (members history b) (members (with_made m history) b)
-extends_made (One a) history b = extends_atom b (begins a) (members history b)
-extends_made (Many ks rs) history b = extends_loads ks rs history b
+extends_append : (added history : List Atom) (b : ℕ) → Extends (members history b) (members (added ++ history) b)
+extends_append [] history b = extends_same (members history b)
+extends_append (a ∷ added) history b = extends_on (members history b) (members (added ++ history) b) (members (a ∷ (added ++ history)) b)
+    (extends_append added history b) (extends_atom b (begins a) (members (added ++ history) b))
 
 extends_past : (later before : List Event) (b : ℕ) → Extends (members (atoms before) b) (members (atoms (later ++ before)) b)
 extends_past [] before b = extends_same (members (atoms before) b)
-extends_past (e ∷ later) before b = extends_on (members (atoms before) b) (members (atoms (later ++ before)) b)
-    (members (with_made e.made (atoms (later ++ before))) b) (extends_past later before b) (extends_made e.made (atoms (later ++ before)) b)
+extends_past (e ∷ later) before b = extends_on (members (atoms before) b) (members (atoms (later ++ before)) b) (members (atoms (e ∷ (later ++ before))) b)
+    (extends_past later before b) (extends_append (call_atoms e.call e.reply) (atoms (later ++ before)) b)
 
 -- ---- the batch of a cell stays
 
@@ -57,16 +55,16 @@ cells-past : (later before : List Event) → cells (atoms before) ≤ cells (ato
 cells-past [] before = omega arith
 cells-past (e ∷ later) before =
     let rest = cells-past later before in
-    let one = made-le e.made (atoms (later ++ before)) in
+    let one = cells-append (call_atoms e.call e.reply) (atoms (later ++ before)) in
     omega arith
 
-batch_past : (rules : Rules) (later before : List Event) (c : ℕ) → IsLegalPast rules (later ++ before) → c < cells (atoms before)
+batch_past : (s : Service) (later before : List Event) (c : ℕ) → IsLegal s (later ++ before) → c < cells (atoms before)
     → cell_batch (atoms (later ++ before)) c ≡ cell_batch (atoms before) c
-batch_past rules [] before c legal low = refl
-batch_past rules (e ∷ later) before c legal low =
+batch_past s [] before c legal low = refl
+batch_past s (e ∷ later) before c legal low =
     let more = cells-past later before in
     let still : c < cells (atoms (later ++ before)) = omega arith in
-    made_kept rules (atoms (later ++ before)) e.made c legal.0 still ∙ batch_past rules later before c legal.1 low
+    batch_stays s e (later ++ before) c legal still ∙ batch_past s later before c legal.1 low
 
 -- ---- the outcome beside a cell
 
@@ -89,27 +87,27 @@ each_stays later before c found os (Some b) is =
     let e = extends_past later before b in
     rw (e.is, map-append) (beside c found (map (λ (m : Key × ℕ). m.1) (members (atoms before) b)) (map (λ (m : Key × ℕ). m.1) e.more) os is)
 
-given_stays : (rules : Rules) (later before : List Event) (c : ℕ) (found : Outcome) → IsLegalPast rules (later ++ before) → c < cells (atoms before)
-    → (g : Gave) → outcome_given (atoms before) c g ≡ Some found → outcome_given (atoms (later ++ before)) c g ≡ Some found
-given_stays rules later before c found legal low Nothing is = is
-given_stays rules later before c found legal low (Given o) is = is
-given_stays rules later before c found legal low (Each os) is = rw (batch_past rules later before c legal low)
+given_stays : (s : Service) (later before : List Event) (c : ℕ) (found : Outcome) → IsLegal s (later ++ before) → c < cells (atoms before)
+    → (call : Call) → outcome_given (atoms before) c call ≡ Some found → outcome_given (atoms (later ++ before)) c call ≡ Some found
+given_stays s later before c found legal low (Load k) is = is
+given_stays s later before c found legal low (LoadMany ks) is = is
+given_stays s later before c found legal low (Prime k o) is = is
+given_stays s later before c found legal low (Clear k) is = is
+given_stays s later before c found legal low ClearAll is = is
+given_stays s later before c found legal low Dispatch is = is
+given_stays s later before c found legal low (Settle b os) is = rw (batch_past s later before c legal low)
     (each_stays later before c found os (cell_batch (atoms before) c) is)
-given_stays rules later before c found legal low (Broke fault) is = is
+given_stays s later before c found legal low (Fail b fault) is = is
 
 -- ---- the law
 
-legal_before : (rules : Rules) (later before : List Event) → IsLegalPast rules (later ++ before) → IsLegalPast rules before
-legal_before rules [] before legal = legal
-legal_before rules (e ∷ later) before legal = legal_before rules later before legal.1
-
-outcome_stays : (rules : Rules) (later before : List Event) (c : ℕ) (found : Outcome) → IsLegalPast rules (later ++ before) → (o : Option Placed)
-    → ending before c ≡ o → option_and_then (λ (p : Placed). outcome_given (atoms before) c p.event.gave) o ≡ Some found
+outcome_stays : (s : Service) (later before : List Event) (c : ℕ) (found : Outcome) → IsLegal s (later ++ before) → (o : Option Placed)
+    → ending before c ≡ o → option_and_then (λ (p : Placed). outcome_given (atoms before) c p.event.call) o ≡ Some found
     → outcome (later ++ before) c ≡ Some found
-outcome_stays rules later before c found legal None is e = absurd (let bad : ◌≡◌ {A = Option Outcome} None (Some found) = e in cc)
-outcome_stays rules later before c found legal (Some p) is e =
-    let low = ended-low rules before c p (legal_before rules later before legal) is in
-    rw (ending_stays rules later before c p legal is) (given_stays rules later before c found legal low p.event.gave e)
+outcome_stays s later before c found legal None is e = absurd (let bad : ◌≡◌ {A = Option Outcome} None (Some found) = e in cc)
+outcome_stays s later before c found legal (Some p) is e =
+    let low = ended-low s before c p (legal_before s later before legal) is in
+    rw (ending_stays s later before c p legal is) (given_stays s later before c found legal low p.event.call e)
 
 pub outcomes_stay : OutcomesStay
-outcomes_stay rules later before c found legal is = outcome_stays rules later before c found legal (ending before c) refl is
+outcomes_stay s later before c found legal is = outcome_stays s later before c found legal (ending before c) refl is

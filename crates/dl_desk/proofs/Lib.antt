@@ -23,5 +23,6 @@ pub mod BatchEnd
 pub mod LawFacts
 pub mod LawFresh
 pub mod LawBatches
+pub mod PastAtoms
 pub mod LawEnds
 pub mod LawOutcomes

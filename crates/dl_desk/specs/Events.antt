@@ -1,65 +1,47 @@
--- Events: the calls of several callers, each with its reply, and which of them ended a cell.
-use Rattle.std.specs.Prelude.{◌≡◌, ℕ, Bool, false, ◌&&◌, List, [], ◌∷◌, length, map, Option, Some, None, option_map, is_none, if◌then◌else◌, nat_eq}
+-- Events: the calls of several callers, each with its reply, what they tell in atoms, and which of them ended a cell.
+use Rattle.std.specs.Prelude.{ℕ, Bool, false, List, [], ◌∷◌, ◌++◌, length, map, reverse, Option, Some, None, option_map, if◌then◌else◌, nat_eq}
 use Rattle.std.specs.Option.{option_or, option_and_then}
 use Rattle.std.specs.List.{zip}
 use Rattle.std.specs.Map.{lookup}
 use Rattle.dl_values.specs.Key.{Key}
-use Rattle.dl_values.specs.Limits.{Rules}
-use Rattle.dl_desk.specs.History.{Atom, Load, Prime, Clear, ClearAll, Dispatch, Settle, Fail, Begun, begins, members, load_replies, IsAnswered}
-use Rattle.dl_desk.specs.declared.reply.LoadReply.{LoadReply}
 use Rattle.dl_values.specs.declared.outcome.Outcome.{Outcome}
 use Rattle.dl_values.specs.declared.outcome.Outcome.TheVariants.{BatchFailed}
-use Rattle.dl_values.specs.declared.outcome.BatchFault.{BatchFault}
-
--- A call with its reply: that of an atom, or a loadMany, which is one call of many loads.
-pub data Made : Type 0 where
-  One : Atom → Made
-  Many : List Key → List LoadReply → Made
-
--- What a call gives to cells: a prime the outcome of its cell, a settle an outcome for each member of its
--- batch in order, a fail its fault to all of them.
-pub data Gave : Type 0 where
-  Nothing : Gave
-  Given : Outcome → Gave
-  Each : List Outcome → Gave
-  Broke : BatchFault → Gave
-
--- a call that a caller made, and what it gave
-pub record Event : Type 0 where
-  pub caller : ℕ
-  pub made : Made
-  pub gave : Gave
+use Rattle.dl_desk.specs.History.{Atom, Begun, begins, members}
+use Rattle.dl_desk.specs.History as atom
+use Rattle.dl_desk.specs.declared.event.Event.{Event}
+use Rattle.dl_desk.specs.declared.event.Call.{Call}
+use Rattle.dl_desk.specs.declared.event.Call.TheVariants.{Load, LoadMany, Prime, Clear, ClearAll, Dispatch, Settle, Fail}
+use Rattle.dl_desk.specs.declared.event.Reply.{Reply}
+use Rattle.dl_desk.specs.declared.event.Reply.TheVariants.{Loaded, Many, Primed, Kept, Sent}
+use Rattle.dl_desk.specs.declared.reply.LoadReply.{LoadReply}
+use Rattle.dl_desk.specs.declared.reply.DeskPrime.TheVariants as prime
 
 -- A past is a list of events, the newest first. The place of an event is how many stand before it, so
 -- that of the newest is the length of the rest.
 
 -- ---- the history of a past
 
--- the history with the loads of the keys and their replies, in order
-abbrev pub with_loads : List Key → List LoadReply → List Atom → List Atom
-with_loads [] rs history = history
-with_loads (k ∷ ks) [] history = history
-with_loads (k ∷ ks) (r ∷ rs) history = with_loads ks rs (Load k r ∷ history)
+-- the loads of the keys with their replies, the newest first
+abbrev pub loads : List Key → List LoadReply → List Atom
+loads ks rs = reverse (map (λ p. atom.Load p.0 p.1) (zip ks rs))
 
--- the history with a call
-abbrev pub with_made : Made → List Atom → List Atom
-with_made (One a) history = a ∷ history
-with_made (Many ks rs) history = with_loads ks rs history
+-- the atoms of a call with its reply, the newest first: a loadMany stands as its loads
+abbrev pub call_atoms : Call → Reply → List Atom
+call_atoms (Load k) (Loaded r) = atom.Load k r ∷ []
+call_atoms (LoadMany ks) (Many rs) = loads ks rs
+call_atoms (Prime k o) (Primed c) = atom.Prime k (prime.Primed c) ∷ []
+call_atoms (Prime k o) Kept = atom.Prime k prime.Kept ∷ []
+call_atoms (Clear k) reply = atom.Clear k ∷ []
+call_atoms ClearAll reply = atom.ClearAll ∷ []
+call_atoms Dispatch (Sent js) = atom.Dispatch js ∷ []
+call_atoms (Settle b os) reply = atom.Settle b ∷ []
+call_atoms (Fail b fault) reply = atom.Fail b ∷ []
+call_atoms call reply = []
 
--- the history that the events tell: each loadMany stands as its loads
+-- the history that the events tell
 abbrev pub atoms : List Event → List Atom
 atoms [] = []
-atoms (e ∷ before) = with_made e.made (atoms before)
-
--- a call has the reply that the history before it gives, and an end is one that may be
-abbrev pub IsReplied : Rules → List Atom → Made → Type 0
-IsReplied rules history (One a) = IsAnswered rules history a
-IsReplied rules history (Many ks rs) = rs ≡ load_replies rules history ks
-
--- each event of the past is replied to so
-abbrev pub IsLegalPast : Rules → List Event → Type 0
-IsLegalPast rules [] = Unit {0}
-IsLegalPast rules (e ∷ before) = IsReplied rules (atoms before) e.made × IsLegalPast rules before
+atoms (e ∷ before) = call_atoms e.call e.reply ++ atoms before
 
 -- ---- the end of a cell
 
@@ -71,33 +53,27 @@ pub record Placed : Type 0 where
 abbrev pub newest : List Event → Event → Placed
 newest before e = record { place = length before; event = e }
 
--- the newest event whose call passes the test
-abbrev pub last_of : (Made → Bool) → List Event → Option Placed
+-- the newest event that passes the test
+abbrev pub last_of : (Event → Bool) → List Event → Option Placed
 last_of test [] = None
-last_of test (e ∷ before) = if test e.made then Some (newest before e) else last_of test before
+last_of test (e ∷ before) = if test e then Some (newest before e) else last_of test before
 
-abbrev pub is_primed : ℕ → Option Begun → Bool
-is_primed c None = false
-is_primed c (Some g) = nat_eq c g.cell && is_none g.batch
+abbrev pub begins_primed : ℕ → Reply → Bool
+begins_primed c (Primed d) = nat_eq c d
+begins_primed c reply = false
 
--- whether the call is the prime that begins the cell
-abbrev pub primes : ℕ → Made → Bool
-primes c (One a) = is_primed c (begins a)
-primes c (Many ks rs) = false
+-- whether the event is the prime that begins the cell
+abbrev pub primes : ℕ → Event → Bool
+primes c e = begins_primed c e.reply
 
-abbrev pub ends_batch : ℕ → Atom → Bool
-ends_batch b (Load k r) = false
-ends_batch b (Prime k r) = false
-ends_batch b (Clear k) = false
-ends_batch b ClearAll = false
-ends_batch b (Dispatch js) = false
-ends_batch b (Settle n) = nat_eq b n
-ends_batch b (Fail n) = nat_eq b n
+abbrev pub ends_batch : ℕ → Call → Bool
+ends_batch b (Settle n os) = nat_eq b n
+ends_batch b (Fail n fault) = nat_eq b n
+ends_batch b call = false
 
--- whether the call settles or fails the batch
-abbrev pub ends : ℕ → Made → Bool
-ends b (One a) = ends_batch b a
-ends b (Many ks rs) = false
+-- whether the event settles or fails the batch
+abbrev pub ends : ℕ → Event → Bool
+ends b e = ends_batch b e.call
 
 abbrev pub batch_at : ℕ → Option Begun → Option ℕ → Option ℕ
 batch_at c None rest = rest
@@ -123,13 +99,14 @@ abbrev pub batch_cells : List Atom → Option ℕ → List ℕ
 batch_cells history None = []
 batch_cells history (Some b) = map (λ m. m.1) (members history b)
 
--- what is given to a cell, where an outcome for each member goes by the member's place
-abbrev pub outcome_given : List Atom → ℕ → Gave → Option Outcome
-outcome_given history c Nothing = None
-outcome_given history c (Given o) = Some o
-outcome_given history c (Each os) = lookup (nat_eq c) (zip (batch_cells history (cell_batch history c)) os)
-outcome_given history c (Broke fault) = Some (BatchFailed fault)
+-- What a call gives to a cell that it ends: a prime its outcome, a settle the outcome that stands where the
+-- cell stands among its batch's members, a fail its fault.
+abbrev pub outcome_given : List Atom → ℕ → Call → Option Outcome
+outcome_given history c (Prime k o) = Some o
+outcome_given history c (Settle b os) = lookup (nat_eq c) (zip (batch_cells history (cell_batch history c)) os)
+outcome_given history c (Fail b fault) = Some (BatchFailed fault)
+outcome_given history c call = None
 
 -- the outcome that the event which ended the cell gave it
 abbrev pub outcome : List Event → ℕ → Option Outcome
-outcome past c = option_and_then (λ p. outcome_given (atoms past) c p.event.gave) (ending past c)
+outcome past c = option_and_then (λ p. outcome_given (atoms past) c p.event.call) (ending past c)

@@ -4,9 +4,14 @@ use Rattle.std.specs.List.{list_any}
 use Rattle.dl_values.specs.Key.{Key}
 use Rattle.dl_values.specs.Limits.{Limits, Rules, by_table, limit_of}
 use Rattle.dl_desk.specs.History.{Atom, Load, IsLegal, members, forgets}
-use Rattle.dl_desk.specs.Events.{Event, IsLegalPast, ended, outcome}
+use Rattle.dl_desk.specs.Events.{atoms, ended, outcome}
+use Rattle.dl_desk.specs.Legal as event
+use Rattle.dl_desk.specs.Service.{Service}
+use Rattle.dl_desk.specs.declared.event.Event.{Event}
 use Rattle.dl_desk.specs.declared.reply.LoadReply.TheVariants.{Fresh}
 use Rattle.dl_values.specs.declared.outcome.Outcome.{Outcome}
+
+-- ---- histories
 
 -- Between two fresh loads of one key something forgets the key: a clear of it, a clear of all, or the
 -- failure of the first one's batch. So a key is fetched once between clears, unless its whole batch
@@ -41,12 +46,18 @@ abbrev pub BatchesByTableAreWithinLimits : Limits → List (List ℕ × ℕ) →
 BatchesByTableAreWithinLimits limits tables = (history : List Atom) → IsLegal (by_table limits tables) history → (batch : ℕ)
     → IsBatch (by_table limits tables) (members history batch)
 
+-- ---- pasts
+
+-- The history that a legal past tells is legal, so what is said above holds of it too.
+abbrev pub PastsTellLegalHistories : Type 0
+PastsTellLegalHistories = (service : Service) (past : List Event) → event.IsLegal service past → IsLegal service.rules (atoms past)
+
 -- a cell that was ended keeps the place of its end in every longer past
 abbrev pub EndsStay : Type 0
-EndsStay = (rules : Rules) (later before : List Event) (cell place : ℕ) → IsLegalPast rules (later ++ before) → ended before cell ≡ Some place
+EndsStay = (service : Service) (later before : List Event) (cell place : ℕ) → event.IsLegal service (later ++ before) → ended before cell ≡ Some place
     → ended (later ++ before) cell ≡ Some place
 
 -- and it keeps the outcome that it was given
 abbrev pub OutcomesStay : Type 0
-OutcomesStay = (rules : Rules) (later before : List Event) (cell : ℕ) (given : Outcome) → IsLegalPast rules (later ++ before)
+OutcomesStay = (service : Service) (later before : List Event) (cell : ℕ) (given : Outcome) → event.IsLegal service (later ++ before)
     → outcome before cell ≡ Some given → outcome (later ++ before) cell ≡ Some given

@@ -9,4 +9,6 @@ pub mod TableBook
 pub mod Marks
 pub mod Ready
 pub mod Events
+pub mod Service
+pub mod Legal
 pub mod Laws

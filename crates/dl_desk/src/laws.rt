@@ -1,7 +1,7 @@
 //! Laws of the definitions, for every legal history. Each function does nothing: its contract is the
 //! law.
 
-ghost use Rattle.dl_desk.specs.Laws.{FreshLoadsAreApart, BatchesAreWithinLimits, BatchesByTableAreWithinLimits, EndsStay, OutcomesStay};
+ghost use Rattle.dl_desk.specs.Laws.{FreshLoadsAreApart, BatchesAreWithinLimits, BatchesByTableAreWithinLimits, PastsTellLegalHistories, EndsStay, OutcomesStay};
 
 use dl_values::{Limits, TableLimits};
 
@@ -25,6 +25,11 @@ pub fn batches_by_table_are_within_limits(limits: &Limits, tables: &TableLimits)
     let _ = limits.max_batch();
     tables.keeps();
 }
+
+/// The history that a legal past of several callers' events tells is legal, so the laws above hold of it too.
+pub fn pasts_tell_legal_histories()
+    ensures { PastsTellLegalHistories }
+{}
 
 /// A cell that was ended keeps the place of its end, whatever is called after.
 pub fn ends_stay()

@@ -2,7 +2,7 @@
 use Rattle.std.proofs.Common.{◌≡◌, ◌∙◌, ap, subst, ℕ, List, [], ◌∷◌, ◌++◌, append_assoc}
 use Rattle.dl_values.specs.declared.job.Job.{Job}
 use Rattle.dl_history.specs.Entries.{Entry}
-use Rattle.dl_history.specs.Service.{Service}
+use Rattle.dl_desk.specs.Service.{Service}
 use Rattle.dl_loader.specs.Pass.{Trace}
 use Rattle.dl_loader.specs.JobEnd.{AreEndsOf, IsEndOf, WasEnded}
 use Rattle.dl_loader.proofs.EndEntries.{end_adds}

@@ -2,7 +2,7 @@
 use Rattle.std.proofs.Common.{◌≡◌, subst, ℕ, inl, inr, refl, Some}
 use Rattle.dl_values.specs.declared.job.Job.{Job}
 use Rattle.dl_history.specs.Flags.{KnownFlags}
-use Rattle.dl_history.specs.Service.{Service}
+use Rattle.dl_desk.specs.Service.{Service}
 use Rattle.dl_loader.specs.Pass.{Trace}
 use Rattle.dl_history.specs.declared.fault.CallFault.{CallFault}
 use Rattle.dl_loader.specs.EventEffect.{KnowsStop}

@@ -3,7 +3,7 @@ use Rattle.std.proofs.Common.{◌≡◌, ◌∙◌, ap, subst, refl, ℕ, List, 
 use Rattle.dl_values.specs.declared.job.Job.{Job}
 use Rattle.dl_values.specs.declared.outcome.BatchFault.TheVariants.{Unsent}
 use Rattle.dl_history.specs.Entries.{Entry}
-use Rattle.dl_history.specs.Service.{Service}
+use Rattle.dl_desk.specs.Service.{Service}
 use Rattle.dl_desk.specs.declared.event.Call.TheVariants.{Fail}
 use Rattle.dl_desk.specs.declared.event.Reply.TheVariants.{Done}
 use Rattle.dl_loader.specs.Additions.{call_entry}

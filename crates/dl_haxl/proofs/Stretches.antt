@@ -2,7 +2,7 @@
 use Rattle.std.proofs.Common.{◌≡◌, ◌∙◌, ap, sym, subst, refl, ℕ, suc, ◌+◌, List, [], ◌∷◌, ◌++◌, length, append_assoc, append-nil, arith, zero, ◌≤◌}
 use Rattle.std.proofs.Common.{length-append}
 use Rattle.dl_history.specs.Entries.{Entry, calls_of}
-use Rattle.dl_history.specs.Service.{Service}
+use Rattle.dl_desk.specs.Service.{Service}
 use Rattle.dl_desk.specs.declared.event.Call.{Call}
 use Rattle.dl_desk.specs.declared.event.Reply.{Reply}
 use Rattle.dl_loader.specs.EventEffect.{WasMade}

@@ -6,7 +6,7 @@ use Rattle.dl_values.specs.declared.outcome.BatchFault.TheVariants.{Unsent}
 use Rattle.dl_values.specs.declared.job.Job.{Job}
 use Rattle.dl_desk.specs.declared.reply.LoadReply.{LoadReply}
 use Rattle.dl_history.specs.Entries.{Entry}
-use Rattle.dl_history.specs.Service.{Service}
+use Rattle.dl_desk.specs.Service.{Service}
 use Rattle.dl_desk.specs.declared.event.Call.TheVariants.{LoadMany, Dispatch, Fail}
 use Rattle.dl_desk.specs.declared.event.Ending.{Ending}
 use Rattle.dl_desk.specs.declared.event.Reply.TheVariants.{Many, Sent, Done}

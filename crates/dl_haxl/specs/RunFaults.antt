@@ -2,7 +2,7 @@
 use Rattle.std.specs.Prelude.{◌≡◌, ◌⊎◌, ℕ, true, Option}
 use Rattle.dl_values.specs.declared.job.Job.{Job}
 use Rattle.dl_history.specs.Flags.{KnownFlags}
-use Rattle.dl_history.specs.Service.{Service}
+use Rattle.dl_desk.specs.Service.{Service}
 use Rattle.dl_desk.specs.declared.event.Call as event
 use Rattle.dl_loader.specs.EventEffect.{KnowsStop, WasRefused}
 use Rattle.dl_loader.specs.Pass.{Trace}

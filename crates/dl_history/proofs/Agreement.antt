@@ -17,11 +17,11 @@ use Rattle.dl_history.specs.Entries.{PlacedEvent, Read, Entry, Called, Saw, call
 use Rattle.dl_history.specs.History.{past, IsLegal, ending_of}
 use Rattle.dl_history.specs.Journal.{Cell, is_refused}
 use Rattle.dl_history.specs.Lists.{Every, places}
-use Rattle.dl_history.specs.Service.{Service, AnswersEach}
+use Rattle.dl_desk.specs.Service.{Service, AnswersEach}
 use Rattle.dl_history.proofs.AllCellsEnd.{shows_end}
 use Rattle.dl_history.proofs.PlaceCounts.{Rises, StandsAt, Stand, AreOwn, each_is_its_part}
-use Rattle.dl_history.proofs.Pasts.{get-inside}
-use Rattle.dl_history.proofs.ListLemmas.{every_among, every_append_both, every_from}
+use Rattle.dl_history.proofs.ListLemmas.{get-inside, every_among, every_append, every_from}
+use Rattle.dl_history.proofs.Pasts.{legal_place}
 use Rattle.dl_history.proofs.CellsOfCalls.{AllBelow, answered_low}
 
 -- ---- one entry
@@ -90,7 +90,7 @@ entries_tell s b cs [] kept each all low front shown answered meets = tt
 entries_tell s b cs (Called t ∷ entries) kept each all low front shown answered meets =
     let tells = call_tells b.history t (omega arith) meets.0 in
     let begun = answered_low s b.history t.at t.event kept.legal tells in
-    let more = every_append_both (λ c. c < cells (atoms (past b.history))) cs (answered_by t) low begun in
+    let more = every_append (λ c. c < cells (atoms (past b.history))) cs (answered_by t) low begun in
     (tells, entries_tell s b (cs ++ answered_by t) entries kept each all more (omega arith) shown answered.1 meets.1)
   where
     answered_by : PlacedEvent → List ℕ
@@ -98,7 +98,7 @@ entries_tell s b cs (Called t ∷ entries) kept each all low front shown answere
 entries_tell s b cs (Saw r ∷ entries) kept each all low front shown answered meets =
     let parts = none_refused_parts b.cells (r.cell ∷ []) (flat_map read_in entries) shown in
     let own = every_among (λ c. c < cells (atoms (past b.history))) cs r.cell answered.0 low in
-    let more = every_append_both (λ c. c < cells (atoms (past b.history))) cs [] low tt in (
+    let more = every_append (λ c. c < cells (atoms (past b.history))) cs [] low tt in (
       read_tells s b r kept each all own (one_shown b.cells r.cell parts.0) meets.0,
       entries_tell s b (cs ++ []) entries kept each all more (omega arith) parts.1
           answered.1 meets.1,
@@ -158,7 +158,7 @@ all_have callers es states (a ∷ accounts) fronts fits places = (
 all_once : (s : Service) (es : List Event) (accounts : List Account) → IsLegal s es → HasEach s.callers accounts
     → Every (λ (e : Event). accounts_by e.caller accounts ≡ 1) es
 all_once s es accounts legal each =
-    every_from (λ (e : Event). accounts_by e.caller accounts ≡ 1) es (λ k e got. let next = legal.at k e got in each e.caller next.caller)
+    every_from (λ (e : Event). accounts_by e.caller accounts ≡ 1) es (λ k e got. let next = legal_place s es k e legal got in each e.caller next.caller)
 
 fronts_of : (len : ℕ) (accounts : List Account) → NoneBehind len accounts → Every (λ a. front_of a.entries ≤ len) accounts
 fronts_of len accounts seen = every_from (λ (a : Account). front_of a.entries ≤ len) accounts (λ k a got. seen a (k, got))

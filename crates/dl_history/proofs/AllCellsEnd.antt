@@ -1,26 +1,28 @@
 -- Where each batch has ended, each cell that was begun has an end and shows it.
-use Rattle.std.proofs.Common.{◌≡◌, ◌∙◌, sym, ℕ, ◌<◌, ◌≤◌, ◌⊎◌, inl, inr, Bool, true, false, cond, ◌||◌, List, [], ◌∷◌, Option, Some, None, IsSome, nat_eq, refl}
+use Rattle.std.proofs.Common.{◌≡◌, ◌∙◌, sym, ap, subst, ℕ, ◌<◌, ◌≤◌, ◌⊎◌, inl, inr, Bool, true, false, cond, ◌||◌, List, [], ◌∷◌, Option, Some, None, IsSome, nat_eq, refl}
 use Rattle.std.proofs.Common.{arith}
 use Rattle.std.specs.Option.{option_or}
-use Rattle.std.proofs.lemmas.Bool.{and_right, cases_lt, eq-eqb, ltb-true}
+use Rattle.std.proofs.lemmas.Bool.{cases_lt, eq-eqb, ltb-true}
 use Rattle.dl_values.specs.Key.{Key}
 use Rattle.dl_values.specs.Limits.{Rules}
-use Rattle.dl_desk.specs.History.{Atom, Load, Prime, Clear, ClearAll, Dispatch, Settle, Fail, Begun, begins, cells, count_cell, is_number, batch_of, is_named}
-use Rattle.dl_desk.specs.History.{begun, load_reply, load_replies, end_of, IsAnswered, IsLegal}
-use Rattle.dl_desk.specs.Events.{Made, One, Many, Event, with_loads, with_made, atoms, IsReplied, IsLegalPast, Placed, newest, last_of, primes, ends_batch, ends}
-use Rattle.dl_desk.specs.Events.{batch_at, cell_batch, ending, ended}
-use Rattle.dl_desk.specs.declared.reply.LoadReply.{LoadReply}
-use Rattle.dl_desk.specs.declared.reply.LoadReply.TheVariants.{Hit, Fresh}
+use Rattle.dl_desk.specs.History.{Atom, Begun, begins, cells, is_number, batch_of, is_named, begun, room, held, load_reply, load_reply_at, prime_reply_at}
+use Rattle.dl_desk.specs.History.{loaded, end_of}
+use Rattle.dl_desk.specs.History as atom
+use Rattle.dl_desk.specs.Events.{atoms, Placed, newest, last_of, begins_primed, primes, ends_batch, ends, batch_at, cell_batch, ending, ended}
+use Rattle.dl_desk.specs.Calls.{after}
+use Rattle.dl_desk.specs.Calls.{primed}
+use Rattle.dl_desk.specs.Legal.{reply_to, call_of, IsNext}
+use Rattle.dl_desk.specs.Legal as desk
+use Rattle.dl_desk.specs.Service.{Service, AnswersEach}
+use Rattle.dl_desk.specs.declared.event.Event.{Event}
+use Rattle.dl_desk.specs.declared.event.Call.{Call}
+use Rattle.dl_desk.specs.declared.event.Call.TheVariants.{Load, LoadMany, Prime, Clear, ClearAll, Dispatch, Settle, Fail}
 use Rattle.dl_desk.specs.declared.reply.End.{End}
 use Rattle.dl_desk.specs.declared.reply.End.TheVariants.{Settled, Failed}
-use Rattle.dl_desk.proofs.Facts.{fresh_cell, named}
-use Rattle.dl_desk.proofs.LawEnds.{made_kept, atoms_legal}
-use Rattle.dl_desk.specs.declared.event.Event as event
-use Rattle.dl_history.specs.Service.{Service, AnswersEach}
-use Rattle.dl_history.specs.History.{past, ending_of}
-use Rattle.dl_history.specs.History as legal
-use Rattle.dl_history.specs.History.{AllEnded}
-use Rattle.dl_history.proofs.Pasts.{legal_past}
+use Rattle.dl_desk.proofs.Facts.{named}
+use Rattle.dl_desk.proofs.LawEnds.{batch_kept, batch_stays}
+use Rattle.dl_desk.proofs.PastAtoms.{legal_atoms, atoms_next}
+use Rattle.dl_history.specs.History.{past, IsLegal, ending_of, AllEnded}
 use Rattle.dl_history.proofs.Outcomes.{has_outcome}
 
 -- ---- how a cell was begun
@@ -29,79 +31,89 @@ use Rattle.dl_history.proofs.Outcomes.{has_outcome}
 abbrev IsBatched : List Atom → ℕ → Type 0
 IsBatched history c = (b : ℕ) × (cell_batch history c ≡ Some b)
 
-begun_by : (history : List Atom) (a : Atom) (c : ℕ) (g : Begun) → begins a ≡ Some g → c ≡ g.cell → IsBatched (a ∷ history) c ⊎ (primes c (One a) ≡ true)
-begun_by history a c g is same = by g.batch refl
-  where
-    by : (o : Option ℕ) → g.batch ≡ o → IsBatched (a ∷ history) c ⊎ (primes c (One a) ≡ true)
-    by (Some b) batch = inl (b, rw (is, eq-eqb c g.cell same) batch)
-    by None batch = inr (rw (is, eq-eqb c g.cell same, batch) refl)
+load_begins : (rules : Rules) (history : List Atom) (k : Key) (c : ℕ) (o : Option ℕ) → cells history ≤ c
+    → c < cells (atom.Load k (load_reply_at rules history k o) ∷ history) → IsBatched (atom.Load k (load_reply_at rules history k o) ∷ history) c
+load_begins rules history k c None high low =
+    let same : c ≡ cells history = omega arith in
+    (room rules history k, rw (eq-eqb c (cells history) same) refl)
+load_begins rules history k c (Some d) high low = absurd (omega arith)
 
-atom_begins : (rules : Rules) (history : List Atom) (a : Atom) (c : ℕ) → IsAnswered rules history a → cells history ≤ c → c < cells (a ∷ history)
-    → IsBatched (a ∷ history) c ⊎ (primes c (One a) ≡ true)
-atom_begins rules history a c answered high low = by (begins a) refl low
-  where
-    by : (o : Option Begun) → begins a ≡ o → c < count_cell o (cells history) → IsBatched (a ∷ history) c ⊎ (primes c (One a) ≡ true)
-    by None is l = absurd (omega arith)
-    by (Some g) is l =
-        let next : g.cell ≡ cells history = (fresh_cell rules history a g answered is).cell_is in
-        begun_by history a c g is (omega arith)
+load_le : (rules : Rules) (history : List Atom) (k : Key) (o : Option ℕ) → cells history ≤ cells (atom.Load k (load_reply_at rules history k o) ∷ history)
+load_le rules history k None = omega arith
+load_le rules history k (Some d) = omega arith
 
-load_unprimed : (c : ℕ) (k : Key) (r : LoadReply) → primes c (One (Load k r)) ≡ true → ⊥
-load_unprimed c k (Hit d) is = let bad : false ≡ true = is in cc
-load_unprimed c k (Fresh d b) is =
-    let none : primes c (One (Load k (Fresh d b))) ≡ false = and_right (nat_eq c d) false refl in
-    let bad : false ≡ true = sym none ∙ is in
-    cc
+-- loads leave the batch of each cell that was begun
+loads_keep : (rules : Rules) (history : List Atom) (ks : List Key) (c : ℕ) → c < cells history
+    → cell_batch (loaded rules history ks) c ≡ cell_batch history c
+loads_keep rules history [] c low = refl
+loads_keep rules history (k ∷ ks) c low =
+    let a = atom.Load k (load_reply rules history k) in
+    let more = load_le rules history k (held history k) in
+    let still : c < cells (a ∷ history) = omega arith in
+    loads_keep rules (a ∷ history) ks c still ∙ batch_kept rules history a c (begins a) refl refl low
 
-loads_begin : (rules : Rules) (history : List Atom) (ks : List Key) (c : ℕ) → cells history ≤ c
-    → c < cells (with_loads ks (load_replies rules history ks) history) → IsBatched (with_loads ks (load_replies rules history ks) history) c
+loads_begin : (rules : Rules) (history : List Atom) (ks : List Key) (c : ℕ) → cells history ≤ c → c < cells (loaded rules history ks)
+    → IsBatched (loaded rules history ks) c
 loads_begin rules history [] c high low = absurd (omega arith)
-loads_begin rules history (k ∷ ks) c high low = by (loads_begin rules (Load k r ∷ history) ks c) (cases_lt c (cells (Load k r ∷ history)))
+loads_begin rules history (k ∷ ks) c high low = by (cases_lt c (cells now)) (loads_begin rules now ks c)
   where
-    r : LoadReply
-    r = load_reply rules history k
-
     now : List Atom
-    now = Load k r ∷ history
+    now = atom.Load k (load_reply rules history k) ∷ history
 
-    first : IsBatched now c ⊎ (primes c (One (Load k r)) ≡ true) → c < cells now → IsBatched (with_loads ks (load_replies rules now ks) now) c
-    first (inl batched) l = (batched.0, made_kept rules now (Many ks (load_replies rules now ks)) c refl l ∙ batched.1)
-    first (inr primed) l = absurd (load_unprimed c k r primed)
+    by : (c < cells now) ⊎ (cells now ≤ c) → (cells now ≤ c → c < cells (loaded rules now ks) → IsBatched (loaded rules now ks) c)
+        → IsBatched (loaded rules now ks) c
+    by (inl l) rest = let here = load_begins rules history k c (held history k) high l in (here.0, loads_keep rules now ks c l ∙ here.1)
+    by (inr h) rest = rest h low
 
-    by : (cells now ≤ c → c < cells (with_loads ks (load_replies rules now ks) now) → IsBatched (with_loads ks (load_replies rules now ks) now) c)
-        → (c < cells now) ⊎ (cells now ≤ c) → IsBatched (with_loads ks (load_replies rules now ks) now) c
-    by rest (inl l) = first (atom_begins rules history (Load k r) c refl high l) l
-    by rest (inr h) = rest h low
+prime_begins : (history : List Atom) (k : Key) (c : ℕ) (o : Option ℕ) → cells history ≤ c → c < cells (atom.Prime k (prime_reply_at history o) ∷ history)
+    → begins_primed c (primed (prime_reply_at history o)) ≡ true
+prime_begins history k c None high low = eq-eqb c (cells history) (omega arith)
+prime_begins history k c (Some d) high low = absurd (omega arith)
 
-made_begins : (rules : Rules) (history : List Atom) (m : Made) (c : ℕ) → IsReplied rules history m → cells history ≤ c → c < cells (with_made m history)
-    → IsBatched (with_made m history) c ⊎ (primes c m ≡ true)
-made_begins rules history (One a) c replied high low = atom_begins rules history a c replied high low
-made_begins rules history (Many ks rs) c replied high low = rw replied (inl (loads_begin rules history ks c high (rw replied at low)))
+call_begins : (rules : Rules) (history : List Atom) (call : Call) (c : ℕ) → cells history ≤ c → c < cells (after rules history (call_of call))
+    → IsBatched (after rules history (call_of call)) c ⊎ (begins_primed c (reply_to rules history call) ≡ true)
+call_begins rules history (Load k) c high low = inl (loads_begin rules history (k ∷ []) c high low)
+call_begins rules history (LoadMany ks) c high low = inl (loads_begin rules history ks c high low)
+call_begins rules history (Prime k o) c high low = inr (prime_begins history k c (held history k) high low)
+call_begins rules history (Clear k) c high low = absurd (omega arith)
+call_begins rules history ClearAll c high low = absurd (omega arith)
+call_begins rules history Dispatch c high low = absurd (omega arith)
+call_begins rules history (Settle b os) c high low = absurd (omega arith)
+call_begins rules history (Fail b fault) c high low = absurd (omega arith)
 
 -- a cell that was begun has a batch, or a prime began it
 abbrev IsBegun : List Event → ℕ → Type 0
 IsBegun past c = IsBatched (atoms past) c ⊎ ((p : Placed) × (last_of (primes c) past ≡ Some p))
 
-begun_more : (rules : Rules) (e : Event) (before : List Event) (c : ℕ) → IsReplied rules (atoms before) e.made → c < cells (atoms before) → IsBegun before c
+begun_more : (s : Service) (e : Event) (before : List Event) (c : ℕ) → desk.IsLegal s (e ∷ before) → c < cells (atoms before) → IsBegun before c
     → IsBegun (e ∷ before) c
-begun_more rules e before c replied low (inl batched) = inl (batched.0, made_kept rules (atoms before) e.made c replied low ∙ batched.1)
-begun_more rules e before c replied low (inr primed) = inr (by (primes c e.made))
+begun_more s e before c legal low (inl batched) = inl (batched.0, batch_stays s e before c legal low ∙ batched.1)
+begun_more s e before c legal low (inr primed) = inr (by (primes c e))
   where
     by : (t : Bool) → (p : Placed) × (cond t (Some (newest before e)) (last_of (primes c) before) ≡ Some p)
     by true = (newest before e, refl)
     by false = primed
 
-begun_now : (e : Event) (before : List Event) (c : ℕ) → IsBatched (with_made e.made (atoms before)) c ⊎ (primes c e.made ≡ true) → IsBegun (e ∷ before) c
-begun_now e before c (inl batched) = inl batched
-begun_now e before c (inr primed) = inr (newest before e, rw primed refl)
+begun_now : (s : Service) (e : Event) (before : List Event) (c : ℕ) → IsNext s before e → cells (atoms before) ≤ c → c < cells (atoms (e ∷ before))
+    → IsBegun (e ∷ before) c
+begun_now s e before c next high low =
+    let told : atoms (e ∷ before) ≡ after s.rules (atoms before) (call_of e.call) = atoms_next s before e next in
+    by told (call_begins s.rules (atoms before) e.call c high (rw told at low))
+  where
+    by : atoms (e ∷ before) ≡ after s.rules (atoms before) (call_of e.call)
+        → IsBatched (after s.rules (atoms before) (call_of e.call)) c ⊎ (begins_primed c (reply_to s.rules (atoms before) e.call) ≡ true) → IsBegun (e ∷ before) c
+    by told (inl batched) = inl (batched.0, ap (λ (h : List Atom). cell_batch h c) told ∙ batched.1)
+    by told (inr primed) =
+        let now : primes c e ≡ true = rw next.reply primed in
+        inr (newest before e, rw now refl)
 
-is_begun : (rules : Rules) (past : List Event) (c : ℕ) → IsLegalPast rules past → c < cells (atoms past) → IsBegun past c
-is_begun rules [] c legal low = absurd (omega arith)
-is_begun rules (e ∷ before) c legal low = by (is_begun rules before c legal.1) (cases_lt c (cells (atoms before)))
+is_begun : (s : Service) (past : List Event) (c : ℕ) → desk.IsLegal s past → c < cells (atoms past) → IsBegun past c
+is_begun s [] c legal low = absurd (omega arith)
+is_begun s (e ∷ before) c legal low = by (is_begun s before c legal.1) (cases_lt c (cells (atoms before)))
   where
     by : (c < cells (atoms before) → IsBegun before c) → (c < cells (atoms before)) ⊎ (cells (atoms before) ≤ c) → IsBegun (e ∷ before) c
-    by rest (inl old) = begun_more rules e before c legal.0 old (rest old)
-    by rest (inr new) = begun_now e before c (made_begins rules (atoms before) e.made c legal.0 new low)
+    by rest (inl old) = begun_more s e before c legal old (rest old)
+    by rest (inr new) = begun_now s e before c legal.0 new low
 
 -- ---- the batch of a cell
 
@@ -124,7 +136,7 @@ batch_named [] c b is = absurd (let bad : ◌≡◌ {A = Option ℕ} None (Some 
 batch_named (a ∷ before) c b is = named_at before c b (begins a) (batch_named before c b) is
 
 -- so it is one of those that were begun
-batch_begun : (rules : Rules) (history : List Atom) (c b : ℕ) → IsLegal rules history → cell_batch history c ≡ Some b → b < begun history
+batch_begun : (rules : Rules) (history : List Atom) (c b : ℕ) → atom.IsLegal rules history → cell_batch history c ≡ Some b → b < begun history
 batch_begun rules history c b legal is = ltb-true b (begun history) (sym (named rules history legal b) ∙ batch_named history c b is)
 
 -- ---- the end of a batch
@@ -132,33 +144,34 @@ batch_begun rules history c b legal is = ltb-true b (begun history) (sym (named 
 end_other : (b n : ℕ) (e : End) (rest : Option End) → nat_eq b n ≡ false → cond (nat_eq b n) (Some e) rest ≡ rest
 end_other b n e rest other = rw other refl
 
-atom_keeps : (a : Atom) (history : List Atom) (b : ℕ) → ends_batch b a ≡ false → end_of (a ∷ history) b ≡ end_of history b
-atom_keeps (Load k r) history b none = refl
-atom_keeps (Prime k r) history b none = refl
-atom_keeps (Clear k) history b none = refl
-atom_keeps ClearAll history b none = refl
-atom_keeps (Dispatch js) history b none = refl
-atom_keeps (Settle n) history b none = end_other b n Settled (end_of history b) none
-atom_keeps (Fail n) history b none = end_other b n Failed (end_of history b) none
+loads_unending : (rules : Rules) (history : List Atom) (ks : List Key) (b : ℕ) → end_of (loaded rules history ks) b ≡ end_of history b
+loads_unending rules history [] b = refl
+loads_unending rules history (k ∷ ks) b = loads_unending rules (atom.Load k (load_reply rules history k) ∷ history) ks b
 
-loads_keep : (ks : List Key) (rs : List LoadReply) (history : List Atom) (b : ℕ) → end_of (with_loads ks rs history) b ≡ end_of history b
-loads_keep [] rs history b = refl
-loads_keep (k ∷ ks) [] history b = refl
-loads_keep (k ∷ ks) (r ∷ rs) history b = loads_keep ks rs (Load k r ∷ history) b
-
-made_keeps : (m : Made) (history : List Atom) (b : ℕ) → ends b m ≡ false → end_of (with_made m history) b ≡ end_of history b
-made_keeps (One a) history b none = atom_keeps a history b none
-made_keeps (Many ks rs) history b none = loads_keep ks rs history b
+call_unending : (rules : Rules) (history : List Atom) (call : Call) (b : ℕ) → ends_batch b call ≡ false
+    → end_of (after rules history (call_of call)) b ≡ end_of history b
+call_unending rules history (Load k) b none = refl
+call_unending rules history (LoadMany ks) b none = loads_unending rules history ks b
+call_unending rules history (Prime k o) b none = refl
+call_unending rules history (Clear k) b none = refl
+call_unending rules history ClearAll b none = refl
+call_unending rules history Dispatch b none = refl
+call_unending rules history (Settle n os) b none = end_other b n Settled (end_of history b) none
+call_unending rules history (Fail n fault) b none = end_other b n Failed (end_of history b) none
 
 -- a batch that has ended was ended by an event
-last_ended : (past : List Event) (b : ℕ) → IsSome (end_of (atoms past) b) → (p : Placed) × (last_of (ends b) past ≡ Some p)
-last_ended [] b some = absurd (let bad : false ≡ true = some in cc)
-last_ended (e ∷ before) b some = by (last_ended before b) (ends b e.made) refl
+last_ended : (s : Service) (past : List Event) (b : ℕ) → desk.IsLegal s past → IsSome (end_of (atoms past) b)
+    → (p : Placed) × (last_of (ends b) past ≡ Some p)
+last_ended s [] b legal some = absurd (let bad : false ≡ true = some in cc)
+last_ended s (e ∷ before) b legal some = by (last_ended s before b legal.1) (ends b e) refl
   where
-    by : (IsSome (end_of (atoms before) b) → (p : Placed) × (last_of (ends b) before ≡ Some p)) → (t : Bool) → ends b e.made ≡ t
+    by : (IsSome (end_of (atoms before) b) → (p : Placed) × (last_of (ends b) before ≡ Some p)) → (t : Bool) → ends b e ≡ t
         → (p : Placed) × (cond t (Some (newest before e)) (last_of (ends b) before) ≡ Some p)
     by rest true now = (newest before e, refl)
-    by rest false other = rest (rw (made_keeps e.made (atoms before) b other) at some)
+    by rest false other =
+        let same : end_of (atoms (e ∷ before)) b ≡ end_of (atoms before) b =
+        ap (λ (h : List Atom). end_of h b) (atoms_next s before e legal.0) ∙ call_unending s.rules (atoms before) e.call b other in
+        rest (subst (λ (o : Option End). IsSome o) same some)
 
 -- ---- the end of a cell
 
@@ -168,22 +181,22 @@ ended_batch past b (Some q) end = (q, refl)
 ended_batch past b None end = end
 
 -- where each batch has ended, so has each cell that was begun
-has_ended : (rules : Rules) (past : List Event) (c : ℕ) → IsLegalPast rules past → ((b : ℕ) → b < begun (atoms past) → IsSome (end_of (atoms past) b))
+has_ended : (s : Service) (past : List Event) (c : ℕ) → desk.IsLegal s past → ((b : ℕ) → b < begun (atoms past) → IsSome (end_of (atoms past) b))
     → c < cells (atoms past) → (p : Placed) × (ending past c ≡ Some p)
-has_ended rules past c legal all low = by (is_begun rules past c legal low)
+has_ended s past c legal all low = by (is_begun s past c legal low)
   where
     by : IsBegun past c → (p : Placed) × (ending past c ≡ Some p)
     by (inl batched) =
         let b = batched.0 in
-        let sent = batch_begun rules (atoms past) c b (atoms_legal rules past legal) batched.1 in
-        rw batched.1 (ended_batch past b (last_of (primes c) past) (last_ended past b (all b sent)))
+        let sent = batch_begun s.rules (atoms past) c b (legal_atoms s past legal) batched.1 in
+        rw batched.1 (ended_batch past b (last_of (primes c) past) (last_ended s past b legal (all b sent)))
     by (inr primed) = (primed.0, rw primed.1 refl)
 
 -- and shows its outcome
-pub shows_end : (s : Service) (es : List event.Event) (c : ℕ) → AnswersEach s.answer → legal.IsLegal s es → AllEnded es → c < cells (atoms (past es))
+pub shows_end : (s : Service) (es : List Event) (c : ℕ) → AnswersEach s.answer → IsLegal s es → AllEnded es → c < cells (atoms (past es))
     → IsSome (ending_of es c)
 shows_end s es c each legal all low =
-    let end = has_ended s.rules (past es) c (legal_past s es legal) all low in
+    let end = has_ended s (past es) c legal all low in
     let at : ended (past es) c ≡ Some end.0.place = rw end.1 refl in
     let given = has_outcome s es c end.0.place each legal at in
     rw (at, given.1) refl

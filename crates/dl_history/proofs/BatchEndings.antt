@@ -13,9 +13,10 @@ use Rattle.dl_values.specs.declared.outcome.Outcome.TheVariants.{BatchFailed}
 use Rattle.dl_values.specs.declared.outcome.BatchFault.{BatchFault}
 use Rattle.dl_desk.specs.declared.event.Event.{Event}
 use Rattle.dl_desk.specs.declared.event.Call.TheVariants.{Settle, Fail}
-use Rattle.dl_history.specs.Service.{Service, AnswersEach}
-use Rattle.dl_history.specs.History.{made, as_made, past, keys_of, MayBeMade, IsNext, IsLegal, ending_of}
-use Rattle.dl_history.proofs.Pasts.{legal_atoms, legal_next}
+use Rattle.dl_desk.specs.Service.{Service, AnswersEach}
+use Rattle.dl_desk.specs.Legal.{keys_of, MayBeMade, IsNext}
+use Rattle.dl_desk.proofs.PastAtoms.{legal_atoms}
+use Rattle.dl_history.specs.History.{past, IsLegal, ending_of}
 use Rattle.dl_history.proofs.CellBatches.{NoCell, Rising, cell_member, member_cell, members-rise}
 use Rattle.dl_history.proofs.PastEnds.{Spares, ending_batch}
 use Rattle.dl_history.proofs.Endings.{spared_stays, shows_newest}
@@ -45,32 +46,32 @@ other_batch : (history : List Atom) (b c n : ℕ) → NoCell (members history b)
 other_batch history b c n none is = ne_eqb n b (λ e. let h = cell_member history c b (rw e at is) in none h.place h.member h.at h.is)
 
 -- each member's cell shows the outcome at the member's place
-pub settled_end : (s : Service) (es : List Event) (e : Event) (b : ℕ) (os : List Outcome) (i : ℕ) (m : Key × ℕ) (o : Outcome) → IsLegal s es → IsNext s es e
+pub settled_end : (s : Service) (es : List Event) (e : Event) (b : ℕ) (os : List Outcome) (i : ℕ) (m : Key × ℕ) (o : Outcome) → IsLegal s es → IsNext s (past es) e
     → e.call ≡ Settle b os → slice_get (members (atoms (past es)) b) i ≡ Some m → slice_get os i ≡ Some o
     → ending_of (es ++ e ∷ []) m.1 ≡ Some (record { at = length es; outcome = o })
 settled_end s es e b os i m o legal next is got given =
     let H = atoms (past es) in
-    let batch : cell_batch H m.1 ≡ Some b = member_cell s.rules H b i m (legal_atoms s es legal) got in
-    let now : ends b (made e.call e.reply) ≡ true = rw (next.reply, is) (eq-eqb b b refl) in
-    let newest_is = ending_batch s.rules (as_made e) (past es) m.1 b (legal_next s es e legal next) batch now in
+    let batch : cell_batch H m.1 ≡ Some b = member_cell s.rules H b i m (legal_atoms s (past es) legal) got in
+    let now : ends b e ≡ true = rw is (eq-eqb b b refl) in
+    let newest_is = ending_batch s e (past es) m.1 b (next, legal) batch now in
     shows_newest es e m.1 o newest_is
-    (rw (next.reply, is, batch) (beside_member (members H b) os i m o (members-rise s.rules H b (legal_atoms s es legal)) got given))
+    (rw (is, batch) (beside_member (members H b) os i m o (members-rise s.rules H b (legal_atoms s (past es) legal)) got given))
 
 -- the settle spares each cell that is no member's
-pub settled_spares : (s : Service) (es : List Event) (e : Event) (b : ℕ) (os : List Outcome) (c : ℕ) → IsNext s es e → e.call ≡ Settle b os
-    → NoCell (members (atoms (past es)) b) c → Spares (atoms (past es)) (made e.call e.reply) c
+pub settled_spares : (s : Service) (es : List Event) (e : Event) (b : ℕ) (os : List Outcome) (c : ℕ) → IsNext s (past es) e → e.call ≡ Settle b os
+    → NoCell (members (atoms (past es)) b) c → Spares (atoms (past es)) e c
 settled_spares s es e b os c next is none = record {
   not_primed = rw (next.reply, is) refl;
-  not_ended = λ n batch. rw (next.reply, is) (other_batch (atoms (past es)) b c n none batch);
+  not_ended = λ n batch. rw is (other_batch (atoms (past es)) b c n none batch);
 }
 
 -- each other cell shows what it showed
-pub settled_others : (s : Service) (es : List Event) (e : Event) (b : ℕ) (os : List Outcome) (c : ℕ) → IsLegal s es → IsNext s es e → e.call ≡ Settle b os
+pub settled_others : (s : Service) (es : List Event) (e : Event) (b : ℕ) (os : List Outcome) (c : ℕ) → IsLegal s es → IsNext s (past es) e → e.call ≡ Settle b os
     → NoCell (members (atoms (past es)) b) c → ending_of (es ++ e ∷ []) c ≡ ending_of es c
 settled_others s es e b os c legal next is none = spared_stays s es e c legal next (settled_spares s es e b os c next is none)
 
 -- where the source answers each key, a settle has as many outcomes as its batch has members
-pub settled_length : (s : Service) (es : List Event) (e : Event) (b : ℕ) (os : List Outcome) → AnswersEach s.answer → IsNext s es e → e.call ≡ Settle b os
+pub settled_length : (s : Service) (es : List Event) (e : Event) (b : ℕ) (os : List Outcome) → AnswersEach s.answer → IsNext s (past es) e → e.call ≡ Settle b os
     → length os ≡ length (members (atoms (past es)) b)
 settled_length s es e b os each next is =
     let H = atoms (past es) in
@@ -82,25 +83,25 @@ settled_length s es e b os each next is =
 -- ---- a fail
 
 -- each member's cell shows the batch's fault
-pub failed_end : (s : Service) (es : List Event) (e : Event) (b : ℕ) (fault : BatchFault) (i : ℕ) (m : Key × ℕ) → IsLegal s es → IsNext s es e
+pub failed_end : (s : Service) (es : List Event) (e : Event) (b : ℕ) (fault : BatchFault) (i : ℕ) (m : Key × ℕ) → IsLegal s es → IsNext s (past es) e
     → e.call ≡ Fail b fault → slice_get (members (atoms (past es)) b) i ≡ Some m
     → ending_of (es ++ e ∷ []) m.1 ≡ Some (record { at = length es; outcome = BatchFailed fault })
 failed_end s es e b fault i m legal next is got =
     let H = atoms (past es) in
-    let batch : cell_batch H m.1 ≡ Some b = member_cell s.rules H b i m (legal_atoms s es legal) got in
-    let now : ends b (made e.call e.reply) ≡ true = rw (next.reply, is) (eq-eqb b b refl) in
-    let newest_is = ending_batch s.rules (as_made e) (past es) m.1 b (legal_next s es e legal next) batch now in
-    shows_newest es e m.1 (BatchFailed fault) newest_is (rw (next.reply, is) refl)
+    let batch : cell_batch H m.1 ≡ Some b = member_cell s.rules H b i m (legal_atoms s (past es) legal) got in
+    let now : ends b e ≡ true = rw is (eq-eqb b b refl) in
+    let newest_is = ending_batch s e (past es) m.1 b (next, legal) batch now in
+    shows_newest es e m.1 (BatchFailed fault) newest_is (rw is refl)
 
 -- the fail spares each cell that is no member's
-pub failed_spares : (s : Service) (es : List Event) (e : Event) (b : ℕ) (fault : BatchFault) (c : ℕ) → IsNext s es e → e.call ≡ Fail b fault
-    → NoCell (members (atoms (past es)) b) c → Spares (atoms (past es)) (made e.call e.reply) c
+pub failed_spares : (s : Service) (es : List Event) (e : Event) (b : ℕ) (fault : BatchFault) (c : ℕ) → IsNext s (past es) e → e.call ≡ Fail b fault
+    → NoCell (members (atoms (past es)) b) c → Spares (atoms (past es)) e c
 failed_spares s es e b fault c next is none = record {
   not_primed = rw (next.reply, is) refl;
-  not_ended = λ n batch. rw (next.reply, is) (other_batch (atoms (past es)) b c n none batch);
+  not_ended = λ n batch. rw is (other_batch (atoms (past es)) b c n none batch);
 }
 
 -- each other cell shows what it showed
-pub failed_others : (s : Service) (es : List Event) (e : Event) (b : ℕ) (fault : BatchFault) (c : ℕ) → IsLegal s es → IsNext s es e → e.call ≡ Fail b fault
+pub failed_others : (s : Service) (es : List Event) (e : Event) (b : ℕ) (fault : BatchFault) (c : ℕ) → IsLegal s es → IsNext s (past es) e → e.call ≡ Fail b fault
     → NoCell (members (atoms (past es)) b) c → ending_of (es ++ e ∷ []) c ≡ ending_of es c
 failed_others s es e b fault c legal next is none = spared_stays s es e c legal next (failed_spares s es e b fault c next is none)

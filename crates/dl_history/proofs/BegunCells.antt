@@ -2,20 +2,16 @@
 use Rattle.std.proofs.Common.{◌≡◌, ◌∙◌, sym, ap, ℕ, zero, suc, ◌+◌, List, [], ◌∷◌, ◌++◌, length, take, refl, append_assoc, length-append}
 use Rattle.std.proofs.lemmas.List.{take_at}
 use Rattle.std.specs.List.{repeat}
+use Rattle.dl_history.proofs.ListLemmas.{length-repeat_one}
 
 -- one copy more, at the end
 repeat-push : {X : Type 0} (n : ℕ) (x : X) → repeat n (x ∷ []) ++ x ∷ [] ≡ repeat (suc n) (x ∷ [])
 repeat-push zero x = refl
 repeat-push {X} (suc n) x = ap (λ (xs : List X). x ∷ xs) (repeat-push n x)
 
--- as many as were asked for
-length-repeat : {X : Type 0} (n : ℕ) (x : X) → length (repeat n (x ∷ [])) ≡ n
-length-repeat zero x = refl
-length-repeat (suc n) x = ap suc (length-repeat n x)
-
 -- how many cells there are, with so many more
 pub length-begun : {X : Type 0} (before now : List X) (n : ℕ) (x : X) → now ≡ before ++ repeat n (x ∷ []) → length now ≡ length before + n
-length-begun before now n x grown = ap length grown ∙ (length-append before (repeat n (x ∷ [])) ∙ ap (λ k. length before + k) (length-repeat n x))
+length-begun before now n x grown = ap length grown ∙ (length-append before (repeat n (x ∷ [])) ∙ ap (λ k. length before + k) (length-repeat_one n x))
 
 -- one cell more, after so many
 pub begun_more : {X : Type 0} (before now next : List X) (n : ℕ) (x : X) → now ≡ before ++ repeat n (x ∷ []) → next ≡ now ++ x ∷ []

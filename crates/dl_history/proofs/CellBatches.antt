@@ -6,12 +6,11 @@ use Rattle.std.proofs.lemmas.Option.{slice_get_within}
 use Rattle.dl_values.specs.Key.{Key}
 use Rattle.dl_values.specs.Limits.{Rules, limit_of}
 use Rattle.dl_desk.specs.History.{Atom, Load, Prime, Clear, ClearAll, Dispatch, Settle, Fail, Begun, begins, cells, is_number, add_member, members, sent, begun}
-use Rattle.dl_desk.specs.History.{has_member, greatest, serves, is_open, room_in, room, load_reply, load_replies, MayEnd, IsAnswered, IsLegal}
-use Rattle.dl_desk.specs.Events.{Made, One, Many, with_loads, with_made, IsReplied, ends_batch, ends, batch_at, cell_batch}
-use Rattle.dl_desk.specs.declared.reply.LoadReply.{LoadReply}
+use Rattle.dl_desk.specs.History.{has_member, greatest, serves, is_open, room_in, room, IsAnswered, IsLegal}
+use Rattle.dl_desk.specs.Events.{batch_at, cell_batch}
 use Rattle.dl_desk.proofs.Facts.{fresh_cell, sent-le}
 use Rattle.dl_desk.proofs.EndLemmas.{Below, members-below}
-use Rattle.dl_history.proofs.Pasts.{get-append, get-append_at, get-snoc}
+use Rattle.dl_history.proofs.ListLemmas.{get-append, get-append_at, get-snoc}
 
 -- ---- a cell among members
 
@@ -207,55 +206,44 @@ members_stay_step rules history a b (Some g) answered is low = by (is_number b g
     by true own = let high = begun_unsent rules history a g b answered is (is_number-some b g.batch own) in absurd (omega arith)
     by false other = refl
 
-members_stay_loads : (rules : Rules) (history : List Atom) (ks : List Key) (b : ℕ) → b < sent history
-    → members (with_loads ks (load_replies rules history ks) history) b ≡ members history b
-members_stay_loads rules history [] b low = refl
-members_stay_loads rules history (k ∷ ks) b low =
-    let r = load_reply rules history k in
-    members_stay_loads rules (Load k r ∷ history) ks b low ∙ members_stay_step rules history (Load k r) b (begins (Load k r)) refl refl low
+sent_more : (a : Atom) (history : List Atom) → sent history ≤ sent (a ∷ history)
+sent_more (Load k r) history = omega arith
+sent_more (Prime k r) history = omega arith
+sent_more (Clear k) history = omega arith
+sent_more ClearAll history = omega arith
+sent_more (Dispatch js) history = sent-le history
+sent_more (Settle b) history = omega arith
+sent_more (Fail b) history = omega arith
+
+-- a longer history has no fewer batches that are sent
+sent-append : (added history : List Atom) → sent history ≤ sent (added ++ history)
+sent-append [] history = omega arith
+sent-append (a ∷ added) history =
+    let rest = sent-append added history in
+    let one = sent_more a (added ++ history) in
+    omega arith
 
 -- a batch that is sent gets no more members
-pub members_stay : (rules : Rules) (history : List Atom) (m : Made) (b : ℕ) → IsReplied rules history m → b < sent history
-    → members (with_made m history) b ≡ members history b
-members_stay rules history (One a) b replied low = members_stay_step rules history a b (begins a) replied refl low
-members_stay rules history (Many ks rs) b replied low =
-    subst (λ (replies : List LoadReply). members (with_loads ks replies history) b ≡ members history b) (sym replied)
-    (members_stay_loads rules history ks b low)
+pub members_stay : (rules : Rules) (added history : List Atom) (b : ℕ) → IsLegal rules (added ++ history) → b < sent history
+    → members (added ++ history) b ≡ members history b
+members_stay rules [] history b legal low = refl
+members_stay rules (a ∷ added) history b legal low =
+    let more = sent-append added history in
+    let still : b < sent (added ++ history) = omega arith in
+    members_stay_step rules (added ++ history) a b (begins a) legal.0 refl still ∙ members_stay rules added history b legal.1 low
 
-unsent_step : (rules : Rules) (history : List Atom) (a : Atom) (c : ℕ) (o : Option Begun) → IsAnswered rules history a → begins a ≡ o
-    → ((b : ℕ) → cell_batch history c ≡ Some b → sent history ≤ b) → (b : ℕ) → batch_at c o (cell_batch history c) ≡ Some b → sent history ≤ b
-unsent_step rules history a c None answered is rest b f = rest b f
-unsent_step rules history a c (Some g) answered is rest b f = by (nat_eq c g.cell) f
+unsent_step : (rules : Rules) (history : List Atom) (a : Atom) (c n : ℕ) (o : Option Begun) → IsAnswered rules history a → begins a ≡ o → n ≤ sent history
+    → ((b : ℕ) → cell_batch history c ≡ Some b → n ≤ b) → (b : ℕ) → batch_at c o (cell_batch history c) ≡ Some b → n ≤ b
+unsent_step rules history a c n None answered is low rest b f = rest b f
+unsent_step rules history a c n (Some g) answered is low rest b f = by (nat_eq c g.cell) f
   where
-    by : (t : Bool) → cond t g.batch (cell_batch history c) ≡ Some b → sent history ≤ b
-    by true own = begun_unsent rules history a g b answered is own
+    by : (t : Bool) → cond t g.batch (cell_batch history c) ≡ Some b → n ≤ b
+    by true own = let high = begun_unsent rules history a g b answered is own in omega arith
     by false old = rest b old
 
-unsent_loads : (rules : Rules) (history : List Atom) (ks : List Key) (c : ℕ) → ((b : ℕ) → cell_batch history c ≡ Some b → sent history ≤ b) → (b : ℕ)
-    → cell_batch (with_loads ks (load_replies rules history ks) history) c ≡ Some b → sent history ≤ b
-unsent_loads rules history [] c rest = rest
-unsent_loads rules history (k ∷ ks) c rest =
-    let r = load_reply rules history k in
-    unsent_loads rules (Load k r ∷ history) ks c (unsent_step rules history (Load k r) c (begins (Load k r)) refl refl rest)
-
--- a cell whose batch isn't sent, if it has one, has no sent one after a call
-pub still_unsent : (rules : Rules) (history : List Atom) (m : Made) (c : ℕ) → IsReplied rules history m
-    → ((b : ℕ) → cell_batch history c ≡ Some b → sent history ≤ b) → (b : ℕ) → cell_batch (with_made m history) c ≡ Some b → sent history ≤ b
-still_unsent rules history (One a) c replied rest = unsent_step rules history a c (begins a) replied refl rest
-still_unsent rules history (Many ks rs) c replied rest =
-    subst (λ (replies : List LoadReply). (b : ℕ) → cell_batch (with_loads ks replies history) c ≡ Some b
-    → sent history ≤ b) (sym replied) (unsent_loads rules history ks c rest)
-
-atom_may_end : (rules : Rules) (history : List Atom) (a : Atom) (b : ℕ) → IsAnswered rules history a → ends_batch b a ≡ true → MayEnd history b
-atom_may_end rules history (Load k r) b answered e = absurd (let bad : false ≡ true = e in cc)
-atom_may_end rules history (Prime k r) b answered e = absurd (let bad : false ≡ true = e in cc)
-atom_may_end rules history (Clear k) b answered e = absurd (let bad : false ≡ true = e in cc)
-atom_may_end rules history ClearAll b answered e = absurd (let bad : false ≡ true = e in cc)
-atom_may_end rules history (Dispatch js) b answered e = absurd (let bad : false ≡ true = e in cc)
-atom_may_end rules history (Settle n) b answered e = subst (MayEnd history) (sym (eqb-true b n e)) answered
-atom_may_end rules history (Fail n) b answered e = subst (MayEnd history) (sym (eqb-true b n e)) answered
-
--- the batch that a call ends is one that may end
-pub ends_may_end : (rules : Rules) (history : List Atom) (m : Made) (b : ℕ) → IsReplied rules history m → ends b m ≡ true → MayEnd history b
-ends_may_end rules history (One a) b replied e = atom_may_end rules history a b replied e
-ends_may_end rules history (Many ks rs) b replied e = absurd (let bad : false ≡ true = e in cc)
+-- a cell whose batch isn't sent, if it has one, has no sent one in a longer history
+pub still_unsent : (rules : Rules) (added history : List Atom) (c : ℕ) → IsLegal rules (added ++ history)
+    → ((b : ℕ) → cell_batch history c ≡ Some b → sent history ≤ b) → (b : ℕ) → cell_batch (added ++ history) c ≡ Some b → sent history ≤ b
+still_unsent rules [] history c legal rest = rest
+still_unsent rules (a ∷ added) history c legal rest =
+    unsent_step rules (added ++ history) a c (sent history) (begins a) legal.0 refl (sent-append added history) (still_unsent rules added history c legal.1 rest)

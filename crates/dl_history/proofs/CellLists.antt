@@ -1,56 +1,10 @@
--- Lists of cells: with more that wait, and with one that is set.
-use Rattle.std.proofs.Common.{◌≡◌, ◌∙◌, sym, ap, subst, ℕ, zero, suc, ◌-◌, ◌<◌, ◌≤◌, ◌⊎◌, inl, inr, Bool, true, false, List, [], ◌∷◌, ◌++◌, length, set, Option}
-use Rattle.std.proofs.Common.{Some, None, MatchBool, slice_get, refl, arith}
-use Rattle.std.specs.List.{repeat}
+-- What a cell shows, with an end and without one.
+use Rattle.std.proofs.Common.{◌≡◌, sym, ap, subst, ℕ, Bool, true, false, List, set, Option, Some, None, MatchBool, refl}
 use Rattle.dl_desk.specs.declared.event.Ending.{Ending}
 use Rattle.dl_history.specs.declared.cell_state.Mark.{Mark}
 use Rattle.dl_history.specs.declared.cell_state.Mark.TheVariants.{Waiting, Ended, Refused}
 use Rattle.dl_history.specs.Journal.{Cell, waiting, showing, refused, Refuses}
 use Rattle.dl_history.specs.LoaderState.{ShowsEnd}
-
--- ---- more elements
-
--- an element of two lists, one after the other, is one of the first's, or stands past it as one of the second's
-pub get-append_cases : {X : Type 0} (xs ys : List X) (i : ℕ) (z : X) → slice_get (xs ++ ys) i ≡ Some z
-    → ((i < length xs) × (slice_get xs i ≡ Some z)) ⊎ ((length xs ≤ i) × (slice_get ys (i - length xs) ≡ Some z))
-get-append_cases [] ys i z got = inr (omega arith, let same : i - 0 ≡ i = omega arith in rw same got)
-get-append_cases (x ∷ xs) ys zero z got = inl (omega arith, got)
-get-append_cases {X} (x ∷ xs) ys (suc i) z got = by (get-append_cases xs ys i z got)
-  where
-    by : ((i < length xs) × (slice_get xs i ≡ Some z)) ⊎ ((length xs ≤ i) × (slice_get ys (i - length xs) ≡ Some z))
-        → ((suc i < length (x ∷ xs)) × (slice_get xs i ≡ Some z)) ⊎ ((length (x ∷ xs) ≤ suc i) × (slice_get ys (suc i - length (x ∷ xs)) ≡ Some z))
-    by (inl old) = inl (let l = old.0 in omega arith, old.1)
-    by (inr new) =
-        let same : suc i - length (x ∷ xs) ≡ i - length xs = omega arith in
-        inr (let l = new.0 in omega arith, ap (slice_get ys) same ∙ new.1)
-
--- each element of one repeated is that one
-pub get-repeat : {X : Type 0} (n : ℕ) (x z : X) (i : ℕ) → slice_get (repeat n (x ∷ [])) i ≡ Some z → z ≡ x
-get-repeat {X} zero x z i got = absurd (let bad : ◌≡◌ {A = Option X} None (Some z) = got in cc)
-get-repeat {X} (suc n) x z zero got = let two : ◌≡◌ {A = Option X} (Some x) (Some z) = got in cc
-get-repeat (suc n) x z (suc i) got = get-repeat n x z i got
-
-pub length-repeat_one : {X : Type 0} (n : ℕ) (x : X) → length (repeat n (x ∷ [])) ≡ n
-length-repeat_one zero x = refl
-length-repeat_one (suc n) x = let rest = length-repeat_one n x in omega arith
-
--- ---- one element set
-
--- what stands at the place that was set
-pub get-set_same : {X : Type 0} (xs : List X) (i : ℕ) (x z : X) → slice_get (set xs i x) i ≡ Some z → z ≡ x
-get-set_same {X} [] i x z got = absurd (let bad : ◌≡◌ {A = Option X} None (Some z) = got in cc)
-get-set_same {X} (y ∷ xs) zero x z got = let two : ◌≡◌ {A = Option X} (Some x) (Some z) = got in cc
-get-set_same (y ∷ xs) (suc i) x z got = get-set_same xs i x z got
-
--- and what stands at another
-pub get-set_other : {X : Type 0} (xs : List X) (i j : ℕ) (x : X) → (j ≡ i → ⊥) → slice_get (set xs i x) j ≡ slice_get xs j
-get-set_other [] i j x other = refl
-get-set_other (y ∷ xs) zero zero x other = absurd (other refl)
-get-set_other (y ∷ xs) zero (suc j) x other = refl
-get-set_other (y ∷ xs) (suc i) zero x other = refl
-get-set_other (y ∷ xs) (suc i) (suc j) x other = get-set_other xs i j x (λ e. other (ap suc e))
-
--- ---- what a cell shows
 
 -- a cell that waits shows that it has no end
 pub waiting_shows : (end : Option Ending) (x : Cell) → end ≡ None → x ≡ waiting → ShowsEnd end x.mark x.shows

@@ -8,11 +8,11 @@ use Rattle.dl_values.specs.declared.outcome.Outcome.{Outcome}
 use Rattle.dl_desk.specs.declared.event.Event.{Event}
 use Rattle.dl_desk.specs.declared.event.Ending.{Ending}
 use Rattle.dl_history.specs.History.{AllEnded}
-use Rattle.dl_history.specs.Service.{Service, AnswersEach}
+use Rattle.dl_desk.specs.Service.{Service, AnswersEach}
 use Rattle.dl_history.specs.History.{IsLegal, past, end_with, ending_of}
 use Rattle.dl_history.specs.Journal.{Cell}
 use Rattle.dl_history.specs.LoaderState.{LoaderState, ShownAs, IsLoaderState}
-use Rattle.dl_history.proofs.Pasts.{get-inside}
+use Rattle.dl_history.proofs.ListLemmas.{get-inside}
 use Rattle.dl_history.proofs.Endings.{none_unbegun}
 use Rattle.dl_history.proofs.AllCellsEnd.{shows_end}
 
@@ -26,7 +26,7 @@ outcome_of_end es c = by (ending (past es) c) refl
 
     by : (p : Option Placed) → ending (past es) c ≡ p → outcome (past es) c ≡ option_map (λ (e : Ending). e.outcome) (ending_of es c)
     by None is = rw is refl
-    by (Some p) is = rw is (given p.place (outcome_given (atoms (past es)) c p.event.gave))
+    by (Some p) is = rw is (given p.place (outcome_given (atoms (past es)) c p.event.call))
 
 -- each cell that was begun is kept as it ended
 pub shown_as : (s : Service) (b : LoaderState) (c : ℕ) → IsLoaderState s b → ShownAs (slice_get b.cells c) (ending_of b.history c)

@@ -1,5 +1,5 @@
 -- The cells with which calls are answered: each of them was begun.
-use Rattle.std.proofs.Common.{◌≡◌, ap, ℕ, suc, ◌+◌, ◌<◌, ◌≤◌, Bool, true, false, cond, List, [], ◌∷◌, ◌++◌, length, Option, Some, None, refl, arith, take, drop}
+use Rattle.std.proofs.Common.{◌≡◌, sym, ap, subst, ℕ, suc, ◌+◌, ◌<◌, ◌≤◌, Bool, true, false, cond, List, [], ◌∷◌, ◌++◌, length, Option, Some, None, refl, arith, take, drop}
 use Rattle.std.proofs.Common.{slice_get}
 use Rattle.std.specs.List.{list_any}
 use Rattle.dl_values.specs.Key.{Key, key_eq}
@@ -7,7 +7,7 @@ use Rattle.dl_values.specs.Limits.{Rules}
 use Rattle.dl_desk.specs.History.{Atom, Begun, begins, cells, count_cell, Latest, later, latest_at, latest, forgets, cell_kept, held, load_reply, load_replies}
 use Rattle.dl_desk.specs.History.{loaded, IsAnswered, IsLegal as AreLegal}
 use Rattle.dl_desk.specs.History as atom
-use Rattle.dl_desk.specs.Events.{atoms}
+use Rattle.dl_desk.specs.Events.{call_atoms, atoms}
 use Rattle.dl_desk.specs.Calls.{after}
 use Rattle.dl_desk.specs.declared.reply.LoadReply.{LoadReply}
 use Rattle.dl_desk.specs.declared.reply.LoadReply.TheVariants.{Hit, Fresh}
@@ -15,13 +15,15 @@ use Rattle.dl_desk.proofs.Facts.{fresh_cell}
 use Rattle.dl_desk.specs.declared.event.Event.{Event}
 use Rattle.dl_desk.specs.declared.event.Call.{Call}
 use Rattle.dl_history.specs.Entries.{cell_of_load, answered}
-use Rattle.dl_history.specs.History.{past, reply_to, IsNext, as_made, past_onto, call_of, IsLegal}
+use Rattle.dl_history.specs.History.{past, IsLegal}
 use Rattle.dl_history.specs.Lists.{Every}
-use Rattle.dl_history.specs.Service.{Service}
-use Rattle.dl_history.proofs.Pasts.{legal_atoms, atoms_next, take-get, legal_front}
-use Rattle.std.proofs.lemmas.List.{take-append-drop}
-use Rattle.dl_desk.specs.Events as desk
-use Rattle.dl_desk.proofs.LawEnds.{made-le}
+use Rattle.dl_desk.specs.Legal.{reply_to, call_of, IsNext}
+use Rattle.dl_desk.specs.Service.{Service}
+use Rattle.dl_desk.proofs.LawEnds.{cells-append}
+use Rattle.dl_desk.proofs.PastAtoms.{legal_atoms}
+use Rattle.dl_history.proofs.ListLemmas.{take-get}
+use Rattle.dl_history.proofs.Pasts.{atoms_next, legal_front, legal_place}
+use Rattle.std.proofs.lemmas.List.{reverse-append, take-append-drop}
 use Rattle.dl_desk.specs.declared.event.Call.TheVariants.{Load, LoadMany, Prime, Clear, ClearAll, Dispatch, Settle, Fail}
 use Rattle.dl_history.proofs.ListLemmas.{every_map}
 
@@ -115,12 +117,12 @@ abbrev pub AllBelow : ℕ → List ℕ → Type 0
 AllBelow n cs = Every (λ c. c < n) cs
 
 -- by a next event
-answered_now : (s : Service) (es : List Event) (e : Event) (call : Call) → IsLegal s es → IsNext s es e → e.call ≡ call
+answered_now : (s : Service) (es : List Event) (e : Event) (call : Call) → IsLegal s es → IsNext s (past es) e → e.call ≡ call
     → AllBelow (cells (after s.rules (atoms (past es)) (call_of call))) (answered (reply_to s.rules (atoms (past es)) call))
-answered_now s es e (Load k) legal next is = (reply_low s.rules (atoms (past es)) (legal_atoms s es legal) k _ refl, tt)
+answered_now s es e (Load k) legal next is = (reply_low s.rules (atoms (past es)) (legal_atoms s (past es) legal) k _ refl, tt)
 answered_now s es e (LoadMany ks) legal next is =
     every_map cell_of_load (λ c. c < cells (loaded s.rules (atoms (past es)) ks)) (load_replies s.rules (atoms (past es)) ks)
-    (replies_low s.rules (atoms (past es)) (legal_atoms s es legal) ks)
+    (replies_low s.rules (atoms (past es)) (legal_atoms s (past es) legal) ks)
 answered_now s es e (Prime k o) legal next is = by (held (atoms (past es)) k) refl
   where
     by : (h : Option ℕ) → held (atoms (past es)) k ≡ h
@@ -133,23 +135,19 @@ answered_now s es e Dispatch legal next is = tt
 answered_now s es e (Settle b os) legal next is = tt
 answered_now s es e (Fail b fault) legal next is = tt
 
-answered_next : (s : Service) (es : List Event) (e : Event) → IsLegal s es → IsNext s es e → AllBelow (cells (atoms (past (es ++ e ∷ [])))) (answered e.reply)
+answered_next : (s : Service) (es : List Event) (e : Event) → IsLegal s es → IsNext s (past es) e → AllBelow (cells (atoms (past (es ++ e ∷ [])))) (answered e.reply)
 answered_next s es e legal next = rw (atoms_next s es e next, next.reply) (answered_now s es e e.call legal next refl)
 
-past_onto-append : (before : List desk.Event) (xs ys : List Event) → past_onto before (xs ++ ys) ≡ past_onto (past_onto before xs) ys
-past_onto-append before [] ys = refl
-past_onto-append before (x ∷ xs) ys = past_onto-append (as_made x ∷ before) xs ys
-
-cells_onto : (before : List desk.Event) (es : List Event) → cells (atoms before) ≤ cells (atoms (past_onto before es))
-cells_onto before [] = omega arith
-cells_onto before (e ∷ es) =
-    let one = made-le (as_made e).made (atoms before) in
-    let more = cells_onto (as_made e ∷ before) es in
+cells_past : (later before : List Event) → cells (atoms before) ≤ cells (atoms (later ++ before))
+cells_past [] before = omega arith
+cells_past (e ∷ later) before =
+    let rest = cells_past later before in
+    let one = cells-append (call_atoms e.call e.reply) (atoms (later ++ before)) in
     omega arith
 
 -- later events leave each cell begun
 cells_later : (xs ys : List Event) → cells (atoms (past xs)) ≤ cells (atoms (past (xs ++ ys)))
-cells_later xs ys = rw (past_onto-append [] xs ys) (cells_onto (past xs) ys)
+cells_later xs ys = rw (reverse-append xs ys) (cells_past (past ys) (past xs))
 
 all_below_more : (n m : ℕ) (cs : List ℕ) → n ≤ m → AllBelow n cs → AllBelow m cs
 all_below_more n m [] more below = tt
@@ -160,9 +158,8 @@ pub answered_low : (s : Service) (es : List Event) (k : ℕ) (e : Event) → IsL
     → AllBelow (cells (atoms (past es))) (answered e.reply)
 answered_low s es k e legal got =
     let split : take (suc k) es ++ drop (suc k) es ≡ es = take-append-drop (suc k) es in
-    let front : take k es ++ drop k es ≡ es = take-append-drop k es in
-    let whole : IsLegal s (take k es ++ drop k es) = rw front legal in
-    let now = answered_next s (take k es) e (legal_front s (take k es) (drop k es) whole) (legal.at k e got) in
+    let whole : IsLegal s (take k es ++ drop k es) = subst (IsLegal s) (sym (take-append-drop k es)) legal in
+    let now = answered_next s (take k es) e (legal_front s (take k es) (drop k es) whole) (legal_place s es k e legal got) in
     let there : AllBelow (cells (atoms (past (take (suc k) es)))) (answered e.reply) = rw (take-get es k e got) now in
     let later : cells (atoms (past (take (suc k) es))) ≤ cells (atoms (past es)) = rw split at (cells_later (take (suc k) es) (drop (suc k) es)) in
     all_below_more (cells (atoms (past (take (suc k) es)))) (cells (atoms (past es))) (answered e.reply) later there

@@ -11,8 +11,9 @@ use Rattle.dl_history.specs.History.{IsLegal}
 use Rattle.dl_history.specs.declared.entry.EntryKind.{EntryKind}
 use Rattle.dl_history.specs.declared.entry.EntryKind.TheVariants as kind
 use Rattle.dl_history.specs.Lists.{Every, places, one_if}
-use Rattle.dl_history.specs.Service.{Service}
+use Rattle.dl_desk.specs.Service.{Service}
 use Rattle.dl_desk.specs.declared.event.Event.{Event}
+use Rattle.dl_history.proofs.Pasts.{legal_place}
 
 -- ---- the entries of a caller
 
@@ -55,7 +56,7 @@ callers_low s (e ∷ es) each = (each 0 e refl, callers_low s es (λ k x got. ea
 
 -- what is no caller has no events
 pub places_none : (s : Service) (es : List Event) (n : ℕ) → IsLegal s es → s.callers ≤ n → places (λ (e : Event). e.caller) n 0 es ≡ []
-places_none s es n legal high = places_by n s.callers 0 es (callers_low s es (λ k e got. let next = legal.at k e got in next.caller)) high
+places_none s es n legal high = places_by n s.callers 0 es (callers_low s es (λ k e got. let next = legal_place s es k e legal got in next.caller)) high
 
 -- ---- accounts as the events tell them
 

@@ -12,7 +12,7 @@ use Rattle.dl_history.specs.declared.cell_state.CellState.{CellState}
 use Rattle.dl_desk.specs.declared.event.Event.{Event}
 use Rattle.dl_history.specs.Journal.{Cell, showing, refused, Refuses, AreKnown, IsKnown, JournalFields, IsJournal, cell_by, cells_by, events_known}
 use Rattle.dl_history.specs.Entries.{event_known}
-use Rattle.dl_history.proofs.Pasts.{get-snoc}
+use Rattle.dl_history.proofs.ListLemmas.{get-snoc}
 
 -- readers of a log that know its events, with one more
 known_more : (log : RowName) (readers : List (Reader Event)) (r : Reader Event) → AreKnown log readers → IsKnown log (length readers) r → (k : ℕ)

@@ -16,7 +16,6 @@ pub mod PlaceCounts
 pub mod AccountCounts
 pub mod Agreement
 pub mod OneHistory
-pub mod LoadCuts
 pub mod HistoryLemmas
 pub mod HistoryLaws
 mod PassLemmas

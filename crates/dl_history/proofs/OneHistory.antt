@@ -7,8 +7,9 @@ use Rattle.dl_history.specs.Agreement.{Account, accounts_by, HasCalls, HasEach}
 use Rattle.dl_history.specs.Entries.{PlacedEvent, calls_of}
 use Rattle.dl_history.specs.History.{IsLegal}
 use Rattle.dl_history.specs.Lists.{Among, Every, one_if, places}
-use Rattle.dl_history.specs.Service.{Service}
+use Rattle.dl_desk.specs.Service.{Service}
 use Rattle.dl_desk.specs.declared.event.Event.{Event}
+use Rattle.dl_history.proofs.Pasts.{legal_place}
 
 -- lists with the same at each place are the same
 same_lists : {X : Type 0} (xs ys : List X) → ((i : ℕ) → slice_get xs i ≡ slice_get ys i) → xs ≡ ys
@@ -67,7 +68,7 @@ callers_own g h n (a ∷ accounts) one in_g in_h =
 same_event : (s : Service) (g h : List Event) (accounts : List Account) (i : ℕ) (e : Event) → IsLegal s g → HasEach s.callers accounts
     → Every (HasCalls g) accounts → Every (HasCalls h) accounts → slice_get g i ≡ Some e → slice_get g i ≡ slice_get h i
 same_event s g h accounts i e legal each in_g in_h there =
-    let next = legal.at i e there in
+    let next = legal_place s g i e legal there in
     let own = callers_own g h e.caller accounts (each e.caller next.caller) in_g in_h in
     let among = place_among (λ (x : Event). x.caller) own.own.caller 0 i i g e there (sym own.is) (omega arith) in
     let listed = subst (λ (ps : List ℕ). Among i ps) (sym own.in_g.places_are) among in

@@ -8,7 +8,7 @@ use Rattle.dl_history.specs.Entries.{Entry, Called, Saw, event_at, read, kind_of
 use Rattle.dl_history.specs.History.{AllEnded, IsLegal, ending_of}
 use Rattle.dl_history.specs.LoaderState.{LoaderState, IsLoaderState}
 use Rattle.dl_history.specs.Lists.{Every}
-use Rattle.dl_history.specs.Service.{Service, AnswersEach}
+use Rattle.dl_desk.specs.Service.{Service, AnswersEach}
 use Rattle.dl_history.specs.declared.entry.EntryKind.{EntryKind}
 use Rattle.dl_history.specs.declared.entry.EntryKind.TheVariants as kind
 use Rattle.dl_desk.specs.declared.event.Event.{Event}

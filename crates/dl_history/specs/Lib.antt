@@ -1,4 +1,3 @@
-pub mod Service
 pub mod History
 pub mod Lists
 pub mod Entries

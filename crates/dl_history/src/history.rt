@@ -6,10 +6,11 @@ ghost use Rattle.dl_desk.specs.History.{begun, cells, end_of};
 ghost use Rattle.dl_history.specs.Agreement.{Agrees, account, entries_of};
 ghost use Rattle.dl_history.specs.ClosedHistory.{IsHistory, accounts_at, history_of, kinds_of, place_of};
 ghost use Rattle.dl_history.specs.Entries.{kind_of};
-ghost use Rattle.dl_history.specs.History.{keys_of, past};
+ghost use Rattle.dl_desk.specs.Legal.{keys_of};
+ghost use Rattle.dl_history.specs.History.{past};
 ghost use Rattle.dl_history.specs.LoaderState.{IsLoaderState, loader_state};
 ghost use Rattle.dl_history.specs.Lists.{places};
-ghost use Rattle.dl_history.specs.Service.{AnswersEach, Service};
+ghost use Rattle.dl_desk.specs.Service.{AnswersEach, Service};
 
 mod batches;
 
@@ -57,7 +58,7 @@ impl Model for History {
     ghost use Rattle.dl_history.specs.Inside.Codes.{account_code};
     ghost use Rattle.dl_history.specs.ClosedHistory.{History, AreHistoryFields, accounts_at, history_of};
     ghost use Rattle.dl_history.specs.LoaderState.{loader_state};
-    ghost use Rattle.dl_history.specs.Service.{Service};
+    ghost use Rattle.dl_desk.specs.Service.{Service};
 
     ghost Value = { History };
 

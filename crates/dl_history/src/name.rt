@@ -1,7 +1,7 @@
 //! Names of loaders.
 
 ghost use Rattle.dl_history.specs.CellNames.{CellNames, no_cells};
-ghost use Rattle.dl_history.specs.Service.{Service, no_service};
+ghost use Rattle.dl_desk.specs.Service.{Service, no_service};
 
 use std::marker::Brand;
 use std::sync::ledger::Ledger;

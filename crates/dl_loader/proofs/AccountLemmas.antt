@@ -13,10 +13,11 @@ use Rattle.dl_loader.specs.Inside.CloseSteps.{Closes, MayClose}
 use Rattle.dl_history.specs.Journal.{Cell}
 use Rattle.dl_history.specs.Lists.{Every}
 use Rattle.dl_history.specs.Pass.{Pass}
-use Rattle.dl_history.specs.Service.{Service, AnswersEach}
+use Rattle.dl_desk.specs.Service.{Service, AnswersEach}
 use Rattle.dl_history.proofs.AccountCounts.{accounts_count}
 use Rattle.dl_history.proofs.Agreement.{accounts_agree, accounts_have}
 use Rattle.dl_history.proofs.HistoryLemmas.{accounts_told}
+use Rattle.dl_history.proofs.Pasts.{legal_place}
 
 -- accounts that fit are of callers
 every_callers : (callers : ℕ) (history : List Event) (states : List Cell) (accounts : List Account) → Every (Fits callers history states) accounts
@@ -33,7 +34,7 @@ passes_count callers history states passes each fits =
 -- a loader without callers has no events
 no_events : (s : Service) (es : List Event) → IsLegal s es → s.callers ≡ 0 → length es ≡ 0
 no_events s [] legal none = refl
-no_events s (e ∷ es) legal none = let next = legal.at 0 e refl in let low = next.caller in absurd (omega arith)
+no_events s (e ∷ es) legal none = let next = legal_place s (e ∷ es) 0 e legal refl in let low = next.caller in absurd (omega arith)
 
 -- how many calls of an account there are
 abbrev call_count : Account → ℕ

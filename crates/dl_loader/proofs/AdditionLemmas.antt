@@ -4,7 +4,7 @@ use Rattle.dl_desk.specs.declared.reply.LoadReply.{LoadReply}
 use Rattle.dl_desk.specs.declared.event.Call.{Call}
 use Rattle.dl_desk.specs.declared.event.Reply.{Reply}
 use Rattle.dl_history.specs.Entries.{Entry, cell_of_load}
-use Rattle.dl_history.specs.Service.{Service}
+use Rattle.dl_desk.specs.Service.{Service}
 use Rattle.dl_history.specs.Additions.{call_entry, Grows}
 use Rattle.dl_loader.specs.EventEffect.{WasMade, event_of, loads_of}
 use Rattle.dl_history.specs.declared.pass.GivenTicket.{GivenTicket}

@@ -13,12 +13,14 @@ use Rattle.dl_desk.specs.BatchBook.{BatchBook, StandsFor}
 use Rattle.dl_desk.specs.declared.fault.DeskFault.{DeskFault}
 use Rattle.dl_desk.specs.declared.event.Event.{Event}
 use Rattle.dl_desk.specs.declared.event.Call.{Call}
-use Rattle.dl_history.specs.Service.{Service}
-use Rattle.dl_history.specs.History.{past, call_of, reply_to, ending_of}
+use Rattle.dl_desk.specs.Service.{Service}
+use Rattle.dl_desk.specs.Legal.{call_of, reply_to}
+use Rattle.dl_history.specs.History.{past, ending_of}
 use Rattle.dl_history.specs.Journal.{Cell, waiting, is_refused, refusals}
 use Rattle.dl_history.specs.LoaderState.{LoaderState, loader_state, IsLoaderState, ShowsEnd}
 use Rattle.dl_history.proofs.Endings.{none_unbegun}
-use Rattle.dl_history.proofs.CellLists.{get-append_cases, get-repeat, length-repeat_one, waiting_shows, shows_same}
+use Rattle.dl_history.proofs.CellLists.{waiting_shows, shows_same}
+use Rattle.dl_history.proofs.ListLemmas.{get-append_cases, get-repeat, length-repeat_one}
 use Rattle.dl_loader.specs.declared.dues.Due.{Due}
 use Rattle.dl_history.specs.declared.fault.CallFault.{CallFault}
 use Rattle.dl_loader.specs.Inside.NewCells.{begun_in}

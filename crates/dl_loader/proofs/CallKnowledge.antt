@@ -1,8 +1,9 @@
 -- What is known outside the lock of a call that was made under it.
 use Rattle.std.proofs.Common.{◌≡◌, subst, [], ◌∷◌, ◌++◌, List}
 use Rattle.dl_desk.specs.Events.{atoms}
-use Rattle.dl_history.specs.Service.{Service}
-use Rattle.dl_history.specs.History.{past, reply_to, IsLegal}
+use Rattle.dl_desk.specs.Service.{Service}
+use Rattle.dl_desk.specs.Legal.{reply_to}
+use Rattle.dl_history.specs.History.{past, IsLegal}
 use Rattle.dl_history.specs.Pass.{Trace}
 use Rattle.dl_loader.specs.Book.{Book, Keeps}
 use Rattle.dl_loader.specs.EventEffect.{event_of, Makes}

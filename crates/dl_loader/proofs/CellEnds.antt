@@ -3,12 +3,13 @@ use Rattle.std.proofs.Common.{◌≡◌, sym, ap, ℕ, ◌<◌, List, length, Op
 use Rattle.std.proofs.Common.{false, cond, [], ◌∷◌, ◌++◌, map, arith}
 use Rattle.dl_values.specs.Key.{Key}
 use Rattle.dl_desk.specs.History.{members, Atom, Begun, begins, cells, count_cell, is_number, add_member, MayEnd, prime_reply}
-use Rattle.dl_desk.specs.Events.{atoms, Nothing}
-use Rattle.dl_history.specs.Service.{Service}
-use Rattle.dl_history.specs.History.{past, ending_of, gave, primed}
+use Rattle.dl_desk.specs.Events.{atoms}
+use Rattle.dl_desk.specs.Service.{Service}
+use Rattle.dl_desk.specs.Calls.{primed}
+use Rattle.dl_history.specs.History.{past, ending_of}
 use Rattle.dl_history.specs.Journal.{Cell, waiting}
 use Rattle.dl_history.specs.LoaderState.{LoaderState, IsLoaderState}
-use Rattle.dl_history.proofs.Pasts.{get-inside, get-append_at}
+use Rattle.dl_history.proofs.ListLemmas.{get-inside, get-append_at}
 use Rattle.dl_history.proofs.CellLists.{shows_same, open_waits}
 use Rattle.std.proofs.lemmas.List.{length-map, length_push}
 use Rattle.dl_values.specs.declared.outcome.Outcome.{Outcome}
@@ -18,7 +19,8 @@ use Rattle.dl_desk.specs.declared.event.Event.{Event}
 use Rattle.dl_desk.specs.declared.event.Ending.{Ending}
 use Rattle.dl_loader.specs.Inside.Dues.{outcome_by, CanEnd}
 use Rattle.dl_loader.specs.Inside.Preparation.{cells_ended, cell_primed}
-use Rattle.dl_history.proofs.Endings.{member_open, member_begun, members_distinct, others_stay, primed_cell, primed_end, primed_others}
+use Rattle.dl_history.proofs.Endings.{member_open, member_begun, members_distinct, EndsNone, call_ends_none, kept_ends_none, others_stay, primed_cell, primed_end}
+use Rattle.dl_history.proofs.Endings.{primed_others}
 use Rattle.dl_loader.proofs.DueLemmas.{unmapped, get_mapped}
 use Rattle.std.specs.List.{repeat}
 use Rattle.dl_values.specs.declared.outcome.Outcome.TheVariants.{BatchFailed}
@@ -82,7 +84,7 @@ pub record GivesEnds (seen : LoaderState) (e : Event) : Type 0 where
   pub others : (c : ℕ) → ((j : ℕ) → slice_get (ended_in seen e) j ≡ Some c → ⊥) → ending_of (seen.history ++ e ∷ []) c ≡ ending_of seen.history c
 
 -- one that ends none
-quiet : {s : Service} {seen : LoaderState} {e : Event} → MayStand s seen e → ended_in seen e ≡ [] → gave e.call e.reply ≡ Nothing → GivesEnds seen e
+quiet : {s : Service} {seen : LoaderState} {e : Event} → MayStand s seen e → ended_in seen e ≡ [] → EndsNone e → GivesEnds seen e
 quiet {s} {seen} {e} g empty none = record {
   ends = λ j c o got brings. absurd (let bad : ◌≡◌ {A = Option ℕ} None (Some c) = rw empty at got in cc);
   others = λ c rest. others_stay s seen.history e c g.kept.legal g.next none;
@@ -107,7 +109,7 @@ by_prime {s} {seen} {e} {k} {o} (prime.Primed c) g is r reply = record {
   others = λ d rest. primed_others s seen.history e k o c d g.kept.legal g.next is reply
       (λ same. rest 0 (rw (primed_in seen e is r, same) refl));
 }
-by_prime {s} {seen} {e} {k} {o} prime.Kept g is r reply = quiet g (primed_in seen e is r) (rw (is, reply) refl)
+by_prime {s} {seen} {e} {k} {o} prime.Kept g is r reply = quiet g (primed_in seen e is r) (kept_ends_none e k o is reply)
 
 by_settle : {s : Service} {seen : LoaderState} {e : Event} {b : ℕ} {os : List Outcome} → MayStand s seen e → e.call ≡ Settle b os → GivesEnds seen e
 by_settle {s} {seen} {e} {b} {os} g is =
@@ -143,12 +145,12 @@ pub gives_ends : {s : Service} {seen : LoaderState} {e : Event} → MayStand s s
 gives_ends {s} {seen} {e} g = by e.call refl
   where
     by : (call : Call) → e.call ≡ call → GivesEnds seen e
-    by (Load k) is = quiet g (rw is refl) (rw is refl)
-    by (LoadMany ks) is = quiet g (rw is refl) (rw is refl)
+    by (Load k) is = quiet g (rw is refl) (call_ends_none s seen.history e (Load k) g.next is (λ c. refl) (λ b. refl))
+    by (LoadMany ks) is = quiet g (rw is refl) (call_ends_none s seen.history e (LoadMany ks) g.next is (λ c. refl) (λ b. refl))
     by (Prime k o) is = by_prime (prime_reply (atoms (past seen.history)) k) g is refl (rw is at g.next.reply)
-    by (Clear k) is = quiet g (rw is refl) (rw is refl)
-    by ClearAll is = quiet g (rw is refl) (rw is refl)
-    by Dispatch is = quiet g (rw is refl) (rw is refl)
+    by (Clear k) is = quiet g (rw is refl) (call_ends_none s seen.history e (Clear k) g.next is (λ c. refl) (λ b. refl))
+    by ClearAll is = quiet g (rw is refl) (call_ends_none s seen.history e ClearAll g.next is (λ c. refl) (λ b. refl))
+    by Dispatch is = quiet g (rw is refl) (call_ends_none s seen.history e Dispatch g.next is (λ c. refl) (λ b. refl))
     by (Settle b os) is = by_settle g is
     by (Fail b fault) is = by_fail g is
 

@@ -9,7 +9,7 @@ use Rattle.dl_desk.specs.History.{Atom, Begun, begins, cells, count_cell, batch_
 use Rattle.dl_desk.specs.Events.{atoms}
 use Rattle.dl_loader.specs.Book.{Book, Keeps}
 use Rattle.dl_history.specs.History.{past, HasEnd, AllEnded}
-use Rattle.dl_history.specs.Service.{Service}
+use Rattle.dl_desk.specs.Service.{Service}
 use Rattle.dl_history.specs.Agreement.{Account, account, accounts_by, HasEach, NoneBehind, refused_in, read_in, unshown}
 use Rattle.dl_history.specs.Accounts.{account_of, accounts_of}
 use Rattle.dl_loader.specs.CloseRefusals.{present, IsBehind, IsLeastOf}
@@ -20,7 +20,7 @@ use Rattle.dl_history.specs.Lists.{Among, one_if}
 use Rattle.dl_history.specs.Pass.{Pass}
 use Rattle.dl_loader.specs.declared.loader.close.PassFront.{PassFront}
 use Rattle.dl_history.proofs.ListLemmas.{among_longer, every_append, every_weaker}
-use Rattle.dl_history.proofs.Pasts.{get-append_at, get-snoc}
+use Rattle.dl_history.proofs.ListLemmas.{get-append_at, get-snoc}
 
 -- ---- how many callers have exactly one pass
 

@@ -10,9 +10,9 @@ use Rattle.dl_desk.specs.declared.event.Ending.{Ending}
 use Rattle.dl_history.specs.Journal.{Cell, waiting, showing, refused, Refuses, is_refused, refusals}
 use Rattle.dl_history.specs.LoaderState.{ShowsEnd}
 use Rattle.dl_loader.specs.Inside.Dues.{outcome_by, AreDue, CanEnd, AreGiven}
-use Rattle.dl_history.proofs.Pasts.{get-snoc, get-append_at}
-use Rattle.dl_history.proofs.ListLemmas.{get_longer}
-use Rattle.dl_history.proofs.CellLists.{get-set_same, get-set_other, gets_end}
+use Rattle.dl_desk.proofs.Tails.{get-set_other}
+use Rattle.dl_history.proofs.CellLists.{gets_end}
+use Rattle.dl_history.proofs.ListLemmas.{get-append_at, get-set_same, get-snoc, get_longer}
 
 -- ---- elements of lists
 

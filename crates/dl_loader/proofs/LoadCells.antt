@@ -16,21 +16,24 @@ use Rattle.dl_history.specs.History.{past}
 use Rattle.dl_history.specs.Lists.{Every, Among}
 use Rattle.dl_loader.specs.EventEffect.{event_of, loads_of, Makes}
 use Rattle.dl_history.specs.Pass.{Trace, with_call}
-use Rattle.dl_history.specs.Service.{Service}
+use Rattle.dl_desk.specs.Service.{Service}
 use Rattle.dl_loader.proofs.CallKnowledge.{replied}
-use Rattle.dl_history.proofs.Pasts.{legal_at, legal_atoms, atoms_next, get-append_at}
+use Rattle.dl_history.proofs.ListLemmas.{get-append_at}
+use Rattle.dl_history.proofs.Pasts.{legal_at, atoms_next}
 use Rattle.dl_history.proofs.CellsOfCalls.{replies_low, replies_long}
 use Rattle.dl_history.proofs.EntryLists.{cells_of-append}
 use Rattle.dl_desk.specs.declared.reply.DeskPrime.TheVariants as prime
 use Rattle.dl_desk.specs.declared.event.Call.TheVariants as call
 use Rattle.dl_history.specs.History as history
+use Rattle.dl_desk.specs.Legal as desk
+use Rattle.dl_desk.proofs.PastAtoms.{legal_atoms}
 use Rattle.dl_desk.specs.declared.event.Reply.TheVariants as answered
 
 -- ---- as a book has them
 
 -- the cells of the loads that a book's last event made
 loads_last : (s : Service) (b now : Book) (p new : Trace) (c : Call) (r : Reply) (ks : List Key) → Keeps s b → Keeps s now → Makes b p c r now new
-    → after s.rules (atoms (past b.history)) (history.call_of c) ≡ loaded s.rules (atoms (past b.history)) ks
+    → after s.rules (atoms (past b.history)) (desk.call_of c) ≡ loaded s.rules (atoms (past b.history)) ks
     → Every (λ x. cell_of_load x < length now.cells) (load_replies s.rules (atoms (past b.history)) ks)
 loads_last s b now p new c r ks before kept made is =
     let H = atoms (past b.history) in
@@ -40,7 +43,7 @@ loads_last s b now p new c r ks before kept made is =
     let all : atoms (past now.history) ≡ loaded s.rules H ks =
     ap (λ (es : List Event). atoms (past es)) made.history ∙ (atoms_next s b.history e next ∙ is) in
     let count : length now.cells ≡ cells (loaded s.rules H ks) = kept.all_cells ∙ (kept.desk.cells ∙ ap cells all) in
-    rw count (replies_low s.rules H (legal_atoms s b.history before.legal) ks)
+    rw count (replies_low s.rules H (legal_atoms s (past b.history) before.legal) ks)
 
 -- a loadMany has a reply for each key
 pub loads_long : (s : Service) (b now : Book) (p new : Trace) (ks : List Key) (rs : List LoadReply) → Keeps s now
@@ -56,11 +59,11 @@ pub all_begun : {s : Service} {b now : Book} {p new : Trace} {c : Call} {r : Rep
 all_begun {s} {b} {now} {p} {new} {c} {r} before kept made =
     rw (replied s b now p new c r kept made) (by c refl)
   where
-    primed : (r : DeskPrime) → Every (λ x. cell_of_load x < length now.cells) (loads_of (history.primed r))
+    primed : (r : DeskPrime) → Every (λ x. cell_of_load x < length now.cells) (loads_of (desk.primed r))
     primed (prime.Primed d) = tt
     primed prime.Kept = tt
 
-    by : (d : Call) → c ≡ d → Every (λ x. cell_of_load x < length now.cells) (loads_of (history.reply_to s.rules (atoms (past b.history)) d))
+    by : (d : Call) → c ≡ d → Every (λ x. cell_of_load x < length now.cells) (loads_of (desk.reply_to s.rules (atoms (past b.history)) d))
     by (call.Load k) is = loads_last s b now p new c r (k ∷ []) before kept made (rw is refl)
     by (call.LoadMany ks) is = loads_last s b now p new c r ks before kept made (rw is refl)
     by (call.Prime k o) is = primed (prime_reply (atoms (past b.history)) k)

@@ -21,7 +21,8 @@ use Rattle.dl_loader.specs.Inside.NewCells.{begun_by, cells_begun, begun_in}
 use Rattle.dl_desk.specs.declared.reply.DeskPrime.{DeskPrime}
 use Rattle.dl_desk.specs.declared.event.Call.{Call}
 use Rattle.dl_desk.specs.declared.event.Call.TheVariants.{Load, LoadMany, Prime, Clear, ClearAll, Dispatch, Settle, Fail}
-use Rattle.dl_history.specs.History.{call_of, reply_to, primed}
+use Rattle.dl_desk.specs.Calls.{primed}
+use Rattle.dl_desk.specs.Legal.{call_of, reply_to}
 use Rattle.dl_desk.specs.History as atom
 use Rattle.dl_desk.specs.Calls as desk
 use Rattle.dl_desk.specs.declared.reply.DeskPrime.TheVariants as prime

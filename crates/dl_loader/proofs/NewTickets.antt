@@ -14,7 +14,7 @@ use Rattle.dl_loader.specs.Book.{Book}
 use Rattle.dl_loader.specs.EventEffect.{event_of, loads_of, Makes}
 use Rattle.dl_history.specs.Entries.{cell_of_load}
 use Rattle.dl_history.specs.Pass.{Trace, Ticket, given, with_call, with_ticket, with_tickets, GaveTicket, AreTickets, GaveTickets}
-use Rattle.dl_history.proofs.Pasts.{get-snoc}
+use Rattle.dl_history.proofs.ListLemmas.{get-snoc}
 
 -- ---- tickets in order
 

@@ -4,7 +4,7 @@ use Rattle.std.proofs.Common.{[], ◌∷◌, ◌++◌, slice_get, arith, length-
 use Rattle.std.proofs.lemmas.Bool.{ltb-false, leb-false}
 use Rattle.dl_history.specs.declared.fault.CallFault.{CallFault}
 use Rattle.dl_history.specs.declared.fault.CallFault.TheVariants.{Stopped, Behind, LogFull}
-use Rattle.dl_history.specs.Service.{Service}
+use Rattle.dl_desk.specs.Service.{Service}
 use Rattle.dl_history.specs.Entries.{front_of}
 use Rattle.dl_loader.specs.Book.{Book, Keeps, state_of}
 use Rattle.dl_history.specs.Pass.{Trace}
@@ -18,7 +18,8 @@ use Rattle.dl_desk.specs.BatchBook.{BatchBook, StandsFor}
 use Rattle.dl_desk.specs.declared.event.Event.{Event}
 use Rattle.dl_desk.specs.declared.event.Call.{Call}
 use Rattle.dl_desk.specs.declared.event.Reply.{Reply}
-use Rattle.dl_history.specs.History.{past, call_of, reply_to, MayBeMade, IsNext, ending_of}
+use Rattle.dl_desk.specs.Legal.{call_of, reply_to, MayBeMade, IsNext}
+use Rattle.dl_history.specs.History.{past, ending_of}
 use Rattle.dl_history.specs.Journal.{Cell, Journal, waiting}
 use Rattle.dl_history.specs.LoaderState.{LoaderState, loader_state, IsLoaderState, ShowsEnd}
 use Rattle.dl_history.proofs.Pasts.{atoms_next, legal_more}
@@ -77,7 +78,7 @@ gained recorded = record { history = recorded.history; cells = recorded.cells }
 pub record MayStand (s : Service) (seen : LoaderState) (e : Event) : Type 0 where
   pub kept : IsLoaderState s seen
   pub room : length seen.history < s.rules.limits.max_calls
-  pub next : IsNext s seen.history e
+  pub next : IsNext s (past seen.history) e
 
 -- so does a call that a caller may make, with its reply
 pub may_stand : {s : Service} {seen : LoaderState} (e : Event) → MayCall s seen e.caller → e.reply ≡ reply_to s.rules (atoms (past seen.history)) e.call

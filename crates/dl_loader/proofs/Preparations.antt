@@ -15,7 +15,8 @@ use Rattle.dl_loader.specs.Inside.Dues.{AreDue, end_refusal, outcome_by}
 use Rattle.dl_loader.specs.Inside.Preparation.{IsPrepared, cell_primed, ended_count, cells_ended}
 use Rattle.std.proofs.lemmas.List.{length-map}
 use Rattle.dl_desk.specs.declared.event.Call.TheVariants.{Prime, Settle}
-use Rattle.dl_history.specs.History.{primed, keys_of, call_of, reply_to, MayBeMade}
+use Rattle.dl_desk.specs.Calls.{primed}
+use Rattle.dl_desk.specs.Legal.{keys_of, call_of, reply_to, MayBeMade}
 use Rattle.std.specs.Option.{option_or}
 use Rattle.std.proofs.lemmas.Bool.{leb-false}
 use Rattle.std.proofs.lemmas.Slice.Eq.{slice_eq-Decides}

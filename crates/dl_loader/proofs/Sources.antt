@@ -4,7 +4,7 @@ use Rattle.dl_values.specs.Key.{Key}
 use Rattle.dl_source.specs.Source.{IsFor}
 use Rattle.dl_values.specs.declared.outcome.BatchAnswer.{BatchAnswer}
 use Rattle.dl_values.specs.declared.outcome.BatchAnswer.TheVariants.{Each}
-use Rattle.dl_history.specs.Service.{AnswersEach}
+use Rattle.dl_desk.specs.Service.{AnswersEach}
 
 -- a function that answers as a source does has an outcome for each key, where it does not break
 pub source_answers : (source own : List Key → BatchAnswer) → ((ks : List Key) → IsFor ks (source ks)) → ((ks : List Key) → source ks ≡ own ks) → AnswersEach own

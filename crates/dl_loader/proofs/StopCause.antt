@@ -10,9 +10,10 @@ use Rattle.dl_desk.specs.declared.fault.DeskFault.{DeskFault}
 use Rattle.dl_desk.specs.declared.fault.DeskFault.TheVariants as desk_fault
 use Rattle.dl_history.specs.Entries.{front_of}
 use Rattle.dl_history.specs.Faults.{call_fault}
-use Rattle.dl_history.specs.History.{past, keys_of, call_of}
+use Rattle.dl_desk.specs.Legal.{keys_of, call_of}
+use Rattle.dl_history.specs.History.{past}
 use Rattle.dl_history.specs.Pass.{Trace}
-use Rattle.dl_history.specs.Service.{Service}
+use Rattle.dl_desk.specs.Service.{Service}
 use Rattle.dl_desk.specs.declared.event.Call.{Call}
 use Rattle.dl_history.specs.declared.fault.CallFault.{CallFault}
 use Rattle.dl_history.specs.declared.fault.CallFault.TheVariants.{Stopped, Behind, LogFull, WrongKeys, NoBatch, NotSent, SettledBefore, CellsFull, OutOfMemory, LogRefused}

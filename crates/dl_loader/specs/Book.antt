@@ -2,7 +2,7 @@
 use Rattle.std.specs.Prelude.{List}
 use Rattle.dl_desk.specs.BatchBook.{BatchBook}
 use Rattle.dl_history.specs.Flags.{KnownFlags}
-use Rattle.dl_history.specs.Service.{Service}
+use Rattle.dl_desk.specs.Service.{Service}
 use Rattle.dl_history.specs.Journal.{Cell}
 use Rattle.dl_history.specs.LoaderState.{LoaderState, loader_state, IsLoaderState}
 use Rattle.dl_desk.specs.declared.event.Event.{Event}

@@ -4,7 +4,7 @@ use Rattle.dl_desk.specs.Events.{atoms}
 use Rattle.dl_desk.specs.History.{begun, end_of}
 use Rattle.dl_history.specs.Agreement.{Account, account, accounts_by, HasCalls, HasEach, NoneBehind, unshown}
 use Rattle.dl_loader.specs.Book.{Book, Keeps}
-use Rattle.dl_history.specs.Service.{Service}
+use Rattle.dl_desk.specs.Service.{Service}
 use Rattle.dl_history.specs.Entries.{Entry, front_of}
 use Rattle.dl_history.specs.History.{past, HasEnd}
 use Rattle.dl_history.specs.Lists.{Every, Among, one_if}

@@ -7,7 +7,7 @@ use Rattle.dl_desk.specs.declared.event.Call.{Call}
 use Rattle.dl_desk.specs.declared.event.Reply.{Reply}
 use Rattle.dl_desk.specs.declared.event.Reply.TheVariants.{Loaded, Many, Primed, Kept, Done, Sent}
 use Rattle.dl_history.specs.Pass.{Trace, with_call, with_tickets}
-use Rattle.dl_history.specs.Service.{Service}
+use Rattle.dl_desk.specs.Service.{Service}
 use Rattle.dl_history.specs.Entries.{front_of}
 use Rattle.dl_loader.specs.Book.{Book, Keeps}
 use Rattle.dl_loader.specs.Refusals.{IsRefusal}

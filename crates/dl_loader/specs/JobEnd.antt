@@ -8,7 +8,7 @@ use Rattle.dl_loader.specs.Asks.{end_by}
 use Rattle.dl_loader.specs.EventEffect.{WasMade, WasRefused}
 use Rattle.dl_loader.specs.Pass.{Trace}
 use Rattle.dl_history.specs.Entries.{Entry}
-use Rattle.dl_history.specs.Service.{Service}
+use Rattle.dl_desk.specs.Service.{Service}
 use Rattle.dl_desk.specs.declared.event.Call.{Call}
 use Rattle.dl_desk.specs.declared.event.Call.TheVariants.{Fail}
 use Rattle.dl_desk.specs.declared.event.Reply.TheVariants.{Done}

@@ -1,4 +1,4 @@
-pub use Rattle.dl_history.specs.Service
+pub use Rattle.dl_desk.specs.Service
 pub use Rattle.dl_history.specs.History
 pub use Rattle.dl_history.specs.Lists
 pub use Rattle.dl_history.specs.Entries

@@ -5,7 +5,7 @@ use Rattle.dl_values.specs.Key.{Key}
 use Rattle.dl_values.specs.Limits.{Limits, Rules}
 use Rattle.dl_values.specs.declared.outcome.BatchAnswer.{BatchAnswer}
 use Rattle.dl_history.specs.CellNames.{CellNames}
-use Rattle.dl_history.specs.Service.{Service, Answers, AnswersEach, service}
+use Rattle.dl_desk.specs.Service.{Service, Answers, AnswersEach, service}
 use Rattle.dl_history.specs.declared.fault.StartFault.{StartFault}
 use Rattle.dl_history.specs.declared.fault.StartFault.TheVariants.{NoCallers, TooManyCallers, OutOfMemory}
 

@@ -8,8 +8,9 @@ use Rattle.dl_desk.specs.Events.{atoms}
 use Rattle.dl_desk.specs.History.{Atom}
 use Rattle.dl_desk.specs.Calls as desk
 use Rattle.dl_values.specs.declared.job.Job.{Job}
-use Rattle.dl_history.specs.Service.{Service}
-use Rattle.dl_history.specs.History.{past, keys_of, call_of}
+use Rattle.dl_desk.specs.Service.{Service}
+use Rattle.dl_desk.specs.Legal.{keys_of, call_of}
+use Rattle.dl_history.specs.History.{past}
 use Rattle.dl_history.specs.Entries.{front_of}
 use Rattle.dl_history.specs.Pass.{Trace}
 use Rattle.dl_loader.specs.Book.{Book}

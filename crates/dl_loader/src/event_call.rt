@@ -7,7 +7,7 @@ ghost use Rattle.dl_values.specs.declared.outcome.BatchAnswer.{BatchAnswer};
 ghost use Rattle.dl_desk.specs.BatchBook as book;
 ghost use Rattle.dl_desk.specs.declared.event.Call.{Call};
 ghost use Rattle.dl_desk.specs.declared.event.Reply.{Reply};
-ghost use Rattle.dl_history.specs.History.{call_of};
+ghost use Rattle.dl_desk.specs.Legal.{call_of};
 ghost use Rattle.dl_loader.specs.Inside.Preparation.{IsPrepared, Refuses, Steps};
 ghost use Rattle.dl_loader.specs.EventEffect.{loads_of};
 

@@ -1,7 +1,7 @@
 //! Ending the batches of jobs by what a source answers.
 
 ghost use Rattle.std.specs.Prelude.{◌≡◌, ◌+◌, ◌<◌, true, IfErr, IfOk, OnErr, OnOk, length};
-ghost use Rattle.dl_history.specs.Service.{Answers};
+ghost use Rattle.dl_desk.specs.Service.{Answers};
 ghost use Rattle.dl_loader.specs.EventEffect.{KnowsStop};
 ghost use Rattle.dl_loader.specs.JobEnd.{WasEnded, WasNotEnded, WereEnded, WereEndedBefore};
 

@@ -1,6 +1,6 @@
 //! One event on the locked book, what all looks of one cell have in common, and the laws of histories.
 
-ghost use Rattle.dl_history.specs.Service.{Answers};
+ghost use Rattle.dl_desk.specs.Service.{Answers};
 ghost use Rattle.std.specs.Prelude.{◌≡◌, ◌+◌, None, IfErr, IfOk, IfSome, OnErr, OnOk};
 ghost use Rattle.dl_loader.specs.Asks.{call_asked, job_asked, source_asked};
 ghost use Rattle.dl_loader.specs.Book.{Keeps};
@@ -14,10 +14,11 @@ use crate::event_call::{
     Clear, ClearAll, Dispatch, EventCall, Fail, Load, LoadMany, Prime, Settle,
 };
 use crate::loader::Loader;
-pub use dl_history::laws::{
-    batches_are_within_limits, ends_stay, events_are_calls, fresh_loads_are_apart,
-    histories_begin_empty, looks_agree,
+pub use dl_desk::laws::{
+    batches_are_within_limits, ends_stay, fresh_loads_are_apart, outcomes_stay,
+    pasts_tell_legal_histories,
 };
+pub use dl_history::laws::{events_are_calls, histories_begin_empty, looks_agree};
 use dl_history::{CallFault, CellRows, LoaderName, Pass, Reply};
 use dl_source::Source;
 use std::alloc::Global;

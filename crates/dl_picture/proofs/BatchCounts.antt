@@ -3,7 +3,7 @@ use Rattle.std.proofs.Common.{◌≡◌, ◌∙◌, sym, ap, subst, refl, ℕ, z
 use Rattle.std.proofs.lemmas.List.Recursion.{max_push}
 use Rattle.std.proofs.lemmas.List.Sums.{sum_by_push}
 use Rattle.dl_desk.specs.History.{Atom, begun}
-use Rattle.dl_history.specs.History.{keys_of}
+use Rattle.dl_desk.specs.Legal.{keys_of}
 use Rattle.dl_picture.specs.Numbers.{AreBatchNumbers, AreSizes, greatest, sizes_of}
 use Rattle.dl_picture.specs.declared.batches.BatchNumbers.{BatchNumbers}
 

@@ -7,7 +7,7 @@ use Rattle.std.proofs.lemmas.List.Elements.{filter-append}
 use Rattle.dl_desk.specs.declared.reply.LoadReply.{LoadReply}
 use Rattle.dl_history.specs.Lists.{one_if}
 use Rattle.dl_desk.specs.declared.event.Event.{Event}
-use Rattle.dl_history.proofs.Pasts.{take-get}
+use Rattle.dl_history.proofs.ListLemmas.{take-get}
 use Rattle.dl_picture.specs.Numbers.{AreLoadNumbers, events_by, is_by, is_round, load_replies, replies_in, round_events}
 use Rattle.dl_picture.specs.declared.loads.LoadNumbers.{LoadNumbers}
 

@@ -5,7 +5,7 @@ use Rattle.std.specs.Prelude.{Option, Some}
 use Rattle.dl_desk.specs.History.{Atom, end_of}
 use Rattle.dl_values.specs.Key.{Key}
 use Rattle.dl_desk.specs.declared.reply.End.{End}
-use Rattle.dl_history.specs.History.{keys_of}
+use Rattle.dl_desk.specs.Legal.{keys_of}
 use Rattle.dl_plans.specs.ReportText.{batch_line, batch_lines}
 
 -- the lines of one batch more

@@ -7,7 +7,7 @@ use Rattle.dl_documents.specs.Faults.{Applies, IsLeast, most_bytes}
 use Rattle.dl_documents.specs.declared.input.Input.{Input}
 use Rattle.dl_documents.specs.declared.input.Input.TheVariants as input
 use Rattle.dl_documents.specs.declared.input.PlanFile.{PlanFile}
-use Rattle.dl_history.specs.Service.{Service}
+use Rattle.dl_desk.specs.Service.{Service}
 use Rattle.dl_source.specs.Answer.{answer_of}
 use Rattle.dl_scope.specs.Report.{Report}
 use Rattle.dl_scope.specs.Setup.{service_of}

@@ -2,7 +2,7 @@
 //! a queue, whose jobs the second one takes as a worker; each under a refusal, which may be of nothing.
 
 ghost use Rattle.std.specs.Prelude.{◌≡◌, All, length};
-ghost use Rattle.dl_history.specs.Service.{Answers};
+ghost use Rattle.dl_desk.specs.Service.{Answers};
 ghost use Rattle.dl_loader.specs.Opening.{Names};
 ghost use Rattle.dl_queue.specs.Seats.{IsSenderOf, IsTakerOf};
 

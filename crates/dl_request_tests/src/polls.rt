@@ -1,6 +1,6 @@
 //! A run of a term that is polled by hand.
 
-ghost use Rattle.dl_history.specs.Service.{Answers};
+ghost use Rattle.dl_desk.specs.Service.{Answers};
 
 use crate::comparison::{assert_ids, assert_is};
 use crate::player::{Scene, Turn};

@@ -7,10 +7,10 @@ use Rattle.dl_history.specs.Agreement.{Account, accounts_by, HasEach, Tells, Agr
 use Rattle.dl_history.specs.Entries.{PlacedEvent, Entry, Called, Saw, calls_of}
 use Rattle.dl_history.specs.History.{IsLegal}
 use Rattle.dl_history.specs.Lists.{Every, total, one_if, places}
-use Rattle.dl_history.specs.Service.{Service}
+use Rattle.dl_desk.specs.Service.{Service}
 use Rattle.dl_desk.specs.declared.event.Event.{Event}
-use Rattle.dl_history.proofs.ListLemmas.{every_from}
-use Rattle.dl_history.proofs.Pasts.{get-append_at}
+use Rattle.dl_history.proofs.ListLemmas.{get-append_at, every_from}
+use Rattle.dl_history.proofs.Pasts.{legal_place}
 
 -- ---- lists
 
@@ -150,5 +150,5 @@ module _ (w : ℕ → Event → ℕ) where
       → Every (Agrees events) accounts → total (λ a. total_told (w a.caller) (calls_of a.entries)) accounts ≡ total (λ e. w e.caller e) events
   calls_total s events accounts legal each agree =
       let once_each = every_from (λ (e : Event). accounts_by e.caller accounts ≡ 1) events
-      (λ k e got. each e.caller (legal.at k e got).caller) in
+      (λ k e got. each e.caller (legal_place s events k e legal got).caller) in
       told_by events accounts agree ∙ all_by events accounts once_each

@@ -9,7 +9,7 @@ use Rattle.dl_values.specs.declared.outcome.BatchFault.TheVariants.{Unsent}
 use Rattle.dl_history.specs.Agreement.{account, Agrees, Tells, entries_of, places_of}
 use Rattle.dl_history.specs.Entries.{Entry, Called, Saw, PlacedEvent}
 use Rattle.dl_history.specs.Lists.{Every, Among, places}
-use Rattle.dl_history.specs.Service.{Service}
+use Rattle.dl_desk.specs.Service.{Service}
 use Rattle.dl_desk.specs.declared.event.Call.{Call}
 use Rattle.dl_desk.specs.declared.event.Call.TheVariants.{LoadMany, Dispatch, Fail}
 use Rattle.dl_desk.specs.declared.event.Call.TheVariants as call
@@ -17,6 +17,7 @@ use Rattle.dl_desk.specs.declared.event.Ending.{Ending}
 use Rattle.dl_desk.specs.declared.event.Event.{Event}
 use Rattle.dl_history.proofs.HistoryLemmas.{entries_agree}
 use Rattle.dl_history.proofs.ListLemmas.{every_append, every_among}
+use Rattle.dl_history.proofs.Pasts.{legal_place}
 use Rattle.dl_loader.specs.Additions.{saws}
 use Rattle.dl_desk.specs.declared.reply.LoadReply.{LoadReply}
 use Rattle.dl_terms.specs.TermAnswers.{Pairs}
@@ -149,7 +150,7 @@ module _ (P : ℕ → Call → Type 0) (batches : List ℕ) (s : Service) (plans
 
   pub event_holds : (i : ℕ) (e : Event) → slice_get r.history.events i ≡ Some e → P e.caller e.call
   event_holds i e at =
-      let next = h.legal.at i e at in
+      let next = legal_place s r.history.events i e h.legal at in
       let n = e.caller in
       let agrees : Agrees r.history.events (account n (entries_of n r.history.accounts)) =
       entries_agree r.history.events n r.history.accounts (h.each n next.caller) h.agree in

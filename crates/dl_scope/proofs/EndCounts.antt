@@ -14,9 +14,10 @@ use Rattle.dl_desk.specs.Calls.{after}
 use Rattle.dl_desk.specs.declared.reply.End.{End}
 use Rattle.dl_desk.specs.declared.reply.End.TheVariants.{Settled, Failed}
 use Rattle.dl_desk.proofs.Facts.{sent-le}
-use Rattle.dl_history.specs.History.{past, call_of, MayBeMade, IsNext, IsLegal, AllEnded}
+use Rattle.dl_desk.specs.Legal.{call_of, MayBeMade, IsNext}
+use Rattle.dl_history.specs.History.{past, IsLegal, AllEnded}
 use Rattle.dl_history.specs.Lists.{one_if, total}
-use Rattle.dl_history.specs.Service.{Service}
+use Rattle.dl_desk.specs.Service.{Service}
 use Rattle.dl_desk.specs.declared.event.Event.{Event}
 use Rattle.dl_desk.specs.declared.event.Call.{Call}
 use Rattle.dl_desk.specs.declared.event.Call.TheVariants.{Load, LoadMany, Prime, Clear, ClearAll, Dispatch, Settle, Fail}
@@ -122,7 +123,7 @@ EndsCounted events = (n : ℕ) → sent (atoms (past events)) ≤ n → ends_tol
 ends_counted : (s : Service) (es : List Event) → IsLegal s es → EndsCounted es
 ends_counted s es legal = by_events s EndsCounted (λ n low. sym (none_below n)) more es legal
   where
-    more : (xs : List Event) (e : Event) → IsLegal s xs → IsNext s xs e → EndsCounted xs → EndsCounted (xs ++ e ∷ [])
+    more : (xs : List Event) (e : Event) → IsLegal s xs → IsNext s (past xs) e → EndsCounted xs → EndsCounted (xs ++ e ∷ [])
     more xs e before next rest n low =
         let history = atoms (past xs) in
         let all = total-append (λ (x : Event). ends_one x.call) xs (e ∷ []) in

@@ -5,7 +5,7 @@ use Rattle.std.proofs.lemmas.List.{length-map}
 use Rattle.dl_history.specs.Agreement.{Account, entries_of}
 use Rattle.dl_history.specs.ClosedHistory.{History, IsHistory}
 use Rattle.dl_history.specs.Lists.{Every}
-use Rattle.dl_history.specs.Service.{Service}
+use Rattle.dl_desk.specs.Service.{Service}
 use Rattle.dl_history.specs.Accounts.{account_of, accounts_of}
 use Rattle.dl_loader.specs.CloseRefusals.{IsLeastOf}
 use Rattle.dl_loader.specs.Pass.{Trace, Pass}

@@ -5,7 +5,7 @@ use Rattle.std.specs.List.{AllZip}
 use Rattle.std.proofs.lemmas.List.{length-map}
 use Rattle.std.proofs.lemmas.Slice.Zip.{AllZip-long}
 use Rattle.dl_history.specs.Agreement.{Account}
-use Rattle.dl_history.specs.Service.{Service}
+use Rattle.dl_desk.specs.Service.{Service}
 use Rattle.dl_loader.specs.Book.{Keeps, Book}
 use Rattle.dl_loader.specs.CloseRefusals.{RefusesClose}
 use Rattle.dl_loader.specs.Pass.{Trace, Pass, new_traces}

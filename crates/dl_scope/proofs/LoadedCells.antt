@@ -5,15 +5,13 @@ use Rattle.std.proofs.lemmas.Bool.{eq-eqb}
 use Rattle.dl_values.specs.Key.{Key, key_eq}
 use Rattle.dl_values.specs.Limits.{Rules}
 use Rattle.dl_desk.specs.History.{Atom, Load, Prime, Clear, ClearAll, Dispatch, Settle, Fail, Begun, begins, is_number, add_member, members, cells, room}
-use Rattle.dl_desk.specs.History.{Latest, later, latest_at, latest, forgets, cell_kept, held, load_reply_at, load_reply, load_replies}
-use Rattle.dl_desk.specs.Events.{Made, One, Many, with_loads, with_made}
+use Rattle.dl_desk.specs.History.{Latest, later, latest_at, latest, forgets, cell_kept, held, load_reply_at, load_reply, load_replies, loaded}
 use Rattle.dl_desk.specs.declared.reply.LoadReply.{LoadReply}
 use Rattle.dl_desk.specs.declared.reply.LoadReply.TheVariants.{Hit, Fresh}
 use Rattle.dl_values.proofs.KeyLemmas.{key_eq-same}
 use Rattle.dl_history.specs.Entries.{cell_of_load}
 use Rattle.dl_history.specs.Lists.{Every}
-use Rattle.dl_history.proofs.ListLemmas.{get_longer}
-use Rattle.dl_history.proofs.Pasts.{get-append_at}
+use Rattle.dl_history.proofs.ListLemmas.{get-append_at, get_longer}
 
 -- ---- the cells that fresh loads began
 
@@ -39,15 +37,16 @@ began_later a history k c began = record {
   at = member_stays (members history began.batch) began.batch began.place (k, c) (begins a) began.at;
 }
 
-began_loads : (ks : List Key) (rs : List LoadReply) (history : List Atom) (k : Key) (c : ℕ) → LoadBegan history k c → LoadBegan (with_loads ks rs history) k c
-began_loads [] rs history k c began = began
-began_loads (j ∷ ks) [] history k c began = began
-began_loads (j ∷ ks) (r ∷ rs) history k c began = began_loads ks rs (Load j r ∷ history) k c (began_later (Load j r) history k c began)
+-- and with more
+pub began_append : (added history : List Atom) (k : Key) (c : ℕ) → LoadBegan history k c → LoadBegan (added ++ history) k c
+began_append [] history k c began = began
+began_append (a ∷ added) history k c began = began_later a (added ++ history) k c (began_append added history k c began)
 
--- and with one more call
-pub began_made : (m : Made) (history : List Atom) (k : Key) (c : ℕ) → LoadBegan history k c → LoadBegan (with_made m history) k c
-began_made (One a) history k c began = began_later a history k c began
-began_made (Many ks rs) history k c began = began_loads ks rs history k c began
+began_loaded : (rules : Rules) (history : List Atom) (ks : List Key) (k : Key) (c : ℕ) → LoadBegan history k c → LoadBegan (loaded rules history ks) k c
+began_loaded rules history [] k c began = began
+began_loaded rules history (j ∷ ks) k c began =
+    let a = Load j (load_reply rules history j) in
+    began_loaded rules (a ∷ history) ks k c (began_later a history k c began)
 
 -- an atom that begins a cell in a batch is a fresh load
 began_now : (a : Atom) (history : List Atom) (g : Begun) (b : ℕ) → begins a ≡ Some g → g.batch ≡ Some b → LoadBegan (a ∷ history) g.key g.cell
@@ -140,7 +139,7 @@ reply_began rules history k none = reply_began_at rules history k (held history 
 -- and so were those of a loadMany
 pub replies_began : (rules : Rules) (history : List Atom) (ks : List Key) (i : ℕ) (k : Key) (r : LoadReply) → Every PrimesNone history
     → slice_get ks i ≡ Some k → slice_get (load_replies rules history ks) i ≡ Some r
-    → LoadBegan (with_loads ks (load_replies rules history ks) history) k (cell_of_load r)
+    → LoadBegan (loaded rules history ks) k (cell_of_load r)
 replies_began rules history [] i k r none key reply = absurd (let bad : ◌≡◌ {A = Option Key} None (Some k) = key in cc)
 replies_began rules history (j ∷ ks) zero k r none key reply =
     let now = load_reply rules history j in
@@ -149,9 +148,9 @@ replies_began rules history (j ∷ ks) zero k r none key reply =
     let replies : ◌≡◌ {A = Option LoadReply} (Some now) (Some r) = reply in
     let same_key : j ≡ k = cc in
     let same_reply : now ≡ r = cc in
-    let began : LoadBegan (with_loads ks (load_replies rules after ks) after) j (cell_of_load now) =
-    began_loads ks (load_replies rules after ks) after j (cell_of_load now) (reply_began rules history j none) in
-    subst (λ (q : Key). LoadBegan (with_loads ks (load_replies rules after ks) after) q (cell_of_load r)) same_key
-    (subst (λ (p : LoadReply). LoadBegan (with_loads ks (load_replies rules after ks) after) j (cell_of_load p)) same_reply began)
+    let began : LoadBegan (loaded rules after ks) j (cell_of_load now) =
+    began_loaded rules after ks j (cell_of_load now) (reply_began rules history j none) in
+    subst (λ (q : Key). LoadBegan (loaded rules after ks) q (cell_of_load r)) same_key
+    (subst (λ (p : LoadReply). LoadBegan (loaded rules after ks) j (cell_of_load p)) same_reply began)
 replies_began rules history (j ∷ ks) (suc i) k r none key reply =
     replies_began rules (Load j (load_reply rules history j) ∷ history) ks i k r (tt, none) key reply

@@ -4,21 +4,23 @@ use Rattle.dl_values.specs.Key.{Key}
 use Rattle.dl_values.specs.Limits.{Rules}
 use Rattle.dl_desk.specs.History.{Atom, load_reply, loaded}
 use Rattle.dl_desk.specs.History as atom
-use Rattle.dl_desk.specs.Events.{with_made, atoms}
+use Rattle.dl_desk.specs.Events.{call_atoms, atoms}
 use Rattle.dl_desk.specs.Calls.{after}
 use Rattle.dl_desk.specs.declared.reply.LoadReply.{LoadReply}
 use Rattle.dl_history.specs.Entries.{cell_of_load}
-use Rattle.dl_history.specs.History.{made, past, reply_to, call_of, IsNext, IsLegal}
+use Rattle.dl_desk.specs.Legal.{reply_to, call_of, IsNext}
+use Rattle.dl_history.specs.History.{past, IsLegal}
 use Rattle.dl_history.specs.Lists.{Every}
-use Rattle.dl_history.specs.Service.{Service}
+use Rattle.dl_desk.specs.Service.{Service}
 use Rattle.dl_desk.specs.declared.event.Event.{Event}
 use Rattle.dl_desk.specs.declared.event.Call.{Call}
 use Rattle.dl_desk.specs.declared.event.Call.TheVariants.{Load, LoadMany, Prime, Clear, ClearAll, Dispatch, Settle, Fail}
 use Rattle.dl_desk.specs.declared.event.Reply.{Reply}
 use Rattle.dl_desk.specs.declared.event.Reply.TheVariants.{Loaded, Many, Primed, Kept, Done, Sent}
-use Rattle.dl_history.proofs.Pasts.{get-snoc, past-snoc, by_events, atoms_next}
+use Rattle.dl_history.proofs.ListLemmas.{get-snoc}
+use Rattle.dl_history.proofs.Pasts.{past-snoc, by_events, atoms_next}
 use Rattle.dl_scope.specs.OwnAnswers.{IsNoPrime, NonePrimed}
-use Rattle.dl_scope.proofs.LoadedCells.{LoadBegan, began_made, PrimesNone, replies_began}
+use Rattle.dl_scope.proofs.LoadedCells.{LoadBegan, began_append, PrimesNone, replies_began}
 
 -- ---- the atoms
 
@@ -46,7 +48,7 @@ after_unprimed rules history (Fail b fault) now none = (tt, none)
 pub atoms_unprimed : (s : Service) (es : List Event) → IsLegal s es → NonePrimed es → Every PrimesNone (atoms (past es))
 atoms_unprimed s es legal none = by_events s (λ (xs : List Event). NonePrimed xs → Every PrimesNone (atoms (past xs))) (λ each. tt) more es legal none
   where
-    more : (xs : List Event) (e : Event) → IsLegal s xs → IsNext s xs e → (NonePrimed xs → Every PrimesNone (atoms (past xs)))
+    more : (xs : List Event) (e : Event) → IsLegal s xs → IsNext s (past xs) e → (NonePrimed xs → Every PrimesNone (atoms (past xs)))
         → NonePrimed (xs ++ e ∷ []) → Every PrimesNone (atoms (past (xs ++ e ∷ [])))
     more xs e before next rest each =
         let traces = every_parts (λ (x : Event). IsNoPrime x.call) xs (e ∷ []) each in
@@ -79,7 +81,7 @@ no_key k got = cc
 
 call_began : (rules : Rules) (history : List Atom) (call : Call) (i : ℕ) (k : Key) (r : LoadReply) → Every PrimesNone history
     → slice_get (keys_loaded call) i ≡ Some k → slice_get (replies_in (reply_to rules history call)) i ≡ Some r
-    → LoadBegan (with_made (made call (reply_to rules history call)) history) k (cell_of_load r)
+    → LoadBegan (after rules history (call_of call)) k (cell_of_load r)
 call_began rules history (Load j) i k r none key reply = replies_began rules history (j ∷ []) i k r none key reply
 call_began rules history (LoadMany ks) i k r none key reply = replies_began rules history ks i k r none key reply
 call_began rules history (Prime j o) i k r none key reply = absurd (no_key k key)
@@ -97,24 +99,24 @@ LoadsBegan es = (n : ℕ) (e : Event) → slice_get es n ≡ Some e → (i : ℕ
 loads_none : LoadsBegan []
 loads_none n e got i k r key reply = absurd (let bad : ◌≡◌ {A = Option Event} None (Some e) = got in cc)
 
-loads_more : (s : Service) (es : List Event) (e : Event) → IsNext s es e → Every PrimesNone (atoms (past es)) → LoadsBegan es → LoadsBegan (es ++ e ∷ [])
-loads_more s es e next none old n x got i k r key reply = rw (past-snoc es e) (by (get-snoc es e x n got))
+loads_more : (s : Service) (es : List Event) (e : Event) → IsNext s (past es) e → Every PrimesNone (atoms (past es)) → LoadsBegan es → LoadsBegan (es ++ e ∷ [])
+loads_more s es e next none old n x got i k r key reply = by (get-snoc es e x n got)
   where
-    by : ((n < length es) × (slice_get es n ≡ Some x)) ⊎ ((n ≡ length es) × (x ≡ e))
-        → LoadBegan (with_made (made e.call e.reply) (atoms (past es))) k (cell_of_load r)
-    by (inl before) = began_made (made e.call e.reply) (atoms (past es)) k (cell_of_load r) (old n x before.1 i k r key reply)
+    by : ((n < length es) × (slice_get es n ≡ Some x)) ⊎ ((n ≡ length es) × (x ≡ e)) → LoadBegan (atoms (past (es ++ e ∷ []))) k (cell_of_load r)
+    by (inl before) = rw (past-snoc es e)
+        (began_append (call_atoms e.call e.reply) (atoms (past es)) k (cell_of_load r) (old n x before.1 i k r key reply))
     by (inr now) =
         let own_key : slice_get (keys_loaded e.call) i ≡ Some k = subst (λ (y : Event). slice_get (keys_loaded y.call) i ≡ Some k) now.1 key in
         let own_reply : slice_get (replies_in e.reply) i ≡ Some r = subst (λ (y : Event). slice_get (replies_in y.reply) i ≡ Some r) now.1 reply in
         let given : slice_get (replies_in (reply_to s.rules (atoms (past es)) e.call)) i ≡ Some r =
         subst (λ (y : Reply). slice_get (replies_in y) i ≡ Some r) next.reply own_reply in
-        rw next.reply (call_began s.rules (atoms (past es)) e.call i k r none own_key given)
+        rw (atoms_next s es e next) (call_began s.rules (atoms (past es)) e.call i k r none own_key given)
 
 -- in a legal history with no prime
 pub loads_began : (s : Service) (es : List Event) → IsLegal s es → NonePrimed es → LoadsBegan es
 loads_began s es legal none = by_events s (λ (xs : List Event). NonePrimed xs → LoadsBegan xs) (λ each. loads_none) more es legal none
   where
-    more : (xs : List Event) (e : Event) → IsLegal s xs → IsNext s xs e → (NonePrimed xs → LoadsBegan xs) → NonePrimed (xs ++ e ∷ [])
+    more : (xs : List Event) (e : Event) → IsLegal s xs → IsNext s (past xs) e → (NonePrimed xs → LoadsBegan xs) → NonePrimed (xs ++ e ∷ [])
         → LoadsBegan (xs ++ e ∷ [])
     more xs e before next rest each =
         let traces = every_parts (λ (x : Event). IsNoPrime x.call) xs (e ∷ []) each in

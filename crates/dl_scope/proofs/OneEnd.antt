@@ -11,12 +11,14 @@ use Rattle.dl_desk.specs.Calls.{after}
 use Rattle.dl_values.specs.declared.outcome.BatchAnswer.{BatchAnswer}
 use Rattle.dl_desk.specs.declared.reply.End.{End}
 use Rattle.dl_desk.specs.declared.reply.End.TheVariants.{Settled, Failed}
-use Rattle.dl_history.specs.History.{past, call_of, MayBeMade, IsNext, IsLegal}
-use Rattle.dl_history.specs.Service.{Service}
+use Rattle.dl_desk.specs.Legal.{call_of, MayBeMade, IsNext}
+use Rattle.dl_history.specs.History.{past, IsLegal}
+use Rattle.dl_desk.specs.Service.{Service}
 use Rattle.dl_desk.specs.declared.event.Event.{Event}
 use Rattle.dl_desk.specs.declared.event.Call.{Call}
 use Rattle.dl_desk.specs.declared.event.Call.TheVariants.{Load, LoadMany, Prime, Clear, ClearAll, Dispatch, Settle, Fail}
-use Rattle.dl_history.proofs.Pasts.{get-snoc, by_events, atoms_next}
+use Rattle.dl_history.proofs.ListLemmas.{get-snoc}
+use Rattle.dl_history.proofs.Pasts.{by_events, atoms_next}
 use Rattle.dl_scope.specs.Headline.{Ends, EndOnce}
 
 -- ---- one call
@@ -62,7 +64,7 @@ no_end_yet answer history (Fail n fault) b may same = ap (end_of history) (sym s
 abbrev EndsStand : List Event → Type 0
 EndsStand events = (b j : ℕ) (e : Event) → slice_get events j ≡ Some e → Ends b e.call → end_of (atoms (past events)) b ≡ None → ⊥
 
-stand_more : (s : Service) (es : List Event) (e : Event) → IsNext s es e → EndsStand es → EndsStand (es ++ e ∷ [])
+stand_more : (s : Service) (es : List Event) (e : Event) → IsNext s (past es) e → EndsStand es → EndsStand (es ++ e ∷ [])
 stand_more s es e next old b j x got ends none = by (get-snoc es e x j got)
   where
     traces : (Ends b e.call → ⊥) × (end_of (atoms (past es)) b ≡ None)
@@ -72,7 +74,7 @@ stand_more s es e next old b j x got ends none = by (get-snoc es e x j got)
     by (inl before) = old b j x before.1 ends traces.1
     by (inr now) = traces.0 (subst (λ (y : Event). Ends b y.call) now.1 ends)
 
-once_more : (s : Service) (es : List Event) (e : Event) → IsNext s es e → EndsStand es → EndOnce es → EndOnce (es ++ e ∷ [])
+once_more : (s : Service) (es : List Event) (e : Event) → IsNext s (past es) e → EndsStand es → EndOnce es → EndOnce (es ++ e ∷ [])
 once_more s es e next stand old b j k x y first second ends also = by (get-snoc es e x j first) (get-snoc es e y k second)
   where
     -- an event before e doesn't end what e ends
@@ -96,5 +98,5 @@ end_once s es legal = (by_events s (λ (xs : List Event). EndsStand xs × EndOnc
     once_none : EndOnce []
     once_none b j k e f first second ends also = absurd (let bad : ◌≡◌ {A = Option Event} None (Some e) = first in cc)
 
-    more : (xs : List Event) (e : Event) → IsLegal s xs → IsNext s xs e → EndsStand xs × EndOnce xs → EndsStand (xs ++ e ∷ []) × EndOnce (xs ++ e ∷ [])
+    more : (xs : List Event) (e : Event) → IsLegal s xs → IsNext s (past xs) e → EndsStand xs × EndOnce xs → EndsStand (xs ++ e ∷ []) × EndOnce (xs ++ e ∷ [])
     more xs e before next rest = (stand_more s xs e next rest.0, once_more s xs e next rest.0 rest.1)

@@ -6,7 +6,7 @@ use Rattle.dl_values.specs.declared.outcome.Outcome.{Outcome}
 use Rattle.dl_values.proofs.KeyLemmas.{key_eq-same}
 use Rattle.dl_history.specs.Agreement.{account, Agrees, entries_of}
 use Rattle.dl_history.specs.Lists.{Every}
-use Rattle.dl_history.specs.Service.{Service}
+use Rattle.dl_desk.specs.Service.{Service}
 use Rattle.dl_desk.specs.declared.event.Call.{Call}
 use Rattle.dl_desk.specs.declared.event.Call.TheVariants.{Load, LoadMany, Dispatch, Settle, Fail}
 use Rattle.dl_desk.specs.declared.event.Call.TheVariants as call

@@ -15,18 +15,18 @@ use Rattle.dl_source.specs.Answer.{answer_of, first_break, outcomes_of, outcome_
 use Rattle.dl_source.specs.Tables.{Tables}
 use Rattle.dl_history.specs.Entries.{cell_of_load}
 use Rattle.dl_history.specs.History.{past, IsLegal, ending_of}
-use Rattle.dl_history.specs.Service.{Service}
+use Rattle.dl_desk.specs.Service.{Service}
 use Rattle.dl_desk.specs.declared.event.Event.{Event}
 use Rattle.dl_desk.specs.declared.event.Ending.{Ending}
 use Rattle.dl_desk.specs.declared.event.Call.TheVariants.{LoadMany}
 use Rattle.dl_desk.specs.declared.event.Reply.TheVariants.{Many}
 use Rattle.dl_history.proofs.CellBatches.{member_cell, members-apart}
 use Rattle.dl_history.proofs.PastEnds.{batched_unprimed}
-use Rattle.dl_history.proofs.Pasts.{legal_past, legal_atoms}
+use Rattle.dl_desk.proofs.PastAtoms.{legal_atoms}
 use Rattle.dl_history.proofs.Outcomes.{shown_parts}
 use Rattle.dl_scope.specs.OwnAnswers.{AnswersOwn, NonePrimed, NoneFailed}
 use Rattle.dl_scope.proofs.LoadedCells.{LoadBegan}
-use Rattle.dl_scope.proofs.OwnSettles.{own_given, give_own}
+use Rattle.dl_scope.proofs.OwnSettles.{own_settle, give_own}
 use Rattle.dl_scope.proofs.NoPrimes.{loads_began}
 
 -- ---- the outcome beside a cell
@@ -66,15 +66,15 @@ began_own s own answers es legal none k c began x shows =
     by (last_of (ends began.batch) (past es)) refl (rw (unprimed, batch) at ((shown_parts es c x shows).1))
   where
     batch : cell_batch (atoms (past es)) c ≡ Some began.batch
-    batch = member_cell s.rules (atoms (past es)) began.batch began.place (k, c) (legal_atoms s es legal) began.at
+    batch = member_cell s.rules (atoms (past es)) began.batch began.place (k, c) (legal_atoms s (past es) legal) began.at
 
     unprimed : last_of (primes c) (past es) ≡ None
-    unprimed = batched_unprimed s.rules (past es) c began.batch (legal_past s es legal) batch
+    unprimed = batched_unprimed s (past es) c began.batch legal batch
 
     member_own : IsBeside own (members (atoms (past es)) began.batch) c x.outcome → x.outcome ≡ own k
     member_own h =
         let place : h.place ≡ began.place =
-        members-apart s.rules (atoms (past es)) began.batch h.place began.place h.member (k, c) (legal_atoms s es legal) h.at began.at h.cell in
+        members-apart s.rules (atoms (past es)) began.batch h.place began.place h.member (k, c) (legal_atoms s (past es) legal) h.at began.at h.cell in
         let there : slice_get (members (atoms (past es)) began.batch) h.place ≡ Some (k, c) =
         ap (slice_get (members (atoms (past es)) began.batch)) place ∙ began.at in
         let two : ◌≡◌ {A = Option (Key × ℕ)} (Some h.member) (Some (k, c)) = sym h.at ∙ there in
@@ -82,10 +82,10 @@ began_own s own answers es legal none k c began x shows =
         sym h.is ∙ ap (λ (m : Key × ℕ). own m.0) same
 
     by : (o : Option Placed) → last_of (ends began.batch) (past es) ≡ o
-        → option_and_then (λ (p : Placed). outcome_given (atoms (past es)) c p.event.gave) o ≡ Some x.outcome → x.outcome ≡ own k
+        → option_and_then (λ (p : Placed). outcome_given (atoms (past es)) c p.event.call) o ≡ Some x.outcome → x.outcome ≡ own k
     by None is f = absurd (let bad : ◌≡◌ {A = Option Outcome} None (Some x.outcome) = f in cc)
     by (Some p) is f =
-        let given : p.event.gave ≡ own_given own (atoms (past es)) began.batch = give_own s own answers es legal none began.batch p is in
+        let given : p.event.call ≡ own_settle own (atoms (past es)) began.batch = give_own s own answers es legal none began.batch p is in
         member_own (beside_own own c x.outcome (members (atoms (past es)) began.batch) (rw (given, batch) at f))
 
 -- ---- the outcomes of loads

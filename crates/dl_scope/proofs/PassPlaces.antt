@@ -8,7 +8,7 @@ use Rattle.dl_haxl.specs.declared.fault.RunFault.{RunFault}
 use Rattle.dl_history.specs.Agreement.{Account, account, entries_of}
 use Rattle.dl_history.specs.Entries.{Entry}
 use Rattle.dl_history.specs.Lists.{Every}
-use Rattle.dl_history.specs.Service.{Service}
+use Rattle.dl_desk.specs.Service.{Service}
 use Rattle.dl_loader.specs.Additions.{Adds}
 use Rattle.dl_loader.specs.Pass.{Trace, trace, Pass, new_traces}
 use Rattle.dl_queue.specs.Seats.{sent_jobs, taken_jobs}

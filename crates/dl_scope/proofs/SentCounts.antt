@@ -10,14 +10,16 @@ use Rattle.dl_desk.specs.Events.{atoms}
 use Rattle.dl_desk.specs.Calls.{after}
 use Rattle.dl_desk.specs.declared.reply.End.{End}
 use Rattle.dl_desk.proofs.Facts.{sent-le, end_of-unsent}
-use Rattle.dl_history.specs.History.{past, reply_to, call_of, IsNext, IsLegal, AllEnded}
+use Rattle.dl_desk.proofs.PastAtoms.{legal_atoms}
+use Rattle.dl_desk.specs.Legal.{reply_to, call_of, IsNext}
+use Rattle.dl_history.specs.History.{past, IsLegal, AllEnded}
 use Rattle.dl_history.specs.Lists.{total}
-use Rattle.dl_history.specs.Service.{Service}
+use Rattle.dl_desk.specs.Service.{Service}
 use Rattle.dl_desk.specs.declared.event.Event.{Event}
 use Rattle.dl_desk.specs.declared.event.Call.{Call}
 use Rattle.dl_desk.specs.declared.event.Call.TheVariants.{Load, LoadMany, Prime, Clear, ClearAll, Dispatch, Settle, Fail}
 use Rattle.dl_history.proofs.ListLemmas.{total-append}
-use Rattle.dl_history.proofs.Pasts.{by_events, atoms_next, legal_atoms}
+use Rattle.dl_history.proofs.Pasts.{by_events, atoms_next}
 use Rattle.dl_loader.specs.Dispatches.{dispatched, dispatched_by}
 use Rattle.dl_scope.proofs.CallTotals.{long_each}
 
@@ -58,7 +60,7 @@ jobs_told events = total (λ e. length (dispatched_by e.call e.reply)) events
 jobs_sent : (s : Service) (es : List Event) → IsLegal s es → jobs_told es ≡ sent (atoms (past es))
 jobs_sent s es legal = by_events s (λ (xs : List Event). jobs_told xs ≡ sent (atoms (past xs))) refl more es legal
   where
-    more : (xs : List Event) (e : Event) → IsLegal s xs → IsNext s xs e → jobs_told xs ≡ sent (atoms (past xs))
+    more : (xs : List Event) (e : Event) → IsLegal s xs → IsNext s (past xs) e → jobs_told xs ≡ sent (atoms (past xs))
         → jobs_told (xs ++ e ∷ []) ≡ sent (atoms (past (xs ++ e ∷ [])))
     more xs e before next rest =
         let all = total-append (λ (x : Event). length (dispatched_by x.call x.reply)) xs (e ∷ []) in
@@ -76,7 +78,7 @@ all_sent s es legal ended = by (cases_lt (sent history) (begun history))
 
     by : (sent history < begun history) ⊎ (begun history ≤ sent history) → sent history ≡ begun history
     by (inl more) =
-        let none = end_of-unsent s.rules history (legal_atoms s es legal) (sent history) (omega arith) in
+        let none = end_of-unsent s.rules history (legal_atoms s (past es) legal) (sent history) (omega arith) in
         let bad : false ≡ true = subst (λ (o : Option End). IsSome o) none (ended (sent history) more) in
         absurd cc
     by (inr high) = let low = sent-le history in omega (arith, low)

@@ -6,7 +6,7 @@ use Rattle.dl_history.specs.Agreement.{Account}
 use Rattle.dl_history.specs.ClosedHistory.{History, IsHistory}
 use Rattle.dl_history.specs.Entries.{PlacedEvent, Entry, calls_of}
 use Rattle.dl_history.specs.Lists.{one_if, total}
-use Rattle.dl_history.specs.Service.{Service}
+use Rattle.dl_desk.specs.Service.{Service}
 use Rattle.dl_desk.specs.declared.event.Event.{Event}
 use Rattle.dl_loader.specs.Pass.{Trace}
 use Rattle.dl_loader.specs.Dispatches.{dispatched, dispatched_by, events_told, unsent, unsent_by}

@@ -6,7 +6,7 @@ use Rattle.std.specs.Prelude.{IfOk, Result}
 use Rattle.std.specs.List.{AllByRecursion, AllZip}
 use Rattle.std.proofs.lemmas.Bool.Decides.{nat_tests}
 use Rattle.dl_history.specs.Lists.{total}
-use Rattle.dl_history.specs.Service.{Service}
+use Rattle.dl_desk.specs.Service.{Service}
 use Rattle.dl_loader.specs.Pass.{Trace, trace, Pass, new_traces}
 use Rattle.dl_queue.specs.Balance.{Balances}
 use Rattle.dl_queue.specs.Seats.{sent_jobs, taken_jobs}

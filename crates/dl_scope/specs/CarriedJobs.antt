@@ -3,7 +3,7 @@ use Rattle.std.specs.Prelude.{◌≡◌, ℕ, List, length}
 use Rattle.dl_desk.specs.Events.{atoms}
 use Rattle.dl_desk.specs.History.{begun}
 use Rattle.dl_history.specs.History.{past}
-use Rattle.dl_history.specs.Service.{Service}
+use Rattle.dl_desk.specs.Service.{Service}
 use Rattle.dl_desk.specs.declared.event.Event.{Event}
 use Rattle.dl_scope.specs.Headline.{Headline, HeadlineBut}
 use Rattle.dl_scope.specs.Report.{Report}

@@ -4,7 +4,7 @@ use Rattle.dl_history.specs.Agreement.{Agrees, HasEach, entries_of}
 use Rattle.dl_history.specs.Entries.{Entry, Called, Saw}
 use Rattle.dl_history.specs.History.{IsLegal, AllEnded}
 use Rattle.dl_history.specs.Lists.{Every}
-use Rattle.dl_history.specs.Service.{Service}
+use Rattle.dl_desk.specs.Service.{Service}
 use Rattle.dl_desk.specs.declared.event.Call.{Call}
 use Rattle.dl_desk.specs.declared.event.Call.TheVariants.{Load, LoadMany, Prime, Clear, ClearAll, Dispatch, Settle, Fail}
 use Rattle.dl_desk.specs.declared.event.Event.{Event}

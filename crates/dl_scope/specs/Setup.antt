@@ -3,7 +3,7 @@ use Rattle.std.specs.Prelude.{ℕ, ◌+◌, List}
 use Rattle.dl_values.specs.Limits.{rules_by}
 use Rattle.dl_values.specs.Key.{Key}
 use Rattle.dl_values.specs.declared.outcome.BatchAnswer.{BatchAnswer}
-use Rattle.dl_history.specs.Service.{Service, service}
+use Rattle.dl_desk.specs.Service.{Service, service}
 use Rattle.dl_scope.specs.declared.setup.Setup.{Setup}
 
 -- what a server serves by: its callers are the plans and then the workers, and its source answers by one function

@@ -1,7 +1,7 @@
 //! Serving plans.
 
 ghost use Rattle.std.specs.Prelude.{◌≡◌, ◌+◌, [], ℕ, List, IfErr, IfOk, OnOk, Some, length, map};
-ghost use Rattle.dl_history.specs.Service.{Answers, Service};
+ghost use Rattle.dl_desk.specs.Service.{Answers, Service};
 ghost use Rattle.dl_loader.specs.CloseRefusals.{IsLeastOf};
 ghost use Rattle.dl_loader.specs.Opening.{AreCallers, Names};
 ghost use Rattle.dl_values.specs.Limits.{rules_by};

@@ -7,7 +7,7 @@ use Rattle.std.proofs.lemmas.List.Concat.{flat_map-append}
 use Rattle.dl_history.specs.Lists.{Among}
 use Rattle.dl_desk.specs.declared.event.Event.{Event}
 use Rattle.dl_history.proofs.ListLemmas.{among_longer, every_append, every_weaker}
-use Rattle.dl_history.proofs.Pasts.{get-append_at, take-get}
+use Rattle.dl_history.proofs.ListLemmas.{get-append_at, take-get}
 use Rattle.dl_loader.specs.CloseRefusals.{IsLeastOf}
 use Rattle.dl_workers.specs.GiveUps.{given_up, given_up_by}
 

@@ -3,7 +3,7 @@ use Rattle.std.proofs.Common.{◌≡◌, ◌∙◌, sym, ap, refl, ℕ, ◌+◌,
 use Rattle.std.proofs.lemmas.List.{append_assoc, append-nil, length-append}
 use Rattle.dl_values.specs.declared.job.Job.{Job}
 use Rattle.dl_loader.specs.Pass.{Trace}
-use Rattle.dl_history.specs.Service.{Service}
+use Rattle.dl_desk.specs.Service.{Service}
 use Rattle.dl_loader.specs.JobEnd.{WasEnded, WereEnded}
 use Rattle.dl_workers.specs.WorkerResult.{EndedBefore, EndedEach, Took}
 use Rattle.dl_loader.proofs.JobEnds.{ended_more}

@@ -1,7 +1,7 @@
 //! Fetch workers: each takes jobs from a queue and ends their batches.
 
 ghost use Rattle.std.specs.Prelude.{◌≡◌, ◌⊎◌, ◌++◌, MatchBool, length};
-ghost use Rattle.dl_history.specs.Service.{Answers};
+ghost use Rattle.dl_desk.specs.Service.{Answers};
 ghost use Rattle.dl_loader.specs.JobEnd.{WasEnded};
 ghost use Rattle.dl_queue.specs.Seats.{HasEnded, IsTakerOf, taken_jobs};
 ghost use Rattle.dl_workers.specs.WorkerResult.{Took, Worked};

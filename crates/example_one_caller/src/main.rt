@@ -2,7 +2,7 @@
 #![tactic(auto)]
 
 ghost use Rattle.std.specs.Prelude.{◌≡◌};
-ghost use Rattle.dl_history.specs.Service.{Answers};
+ghost use Rattle.dl_desk.specs.Service.{Answers};
 ghost use Rattle.dl_loader.specs.Opening.{Names};
 
 use anyhow::{Result, bail};

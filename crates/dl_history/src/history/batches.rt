@@ -4,7 +4,8 @@ ghost use Rattle.std.specs.Prelude.{◌≡◌, ◌<◌, ◌≤◌, IfNone, IfSom
 ghost use Rattle.dl_desk.specs.Events.{atoms};
 ghost use Rattle.dl_desk.specs.History.{begun, end_of};
 ghost use Rattle.dl_desk.specs.declared.reply.End.TheVariants.{Settled, Failed};
-ghost use Rattle.dl_history.specs.History.{keys_of, past};
+ghost use Rattle.dl_desk.specs.Legal.{keys_of};
+ghost use Rattle.dl_history.specs.History.{past};
 
 use crate::history::History;
 use dl_desk::{End, FetchKey};

@@ -4,7 +4,7 @@ use Rattle.dl_history.specs.Agreement.{Account, Fits, unshown}
 use Rattle.dl_history.specs.ClosedHistory.{IsHistory, Outline, accounts_at, history_of}
 use Rattle.dl_history.specs.History.{AllEnded}
 use Rattle.dl_history.specs.Lists.{Every}
-use Rattle.dl_history.specs.Service.{Service}
+use Rattle.dl_desk.specs.Service.{Service}
 use Rattle.dl_desk.specs.declared.event.Event.{Event}
 use Rattle.dl_loader.specs.Book.{Book}
 use Rattle.dl_loader.specs.declared.loader.close.PassFront.{PassFront}

@@ -15,7 +15,7 @@ use Rattle.dl_desk.specs.declared.event.Call.{Call}
 use Rattle.dl_desk.specs.declared.event.Call.TheVariants.{Prime, Settle, Fail}
 use Rattle.dl_history.specs.declared.fault.CallFault.{CallFault}
 use Rattle.dl_history.specs.declared.fault.CallFault.TheVariants.{WrongKeys}
-use Rattle.dl_history.specs.History.{keys_of}
+use Rattle.dl_desk.specs.Legal.{keys_of}
 use Rattle.dl_history.specs.Journal.{Cell, waiting}
 use Rattle.dl_history.specs.LoaderState.{ShowsEnd}
 use Rattle.dl_loader.specs.Refusals.{same_keys}

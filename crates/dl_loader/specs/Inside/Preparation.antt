@@ -13,7 +13,7 @@ use Rattle.dl_desk.specs.declared.event.Call.{Call}
 use Rattle.dl_desk.specs.declared.event.Call.TheVariants.{Prime, Settle, Fail}
 use Rattle.dl_desk.specs.declared.event.Reply.{Reply}
 use Rattle.dl_desk.specs.declared.event.Reply.TheVariants.{Primed}
-use Rattle.dl_history.specs.History.{MayBeMade, reply_to}
+use Rattle.dl_desk.specs.Legal.{MayBeMade, reply_to}
 use Rattle.dl_loader.specs.declared.dues.Due.{Due}
 use Rattle.dl_history.specs.declared.fault.CallFault.{CallFault}
 use Rattle.dl_history.specs.declared.fault.CallFault.TheVariants.{OutOfMemory}

@@ -1,6 +1,6 @@
 //! The ends of batches.
 
-ghost use Rattle.dl_history.specs.Service.{Answers};
+ghost use Rattle.dl_desk.specs.Service.{Answers};
 ghost use Rattle.std.specs.Prelude.{◌≡◌, ◌+◌, ◌<◌, true, IfErr, IfOk, OnErr, OnOk, Some, length};
 ghost use Rattle.dl_source.specs.Fetched.{answer_of, job_of, source_of};
 ghost use Rattle.dl_desk.specs.declared.event.Call.TheVariants as call;

@@ -1,7 +1,7 @@
 //! The calls on keys, and the dispatch.
 
 ghost use Rattle.std.specs.Prelude.{◌≡◌, ◌<◌, ◌≤◌, true, None, IfErr, IfOk, OnErr, OnOk};
-ghost use Rattle.dl_history.specs.History.{primed};
+ghost use Rattle.dl_desk.specs.Calls.{primed};
 ghost use Rattle.dl_desk.specs.declared.event.Call.TheVariants as call;
 ghost use Rattle.dl_desk.specs.declared.event.Reply.TheVariants as reply;
 ghost use Rattle.dl_loader.specs.EventReplies.{refused_by, reply_by};

@@ -2,7 +2,7 @@
 
 ghost use Rattle.std.specs.Prelude.{◌≡◌, [], None};
 ghost use Rattle.dl_desk.specs.declared.call.DeskCall.TheVariants as asked;
-ghost use Rattle.dl_history.specs.History.{primed};
+ghost use Rattle.dl_desk.specs.Calls.{primed};
 ghost use Rattle.dl_desk.specs.declared.event.Call.TheVariants as made;
 ghost use Rattle.dl_desk.specs.declared.event.Reply.TheVariants as reply;
 ghost use Rattle.dl_loader.specs.Inside.Preparation.{IsReady, cell_primed};

@@ -5,7 +5,7 @@ ghost use Rattle.dl_history.specs.Agreement.{accounts_by, NoneBehind};
 ghost use Rattle.dl_history.specs.ClosedHistory.{IsHistory, outline_of};
 ghost use Rattle.dl_history.specs.Accounts.{accounts_of};
 ghost use Rattle.dl_loader.specs.CloseRefusals.{CloseWasRefused, IsBehind, RefusesClose, present};
-ghost use Rattle.dl_history.specs.Service.{AnswersEach};
+ghost use Rattle.dl_desk.specs.Service.{AnswersEach};
 ghost use Rattle.dl_loader.specs.Inside.CloseSteps.{Closes, MayClose, earlier};
 
 use crate::book::Book;

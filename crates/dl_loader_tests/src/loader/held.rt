@@ -1,6 +1,6 @@
 //! Calls that are made while a caller has a ticket, by which it reads its outcome then.
 
-ghost use Rattle.dl_history.specs.Service.{Answers};
+ghost use Rattle.dl_desk.specs.Service.{Answers};
 
 use super::keys::{assert_same, assert_shows, user};
 use super::player::Scene;

@@ -1,7 +1,7 @@
 //! How a program uses the shared loader: callers on threads of their own load one key, and the loader is closed.
 
 ghost use Rattle.std.specs.Prelude.{◌≡◌};
-ghost use Rattle.dl_history.specs.Service.{Answers};
+ghost use Rattle.dl_desk.specs.Service.{Answers};
 ghost use Rattle.dl_loader.specs.Opening.{Names};
 
 use super::keys::assert_shows;

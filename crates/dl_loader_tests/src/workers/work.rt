@@ -1,7 +1,7 @@
 //! Fetch workers: worked rows of the jobs that one takes.
 
 ghost use Rattle.std.specs.Prelude.{◌≡◌, false, length};
-ghost use Rattle.dl_history.specs.Service.{Answers};
+ghost use Rattle.dl_desk.specs.Service.{Answers};
 ghost use Rattle.dl_loader.specs.Opening.{Names};
 ghost use Rattle.dl_loader.specs.Pass.{GaveTicket};
 ghost use Rattle.dl_queue.specs.Seats.{AreSeatsOf, IsSenderOf, IsTakerOf};

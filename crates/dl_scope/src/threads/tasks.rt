@@ -1,6 +1,6 @@
 //! What each thread of a server is given, and what that of a worker does with it.
 
-ghost use Rattle.dl_history.specs.Service.{Answers};
+ghost use Rattle.dl_desk.specs.Service.{Answers};
 ghost use Rattle.dl_queue.specs.Seats.{IsTakerOf};
 ghost use Rattle.dl_scope.specs.Inside.ThreadRuns.{IsWorkerRun};
 

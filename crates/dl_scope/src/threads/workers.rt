@@ -1,7 +1,7 @@
 //! The threads of workers.
 
 ghost use Rattle.std.specs.Prelude.{◌≡◌, IfSome};
-ghost use Rattle.dl_history.specs.Service.{Answers};
+ghost use Rattle.dl_desk.specs.Service.{Answers};
 ghost use Rattle.dl_queue.specs.Seats.{IsTakerOf};
 ghost use Rattle.dl_scope.specs.Inside.ThreadRuns.{IsWorkerRun};
 

@@ -3,7 +3,7 @@ use Rattle.std.proofs.lemmas.List.{length-map, with_items_is}
 use Rattle.std.proofs.lemmas.Result.{IfOk-from_err, err_from_is_err_and}
 use Rattle.std.specs.Vec.{with_items}
 use Rattle.dl_values.proofs.Errors.{on_err}
-use Rattle.dl_history.specs.Service.{Service}
+use Rattle.dl_desk.specs.Service.{Service}
 use Rattle.dl_desk.specs.declared.event.Call.TheVariants.{LoadMany, Dispatch}
 use Rattle.dl_desk.specs.declared.event.Reply.TheVariants.{Many, Sent}
 use Rattle.dl_loader.specs.Additions.{Grows}
