@@ -4,4 +4,4 @@ use Rattle.dl_plans.specs.ScriptText.{call_lines}
 use Rattle.dl_plans.proofs.script_text.run_script.Given as goal
 
 abbrev pub invariant-answers : goal.invariant-answers
-invariant-answers l = string_bytes l.out ≡ flat_map call_lines (take l.answer-index l.run.answers.items)
+invariant-answers l = string_bytes l.out ≡ flat_map call_lines (take l.answer-index l.answer-items)
