@@ -9,8 +9,8 @@ use Rattle.dl_documents.proofs.Findings.{Spelled, kept, Finds, none_found, found
 use Rattle.dl_documents.proofs.KeyLaws.{key_is, key_again, keys_tree, keys_is, keys_again}
 use Rattle.dl_documents.specs.Script.{key_tree, one, call_tree, IsScriptCall}
 use Rattle.dl_documents.specs.Reading.{key_in, keys_in, number_in, call_named, call_in}
-use Rattle.dl_documents.specs.declared.input.ScriptCall.{ScriptCall}
-use Rattle.dl_documents.specs.declared.input.ScriptCall.TheVariants.{Load, LoadMany, Prime, Clear, ClearAll, Dispatch, Settle, Fail}
+use Rattle.dl_desk.specs.declared.call.DeskCall.{DeskCall}
+use Rattle.dl_desk.specs.declared.call.DeskCall.TheVariants.{Load, LoadMany, Prime, Clear, ClearAll, Dispatch, Settle, Fail}
 
 -- ---- numbers
 
@@ -51,12 +51,12 @@ named_is name d =
     (none_found call_tree IsScriptCall (one name d)))))))))
 
 -- the call that is found in a tree is spelled by it
-pub call_is : (d : Data) (c : ScriptCall) → call_in d ≡ Some c → Spelled call_tree IsScriptCall d c
+pub call_is : (d : Data) (c : DeskCall) → call_in d ≡ Some c → Spelled call_tree IsScriptCall d c
 call_is (object (member name d no_members)) c h = named_is name d c h
 call_is d c h = absurd (none-some c h)
 
 -- and a call is found in its tree
-pub call_again : (c : ScriptCall) → IsScriptCall c → call_in (call_tree c) ≡ Some c
+pub call_again : (c : DeskCall) → IsScriptCall c → call_in (call_tree c) ≡ Some c
 call_again (Load k) h = ap (option_map Load) (key_again k h)
 call_again (LoadMany ks) h = ap (option_map LoadMany) (keys_again ks h)
 call_again (Prime k) h = ap (option_map Prime) (key_again k h)

@@ -25,22 +25,22 @@ use Rattle.dl_documents.specs.StepReading.{step_in}
 use Rattle.dl_documents.specs.Steps.{StepTree, step_tree, step_view, plan_view, IsPlanStep}
 use Rattle.dl_documents.specs.declared.fault.PlanFault.{PlanFault}
 use Rattle.dl_documents.specs.declared.fault.PlanFault.TheVariants.{BadCall, Shape}
-use Rattle.dl_documents.specs.declared.input.ScriptCall.{ScriptCall}
+use Rattle.dl_desk.specs.declared.call.DeskCall.{DeskCall}
 
 -- ---- calls
 
 -- calls so far
-abbrev pub SpellCalls : List (Value Global) → List ScriptCall → Type 0
+abbrev pub SpellCalls : List (Value Global) → List DeskCall → Type 0
 SpellCalls vs calls = Spell tree_data call_tree IsScriptCall vs calls
 
-pub calls_more : (vs : List (Value Global)) (v : Value Global) (calls : List ScriptCall) (c : ScriptCall) → SpellCalls vs calls → Some c ≡ call_in (tree_data v)
+pub calls_more : (vs : List (Value Global)) (v : Value Global) (calls : List DeskCall) (c : DeskCall) → SpellCalls vs calls → Some c ≡ call_in (tree_data v)
     → SpellCalls (vs ++ v ∷ []) (calls ++ c ∷ [])
 calls_more vs v calls c so_far found =
     let p = call_is (tree_data v) c (sym found) in
     spell_next tree_data call_tree IsScriptCall vs v calls c so_far p.tree p.is
 
 -- the first item that is no call
-pub calls_stop : (front : List (Value Global)) (v : Value Global) (rest vs : List (Value Global)) (calls : List ScriptCall) (n : ℕ) → front ++ v ∷ rest ≡ vs → n ≡ length calls
+pub calls_stop : (front : List (Value Global)) (v : Value Global) (rest vs : List (Value Global)) (calls : List DeskCall) (n : ℕ) → front ++ v ∷ rest ≡ vs → n ≡ length calls
     → SpellCalls front calls → None ≡ call_in (tree_data v) → IsFirstBadCall (map tree_data vs) (BadCall n)
 calls_stop front v rest vs calls n is size so_far none =
     let place = place_of front v rest vs is in

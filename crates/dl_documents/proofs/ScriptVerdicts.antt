@@ -24,7 +24,7 @@ use Rattle.dl_documents.specs.declared.fault.PlanFault.TheVariants.{BadCall}
 use Rattle.dl_documents.specs.declared.head.Head.{Head}
 use Rattle.dl_documents.specs.declared.head.Version.{Version}
 use Rattle.dl_documents.specs.declared.input.Script.{Script}
-use Rattle.dl_documents.specs.declared.input.ScriptCall.{ScriptCall}
+use Rattle.dl_desk.specs.declared.call.DeskCall.{DeskCall}
 use Rattle.dl_documents.proofs.AsLimits.{are_inside}
 use Rattle.dl_documents.proofs.KnownMembers.{unknown, no_list, no_plans, no_tables}
 use Rattle.dl_documents.proofs.ListSpelling.{get_item-items_of, all_at, from_item}
@@ -85,7 +85,7 @@ module _ (d : Data) (h : Head) (ds : List Data) (ns : List TableNumber) (kind : 
 
   -- ---- limits
 
-  calls_pass : (cs : List ScriptCall) → AreCalls ds cs → (m : ℕ) → IsBadCall d m → ⊥
+  calls_pass : (cs : List DeskCall) → AreCalls ds cs → (m : ℕ) → IsBadCall d m → ⊥
   calls_pass cs are m c =
       let p = bad_item m c in
       let q = from_item call_tree cs m p.0 (ap (λ ts. slice_get ts m) (sym are.trees) ∙ p.1) in
@@ -97,7 +97,7 @@ module _ (d : Data) (h : Head) (ds : List Data) (ns : List TableNumber) (kind : 
   tables_pass : (t : TableFault) → IsBadTable d t → ⊥
   tables_pass t bad = none-some bad.tree (sym (unknown d true h.version (codes "tables") kind head.members (no_tables h.version)) ∙ bad.member)
 
-  pub clear_10 : (cs : List ScriptCall) → AreCalls ds cs → Clear d 10
+  pub clear_10 : (cs : List DeskCall) → AreCalls ds cs → Clear d 10
   clear_10 cs are =
       clear_tables d (clear_counts d (clear_heights d (clear_steps d (clear_calls d clear_5 (calls_pass cs are))
       (λ m s c. no_plan m c.1.steps c.1.plan)) (λ m s c. no_plan m c.1.steps c.1.plan)) (λ m c. no_plan m c.0 c.1)) tables_pass
@@ -106,7 +106,7 @@ module _ (d : Data) (h : Head) (ds : List Data) (ns : List TableNumber) (kind : 
   gives = InScript h.version kind head.version given
 
   -- the first number that is no limit
-  pub least_script_limit : (cs : List ScriptCall) (f : PlanFault) → AreCalls ds cs → IsRefusedNumber h.numbers ns f → IsLeast (Causes d) f
+  pub least_script_limit : (cs : List DeskCall) (f : PlanFault) → AreCalls ds cs → IsRefusedNumber h.numbers ns f → IsLeast (Causes d) f
   least_script_limit cs f are =
       least_limit d h.numbers ns (clear_10 cs are) head.numbers gives (script_only d h.version ns kind head.version given) f
 

@@ -23,7 +23,7 @@ use Rattle.dl_documents.specs.declared.fault.PlanFault.TheVariants as fault
 use Rattle.dl_documents.specs.declared.fault.PlanFault.TheVariants.{TooLarge, NotJson, Top, BadCall}
 use Rattle.dl_documents.specs.declared.fault.PlanFault.TheVariants.{Shape, TooDeep, TooManySteps, Table, Limit, OutOfMemory}
 use Rattle.dl_documents.specs.declared.head.Version.{Version}
-use Rattle.dl_documents.specs.declared.input.ScriptCall.{ScriptCall}
+use Rattle.dl_desk.specs.declared.call.DeskCall.{DeskCall}
 
 -- ---- causes at the top
 
@@ -49,7 +49,7 @@ pub data IsBadTop (d : Data) : Type 0 where
 
 -- the tree spells no call
 abbrev pub IsNoCall : Data → Type 0
-IsNoCall d = (c : ScriptCall) → IsScriptCall c → d ≡ call_tree c → ⊥
+IsNoCall d = (c : DeskCall) → IsScriptCall c → d ≡ call_tree c → ⊥
 
 -- item n of the list is no call
 pub record IsBadAt (ds : Items) (n : ℕ) : Type 0 where

@@ -1,4 +1,5 @@
 pub mod Script
+pub mod ScriptRun
 pub mod Terms
 pub mod Steps
 pub mod TableNumbers

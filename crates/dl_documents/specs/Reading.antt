@@ -7,8 +7,8 @@ use Rattle.serde_json.specs.Find.{as_array, as_str, as_object, as_bool, as_numbe
 use Rattle.dl_values.specs.Key.{Key, table_bytes, id_bytes}
 use Rattle.dl_source.specs.Faults.{is_sized}
 use Rattle.dl_terms.specs.TermAnswers.{both}
-use Rattle.dl_documents.specs.declared.input.ScriptCall.{ScriptCall}
-use Rattle.dl_documents.specs.declared.input.ScriptCall.TheVariants.{Load, LoadMany, Prime, Clear, ClearAll, Dispatch, Settle, Fail}
+use Rattle.dl_desk.specs.declared.call.DeskCall.{DeskCall}
+use Rattle.dl_desk.specs.declared.call.DeskCall.TheVariants.{Load, LoadMany, Prime, Clear, ClearAll, Dispatch, Settle, Fail}
 
 -- ---- members and items
 
@@ -80,7 +80,7 @@ number_in d = option_and_then batch_number (option_and_then as_u64 (as_number d)
 -- ---- calls
 
 -- the call of a name and an argument
-abbrev pub call_named : List ℕ → Data → Option ScriptCall
+abbrev pub call_named : List ℕ → Data → Option DeskCall
 call_named name d =
     if bytes_eq name (codes "load") then option_map Load (key_in d)
     else if bytes_eq name (codes "loadMany") then option_map LoadMany (keys_in d)
@@ -93,5 +93,5 @@ call_named name d =
     else None
 
 -- the call that a tree spells
-abbrev pub call_in : Data → Option ScriptCall
+abbrev pub call_in : Data → Option DeskCall
 call_in d = option_and_then (λ p. call_named p.0 p.1) (one_in d)

@@ -5,13 +5,13 @@ ghost use Rattle.dl_documents.specs.Reading.{number_in, call_in, call_named};
 ghost use Rattle.dl_documents.specs.Inside.Trees.{tree_data};
 
 use crate::argument::{is_true, key, keys};
-use crate::input::ScriptCall;
 use crate::{member, tree};
+use dl_desk::DeskCall;
 use json::Value;
 use std::alloc::{AllocError, Global};
 
 /// The call that an object with one member is, if it is one.
-pub(crate) fn call(alloc: Global, tree: Value<'_>) -> Result<Option<ScriptCall>, AllocError>
+pub(crate) fn call(alloc: Global, tree: Value<'_>) -> Result<Option<DeskCall>, AllocError>
     ensures { IfOk result (λ c. c ≡ call_in (tree_data tree.entry)) }
 {
     match member::into_only(tree) {
@@ -21,18 +21,18 @@ pub(crate) fn call(alloc: Global, tree: Value<'_>) -> Result<Option<ScriptCall>,
 }
 
 /// The call of a name, if the argument is one of it.
-fn named(alloc: Global, name: &str, argument: &Value<'_>) -> Result<Option<ScriptCall>, AllocError>
+fn named(alloc: Global, name: &str, argument: &Value<'_>) -> Result<Option<DeskCall>, AllocError>
     ensures { IfOk result (λ c. c ≡ call_named name.now (tree_data argument.now)) }
 {
     Ok(match name {
-        "load" => key(alloc, argument)?.map(ScriptCall::Load),
-        "loadMany" => keys(alloc, argument)?.map(ScriptCall::LoadMany),
-        "prime" => key(alloc, argument)?.map(ScriptCall::Prime),
-        "clear" => key(alloc, argument)?.map(ScriptCall::Clear),
-        "clearAll" if is_true(argument) => Some(ScriptCall::ClearAll),
-        "dispatch" if is_true(argument) => Some(ScriptCall::Dispatch),
-        "settle" => number(argument).map(ScriptCall::Settle),
-        "fail" => number(argument).map(ScriptCall::Fail),
+        "load" => key(alloc, argument)?.map(DeskCall::Load),
+        "loadMany" => keys(alloc, argument)?.map(DeskCall::LoadMany),
+        "prime" => key(alloc, argument)?.map(DeskCall::Prime),
+        "clear" => key(alloc, argument)?.map(DeskCall::Clear),
+        "clearAll" if is_true(argument) => Some(DeskCall::ClearAll),
+        "dispatch" if is_true(argument) => Some(DeskCall::Dispatch),
+        "settle" => number(argument).map(DeskCall::Settle),
+        "fail" => number(argument).map(DeskCall::Fail),
         _ => None,
     })
 }

@@ -1,8 +1,9 @@
 //! What a document says.
 
+use dl_desk::DeskCall;
 use dl_source::Tables;
 use dl_terms::Plan;
-use dl_values::{FetchKey, Keys, Limits, List, TableLimits};
+use dl_values::{Limits, List, TableLimits};
 
 /// A document that was read.
 #[derive(Drop)]
@@ -24,21 +25,8 @@ pub struct Script {
     pub calls: Calls,
 }
 
-/// A call of a script. The numbers are those of batches.
-#[derive(Debug, Drop)]
-pub enum ScriptCall {
-    Load(FetchKey),
-    LoadMany(Keys),
-    Prime(FetchKey),
-    Clear(FetchKey),
-    ClearAll,
-    Dispatch,
-    Settle(u32),
-    Fail(u32),
-}
-
 /// The calls of a script.
-pub type Calls = List<ScriptCall>;
+pub type Calls = List<DeskCall>;
 
 /// Plans that are served at once over tables.
 #[derive(Drop)]

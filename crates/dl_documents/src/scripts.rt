@@ -10,11 +10,12 @@ ghost use Rattle.dl_documents.specs.Inside.Trees.{tree_data};
 use crate::call::call;
 use crate::fault::PlanFault;
 use crate::head::Head;
-use crate::input::{Calls, Script, ScriptCall};
+use crate::input::{Calls, Script};
 use crate::member::into_list;
 use crate::table_limits::all_limits;
 use crate::table_numbers::script_numbers;
 use crate::top::Top;
+use dl_desk::DeskCall;
 use json::Value;
 use std::alloc::Global;
 use std::hash::RandomState;
@@ -51,7 +52,7 @@ pub(crate) fn script(
 ///
 /// # Errors
 /// `BadCall` at the first item that is none, and `OutOfMemory` where an allocation failed.
-fn calls(alloc: Global, items: Vec<Value<'_>>) -> Result<Vec<ScriptCall>, PlanFault>
+fn calls(alloc: Global, items: Vec<Value<'_>>) -> Result<Vec<DeskCall>, PlanFault>
     ensures ok { IfOk result (λ cs. AreCalls (map tree_data items.entry.items) cs.items) }
     ensures err { IfErr result (λ f. (f ≡ PlanFault.OutOfMemory) ⊎ IsFirstBadCall (map tree_data items.entry.items) f) }
 {

@@ -1,3 +1,2 @@
 pub mod BatchCounts
 pub mod EventCounts
-pub mod MadeCalls

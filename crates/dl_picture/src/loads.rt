@@ -1,12 +1,13 @@
 //! How many loads a history has, how many of them were hits, and how many rounds.
 
-ghost use Rattle.std.specs.Prelude.{◌≡◌, ◌+◌, ◌∷◌, ◌++◌, [], ℕ, List, IfOk, count_by, length, option_copied, slice_get, take};
+ghost use Rattle.std.specs.Prelude.{◌≡◌, ◌+◌, ◌∷◌, ◌++◌, [], ℕ, List, IfOk, count_by, flat_map, length, option_copied, slice_get, take};
 ghost use Rattle.dl_desk.specs.declared.reply.LoadReply.{LoadReply};
 ghost use Rattle.dl_history.specs.Lists.{one_if};
 ghost use Rattle.dl_desk.specs.declared.event.Event.{Event};
 ghost use Rattle.dl_picture.specs.Numbers.{AreLoadNumbers, events_by, is_by, is_hit, is_round, load_replies, replies_in, round_events};
+ghost use Rattle.dl_picture.specs.Script.{answer_replies};
 
-use dl_desk::LoadReply;
+use dl_desk::{DeskFault, LoadReply};
 use dl_history::{Call, Event, Events, Reply};
 use std::alloc::AllocError;
 
@@ -29,6 +30,22 @@ pub fn load_numbers(events: &Events, caller: Option<u32>) -> Result<LoadNumbers,
     let mut numbers = LoadNumbers { loads: 0, hits: 0 };
     'events: for at in 0..events.len() {
         numbers = numbers.with_event(caller, events.get(at))?;
+    }
+    Ok(numbers)
+}
+
+/// The loads of the answers, and how many of them are hits.
+///
+/// # Errors
+/// `AllocError` where there are more than a number counts, which no memory holds.
+pub(crate) fn answer_numbers(
+    answers: &[Result<Reply, DeskFault>],
+) -> Result<LoadNumbers, AllocError>
+    ensures { IfOk result (AreLoadNumbers (flat_map answer_replies answers.now)) }
+{
+    let mut numbers = LoadNumbers { loads: 0, hits: 0 };
+    'answers: for answer in answers {
+        numbers = numbers.with_answer(answer)?;
     }
     Ok(numbers)
 }
@@ -63,7 +80,17 @@ impl LoadNumbers {
         }
     }
 
-    /// The numbers with the loads of one event more.
+    /// The numbers with the loads of one call more, if it isn't refused.
+    fn with_answer(self, answer: &Result<Reply, DeskFault>) -> Result<LoadNumbers, AllocError>
+        ensures { IfOk result (λ more. (before : List LoadReply) → AreLoadNumbers before self → AreLoadNumbers (before ++ answer_replies answer.now) more) }
+    {
+        match answer {
+            Ok(reply) => self.with_reply(reply),
+            Err(_) => Ok(self),
+        }
+    }
+
+    /// The numbers with the loads of one call more.
     fn with_reply(self, reply: &Reply) -> Result<LoadNumbers, AllocError>
         ensures { IfOk result (λ more. (before : List LoadReply) → AreLoadNumbers before self → AreLoadNumbers (before ++ replies_in reply.now) more) }
     {
@@ -75,7 +102,7 @@ impl LoadNumbers {
     }
 
     /// The numbers with one load more.
-    pub(crate) fn with_load(self, reply: LoadReply) -> Result<LoadNumbers, AllocError>
+    fn with_load(self, reply: LoadReply) -> Result<LoadNumbers, AllocError>
         ensures { IfOk result (λ more. (before : List LoadReply) → AreLoadNumbers before self → AreLoadNumbers (before ++ reply ∷ []) more) }
     {
         let loads = sum(self.loads, 1)?;
@@ -92,7 +119,7 @@ impl LoadNumbers {
     }
 
     /// The numbers with the loads of a loadMany more.
-    pub(crate) fn with_loads(self, replies: &[LoadReply]) -> Result<LoadNumbers, AllocError>
+    fn with_loads(self, replies: &[LoadReply]) -> Result<LoadNumbers, AllocError>
         ensures { IfOk result (λ more. (before : List LoadReply) → AreLoadNumbers before self → AreLoadNumbers (before ++ replies.now) more) }
     {
         let mut numbers = self;

@@ -4,11 +4,12 @@ ghost use Rattle.std.specs.Prelude.{◌≡◌, ℕ, List, IfOk};
 ghost use Rattle.dl_desk.specs.declared.event.Event.{Event};
 ghost use Rattle.dl_documents.specs.declared.input.Script.{Script};
 ghost use Rattle.dl_picture.specs.Numbers.{AreHistoryNumbers, ArePlanNumbers, fetches_alone};
-ghost use Rattle.dl_picture.specs.Script.{AreScriptNumbers, IsRunOf};
+ghost use Rattle.dl_documents.specs.ScriptRun.{IsRunOf};
+ghost use Rattle.dl_picture.specs.Script.{AreScriptNumbers};
 
 use crate::batches::{BatchNumbers, batch_numbers, desk_numbers};
-use crate::loads::{LoadNumbers, load_numbers, rounds};
-use crate::script_run::{ScriptRun, answer_numbers};
+use crate::loads::{LoadNumbers, answer_numbers, load_numbers, rounds};
+use dl_documents::ScriptRun;
 use dl_history::History;
 use std::alloc::AllocError;
 

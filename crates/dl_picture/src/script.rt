@@ -7,9 +7,8 @@ use crate::lines::Lines;
 use crate::mark::Mark;
 use crate::numbers::{HistoryNumbers, script_numbers};
 use crate::phrase::Phrase;
-use crate::script_run::{CallAnswer, ScriptRun, run_script};
-use dl_desk::{BatchState, BatchView, Desk, DeskFault, DeskPrime, FetchKey};
-use dl_documents::{Script, ScriptCall};
+use dl_desk::{BatchState, BatchView, Desk, DeskCall, DeskFault, FetchKey, Reply};
+use dl_documents::{Script, ScriptRun};
 use std::alloc::{AllocError, Global};
 use std::hash::RandomState;
 
@@ -21,12 +20,12 @@ pub fn script_picture(
     hashing: RandomState,
     script: &Script,
 ) -> Result<String, AllocError> {
-    let run = run_script(alloc, hashing, script)?;
+    let run = script.play(alloc, hashing)?;
     run_picture(alloc, script.calls.as_slice(), &run)
 }
 
 /// The picture of what calls left.
-fn run_picture(alloc: Global, calls: &[ScriptCall], run: &ScriptRun) -> Result<String, AllocError> {
+fn run_picture(alloc: Global, calls: &[DeskCall], run: &ScriptRun) -> Result<String, AllocError> {
     let numbers = script_numbers(run)?;
     let mut drawing = Drawing::new(alloc);
     add_run(&mut drawing, calls, run, &numbers);
@@ -34,7 +33,7 @@ fn run_picture(alloc: Global, calls: &[ScriptCall], run: &ScriptRun) -> Result<S
 }
 
 /// What calls left: a head with its numbers, the calls, and the batches.
-fn add_run(drawing: &mut Drawing, calls: &[ScriptCall], run: &ScriptRun, numbers: &HistoryNumbers) {
+fn add_run(drawing: &mut Drawing, calls: &[DeskCall], run: &ScriptRun, numbers: &HistoryNumbers) {
     drawing.add_words("title", Phrase::Words("What the calls were answered"));
     add_count(drawing, "calls", "calls", run.answers.len() as u64);
     add_numbers(drawing, numbers, "keys in batches");
@@ -48,7 +47,7 @@ fn add_run(drawing: &mut Drawing, calls: &[ScriptCall], run: &ScriptRun, numbers
 // ---- calls
 
 /// A column for each call, which has its number, with what it is answered.
-fn add_calls(drawing: &mut Drawing, calls: &[ScriptCall], answers: &[CallAnswer]) {
+fn add_calls(drawing: &mut Drawing, calls: &[DeskCall], answers: &[Result<Reply, DeskFault>]) {
     for number in 0..calls.len() {
         if let Some(call) = calls.get(number) {
             if let Some(answer) = answers.get(number) {
@@ -63,71 +62,70 @@ fn add_calls(drawing: &mut Drawing, calls: &[ScriptCall], answers: &[CallAnswer]
 }
 
 /// The name of a call, as a script has it.
-fn name_of(call: &ScriptCall) -> &'static str {
+fn name_of(call: &DeskCall) -> &'static str {
     match call {
-        ScriptCall::Load(_) => " load",
-        ScriptCall::LoadMany(_) => " loadMany",
-        ScriptCall::Prime(_) => " prime",
-        ScriptCall::Clear(_) => " clear",
-        ScriptCall::ClearAll => " clearAll",
-        ScriptCall::Dispatch => " dispatch",
-        ScriptCall::Settle(_) => " settle",
-        ScriptCall::Fail(_) => " fail",
+        DeskCall::Load(_) => " load",
+        DeskCall::LoadMany(_) => " loadMany",
+        DeskCall::Prime(_) => " prime",
+        DeskCall::Clear(_) => " clear",
+        DeskCall::ClearAll => " clearAll",
+        DeskCall::Dispatch => " dispatch",
+        DeskCall::Settle(_) => " settle",
+        DeskCall::Fail(_) => " fail",
     }
 }
 
 /// What stands beside the name of a call: the batch that it ends, or how many it sends.
-fn side_of(call: &ScriptCall, answer: &CallAnswer) -> Phrase {
+fn side_of(call: &DeskCall, answer: &Result<Reply, DeskFault>) -> Phrase {
     match call {
-        ScriptCall::Settle(batch) | ScriptCall::Fail(batch) => {
+        DeskCall::Settle(batch) | DeskCall::Fail(batch) => {
             Phrase::Numbered("batch ", *batch as u64, "")
         }
         _ => match answer {
-            CallAnswer::Sent(count) => Phrase::Numbered("", *count as u64, " sent"),
+            Ok(Reply::Sent(jobs)) => Phrase::Numbered("", jobs.as_slice().len() as u64, " sent"),
             _ => Phrase::Words(""),
         },
     }
 }
 
 /// A line for each key of a call, with what became of it, or why the call is refused.
-fn call_lines<'a>(call: &'a ScriptCall, answer: &'a CallAnswer) -> Lines<'a> {
+fn call_lines<'a>(call: &'a DeskCall, answer: &'a Result<Reply, DeskFault>) -> Lines<'a> {
     let keys = keys_of(call);
     match answer {
-        CallAnswer::Load(reply) => Lines::Loads {
+        Ok(Reply::Loaded(reply)) => Lines::Loads {
             cells: &[],
             keys,
             replies: std::slice::from_ref(reply),
         },
-        CallAnswer::Many(replies) => Lines::Loads {
+        Ok(Reply::Many(replies)) => Lines::Loads {
             cells: &[],
             keys,
             replies: replies.as_slice(),
         },
-        CallAnswer::Prime(DeskPrime::Primed(_)) => Lines::Keys {
+        Ok(Reply::Primed(_)) => Lines::Keys {
             keys,
             mark: Mark::Primed,
         },
-        CallAnswer::Prime(DeskPrime::Kept) => Lines::Keys {
+        Ok(Reply::Kept) => Lines::Keys {
             keys,
             mark: Mark::Kept,
         },
-        CallAnswer::Done | CallAnswer::Sent(_) => Lines::Keys {
+        Ok(Reply::Done | Reply::Sent(_)) => Lines::Keys {
             keys,
             mark: Mark::Cleared,
         },
-        CallAnswer::Refused(fault) => Lines::Refused(fault_name(*fault)),
+        Err(fault) => Lines::Refused(fault_name(*fault)),
     }
 }
 
 /// The keys that a call names.
-fn keys_of(call: &ScriptCall) -> &[FetchKey] {
+fn keys_of(call: &DeskCall) -> &[FetchKey] {
     match call {
-        ScriptCall::Load(key) | ScriptCall::Prime(key) | ScriptCall::Clear(key) => {
+        DeskCall::Load(key) | DeskCall::Prime(key) | DeskCall::Clear(key) => {
             std::slice::from_ref(key)
         }
-        ScriptCall::LoadMany(keys) => keys.as_slice(),
-        ScriptCall::ClearAll | ScriptCall::Dispatch | ScriptCall::Settle(_) | ScriptCall::Fail(_) =>
-            &[],
+        DeskCall::LoadMany(keys) => keys.as_slice(),
+        DeskCall::ClearAll | DeskCall::Dispatch | DeskCall::Settle(_) | DeskCall::Fail(_) => &[],
     }
 }
 

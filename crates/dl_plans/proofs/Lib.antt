@@ -4,4 +4,3 @@ mod CommandMatches
 mod KeyTexts
 mod MigratedAnswers
 pub mod Runs
-mod Scripts

@@ -3,8 +3,6 @@ use Rattle.std.specs.Prelude.{ℕ, List, [], ◌∷◌, ◌++◌, length, codes,
 use Rattle.dl_values.specs.Key.{Key}
 use Rattle.dl_desk.specs.declared.fault.DeskFault.{DeskFault}
 use Rattle.dl_desk.specs.declared.fault.DeskFault.TheVariants.{NoBatch, NotSent, SettledBefore, CellsFull, OutOfMemory}
-use Rattle.dl_desk.specs.declared.reply.DeskPrime.{DeskPrime}
-use Rattle.dl_desk.specs.declared.reply.DeskPrime.TheVariants.{Primed, Kept}
 use Rattle.dl_values.specs.declared.job.Job.{Job}
 use Rattle.dl_desk.specs.declared.reply.LoadReply.{LoadReply}
 use Rattle.dl_desk.specs.declared.reply.LoadReply.TheVariants.{Hit, Fresh}
@@ -25,9 +23,11 @@ load_line (Fresh cell batch) = text_line (codes "fresh " ++ decimal cell ++ code
 abbrev pub many_lines : List LoadReply → List ℕ
 many_lines replies = text_line (codes "many " ++ decimal (length replies)) ++ flat_map load_line replies
 
-abbrev pub prime_line : DeskPrime → List ℕ
-prime_line (Primed cell) = text_line (codes "primed " ++ decimal cell)
-prime_line Kept = text_line (codes "kept")
+abbrev pub primed_line : ℕ → List ℕ
+primed_line cell = text_line (codes "primed " ++ decimal cell)
+
+abbrev pub kept_line : List ℕ
+kept_line = text_line (codes "kept")
 
 -- a key behind a space
 abbrev pub next_key : Key → List ℕ

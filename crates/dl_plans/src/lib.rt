@@ -19,9 +19,8 @@ mod status;
 mod streams;
 
 pub use command::{Program, not_text, options, out_of_range, workers};
-pub use dl_documents::{
-    Calls, Input, MOST_BYTES, PlanFault, PlanFile, Script, ScriptCall, read_input,
-};
+pub use dl_desk::DeskCall;
+pub use dl_documents::{Calls, Input, MOST_BYTES, PlanFault, PlanFile, Script, read_input};
 pub use dl_migration::{MigrateFault, migrate};
 pub use document::run;
 pub use fault::RunError;

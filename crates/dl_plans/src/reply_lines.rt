@@ -1,22 +1,30 @@
 //! Writing the lines of replies and refusals.
 
 ghost use Rattle.std.specs.Prelude.{◌≡◌, ◌≢◌, ◌++◌, OnOk, string_bytes};
-ghost use Rattle.dl_plans.specs.ReplyLines.{done_line, load_line, many_lines, prime_line, job_line, sent_lines, refused_line};
+ghost use Rattle.dl_plans.specs.ReplyLines.{load_line, many_lines, job_line, sent_lines, refused_line};
+ghost use Rattle.dl_plans.specs.ScriptText.{reply_lines};
 
 use crate::json_text::key_text;
-use dl_desk::{DeskFault, DeskPrime, Job, LoadReply};
+use dl_desk::{DeskFault, Job, LoadReply, Reply};
 use std::alloc::{AllocError, Global};
 use std::fmt::Write;
 
-/// The line of a call that is answered with nothing.
-pub(crate) fn push_done(out: &mut String) -> Result<(), AllocError>
-    ensures { OnOk result (string_bytes out.new ≡ string_bytes out.old ++ done_line) }
+/// The lines of a reply.
+pub(crate) fn push_reply(alloc: Global, out: &mut String, reply: &Reply) -> Result<(), AllocError>
+    ensures { OnOk result (string_bytes out.new ≡ string_bytes out.old ++ reply_lines reply.now) }
 {
-    writeln!(out, "ok")
+    match reply {
+        Reply::Loaded(reply) => push_load(out, *reply),
+        Reply::Many(replies) => push_many(out, replies.as_slice()),
+        Reply::Primed(cell) => writeln!(out, "primed {cell}"),
+        Reply::Kept => writeln!(out, "kept"),
+        Reply::Done => writeln!(out, "ok"),
+        Reply::Sent(jobs) => push_sent(alloc, out, jobs.as_slice()),
+    }
 }
 
 /// The line of a reply to a load.
-pub(crate) fn push_load(out: &mut String, reply: LoadReply) -> Result<(), AllocError>
+fn push_load(out: &mut String, reply: LoadReply) -> Result<(), AllocError>
     ensures { OnOk result (string_bytes out.new ≡ string_bytes out.old ++ load_line reply) }
 {
     match reply {
@@ -26,7 +34,7 @@ pub(crate) fn push_load(out: &mut String, reply: LoadReply) -> Result<(), AllocE
 }
 
 /// The lines of the replies to a loadMany.
-pub(crate) fn push_many(out: &mut String, replies: &[LoadReply]) -> Result<(), AllocError>
+fn push_many(out: &mut String, replies: &[LoadReply]) -> Result<(), AllocError>
     ensures { OnOk result (string_bytes out.new ≡ string_bytes out.old ++ many_lines replies.now) }
 {
     writeln!(out, "many {}", replies.len())?;
@@ -36,18 +44,8 @@ pub(crate) fn push_many(out: &mut String, replies: &[LoadReply]) -> Result<(), A
     Ok(())
 }
 
-/// The line of a reply to a prime.
-pub(crate) fn push_prime(out: &mut String, reply: DeskPrime) -> Result<(), AllocError>
-    ensures { OnOk result (string_bytes out.new ≡ string_bytes out.old ++ prime_line reply) }
-{
-    match reply {
-        DeskPrime::Primed(cell) => writeln!(out, "primed {cell}"),
-        DeskPrime::Kept => writeln!(out, "kept"),
-    }
-}
-
 /// The lines of the jobs that a dispatch sent.
-pub(crate) fn push_sent(alloc: Global, out: &mut String, jobs: &[Job]) -> Result<(), AllocError>
+fn push_sent(alloc: Global, out: &mut String, jobs: &[Job]) -> Result<(), AllocError>
     ensures { OnOk result (string_bytes out.new ≡ string_bytes out.old ++ sent_lines jobs.now) }
 {
     writeln!(out, "sent {}", jobs.len())?;

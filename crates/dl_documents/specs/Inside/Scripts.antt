@@ -7,10 +7,10 @@ use Rattle.dl_documents.specs.Faults.{IsNoCall}
 use Rattle.dl_documents.specs.Inside.Places.{IsFirst}
 use Rattle.dl_documents.specs.declared.fault.PlanFault.{PlanFault}
 use Rattle.dl_documents.specs.declared.fault.PlanFault.TheVariants.{BadCall}
-use Rattle.dl_documents.specs.declared.input.ScriptCall.{ScriptCall}
+use Rattle.dl_desk.specs.declared.call.DeskCall.{DeskCall}
 
 -- the trees spell the calls
-pub record AreCalls (ds : List Data) (cs : List ScriptCall) : Type 0 where
+pub record AreCalls (ds : List Data) (cs : List DeskCall) : Type 0 where
   pub trees : ds ≡ map call_tree cs
   pub calls : AllByRecursion IsScriptCall cs
 

@@ -3,7 +3,7 @@ use Rattle.std.proofs.Common.{take}
 use Rattle.std.specs.Prelude.{flat_map}
 use Rattle.dl_picture.specs.Numbers.{AreLoadNumbers}
 use Rattle.dl_picture.specs.Script.{answer_replies}
-use Rattle.dl_picture.proofs.script_run.answer_numbers.Given as goal
+use Rattle.dl_picture.proofs.loads.answer_numbers.Given as goal
 
 abbrev pub invariant-answers : goal.invariant-answers
 invariant-answers l = AreLoadNumbers (flat_map answer_replies (take l.answer-index l.answers)) l.numbers
