@@ -5,6 +5,7 @@ use Rattle.dl_desk.specs.History.{cells, load_replies, loaded, prime_reply}
 use Rattle.dl_desk.specs.declared.reply.DeskPrime.{DeskPrime}
 use Rattle.dl_desk.specs.Events.{atoms}
 use Rattle.dl_desk.specs.Calls.{after}
+use Rattle.dl_desk.specs.Calls as calls
 use Rattle.dl_desk.specs.declared.reply.LoadReply.{LoadReply}
 use Rattle.dl_desk.specs.declared.event.Event.{Event}
 use Rattle.dl_desk.specs.declared.event.Call.{Call}
@@ -59,7 +60,7 @@ pub all_begun : {s : Service} {b now : Book} {p new : Trace} {c : Call} {r : Rep
 all_begun {s} {b} {now} {p} {new} {c} {r} before kept made =
     rw (replied s b now p new c r kept made) (by c refl)
   where
-    primed : (r : DeskPrime) → Every (λ x. cell_of_load x < length now.cells) (loads_of (desk.primed r))
+    primed : (r : DeskPrime) → Every (λ x. cell_of_load x < length now.cells) (loads_of (calls.primed r))
     primed (prime.Primed d) = tt
     primed prime.Kept = tt
 
