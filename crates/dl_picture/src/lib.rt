@@ -23,9 +23,9 @@ mod sheet;
 mod style;
 mod xml;
 
-pub use batches::{BatchNumbers, Mean, batch_numbers};
+pub use batches::{BatchNumbers, Mean};
 pub use history::history_picture;
-pub use loads::{LoadNumbers, load_numbers, rounds};
-pub use numbers::{HistoryNumbers, PlanNumbers, history_numbers, plan_numbers, script_numbers};
+pub use loads::LoadNumbers;
+pub use numbers::{HistoryNumbers, PlanNumbers, history_numbers, plan_numbers};
 pub use script::script_picture;
-pub use script_run::{CallAnswer, ScriptRun, run_script};
+pub use sheet::Sheet;

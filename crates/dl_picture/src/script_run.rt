@@ -59,7 +59,7 @@ impl Drop for ScriptRun {
 
 /// Makes the calls of a script on one desk, in order. The desk hashes keys by `hashing`, of which nothing is seen. The error
 /// is a failed allocation.
-pub fn run_script(
+pub(crate) fn run_script(
     alloc: Global,
     hashing: RandomState,
     script: &Script,
