@@ -104,11 +104,11 @@ no_bad steps all has =
 pub plans_stop : (front : List (Vec (Value Global) Global)) (list : Vec (Value Global) Global) (rest lists : List (Vec (Value Global) Global))
     (plans : List Plan) (n : ℕ) (f : PlanFault)
     → front ++ list ∷ rest ≡ lists → n ≡ length plans → SpellPlans front plans → IsFirstBadIn n (map tree_data list.items) f
-        → IsFirstBadStep (rows_view lists) f
+    → IsFirstBadStep (rows_view lists) f
 plans_stop front list rest lists plans n f is size so_far bad =
     let place = place_of front list rest lists is in
     let long : length front ≡ n = spell_size trees_of (map step_tree) (AllByRecursion IsPlanStep) front (map plan_view plans) so_far
-        ∙ length-map plans plan_view
+    ∙ length-map plans plan_view
     ∙ sym size in
     let read = subst (λ l. SpellPlans l plans) (sym place.cut) so_far in
     record {
@@ -121,7 +121,7 @@ plans_stop front list rest lists plans n f is size so_far bad =
         in_row = bad.first;
         before = λ k r less there has.
             (let p = spelled_before trees_of (map step_tree) (AllByRecursion IsPlanStep) lists (length front) k (map plan_view plans) r read
-                (rw long less) there in
+            (rw long less) there in
             no_bad p.0 p.2 (rw p.1 at has));
       };
     }
@@ -138,7 +138,7 @@ pub lists_more : (vs : List (Value Global)) (v : Value Global) (lists : List (Ve
 lists_more vs v lists list so_far is =
     rw (map-append trees_of lists (list ∷ []))
     (spell_next tree_data row_tree IsAny vs v (rows_view lists) (trees_of list) so_far
-        (array_of (tree_data v) (list_data list.items) (sym is) ∙ ap array (list_data_is list.items)) tt)
+    (array_of (tree_data v) (list_data list.items) (sym is) ∙ ap array (list_data_is list.items)) tt)
 
 pub lists_stop : (front : List (Value Global)) (v : Value Global) (rest vs : List (Value Global)) → front ++ v ∷ rest ≡ vs → None ≡ as_array (tree_data v)
     → HasOther (map tree_data vs)

@@ -54,7 +54,7 @@ begun_list depth ts some = ap (converted of_json) (value-begin_array depth ts so
 
 pub begun_object : (depth : ℕ) (ts : List Token) → 0 < depth
     → converted of_json (value depth (Token.begin_object ∷ ts))
-        ≡ parse_map object (converted (λ ms. of_members ms no_members) (members (value (depth - 1)) (length ts) ts))
+    ≡ parse_map object (converted (λ ms. of_members ms no_members) (members (value (depth - 1)) (length ts) ts))
 begun_object depth ts some = ap (converted of_json) (value-begin_object depth ts some) ∙ object_converted (members (value (depth - 1)) (length ts) ts)
 
 -- where nothing may nest nothing stands in brackets

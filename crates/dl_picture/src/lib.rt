@@ -1,7 +1,8 @@
 //! Pictures of what requests did, as SVG: the rounds of plans, their batches and their hits; and the numbers of a history.
 //!
 //! [`history_picture`] draws what serving plans left, and [`script_picture`] what the calls of a script are answered. A picture
-//! has its numbers at its head; [`history_numbers`] and [`plan_numbers`] give those of any history.
+//! has its numbers at its head; [`history_numbers`] and [`plan_numbers`] give those of any history. The label of a loop is its name
+//! in `proofs/`.
 #![tactic(auto)]
 
 mod batches;

@@ -1,6 +1,6 @@
 //! Answering a document over a reader and a writer.
 
-ghost use Rattle.std.specs.Prelude.{◌≡◌, ◌≢◌, ◌⊎◌, ◌+◌, IfOk, IfErr, IfSome, OnOk, string_bytes};
+ghost use Rattle.std.specs.Prelude.{◌≡◌, ◌≢◌, ◌⊎◌, ◌+◌, ℕ, List, IfOk, IfErr, IfSome, OnOk, string_bytes};
 ghost use Rattle.std.specs.Io.KnownBytes.{Keeps};
 ghost use Rattle.dl_documents.specs.Faults.{most_bytes};
 ghost use Rattle.dl_plans.specs.ReportText.{report_text};
@@ -8,6 +8,7 @@ ghost use Rattle.dl_plans.specs.Run.{IsOutput, IsRefused, ReadsAtMost, Writes, W
 ghost use Rattle.dl_scope.specs.Faults.{RefusedAs};
 ghost use Rattle.dl_scope.specs.Headline.{Headline};
 ghost use Rattle.dl_plans.specs.ScriptText.{script_text};
+ghost use Rattle.dl_plans.specs.declared.settings.Options.{Options};
 
 use crate::QUEUE_PLACES;
 use crate::fault::RunError;
@@ -50,7 +51,8 @@ pub fn run<R: Read, W: Write, T: Threads + Wait + Sync + Files + RandomSource>(
 ) -> Result<(), RunError>
     ensures ok { OnOk result (IfSome (R.remaining reader.old) (Writes (IsOutput options) (W.contents writer.old) (W.contents writer.new))) }
     ensures refused { IfErr result (λ e. IfSome (R.remaining reader.old) (λ bytes. IsRefused options bytes e)) }
-    ensures write { result ≡ Err RunError.Write → IfSome (R.remaining reader.old) (WritesFront (IsOutput options) (W.contents writer.old) (W.contents writer.new)) }
+    ensures write { result ≡ Err RunError.Write → IfSome (R.remaining reader.old)
+        (WritesFront (IsOutput options) (W.contents writer.old) (W.contents writer.new)) }
     ensures reads { ReadsAtMost (most_bytes + 1) (R.remaining reader.old) (R.remaining reader.new) }
     ensures untouched { IfErr result (λ e. e ≢ RunError.Write → Keeps (W.contents writer.old) (W.contents writer.new)) }
 {
@@ -119,7 +121,8 @@ fn output<T: Threads + Wait + Sync>(
 /// What was made, unless memory ran out.
 fn made(given: Result<Given, AllocError>) -> Result<Given, RunError>
     ensures ok { IfOk result (λ made. given ≡ Ok made) }
-    ensures err { IfErr result (λ e. e ≡ RunError.OutOfMemory) }
+    ensures err { (options : Options) (bytes : List ℕ) → IfErr result (IsRefused options bytes) }
+    ensures kept { IfErr result (λ e. e ≢ RunError.Write) }
 {
     match given {
         Ok(given) => Ok(given),

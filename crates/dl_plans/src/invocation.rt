@@ -1,4 +1,4 @@
-//! What the program is asked for, and how it ends, over a runtime.
+//! What the program is asked for, and how it ends, over a runtime. Where standard error takes no line, the status alone tells.
 
 use crate::command::{options, unreadable};
 use crate::fault::RunError;

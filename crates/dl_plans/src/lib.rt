@@ -1,5 +1,5 @@
 //! What the program `plans` is made of: its command line, what a document gives, over a reader and a writer ([`run`]), the texts of scripts and
-//! reports, the file of a picture, migration, and the lines and statuses of failures.
+//! reports, the file of a picture, migration, and the lines and statuses of failures. The label of a loop is its name in `proofs/`.
 #![tactic(auto)]
 
 mod answer_lines;

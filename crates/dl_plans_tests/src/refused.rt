@@ -86,10 +86,7 @@ const PICTURE: &str = "page.svg";
 /// Words of a command line, and why they are refused, if they aren't the options of `Stage::options`.
 static WORDS: [(&[&str], Option<ErrorKind>); 2] = [
     (&["--workers", "2", "--batches", "--picture", PICTURE], None),
-    (
-        &["migrate", "--batches"],
-        Some(ErrorKind::UnknownArgument),
-    ),
+    (&["migrate", "--batches"], Some(ErrorKind::UnknownArgument)),
 ];
 
 /// Room for the text of each document.

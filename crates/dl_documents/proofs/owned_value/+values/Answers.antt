@@ -95,11 +95,11 @@ begun_value-returns-in_default-clause-err t c =
         | begun_value-in_default-via-in-BeginArray+else-depth-gt0 w ↦ (
             let flat : c.args.depth ≡ 0 = omega arith in
             same_token c.args.depth _ Token.begin_array r (ap token_of w.in-BeginArray.is)
-                ∙ ap (λ n. converted of_json (value n (Token.begin_array ∷ r))) flat ∙ no_list r)
+            ∙ ap (λ n. converted of_json (value n (Token.begin_array ∷ r))) flat ∙ no_list r)
         | begun_value-in_default-via-in-BeginObject+else-depth-gt0-2 w ↦ (
             let flat : c.args.depth ≡ 0 = omega arith in
             same_token c.args.depth _ Token.begin_object r (ap token_of w.in-BeginObject.is)
-                ∙ ap (λ n. converted of_json (value n (Token.begin_object ∷ r))) flat ∙ no_object r)
+            ∙ ap (λ n. converted of_json (value n (Token.begin_object ∷ r))) flat ∙ no_object r)
         | begun_value-in_default-via-in_default w ↦ (
             let other = w.in_default in
             unopened c.args.depth c.args.token r other.not-BeginObject other.not-BeginArray other.not-String other.not-Number other.not-Bool other.not-Null)
@@ -181,7 +181,7 @@ read_items-items-preserved t c =
       read = l.invariant.read ∙ ap (parse_map (items_after (items_view l.found.items))) turn
           ∙ one_more (items_view l.found.items) (view v) (converted of_items (items p (n - 1) r))
           ∙ ap (λ xs. parse_map (items_after xs) (converted of_items (items p (n - 1) r)))
-              (sym (ap items_view c.in_ok-push.ensures.items ∙ owned_push l.found.items v));
+          (sym (ap items_view c.in_ok-push.ensures.items ∙ owned_push l.found.items v));
       within = omega arith;
     }
 
@@ -233,7 +233,7 @@ read_members-members-preserved t c =
     let copied : string_bytes c.in_ok-name-2.name ≡ k = search rules in
     let inserted : members_view c.insert.new.self.entries ≡ put k (view v) old =
     ap members_view c.in_ok-insert.ensures.entries ∙ members_view-insert_entry l.found.entries c.in_ok-name-2.name v
-        ∙ ap (λ name. put name (view v) old) copied in
+    ∙ ap (λ name. put name (view v) old) copied in
     record {
       turns = n - 1;
       enough = omega arith;
@@ -246,4 +246,4 @@ pub read_members-returns-clause-ok : goal.read_members-returns-clause-ok
 read_members-returns-clause-ok t c =
     let l = c.members in
     l.invariant.read ∙ no_more_members (value c.args.depth) (members_view l.found.entries) l.invariant.turns l.reader c.next_key.new.self l.invariant.enough
-        (grind arith)
+    (grind arith)

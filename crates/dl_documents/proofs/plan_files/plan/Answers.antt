@@ -13,7 +13,7 @@ returns-in_err-step-2-clause-err c =
     let is : l.yielded ++ c.in-Some.item ∷ rest ≡ c.args.items.items = rw (← c.in-Some.ensures.steps.0) l.invariant.order in
     let bad : c.from_residual-in_err-step-2.result ≡ Err (Shape c.args.number c.len-in-items.result) = search rules in
     rw bad (inr (steps_stop c.args.number l.yielded c.in-Some.item rest c.args.items.items l.steps.items c.len-in-items.result is (search rules)
-        l.invariant.so_far
+    l.invariant.so_far
     (search rules)))
 
 pub items-preserved : goal.items-preserved
@@ -44,6 +44,6 @@ pub returns-clause-ok : goal.returns-clause-ok
 returns-clause-ok c =
     let l = c.items in
     let all = all_yielded l.yielded (into_iter_items l.item-iterator) c.args.items.items l.invariant.order
-        (sym l.invariant.count ∙ c.in-None.ensures.steps.0) in
+    (sym l.invariant.count ∙ c.in-None.ensures.steps.0) in
     let read : SpellSteps c.args.items.items l.steps.items = rw all at l.invariant.so_far in
     record { trees = read.trees; steps = read.all }

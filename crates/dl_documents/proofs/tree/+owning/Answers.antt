@@ -19,7 +19,7 @@ into_map-into_value-requires t c =
     let rest = into_iter_items c.next.new.self in
     let is : l.yielded ++ m ∷ rest ≡ c.args.members.items = rw (← c.in-Some.ensures.steps.0) l.invariant.order in
     let smaller : length (json_tokens (value_view m.1)) < length (members_tokens (tree.members_view c.args.members.items)) =
-        rw (← is) (member_smaller l.yielded m rest) in
+    rw (← is) (member_smaller l.yielded m rest) in
     search rules
 
 pub into_list-into_value-requires : goal.into_list-into_value-requires
@@ -29,7 +29,7 @@ into_list-into_value-requires t c =
     let rest = into_iter_items c.next.new.self in
     let is : l.yielded ++ x ∷ rest ≡ c.args.items.items = rw (← c.in-Some.ensures.steps.0) l.invariant.order in
     let smaller : length (json_tokens (value_view x)) < length (items_tokens (tree.items_view c.args.items.items)) =
-        rw (← is) (item_smaller l.yielded x rest) in
+    rw (← is) (item_smaller l.yielded x rest) in
     search rules
 
 pub into_list-items-preserved : goal.into_list-items-preserved
@@ -51,7 +51,7 @@ pub into_list-returns : goal.into_list-returns
 into_list-returns t c =
     let l = c.items in
     let all = all_yielded l.yielded (into_iter_items l.item-iterator) c.args.items.items l.invariant.order
-        (sym l.invariant.count ∙ c.in-None.ensures.steps.0) in
+    (sym l.invariant.count ∙ c.in-None.ensures.steps.0) in
     l.invariant.so_far ∙ ap list_data all
 
 pub into_map-members-preserved : goal.into_map-members-preserved
@@ -76,5 +76,5 @@ pub into_map-returns : goal.into_map-returns
 into_map-returns t c =
     let l = c.members in
     let all = all_yielded l.yielded (into_iter_items l.member-iterator) c.args.members.items l.invariant.order
-        (sym l.invariant.count ∙ c.in-None.ensures.steps.0) in
+    (sym l.invariant.count ∙ c.in-None.ensures.steps.0) in
     l.invariant.so_far ∙ ap object_data all
