@@ -49,7 +49,8 @@ found_stops {A} read read_all goes xs items place item so_far low at none =
     ap (option_map (λ ys. xs ++ ys)) (stops ∙ ap read_all (sym (next_item items place item low at))) ∙ so_far
 
 -- all items were read
-pub found_all : {A : Type 0} (read_all : List (Value Global) → Option (List A)) → read_all [] ≡ Some [] → (xs : List A) (items : List (Value Global)) (place : ℕ)
+pub found_all : {A : Type 0} (read_all : List (Value Global) → Option (List A)) → read_all [] ≡ Some []
+    → (xs : List A) (items : List (Value Global)) (place : ℕ)
     → option_map (λ ys. xs ++ ys) (read_all (drop place items)) ≡ read_all items → length items ≤ place → Some xs ≡ read_all items
 found_all read_all none xs items place so_far long =
     let end : Some [] ≡ read_all (drop place items) = sym none ∙ ap read_all (sym (drop_all place items long)) in

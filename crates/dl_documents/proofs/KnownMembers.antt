@@ -39,7 +39,8 @@ absent test name (string s) all is = refl
 absent test name (array ds) all is = refl
 absent test name (object ms) all is = member_absent test name ms all is
 
-module _ (d : Data) (kind : Bool) (v : Version) (name : List ℕ) (is : is_script d ≡ kind) (all : has_only_known v d ≡ true) (other : is_known kind v name ≡ false) where
+module _ (d : Data) (kind : Bool) (v : Version) (name : List ℕ) (is : is_script d ≡ kind) (all : has_only_known v d ≡ true)
+    (other : is_known kind v name ≡ false) where
   -- a name that isn't known to the kind and the version
   pub unknown : get name d ≡ None
   unknown = absent (is_known (is_script d) v) name d all (ap (λ (b : Bool). is_known b v name) is ∙ other)

@@ -89,7 +89,8 @@ place_of front v rest vs is = subst (IsPlace front v) is (place_in front v rest)
 
 module _ {V D A : Type 0} (see : V → D) (spell : A → D) (Is : A → Type 0) where
   -- one more
-  pub spell_next : (vs : List V) (v : V) (xs : List A) (x : A) → Spell see spell Is vs xs → see v ≡ spell x → Is x → Spell see spell Is (vs ++ v ∷ []) (xs ++ x ∷ [])
+  pub spell_next : (vs : List V) (v : V) (xs : List A) (x : A) → Spell see spell Is vs xs → see v ≡ spell x → Is x
+      → Spell see spell Is (vs ++ v ∷ []) (xs ++ x ∷ [])
   spell_next vs v xs x so_far tree is = record {
     trees = map-append see vs (v ∷ []) ∙ rw (so_far.trees, tree) (sym (map-append spell xs (x ∷ [])));
     all = all_more Is xs x so_far.all is;

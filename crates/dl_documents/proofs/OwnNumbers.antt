@@ -1,5 +1,6 @@
 -- The numbers that a document gives tables: whose they are, and that it gives no others.
-use Rattle.std.proofs.Common.{◌≡◌, ◌∙◌, codes, refl, sym, ap, subst, ℕ, ℤ, List, [], ◌∷◌, Bool, true, false, ◌||◌, bytes_eq, Option, Some, None, option_map, option_and_then, if◌then◌else◌, true≢false}
+use Rattle.std.proofs.Common.{◌≡◌, ◌∙◌, codes, refl, sym, ap, subst, ℕ, ℤ, List, [], ◌∷◌, Bool, true, false, ◌||◌, bytes_eq, Option, Some, None, option_map}
+use Rattle.std.proofs.Common.{option_and_then, if◌then◌else◌, true≢false}
 use Rattle.std.proofs.lemmas.Bool.{false_from_ne_true, not-false, or_from, or_parts}
 use Rattle.std.proofs.lemmas.Option.{same_Some}
 use Rattle.std.specs.List.{AllByRecursion, list_any, cons_option}

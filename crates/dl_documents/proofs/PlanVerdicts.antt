@@ -44,7 +44,8 @@ use Rattle.dl_documents.proofs.Heights.{not_low}
 list_at : (d : Data) → is_script d ≡ false → items_at (list_name d) d ≡ items_at (codes "plans") d
 list_at d kind = ap (λ (b : Bool). items_at (if b then codes "calls" else codes "plans") d) kind
 
-module _ (d : Data) (given : Head) (rows : List (List Data)) (tree : Data) (kind : is_script d ≡ false) (head : HasHead d given) (top : HasPlans d rows tree) where
+module _ (d : Data) (given : Head) (rows : List (List Data)) (tree : Data) (kind : is_script d ≡ false) (head : HasHead d given)
+    (top : HasPlans d rows tree) where
   same_items : (ds : Items) → items_at (codes "plans") d ≡ Some ds → rows_tree rows ≡ ds
   same_items ds e = same_Some (rows_tree rows) ds (sym top.list ∙ e)
 
@@ -233,7 +234,8 @@ module _ (d : Data) (given : Head) (rows : List (List Data)) (tree : Data) (kind
         subst (λ (v : Version). TableCauses v tree t) (one_version d h.version given.version h.is head.version)
         (subst (λ (e : Data). TableCauses h.version e t) same h.cause)
 
-    earlier_table : (t : TableFault) → IsTableFault given.version tree t → (g : PlanFault) → number g ≡ 9 → IsEarlier (place g) (table.number t, 0) → Causes d g → ⊥
+    earlier_table : (t : TableFault) → IsTableFault given.version tree t → (g : PlanFault) → number g ≡ 9 → IsEarlier (place g) (table.number t, 0)
+        → Causes d g → ⊥
     earlier_table t least (Table u) same (inl less) c = least.least u less (table_cause u c)
     earlier_table t least (Table u) same (inr more) c = let k : 0 < 0 = more.1 in omega arith
     earlier_table t least g same early c = omega arith
@@ -246,7 +248,8 @@ module _ (d : Data) (given : Head) (rows : List (List Data)) (tree : Data) (kind
     pub clear_10 : Fit plans → ((t : TableFault) → TableCauses given.version tree t → ⊥) → Clear d 10
     clear_10 fit lawful = clear_tables d (clear_9 fit) (λ t h. lawful t (table_cause t h))
 
-    least_number : (tables : Tables) (ns : List TableNumber) (f : PlanFault) → Fit plans → AreTables given.version tree tables ns → IsRefusedNumber given.numbers ns f
+    least_number : (tables : Tables) (ns : List TableNumber) (f : PlanFault) → Fit plans → AreTables given.version tree tables ns
+        → IsRefusedNumber given.numbers ns f
         → IsLeast (Causes d) f
     least_number tables ns f fit are =
         least_limit d given.numbers ns (clear_10 fit are.lawful) head.numbers (InTables given.version tree tables kind head.version top.tables are.spelled)

@@ -65,7 +65,8 @@ steps_more vs v steps s so_far found =
     rw (map-append step_view steps (s ∷ [])) (spell_next tree_data step_tree IsPlanStep vs v (map step_view steps) (step_view s) so_far p.tree p.is)
 
 -- the first item that is no step
-pub steps_stop : (plan : ℕ) (front : List (Value Global)) (v : Value Global) (rest vs : List (Value Global)) (steps : List Step) (n : ℕ) → front ++ v ∷ rest ≡ vs → n ≡ length steps
+pub steps_stop : (plan : ℕ) (front : List (Value Global)) (v : Value Global) (rest vs : List (Value Global)) (steps : List Step) (n : ℕ)
+    → front ++ v ∷ rest ≡ vs → n ≡ length steps
     → SpellSteps front steps → None ≡ step_in (tree_data v) → IsFirstBadIn plan (map tree_data vs) (Shape plan n)
 steps_stop plan front v rest vs steps n is size so_far none =
     let place = place_of front v rest vs is in
@@ -100,11 +101,14 @@ no_bad steps all has =
     has.3 p.0 (all_at IsPlanStep steps has.0 p.0 all p.1) p.2
 
 -- the first list with an item that is no step
-pub plans_stop : (front : List (Vec (Value Global) Global)) (list : Vec (Value Global) Global) (rest lists : List (Vec (Value Global) Global)) (plans : List Plan) (n : ℕ) (f : PlanFault)
-    → front ++ list ∷ rest ≡ lists → n ≡ length plans → SpellPlans front plans → IsFirstBadIn n (map tree_data list.items) f → IsFirstBadStep (rows_view lists) f
+pub plans_stop : (front : List (Vec (Value Global) Global)) (list : Vec (Value Global) Global) (rest lists : List (Vec (Value Global) Global))
+    (plans : List Plan) (n : ℕ) (f : PlanFault)
+    → front ++ list ∷ rest ≡ lists → n ≡ length plans → SpellPlans front plans → IsFirstBadIn n (map tree_data list.items) f
+    → IsFirstBadStep (rows_view lists) f
 plans_stop front list rest lists plans n f is size so_far bad =
     let place = place_of front list rest lists is in
-    let long : length front ≡ n = spell_size trees_of (map step_tree) (AllByRecursion IsPlanStep) front (map plan_view plans) so_far ∙ length-map plans plan_view
+    let long : length front ≡ n = spell_size trees_of (map step_tree) (AllByRecursion IsPlanStep) front (map plan_view plans) so_far
+    ∙ length-map plans plan_view
     ∙ sym size in
     let read = subst (λ l. SpellPlans l plans) (sym place.cut) so_far in
     record {
@@ -116,7 +120,8 @@ plans_stop front list rest lists plans n f is size so_far bad =
         there = rw (← long) (item_now trees_of lists (length front) list place.low place.at);
         in_row = bad.first;
         before = λ k r less there has.
-            (let p = spelled_before trees_of (map step_tree) (AllByRecursion IsPlanStep) lists (length front) k (map plan_view plans) r read (rw long less) there in
+            (let p = spelled_before trees_of (map step_tree) (AllByRecursion IsPlanStep) lists (length front) k (map plan_view plans) r read
+            (rw long less) there in
             no_bad p.0 p.2 (rw p.1 at has));
       };
     }
@@ -127,13 +132,16 @@ plans_stop front list rest lists plans n f is size so_far bad =
 abbrev pub SpellLists : List (Value Global) → List (Vec (Value Global) Global) → Type 0
 SpellLists vs lists = Spell tree_data row_tree IsAny vs (rows_view lists)
 
-pub lists_more : (vs : List (Value Global)) (v : Value Global) (lists : List (Vec (Value Global) Global)) (list : Vec (Value Global) Global) → SpellLists vs lists
+pub lists_more : (vs : List (Value Global)) (v : Value Global) (lists : List (Vec (Value Global) Global)) (list : Vec (Value Global) Global)
+    → SpellLists vs lists
     → Some (list_data list.items) ≡ as_array (tree_data v) → SpellLists (vs ++ v ∷ []) (lists ++ list ∷ [])
 lists_more vs v lists list so_far is =
     rw (map-append trees_of lists (list ∷ []))
-    (spell_next tree_data row_tree IsAny vs v (rows_view lists) (trees_of list) so_far (array_of (tree_data v) (list_data list.items) (sym is) ∙ ap array (list_data_is list.items)) tt)
+    (spell_next tree_data row_tree IsAny vs v (rows_view lists) (trees_of list) so_far
+    (array_of (tree_data v) (list_data list.items) (sym is) ∙ ap array (list_data_is list.items)) tt)
 
-pub lists_stop : (front : List (Value Global)) (v : Value Global) (rest vs : List (Value Global)) → front ++ v ∷ rest ≡ vs → None ≡ as_array (tree_data v) → HasOther (map tree_data vs)
+pub lists_stop : (front : List (Value Global)) (v : Value Global) (rest vs : List (Value Global)) → front ++ v ∷ rest ≡ vs → None ≡ as_array (tree_data v)
+    → HasOther (map tree_data vs)
 lists_stop front v rest vs is none =
     let place = place_of front v rest vs is in
     (length front, tree_data v, item_now tree_data vs (length front) v place.low place.at, sym none)

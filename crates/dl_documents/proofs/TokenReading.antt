@@ -1,7 +1,8 @@
 -- The data of what tokens spell, one turn of the grammar's loops after another.
 use Rattle.std.proofs.Common.{◌≡◌, ◌∙◌, refl, sym, ap, ℕ, zero, suc, ◌-◌, ◌<◌, ◌≤◌, List, ◌∷◌, length, Option, Some, None, option_map, arith}
 use Rattle.std.proofs.lemmas.Option.{none-some, same_Some}
-use Rattle.json.proofs.Grammar.{value_is, value-begin_array, value-begin_object, items_end, items_more, items_fail, members_end, members_no_key, members_more, members_fail}
+use Rattle.json.proofs.Grammar.{value_is, value-begin_array, value-begin_object, items_end, items_more, items_fail, members_end, members_no_key, members_more}
+use Rattle.json.proofs.Grammar.{members_fail}
 use Rattle.json.specs.Json as json
 use Rattle.json.specs.Json.{Parse, parse_map, after_end_array, read_key, value, items, members}
 use Rattle.json.specs.Reads.{token_of}
@@ -52,7 +53,8 @@ pub begun_list : (depth : ℕ) (ts : List Token) → 0 < depth
 begun_list depth ts some = ap (converted of_json) (value-begin_array depth ts some) ∙ list_converted (items (value (depth - 1)) (length ts) ts)
 
 pub begun_object : (depth : ℕ) (ts : List Token) → 0 < depth
-    → converted of_json (value depth (Token.begin_object ∷ ts)) ≡ parse_map object (converted (λ ms. of_members ms no_members) (members (value (depth - 1)) (length ts) ts))
+    → converted of_json (value depth (Token.begin_object ∷ ts))
+    ≡ parse_map object (converted (λ ms. of_members ms no_members) (members (value (depth - 1)) (length ts) ts))
 begun_object depth ts some = ap (converted of_json) (value-begin_object depth ts some) ∙ object_converted (members (value (depth - 1)) (length ts) ts)
 
 -- where nothing may nest nothing stands in brackets
@@ -177,7 +179,8 @@ other_data (json.object ms) d other e = absurd (other ms refl)
 first_is : (i j : json.Json) (s r : List Token) → ◌≡◌ {A = Option (json.Json × List Token)} (Some (i, s)) (Some (j, r)) → i ≡ j
 first_is i j s r e = ap (λ q. q.0) (same_Some (i, s) (j, r) e)
 
-list_is : (o : Option (json.Items × List Token)) (j : json.Json) (r : List Token) → parse_map json.array o ≡ Some (j, r) → (ms : json.Members) → j ≡ json.object ms → ⊥
+list_is : (o : Option (json.Items × List Token)) (j : json.Json) (r : List Token) → parse_map json.array o ≡ Some (j, r) → (ms : json.Members)
+    → j ≡ json.object ms → ⊥
 list_is None j r e ms is = none-some (j, r) e
 list_is (Some q) j r e ms is = let same = first_is (json.array q.0) j q.1 r e in cc
 

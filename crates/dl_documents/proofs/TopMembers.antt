@@ -1,5 +1,6 @@
 -- The members of a document, of which `tables` stands apart.
-use Rattle.std.proofs.Common.{◌≡◌, ◌∙◌, refl, sym, ap, ℕ, List, Bool, false, ◌&&◌, ◌||◌, bytes_eq, codes, true≢false, Option, Some, None, option_map, option_and_then}
+use Rattle.std.proofs.Common.{◌≡◌, ◌∙◌, refl, sym, ap, ℕ, List, Bool, false, ◌&&◌, ◌||◌, bytes_eq, codes, true≢false, Option, Some, None, option_map}
+use Rattle.std.proofs.Common.{option_and_then}
 use Rattle.std.proofs.lemmas.Slice.Eq.{bytes_eq-Decides}
 use Rattle.std.specs.List.{list_all}
 use Rattle.std.specs.Option.{is_none}

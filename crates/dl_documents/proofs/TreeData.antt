@@ -1,5 +1,6 @@
 -- Trees beside the data that they stand for.
-use Rattle.std.proofs.Common.{◌≡◌, ◌∙◌, sym, ap, refl, ℕ, List, [], ◌∷◌, ◌++◌, Bool, true, false, ◌&&◌, Option, Some, None, option_map, option_and_then, is_some, Global, Bor, length, ◌<◌, arith}
+use Rattle.std.proofs.Common.{◌≡◌, ◌∙◌, sym, ap, refl, ℕ, List, [], ◌∷◌, ◌++◌, Bool, true, false, ◌&&◌, Option, Some, None, option_map, option_and_then}
+use Rattle.std.proofs.Common.{is_some, Global, Bor, length, ◌<◌, arith}
 use Rattle.std.proofs.lemmas.Bool.{true≢false}
 use Rattle.std.proofs.lemmas.List.{length-append}
 use Rattle.json.specs.Json as json
@@ -19,7 +20,8 @@ pub map_fits : {A B : Type 0} (f : A → B) (o : Option A) → is_some (option_m
 map_fits f None = refl
 map_fits f (Some a) = refl
 
-both : {A B C : Type 0} (f : A → B → C) (o : Option A) (more : Option B) → is_some (option_and_then (λ a. option_map (f a) more) o) ≡ (is_some o && is_some more)
+both : {A B C : Type 0} (f : A → B → C) (o : Option A) (more : Option B)
+    → is_some (option_and_then (λ a. option_map (f a) more) o) ≡ (is_some o && is_some more)
 both f None more = refl
 both f (Some a) more = map_fits (f a) more
 
@@ -37,7 +39,8 @@ pub any_before : (ms : json.Members) (a b : Members) → is_some (of_members ms 
 any_before json.no_members a b = refl
 any_before (json.member k j ms) a b = after k ms a no_members (any_before ms) (of_json j) ∙ sym (after k ms b no_members (any_before ms) (of_json j))
 
-pub member_fits : (k : List ℕ) (j : json.Json) (ms : json.Members) → is_some (of_members (json.member k j ms) no_members) ≡ (is_some (of_json j) && is_some (of_members ms no_members))
+pub member_fits : (k : List ℕ) (j : json.Json) (ms : json.Members)
+    → is_some (of_members (json.member k j ms) no_members) ≡ (is_some (of_json j) && is_some (of_members ms no_members))
 member_fits k j ms = after k ms no_members no_members (any_before ms) (of_json j)
 
 -- ---- what a tree that fits is
@@ -84,11 +87,13 @@ items_after no_items more = more
 items_after (item d ds) more = item d (items_after ds more)
 
 -- an owned value after others
-pub owned_push : (vs : List owned_value.Value) (v : owned_value.Value) → owned.items_view (vs ++ v ∷ []) ≡ items_after (owned.items_view vs) (item (owned.view v) no_items)
+pub owned_push : (vs : List owned_value.Value) (v : owned_value.Value)
+    → owned.items_view (vs ++ v ∷ []) ≡ items_after (owned.items_view vs) (item (owned.view v) no_items)
 owned_push [] v = refl
 owned_push (w ∷ vs) v = ap (item (owned.view w)) (owned_push vs v)
 
-pub tree_push : (ts : List (tree_value.Value Global)) (t : tree_value.Value Global) → list_data (ts ++ t ∷ []) ≡ items_after (list_data ts) (item (data_of (tree.value_view t)) no_items)
+pub tree_push : (ts : List (tree_value.Value Global)) (t : tree_value.Value Global)
+    → list_data (ts ++ t ∷ []) ≡ items_after (list_data ts) (item (data_of (tree.value_view t)) no_items)
 tree_push [] t = refl
 tree_push (u ∷ ts) t = ap (item (data_of (tree.value_view u))) (tree_push ts t)
 
@@ -101,9 +106,12 @@ items_push vs ts v t all one = owned_push vs v ∙ rw (all, one) (sym (tree_push
 pub item_smaller : (front : List (tree_value.Value Global)) (t : tree_value.Value Global) (rest : List (tree_value.Value Global))
     → length (json_tokens (tree.value_view t)) < length (items_tokens (tree.items_view (front ++ t ∷ rest)))
 item_smaller [] t rest = trees.item_smaller (t ∷ rest) 0 t (omega arith)
-item_smaller (u ∷ front) t rest = omega (arith, length-append (json_tokens (tree.value_view u)) (items_tokens (tree.items_view (front ++ t ∷ rest))), item_smaller front t rest)
+item_smaller (u ∷ front) t rest =
+    omega (arith, length-append (json_tokens (tree.value_view u)) (items_tokens (tree.items_view (front ++ t ∷ rest))), item_smaller front t rest)
 
-pub member_smaller : (front : List (Bor (List ℕ) × tree_value.Value Global)) (m : Bor (List ℕ) × tree_value.Value Global) (rest : List (Bor (List ℕ) × tree_value.Value Global))
+pub member_smaller : (front : List (Bor (List ℕ) × tree_value.Value Global)) (m : Bor (List ℕ) × tree_value.Value Global)
+    (rest : List (Bor (List ℕ) × tree_value.Value Global))
     → length (json_tokens (tree.value_view m.1)) < length (members_tokens (tree.members_view (front ++ m ∷ rest)))
 member_smaller [] m rest = trees.member_smaller (m ∷ rest) 0 m (omega arith)
-member_smaller (n ∷ front) m rest = omega (arith, length-append (json_tokens (tree.value_view n.1)) (members_tokens (tree.members_view (front ++ m ∷ rest))), member_smaller front m rest)
+member_smaller (n ∷ front) m rest =
+    omega (arith, length-append (json_tokens (tree.value_view n.1)) (members_tokens (tree.members_view (front ++ m ∷ rest))), member_smaller front m rest)

@@ -99,5 +99,6 @@ all_read d vs parts [] e none read =
     rw (array_of d (list_data vs) (sym e), ← found) (ap Some (term_view-All parts))
 
 -- an item was read as no term
-pub all_unread : (d : Data) (vs : List (Value Global)) → Some (list_data vs) ≡ as_array d → None ≡ together (parts_of (list_data vs)) → None ≡ gathers (parts_in d) d
+pub all_unread : (d : Data) (vs : List (Value Global)) → Some (list_data vs) ≡ as_array d → None ≡ together (parts_of (list_data vs))
+    → None ≡ gathers (parts_in d) d
 all_unread d vs e none = rw (array_of d (list_data vs) (sym e)) (ap (option_map (λ ts. all (trees_of ts))) none)

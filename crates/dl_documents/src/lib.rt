@@ -1,4 +1,5 @@
 //! Documents of the program `plans`: what their bytes say, or why they are refused.
+//! The label of a loop is its name in `proofs/`.
 #![tactic(auto)]
 
 mod argument;

@@ -1,12 +1,14 @@
 -- No number of the tree of a plan file of version 1 is a float.
-use Rattle.std.proofs.Common.{◌≡◌, sym, ap, subst, ◌∙◌, ℕ, pos, List, map, Bool, true, false, codes, Option, Some, None, option_and_then, if◌then◌else◌, bytes_eq}
+use Rattle.std.proofs.Common.{◌≡◌, sym, ap, subst, ◌∙◌, ℕ, pos, List, map, Bool, true, false, codes, Option, Some, None, option_and_then, if◌then◌else◌}
+use Rattle.std.proofs.Common.{bytes_eq}
 use Rattle.std.proofs.lemmas.Option.{same_Some}
 use Rattle.serde_json.specs.Data.{Data}
 use Rattle.serde_json.specs.Find.{get, as_array}
 use Rattle.serde_json.specs.Written.{has_float}
 use Rattle.dl_source.specs.Spelling.{whole}
 use Rattle.dl_source.proofs.Spelling.{array_of}
-use Rattle.dl_documents.specs.Document.{IsOfVersion, is_script, is_known, is_plans_member, is_limit_member, whole_or_largest, GivesLimit, GivesTables, SpellsPlans}
+use Rattle.dl_documents.specs.Document.{IsOfVersion, is_script, is_known, is_plans_member, is_limit_member, whole_or_largest, GivesLimit, GivesTables}
+use Rattle.dl_documents.specs.Document.{SpellsPlans}
 use Rattle.dl_documents.specs.OwnLimits.{TableLimits, version_by}
 use Rattle.dl_documents.specs.Steps.{plan_view, plans_tree}
 use Rattle.dl_documents.specs.declared.input.PlanFile.{PlanFile}

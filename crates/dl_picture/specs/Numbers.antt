@@ -1,5 +1,6 @@
 -- The numbers of a history: its loads and hits, its rounds, and its batches.
-use Rattle.std.specs.Prelude.{◌≡◌, ℕ, zero, suc, ◌&&◌, Bool, true, false, List, [], ◌∷◌, ◌++◌, length, max, sum, Option, Some, None, filter, flat_map, count_by, nat_eq}
+use Rattle.std.specs.Prelude.{◌≡◌, ℕ, zero, suc, ◌&&◌, Bool, true, false, List, [], ◌∷◌, ◌++◌, length, max, sum, Option, Some, None, filter, flat_map}
+use Rattle.std.specs.Prelude.{count_by, nat_eq}
 use Rattle.dl_desk.specs.Events.{atoms}
 use Rattle.dl_desk.specs.History.{Atom, begun}
 use Rattle.dl_desk.specs.declared.reply.LoadReply.{LoadReply}

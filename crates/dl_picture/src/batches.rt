@@ -32,7 +32,7 @@ pub struct Mean {
 ///
 /// # Errors
 /// `AllocError` where there are more than a number counts, which no memory holds.
-pub fn batch_numbers(batches: &Batches<'_>) -> Result<BatchNumbers, AllocError>
+pub(crate) fn batch_numbers(batches: &Batches<'_>) -> Result<BatchNumbers, AllocError>
     ensures { IfOk result (AreBatchNumbers (atoms (past batches.now))) }
 {
     let mut numbers = BatchNumbers::of_none();

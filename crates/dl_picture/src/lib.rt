@@ -1,7 +1,8 @@
 //! Pictures of what requests did, as SVG: the rounds of plans, their batches and their hits; and the numbers of a history.
 //!
 //! [`history_picture`] draws what serving plans left, and [`script_picture`] what the calls of a script are answered. A picture
-//! has its numbers at its head; [`history_numbers`] and [`plan_numbers`] give those of any history.
+//! has its numbers at its head; [`history_numbers`] and [`plan_numbers`] give those of any history. The label of a loop is its name
+//! in `proofs/`.
 #![tactic(auto)]
 
 mod batches;
@@ -22,8 +23,9 @@ mod sheet;
 mod style;
 mod xml;
 
-pub use batches::{BatchNumbers, Mean, batch_numbers};
+pub use batches::{BatchNumbers, Mean};
 pub use history::history_picture;
-pub use loads::{LoadNumbers, load_numbers, rounds};
-pub use numbers::{HistoryNumbers, PlanNumbers, history_numbers, plan_numbers, script_numbers};
+pub use loads::LoadNumbers;
+pub use numbers::{HistoryNumbers, PlanNumbers, history_numbers, plan_numbers};
 pub use script::script_picture;
+pub use sheet::Sheet;

@@ -24,7 +24,7 @@ pub struct LoadNumbers {
 ///
 /// # Errors
 /// `AllocError` where there are more than a number counts, which no memory holds.
-pub fn load_numbers(events: &Events, caller: Option<u32>) -> Result<LoadNumbers, AllocError>
+pub(crate) fn load_numbers(events: &Events, caller: Option<u32>) -> Result<LoadNumbers, AllocError>
     ensures { IfOk result (AreLoadNumbers (load_replies (events_by caller events.now))) }
 {
     let mut numbers = LoadNumbers { loads: 0, hits: 0 };
@@ -51,7 +51,7 @@ pub(crate) fn answer_numbers(
 }
 
 /// How many rounds a caller's events begin: each loadMany is one.
-pub fn rounds(events: &Events, caller: u32) -> usize
+pub(crate) fn rounds(events: &Events, caller: u32) -> usize
     ensures { result ≡ length (round_events caller events.now) }
 {
     let mut count = 0;

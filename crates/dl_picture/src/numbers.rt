@@ -70,7 +70,7 @@ impl HistoryNumbers {
 ///
 /// # Errors
 /// `AllocError` where there are more than a number counts, which no memory holds.
-pub fn script_numbers(run: &ScriptRun) -> Result<HistoryNumbers, AllocError>
+pub(crate) fn script_numbers(run: &ScriptRun) -> Result<HistoryNumbers, AllocError>
     ensures { IfOk result (λ numbers. (script : Script) → IsRunOf script run.now → AreScriptNumbers script numbers) }
 {
     Ok(HistoryNumbers {

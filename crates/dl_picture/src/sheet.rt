@@ -7,15 +7,16 @@ use std::fmt::Write;
 
 /// A text that is being written. Where memory runs out, no more than a part of what is pushed stands in it, and `finish` tells.
 #[derive(Drop)]
-pub(crate) struct Sheet {
-    pub(crate) alloc: Global,
+pub struct Sheet {
+    /// By which texts are made that go onto it.
+    pub alloc: Global,
     text: String,
     is_whole: bool,
 }
 
 impl Sheet {
     /// A sheet with no text.
-    pub(crate) fn new(alloc: Global) -> Sheet {
+    pub fn new(alloc: Global) -> Sheet {
         Sheet {
             alloc,
             text: String::new(alloc),
@@ -24,21 +25,21 @@ impl Sheet {
     }
 
     /// Notes whether memory ran out.
-    pub(crate) fn note(&mut self, pushed: Result<(), AllocError>) {
+    pub fn note(&mut self, pushed: Result<(), AllocError>) {
         if pushed.is_err() {
             self.is_whole = false;
         }
     }
 
     /// Appends a text as it stands.
-    pub(crate) fn push(&mut self, text: &str) {
+    pub fn push(&mut self, text: &str) {
         let pushed = self.text.push_str(text);
         self.note(pushed);
     }
 
-    /// Appends a number.
-    pub(crate) fn push_number(&mut self, number: u64) {
-        let pushed = write!(self.text, "{number}");
+    /// Appends a text as it stands and then a number.
+    pub fn push_number(&mut self, front: &str, number: u64) {
+        let pushed = write!(self.text, "{front}{number}");
         self.note(pushed);
     }
 
@@ -48,7 +49,7 @@ impl Sheet {
         for c in form.chars() {
             if c == '#' {
                 if let Some(number) = numbers.next() {
-                    self.push_number(*number);
+                    self.push_number("", *number);
                 }
             } else {
                 let pushed = self.text.push(c);
@@ -62,8 +63,7 @@ impl Sheet {
         match phrase {
             Phrase::Words(words) => self.push(words),
             Phrase::Numbered(front, number, back) => {
-                self.push(front);
-                self.push_number(number);
+                self.push_number(front, number);
                 self.push(back);
             }
             Phrase::Mean(mean) => self.push_form("# #/#", &[mean.whole, mean.rest, mean.of]),
@@ -105,7 +105,7 @@ impl Sheet {
     }
 
     /// The text. The error is that memory ran out.
-    pub(crate) fn finish(self) -> Result<String, AllocError> {
+    pub fn finish(self) -> Result<String, AllocError> {
         let Sheet { text, is_whole, .. } = self;
         if is_whole { Ok(text) } else { Err(AllocError) }
     }

@@ -1,10 +1,10 @@
 -- A document's bytes, and the first bytes of a reader.
-use Rattle.std.proofs.Common.{◌≡◌, ◌⊎◌, inl, inr, ℕ, ◌<◌, ◌≤◌, List, length, take, Option, Some, None, Result, Ok, Err, arith}
+use Rattle.std.proofs.Common.{◌≡◌, ◌⊎◌, inl, inr, sym, subst, ℕ, ◌<◌, ◌≤◌, List, [], length, take, Option, Some, None, Result, Ok, Err, append-nil, arith}
 use Rattle.std.proofs.lemmas.Bool.{cases_lt}
 use Rattle.std.proofs.lemmas.List.{take_all, length-take}
 use Rattle.std.specs.Io.KnownBytes.{Appends}
 use Rattle.std.specs.Option.{IfSome}
-use Rattle.std.specs.Result.{OnOk}
+use Rattle.std.specs.Result.{IfOk, OnOk}
 use Rattle.serde_json.specs.Data.{Data}
 use Rattle.dl_documents.specs.Document.{IsTextOf, Spells}
 use Rattle.dl_documents.specs.Faults.{Applies, IsBefore, IsLeast, number, most_bytes}
@@ -74,6 +74,20 @@ document_read bytes i p passes = record {
   is_text = p.1;
   spells = p.2;
 }
+
+-- what holds of all that a call gave holds of what was made of it
+pub made_of : {X E F : Type 0} (made : Result X E) (given : Result X F) (P Q : X → Type 0) → IfOk made (λ x. given ≡ Ok x) → IfOk given P
+    → ((x : X) → P x → Q x) → IfOk made Q
+made_of (Ok x) given P Q is has to = to x (subst (λ (r : Result _ _). IfOk r P) is has)
+made_of (Err e) given P Q is has to = tt
+
+-- a writer that took nothing has a front of any text
+pub front_of_none : (held : Option (List ℕ)) (text : List ℕ) → AppendsFront held held text
+front_of_none held text = record { count = 0; within = omega arith; written = nothing_more held }
+  where
+    nothing_more : (o : Option (List ℕ)) → Appends o o []
+    nothing_more None = tt
+    nothing_more (Some xs) = sym (append-nil xs)
 
 -- nothing comes before the first refusal
 numbered : (f : PlanFault) → 1 ≤ number f

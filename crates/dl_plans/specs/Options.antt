@@ -1,12 +1,10 @@
--- The command lines of `plans` and of `plan_picture`, and what their matches give.
-use Rattle.std.specs.Prelude.{◌≡◌, ◌≤◌, ◌↔◌, ℕ, ◌∷◌, [], List, true, false, IsTrue, pos, codes, Option, Some, option_map}
+-- The command line of `plans`, and what its matches give.
+use Rattle.std.specs.Prelude.{◌≡◌, ◌≤◌, ◌↔◌, ℕ, ◌∷◌, [], List, true, false, IsTrue, pos, codes, Option, Some, option_map, string_bytes}
 use Rattle.std.specs.Str.Parse.{digits_value, without_leading_plus, IsNumeral}
-use Rattle.clap.specs.Words.{App, Shape, Row, Rule, Text, new_app, new_rule, one_of, with_rule, with_subcommand}
+use Rattle.clap.specs.Words.{App, Shape, Row, Rule, Text, new_app, new_rule, first_of, one_of, with_rule, with_subcommand}
 use Rattle.clap.specs.Simple.{on_top}
 use Rattle.clap.specs.declared.builder.action.ArgAction.TheVariants.{SetTrue}
 use Rattle.clap.specs.declared.builder.value_parser.ValueParser.TheVariants as vp
-use Rattle.dl_plans.specs.declared.command.Program.{Program}
-use Rattle.dl_plans.specs.declared.command.Program.TheVariants.{Plans, PlanPicture}
 use Rattle.dl_plans.specs.declared.settings.Options.{Options}
 
 -- the most fetch workers
@@ -26,6 +24,10 @@ workers_rule = record (new_rule (codes "workers")) {
 abbrev pub batches_rule : Rule
 batches_rule = record (new_rule (codes "batches")) { long = Some (codes "batches"); action = Some SetTrue }
 
+-- `--picture FILE`
+abbrev pub picture_rule : Rule
+picture_rule = record (new_rule (codes "picture")) { long = Some (codes "picture"); value_names = 1 }
+
 -- the words stand behind the program's name
 abbrev pub without_name : Shape → Shape
 without_name s = record s { no_binary_name = true }
@@ -34,10 +36,13 @@ without_name s = record s { no_binary_name = true }
 abbrev pub migrate_app : App
 migrate_app = new_app (codes "migrate")
 
--- what the command line of `plans` has beside its version
+-- what the command line has of how a document is answered
+abbrev pub answering_app : App
+answering_app = with_rule (with_rule (on_top without_name (new_app (codes "plans"))) workers_rule) batches_rule
+
+-- what it has beside its version
 abbrev pub plans_words_app : App
-plans_words_app =
-    with_subcommand (with_rule (with_rule (on_top without_name (new_app (codes "plans"))) workers_rule) batches_rule) migrate_app.top
+plans_words_app = with_subcommand (with_rule answering_app picture_rule) migrate_app.top
 
 abbrev pub with_version : Shape → Shape
 with_version s = record s { has_version = true }
@@ -45,14 +50,6 @@ with_version s = record s { has_version = true }
 -- the command line of `plans`
 abbrev pub plans_app : App
 plans_app = on_top with_version plans_words_app
-
--- that of `plan_picture`
-abbrev pub picture_app : App
-picture_app = with_rule (on_top without_name (new_app (codes "plan_picture"))) workers_rule
-
-abbrev pub app_of_program : Program → App
-app_of_program Plans = plans_app
-app_of_program PlanPicture = picture_app
 
 -- the name of a subcommand that was used, beside what its own matches give
 abbrev pub name_of : Option (Text × List Row) → Option Text
@@ -69,23 +66,12 @@ pub record GivesNumber (rows : List Row) (id : Text) (n : ℕ) : Type 0 where
   pub row : one_of id rows ≡ Some text
   pub decimal : IsDecimal text n
 
--- the options that the matches of `plans` give, and the subcommand that was used
+-- the options that the matches give, and the subcommand that was used
 pub record AreGiven (rows : List Row) (used : Option (Text × List Row)) (o : Options) : Type 0 where
   pub workers : GivesNumber rows (codes "workers") o.workers
   pub least : 1 ≤ o.workers
   pub most : o.workers ≤ most_workers
   pub batches : one_of (codes "batches") rows ≡ Some (codes "true") → o.batches ≡ true
   pub no_batches : one_of (codes "batches") rows ≡ Some (codes "false") → o.batches ≡ false
+  pub picture : option_map string_bytes o.picture ≡ first_of (codes "picture") rows
   pub migrate : IsTrue o.migrate ↔ (name_of used ≡ Some (codes "migrate"))
-
--- the options that the matches of `plan_picture` give
-pub record ArePictureOptions (rows : List Row) (o : Options) : Type 0 where
-  pub workers : GivesNumber rows (codes "workers") o.workers
-  pub least : 1 ≤ o.workers
-  pub most : o.workers ≤ most_workers
-  pub no_batches : o.batches ≡ false
-
--- the options that the matches give to a program
-abbrev pub AreGivenTo : Program → List Row → Option (Text × List Row) → Options → Type 0
-AreGivenTo Plans rows used o = AreGiven rows used o
-AreGivenTo PlanPicture rows used o = ArePictureOptions rows o

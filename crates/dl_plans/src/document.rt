@@ -1,6 +1,6 @@
 //! Answering a document over a reader and a writer.
 
-ghost use Rattle.std.specs.Prelude.{◌≡◌, ◌≢◌, ◌+◌, IfOk, IfErr, IfSome, OnOk, string_bytes};
+ghost use Rattle.std.specs.Prelude.{◌≡◌, ◌≢◌, ◌⊎◌, ◌+◌, ℕ, List, IfOk, IfErr, IfSome, OnOk, string_bytes};
 ghost use Rattle.std.specs.Io.KnownBytes.{Keeps};
 ghost use Rattle.dl_documents.specs.Faults.{most_bytes};
 ghost use Rattle.dl_plans.specs.ReportText.{report_text};
@@ -8,34 +8,40 @@ ghost use Rattle.dl_plans.specs.Run.{IsOutput, IsRefused, ReadsAtMost, Writes, W
 ghost use Rattle.dl_scope.specs.Faults.{RefusedAs};
 ghost use Rattle.dl_scope.specs.Headline.{Headline};
 ghost use Rattle.dl_plans.specs.ScriptText.{script_text};
+ghost use Rattle.dl_plans.specs.declared.settings.Options.{Options};
 
 use crate::QUEUE_PLACES;
 use crate::fault::RunError;
+use crate::picture::{report_picture, write_picture};
 use crate::report::report_text;
 use crate::script_text::run_script;
 use crate::settings::Options;
 use crate::streams::{read_all, write_all};
 use dl_documents::{Input, PlanFault, PlanFile, Script, read_input};
+use dl_picture::script_picture;
 use dl_scope::{Report, ScopeFault, Setup, serve};
 use dl_workers::NoGate;
 use std::alloc::{AllocError, Global};
 use std::hash::RandomState;
 use std::io::{Read, Write};
 use std::mem::forget;
+use std::random::RandomSource;
+use std::rt::Files;
 use std::sync::Wait;
 use std::thread::Threads;
 
 /// Reads a document, and writes the text that it gives once all of it is made. At most one byte more is read than
 /// a document has. The plans of a plan file are served at once, each on a thread of its own, and as many workers as the
-/// options say fetch for them; a script has no use for the options. Keys are hashed by `hashing`, of which nothing is seen.
+/// options say fetch for them. Keys are hashed by `hashing`, of which nothing is seen. Where the options name a file, the picture of
+/// what happened goes there first, as a whole or not at all.
 ///
-/// It is for the end of a process: what was read and made is left to the system, and isn't taken apart.
+/// It is for the end of a process: what was read and served is left to the system, and isn't taken apart.
 ///
 /// # Errors
 /// `Read` where the reader fails, `Refused` where what it holds is no document, `Run` where the plans of a plan file
-/// aren't served, `OutOfMemory` where an allocation failed, and `Write` where the writer fails. Only after `Write` something
-/// may be written: a front of the text.
-pub fn run<R: Read, W: Write, T: Threads + Wait + Sync>(
+/// aren't served, `OutOfMemory` where an allocation failed, and `Write` where the picture's file or the writer fails. Only after
+/// `Write` something may be written: a front of the text, and nothing where it was the file.
+pub fn run<R: Read, W: Write, T: Threads + Wait + Sync + Files + RandomSource>(
     rt: &T,
     alloc: Global,
     hashing: RandomState,
@@ -45,39 +51,66 @@ pub fn run<R: Read, W: Write, T: Threads + Wait + Sync>(
 ) -> Result<(), RunError>
     ensures ok { OnOk result (IfSome (R.remaining reader.old) (Writes (IsOutput options) (W.contents writer.old) (W.contents writer.new))) }
     ensures refused { IfErr result (λ e. IfSome (R.remaining reader.old) (λ bytes. IsRefused options bytes e)) }
-    ensures write { result ≡ Err RunError.Write → IfSome (R.remaining reader.old) (WritesFront (IsOutput options) (W.contents writer.old) (W.contents writer.new)) }
+    ensures write { result ≡ Err RunError.Write → IfSome (R.remaining reader.old)
+        (WritesFront (IsOutput options) (W.contents writer.old) (W.contents writer.new)) }
     ensures reads { ReadsAtMost (most_bytes + 1) (R.remaining reader.old) (R.remaining reader.new) }
     ensures untouched { IfErr result (λ e. e ≢ RunError.Write → Keeps (W.contents writer.old) (W.contents writer.new)) }
 {
     let bytes = read_all(alloc, reader)?;
-    let text = output(rt, alloc, hashing, bytes, options)?;
-    write_all(writer, text.as_bytes())
+    let given = output(rt, alloc, hashing, bytes, &options)?;
+    keep_picture(rt, alloc, &options, &given)?;
+    write_all(writer, given.text.as_bytes())
 }
 
-/// The text that a document gives. Its bytes are let go once they are read.
+/// What a document gives: its text, and its picture where one is wanted.
+#[derive(Drop)]
+struct Given {
+    text: String,
+    picture: Option<String>,
+}
+
+/// Has the picture in its file, where one is wanted.
+fn keep_picture<T: Files + RandomSource>(
+    rt: &T,
+    alloc: Global,
+    options: &Options,
+    given: &Given,
+) -> Result<(), RunError>
+    ensures { IfErr result (λ e. (e ≡ RunError.Write) ⊎ (e ≡ RunError.OutOfMemory)) }
+{
+    match (&options.picture, &given.picture) {
+        (Some(file), Some(picture)) => write_picture(rt, alloc, file.as_str(), picture.as_str()),
+        _ => Ok(()),
+    }
+}
+
+/// What a document gives. Its bytes are let go once they are read; what they say isn't taken apart, since the process ends, and its
+/// memory goes with it.
 fn output<T: Threads + Wait + Sync>(
     rt: &T,
     alloc: Global,
     hashing: RandomState,
     bytes: Vec<u8>,
-    options: Options,
-) -> Result<String, RunError>
-    ensures ok { IfOk result (λ text. IsOutput options bytes.items (string_bytes text)) }
-    ensures err { IfErr result (IsRefused options bytes.items) }
+    options: &Options,
+) -> Result<Given, RunError>
+    ensures ok { IfOk result (λ given. IsOutput options.now bytes.items (string_bytes given.text)) }
+    ensures err { IfErr result (IsRefused options.now bytes.items) }
     ensures kept { IfErr result (λ e. e ≢ RunError.Write) }
 {
     let read = read_input(alloc, hashing, &bytes);
     drop(bytes);
     match read {
-        Ok(Input::Script(script)) => match text_of_script(alloc, hashing, script) {
-            Ok(text) => Ok(text),
-            Err(_) => Err(RunError::OutOfMemory),
-        },
+        Ok(Input::Script(script)) => {
+            let given = output_of_script(alloc, hashing, &script, options);
+            forget(script);
+            made(given)
+        }
         Ok(Input::Plans(file)) => match served(rt, alloc, hashing, file, options) {
-            Ok(report) => match text_of_report(alloc, report, options.batches) {
-                Ok(text) => Ok(text),
-                Err(_) => Err(RunError::OutOfMemory),
-            },
+            Ok(report) => {
+                let given = output_of_report(alloc, &report, options);
+                forget(report);
+                made(given)
+            }
             Err(fault) => Err(RunError::Run(fault)),
         },
         Err(PlanFault::OutOfMemory) => Err(RunError::OutOfMemory),
@@ -85,23 +118,45 @@ fn output<T: Threads + Wait + Sync>(
     }
 }
 
-/// The text that a script gives. The script isn't taken apart: the process ends, and its memory goes with it. The error is a
-/// failed allocation.
-fn text_of_script(alloc: Global, hashing: RandomState, script: Script) -> Result<String, AllocError>
-    ensures { IfOk result (λ text. string_bytes text ≡ script_text script) }
+/// What was made, unless memory ran out.
+fn made(given: Result<Given, AllocError>) -> Result<Given, RunError>
+    ensures ok { IfOk result (λ made. given ≡ Ok made) }
+    ensures err { (options : Options) (bytes : List ℕ) → IfErr result (IsRefused options bytes) }
+    ensures kept { IfErr result (λ e. e ≢ RunError.Write) }
 {
-    let text = run_script(alloc, hashing, &script);
-    forget(script);
-    text
+    match given {
+        Ok(given) => Ok(given),
+        Err(_) => Err(RunError::OutOfMemory),
+    }
 }
 
-/// The text of a report, which isn't taken apart either. The error is a failed allocation.
-fn text_of_report(alloc: Global, report: Report, batches: bool) -> Result<String, AllocError>
-    ensures { IfOk result (λ text. string_bytes text ≡ report_text report batches) }
+/// What a script gives. The error is a failed allocation.
+fn output_of_script(
+    alloc: Global,
+    hashing: RandomState,
+    script: &Script,
+    options: &Options,
+) -> Result<Given, AllocError>
+    ensures { IfOk result (λ given. string_bytes given.text ≡ script_text script.now) }
 {
-    let text = report_text(alloc, &report, batches);
-    forget(report);
-    text
+    let picture = match &options.picture {
+        Some(_) => Some(script_picture(alloc, hashing, script)?),
+        None => None,
+    };
+    let text = run_script(alloc, hashing, script)?;
+    Ok(Given { text, picture })
+}
+
+/// What a report gives. The error is a failed allocation.
+fn output_of_report(alloc: Global, report: &Report, options: &Options) -> Result<Given, AllocError>
+    ensures { IfOk result (λ given. string_bytes given.text ≡ report_text report.now options.now.batches) }
+{
+    let picture = match &options.picture {
+        Some(_) => Some(report_picture(alloc, report)?),
+        None => None,
+    };
+    let text = report_text(alloc, report, options.batches)?;
+    Ok(Given { text, picture })
 }
 
 /// What serving the plans of a file over its tables leaves: at once, each on a thread of its own, within the limits of the file,
@@ -114,10 +169,10 @@ fn served<T: Threads + Wait + Sync>(
     alloc: Global,
     hashing: RandomState,
     file: PlanFile,
-    options: Options,
+    options: &Options,
 ) -> Result<Report, ScopeFault>
-    ensures headline { IfOk result (Headline (file_service options file) file.plans.items) }
-    ensures refused { IfErr result (RefusedAs (file_service options file) (setup_of options file) file.plans.items) }
+    ensures headline { IfOk result (Headline (file_service options.now file) file.plans.items) }
+    ensures refused { IfErr result (RefusedAs (file_service options.now file) (setup_of options.now file) file.plans.items) }
 {
     let PlanFile {
         tables,

@@ -1,6 +1,6 @@
-//! What a program is asked for, and how it ends, over a runtime.
+//! What the program is asked for, and how it ends, over a runtime. Where standard error takes no line, the status alone tells.
 
-use crate::command::Program;
+use crate::command::{options, unreadable};
 use crate::fault::RunError;
 use crate::settings::Options;
 use crate::status::{FAILED, RAN, command_status, words_status};
@@ -12,16 +12,15 @@ use std::{env, io};
 
 // ---- what is asked for
 
-/// The options that the command line of a program gives, and random numbers of this run, by which keys are hashed, since they
-/// come from strangers.
+/// The options that the command line gives, and random numbers of this run, by which keys are hashed, since they come from
+/// strangers.
 ///
 /// # Errors
 /// The status with which the program ends. A line on standard error says why.
 pub fn asked<R: Env + RandomSource + Print + Eprint + AllocGlobal>(
     rt: &R,
-    program: Program,
 ) -> Result<(Options, RandomState), u8> {
-    let options = given(rt, program)?;
+    let options = given(rt)?;
     match RandomState::new(rt) {
         Ok(hashing) => Ok((options, hashing)),
         Err(_) => {
@@ -32,37 +31,33 @@ pub fn asked<R: Env + RandomSource + Print + Eprint + AllocGlobal>(
 }
 
 /// The options that the command line gives. The error is that of [`asked`].
-fn given<R: Env + Print + Eprint + AllocGlobal>(rt: &R, program: Program) -> Result<Options, u8> {
+fn given<R: Env + Print + Eprint + AllocGlobal>(rt: &R) -> Result<Options, u8> {
     match words(rt) {
-        Ok(words) => given_by(rt, program, &words),
+        Ok(words) => given_by(rt, &words),
         Err(error) => {
-            tell_unread(rt, program, &error);
+            tell_unread(rt, &error);
             Err(words_status(&error))
         }
     }
 }
 
 /// The words behind the program's name.
-pub fn words<R: Env + AllocGlobal>(rt: &R) -> io::Result<Vec<String>> {
+fn words<R: Env + AllocGlobal>(rt: &R) -> io::Result<Vec<String>> {
     let words = env::args(rt)?.skip(1).collect(rt.alloc())?;
     Ok(words)
 }
 
 /// Says why the words can't be read: an allocation failed, or one is no UTF-8.
-fn tell_unread<R: Print + Eprint + AllocGlobal>(rt: &R, program: Program, error: &io::Error) {
+fn tell_unread<R: Print + Eprint + AllocGlobal>(rt: &R, error: &io::Error) {
     let _ = match error.kind() {
         io::ErrorKind::OutOfMemory => eprintln!(rt; "{}", RunError::OutOfMemory),
-        _ => program.unreadable(rt.alloc()).print(rt),
+        _ => unreadable(rt.alloc()).print(rt),
     };
 }
 
 /// The options that words give. The error is that of [`asked`].
-fn given_by<R: Print + Eprint + AllocGlobal>(
-    rt: &R,
-    program: Program,
-    words: &[String],
-) -> Result<Options, u8> {
-    match program.options(rt.alloc(), words) {
+fn given_by<R: Print + Eprint + AllocGlobal>(rt: &R, words: &[String]) -> Result<Options, u8> {
+    match options(rt.alloc(), words) {
         Ok(options) => Ok(options),
         Err(error) => {
             tell_no_options(rt, &error);
@@ -72,7 +67,7 @@ fn given_by<R: Print + Eprint + AllocGlobal>(
 }
 
 /// Says why words give no options: an allocation failed; or clap says that they are refused, or gives the help asked for.
-pub fn tell_no_options<R: Print + Eprint>(rt: &R, error: &clap::Error) {
+fn tell_no_options<R: Print + Eprint>(rt: &R, error: &clap::Error) {
     let _ = match error.kind() {
         ErrorKind::OutOfMemory => eprintln!(rt; "{}", RunError::OutOfMemory),
         _ => error.print(rt),

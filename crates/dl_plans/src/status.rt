@@ -10,7 +10,7 @@ use clap::error::ErrorKind;
 use std::io;
 
 /// The status of a run, and of a request for help.
-pub const RAN: u8 = 0;
+pub(crate) const RAN: u8 = 0;
 
 /// The status of a document that is refused, or that isn't of the version that is asked for.
 const REFUSED: u8 = 1;
@@ -19,7 +19,7 @@ const REFUSED: u8 = 1;
 const USAGE: u8 = 2;
 
 /// The status of any other failure.
-pub const FAILED: u8 = 3;
+pub(crate) const FAILED: u8 = 3;
 
 impl RunError {
     /// The status with which a run that fails so ends the program: 1 where the document is refused or isn't of version 1 and
@@ -35,7 +35,7 @@ impl RunError {
 }
 
 /// The status of words that give no options: 0 for a request for help, 3 for a failed allocation, and else 2.
-pub fn command_status(error: &clap::Error) -> u8
+pub(crate) fn command_status(error: &clap::Error) -> u8
     ensures { result ≡ command_status (kind_of error.now) }
 {
     match error.kind() {
@@ -46,7 +46,7 @@ pub fn command_status(error: &clap::Error) -> u8
 }
 
 /// The status of a command line that can't be read: 3 for a failed allocation, and else 2.
-pub fn words_status(error: &io::Error) -> u8
+pub(crate) fn words_status(error: &io::Error) -> u8
     ensures { result ≡ words_status (error_kind error.now) }
 {
     match error.kind() {

@@ -77,17 +77,16 @@ static ROWS: [Row; 4] = [
     },
 ];
 
-/// How the documents are answered.
-const OPTIONS: Options = Options {
-    workers: 2,
-    batches: true,
-    migrate: false,
-};
+/// How many workers fetch for the documents.
+const WORKERS: u32 = 2;
 
-/// Words of a command line, and the options that they are, or why they are refused.
-static WORDS: [(&[&str], Result<Options, ErrorKind>); 2] = [
-    (&["--workers", "2", "--batches"], Ok(OPTIONS)),
-    (&["migrate", "--batches"], Err(ErrorKind::UnknownArgument)),
+/// The file of a picture.
+const PICTURE: &str = "page.svg";
+
+/// Words of a command line, and why they are refused, if they aren't the options of `Stage::options`.
+static WORDS: [(&[&str], Option<ErrorKind>); 2] = [
+    (&["--workers", "2", "--batches", "--picture", PICTURE], None),
+    (&["migrate", "--batches"], Some(ErrorKind::UnknownArgument)),
 ];
 
 /// Room for the text of each document.
@@ -137,7 +136,7 @@ impl<R: Abort + Eprint + Threads + Wait + Sync> Stage<'_, R> {
                     self,
                     "report_text",
                     Err(_),
-                    report_text(alloc, &report, OPTIONS.batches)
+                    report_text(alloc, &report, true)
                 )
             }
         };
@@ -201,14 +200,29 @@ impl<R: Abort + Eprint + Threads + Wait + Sync> Stage<'_, R> {
 
     /// Reads the command lines.
     fn read_words(&self) {
-        for (words, want) in &WORDS {
+        for (words, refused) in &WORDS {
             let got = made!(
                 self,
                 "options",
                 Err(ErrorKind::OutOfMemory),
                 asked(self.alloc, words)
             );
-            assert_is(self.rt, &got, want, "the options");
+            let want = match refused {
+                Some(kind) => Err(*kind),
+                None => Ok(self.options()),
+            };
+            assert_is(self.rt, &got, &want, "the options");
+        }
+    }
+
+    /// The options of the first words.
+    fn options(&self) -> Options {
+        let picture = String::from_str(self.alloc, PICTURE);
+        Options {
+            workers: WORKERS,
+            batches: true,
+            picture: Some(picture.expect(self.rt, "no memory")),
+            migrate: false,
         }
     }
 }
@@ -237,7 +251,7 @@ fn served<T: Threads + Wait + Sync>(
     let setup = Setup {
         limits,
         tables: table_limits,
-        workers: OPTIONS.workers,
+        workers: WORKERS,
         queue: QUEUE_PLACES,
     };
     serve(rt, alloc, hashing, &tables, setup, plans, &NoGate)

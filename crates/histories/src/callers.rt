@@ -7,10 +7,10 @@ ghost use Rattle.histories.specs.Restless.{answer_restless};
 
 use crate::event_text::push_history;
 use crate::restless::{Drawn, Restless};
-use crate::sheet::Sheet;
 use anyhow::Result;
 use dl_desk::{FetchKey, Limits, Message, Outcome, TableLimits};
 use dl_loader::{CallFault, Loader, LoaderName, MOST_CALLERS, Opening, Pass, end_jobs};
+use dl_picture::Sheet;
 use dl_source::Source;
 use std::alloc::{AllocError, AllocGlobal, Global};
 use std::hash::RandomState;

@@ -1,8 +1,9 @@
 //! Histories as lines of JSON.
 
-use crate::sheet::Sheet;
+use crate::sheet::PushJson;
 use dl_desk::{FetchKey, Job, LoadReply, Outcome};
 use dl_loader::{Call, EntryKind, Event, History, Reply};
+use dl_picture::Sheet;
 use dl_values::BatchFault;
 
 /// No loader has a caller of this number.

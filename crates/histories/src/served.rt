@@ -2,7 +2,8 @@
 
 use crate::event_text::push_history;
 use crate::restless::Restless;
-use crate::sheet::Sheet;
+use crate::sheet::PushJson;
+use dl_picture::Sheet;
 use dl_scope::{Plan, Report, Setup, StepAnswer, serve};
 use dl_terms::{Answer, EvalFault};
 use dl_values::{BatchFault, FetchKey};

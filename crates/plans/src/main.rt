@@ -1,15 +1,17 @@
 //! The program `plans`: it answers the document that stands on standard input. All that it is made of is `dl_plans`.
 #![tactic(auto)]
 
-use dl_plans::{Options, Program, RunError, asked, run, run_migrate, told};
+use dl_plans::{Options, RunError, asked, run, run_migrate, told};
 use std::hash::RandomState;
 use std::io;
 use std::process::ExitCode;
+use std::random::RandomSource;
+use std::rt::Files;
 use std::sync::Wait;
 use std::thread::Threads;
 
 fn main(rt: HostRuntime) -> ExitCode {
-    let status = match asked(&rt, Program::Plans) {
+    let status = match asked(&rt) {
         Ok((options, hashing)) => told(&rt, &written(&rt, hashing, options)),
         Err(status) => status,
     };
@@ -17,7 +19,7 @@ fn main(rt: HostRuntime) -> ExitCode {
 }
 
 /// Writes what the options ask for to standard output: the document that stands on standard input as version 2, or what it gives.
-fn written<R: Input + Print + AllocGlobal + Threads + Wait + Sync>(
+fn written<R: Input + Print + AllocGlobal + Threads + Wait + Sync + Files + RandomSource>(
     rt: &R,
     hashing: RandomState,
     options: Options,

@@ -11,10 +11,12 @@ use Rattle.serde_json.specs.Data.{null, boolean, number, string, array, object, 
 use Rattle.serde_json.specs.Read.{of_json, of_items, of_members, converted}
 use Rattle.serde_json.specs.View.{view, number_view, items_view, members_view}
 use Rattle.serde_json.specs.declared.value.Value.{String, Number, Bool, Null, the_lemmas}
-use Rattle.dl_documents.proofs.TokenReading.{begun_list, begun_object, no_list, no_object, item_turn, no_item, no_more_items, one_more, after_all, member_turn, no_value, no_key, no_more_members}
+use Rattle.dl_documents.proofs.TokenReading.{begun_list, begun_object, no_list, no_object, item_turn, no_item, no_more_items, one_more, after_all}
+use Rattle.dl_documents.proofs.TokenReading.{member_turn, no_value, no_key, no_more_members}
 use Rattle.dl_documents.proofs.TreeData.{items_after, owned_push}
 use Rattle.dl_documents.proofs.owned_value.+values.Goals as goal
-use Rattle.dl_documents.proofs.owned_value.+values.Goals.{begun_value-in_default-via-in-BeginArray+else-depth-gt0, begun_value-in_default-via-in-BeginObject+else-depth-gt0-2, begun_value-in_default-via-in_default}
+use Rattle.dl_documents.proofs.owned_value.+values.Goals.{begun_value-in_default-via-in-BeginArray+else-depth-gt0}
+use Rattle.dl_documents.proofs.owned_value.+values.Goals.{begun_value-in_default-via-in-BeginObject+else-depth-gt0-2, begun_value-in_default-via-in_default}
 
 -- the value that begins with another token of the same meaning
 same_token : (depth : ℕ) (k l : Token) (ts : List Token) → k ≡ l → converted of_json (value depth (k ∷ ts)) ≡ converted of_json (value depth (l ∷ ts))
@@ -92,10 +94,12 @@ begun_value-returns-in_default-clause-err t c =
       elim c.in_default.branch [
         | begun_value-in_default-via-in-BeginArray+else-depth-gt0 w ↦ (
             let flat : c.args.depth ≡ 0 = omega arith in
-            same_token c.args.depth _ Token.begin_array r (ap token_of w.in-BeginArray.is) ∙ ap (λ n. converted of_json (value n (Token.begin_array ∷ r))) flat ∙ no_list r)
+            same_token c.args.depth _ Token.begin_array r (ap token_of w.in-BeginArray.is)
+            ∙ ap (λ n. converted of_json (value n (Token.begin_array ∷ r))) flat ∙ no_list r)
         | begun_value-in_default-via-in-BeginObject+else-depth-gt0-2 w ↦ (
             let flat : c.args.depth ≡ 0 = omega arith in
-            same_token c.args.depth _ Token.begin_object r (ap token_of w.in-BeginObject.is) ∙ ap (λ n. converted of_json (value n (Token.begin_object ∷ r))) flat ∙ no_object r)
+            same_token c.args.depth _ Token.begin_object r (ap token_of w.in-BeginObject.is)
+            ∙ ap (λ n. converted of_json (value n (Token.begin_object ∷ r))) flat ∙ no_object r)
         | begun_value-in_default-via-in_default w ↦ (
             let other = w.in_default in
             unopened c.args.depth c.args.token r other.not-BeginObject other.not-BeginArray other.not-String other.not-Number other.not-Bool other.not-Null)
@@ -124,7 +128,8 @@ begun_value-returns-in_err-read_members-in-BeginObject-clause-err t c =
       | inl memory ↦ inl memory
       | inr bad ↦ inr (
         bad.0,
-        same_token c.args.depth _ Token.begin_object r (ap token_of c.in-BeginObject.is) ∙ begun_object c.args.depth r (omega arith) ∙ ap (parse_map object) bad.1,
+        same_token c.args.depth _ Token.begin_object r (ap token_of c.in-BeginObject.is) ∙ begun_object c.args.depth r (omega arith)
+            ∙ ap (parse_map object) bad.1,
       )
     ])
 
@@ -173,8 +178,10 @@ read_items-items-preserved t c =
     record {
       turns = n - 1;
       enough = omega arith;
-      read = l.invariant.read ∙ ap (parse_map (items_after (items_view l.found.items))) turn ∙ one_more (items_view l.found.items) (view v) (converted of_items (items p (n - 1) r))
-          ∙ ap (λ xs. parse_map (items_after xs) (converted of_items (items p (n - 1) r))) (sym (ap items_view c.in_ok-push.ensures.items ∙ owned_push l.found.items v));
+      read = l.invariant.read ∙ ap (parse_map (items_after (items_view l.found.items))) turn
+          ∙ one_more (items_view l.found.items) (view v) (converted of_items (items p (n - 1) r))
+          ∙ ap (λ xs. parse_map (items_after xs) (converted of_items (items p (n - 1) r)))
+          (sym (ap items_view c.in_ok-push.ensures.items ∙ owned_push l.found.items v));
       within = omega arith;
     }
 
@@ -225,7 +232,8 @@ read_members-members-preserved t c =
     let lesser = c.in_ok-member.ensures.shorter in
     let copied : string_bytes c.in_ok-name-2.name ≡ k = search rules in
     let inserted : members_view c.insert.new.self.entries ≡ put k (view v) old =
-    ap members_view c.in_ok-insert.ensures.entries ∙ members_view-insert_entry l.found.entries c.in_ok-name-2.name v ∙ ap (λ name. put name (view v) old) copied in
+    ap members_view c.in_ok-insert.ensures.entries ∙ members_view-insert_entry l.found.entries c.in_ok-name-2.name v
+    ∙ ap (λ name. put name (view v) old) copied in
     record {
       turns = n - 1;
       enough = omega arith;
@@ -237,4 +245,5 @@ read_members-members-preserved t c =
 pub read_members-returns-clause-ok : goal.read_members-returns-clause-ok
 read_members-returns-clause-ok t c =
     let l = c.members in
-    l.invariant.read ∙ no_more_members (value c.args.depth) (members_view l.found.entries) l.invariant.turns l.reader c.next_key.new.self l.invariant.enough (grind arith)
+    l.invariant.read ∙ no_more_members (value c.args.depth) (members_view l.found.entries) l.invariant.turns l.reader c.next_key.new.self l.invariant.enough
+    (grind arith)

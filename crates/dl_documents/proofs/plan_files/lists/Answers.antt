@@ -34,6 +34,7 @@ items-preserved c =
 pub returns-clause-ok : goal.returns-clause-ok
 returns-clause-ok c =
     let l = c.items in
-    let all = all_yielded l.yielded (into_iter_items l.item-iterator) c.args.items.items l.invariant.order (sym l.invariant.count ∙ c.in-None.ensures.steps.0) in
+    let all = all_yielded l.yielded (into_iter_items l.item-iterator) c.args.items.items l.invariant.order
+    (sym l.invariant.count ∙ c.in-None.ensures.steps.0) in
     let read : SpellLists c.args.items.items l.lists.items = rw all at l.invariant.so_far in
     read.trees

@@ -12,7 +12,8 @@ returns-in_err-step-2-clause-err c =
     let rest = into_iter_items c.next.new.self in
     let is : l.yielded ++ c.in-Some.item ∷ rest ≡ c.args.items.items = rw (← c.in-Some.ensures.steps.0) l.invariant.order in
     let bad : c.from_residual-in_err-step-2.result ≡ Err (Shape c.args.number c.len-in-items.result) = search rules in
-    rw bad (inr (steps_stop c.args.number l.yielded c.in-Some.item rest c.args.items.items l.steps.items c.len-in-items.result is (search rules) l.invariant.so_far
+    rw bad (inr (steps_stop c.args.number l.yielded c.in-Some.item rest c.args.items.items l.steps.items c.len-in-items.result is (search rules)
+    l.invariant.so_far
     (search rules)))
 
 pub items-preserved : goal.items-preserved
@@ -42,6 +43,7 @@ returns-in_err-push-clause-ok c = IfOk-from_err _ _ c.from_residual-in_err-push.
 pub returns-clause-ok : goal.returns-clause-ok
 returns-clause-ok c =
     let l = c.items in
-    let all = all_yielded l.yielded (into_iter_items l.item-iterator) c.args.items.items l.invariant.order (sym l.invariant.count ∙ c.in-None.ensures.steps.0) in
+    let all = all_yielded l.yielded (into_iter_items l.item-iterator) c.args.items.items l.invariant.order
+    (sym l.invariant.count ∙ c.in-None.ensures.steps.0) in
     let read : SpellSteps c.args.items.items l.steps.items = rw all at l.invariant.so_far in
     record { trees = read.trees; steps = read.all }

@@ -40,6 +40,7 @@ returns-in_err-push-clause-ok c = IfOk-from_err _ _ c.from_residual-in_err-push.
 pub returns-clause-ok : goal.returns-clause-ok
 returns-clause-ok c =
     let l = c.lists in
-    let all = all_yielded l.yielded (into_iter_items l.list-iterator) c.args.lists.items l.invariant.order (sym l.invariant.count ∙ c.in-None.ensures.steps.0) in
+    let all = all_yielded l.yielded (into_iter_items l.list-iterator) c.args.lists.items l.invariant.order
+    (sym l.invariant.count ∙ c.in-None.ensures.steps.0) in
     let read : SpellPlans c.args.lists.items l.plans.items = rw all at l.invariant.so_far in
     record { trees = read.trees; steps = read.all }

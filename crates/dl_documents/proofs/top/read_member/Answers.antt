@@ -28,7 +28,8 @@ returns-in_ok-push-clause-ok c =
     let put_last = ap object_data c.in_ok-push.ensures.items ∙ data_last old.members.items m in (
       tree_data c.in_ok-value.value,
       c.in_ok-value.ensures.ok,
-      ap (with_tables old.tables) put_last ∙ sym (with_member old.tables c.args.name.now (tree_data c.in_ok-value.value) (object_data old.members.items) differs),
+      ap (with_tables old.tables) put_last
+          ∙ sym (with_member old.tables c.args.name.now (tree_data c.in_ok-value.value) (object_data old.members.items) differs),
     )
 
 pub returns-in_ok-push-clause-apart : goal.returns-in_ok-push-clause-apart

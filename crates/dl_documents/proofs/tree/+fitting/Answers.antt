@@ -12,14 +12,16 @@ pub has_fitting_numbers-returns-in-Object : goal.has_fitting_numbers-returns-in-
 has_fitting_numbers-returns-in-Object t c =
     let ms = members_view c.in-Object.members.items in
     let seen : value_view c.args.tree.now ≡ json.object ms = ap value_view c.in-Object.is ∙ view-Object c.in-Object.members in
-    c.members_fit.ensures ∙ ap (λ xs. is_some (of_members (members_view xs) no_members)) c.deref-in-Object.ensures.value ∙ sym (ap (λ j. is_some (of_json j)) seen ∙ map_fits object (of_members ms no_members))
+    c.members_fit.ensures ∙ ap (λ xs. is_some (of_members (members_view xs) no_members)) c.deref-in-Object.ensures.value
+    ∙ sym (ap (λ j. is_some (of_json j)) seen ∙ map_fits object (of_members ms no_members))
 
 pub items_fit-returns-then-not-has_fitting_numbers : goal.items_fit-returns-then-not-has_fitting_numbers
 items_fit-returns-then-not-has_fitting_numbers t c =
     let l = c.items in
     let xs = c.args.items.now in
     let x = c.item-item.result in
-    let here : drop l.item-index xs ≡ x ∷ drop (l.item-index + 1) xs = drop_more xs l.item-index x (omega arith) ∙ ap (λ y. y ∷ drop (l.item-index + 1) xs) (sym c.item-item.is) in
+    let here : drop l.item-index xs ≡ x ∷ drop (l.item-index + 1) xs = drop_more xs l.item-index x (omega arith)
+    ∙ ap (λ y. y ∷ drop (l.item-index + 1) xs) (sym c.item-item.is) in
     let rest = items_view (drop (l.item-index + 1) xs) in
     let no : false ≡ is_some (of_json (value_view x)) = c.if-not-has_fitting_numbers.ensures in
     ap (λ b. b && is_some (of_items rest)) no ∙ sym (item_fits (value_view x) rest) ∙ sym (ap (λ ys. is_some (of_items (items_view ys))) here) ∙ l.invariant
@@ -29,7 +31,8 @@ items_fit-items-preserved t c =
     let l = c.items in
     let xs = c.args.items.now in
     let x = c.item-item.result in
-    let here : drop l.item-index xs ≡ x ∷ drop (l.item-index + 1) xs = drop_more xs l.item-index x (omega arith) ∙ ap (λ y. y ∷ drop (l.item-index + 1) xs) (sym c.item-item.is) in
+    let here : drop l.item-index xs ≡ x ∷ drop (l.item-index + 1) xs = drop_more xs l.item-index x (omega arith)
+    ∙ ap (λ y. y ∷ drop (l.item-index + 1) xs) (sym c.item-item.is) in
     let rest = items_view (drop (l.item-index + 1) xs) in
     let yes : true ≡ is_some (of_json (value_view x)) = c.if-not-has_fitting_numbers.ensures in
     ap (λ b. b && is_some (of_items rest)) yes ∙ sym (item_fits (value_view x) rest) ∙ sym (ap (λ ys. is_some (of_items (items_view ys))) here) ∙ l.invariant
@@ -39,17 +42,21 @@ members_fit-returns-then-not-has_fitting_numbers t c =
     let l = c.members in
     let xs = c.args.members.now in
     let x = c.member-item.result in
-    let here : drop l.member-index xs ≡ x ∷ drop (l.member-index + 1) xs = drop_more xs l.member-index x (omega arith) ∙ ap (λ y. y ∷ drop (l.member-index + 1) xs) (sym c.member-item.is) in
+    let here : drop l.member-index xs ≡ x ∷ drop (l.member-index + 1) xs = drop_more xs l.member-index x (omega arith)
+    ∙ ap (λ y. y ∷ drop (l.member-index + 1) xs) (sym c.member-item.is) in
     let rest = members_view (drop (l.member-index + 1) xs) in
     let no : false ≡ is_some (of_json (value_view x.1)) = c.if-not-has_fitting_numbers.ensures in
-    ap (λ b. b && is_some (of_members rest no_members)) no ∙ sym (member_fits x.0.now (value_view x.1) rest) ∙ sym (ap (λ ys. is_some (of_members (members_view ys) no_members)) here) ∙ l.invariant
+    ap (λ b. b && is_some (of_members rest no_members)) no ∙ sym (member_fits x.0.now (value_view x.1) rest)
+    ∙ sym (ap (λ ys. is_some (of_members (members_view ys) no_members)) here) ∙ l.invariant
 
 pub members_fit-members-preserved : goal.members_fit-members-preserved
 members_fit-members-preserved t c =
     let l = c.members in
     let xs = c.args.members.now in
     let x = c.member-item.result in
-    let here : drop l.member-index xs ≡ x ∷ drop (l.member-index + 1) xs = drop_more xs l.member-index x (omega arith) ∙ ap (λ y. y ∷ drop (l.member-index + 1) xs) (sym c.member-item.is) in
+    let here : drop l.member-index xs ≡ x ∷ drop (l.member-index + 1) xs = drop_more xs l.member-index x (omega arith)
+    ∙ ap (λ y. y ∷ drop (l.member-index + 1) xs) (sym c.member-item.is) in
     let rest = members_view (drop (l.member-index + 1) xs) in
     let yes : true ≡ is_some (of_json (value_view x.1)) = c.if-not-has_fitting_numbers.ensures in
-    ap (λ b. b && is_some (of_members rest no_members)) yes ∙ sym (member_fits x.0.now (value_view x.1) rest) ∙ sym (ap (λ ys. is_some (of_members (members_view ys) no_members)) here) ∙ l.invariant
+    ap (λ b. b && is_some (of_members rest no_members)) yes ∙ sym (member_fits x.0.now (value_view x.1) rest)
+    ∙ sym (ap (λ ys. is_some (of_members (members_view ys) no_members)) here) ∙ l.invariant

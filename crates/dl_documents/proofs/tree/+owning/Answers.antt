@@ -18,7 +18,8 @@ into_map-into_value-requires t c =
     let m = c.in-Some.member in
     let rest = into_iter_items c.next.new.self in
     let is : l.yielded ++ m ∷ rest ≡ c.args.members.items = rw (← c.in-Some.ensures.steps.0) l.invariant.order in
-    let smaller : length (json_tokens (value_view m.1)) < length (members_tokens (tree.members_view c.args.members.items)) = rw (← is) (member_smaller l.yielded m rest) in
+    let smaller : length (json_tokens (value_view m.1)) < length (members_tokens (tree.members_view c.args.members.items)) =
+    rw (← is) (member_smaller l.yielded m rest) in
     search rules
 
 pub into_list-into_value-requires : goal.into_list-into_value-requires
@@ -27,7 +28,8 @@ into_list-into_value-requires t c =
     let x = c.in-Some.item in
     let rest = into_iter_items c.next.new.self in
     let is : l.yielded ++ x ∷ rest ≡ c.args.items.items = rw (← c.in-Some.ensures.steps.0) l.invariant.order in
-    let smaller : length (json_tokens (value_view x)) < length (items_tokens (tree.items_view c.args.items.items)) = rw (← is) (item_smaller l.yielded x rest) in
+    let smaller : length (json_tokens (value_view x)) < length (items_tokens (tree.items_view c.args.items.items)) =
+    rw (← is) (item_smaller l.yielded x rest) in
     search rules
 
 pub into_list-items-preserved : goal.into_list-items-preserved
@@ -36,7 +38,8 @@ into_list-items-preserved t c =
     let steps : into_iter_items l.item-iterator ≡ c.in-Some.item ∷ into_iter_items c.next.new.self = c.in-Some.ensures.steps.0 in
     record {
       order = append_assoc l.yielded (c.in-Some.item ∷ []) _ ∙ rw (← steps) l.invariant.order;
-      so_far = rw c.in_ok-push.ensures.items (items_push l.list.items l.yielded c.in_ok-into_value.field-0 c.in-Some.item l.invariant.so_far c.in_ok-into_value.ensures);
+      so_far = rw c.in_ok-push.ensures.items
+          (items_push l.list.items l.yielded c.in_ok-into_value.field-0 c.in-Some.item l.invariant.so_far c.in_ok-into_value.ensures);
       count = (
           let was = l.invariant.count in
           let gone = c.in-Some.ensures.steps.1 in
@@ -47,7 +50,8 @@ into_list-items-preserved t c =
 pub into_list-returns : goal.into_list-returns
 into_list-returns t c =
     let l = c.items in
-    let all = all_yielded l.yielded (into_iter_items l.item-iterator) c.args.items.items l.invariant.order (sym l.invariant.count ∙ c.in-None.ensures.steps.0) in
+    let all = all_yielded l.yielded (into_iter_items l.item-iterator) c.args.items.items l.invariant.order
+    (sym l.invariant.count ∙ c.in-None.ensures.steps.0) in
     l.invariant.so_far ∙ ap list_data all
 
 pub into_map-members-preserved : goal.into_map-members-preserved
@@ -71,5 +75,6 @@ into_map-members-preserved t c =
 pub into_map-returns : goal.into_map-returns
 into_map-returns t c =
     let l = c.members in
-    let all = all_yielded l.yielded (into_iter_items l.member-iterator) c.args.members.items l.invariant.order (sym l.invariant.count ∙ c.in-None.ensures.steps.0) in
+    let all = all_yielded l.yielded (into_iter_items l.member-iterator) c.args.members.items l.invariant.order
+    (sym l.invariant.count ∙ c.in-None.ensures.steps.0) in
     l.invariant.so_far ∙ ap object_data all

@@ -1,18 +1,20 @@
 use Rattle.std.proofs.Common.{rules, ◌∙◌, sym, codes}
-use Rattle.clap.proofs.WalkLemmas.{one_text-rows}
+use Rattle.clap.proofs.WalkLemmas.{first_value-rows, one_text-rows}
 use Rattle.clap.specs.Words.{found_of}
 use Rattle.dl_plans.proofs.CommandMatches.{number_given, name_used}
 use Rattle.dl_plans.proofs.command.given.Goals as goal
 
 pub returns : goal.returns
 returns c =
+    let found = found_of c.args.matches.now in
     record {
-      workers = number_given (found_of c.args.matches.now) (codes "workers") c.in_ok-workers.workers c.in_ok-workers.ensures.none
-          (λ t e. let k = c.in_ok-workers.ensures.value t e in record { numeral = search rules; value = search rules });
+      workers = number_given found (codes "workers") c.in-Some.workers c.in-Some.ensures.none
+          (λ t e. let k = c.in-Some.ensures.value t e in record { numeral = search rules; value = search rules });
       least = search rules;
       most = search rules;
-      batches = λ e. c.get_flag.ensures.value (one_text-rows (found_of c.args.matches.now) (codes "batches") ∙ e);
-      no_batches = λ e. c.get_flag.ensures.other (one_text-rows (found_of c.args.matches.now) (codes "batches") ∙ e);
+      batches = λ e. c.get_flag.ensures.value (one_text-rows found (codes "batches") ∙ e);
+      no_batches = λ e. c.get_flag.ensures.other (one_text-rows found (codes "batches") ∙ e);
+      picture = c.in_ok-copied.ensures ∙ (c.get_str.ensures ∙ first_value-rows found (codes "picture"));
       migrate = (
         λ is. name_used c.args.matches.now ∙ c.subcommand_matches.ensures.found.0 (sym c.is_some.ensures ∙ is),
         λ named. c.is_some.ensures ∙ c.subcommand_matches.ensures.found.1 (sym (name_used c.args.matches.now) ∙ named),

@@ -1,24 +1,27 @@
-use Rattle.std.proofs.Common.{rules, string_bytes, ◌≡◌, Err}
+use Rattle.std.proofs.Common.{rules, string_bytes, ◌≡◌, ◌⊎◌, inl, inr, Err}
 use Rattle.dl_plans.specs.Run.{IsOutput, IsRefused}
-use Rattle.dl_plans.proofs.Runs.{output_all, refused_all, run_ok, run_refused, run_writes_front}
+use Rattle.dl_plans.specs.declared.fault.RunError.{RunError}
+use Rattle.dl_plans.specs.declared.fault.RunError.TheVariants as error
+use Rattle.dl_plans.proofs.Runs.{output_all, refused_all, run_ok, run_refused, run_writes_front, front_of_none}
 use Rattle.dl_plans.proofs.document.run.Goals as goal
 
-pub returns-in_err-text-clause-refused : goal.returns-in_err-text-clause-refused
-returns-in_err-text-clause-refused g c =
-    let same : c.from_residual-in_err-text.result ≡ Err c.in_err-text.field-0.0 = search rules in
-    rw same (run_refused (IsRefused c.args.options) (refused_all c.args.options) (g.R.Read.remaining c.args.reader.now) c.in_ok-bytes.bytes.items c.in_err-text.field-0.0 c.in_ok-bytes.ensures.bytes
-    c.in_err-text.ensures.err)
+pub returns-in_err-given-clause-refused : goal.returns-in_err-given-clause-refused
+returns-in_err-given-clause-refused g c =
+    let same : c.from_residual-in_err-given.result ≡ Err c.in_err-given.field-0.0 = search rules in
+    rw same
+    (run_refused (IsRefused c.args.options) (refused_all c.args.options) (g.R.Read.remaining c.args.reader.now) c.in_ok-bytes.bytes.items
+    c.in_err-given.field-0.0 c.in_ok-bytes.ensures.bytes c.in_err-given.ensures.err)
 
 pub returns-clause-ok : goal.returns-clause-ok
 returns-clause-ok g c =
-    let output : IsOutput c.args.options c.in_ok-bytes.bytes.items (string_bytes c.in_ok-text.text) = c.in_ok-text.ensures.ok in
-    run_ok (IsOutput c.args.options) (output_all c.args.options) c.write_all.result (g.R.Read.remaining c.args.reader.now) c.in_ok-bytes.bytes.items (string_bytes c.in_ok-text.text)
-    (g.W.Write.contents c.args.writer.now) (g.W.Write.contents c.write_all.new.writer) c.in_ok-bytes.ensures.bytes output
-    (rw c.as_bytes.ensures.value at c.write_all.ensures.ok)
+    let output : IsOutput c.args.options c.in_ok-bytes.bytes.items (string_bytes c.in_ok-given.given.text) = c.in_ok-given.ensures.ok in
+    run_ok (IsOutput c.args.options) (output_all c.args.options) c.write_all.result (g.R.Read.remaining c.args.reader.now) c.in_ok-bytes.bytes.items
+    (string_bytes c.in_ok-given.given.text) (g.W.Write.contents c.args.writer.now) (g.W.Write.contents c.write_all.new.writer)
+    c.in_ok-bytes.ensures.bytes output (rw c.as_bytes.ensures.value at c.write_all.ensures.ok)
 
 pub returns-clause-write : goal.returns-clause-write
 returns-clause-write g c = λ failed.
-    let output : IsOutput c.args.options c.in_ok-bytes.bytes.items (string_bytes c.in_ok-text.text) = c.in_ok-text.ensures.ok in
-    run_writes_front (IsOutput c.args.options) (output_all c.args.options) (g.R.Read.remaining c.args.reader.now) c.in_ok-bytes.bytes.items (string_bytes c.in_ok-text.text)
-    (g.W.Write.contents c.args.writer.now) (g.W.Write.contents c.write_all.new.writer) c.in_ok-bytes.ensures.bytes output
-    (rw c.as_bytes.ensures.value at c.write_all.ensures.front)
+    let output : IsOutput c.args.options c.in_ok-bytes.bytes.items (string_bytes c.in_ok-given.given.text) = c.in_ok-given.ensures.ok in
+    run_writes_front (IsOutput c.args.options) (output_all c.args.options) (g.R.Read.remaining c.args.reader.now) c.in_ok-bytes.bytes.items
+    (string_bytes c.in_ok-given.given.text) (g.W.Write.contents c.args.writer.now) (g.W.Write.contents c.write_all.new.writer)
+    c.in_ok-bytes.ensures.bytes output (rw c.as_bytes.ensures.value at c.write_all.ensures.front)

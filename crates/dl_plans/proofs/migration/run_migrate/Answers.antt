@@ -7,7 +7,8 @@ use Rattle.dl_plans.proofs.migration.run_migrate.Goals as goal
 pub returns-in_err-text-clause-refused : goal.returns-in_err-text-clause-refused
 returns-in_err-text-clause-refused g c =
     let same : c.from_residual-in_err-text.result ≡ Err c.in_err-text.field-0.0 = search rules in
-    rw same (run_refused IsNotMigrated not_migrated_all (g.R.Read.remaining c.args.reader.now) c.in_ok-bytes.bytes.items c.in_err-text.field-0.0 c.in_ok-bytes.ensures.bytes
+    rw same (run_refused IsNotMigrated not_migrated_all
+    (g.R.Read.remaining c.args.reader.now) c.in_ok-bytes.bytes.items c.in_err-text.field-0.0 c.in_ok-bytes.ensures.bytes
     (rw c.deref.ensures.value at c.in_err-text.ensures.err))
 
 pub returns-clause-ok : goal.returns-clause-ok
