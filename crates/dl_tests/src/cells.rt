@@ -2,9 +2,10 @@
 ghost use Rattle.std.specs.Prelude.{◌≡◌, ◌<◌};
 ghost use Rattle.dl_cells.specs.Cells.{row_len, cell_of};
 
-use crate::comparison::assert_is;
+use crate::assert_is;
 use dl_cells::{CellRow, Reader};
 use std::alloc::Global;
+use std::io::Eprint;
 use std::process::Abort;
 use std::sync::Arc;
 use std::thread::{self, Threads};
@@ -47,18 +48,18 @@ static ROWS: [(u32, u32, u32, u8); 3] = [
 ];
 
 /// A cell shows nothing, then the value, and no other after it, also to a fresh reader. Another cell stays empty.
-fn assert_answers(rt: &impl Abort, row: &CellRow<u8>, place: u32, value: u8)
+fn assert_answers(rt: &(impl Abort + Eprint), row: &CellRow<u8>, place: u32, value: u8)
     requires { place < row_len row.now }
 {
     let mut cell = Watched::new(rt, row, place);
-    assert_is(rt, &cell.look(), &None, "before it is set");
-    assert_is(rt, &cell.show(value), &None, "what came back");
-    assert_is(rt, &cell.look(), &Some(value), "what is shown");
+    assert_is!(rt, &cell.look(), &None, "before it is set");
+    assert_is!(rt, &cell.show(value), &None, "what came back");
+    assert_is!(rt, &cell.look(), &Some(value), "what is shown");
     let other = value.wrapping_add(1);
-    assert_is(rt, &cell.show(other), &Some(other), "what came back then");
-    assert_is(rt, &cell.look(), &Some(value), "what is shown still");
+    assert_is!(rt, &cell.show(other), &Some(other), "what came back then");
+    assert_is!(rt, &cell.look(), &Some(value), "what is shown still");
     let fresh = Watched::new(rt, row, place).look();
-    assert_is(rt, &fresh, &Some(value), "by a fresh reader");
+    assert_is!(rt, &fresh, &Some(value), "by a fresh reader");
 }
 
 #[test]
@@ -67,10 +68,10 @@ fn cells_answer(rt: HostRuntime) {
         let row = CellRow::new(rt.alloc(), *len).expect(&rt, "no memory");
         assert!(rt; *place < *len && *other < *len);
         let mut beside = Watched::new(&rt, &row, *other);
-        assert_is(&rt, &beside.look(), &None, "the other before");
+        assert_is!(&rt, &beside.look(), &None, "the other before");
         assert_answers(&rt, &row, *place, *value);
         let want = (*place == *other).then_some(*value);
-        assert_is(&rt, &beside.look(), &want, "the other after");
+        assert_is!(&rt, &beside.look(), &want, "the other after");
     }
 }
 
@@ -84,20 +85,20 @@ fn show_copy(rt: &impl Abort, row: &CellRow<Arc<u8>>, place: u32, value: &Arc<u8
 }
 
 /// Shows copies of the value in a new row: in each of two cells one, and one that comes back.
-fn show_copies(rt: &impl Abort, alloc: Global, value: &Arc<u8>) {
+fn show_copies(rt: &(impl Abort + Eprint), alloc: Global, value: &Arc<u8>) {
     let row = CellRow::new(alloc, 65).expect(rt, "no memory");
     assert!(rt; show_copy(rt, &row, 0, value));
     assert!(rt; !show_copy(rt, &row, 0, value));
     assert!(rt; show_copy(rt, &row, 64, value));
     assert!(rt; !show_copy(rt, &row, 64, value));
-    assert_is(rt, &Arc::strong_count(value), &3, "two that are shown");
+    assert_is!(rt, &Arc::strong_count(value), &3, "two that are shown");
 }
 
 #[test]
 fn each_value_is_dropped_once(rt: HostRuntime) {
     let counted = Arc::new(rt.alloc(), 0u8).expect(&rt, "no memory");
     show_copies(&rt, rt.alloc(), &counted);
-    assert_is(&rt, &Arc::strong_count(&counted), &1, "none that is shown");
+    assert_is!(&rt, &Arc::strong_count(&counted), &1, "none that is shown");
 }
 
 /// What a copy of a cell's reader sees.
@@ -110,10 +111,10 @@ fn look_again(cell: &Watched<'_>) -> Option<u8> {
 fn threads_look_by_one_shared_reader(rt: HostRuntime) {
     let row = CellRow::new(rt.alloc(), 1).expect(&rt, "no memory");
     let mut cell = Watched::new(&rt, &row, 0);
-    assert_is(&rt, &cell.show(3), &None, "what came back");
+    assert_is!(&rt, &cell.show(3), &None, "what came back");
     let shared = &cell;
     let seen = thread::join(&rt, move || look_again(shared), move || look_again(shared));
-    assert_is(&rt, &seen, &(Some(3), Some(3)), "what is seen");
+    assert_is!(&rt, &seen, &(Some(3), Some(3)), "what is seen");
 }
 
 /// Shows a value in cell 0, and then looks, by a reader of its own: whether the value was set, and what is seen.
@@ -127,7 +128,7 @@ fn show_and_look(rt: &impl Abort, row: &CellRow<u8>, value: u8) -> (bool, Option
 
 /// Two threads race to set one cell, one to 5 and one to 6. One of them wins. Who sees a value sees its value, and the other
 /// thread may look while it is still being set.
-fn race<R: Abort + Threads + Sync>(rt: &R, alloc: Global) {
+fn race<R: Abort + Eprint + Threads + Sync>(rt: &R, alloc: Global) {
     let row = CellRow::new(alloc, 1).expect(rt, "no memory");
     let shared = &row;
     let ((is_five, first), (is_six, second)) = thread::join(
@@ -145,7 +146,7 @@ fn race<R: Abort + Threads + Sync>(rt: &R, alloc: Global) {
         assert!(rt; seen.is_none_or(|value| value == won));
     }
     let fresh = Watched::new(rt, shared, 0).look();
-    assert_is(rt, &fresh, &Some(won), "what is seen after both");
+    assert_is!(rt, &fresh, &Some(won), "what is seen after both");
 }
 
 #[test]

@@ -1,12 +1,11 @@
 //! Keys, texts, values and limits of tables.
 
-use crate::comparison::assert_is;
 use crate::refused::Stage;
+use crate::{assert_is, json, made, made_once, outcome_text};
 use dl_desk::{
     BatchFault, FetchKey, Job, Json, KeyFault, Keys, List, Message, Outcome, TableLimit,
     TableLimitFault, TableLimits, Text,
 };
-use dl_fixtures::{json, made, made_once, outcome_text};
 use serde_json::Value;
 use std::io::Eprint;
 use std::process::Abort;
@@ -34,8 +33,8 @@ impl<R: Abort + Eprint> Stage<'_, R> {
         let limits = self.limit_of("t", 7);
         let copy = made_once!(self, "TableLimits::try_copy", limits.try_copy());
         let copy = copy.expect(self.rt, "no copy");
-        assert_is(self.rt, &copy.limit("t"), &Some(7), "a limit");
-        assert_is(self.rt, &copy.limit("s"), &None, "no limit");
+        assert_is!(self.rt, &copy.limit("t"), &Some(7), "a limit");
+        assert_is!(self.rt, &copy.limit("s"), &None, "no limit");
     }
 
     fn use_keys(&self) {
@@ -76,7 +75,7 @@ impl<R: Abort + Eprint> Stage<'_, R> {
         let text = text.expect(self.rt, "no text");
         let copy = made!(self, "Text::try_copy", Err(_), text.try_copy());
         let copy = copy.expect(self.rt, "no copy");
-        assert_is(self.rt, &copy.as_str(), &"db", "a copy");
+        assert_is!(self.rt, &copy.as_str(), &"db", "a copy");
         let marked = made!(
             self,
             "Text::marked",
@@ -84,7 +83,7 @@ impl<R: Abort + Eprint> Stage<'_, R> {
             Text::marked(self.alloc, b'd', "b", " down")
         );
         let marked = marked.expect(self.rt, "no text");
-        assert_is(self.rt, &marked.as_str(), &"db down", "two texts");
+        assert_is!(self.rt, &marked.as_str(), &"db down", "two texts");
     }
 
     /// Makes a value and its text.
@@ -100,7 +99,7 @@ impl<R: Abort + Eprint> Stage<'_, R> {
         let copy = copy.expect(self.rt, "no copy");
         let text = made!(self, "Json::to_text", Err(_), copy.to_text(self.alloc));
         let text = text.expect(self.rt, "no text");
-        assert_is(self.rt, &text.as_str(), &"true", "a value");
+        assert_is!(self.rt, &text.as_str(), &"true", "a value");
     }
 
     /// Takes a value out while another shares it.
@@ -135,7 +134,7 @@ impl<R: Abort + Eprint> Stage<'_, R> {
         let copy = made_once!(self, "Outcome::try_copy", outcome.try_copy());
         let copy = copy.expect(self.rt, "no copy");
         let text = outcome_text(self.alloc, &copy).expect(self.rt, "no memory");
-        assert_is(self.rt, &text.as_str(), &"batch db down", "an outcome");
+        assert_is!(self.rt, &text.as_str(), &"batch db down", "an outcome");
     }
 
     /// The limit of one table.

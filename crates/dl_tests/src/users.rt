@@ -1,7 +1,7 @@
-//! The tables of users that the worked rows read from, and how an outcome is written in them.
+//! The tables of users that the worked rows read from, and how values and outcomes are written in them.
 
 use dl_source::Tables;
-use dl_values::{BatchFault, Outcome};
+use dl_values::{BatchFault, Json, Outcome, has_float};
 use serde_json::Value;
 use std::alloc::{AllocError, Global};
 use std::hash::RandomState;
@@ -23,6 +23,15 @@ pub const BOB: &str = r#"{"best":"u1","friends":[],"name":"Bob"}"#;
 pub fn tables(alloc: Global, hashing: RandomState, text: &str) -> Option<Tables> {
     let value = Value::from_str(alloc, text).ok()?;
     Tables::from_value(alloc, hashing, &value).ok()
+}
+
+/// The value that a JSON text spells, if it spells one without a float and there is memory for it.
+pub fn json(alloc: Global, text: &str) -> Option<Json> {
+    let value = Value::from_str(alloc, text).ok()?;
+    if has_float(&value) {
+        return None;
+    }
+    Json::new(alloc, value).ok()
 }
 
 /// The text of an outcome: of a value its JSON, else what failed and why.

@@ -5,7 +5,7 @@ use Rattle.dl_values.specs.declared.outcome.BatchAnswer.{BatchAnswer}
 use Rattle.dl_source.specs.Source.{IsFor}
 use Rattle.dl_source.specs.Answer.{answer_of}
 use Rattle.dl_source.specs.AnswerFits.{answer_fits}
-use Rattle.dl_fixtures.specs.declared.counted_tables.CountedTables.{CountedTables}
+use Rattle.dl_tests.specs.declared.counted_tables.CountedTables.{CountedTables}
 
 -- what the tables answer, however often they were asked
 abbrev pub answer_counted : CountedTables → List Key → BatchAnswer

@@ -1,9 +1,8 @@
 //! Terms that are explored round by round.
 
-use crate::comparison::{assert_ids, assert_is};
 use crate::refused::Stage;
+use crate::{ADA, BOB, FRIENDS, assert_is, ids_text, json, made, term};
 use dl_desk::{FetchKey, Outcome};
-use dl_fixtures::{ADA, BOB, FRIENDS, json, made, term};
 use dl_terms::{Answer, Asked, Node, Term, explore, unexplored};
 use std::io::Eprint;
 use std::process::Abort;
@@ -12,7 +11,7 @@ use std::process::Abort;
 static USERS: [(&str, &str); 3] = [("u1", ADA), ("u2", BOB), ("u3", r#"{"name":"Cy"}"#)];
 
 /// How many of the users are known in each round of the friends of `u1`, and the ids that are wanted then.
-static ROUNDS: [(usize, &[&str]); 3] = [(0, &["u1"]), (1, &["u2", "u3"]), (3, &[])];
+static ROUNDS: [(usize, &str); 3] = [(0, "u1"), (1, "u2 u3"), (3, "")];
 
 /// What the friends of `u1` give.
 const ANSWER: &str = r#"[{"best":"u1","friends":[],"name":"Bob"},{"name":"Cy"}]"#;
@@ -30,7 +29,7 @@ impl<R: Abort + Eprint> Stage<'_, R> {
 
     /// The term of the friends of `u1`.
     fn friends(&self) -> Term {
-        term(self.alloc, &FRIENDS).expect(self.rt, "no term")
+        term(self.alloc, self.hashing, FRIENDS).expect(self.rt, "no term")
     }
 
     /// The outcomes of the users.
@@ -61,7 +60,8 @@ impl<R: Abort + Eprint> Stage<'_, R> {
         if self.refusal.is_again(self.rt, "explore", explored.is_err()) {
             return false;
         }
-        assert_ids(self.rt, asked.wanted(), want);
+        let ids = ids_text(self.alloc, asked.wanted()).expect(self.rt, "no memory");
+        assert_is!(self.rt, &ids.as_str(), want, "the ids");
         if let Some(answer) = node.take_answer() {
             self.assert_answer(&answer);
         }
@@ -80,7 +80,7 @@ impl<R: Abort + Eprint> Stage<'_, R> {
             value.to_text(self.alloc)
         );
         let text = text.expect(self.rt, "no text");
-        assert_is(self.rt, &text.as_str(), &ANSWER, "the answer");
+        assert_is!(self.rt, &text.as_str(), &ANSWER, "the answer");
         let json = made!(
             self,
             "AnswerValue::to_json",
@@ -89,7 +89,7 @@ impl<R: Abort + Eprint> Stage<'_, R> {
         );
         let json = json.expect(self.rt, "no value");
         let text = json.to_text(self.alloc).expect(self.rt, "no memory");
-        assert_is(self.rt, &text.as_str(), &ANSWER, "the answer as one value");
+        assert_is!(self.rt, &text.as_str(), &ANSWER, "the answer as one value");
     }
 
     /// Learns outcomes, behind those that are known, until so many are.

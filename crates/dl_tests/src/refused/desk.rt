@@ -1,11 +1,10 @@
 //! Desks: a call that was out of memory changes nothing, and made again it answers as if it were the first.
 
-use crate::comparison::assert_is;
 use crate::refused::Stage;
+use crate::{assert_is, made, made_once};
 use dl_desk::{
     BatchState, Desk, DeskFault, DeskPrime, DeskReply, FetchKey, Job, Limits, LoadReply,
 };
-use dl_fixtures::{made, made_once};
 use std::io::Eprint;
 use std::process::Abort;
 use std::slice;
@@ -28,14 +27,14 @@ impl<R: Abort + Eprint> Stage<'_, R> {
         self.load(&mut desk, &b, LoadReply::Fresh { cell: 1, batch: 1 });
         self.dispatch(&mut desk, &[1, 1]);
         let settled = made_once!(self, "Desk::settle", desk.settle(1));
-        assert_is(self.rt, &settled, &Ok(()), "settle");
+        assert_is!(self.rt, &settled, &Ok(()), "settle");
         let failed = made_once!(self, "Desk::fail", desk.fail(0));
-        assert_is(self.rt, &failed, &Ok(()), "fail");
+        assert_is!(self.rt, &failed, &Ok(()), "fail");
         self.load(&mut desk, &a, LoadReply::Fresh { cell: 2, batch: 2 });
         self.load(&mut desk, &b, LoadReply::Hit(1));
         self.dispatch(&mut desk, &[1]);
         self.assert_batches(&desk);
-        assert_is(self.rt, &desk.held(&a), &Some(2), "held");
+        assert_is!(self.rt, &desk.held(&a), &Some(2), "held");
         self.make_ready(&mut desk);
     }
 
@@ -55,10 +54,10 @@ impl<R: Abort + Eprint> Stage<'_, R> {
     fn assert_batches(&self, desk: &Desk) {
         for (number, state, id, cell) in &BATCHES {
             let batch = desk.batch(*number).expect(self.rt, "no batch");
-            assert_is(self.rt, &batch.state(), state, id);
+            assert_is!(self.rt, &batch.state(), state, id);
             let (key, held) = batch.members().next().expect(self.rt, "no member");
-            assert_is(self.rt, &(key.id(), *held), &(*id, *cell), "a member");
-            assert_is(self.rt, &batch.keys().len(), &1, "members");
+            assert_is!(self.rt, &(key.id(), *held), &(*id, *cell), "a member");
+            assert_is!(self.rt, &batch.keys().len(), &1, "members");
         }
         assert!(self.rt; desk.batch(3).is_none());
     }
@@ -82,7 +81,7 @@ impl<R: Abort + Eprint> Stage<'_, R> {
             Err(DeskFault::OutOfMemory),
             desk.load(self.alloc, key)
         );
-        assert_is(self.rt, &reply, &Ok(want), "load");
+        assert_is!(self.rt, &reply, &Ok(want), "load");
     }
 
     /// Loads three keys of two tables, by table.
@@ -100,7 +99,7 @@ impl<R: Abort + Eprint> Stage<'_, R> {
             desk.load_many(self.alloc, &keys)
         );
         let replies = replies.expect(self.rt, "no loads");
-        assert_is(self.rt, &replies.as_slice(), &want.as_slice(), "load_many");
+        assert_is!(self.rt, &replies.as_slice(), &want.as_slice(), "load_many");
     }
 
     fn prime(&self, desk: &mut Desk, key: &FetchKey, is_ready_first: bool, want: DeskPrime) {
@@ -113,7 +112,7 @@ impl<R: Abort + Eprint> Stage<'_, R> {
             Err(DeskFault::OutOfMemory),
             desk.prime(key)
         );
-        assert_is(self.rt, &reply, &Ok(want), "prime");
+        assert_is!(self.rt, &reply, &Ok(want), "prime");
     }
 
     /// A prime that is made ready, and then made.
@@ -128,16 +127,16 @@ impl<R: Abort + Eprint> Stage<'_, R> {
         let DeskReply::Primed(reply) = desk.commit(ready) else {
             panic!(self.rt; "no prime");
         };
-        assert_is(self.rt, &reply, &want, "ready_prime");
+        assert_is!(self.rt, &reply, &want, "ready_prime");
     }
 
     /// The jobs of a dispatch have so many keys.
     fn dispatch(&self, desk: &mut Desk, want: &[usize]) {
         let jobs = made!(self, "Desk::dispatch", Err(_), desk.dispatch(self.alloc));
         let jobs = jobs.expect(self.rt, "no jobs");
-        assert_is(self.rt, &jobs.len(), &want.len(), "jobs");
+        assert_is!(self.rt, &jobs.len(), &want.len(), "jobs");
         for (job, want) in jobs.iter().zip(want.iter()) {
-            assert_is(self.rt, &job.keys.as_slice().len(), want, "keys of a job");
+            assert_is!(self.rt, &job.keys.as_slice().len(), want, "keys of a job");
         }
     }
 
@@ -152,9 +151,9 @@ impl<R: Abort + Eprint> Stage<'_, R> {
         );
         let ready = ready.expect(self.rt, "not ready");
         assert!(self.rt; is_fresh(ready.reply()), "ready_loads");
-        assert_is(self.rt, &desk.held(&key), &None, "held before the commit");
+        assert_is!(self.rt, &desk.held(&key), &None, "held before the commit");
         assert!(self.rt; is_fresh(&desk.commit(ready)), "commit");
-        assert_is(self.rt, &desk.held(&key), &Some(3), "held after it");
+        assert_is!(self.rt, &desk.held(&key), &Some(3), "held after it");
         let ready = made!(
             self,
             "Desk::ready_dispatch",

@@ -4,8 +4,8 @@ ghost use Rattle.std.specs.Prelude.{◌≡◌};
 ghost use Rattle.dl_cells.specs.Cells.{row_len};
 
 use crate::refused::Stage;
+use crate::{Kind, Refusal, made};
 use dl_cells::CellRow;
-use dl_fixtures::{Kind, Refusal, made};
 use std::io::Eprint;
 use std::process::Abort;
 

@@ -18,6 +18,7 @@ const ENDS: usize = 5_400_013;
 pub const MOST_GROWTHS: usize = 10_000;
 
 /// What is refused to the calls that are begun under it: the n-th growth or the n-th thread of each of them, or of one of them alone.
+#[derive(Drop)]
 pub struct Refusal {
     alloc: Global,
     kind: Kind,
@@ -28,21 +29,6 @@ pub struct Refusal {
     // How many calls were begun.
     calls: Cell<usize>,
     has_met: Cell<bool>,
-}
-
-impl Drop for Refusal {
-    fn drop(self) {
-        let Refusal {
-            alloc: _,
-            kind: _,
-            nth: _,
-            only: _,
-            calls,
-            has_met,
-        } = self;
-        drop(calls);
-        drop(has_met);
-    }
 }
 
 /// What is refused.

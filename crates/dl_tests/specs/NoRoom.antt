@@ -5,7 +5,7 @@ use Rattle.dl_values.specs.declared.outcome.BatchAnswer.{BatchAnswer}
 use Rattle.dl_source.specs.Source.{IsFor}
 use Rattle.dl_source.specs.Answer.{answer_of}
 use Rattle.dl_source.specs.AnswerFits.{answer_fits}
-use Rattle.dl_fixtures.specs.declared.no_room.NoRoom.{NoRoom}
+use Rattle.dl_tests.specs.declared.no_room.NoRoom.{NoRoom}
 
 -- what the tables answer
 abbrev pub answer_without_room : NoRoom → List Key → BatchAnswer

@@ -5,15 +5,9 @@ use dl_values::FetchKey;
 use std::alloc::{AllocError, Global};
 
 /// Tables that have no memory for what lists a key of the table `shop`.
+#[derive(Drop)]
 pub struct NoRoom {
     tables: Tables,
-}
-
-impl Drop for NoRoom {
-    fn drop(self) {
-        let NoRoom { tables } = self;
-        drop(tables);
-    }
 }
 
 impl NoRoom {
@@ -24,7 +18,7 @@ impl NoRoom {
 }
 
 impl Source for NoRoom {
-    ghost use Rattle.dl_fixtures.specs.NoRoom.{answer_without_room, without_room_fits};
+    ghost use Rattle.dl_tests.specs.NoRoom.{answer_without_room, without_room_fits};
 
     ghost answer = { answer_without_room };
 

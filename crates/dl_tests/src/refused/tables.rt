@@ -1,9 +1,8 @@
 //! Tables, and what is fetched from them.
 
-use crate::comparison::assert_is;
 use crate::refused::Stage;
+use crate::{USERS, assert_is, made, outcome_text};
 use dl_desk::{Job, Keys, Outcome};
-use dl_fixtures::{USERS, made, outcome_text};
 use dl_source::{BatchAnswer, Fetched, TableFault, Tables, fetch_job};
 use serde_json::Value;
 use std::io::Eprint;
@@ -39,9 +38,9 @@ impl<R: Abort + Eprint> Stage<'_, R> {
             Tables::from_value_2(self.alloc, self.hashing, &value)
         );
         let (_, numbers) = tables.expect(self.rt, "no tables");
-        assert_is(self.rt, &numbers.len(), &1, "numbers");
+        assert_is!(self.rt, &numbers.len(), &1, "numbers");
         for number in &numbers {
-            assert_is(self.rt, &number.number, &7, "a number");
+            assert_is!(self.rt, &number.number, &7, "a number");
         }
     }
 
@@ -73,10 +72,10 @@ impl<R: Abort + Eprint> Stage<'_, R> {
     }
 
     fn assert_outcomes(&self, outcomes: &[Outcome]) {
-        assert_is(self.rt, &outcomes.len(), &OUTCOMES.len(), "outcomes");
+        assert_is!(self.rt, &outcomes.len(), &OUTCOMES.len(), "outcomes");
         for (outcome, want) in outcomes.iter().zip(OUTCOMES.iter()) {
             let text = outcome_text(self.alloc, outcome).expect(self.rt, "no memory");
-            assert_is(self.rt, &text.as_str(), want, "an outcome");
+            assert_is!(self.rt, &text.as_str(), want, "an outcome");
         }
     }
 }

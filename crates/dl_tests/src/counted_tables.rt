@@ -6,17 +6,10 @@ use std::alloc::{AllocError, Global};
 use std::sync::atomic::{AtomicU32, Ordering};
 
 /// Tables that count how often they are asked.
+#[derive(Drop)]
 pub struct CountedTables {
     tables: Tables,
     fetches: AtomicU32,
-}
-
-impl Drop for CountedTables {
-    fn drop(self) {
-        let CountedTables { tables, fetches } = self;
-        drop(tables);
-        drop(fetches);
-    }
 }
 
 impl CountedTables {
@@ -35,7 +28,7 @@ impl CountedTables {
 }
 
 impl Source for CountedTables {
-    ghost use Rattle.dl_fixtures.specs.CountedTables.{answer_counted, counted_fits};
+    ghost use Rattle.dl_tests.specs.CountedTables.{answer_counted, counted_fits};
 
     ghost answer = { answer_counted };
 

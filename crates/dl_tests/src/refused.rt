@@ -8,7 +8,7 @@ mod tables;
 mod terms;
 mod values;
 
-use dl_fixtures::{Kind, MOST_GROWTHS, Refusal};
+use crate::{Kind, MOST_GROWTHS, Refusal};
 use std::alloc::Global;
 use std::hash::RandomState;
 use std::io::Eprint;
