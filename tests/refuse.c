@@ -6,7 +6,7 @@
  * alone, and of writes those of standard output. REFUSE_IN counts the growths alone that are asked for by a library whose file has
  * this in its name. YIELD=s has threads yield or sleep for an instant at growths, as s draws it.
  *
- * A test asks from inside, by growths of sizes that nothing else has (crates/dl_fixtures): GROWTHS + n bytes refuse the n-th growth from
+ * A test asks from inside, by growths of sizes that nothing else has (crates/dl_tests): GROWTHS + n bytes refuse the n-th growth from
  * then on, THREADS + n the n-th thread, and ENDS bytes end that, and are refused themselves where one was.
  *
  * REFUSE_TOLD is the number of an open file, whose first eight bytes become how many were refused. */

@@ -1,8 +1,8 @@
 //! The shared loader of `dl_loader`: worked rows of its calls, each on a loader of its own.
 
+mod asks;
 mod closed_history;
 mod held;
-mod keys;
 mod largest;
 mod player;
 mod refused;
@@ -10,19 +10,19 @@ mod row;
 mod rows;
 mod stage;
 mod step;
+mod texts;
 mod threads;
 mod usage;
 mod waits;
 
 use crate::loader::largest::MOST;
 use crate::loader::stage::Stage;
-use crate::loader::step::Step::{ByLaw, Dispatch, Fail, Settle, Stop};
-use crate::loader::step::{Asked, Row};
+use crate::loader::step::Row;
 use crate::loader::waits::{CALLERS, Crowd, Release};
 use dl_desk::Limits;
-use dl_fixtures::{ADA, Refusal, USERS, tables};
-use dl_loader::{GiveUp, MOST_CALLERS, Opening, StartFault};
+use dl_loader::{MOST_CALLERS, Opening, StartFault};
 use dl_source::Tables;
+use dl_tests::{Refusal, USERS, assert_is, tables};
 use std::alloc::Global;
 use std::hash::RandomState;
 use std::io::Eprint;
@@ -96,7 +96,7 @@ fn numbers_of_callers_out_of_range(rt: HostRuntime) {
     let limits = Limits::new(1, 1, 2).expect(&rt, "no limits");
     for (callers, fault) in &COUNTS {
         let refused = Opening::new(rt.alloc(), hashing(&rt), &users, limits, *callers).err();
-        keys::assert_same(&rt, "fault", refused, *fault);
+        assert_is!(&rt, &refused, fault, "fault");
     }
 }
 
@@ -124,14 +124,14 @@ fn callers_on_threads_of_their_own(rt: HostRuntime) {
 }
 
 /// The callers of a loader over these tables load one key, each on a thread of its own.
-fn callers_on_threads<R: Abort + Threads + Wait + Sync>(
+fn callers_on_threads<R: Abort + Eprint + Threads + Wait + Sync>(
     rt: &R,
     alloc: Global,
     hashing: RandomState,
     users: &Tables,
 ) {
     let limits = Limits::new(2, 8, 16).expect(rt, "no limits");
-    let key = keys::user(rt, alloc, "u1");
+    let key = texts::user(rt, alloc, "u1");
     let opening = Opening::new(alloc, hashing, users, limits, 2).expect(rt, "no opening");
     let history = usage::load_by_each::<Brand, _, _>(rt, alloc, users, opening, &key);
     usage::assert_history(rt, alloc, &history);
@@ -142,55 +142,67 @@ fn callers_on_threads<R: Abort + Threads + Wait + Sync>(
 static CROWDS: [Crowd; 9] = [
     Crowd {
         max_batch: 2,
-        loads: &[("u1", ADA)],
+        loads: &[("u1", "Ada")],
         release: Release::Ends,
         is_late: false,
     },
     Crowd {
         max_batch: 1,
-        loads: &[("u1", ADA), ("u9", "error gone"), ("u13", "batch db down")],
+        loads: &[
+            ("u1", "Ada"),
+            ("u9", "error gone"),
+            ("u13", "batch db down"),
+        ],
         release: Release::Ends,
         is_late: false,
     },
     Crowd {
         max_batch: 1,
-        loads: &[("u1", ADA), ("u9", "error gone"), ("u13", "batch db down")],
+        loads: &[
+            ("u1", "Ada"),
+            ("u9", "error gone"),
+            ("u13", "batch db down"),
+        ],
         release: Release::Ends,
         is_late: true,
     },
     Crowd {
         max_batch: 1,
-        loads: &[("u1", ADA)],
-        release: Release::By(&[Dispatch(Ok("0: u1")), ByLaw(Asked::Settle(0, "u1"), None)]),
+        loads: &[("u1", "Ada")],
+        release: Release::By(&[("dispatch", "0: u1"), ("law settle 0 u1", "Done")]),
         is_late: false,
     },
     Crowd {
         max_batch: 1,
         loads: &[("u1", "memory")],
-        release: Release::By(&[Dispatch(Ok("0: u1")), ByLaw(Asked::Fail(0, "u1"), None)]),
+        release: Release::By(&[("dispatch", "0: u1"), ("law fail 0 u1", "Done")]),
         is_late: false,
     },
     Crowd {
         max_batch: 1,
         loads: &[("u1", "memory")],
-        release: Release::By(&[Dispatch(Ok("0: u1")), Fail(0, "u1", GiveUp::Memory, Ok(1))]),
+        release: Release::By(&[("dispatch", "0: u1"), ("fail 0 u1", "1 shown")]),
         is_late: false,
     },
     Crowd {
         max_batch: 1,
-        loads: &[("u1", ADA)],
-        release: Release::By(&[Dispatch(Ok("0: u1")), Settle(0, "u1", Ok(1)), Stop]),
+        loads: &[("u1", "Ada")],
+        release: Release::By(&[
+            ("dispatch", "0: u1"),
+            ("settle 0 u1", "1 shown"),
+            ("stop", ""),
+        ]),
         is_late: false,
     },
     Crowd {
         max_batch: 1,
-        loads: &[("u1", ADA), ("u2", "")],
+        loads: &[("u1", "Ada"), ("u2", "")],
         release: Release::Stops,
         is_late: false,
     },
     Crowd {
         max_batch: 2,
-        loads: &[("u1", ADA), ("u2", "")],
+        loads: &[("u1", "Ada"), ("u2", "")],
         release: Release::Stops,
         is_late: true,
     },
@@ -229,10 +241,10 @@ fn the_most_calls_of_one_log(rt: HostRuntime) {
     let history = largest::fill::<Brand, _, _>(&rt, rt.alloc(), opening);
     let places = history.of_caller(rt.alloc(), 0).expect(&rt, "no memory");
     let told = (history.events().len(), places.len());
-    keys::assert_same(
+    assert_is!(
         &rt,
-        "events, and those of the caller",
-        told,
-        (65_536, 65_536),
+        &told,
+        &(65_536, 65_536),
+        "events, and those of the caller"
     );
 }

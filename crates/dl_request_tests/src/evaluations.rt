@@ -1,13 +1,13 @@
 //! Terms whose batches the caller ends on its own thread, or a worker on another: their answers, their rounds, and the batches
 //! that these make. What else terms give is asked of the program, as rows of `tests/documents.py`.
 
-use crate::comparison::{Batch, assert_batches, assert_is};
+use crate::batches::{Batch, assert_batches};
 use crate::player::{By, Turn, play_over};
 use crate::stage::{Setting, Stage};
-use dl_fixtures::{ADA, BOB, CountedTables, FRIENDS, Shape, U1, U2, list_text};
 use dl_source::Source;
+use dl_tests::{ADA, BOB, CountedTables, FRIENDS, U1, U2, assert_is, list_text};
 use dl_workers::WorkerEnd;
-use std::alloc::AllocGlobal;
+use std::alloc::{AllocGlobal, Global};
 use std::io::Eprint;
 use std::process::Abort;
 use std::random::RandomSource;
@@ -20,7 +20,7 @@ struct Row<'a> {
     about: &'static str,
     /// Who ends its batches, one after another, each on a loader of its own.
     by: &'static [By],
-    term: Shape,
+    term: &'a str,
     max_cells: u32,
     /// The text of its answer.
     answer: &'a str,
@@ -34,7 +34,7 @@ struct Row<'a> {
 const ROW: Row<'static> = Row {
     about: "a value",
     by: &[By::Itself, By::Worker],
-    term: Shape::Value("7"),
+    term: r#"{"value":7}"#,
     max_cells: 8,
     answer: "7",
     rounds: 0,
@@ -51,7 +51,7 @@ static ROWS: [Row<'static>; 5] = [
         term: U1,
         answer: ADA,
         rounds: 1,
-        batches: &[(&["u1"], true)],
+        batches: &[("u1", true)],
         ..ROW
     },
     Row {
@@ -59,15 +59,15 @@ static ROWS: [Row<'static>; 5] = [
         term: FRIENDS,
         answer: TWO_FRIENDS,
         rounds: 2,
-        batches: &[(&["u1"], true), (&["u2", "u3"], true)],
+        batches: &[("u1", true), ("u2 u3", true)],
         ..ROW
     },
     Row {
         about: "a key that breaks its batch",
-        term: Shape::All(&[U1, Shape::Load("user", "u13")]),
+        term: r#"{"all":[{"load":["user","u1"]},{"load":["user","u13"]}]}"#,
         answer: "batch of u1: db down",
         rounds: 1,
-        batches: &[(&["u1", "u13"], false)],
+        batches: &[("u1 u13", false)],
         ..ROW
     },
     Row {
@@ -76,37 +76,31 @@ static ROWS: [Row<'static>; 5] = [
         term: U2,
         answer: BOB,
         rounds: 1,
-        batches: &[(&["u1", "u2"], true)],
+        batches: &[("u1 u2", true)],
         ..ROW
     },
 ];
 
-static FAULTS: [Row<'static>; 4] = [
+static FAULTS: [Row<'static>; 3] = [
     Row {
         about: "a field of no object beside a load",
-        term: Shape::All(&[Shape::Pick(&Shape::Value("1"), "x"), U1]),
+        term: r#"{"all":[{"pick":[{"value":1},"x"]},{"load":["user","u1"]}]}"#,
         answer: "no field",
         rounds: 1,
-        batches: &[(&["u1"], true)],
+        batches: &[("u1", true)],
         ..ROW
     },
     Row {
         about: "items that are no keys",
-        term: Shape::Each(&Shape::Value(r#"{"f":["",1,"u2"]}"#), "f"),
+        term: r#"{"each":[{"value":{"f":["",1,"u2"]}},"f","user"]}"#,
         answer: "not a key",
         rounds: 1,
-        batches: &[(&["u2"], true)],
-        ..ROW
-    },
-    Row {
-        about: "more than 1,024 items",
-        term: Shape::Each(&Shape::Crowd(1_025), "f"),
-        answer: "too many",
+        batches: &[("u2", true)],
         ..ROW
     },
     Row {
         about: "two cells where there is one",
-        term: Shape::All(&[U1, U2]),
+        term: r#"{"all":[{"load":["user","u1"]},{"load":["user","u2"]}]}"#,
         max_cells: 1,
         answer: "Call(CellsFull { limit: 1 })",
         ..ROW
@@ -115,15 +109,6 @@ static FAULTS: [Row<'static>; 4] = [
 
 /// How often each row is played.
 const TIMES: u32 = 20;
-
-/// The first user 1,024 times.
-const CROWD: Row<'static> = Row {
-    about: "1,024 items",
-    term: Shape::Each(&Shape::Crowd(1_024), "f"),
-    rounds: 1,
-    batches: &[(&["u1"], true)],
-    ..ROW
-};
 
 #[test]
 fn terms_and_their_batches(rt: HostRuntime) {
@@ -140,12 +125,33 @@ fn terms_and_their_batches(rt: HostRuntime) {
 fn as_many_items_as_there_may_be(rt: HostRuntime) {
     let setting = Setting::new(&rt, rt.alloc());
     let stage = setting.stage(&rt);
-    let answer = list_text(stage.alloc, ADA, 1_024).expect(&rt, "no memory");
+    let (alloc, users) = (stage.alloc, &setting.users);
+    let term = crowd(&rt, alloc, 1_024);
+    let answer = list_text(alloc, ADA, 1_024).expect(&rt, "no memory");
     let row = Row {
-        answer: answer.as_str(),
-        ..CROWD
+        about: "1,024 items",
+        term: &term,
+        answer: &answer,
+        rounds: 1,
+        batches: &[("u1", true)],
+        ..ROW
     };
-    try_row(&stage, &setting.users, &row);
+    try_row(&stage, users, &row);
+    let term = crowd(&rt, alloc, 1_025);
+    let row = Row {
+        about: "more than 1,024 items",
+        term: &term,
+        answer: "too many",
+        ..ROW
+    };
+    try_row(&stage, users, &row);
+}
+
+/// The term that loads the first user so many times.
+fn crowd(rt: &impl Abort, alloc: Global, times: usize) -> String {
+    let users = list_text(alloc, "\"u1\"", times).expect(rt, "no memory");
+    let text = format!(in alloc; "{{\"each\":[{{\"value\":{{\"f\":{users}}}}},\"f\",\"user\"]}}");
+    text.expect(rt, "no memory")
 }
 
 /// Plays a row, which is seen to be as it says, by each of those who end its batches.
@@ -167,7 +173,7 @@ fn try_row<
         };
         let closed = play_over(stage, source, (2, row.max_cells, 16), &[turn]);
         let history = closed.expect(stage.rt, "the loader can't be closed");
-        assert_batches(stage.rt, &history, row.batches, row.about);
+        assert_batches(stage.rt, stage.alloc, &history, row.batches, row.about);
     }
 }
 
@@ -187,11 +193,11 @@ fn each_batch_is_fetched_once(rt: HostRuntime) {
         end: WorkerEnd::Done { batches: 3 },
     };
     let closed = play_over(&stage, &users, (1, 8, 16), &[turn]);
-    assert_is(
+    assert_is!(
         &rt,
         &closed.err(),
         &None,
         "all friends, in batches of one key",
     );
-    assert_is(&rt, &users.fetches(), &3, "three batches");
+    assert_is!(&rt, &users.fetches(), &3, "three batches");
 }

@@ -1,13 +1,13 @@
 //! Terms whose jobs are handed over by a queue, to a worker on a thread of its own or, where the queue was shut, to nobody:
 //! worked rows of answers, rounds, jobs, and what the caller's pass has.
 
-use crate::comparison::{Batch, assert_batches, assert_is};
+use crate::batches::{Batch, assert_batches};
 use crate::player::{By, Turn, play_over};
 use crate::stage::{Setting, Stage};
-use dl_fixtures::{ADA, BEST, NoRoom, Shape, U1, U2};
 use dl_loader::EntryKind::{Call, Saw as Read};
 use dl_loader::{CloseFault, EntryKind};
 use dl_source::Source;
+use dl_tests::{ADA, NoRoom, U1, assert_is};
 use dl_workers::WorkerEnd;
 use std::alloc::AllocGlobal;
 use std::io::Eprint;
@@ -52,13 +52,13 @@ const UNSENT: Turn<'static> = Turn {
 
 /// The first two users, over a queue that was shut.
 const UNSENT_BOTH: Turn<'static> = Turn {
-    term: Shape::All(&[U1, U2]),
+    term: r#"{"all":[{"load":["user","u1"]},{"load":["user","u2"]}]}"#,
     ..UNSENT
 };
 
 /// The name of a friend, which takes two rounds.
 const NAME: Turn<'static> = Turn {
-    term: Shape::Pick(&BEST, "name"),
+    term: r#"{"pick":[{"follow":[{"load":["user","u1"]},"best","user"]},"name"]}"#,
     answer: r#""Bob""#,
     rounds: 2,
     jobs: 2,
@@ -68,7 +68,7 @@ const NAME: Turn<'static> = Turn {
 
 /// Three batches, over a queue with room for one job.
 const THREE: Turn<'static> = Turn {
-    term: Shape::All(&[U1, U2, Shape::Load("user", "u3")]),
+    term: r#"{"all":[{"load":["user","u1"]},{"load":["user","u2"]},{"load":["user","u3"]}]}"#,
     capacity: 1,
     answer: r#"[{"best":"u2","friends":["u2","u3"],"name":"Ada"},{"best":"u1","friends":[],"name":"Bob"},{"name":"Cy"}]"#,
     jobs: 3,
@@ -137,7 +137,7 @@ static SERIES: [Series; 8] = [
             Call { at: 2 },
             Read { cell: 0, at: 2 },
         ],
-        batches: &[(&["u1"], false)],
+        batches: &[("u1", false)],
     },
     Series {
         about: "the name of a friend",
@@ -152,7 +152,7 @@ static SERIES: [Series; 8] = [
             Call { at: 4 },
             Read { cell: 1, at: 5 },
         ],
-        batches: &[(&["u1"], true), (&["u2"], true)],
+        batches: &[("u1", true), ("u2", true)],
     },
     Series {
         about: "two batches over a shut queue, and a load by a worker",
@@ -170,7 +170,7 @@ static SERIES: [Series; 8] = [
             Call { at: 5 },
             Read { cell: 2, at: 6 },
         ],
-        batches: &[(&["u1"], false), (&["u2"], false), (&["u1"], true)],
+        batches: &[("u1", false), ("u2", false), ("u1", true)],
     },
     Series {
         about: "more jobs than the queue has room for",
@@ -184,7 +184,7 @@ static SERIES: [Series; 8] = [
             Read { cell: 1, at: 3 },
             Read { cell: 2, at: 4 },
         ],
-        batches: &[(&["u1"], true), (&["u2"], true), (&["u3"], true)],
+        batches: &[("u1", true), ("u2", true), ("u3", true)],
     },
     UNSETTLED,
     Series {
@@ -212,14 +212,14 @@ static SHOP: Series = Series {
     about: "a source without memory",
     most: (2, 8, 16),
     turns: &[Turn {
-        term: Shape::Load("shop", "s"),
+        term: r#"{"load":["shop","s"]}"#,
         by: By::Itself,
         answer: "batch of s: no memory",
         ..LOAD
     }],
     fault: None,
     entries: &[],
-    batches: &[(&["s"], false)],
+    batches: &[("s", false)],
 };
 
 /// How often each series is played.
@@ -245,11 +245,11 @@ fn try_series<
     let closed = play_over(stage, source, series.most, series.turns);
     let fault = match &closed {
         Ok(history) => {
-            assert_is(stage.rt, &history.entries(0), &series.entries, series.about);
-            assert_batches(stage.rt, history, series.batches, series.about);
+            assert_is!(stage.rt, &history.entries(0), &series.entries, series.about);
+            assert_batches(stage.rt, stage.alloc, history, series.batches, series.about);
             None
         }
         Err(fault) => Some(*fault),
     };
-    assert_is(stage.rt, &fault, &series.fault, series.about);
+    assert_is!(stage.rt, &fault, &series.fault, series.about);
 }

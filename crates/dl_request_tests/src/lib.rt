@@ -4,9 +4,7 @@
 #![tactic(auto)]
 
 #[cfg(test)]
-mod comparison;
-#[cfg(test)]
-mod depths;
+mod batches;
 #[cfg(test)]
 mod evaluations;
 #[cfg(test)]

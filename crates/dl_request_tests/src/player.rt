@@ -6,14 +6,13 @@ ghost use Rattle.dl_desk.specs.Service.{Answers};
 ghost use Rattle.dl_loader.specs.Opening.{Names};
 ghost use Rattle.dl_queue.specs.Seats.{IsSenderOf, IsTakerOf};
 
-use crate::comparison::assert_is;
 use crate::stage::Stage;
 use dl_desk::{FetchKey, Limits};
-use dl_fixtures::{ADA, Shape, answer_text, made_once, outcome_text};
 use dl_haxl::{LoadFuture, RunFault, run_inline, run_term};
 use dl_loader::{CloseFault, History, Loader, LoaderName, Opening, Pass};
 use dl_source::Source;
 use dl_terms::Answer;
+use dl_tests::{ADA, answer_text, assert_is, made_once, outcome_text};
 use dl_workers::{JobQueue, NoGate, Sender, Taker, Tally, WorkerEnd, work};
 use futures::task::Poll;
 use futures::test::MockTask;
@@ -28,7 +27,7 @@ use std::thread::{Threads, join};
 /// The evaluation of a term, and what must be seen of it.
 #[derive(Clone, Copy)]
 pub(crate) struct Turn<'a> {
-    pub(crate) term: Shape,
+    pub(crate) term: &'a str,
     pub(crate) by: By,
     /// The text of its answer, or why there is none.
     pub(crate) answer: &'a str,
@@ -151,7 +150,7 @@ impl<
     {
         match turn.by {
             By::Itself => {
-                let given = self.evaluate(passes, &turn.term);
+                let given = self.evaluate(passes, turn.term);
                 self.stage.is_own(&given, turn);
             }
             By::WithFuture => self.evaluate_with_future(passes, turn),
@@ -171,7 +170,7 @@ impl<
         let ticket = self.loader.load(rt, alloc, pass, &key);
         let mut load = LoadFuture::new(ticket.expect(rt, "no ticket"));
         self.assert_poll(&task, &mut load, "pending");
-        let given = self.evaluate(passes, &turn.term);
+        let given = self.evaluate(passes, turn.term);
         if self.stage.is_own(&given, turn) {
             self.assert_poll(&task, &mut load, ADA);
             self.assert_poll(&task, &mut load, "Finished");
@@ -204,8 +203,8 @@ impl<
         let finished = queue.finish(rt, caller.seats, worker.seats);
         let given = caller.given.expect(rt, "no answer");
         if self.stage.is_own(&given, turn) {
-            assert_is(rt, &finished, &tally, turn.answer);
-            assert_is(rt, &worker.end, &Some(turn.end), turn.answer);
+            assert_is!(rt, &finished, &tally, turn.answer);
+            assert_is!(rt, &worker.end, &Some(turn.end), turn.answer);
         } else {
             let is_done = matches!(worker.end, Some(WorkerEnd::Done { .. }));
             assert!(rt; is_done, "the worker gave up");
@@ -247,12 +246,12 @@ impl<
 
 impl<'l, L: LoaderName, S: Source, R: Abort + Eprint + Wait> Scene<'l, L, S, R> {
     /// Has the second caller evaluate the term of a shape on its own thread.
-    pub(crate) fn evaluate(&self, passes: &mut Vec<Pass<L>>, shape: &Shape) -> Given
+    pub(crate) fn evaluate(&self, passes: &mut Vec<Pass<L>>, term: &str) -> Given
         requires { Answers (S.answer self.now.source.now) L.service }
     {
         let (rt, alloc, hashing) = (self.stage.rt, self.stage.alloc, self.stage.hashing);
         let pass = passes.last_mut().expect(rt, "no pass");
-        let term = self.stage.term(shape);
+        let term = self.stage.term(term);
         self.stage.refusal.begin();
         let evaluated = run_inline(rt, alloc, hashing, self.loader, self.source, pass, term);
         self.stage.given("run_inline", evaluated)
@@ -267,7 +266,7 @@ impl<'l, L: LoaderName, S: Source, R: Abort + Eprint + Wait> Scene<'l, L, S, R> 
         if matches!(turn.by, By::Nobody) {
             queue.shut(stage.rt, &mut caller.seats[0]);
         }
-        let term = stage.term(&turn.term);
+        let term = stage.term(turn.term);
         stage.refusal.begin();
         let evaluated = run_term(
             stage.rt,
@@ -294,7 +293,7 @@ impl<'l, L: LoaderName, S: Source, R: Abort + Eprint + Wait> Scene<'l, L, S, R> 
             Poll::Ready(Err(fault)) => format!(in alloc; "{fault:?}"),
         };
         let text = text.expect(rt, "no memory");
-        assert_is(rt, &text.as_str(), &want, "a poll");
+        assert_is!(rt, &text.as_str(), &want, "a poll");
     }
 }
 
@@ -322,8 +321,8 @@ impl<R: Abort + Eprint> Stage<'_, R> {
         if given.was_refused && turn.refused.iter().any(|other| *other == text) {
             return false;
         }
-        assert_is(self.rt, &text, &turn.answer, turn.answer);
-        assert_is(self.rt, &given.rounds, &turn.rounds, turn.answer);
+        assert_is!(self.rt, &text, &turn.answer, turn.answer);
+        assert_is!(self.rt, &given.rounds, &turn.rounds, turn.answer);
         true
     }
 }

@@ -2,14 +2,14 @@
 
 ghost use Rattle.dl_desk.specs.Service.{Answers};
 
-use crate::comparison::{assert_ids, assert_is};
 use crate::player::{Scene, Turn};
 use crate::stage::Stage;
-use dl_fixtures::{Shape, answer_text, made};
+use dl_desk::FetchKey;
 use dl_haxl::{PollFault, TermRun};
 use dl_loader::{LoaderName, Pass, end_jobs};
 use dl_source::Source;
 use dl_terms::Answer;
+use dl_tests::{answer_text, assert_is, ids_text, made};
 use futures::task::Poll;
 use futures::test::MockTask;
 use std::alloc::AllocGlobal;
@@ -30,24 +30,24 @@ impl<'l, L: LoaderName, S: Source, R: Abort + AllocGlobal + Eprint + RandomSourc
     {
         let stage = self.stage;
         let task = MockTask::new(stage.rt).expect(stage.rt, "no task");
-        let mut run = self.run_of(&turn.term);
+        let mut run = self.run_of(turn.term);
         let pass = passes.last_mut().expect(stage.rt, "no pass");
         let _ = self.poll_to_the_end(pass, &task, &mut run, turn.answer);
     }
 }
 
 impl<'l, L: LoaderName, S: Source, R: Abort + Eprint + Wait> Scene<'l, L, S, R> {
-    /// A run of the term of a shape.
-    fn run_of(&self, shape: &Shape) -> TermRun<'l, L> {
+    /// A run of the term of a text.
+    fn run_of(&self, text: &str) -> TermRun<'l, L> {
         let stage = self.stage;
         let (alloc, hashing) = (stage.alloc, stage.hashing);
-        let term = stage.term(shape);
+        let term = stage.term(text);
         let run = made!(
             stage,
             "TermRun::new",
             Err(_),
             TermRun::new(alloc, hashing, term),
-            TermRun::new(alloc, hashing, stage.term(shape))
+            TermRun::new(alloc, hashing, stage.term(text))
         );
         run.expect(stage.rt, "no run")
     }
@@ -64,11 +64,11 @@ impl<'l, L: LoaderName, S: Source, R: Abort + Eprint + Wait> Scene<'l, L, S, R> 
     {
         let (rt, alloc) = (self.stage.rt, self.stage.alloc);
         self.poll(task, run, "pending")?;
-        assert_ids(rt, run.wanted(), &["u1", "u2"]);
+        self.stage.assert_ids(run.wanted(), "u1 u2");
         let tickets = self.loader.load_many(rt, alloc, pass, run.wanted());
         run.supply(tickets.expect(rt, "no tickets"));
         self.poll(task, run, "pending")?;
-        assert_ids(rt, run.wanted(), &[]);
+        self.stage.assert_ids(run.wanted(), "");
         self.end_all(pass);
         self.poll(task, run, answer)?;
         self.poll(task, run, "Finished")
@@ -92,11 +92,11 @@ impl<'l, L: LoaderName, S: Source, R: Abort + Eprint + Wait> Scene<'l, L, S, R> 
         let text = self.stage.polled(polled);
         if was_refused && text.as_str() == OUT_OF_MEMORY {
             let next = self.stage.polled(task.poll(run));
-            assert_is(rt, &next.as_str(), &OUT_OF_MEMORY, "the next poll");
-            assert_ids(rt, run.wanted(), &[]);
+            assert_is!(rt, &next.as_str(), &OUT_OF_MEMORY, "the next poll");
+            self.stage.assert_ids(run.wanted(), "");
             return None;
         }
-        assert_is(rt, &text.as_str(), &want, "a poll");
+        assert_is!(rt, &text.as_str(), &want, "a poll");
         Some(())
     }
 }
@@ -104,7 +104,13 @@ impl<'l, L: LoaderName, S: Source, R: Abort + Eprint + Wait> Scene<'l, L, S, R> 
 /// The text of a poll that is out of memory.
 const OUT_OF_MEMORY: &str = "OutOfMemory";
 
-impl<R: Abort> Stage<'_, R> {
+impl<R: Abort + Eprint> Stage<'_, R> {
+    /// The keys have these ids.
+    fn assert_ids(&self, keys: &[FetchKey], want: &str) {
+        let ids = ids_text(self.alloc, keys).expect(self.rt, "no memory");
+        assert_is!(self.rt, &ids.as_str(), &want, "ids");
+    }
+
     /// The text of what a poll of a run gave.
     fn polled(&self, polled: Poll<Result<Answer, PollFault>>) -> String {
         let text = match polled {

@@ -4,11 +4,10 @@
 
 use crate::evaluations::TWO_FRIENDS;
 use crate::player::{By, Turn, play_over};
-use crate::requests::plans::StepShape::Eval;
 use crate::requests::row::{Row, try_row};
 use crate::requests::rows::ROW;
 use crate::stage::Setting;
-use dl_fixtures::{ADA, BOB, FRIENDS, Kind, MOST_GROWTHS, Refusal, Shape, U1, U2};
+use dl_tests::{ADA, BOB, FRIENDS, Kind, MOST_GROWTHS, ONE, Refusal, U2};
 use dl_workers::{NoGate, WorkerEnd};
 use std::slice;
 
@@ -73,9 +72,12 @@ fn evaluations_whose_growths_are_refused(rt: HostRuntime) {
 /// What is polled with the n-th growth of one call refused: three loads of two keys, and a load beside the evaluation of another.
 static POLLS: [Turn<'static>; 2] = [
     Turn {
-        term: Shape::All(&[U1, U1, U2]),
+        term: r#"{"all":[{"load":["user","u1"]},{"load":["user","u1"]},{"load":["user","u2"]}]}"#,
         by: By::Hand,
-        answer: r#"[{"best":"u2","friends":["u2","u3"],"name":"Ada"},{"best":"u2","friends":["u2","u3"],"name":"Ada"},{"best":"u1","friends":[],"name":"Bob"}]"#,
+        answer: concat!(
+            r#"[{"best":"u2","friends":["u2","u3"],"name":"Ada"},{"best":"u2","friends":["u2","u3"],"name":"Ada"},"#,
+            r#"{"best":"u1","friends":[],"name":"Bob"}]"#
+        ),
         ..FRIENDS_OF_ONE
     },
     Turn {
@@ -114,10 +116,13 @@ static PLANS: Row = Row {
     most: MOST,
     queue: 1,
     times: 1,
-    plans: &[&[Eval(FRIENDS)], &[Eval(U1)]],
+    plans: &[
+        r#"[{"eval":{"each":[{"load":["user","u1"]},"friends","user"]}}]"#,
+        ONE,
+    ],
     answers: &[&[(0, TWO_FRIENDS)], &[(0, ADA)]],
     rounds: &[2, 1],
-    batches: Some(&[(&["u1"], true), (&["u2", "u3"], true)]),
+    batches: Some(&[("u1", true), ("u2 u3", true)]),
     ..ROW
 };
 

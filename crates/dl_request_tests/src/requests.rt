@@ -3,7 +3,6 @@
 //! with room for one job.
 
 mod held_workers;
-pub(crate) mod plans;
 mod refusals;
 pub(crate) mod row;
 pub(crate) mod rows;

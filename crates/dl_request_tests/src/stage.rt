@@ -1,8 +1,9 @@
 //! What calls are made with, and what they are refused.
 
-use dl_fixtures::{Refusal, Shape, USERS, tables, term};
+use dl_scope::Plan;
 use dl_source::Tables;
 use dl_terms::Term;
+use dl_tests::{Refusal, USERS, plan, tables, term};
 use std::alloc::Global;
 use std::hash::RandomState;
 use std::process::Abort;
@@ -19,24 +20,12 @@ pub(crate) struct Stage<'a, R> {
 }
 
 /// The tables of users, and what stages are made of.
+#[derive(Drop)]
 pub(crate) struct Setting {
     alloc: Global,
     hashing: RandomState,
     nothing: Refusal,
     pub(crate) users: Tables,
-}
-
-impl Drop for Setting {
-    fn drop(self) {
-        let Setting {
-            alloc: _,
-            hashing: _,
-            nothing,
-            users,
-        } = self;
-        drop(nothing);
-        drop(users);
-    }
 }
 
 impl Setting {
@@ -72,8 +61,18 @@ impl Setting {
 }
 
 impl<R: Abort> Stage<'_, R> {
-    /// The term of a shape.
-    pub(crate) fn term(&self, shape: &Shape) -> Term {
-        term(self.alloc, shape).expect(self.rt, "no term")
+    /// The term of a text.
+    pub(crate) fn term(&self, text: &str) -> Term {
+        term(self.alloc, self.hashing, text).expect(self.rt, "no term")
+    }
+
+    /// The plans of these texts.
+    pub(crate) fn plans(&self, texts: &[&str]) -> Vec<Plan> {
+        let mut plans = Vec::new(self.alloc);
+        for text in texts {
+            let plan = plan(self.alloc, self.hashing, text).expect(self.rt, "no plan");
+            plans.push(plan).expect(self.rt, "no memory");
+        }
+        plans
     }
 }

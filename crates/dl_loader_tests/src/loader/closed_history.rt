@@ -1,9 +1,9 @@
 //! What the history tells that a closed loader leaves, as text.
 
-use super::keys::write_ids;
 use super::stage::Stage;
-use dl_fixtures::{ADA, made, outcome_text};
+use super::texts::looked_text;
 use dl_loader::{Call, EntryKind, History, MOST_CALLERS};
+use dl_tests::{ids_text, made};
 use std::alloc::Global;
 use std::io::Eprint;
 use std::process::Abort;
@@ -16,7 +16,7 @@ pub(super) fn history_text<R: Abort + Eprint>(stage: &Stage<'_, R>, history: &Hi
     for caller in 0..=MOST_CALLERS {
         write_caller(stage, &mut text, history, caller);
     }
-    write_batches(stage.rt, &mut text, history);
+    write_batches(stage.rt, stage.alloc, &mut text, history);
     write_outcomes(stage.rt, stage.alloc, &mut text, history);
     text
 }
@@ -72,7 +72,7 @@ pub(super) fn write_entry(rt: &impl Abort, text: &mut String, entry: EntryKind) 
     written.expect(rt, "no memory");
 }
 
-fn write_batches(rt: &impl Abort, text: &mut String, history: &History) {
+fn write_batches(rt: &impl Abort, alloc: Global, text: &mut String, history: &History) {
     let batches = history.batches();
     for number in 0..u32::MAX {
         let Some(batch) = batches.get(number) else {
@@ -83,9 +83,8 @@ fn write_batches(rt: &impl Abort, text: &mut String, history: &History) {
         } else {
             "failed"
         };
-        write!(text, "batch {number} {end}:").expect(rt, "no memory");
-        write_ids(rt, text, batch.keys());
-        writeln!(text, "").expect(rt, "no memory");
+        let ids = ids_text(alloc, batch.keys()).expect(rt, "no memory");
+        writeln!(text, "batch {number} {end}: {ids}").expect(rt, "no memory");
     }
 }
 
@@ -94,12 +93,7 @@ fn write_outcomes(rt: &impl Abort, alloc: Global, text: &mut String, history: &H
         let Some(outcome) = history.outcome(cell) else {
             return;
         };
-        let shown = outcome_text(alloc, outcome).expect(rt, "no memory");
-        let shown = if shown.as_str() == ADA {
-            "Ada"
-        } else {
-            shown.as_str()
-        };
+        let shown = looked_text(rt, alloc, Some(outcome));
         writeln!(text, "cell {cell}: {shown}").expect(rt, "no memory");
     }
 }

@@ -2,13 +2,12 @@
 
 ghost use Rattle.dl_desk.specs.Service.{Answers};
 
-use super::keys::{assert_same, assert_shows, user};
 use super::player::Scene;
-use super::step::{Held, Renewal};
+use super::texts::{looked_text, user};
 use dl_desk::LoadReply;
-use dl_fixtures::ADA;
-use dl_loader::{LoaderName, Pass};
+use dl_loader::{LoaderName, Pass, end_jobs};
 use dl_source::Source;
+use dl_tests::assert_is;
 use std::io::Eprint;
 use std::process::Abort;
 use std::sync::Wait;
@@ -18,68 +17,53 @@ const FIRST: LoadReply = LoadReply::Fresh { cell: 0, batch: 0 };
 const SECOND: LoadReply = LoadReply::Fresh { cell: 1, batch: 1 };
 
 impl<'a, L: LoaderName, S: Source, R: Abort + Eprint + Wait> Scene<'a, L, S, R> {
-    /// Makes the calls of two callers, of which the first has a ticket, or of the first alone.
-    pub(super) fn hold(&self, passes: &mut [Pass<L>], held: Held)
-        requires { Answers (S.answer self.now.source.now) L.service }
-    {
-        let (one, others) = passes.split_first_mut().expect(self.rt, "no caller");
-        match held {
-            Held::First {
-                is_ended,
-                is_stopped,
-            } => self.load_first(one, is_ended, is_stopped),
-            Held::Renewed(renewal) => {
-                let other = others.first_mut().expect(self.rt, "no other caller");
-                self.renew(one, other, renewal);
-            }
-        }
-    }
-
-    /// A cell that has ended is read after a stop too.
-    fn load_first(&self, pass: &mut Pass<L>, is_ended: bool, is_stopped: bool)
+    /// Loads the first key of a loader. With the word `end` its batch is then ended, and with the word `stop` the loader is stopped,
+    /// before its outcome is waited for: one that has ended is read after a stop too.
+    pub(super) fn hold(&self, pass: &mut Pass<L>, words: &str) -> String
         requires { Answers (S.answer self.now.source.now) L.service }
     {
         let key = user(self.rt, self.alloc, "u1");
         let ticket = self.loader.load(self.rt, self.alloc, pass, &key);
         let mut ticket = ticket.expect(self.rt, "no ticket");
-        assert_same(self.rt, "reply", ticket.reply(), FIRST);
-        assert_shows(self.rt, self.alloc, ticket.look(), None);
-        if is_ended {
-            self.dispatch(pass, Ok("0: u1"));
-            self.settle(pass, 0, "u1", Ok(1));
+        assert_is!(self.rt, &ticket.reply(), &FIRST, "reply");
+        assert!(self.rt; ticket.look().is_none(), "it shows nothing yet");
+        if words.contains("end") {
+            self.end_all(pass);
         }
-        if is_stopped {
+        if words.contains("stop") {
             self.loader.stop(self.rt);
         }
-        self.read(pass, &mut ticket, is_ended.then_some(ADA));
+        self.read(pass, &mut ticket)
     }
 
-    /// Another caller clears the key and loads it anew while its batch is sent. The older cell shows its outcome, and the newer one none.
-    fn renew(&self, one: &mut Pass<L>, other: &mut Pass<L>, renewal: Renewal)
+    /// The first caller loads the first key of a loader and sends its batch, another caller clears the key and loads it anew, and the first
+    /// ends the batch. With the word `see` the other then loads the key once more, and the first adds what it is shown to its pass. Answers
+    /// what the older cell shows. The newer one shows nothing.
+    pub(super) fn renew(&self, passes: &mut [Pass<L>], words: &str) -> String
         requires { Answers (S.answer self.now.source.now) L.service }
     {
-        let Renewal {
-            id,
-            job,
-            text,
-            is_seen,
-        } = renewal;
-        let key = user(self.rt, self.alloc, id);
-        let older = self.loader.load(self.rt, self.alloc, one, &key);
-        let mut older = older.expect(self.rt, "no ticket");
-        assert_same(self.rt, "reply", older.reply(), FIRST);
-        self.dispatch(one, Ok(job));
-        self.clear(other, id, None);
-        let newer = self.loader.load(self.rt, self.alloc, other, &key);
-        let mut newer = newer.expect(self.rt, "no ticket");
-        assert_same(self.rt, "reply", newer.reply(), SECOND);
-        self.settle(one, 0, id, Ok(1));
-        if is_seen {
-            self.load(other, id, Ok(LoadReply::Hit(1)));
-            assert!(self.rt; older.look().is_some());
+        let (rt, alloc, loader) = (self.rt, self.alloc, self.loader);
+        let (one, others) = passes.split_first_mut().expect(rt, "no caller");
+        let other = others.first_mut().expect(rt, "no other caller");
+        let (id, see) = words.split_once(' ').unwrap_or((words, ""));
+        let key = user(rt, alloc, id);
+        let older = loader.load(rt, alloc, one, &key);
+        let mut older = older.expect(rt, "no ticket");
+        assert_is!(rt, &older.reply(), &FIRST, "reply");
+        let jobs = loader.dispatch(rt, alloc, one).expect(rt, "no jobs");
+        loader.clear(rt, alloc, other, &key).expect(rt, "no clear");
+        let newer = loader.load(rt, alloc, other, &key);
+        let mut newer = newer.expect(rt, "no ticket");
+        assert_is!(rt, &newer.reply(), &SECOND, "reply");
+        end_jobs(rt, alloc, loader, self.source, one, jobs).expect(rt, "no end");
+        if see == "see" {
+            let again = loader.load(rt, alloc, other, &key);
+            let reply = again.expect(rt, "no ticket").reply();
+            assert_is!(rt, &reply, &LoadReply::Hit(1), "reply");
+            assert!(rt; older.look().is_some());
             one.saw(&mut older);
         }
-        assert_shows(self.rt, self.alloc, older.look(), Some(text));
-        assert_shows(self.rt, self.alloc, newer.look(), None);
+        assert!(rt; newer.look().is_none(), "the newer one shows nothing");
+        looked_text(rt, alloc, older.look())
     }
 }

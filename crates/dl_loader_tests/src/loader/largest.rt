@@ -3,10 +3,11 @@
 ghost use Rattle.std.specs.Prelude.{◌≡◌};
 ghost use Rattle.dl_loader.specs.Opening.{Names};
 
-use super::keys::assert_same;
 use dl_loader::{CallFault, History, Loader, LoaderName, Opening, Pass};
 use dl_source::Source;
+use dl_tests::assert_is;
 use std::alloc::Global;
+use std::io::Eprint;
 use std::process::Abort;
 use std::sync::Wait;
 
@@ -14,7 +15,7 @@ use std::sync::Wait;
 pub(super) const MOST: u32 = 65_536;
 
 /// Opens a loader, has its first caller make as many calls as there may be, and closes it: its history.
-pub(super) fn fill<L: LoaderName, S: Source, R: Abort + Wait>(
+pub(super) fn fill<L: LoaderName, S: Source, R: Abort + Eprint + Wait>(
     rt: &R,
     alloc: Global,
     opening: Opening<'_, S>,
@@ -31,7 +32,7 @@ pub(super) fn fill<L: LoaderName, S: Source, R: Abort + Wait>(
 }
 
 /// Makes as many calls as there may be, and one more.
-fn clear_often<L: LoaderName, R: Abort + Wait>(
+fn clear_often<L: LoaderName, R: Abort + Eprint + Wait>(
     rt: &R,
     alloc: Global,
     loader: &Loader<L>,
@@ -39,8 +40,8 @@ fn clear_often<L: LoaderName, R: Abort + Wait>(
 ) {
     for _ in 0..MOST {
         let reply = loader.clear_all(rt, alloc, pass);
-        assert_same(rt, "call", reply, Ok(()));
+        assert_is!(rt, &reply, &Ok(()), "call");
     }
     let full = Err(CallFault::LogFull { limit: MOST });
-    assert_same(rt, "next call", loader.clear_all(rt, alloc, pass), full);
+    assert_is!(rt, &loader.clear_all(rt, alloc, pass), &full, "next call");
 }

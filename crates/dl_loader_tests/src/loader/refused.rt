@@ -3,18 +3,9 @@
 //! above `tests/refuse.c`; without that library nothing is refused, and each call is made once.
 
 use crate::loader::stage::Stage;
-use crate::loader::step::How::Look;
-use crate::loader::step::Primed::Value;
-use crate::loader::step::Step::{
-    ByLaw, Clear, ClearAll, Dispatch, Fail as GivesUp, Load, LoadMany, Prime, Read, Settle, Tells,
-};
-use crate::loader::step::{Asked, Part, Row};
+use crate::loader::step::{Part, Row};
 use crate::loader::{hashing, play_over, users};
-use dl_desk::LoadReply::Fresh;
-use dl_fixtures::{Kind, MOST_GROWTHS, Refusal};
-use dl_loader::CloseFault::Unsettled;
-use dl_loader::GiveUp::Memory;
-use dl_loader::PrimeReply::{Kept, Primed};
+use dl_tests::{Kind, MOST_GROWTHS, Refusal};
 
 /// The calls of one caller.
 static ROWS: [Row; 3] = [
@@ -25,39 +16,29 @@ static ROWS: [Row; 3] = [
         callers: 2,
         parts: &[Part {
             steps: &[
-                (0, Load("u1", Ok(Fresh { cell: 0, batch: 0 }))),
-                (0, LoadMany("u1 u2", Ok("hit 0, fresh 1 0"))),
-                (0, Dispatch(Ok("0: u1 u2"))),
-                (0, Settle(0, "u1 u2", Ok(2))),
-                (
-                    0,
-                    Prime(
-                        "u3",
-                        Value("5"),
-                        Ok(Primed {
-                            cell: 2,
-                            shown: true,
-                        }),
-                    ),
-                ),
-                (0, Clear("u3", None)),
-                (0, ClearAll(None)),
-                (0, Load("u9", Ok(Fresh { cell: 3, batch: 1 }))),
-                (0, Dispatch(Ok("1: u9"))),
-                (0, GivesUp(1, "u9", Memory, Ok(1))),
-                (0, ByLaw(Asked::Load("u7"), None)),
-                (0, ByLaw(Asked::LoadMany("u7"), None)),
-                (0, ByLaw(Asked::Dispatch, None)),
-                (0, ByLaw(Asked::Settle(2, "u7"), None)),
-                (0, ByLaw(Asked::Clear("u7"), None)),
-                (0, ByLaw(Asked::Prime("u7", "6"), None)),
-                (0, ByLaw(Asked::ClearAll, None)),
-                (0, ByLaw(Asked::Load("u7"), None)),
-                (0, ByLaw(Asked::Dispatch, None)),
-                (0, ByLaw(Asked::Fail(3, "u7"), None)),
+                (0, "load u1", "fresh 0 0"),
+                (0, "loadMany u1 u2", "hit 0, fresh 1 0"),
+                (0, "dispatch", "0: u1 u2"),
+                (0, "settle 0 u1 u2", "2 shown"),
+                (0, "prime u3 5", "Primed { cell: 2, shown: true }"),
+                (0, "clear u3", "done"),
+                (0, "clearAll", "done"),
+                (0, "load u9", "fresh 3 1"),
+                (0, "dispatch", "1: u9"),
+                (0, "fail 1 u9", "1 shown"),
+                (0, "law load u7", "fresh 4 2"),
+                (0, "law loadMany u7", "hit 4"),
+                (0, "law dispatch", "2: u7"),
+                (0, "law settle 2 u7", "Done"),
+                (0, "law clear u7", "Done"),
+                (0, "law prime u7 6", "Primed(5)"),
+                (0, "law clearAll", "Done"),
+                (0, "law load u7", "fresh 6 3"),
+                (0, "law dispatch", "3: u7"),
+                (0, "law fail 3 u7", "Done"),
             ],
             passes: 2,
-            close: Ok(concat!(
+            close: concat!(
                 "20 events, settles 0, fails 1, settles 2, fails 3\n",
                 "caller 0: 0 1 2 3 4 5 6 7 8 9 10 11 12 13 14 15 16 17 18 19",
                 " of [0, 1, 2, 3, 4, 5, 6, 7, 8, 9, 10, 11, 12, 13, 14, 15, 16, 17, 18, 19]\n",
@@ -72,7 +53,7 @@ static ROWS: [Row; 3] = [
                 "cell 4: error no row\n",
                 "cell 5: 6\n",
                 "cell 6: memory\n"
-            )),
+            ),
         }],
     },
     // The batch of another key keeps the loader from being closed.
@@ -82,24 +63,14 @@ static ROWS: [Row; 3] = [
         callers: 1,
         parts: &[Part {
             steps: &[
-                (
-                    0,
-                    Prime(
-                        "u1",
-                        Value("1"),
-                        Ok(Primed {
-                            cell: 0,
-                            shown: true,
-                        }),
-                    ),
-                ),
-                (0, Read("u1", 0, Look, Some("1"))),
-                (0, Tells(" 0 1, 2 calls, front 2")),
-                (0, Prime("u1", Value("1"), Ok(Kept))),
-                (0, LoadMany("u1 u2", Ok("hit 0, fresh 1 0"))),
+                (0, "prime u1 1", "Primed { cell: 0, shown: true }"),
+                (0, "look u1", "hit 0: 1"),
+                (0, "tells", " 0 1, 2 calls, front 2"),
+                (0, "prime u1 1", "Kept"),
+                (0, "loadMany u1 u2", "hit 0, fresh 1 0"),
             ],
             passes: 1,
-            close: Err(Unsettled { batch: 0 }),
+            close: "Unsettled { batch: 0 }",
         }],
     },
     // As many as the first segment of the log has room for, and one more.
@@ -108,13 +79,13 @@ static ROWS: [Row; 3] = [
         limits: (1, 1, 33),
         callers: 1,
         parts: &[Part {
-            steps: &[(0, ClearAll(None)); 33],
+            steps: &[(0, "clearAll", "done"); 33],
             passes: 1,
-            close: Ok(concat!(
+            close: concat!(
                 "33 events\n",
                 "caller 0: 0 1 2 3 4 5 6 7 8 9 10 11 12 13 14 15 16 17 18 19 20 21 22 23 24 25 26 27 28 29 30 31 32",
                 " of [0, 1, 2, 3, 4, 5, 6, 7, 8, 9, 10, 11, 12, 13, 14, 15, 16, 17, 18, 19, 20, 21, 22, 23, 24, 25, 26, 27, 28, 29, 30, 31, 32]\n"
-            )),
+            ),
         }],
     },
 ];

@@ -4,12 +4,12 @@ ghost use Rattle.std.specs.Prelude.{◌≡◌};
 ghost use Rattle.dl_loader.specs.Opening.{Names};
 
 use super::closed_history::history_text;
-use super::keys::assert_same;
 use super::player::Scene;
 use super::stage::Stage;
 use super::step::Part;
 use dl_loader::{CloseFault, History, Loader, LoaderName, Opening, Pass, StartFault};
 use dl_source::Source;
+use dl_tests::assert_is;
 use std::io::Eprint;
 use std::process::Abort;
 use std::sync::Wait;
@@ -81,12 +81,13 @@ fn close<L: LoaderName, R: Abort + Eprint>(
     match closed(stage, loader, passes) {
         Ok(history) => {
             let text = history_text(stage, &history);
-            assert_same(rt, "close", Ok(text.as_str()), part.close);
+            assert_is!(rt, &text.as_str(), &part.close, "close");
             None
         }
         Err((fault, loader, mut passes)) => {
-            assert_same(rt, "close", Err(fault), part.close);
-            assert_same(rt, "passes that come back", passes.len(), part.passes);
+            let text = format!(in stage.alloc; "{fault:?}").expect(rt, "no memory");
+            assert_is!(rt, &text.as_str(), &part.close, "close");
+            assert_is!(rt, &passes.len(), &part.passes, "passes that come back");
             passes.extend(kept).expect(rt, "no memory");
             Some((loader, passes))
         }

@@ -4,9 +4,9 @@ ghost use Rattle.std.specs.Prelude.{◌≡◌};
 
 use super::step::Row;
 use dl_desk::{Limits, TableLimit, TableLimits, Text};
-use dl_fixtures::Refusal;
 use dl_loader::{Opening, StartFault};
 use dl_source::Source;
+use dl_tests::Refusal;
 use std::alloc::Global;
 use std::hash::RandomState;
 use std::io::Eprint;

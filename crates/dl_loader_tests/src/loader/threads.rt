@@ -6,14 +6,14 @@ ghost use Rattle.dl_loader.specs.Opening.{Names};
 ghost use Rattle.dl_loader.specs.Pass.{GaveTicket};
 
 use super::closed_history::history_text;
-use super::keys::user;
 use super::player::Scene;
 use super::stage::Stage;
+use super::texts::user;
 use dl_desk::{FetchKey, LoadReply};
-use dl_fixtures::ADA;
 use dl_loader::laws::looks_agree;
 use dl_loader::{History, Loader, LoaderName, Opening, Pass, Reply, Ticket};
 use dl_source::Source;
+use dl_tests::assert_is;
 use std::alloc::Global;
 use std::io::Eprint;
 use std::process::Abort;
@@ -89,10 +89,19 @@ impl<'a, L: LoaderName, S: Source, R: Abort + Eprint + Wait> Scene<'a, L, S, R> 
         requires first { GaveTicket one.old.trace first.old false }
         requires second { GaveTicket other.old.trace second.old false }
     {
-        self.dispatch(one, Ok("0: u1"));
-        self.settle(one, 0, "u1", Ok(1));
-        self.read(one, first, Some(ADA));
-        self.read(other, second, Some(ADA));
+        self.end_all(one);
+        assert_is!(
+            self.rt,
+            &self.read(one, first).as_str(),
+            &"Ada",
+            "the first"
+        );
+        assert_is!(
+            self.rt,
+            &self.read(other, second).as_str(),
+            &"Ada",
+            "the second"
+        );
         assert!(self.rt; first.cell() == second.cell());
         looks_agree(first, second);
     }

@@ -4,14 +4,15 @@ ghost use Rattle.std.specs.Prelude.{◌≡◌};
 ghost use Rattle.dl_desk.specs.Service.{Answers};
 ghost use Rattle.dl_loader.specs.Opening.{Names};
 
-use super::keys::assert_shows;
+use super::texts::looked_text;
 use dl_desk::FetchKey;
-use dl_fixtures::ADA;
 use dl_loader::{
     CallFault, EntryKind, History, Loader, LoaderName, MOST_CALLERS, Opening, Pass, end_jobs,
 };
 use dl_source::Source;
+use dl_tests::assert_is;
 use std::alloc::Global;
+use std::io::Eprint;
 use std::process::Abort;
 use std::sync::Wait;
 use std::thread;
@@ -90,11 +91,12 @@ fn load<L: LoaderName, S: Source, R: Wait>(
 }
 
 /// The history has one batch, which is settled, and both callers have read the outcome.
-pub(super) fn assert_history(rt: &impl Abort, alloc: Global, history: &History) {
+pub(super) fn assert_history(rt: &(impl Abort + Eprint), alloc: Global, history: &History) {
     let batches = history.batches();
     let batch = batches.get(0).expect(rt, "no batch");
     assert!(rt; batch.is_settled() && batches.get(1).is_none());
-    assert_shows(rt, alloc, history.outcome(0), Some(ADA));
+    let text = looked_text(rt, alloc, history.outcome(0));
+    assert_is!(rt, &text.as_str(), &"Ada", "the outcome");
     for caller in 0..2 {
         let last = history.entries(caller).last().expect(rt, "no entry");
         assert!(rt; matches!(last, EntryKind::Saw { cell: 0, .. }));

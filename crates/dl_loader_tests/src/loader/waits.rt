@@ -5,12 +5,11 @@ ghost use Rattle.std.specs.Prelude.{◌≡◌};
 ghost use Rattle.dl_desk.specs.Service.{Answers};
 ghost use Rattle.dl_loader.specs.Opening.{Names};
 
-use super::keys::{assert_same, assert_shows, user};
 use super::player::Scene;
-use super::step::Step;
-use dl_fixtures::Refusal;
-use dl_loader::{CloseFault, Loader, LoaderName, MOST_CALLERS, Opening, Pass, end_jobs};
+use super::texts::{looked_text, user};
+use dl_loader::{CloseFault, Loader, LoaderName, MOST_CALLERS, Opening, Pass};
 use dl_source::Source;
+use dl_tests::{Refusal, assert_is};
 use std::alloc::Global;
 use std::io::Eprint;
 use std::process::Abort;
@@ -29,8 +28,8 @@ const MOST_LOOKS: u32 = 10_000_000;
 pub(super) enum Release {
     /// It sends the batches, and ends each by what the source answers.
     Ends,
-    /// It makes these calls.
-    By(&'static [Step]),
+    /// It makes these calls, each with what it must answer.
+    By(&'static [(&'static str, &'static str)]),
     /// It stops the loader.
     Stops,
 }
@@ -49,10 +48,10 @@ pub(super) struct Crowd {
 
 impl Crowd {
     /// What a caller is to read, where this is the outcome: nothing at a loader that is stopped.
-    fn shown<'a>(&self, text: &'a str) -> Option<&'a str> {
+    fn shown<'a>(&self, text: &'a str) -> &'a str {
         match self.release {
-            Release::Stops => None,
-            _ => Some(text),
+            Release::Stops => "nothing",
+            _ => text,
         }
     }
 }
@@ -100,7 +99,7 @@ pub(super) fn wait_at_once<
         Release::Stops => Some(CloseFault::Unsettled { batch: 0 }),
         _ => None,
     };
-    assert_same(rt, "close", fault, want);
+    assert_is!(rt, &fault, &want, "close");
 }
 
 /// Each caller takes part on a thread of its own.
@@ -149,13 +148,16 @@ fn take_part<L: LoaderName, S: Source, R: Abort + Eprint + Wait>(
         meeting.await_steps(rt, CALLERS - 1);
         let_go(&scene, pass, &crowd.release);
         meeting.steps.fetch_add(1, Ordering::SeqCst);
-        return assert_shows(rt, alloc, ticket.look(), crowd.shown(text));
+        let seen = looked_text(rt, alloc, ticket.look());
+        assert_is!(rt, &seen.as_str(), &crowd.shown(text), id);
+        return;
     }
     meeting.steps.fetch_add(1, Ordering::SeqCst);
     if crowd.is_late {
         meeting.await_steps(rt, CALLERS);
     }
-    scene.read(pass, &mut ticket, crowd.shown(text));
+    let read = scene.read(pass, &mut ticket);
+    assert_is!(rt, &read.as_str(), &crowd.shown(text), id);
 }
 
 /// Lets the other callers go on.
@@ -166,17 +168,13 @@ fn let_go<L: LoaderName, S: Source, R: Abort + Eprint + Wait>(
 )
     requires { Answers (S.answer scene.now.source.now) L.service }
 {
-    let (rt, alloc, loader) = (scene.rt, scene.alloc, scene.loader);
     match release {
-        Release::Ends => {
-            let jobs = loader.dispatch(rt, alloc, pass).expect(rt, "no jobs");
-            end_jobs(rt, alloc, loader, scene.source, pass, jobs).expect(rt, "no end");
-        }
+        Release::Ends => scene.end_all(pass),
         Release::By(steps) => {
-            for step in *steps {
-                scene.make(pass, *step);
+            for (call, want) in *steps {
+                scene.make(pass, call, want);
             }
         }
-        Release::Stops => loader.stop(rt),
+        Release::Stops => scene.loader.stop(scene.rt),
     }
 }

@@ -3,10 +3,11 @@
 ghost use Rattle.std.specs.Prelude.{◌≡◌, All, length};
 ghost use Rattle.dl_queue.specs.Seats.{AreSeatsOf, IsSenderOf, IsTakerOf};
 
-use crate::workers::comparison::assert_is;
 use dl_desk::{FetchKey, Job, Keys};
+use dl_tests::assert_is;
 use dl_workers::{JobQueue, MOST_SEATS, Sender, Taker, Tally};
 use std::alloc::Global;
+use std::io::Eprint;
 use std::process::Abort;
 use std::sync::Wait;
 use std::sync::atomic::{AtomicBool, AtomicU32, Ordering};
@@ -61,7 +62,7 @@ impl Jobs {
     }
 
     /// Sends the job of a number. Where it comes back it is noted, and the answer is `true`.
-    fn send<R: Abort + Wait>(
+    fn send<R: Abort + Eprint + Wait>(
         &self,
         rt: &R,
         queue: &JobQueue,
@@ -83,7 +84,7 @@ impl Jobs {
 }
 
 /// Sends the jobs of the sender of a number. A sender that has shut the queue gets each of them back.
-fn send_all<R: Abort + Wait>(
+fn send_all<R: Abort + Eprint + Wait>(
     rt: &R,
     queue: &JobQueue,
     sender: &mut Sender,
@@ -114,7 +115,7 @@ fn send_all<R: Abort + Wait>(
 }
 
 /// Takes jobs until the queue is shut and empty.
-fn take_all<R: Abort + Wait>(rt: &R, queue: &JobQueue, taker: &mut Taker, jobs: &Jobs)
+fn take_all<R: Abort + Eprint + Wait>(rt: &R, queue: &JobQueue, taker: &mut Taker, jobs: &Jobs)
     requires { IsTakerOf queue.now taker.old }
     ensures { IsTakerOf queue.now taker.new }
 {
@@ -127,7 +128,7 @@ fn take_all<R: Abort + Wait>(rt: &R, queue: &JobQueue, taker: &mut Taker, jobs: 
 }
 
 /// Each sender sends its jobs on a thread of its own. Then the first of them shuts the queue.
-fn send_by_each<R: Abort + Threads + Wait + Sync>(
+fn send_by_each<R: Abort + Eprint + Threads + Wait + Sync>(
     rt: &R,
     queue: &JobQueue,
     mut senders: Vec<Sender>,
@@ -154,7 +155,7 @@ fn send_by_each<R: Abort + Threads + Wait + Sync>(
 }
 
 /// Each taker takes jobs on a thread of its own, until the queue is shut and empty.
-fn take_by_each<R: Abort + Threads + Wait + Sync>(
+fn take_by_each<R: Abort + Eprint + Threads + Wait + Sync>(
     rt: &R,
     queue: &JobQueue,
     mut takers: Vec<Taker>,
@@ -177,7 +178,7 @@ fn take_by_each<R: Abort + Threads + Wait + Sync>(
 }
 
 /// All senders and takers use the queue at once. Their seats come back.
-fn use_seats<R: Abort + Threads + Wait + Sync>(
+fn use_seats<R: Abort + Eprint + Threads + Wait + Sync>(
     rt: &R,
     queue: &JobQueue,
     senders: Vec<Sender>,
@@ -202,7 +203,11 @@ fn use_seats<R: Abort + Threads + Wait + Sync>(
 }
 
 /// Makes an exchange on a queue of its own. Each of its jobs is taken or comes back once, but for those that are left.
-fn make<R: Abort + Threads + Wait + Sync>(rt: &R, alloc: Global, exchange: &Exchange) -> Tally {
+fn make<R: Abort + Eprint + Threads + Wait + Sync>(
+    rt: &R,
+    alloc: Global,
+    exchange: &Exchange,
+) -> Tally {
     let count = exchange.senders.saturating_mul(exchange.jobs);
     let jobs = Jobs::new(rt, alloc, count);
     let made = JobQueue::new(alloc, exchange.capacity, exchange.senders, exchange.takers);
@@ -211,7 +216,7 @@ fn make<R: Abort + Threads + Wait + Sync>(rt: &R, alloc: Global, exchange: &Exch
     let tally = queue.finish(rt, senders, takers);
     let noted = jobs.noted.load(Ordering::SeqCst);
     let all = u64::from(noted).saturating_add(tally.left);
-    assert_is(rt, &all, &u64::from(count), "jobs");
+    assert_is!(rt, &all, &u64::from(count), "jobs");
     tally
 }
 
@@ -261,7 +266,7 @@ fn each_job_is_taken_once(rt: HostRuntime) {
             left: 0,
         };
         for _ in 0..exchange.times {
-            assert_is(
+            assert_is!(
                 &rt,
                 &make(&rt, rt.alloc(), exchange),
                 &want,

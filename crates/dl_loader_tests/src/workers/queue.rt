@@ -2,10 +2,11 @@
 
 ghost use Rattle.dl_queue.specs.Seats.{IsSenderOf, IsTakerOf};
 
-use crate::workers::comparison::assert_is;
 use dl_desk::{FetchKey, Job, Keys};
+use dl_tests::assert_is;
 use dl_workers::{JobQueue, QueueFault, Sender, Taker, Tally};
 use std::alloc::Global;
+use std::io::Eprint;
 use std::process::Abort;
 use std::sync::Wait;
 
@@ -36,12 +37,12 @@ static NUMBERS: [(u32, u32, u32, Option<QueueFault>); 12] = [
 fn numbers_out_of_range(rt: HostRuntime) {
     for (capacity, senders, takers, fault) in &NUMBERS {
         let made = JobQueue::new(rt.alloc(), *capacity, *senders, *takers);
-        assert_is(&rt, &made.err(), fault, "the numbers of a queue");
+        assert_is!(&rt, &made.err(), fault, "the numbers of a queue");
     }
 }
 
 /// A sender sends the job of a number. Whether it comes back is as it is said.
-fn send<R: Abort + Wait>(
+fn send<R: Abort + Eprint + Wait>(
     rt: &R,
     alloc: Global,
     queue: &JobQueue,
@@ -54,7 +55,7 @@ fn send<R: Abort + Wait>(
 {
     let back = queue.send(rt, sender, job(rt, alloc, batch)).err();
     let want = if is_back { Some(batch) } else { None };
-    assert_is(
+    assert_is!(
         rt,
         &back.map(|job| job.batch),
         &want,
@@ -63,12 +64,12 @@ fn send<R: Abort + Wait>(
 }
 
 /// A taker takes the job of this number.
-fn take<R: Abort + Wait>(rt: &R, queue: &JobQueue, taker: &mut Taker, want: Option<u32>)
+fn take<R: Abort + Eprint + Wait>(rt: &R, queue: &JobQueue, taker: &mut Taker, want: Option<u32>)
     requires { IsTakerOf queue.now taker.old }
     ensures { IsTakerOf queue.now taker.new }
 {
     let job = queue.take(rt, taker);
-    assert_is(
+    assert_is!(
         rt,
         &job.map(|job| job.batch),
         &want,
@@ -90,7 +91,7 @@ fn one_job_and_then_shut(rt: HostRuntime) {
         taken: 1,
         left: 0,
     };
-    assert_is(&rt, &queue.finish(&rt, senders, takers), &tally, "one job");
+    assert_is!(&rt, &queue.finish(&rt, senders, takers), &tally, "one job");
 }
 
 #[test]
@@ -103,7 +104,7 @@ fn one_job_left(rt: HostRuntime) {
         taken: 0,
         left: 1,
     };
-    assert_is(
+    assert_is!(
         &rt,
         &queue.finish(&rt, senders, takers),
         &tally,
@@ -135,7 +136,7 @@ fn what_is_left_comes_before_the_end(rt: HostRuntime) {
         taken: 3,
         left: 0,
     };
-    assert_is(
+    assert_is!(
         &rt,
         &queue.finish(&rt, senders, takers),
         &tally,

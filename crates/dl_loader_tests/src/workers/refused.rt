@@ -2,7 +2,7 @@
 //! refusal. `tests/calls` runs this above `tests/refuse.c`; without that library nothing is refused, and each call is made once.
 
 use crate::workers::work::{ROW, Row, Stage, try_row};
-use dl_fixtures::{Kind, MOST_GROWTHS, Refusal, USERS, tables};
+use dl_tests::{Kind, MOST_GROWTHS, Refusal, USERS, tables};
 use std::hash::RandomState;
 
 /// A batch of one key.

@@ -6,11 +6,10 @@ ghost use Rattle.dl_loader.specs.Opening.{Names};
 ghost use Rattle.dl_loader.specs.Pass.{GaveTicket};
 ghost use Rattle.dl_queue.specs.Seats.{AreSeatsOf, IsSenderOf, IsTakerOf};
 
-use crate::workers::comparison::assert_is;
 use dl_desk::{FetchKey, Limits};
-use dl_fixtures::{ADA, BOB, Refusal, USERS, numbered_keys, outcome_text, tables};
 use dl_loader::{CallFault, CloseFault, History, Loader, LoaderName, Opening, Pass, Ticket};
 use dl_source::{Source, Tables};
+use dl_tests::{ADA, BOB, Refusal, USERS, assert_is, numbered_keys, outcome_text, tables};
 use dl_workers::{Gate, JobQueue, QueueFault, Sender, Taker, Tally, WorkerEnd, work};
 use std::alloc::Global;
 use std::hash::RandomState;
@@ -210,19 +209,19 @@ fn play<L: LoaderName, S: Source, R: Abort + Eprint + Wait>(
     let was_refused = use_loader(stage, &loader, source, &mut passes, row);
     match loader.close(alloc, passes) {
         Ok(history) => assert_batches(rt, &history, row, was_refused),
-        Err((fault, _, _)) => assert_is(rt, &Some(fault), &row.closed.err(), row.about),
+        Err((fault, _, _)) => assert_is!(rt, &Some(fault), &row.closed.err(), row.about),
     }
 }
 
 /// The history has the batches of the row, each of which was settled or not, as the row says. Where a growth was refused, none was.
-fn assert_batches(rt: &impl Abort, history: &History, row: &Row, was_refused: bool) {
+fn assert_batches(rt: &(impl Abort + Eprint), history: &History, row: &Row, was_refused: bool) {
     let want = row.closed.expect(rt, row.about);
     let batches = history.batches();
     for (number, is_settled) in want.iter().enumerate() {
         let number = u32::try_from(number).expect(rt, "no number of a batch");
         let batch = batches.get(number).expect(rt, "a batch too few");
         let is_settled = *is_settled && !was_refused;
-        assert_is(rt, &batch.is_settled(), &is_settled, row.about);
+        assert_is!(rt, &batch.is_settled(), &is_settled, row.about);
     }
 }
 
@@ -266,20 +265,20 @@ fn use_loader<L: LoaderName, S: Source, R: Abort + Eprint + Wait>(
     send(rt, alloc, loader, &mut caller, &queue, &mut senders[0]);
     queue.shut(rt, &mut senders[0]);
     let worked = work_once(stage, loader, source, &mut worker, &queue, &mut takers[0]);
-    assert_is(rt, &worked.end, &row.end, row.about);
-    assert_is(rt, &worked.told, &row.told, row.about);
+    assert_is!(rt, &worked.end, &row.end, row.about);
+    assert_is!(rt, &worked.told, &row.told, row.about);
     let text = wait(rt, alloc, loader, &mut caller, ticket);
     let is_failed = worked.was_refused && text.as_str() == "memory";
     let waited = if is_failed { "memory" } else { row.waited };
-    assert_is(rt, &text.as_str(), &waited, row.about);
+    assert_is!(rt, &text.as_str(), &waited, row.about);
     let next = loader.clear_all(rt, alloc, &mut caller);
-    assert_is(rt, &next, &row.next, row.about);
+    assert_is!(rt, &next, &row.next, row.about);
     let tally = Tally {
         sent: row.jobs,
         taken: row.jobs,
         left: 0,
     };
-    assert_is(rt, &queue.finish(rt, senders, takers), &tally, row.about);
+    assert_is!(rt, &queue.finish(rt, senders, takers), &tally, row.about);
     passes.push(caller).expect(rt, "no room");
     passes.push(worker).expect(rt, "no room");
     is_failed

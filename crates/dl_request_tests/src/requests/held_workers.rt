@@ -1,11 +1,9 @@
 //! Workers that fetch at once, and plans that run at once: one worker is held until another has ended its batch.
 
-use crate::comparison::assert_is;
-use crate::requests::plans::StepShape::{Clear, Eval};
 use crate::requests::row::{Row, try_row};
 use crate::requests::rows::ROW;
 use crate::stage::Setting;
-use dl_fixtures::{ADA, BOB, Shape, U1, U2};
+use dl_tests::{ADA, BOB, ONE, assert_is};
 use dl_workers::Gate;
 use std::sync::atomic::{AtomicBool, Ordering};
 use std::thread::yield_now;
@@ -49,7 +47,7 @@ static ROWS: [Row; 2] = [
         queue: 4,
         workers: &[2],
         times: 1,
-        plans: &[&[Eval(Shape::All(&[U1, U2]))]],
+        plans: &[r#"[{"eval":{"all":[{"load":["user","u1"]},{"load":["user","u2"]}]}}]"#],
         answers: &[&[(
             0,
             r#"[{"best":"u2","friends":["u2","u3"],"name":"Ada"},{"best":"u1","friends":[],"name":"Bob"}]"#,
@@ -63,7 +61,10 @@ static ROWS: [Row; 2] = [
         queue: 4,
         workers: &[2],
         times: 1,
-        plans: &[&[Eval(U1)], &[Clear("u1"), Eval(U2)]],
+        plans: &[
+            ONE,
+            r#"[{"clear":["user","u1"]},{"eval":{"load":["user","u2"]}}]"#,
+        ],
         answers: &[&[(0, ADA)], &[(1, BOB)]],
         rounds: &[1, 1],
         batches: None,
@@ -81,6 +82,6 @@ fn batches_that_are_fetched_at_once(rt: HostRuntime) {
             gave_up: AtomicBool::new(false),
         };
         try_row(&stage, &setting.users, &gate, row);
-        assert_is(&rt, &gate.gave_up.load(Ordering::SeqCst), &false, row.about);
+        assert_is!(&rt, &gate.gave_up.load(Ordering::SeqCst), &false, row.about);
     }
 }

@@ -1,25 +1,23 @@
 //! Plans that are refused, at both sides of each limit, and batches that are not fetched.
 
-use crate::requests::plans::PlanShape;
-use crate::requests::plans::StepShape::{Clear, Eval};
 use crate::requests::row::{Row, try_row};
 use crate::stage::Setting;
-use dl_fixtures::{NoRoom, Shape, U1, U2};
 use dl_haxl::RunFault;
 use dl_loader::CallFault;
 use dl_scope::ScopeFault;
+use dl_tests::NoRoom;
 use dl_workers::{NoGate, QueueFault};
 
 /// A plan of no steps.
-const NO_STEPS: PlanShape = &[];
+const NO_STEPS: &str = "[]";
 
 /// A plan of two users.
-const BOTH: PlanShape = &[Eval(Shape::All(&[U1, U2]))];
+const BOTH: &str = r#"[{"eval":{"all":[{"load":["user","u1"]},{"load":["user","u2"]}]}}]"#;
 
-/// An object whose field lists forty users.
+/// A plan of forty users.
 const FORTY: &str = concat!(
-    r#"{"f":["a0","a1","a2","a3","a4","a5","a6","a7","a8","a9","b0","b1","b2","b3","b4","b5","b6","b7","b8","b9","#,
-    r#""c0","c1","c2","c3","c4","c5","c6","c7","c8","c9","d0","d1","d2","d3","d4","d5","d6","d7","d8","d9"]}"#
+    r#"[{"eval":{"each":[{"value":{"f":["a0","a1","a2","a3","a4","a5","a6","a7","a8","a9","b0","b1","b2","b3","b4","b5","b6","b7","b8","b9","#,
+    r#""c0","c1","c2","c3","c4","c5","c6","c7","c8","c9","d0","d1","d2","d3","d4","d5","d6","d7","d8","d9"]}},"f","user"]}}]"#
 );
 
 /// A row of a plan of no steps, from which the others differ.
@@ -86,7 +84,10 @@ static ROWS: [Row; 9] = [
     },
     Row {
         about: "two calls of the second plan where there is one",
-        plans: &[NO_STEPS, &[Clear("u1"), Clear("u1")]],
+        plans: &[
+            NO_STEPS,
+            r#"[{"clear":["user","u1"]},{"clear":["user","u1"]}]"#,
+        ],
         most: (2, 8, 1),
         fault: Some(ScopeFault::Run {
             plan: 1,
@@ -96,7 +97,7 @@ static ROWS: [Row; 9] = [
     },
     Row {
         about: "forty jobs behind workers that give up, over a queue with room for one",
-        plans: &[&[Eval(Shape::Each(&Shape::Value(FORTY), "f"))]],
+        plans: &[FORTY],
         most: (1, 64, 2),
         fault: Some(ScopeFault::Stopped),
         ..REFUSED
@@ -107,14 +108,14 @@ static ROWS: [Row; 9] = [
 static NOT_FETCHED: [Row; 2] = [
     Row {
         about: "the second batch isn't fetched",
-        plans: &[&[Eval(U1), Eval(Shape::Load("shop", "s"))]],
+        plans: &[r#"[{"eval":{"load":["user","u1"]}},{"eval":{"load":["shop","s"]}}]"#],
         queue: 4,
         fault: Some(ScopeFault::Unfetched { batch: 1 }),
         ..REFUSED
     },
     Row {
         about: "two batches aren't fetched",
-        plans: &[&[Eval(Shape::All(&[Shape::Load("shop", "s"), Shape::Load("shop", "t")]))]],
+        plans: &[r#"[{"eval":{"all":[{"load":["shop","s"]},{"load":["shop","t"]}]}}]"#],
         most: (1, 8, 32),
         fault: Some(ScopeFault::Unfetched { batch: 0 }),
         ..REFUSED

@@ -1,12 +1,11 @@
 //! Rows of plans, and how they are served: under a refusal, which may be of nothing.
 
-use crate::comparison::{Batch, assert_batches, assert_is, count_batches};
-use crate::requests::plans::PlanShape;
+use crate::batches::{Batch, assert_batches, count_batches};
 use crate::stage::Stage;
 use dl_desk::Limits;
-use dl_fixtures::answer_text;
 use dl_scope::{Report, ScopeFault, Setup, StepAnswer, serve};
 use dl_source::Source;
+use dl_tests::{answer_text, assert_is};
 use dl_workers::{Gate, Tally};
 use std::io::Eprint;
 use std::process::Abort;
@@ -26,7 +25,8 @@ pub(crate) struct Row {
     /// By how many workers the plans are served, one number after another, and how often by each.
     pub(crate) workers: &'static [u32],
     pub(crate) times: u32,
-    pub(crate) plans: &'static [PlanShape],
+    /// Each as a plan file has it.
+    pub(crate) plans: &'static [&'static str],
     /// Why there is no report. None: there is one, and it has what follows.
     pub(crate) fault: Option<ScopeFault>,
     /// For each plan, the answers of its terms.
@@ -95,11 +95,11 @@ fn serve_row<S: Source + Sync, G: Gate + Sync, R: Abort + Eprint + Threads + Wai
     if was_refused && stage.is_out_of_memory(fault) {
         return None;
     }
-    assert_is(rt, &fault, &row.fault, row.about);
+    assert_is!(rt, &fault, &row.fault, row.about);
     Some(batches)
 }
 
-impl<R: Abort> Stage<'_, R> {
+impl<R: Abort + Eprint> Stage<'_, R> {
     /// Whether plans may end so where a growth or a thread is refused.
     fn is_out_of_memory(&self, fault: Option<ScopeFault>) -> bool {
         let text = format!(in self.alloc; "{fault:?}").expect(self.rt, "no memory");
@@ -109,11 +109,11 @@ impl<R: Abort> Stage<'_, R> {
     /// The report has what the row says.
     fn assert_report(&self, report: &Report, row: &Row) {
         let answers = report.answers();
-        assert_is(self.rt, &answers.len(), &row.answers.len(), row.about);
+        assert_is!(self.rt, &answers.len(), &row.answers.len(), row.about);
         for (given, want) in answers.iter().zip(row.answers.iter()) {
             self.assert_answers(given.as_slice(), want);
         }
-        assert_is(self.rt, &report.rounds(), &row.rounds, row.about);
+        assert_is!(self.rt, &report.rounds(), &row.rounds, row.about);
         if let Some(batches) = row.batches {
             let jobs = batches.len() as u64;
             let tally = Tally {
@@ -121,23 +121,23 @@ impl<R: Abort> Stage<'_, R> {
                 taken: jobs,
                 left: 0,
             };
-            assert_batches(self.rt, report.history(), batches, row.about);
-            assert_is(self.rt, &report.tally(), &tally, row.about);
+            assert_batches(self.rt, self.alloc, report.history(), batches, row.about);
+            assert_is!(self.rt, &report.tally(), &tally, row.about);
         }
         if let Some(calls) = row.calls {
             let events = report.history().events();
-            assert_is(self.rt, &events.len(), &calls, row.about);
+            assert_is!(self.rt, &events.len(), &calls, row.about);
         }
     }
 
     /// A plan gave these answers.
     fn assert_answers(&self, given: &[StepAnswer], want: Answers) {
-        assert_is(self.rt, &given.len(), &want.len(), "answers");
+        assert_is!(self.rt, &given.len(), &want.len(), "answers");
         for (given, (step, want)) in given.iter().zip(want.iter()) {
-            assert_is(self.rt, &given.step, step, "step");
+            assert_is!(self.rt, &given.step, step, "step");
             let text = answer_text(self.alloc, &given.answer);
             let text = text.expect(self.rt, "no memory");
-            assert_is(self.rt, &text.as_str(), want, "answer");
+            assert_is!(self.rt, &text.as_str(), want, "answer");
         }
     }
 }

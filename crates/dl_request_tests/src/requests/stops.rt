@@ -1,16 +1,13 @@
 //! Plans that are stopped by the fault of another, while they wait for a batch: the plan with the fault is named, whichever stands
 //! first, and none is left waiting.
 
-use crate::comparison::assert_is;
-use crate::requests::plans::PlanShape;
-use crate::requests::plans::StepShape::Eval;
 use crate::requests::row::{Row, try_row};
 use crate::requests::rows::ROW;
 use crate::stage::Setting;
-use dl_fixtures::{Shape, U1, U2};
 use dl_haxl::RunFault;
 use dl_loader::CallFault;
 use dl_scope::ScopeFault;
+use dl_tests::assert_is;
 use dl_workers::Gate;
 use std::sync::atomic::{AtomicU32, Ordering};
 use std::thread::sleep;
@@ -20,21 +17,15 @@ use std::time::{Clock, Duration};
 const MOST_CELLS: u32 = 6;
 
 /// A plan that needs more cells than there may be.
-const FAULTY: PlanShape = &[Eval(Shape::Each(
-    &Shape::Value(r#"{"f":["a","b","c","d","e","f","g"]}"#),
-    "f",
-))];
+const FAULTY: &str =
+    r#"[{"eval":{"each":[{"value":{"f":["a","b","c","d","e","f","g"]}},"f","user"]}}]"#;
 
 /// A plan of six batches, one after another, which then needs more cells than there may be.
-const LATER: PlanShape = &[
-    Eval(U1),
-    Eval(U2),
-    Eval(Shape::Load("user", "u3")),
-    Eval(Shape::Load("user", "u4")),
-    Eval(Shape::Load("user", "u5")),
-    Eval(Shape::Load("user", "u6")),
-    Eval(Shape::Load("user", "u7")),
-];
+const LATER: &str = concat!(
+    r#"[{"eval":{"load":["user","u1"]}},{"eval":{"load":["user","u2"]}},{"eval":{"load":["user","u3"]}},"#,
+    r#"{"eval":{"load":["user","u4"]}},{"eval":{"load":["user","u5"]}},{"eval":{"load":["user","u6"]}},"#,
+    r#"{"eval":{"load":["user","u7"]}}]"#
+);
 
 /// For how many milliseconds a worker is held before it fetches.
 const HOLD: u64 = 50;
@@ -96,6 +87,6 @@ fn a_plan_that_waits_is_stopped_by_the_fault_of_another(rt: HostRuntime) {
         try_row(&stage, &setting.users, &gate, row);
         // By each of three numbers of workers fewer than all batches of the plan that waits have ended.
         let ended = gate.ended.load(Ordering::SeqCst);
-        assert_is(&rt, &(ended < 3 * MOST_CELLS), &true, row.about);
+        assert_is!(&rt, &(ended < 3 * MOST_CELLS), &true, row.about);
     }
 }

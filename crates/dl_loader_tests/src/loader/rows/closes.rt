@@ -1,17 +1,13 @@
 //! Closes of a loader, some of which are refused, and what the last one leaves.
 
 use crate::loader::play_rows;
-use crate::loader::step::Step::{Clear, Dispatch, Fail as GivesUp, Load, LoadMany, Settle};
 use crate::loader::step::{Part, Row};
-use dl_desk::LoadReply::Fresh;
-use dl_loader::CloseFault::{PassesMissing, Unsettled};
-use dl_loader::GiveUp::Memory;
 
 /// The load of the first key, and a close, which is refused.
 const BEGUN: Part = Part {
-    steps: &[(0, Load("u1", Ok(Fresh { cell: 0, batch: 0 })))],
+    steps: &[(0, "load u1", "fresh 0 0")],
     passes: 1,
-    close: Err(Unsettled { batch: 0 }),
+    close: "Unsettled { batch: 0 }",
 };
 
 static BATCHES: [Row; 4] = [
@@ -22,17 +18,14 @@ static BATCHES: [Row; 4] = [
         parts: &[
             BEGUN,
             Part {
-                steps: &[
-                    (0, Dispatch(Ok("0: u1"))),
-                    (0, GivesUp(0, "u1", Memory, Ok(1))),
-                ],
+                steps: &[(0, "dispatch", "0: u1"), (0, "fail 0 u1", "1 shown")],
                 passes: 1,
-                close: Ok(concat!(
+                close: concat!(
                     "3 events, fails 0\n",
                     "caller 0: 0 1 2 of [0, 1, 2]\n",
                     "batch 0 failed: u1\n",
                     "cell 0: memory\n"
-                )),
+                ),
             },
         ],
     },
@@ -44,12 +37,12 @@ static BATCHES: [Row; 4] = [
             BEGUN,
             Part {
                 steps: &[
-                    (0, Dispatch(Ok("0: u1"))),
-                    (0, GivesUp(0, "u1", Memory, Ok(1))),
-                    (0, LoadMany("u1", Ok("fresh 1 1"))),
+                    (0, "dispatch", "0: u1"),
+                    (0, "fail 0 u1", "1 shown"),
+                    (0, "loadMany u1", "fresh 1 1"),
                 ],
                 passes: 1,
-                close: Err(Unsettled { batch: 1 }),
+                close: "Unsettled { batch: 1 }",
             },
         ],
     },
@@ -80,40 +73,34 @@ static PASSES: [Row; 2] = [
         callers: 2,
         parts: &[
             Part {
-                steps: &[
-                    (0, Load("u1", Ok(Fresh { cell: 0, batch: 0 }))),
-                    (1, Load("u2", Ok(Fresh { cell: 1, batch: 1 }))),
-                ],
+                steps: &[(0, "load u1", "fresh 0 0"), (1, "load u2", "fresh 1 1")],
                 passes: 0,
-                close: Err(PassesMissing { want: 2, got: 0 }),
+                close: "PassesMissing { want: 2, got: 0 }",
             },
             Part {
-                steps: &[(1, Dispatch(Ok("0: u1, 1: u2")))],
+                steps: &[(1, "dispatch", "0: u1, 1: u2")],
                 passes: 1,
-                close: Err(PassesMissing { want: 2, got: 1 }),
+                close: "PassesMissing { want: 2, got: 1 }",
             },
             Part {
                 steps: &[],
                 passes: 2,
-                close: Err(Unsettled { batch: 0 }),
+                close: "Unsettled { batch: 0 }",
             },
             Part {
-                steps: &[
-                    (0, Settle(0, "u1", Ok(1))),
-                    (1, Load("u3", Ok(Fresh { cell: 2, batch: 2 }))),
-                ],
+                steps: &[(0, "settle 0 u1", "1 shown"), (1, "load u3", "fresh 2 2")],
                 passes: 2,
-                close: Err(Unsettled { batch: 1 }),
+                close: "Unsettled { batch: 1 }",
             },
             Part {
-                steps: &[(0, GivesUp(1, "u2", Memory, Ok(1)))],
+                steps: &[(0, "fail 1 u2", "1 shown")],
                 passes: 2,
-                close: Err(Unsettled { batch: 2 }),
+                close: "Unsettled { batch: 2 }",
             },
             Part {
-                steps: &[(0, Dispatch(Ok("2: u3"))), (1, Settle(2, "u3", Ok(1)))],
+                steps: &[(0, "dispatch", "2: u3"), (1, "settle 2 u3", "1 shown")],
                 passes: 2,
-                close: Ok(concat!(
+                close: concat!(
                     "8 events, settles 0, fails 1, settles 2\n",
                     "caller 0: 0 3 5 6 of [0, 3, 5, 6]\n",
                     "caller 1: 1 2 4 7 of [1, 2, 4, 7]\n",
@@ -123,7 +110,7 @@ static PASSES: [Row; 2] = [
                     "cell 0: Ada\n",
                     "cell 1: memory\n",
                     "cell 2: {\"name\":\"Cy\"}\n"
-                )),
+                ),
             },
         ],
     },
@@ -133,14 +120,14 @@ static PASSES: [Row; 2] = [
         callers: 32,
         parts: &[
             Part {
-                steps: &[(0, Clear("u1", None)), (31, Clear("u1", None))],
+                steps: &[(0, "clear u1", "done"), (31, "clear u1", "done")],
                 passes: 31,
-                close: Err(PassesMissing { want: 32, got: 31 }),
+                close: "PassesMissing { want: 32, got: 31 }",
             },
             Part {
                 steps: &[],
                 passes: 32,
-                close: Ok("2 events\ncaller 0: 0 of [0]\ncaller 31: 1 of [1]\n"),
+                close: "2 events\ncaller 0: 0 of [0]\ncaller 31: 1 of [1]\n",
             },
         ],
     },

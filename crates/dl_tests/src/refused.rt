@@ -1,0 +1,55 @@
+//! The calls that need no loader, each with its first growth refused, then with the second, and so on until it meets no refusal. It is
+//! out of memory then or answers as ever, and where it was out of memory the same call made again answers as ever. `tests/calls` runs
+//! this above `tests/refuse.c`; without that library nothing is refused, and each call is made once.
+
+mod cells;
+mod desk;
+mod tables;
+mod terms;
+mod values;
+
+use crate::{Kind, MOST_GROWTHS, Refusal};
+use std::alloc::Global;
+use std::hash::RandomState;
+use std::io::Eprint;
+use std::process::Abort;
+
+/// What calls are made with, and what they are refused.
+#[derive(Drop)]
+struct Stage<'a, R> {
+    rt: &'a R,
+    alloc: Global,
+    hashing: RandomState,
+    refusal: &'a Refusal,
+}
+
+impl<R: Abort + Eprint> Stage<'_, R> {
+    fn use_all(&self) {
+        self.use_values();
+        self.use_mixed_desk();
+        self.use_primed_desks();
+        self.use_desk_by_table();
+        self.use_tables();
+        self.use_cells();
+        self.use_terms();
+    }
+}
+
+#[test]
+fn calls_without_a_loader(rt: HostRuntime) {
+    let hashing = RandomState::new(&rt).expect(&rt, "no random numbers");
+    for nth in 1..MOST_GROWTHS {
+        let refusal = Refusal::of_each(rt.alloc(), Kind::Growth, nth);
+        let stage = Stage {
+            rt: &rt,
+            alloc: rt.alloc(),
+            hashing,
+            refusal: &refusal,
+        };
+        stage.use_all();
+        if !refusal.has_met() {
+            return;
+        }
+    }
+    panic!(rt; "growths without end");
+}

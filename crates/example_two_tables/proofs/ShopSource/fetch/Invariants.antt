@@ -1,7 +1,0 @@
--- Each of the keys so far has its outcome.
-use Rattle.std.proofs.Common.{◌≡◌, take, map}
-use Rattle.example_two_tables.specs.Shop.{outcome_of}
-use Rattle.example_two_tables.proofs.ShopSource.fetch.Given as goal
-
-abbrev pub invariant-loop-key : goal.invariant-loop-key
-invariant-loop-key l = l.outcomes.items ≡ map (λ key. outcome_of key) (take l.key-index l.keys)
