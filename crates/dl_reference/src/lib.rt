@@ -5,7 +5,7 @@
 //! calls. This crate is the same in plain Rust, for a reader who would rather read that. It keeps no memo
 //! and no batches, but the list of the calls that were accepted, each an [`Atom`], and looks through all
 //! of it for each answer. Each answer is proved to be the one that the definitions give. So calls that
-//! are run here, with replies that were worked out by hand, test the definitions themselves; `dl_plans_tests`
+//! are run here, with replies that were worked out by hand, test the definitions themselves; `dl_tests`
 //! runs them.
 //!
 //! It is a slow loader, and no program uses it.

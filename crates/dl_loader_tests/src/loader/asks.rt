@@ -1,7 +1,7 @@
 //! The calls of a loader, from their texts, and what they answer as a text.
 
 ghost use Rattle.std.specs.Prelude.{◌≡◌, false, IfOk, IfSome};
-ghost use Rattle.dl_history.specs.Service.{Answers};
+ghost use Rattle.dl_desk.specs.Service.{Answers};
 ghost use Rattle.dl_loader.specs.Asks.{source_asked};
 ghost use Rattle.dl_loader.specs.Pass.{GaveTicket};
 ghost use Rattle.dl_source.specs.Fetched.{source_of};
