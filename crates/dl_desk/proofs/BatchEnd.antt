@@ -5,11 +5,11 @@ use Rattle.std.specs.Option.{option_eq}
 use Rattle.std.proofs.lemmas.Bool.{cases_eq, eqb-true, eq-eqb, true≢false}
 use Rattle.std.proofs.lemmas.Option.{slice_get-map, slice_get_within}
 use Rattle.std.proofs.lemmas.List.{map-set, length-set, length-take}
-use Rattle.dl_desk.specs.StoredBatch.{StoredBatch}
+use Rattle.dl_desk.specs.Inside.StoredBatch.{StoredBatch}
 use Rattle.dl_desk.specs.BatchBook.{Batch}
-use Rattle.dl_desk.specs.Preparation.{prepared_batch, shown_batch, set_end}
-use Rattle.dl_desk.specs.Marks.{DeskFields, IsStored, IsDesk}
-use Rattle.dl_desk.specs.TableBook.{TableBook, TouchedBy, both}
+use Rattle.dl_desk.specs.Inside.Preparation.{prepared_batch, shown_batch, set_end}
+use Rattle.dl_desk.specs.Inside.Marks.{DeskFields, IsStored, IsDesk}
+use Rattle.dl_desk.specs.Inside.TableBook.{TableBook, TouchedBy, both}
 use Rattle.dl_desk.specs.declared.desk.Extent.{Extent}
 use Rattle.dl_desk.specs.declared.reply.End.{End}
 use Rattle.dl_desk.proofs.Tails.{get-set_same, get-set_other}
@@ -65,9 +65,11 @@ at_both f begun n xs x low at = rw (get-take (map f xs) begun n low, slice_get-m
 none_at : (prepared shown n : ℕ) (xs : List StoredBatch) (x : StoredBatch) → take prepared (map prepared_batch xs) ≡ take shown (map shown_batch xs)
     → n < length (take shown (map shown_batch xs)) → slice_get xs n ≡ Some x → shown_batch x ≡ prepared_batch x
 none_at prepared shown n xs x same low at =
-    let f : slice_get (take shown (map shown_batch xs)) n ≡ Some (shown_batch x) = at_both shown_batch shown n xs x (low_begun shown n (map shown_batch xs) low) at in
+    let f : slice_get (take shown (map shown_batch xs)) n ≡ Some (shown_batch x) =
+    at_both shown_batch shown n xs x (low_begun shown n (map shown_batch xs) low) at in
     let low_too : n < length (take prepared (map prepared_batch xs)) = rw same low in
-    let w : slice_get (take prepared (map prepared_batch xs)) n ≡ Some (prepared_batch x) = at_both prepared_batch prepared n xs x (low_begun prepared n (map prepared_batch xs) low_too) at in
+    let w : slice_get (take prepared (map prepared_batch xs)) n ≡ Some (prepared_batch x) =
+    at_both prepared_batch prepared n xs x (low_begun prepared n (map prepared_batch xs) low_too) at in
     let g : slice_get (take shown (map shown_batch xs)) n ≡ Some (prepared_batch x) = rw same at w in
     let two : ◌≡◌ {A = Option Batch} (Some (shown_batch x)) (Some (prepared_batch x)) = sym f ∙ g in
     cc
@@ -104,7 +106,8 @@ desk_marked d n x y e is m = record {
       (low_begun d.prepared.begun n (map prepared_batch d.batches) (rw m.same m.low)));
   shown_book
       = rw map-set
-      (stored_set d.shown d.max_cells n (map shown_batch d.batches) (shown_batch y) is.shown_book (low_begun d.shown.begun n (map shown_batch d.batches) m.low));
+      (stored_set d.shown d.max_cells n (map shown_batch d.batches) (shown_batch y) is.shown_book
+      (low_begun d.shown.begun n (map shown_batch d.batches) m.low));
   later = is.later;
   tables = fit_same d.max_batch (both d.shown.begun d.prepared.begun d.batches) (both d.shown.begun d.prepared.begun (set d.batches n y)) d.tables
       (touched_marked n d.batches x y d.tables m.at (m.shown_end ∙ (ap (λ (b : Batch). with_end b e)

@@ -13,7 +13,7 @@ use Rattle.dl_desk.specs.declared.fault.DeskFault.TheVariants.{NoBatch, NotSent,
 use Rattle.dl_desk.specs.Calls.{new_count, full, IsRefusal}
 use Rattle.dl_desk.specs.declared.call.DeskCall.TheVariants.{LoadMany}
 use Rattle.dl_desk.specs.BatchBook.{BatchBook, StandsFor}
-use Rattle.dl_desk.specs.Preparation.{RefusesStep}
+use Rattle.dl_desk.specs.Inside.Preparation.{RefusesStep}
 use Rattle.dl_values.proofs.KeyLemmas.{key_eq-same}
 use Rattle.dl_desk.proofs.HeldLemmas.{held-same, held-begun}
 

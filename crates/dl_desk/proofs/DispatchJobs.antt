@@ -3,9 +3,9 @@ use Rattle.std.proofs.Common.{◌≡◌, ℕ, zero, suc, ◌+◌, ◌-◌, ◌<�
 use Rattle.std.proofs.lemmas.Option.{slice_get-map}
 use Rattle.dl_values.specs.Key.{Key}
 use Rattle.dl_desk.specs.History.{Atom, begun, sent, members, jobs_from, jobs}
-use Rattle.dl_desk.specs.StoredBatch.{StoredBatch}
+use Rattle.dl_desk.specs.Inside.StoredBatch.{StoredBatch}
 use Rattle.dl_desk.specs.BatchBook.{Batch, BatchBook, StandsFor}
-use Rattle.dl_desk.specs.Preparation.{members_at, book_jobs}
+use Rattle.dl_desk.specs.Inside.Preparation.{members_at, book_jobs}
 use Rattle.dl_values.specs.declared.job.Job.{Job}
 use Rattle.dl_desk.proofs.Facts.{sent-le}
 use Rattle.dl_desk.proofs.OpenBatch.{members_at-are}
@@ -44,6 +44,7 @@ get-take (x ∷ xs) (suc k) zero low = refl
 get-take (x ∷ xs) (suc k) (suc n) low = get-take xs k n (omega arith)
 
 -- a begun batch, as the book has it
-pub members_at-stored : (f : StoredBatch → Batch) (book : BatchBook) (begun n : ℕ) (xs : List StoredBatch) (x : StoredBatch) → book.batches ≡ take begun (map f xs)
+pub members_at-stored : (f : StoredBatch → Batch) (book : BatchBook) (begun n : ℕ) (xs : List StoredBatch) (x : StoredBatch)
+    → book.batches ≡ take begun (map f xs)
     → n < begun → slice_get xs n ≡ Some x → members_at book n ≡ (f x).members
 members_at-stored f book begun n xs x is low at = rw (is, get-take (map f xs) begun n low, slice_get-map f xs n, at) refl

@@ -9,8 +9,8 @@ use Rattle.dl_desk.specs.History.{Atom, Settle, Fail, Begun, begins, cells, is_n
 use Rattle.dl_desk.specs.History.{begun, end_of, MayEnd, IsAnswered, IsLegal}
 use Rattle.dl_desk.specs.declared.reply.End.{End}
 use Rattle.dl_desk.specs.declared.reply.End.TheVariants.{Settled, Failed}
-use Rattle.dl_desk.specs.BatchBook.{Batch, BatchBook, batch_at, StandsFor}
-use Rattle.dl_desk.specs.Preparation.{has_pair, without, set_end, MayEndIn, Forgets}
+use Rattle.dl_desk.specs.BatchBook.{Batch, BatchBook, batch_at, StandsFor, MayEndIn}
+use Rattle.dl_desk.specs.Inside.Preparation.{has_pair, without, set_end, Forgets}
 use Rattle.dl_values.proofs.KeyLemmas.{key_eq-sym}
 use Rattle.dl_desk.proofs.Facts.{fresh_cell}
 use Rattle.dl_desk.proofs.HeldLemmas.{held-same}

@@ -8,11 +8,11 @@ use Rattle.std.proofs.lemmas.Option.{slice_get-map, slice_get_past}
 use Rattle.std.specs.Map.{lookup}
 use Rattle.std.proofs.lemmas.List.{map-append, map-set, length-set, length-map, length-take, take_all, take-take, take-append-le}
 use Rattle.dl_values.specs.Key.{Key, key_eq}
-use Rattle.dl_desk.specs.StoredBatch.{StoredBatch, blank}
+use Rattle.dl_desk.specs.Inside.StoredBatch.{StoredBatch, blank}
 use Rattle.dl_desk.specs.BatchBook.{Batch}
-use Rattle.dl_desk.specs.Preparation.{prepared_batch, shown_batch, empty, Same, members_of}
-use Rattle.dl_desk.specs.Marks.{DeskFields, IsStored, IsShown, IsDesk, MakesRoom, IsAdded}
-use Rattle.dl_desk.specs.TableBook.{TableBook, untouched, AreTouched, both, FitTables}
+use Rattle.dl_desk.specs.Inside.Preparation.{prepared_batch, shown_batch, empty, Same, members_of}
+use Rattle.dl_desk.specs.Inside.Marks.{DeskFields, IsStored, IsShown, IsDesk, MakesRoom, IsAdded}
+use Rattle.dl_desk.specs.Inside.TableBook.{TableBook, untouched, AreTouched, both, FitTables}
 use Rattle.dl_desk.specs.declared.desk.Extent.{Extent}
 use Rattle.dl_desk.proofs.Tails.{get-append_left, get-append_last, get-set_other, map-set_unseen, same_all}
 use Rattle.dl_desk.proofs.TableLemmas.{fit_cut, fit_shown, one_of}

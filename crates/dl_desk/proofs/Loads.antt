@@ -9,7 +9,7 @@ use Rattle.dl_desk.specs.declared.fault.DeskFault.{DeskFault}
 use Rattle.dl_desk.specs.Calls.{refusal, IsRefusal}
 use Rattle.dl_desk.specs.declared.call.DeskCall.TheVariants.{LoadMany}
 use Rattle.dl_desk.specs.BatchBook.{BatchBook, Desk, StandsFor}
-use Rattle.dl_desk.specs.Preparation.{RefusesStep}
+use Rattle.dl_desk.specs.Inside.Preparation.{RefusesStep}
 use Rattle.dl_desk.proofs.Counts.{loaded-append, load_replies-snoc, full-none, refused_at}
 
 -- What holds after loads of some keys were prepared in a desk that showed a book.

@@ -8,10 +8,10 @@ use Rattle.std.proofs.lemmas.List.{map-append, map-set}
 use Rattle.dl_values.specs.Key.{Key, key_eq}
 use Rattle.dl_values.proofs.KeyLemmas.{key_eq-same}
 use Rattle.dl_desk.specs.History.{has_member}
-use Rattle.dl_desk.specs.StoredBatch.{StoredBatch, blank}
+use Rattle.dl_desk.specs.Inside.StoredBatch.{StoredBatch, blank}
 use Rattle.dl_desk.specs.BatchBook.{Batch}
-use Rattle.dl_desk.specs.Preparation.{prepared_batch, shown_batch, empty, members_of, NoneFrom, AllHeld}
-use Rattle.dl_desk.specs.Marks.{IsStored, MakesRoom, more, IsAdded}
+use Rattle.dl_desk.specs.Inside.Preparation.{prepared_batch, shown_batch, empty, members_of, NoneFrom, AllHeld}
+use Rattle.dl_desk.specs.Inside.Marks.{IsStored, MakesRoom, more, IsAdded}
 use Rattle.dl_desk.specs.declared.desk.Extent.{Extent}
 use Rattle.dl_desk.proofs.DispatchJobs.{get-take}
 use Rattle.dl_desk.proofs.Tails.{get-set_same, get-set_other, map-set_unseen}
@@ -128,7 +128,8 @@ held_put n memo xs c x m at some all = held_set n memo xs c x (more x m) at
 pub put_held : (n c : ℕ) (memo : List (Key × ℕ)) (m : Key × ℕ) (xs ys : List StoredBatch) → IsAdded xs c m ys → IsSome (lookup (key_eq m.0) memo)
     → AllHeld n memo (map prepared_batch xs) → AllHeld n memo (map prepared_batch ys)
 put_held n c memo m xs ys added some all =
-    let here : slice_get (map prepared_batch added.grown) c ≡ Some (prepared_batch added.before) = rw (slice_get-map prepared_batch added.grown c, added.at) refl in
+    let here : slice_get (map prepared_batch added.grown) c ≡ Some (prepared_batch added.before) =
+    rw (slice_get-map prepared_batch added.grown c, added.at) refl in
     rw (added.is, map-set, added.added) (held_put n memo (map prepared_batch added.grown) c (prepared_batch added.before) m here some
     (held_grows prepared_batch n memo xs added.grown refl all added.grows))
 

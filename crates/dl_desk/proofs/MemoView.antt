@@ -7,7 +7,7 @@ use Rattle.std.proofs.lemmas.Bool.{lt-ltb, le-ltb, eqb-true, eq-eqb}
 use Rattle.std.proofs.lemmas.Bool.Decides.{nat_tests}
 use Rattle.std.proofs.lemmas.Option.{cond_some}
 use Rattle.dl_values.specs.Key.{Key, key_eq}
-use Rattle.dl_desk.specs.Preparation.{has_pair, without}
+use Rattle.dl_desk.specs.Inside.Preparation.{has_pair, without}
 use Rattle.dl_values.proofs.KeyLemmas.{key_eq-sym, key_eq-same}
 use Rattle.dl_desk.proofs.EndLemmas.{has_pair-snoc}
 

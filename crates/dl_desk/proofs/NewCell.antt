@@ -7,10 +7,11 @@ use Rattle.dl_values.specs.Limits.{Rules}
 use Rattle.dl_desk.specs.History.{Atom, Begun, begins, is_named, begun, members, sent, end_of, forgets, IsAnswered, IsLegal}
 use Rattle.dl_desk.specs.declared.reply.End.{End}
 use Rattle.dl_desk.specs.BatchBook.{Batch, BatchBook, batch_at, StandsFor}
-use Rattle.dl_desk.specs.Preparation.{put_member, put_in, Begins}
+use Rattle.dl_desk.specs.Inside.Preparation.{put_member, put_in, Begins}
 use Rattle.dl_desk.proofs.Facts.{IsFresh, fresh_cell, room-le, named, members-unnamed, sent-le, end_of-unsent}
 use Rattle.dl_desk.proofs.HeldLemmas.{held-begun}
-use Rattle.dl_desk.proofs.NewMember.{length-put_member, length-put_member_new, with_member, get-put_member, first_member, get-put_member_new, get-put_member_other}
+use Rattle.dl_desk.proofs.NewMember.{length-put_member, length-put_member_new, with_member, get-put_member, first_member, get-put_member_new}
+use Rattle.dl_desk.proofs.NewMember.{get-put_member_other}
 
 -- the atom begins a cell, and touches nothing else of what a book has
 pub record IsBeginning (a : Atom) (before : List Atom) (g : Begun) : Type 0 where

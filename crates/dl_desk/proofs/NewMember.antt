@@ -2,7 +2,7 @@
 use Rattle.std.proofs.Common.{◌≡◌, ap, ℕ, zero, suc, ◌+◌, ◌<◌, ◌≤◌, List, [], ◌∷◌, ◌++◌, length, Option, Some, None, slice_get, refl, arith}
 use Rattle.dl_values.specs.Key.{Key}
 use Rattle.dl_desk.specs.BatchBook.{Batch}
-use Rattle.dl_desk.specs.Preparation.{put_member}
+use Rattle.dl_desk.specs.Inside.Preparation.{put_member}
 
 pub length-put_member : (xs : List Batch) (n : ℕ) (m : Key × ℕ) → n < length xs → length (put_member xs n m) ≡ length xs
 length-put_member [] n m low = absurd (omega arith)

@@ -3,7 +3,7 @@ use Rattle.std.proofs.Common.{◌≡◌, ◌∙◌, sym, ap, cond, ℕ, zero, su
 use Rattle.dl_values.specs.Key.{Key}
 use Rattle.dl_desk.specs.History.{Atom, begun, has_member, members, serves, greatest, is_open, room_in, room}
 use Rattle.dl_desk.specs.BatchBook.{BatchBook, StandsFor}
-use Rattle.dl_desk.specs.Preparation.{members_at, has_room_in, is_open_in, room_of, book_room}
+use Rattle.dl_desk.specs.Inside.Preparation.{members_at, has_room_in, is_open_in, room_of, book_room}
 use Rattle.dl_desk.proofs.Facts.{greatest-below}
 
 -- the members of a batch are those that the history tells

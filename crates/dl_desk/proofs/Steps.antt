@@ -7,7 +7,7 @@ use Rattle.dl_desk.specs.History.{Atom, Load, Clear, Begun, Latest, later, lates
 use Rattle.dl_desk.specs.declared.reply.LoadReply.{LoadReply}
 use Rattle.dl_desk.specs.declared.reply.LoadReply.TheVariants.{Hit, Fresh}
 use Rattle.dl_desk.specs.BatchBook.{BatchBook, StandsFor}
-use Rattle.dl_desk.specs.Preparation.{book_room, Begins, Puts}
+use Rattle.dl_desk.specs.Inside.Preparation.{book_room, Begins, Puts}
 use Rattle.dl_desk.proofs.HeldLemmas.{held-same}
 use Rattle.dl_desk.proofs.NewCell.{stands_begun}
 use Rattle.dl_desk.proofs.OpenBatch.{book_room-is}

@@ -3,17 +3,18 @@ use Rattle.std.proofs.Common.{◌≡◌, ◌∙◌, sym, ap, ℕ, ◌+◌, ◌<�
 use Rattle.std.proofs.lemmas.List.{length-map, length-take}
 use Rattle.dl_values.specs.Key.{Key}
 use Rattle.dl_desk.specs.History.{has_member}
-use Rattle.dl_desk.specs.StoredBatch.{StoredBatch}
+use Rattle.dl_desk.specs.Inside.StoredBatch.{StoredBatch}
 use Rattle.dl_desk.specs.BatchBook.{Batch, BatchBook}
-use Rattle.dl_desk.specs.Preparation.{prepared_batch, shown_batch, members_of, book_room}
-use Rattle.dl_desk.specs.Marks.{IsStored, MakesRoom, IsAdded}
+use Rattle.dl_desk.specs.Inside.Preparation.{prepared_batch, shown_batch, members_of, book_room}
+use Rattle.dl_desk.specs.Inside.Marks.{IsStored, MakesRoom, IsAdded}
 use Rattle.dl_desk.specs.declared.table_book.Newest.{Newest}
 use Rattle.dl_desk.specs.declared.table_book.Standing.{Standing}
-use Rattle.dl_desk.specs.TableBook.{TableBook, told, newest_at, both, AreTables, Renews, IsNewest, open_for, IsOf}
+use Rattle.dl_desk.specs.Inside.TableBook.{TableBook, told, newest_at, both, AreTables, Renews, IsNewest, open_for, IsOf}
 use Rattle.dl_desk.proofs.Tails.{map-set_unseen}
 use Rattle.dl_desk.proofs.FieldMarks.{touched_put, touched_grown}
 use Rattle.dl_desk.proofs.TwoBooks.{take-grown, members-taken, length-begun, low_choice, put_batches}
-use Rattle.dl_desk.proofs.TableLemmas.{ArePut, touching, told_now, tables_told, tables_put, tables_begun, table_room, newest_low, newest_of, open_low, open_is, chosen}
+use Rattle.dl_desk.proofs.TableLemmas.{ArePut, touching, told_now, tables_told, tables_put, tables_begun, table_room, newest_low, newest_of, open_low, open_is}
+use Rattle.dl_desk.proofs.TableLemmas.{chosen}
 
 -- What a book of tables stands beside: batches that are stored rightly, of which no more are shown than are prepared.
 pub record StandsBeside (s : Standing) (xs : List StoredBatch) (t : TableBook) : Type 0 where
@@ -51,7 +52,8 @@ module _ {s : Standing} {xs : List StoredBatch} {t : TableBook} (b : StandsBesid
       })
 
   module _ (table : List ℕ) (e : Newest) (known : told t table ≡ Some e) where
-    low : (n : ℕ) → newest_at (take s.prepared.begun (map prepared_batch xs)) table (Some e) ≡ Some n → n < length (take s.prepared.begun (map prepared_batch xs))
+    low : (n : ℕ) → newest_at (take s.prepared.begun (map prepared_batch xs)) table (Some e) ≡ Some n
+        → n < length (take s.prepared.begun (map prepared_batch xs))
     low = newest_low (take s.prepared.begun (map prepared_batch xs)) t table e b.fits.tells_prepared known
 
     -- the newest batch of the table is one of those that are prepared
@@ -61,7 +63,8 @@ module _ {s : Standing} {xs : List StoredBatch} {t : TableBook} (b : StandsBesid
 
     pub room_low : (room : ℕ) → room ≡ open_for s.prepared.sent (take s.prepared.begun (map prepared_batch xs)) table e → room ≤ s.prepared.begun
     room_low room is =
-        let l = open_low s.prepared.sent e.most (take s.prepared.begun (map prepared_batch xs)) (newest_at (take s.prepared.begun (map prepared_batch xs)) table (Some e)) low in
+        let l = open_low s.prepared.sent e.most (take s.prepared.begun (map prepared_batch xs))
+        (newest_at (take s.prepared.begun (map prepared_batch xs)) table (Some e)) low in
         rw is (rw begun_is at l)
 
 -- What is known once it is told of the key's table.
@@ -115,12 +118,14 @@ module _ {s : Standing} {k : Key} {cell : ℕ} {xs ys : List StoredBatch} {t : T
   pub joined_old : (n ≡ s.prepared.begun → ⊥)
       → AreTables s.limits.max_batch (both s.shown.begun (max s.prepared.begun (n + 1)) ys) (touching t n)
   joined_old other =
-      let under : n < length (take s.prepared.begun (map prepared_batch xs)) = let e = begun_is j.is_told.beside in let m = joined_next in omega (arith, other) in
+      let under : n < length (take s.prepared.begun (map prepared_batch xs)) = let e = begun_is j.is_told.beside in
+      let m = joined_next in omega (arith, other) in
       let is : n ≡ room = chosen (has_member (members_of (slice_get (map prepared_batch xs) room)) k) s.prepared.begun room n j.number other in
       let at = open_is s.prepared.sent e.most n (take s.prepared.begun (map prepared_batch xs))
       (newest_at (take s.prepared.begun (map prepared_batch xs)) k.table (Some e)) (is ∙ j.room_is) under in
       tables_put s.limits.max_batch (both s.shown.begun s.prepared.begun xs) (both s.shown.begun (max s.prepared.begun (n + 1)) ys) t n (k, cell) k.table
-      j.is_told.beside.fits put under (newest_of (take s.prepared.begun (map prepared_batch xs)) t k.table e j.is_told.beside.fits.tells_prepared j.is_told.known n at)
+      j.is_told.beside.fits put under
+      (newest_of (take s.prepared.begun (map prepared_batch xs)) t k.table e j.is_told.beside.fits.tells_prepared j.is_told.known n at)
 
   -- where it was begun now, it is told of its table
   pub joined_new : (f : Newest) (new : TableBook) → n ≡ s.prepared.begun → f.latest ≡ n → f.most ≡ e.most
@@ -131,5 +136,6 @@ module _ {s : Standing} {k : Key} {cell : ℕ} {xs ys : List StoredBatch} {t : T
       j.is_told.beside.fits put (next ∙ sym (begun_is j.is_told.beside))
       (rw length-take (let l = j.is_told.beside.later in omega arith))
       latest (most ∙ j.is_told.beside.fits.limits k.table e j.is_told.known)
-      (before ∙ (ap (λ (zs : List Batch). newest_at zs k.table (Some e)) put.shown ∙ ap (newest_at (take s.shown.begun (map shown_batch xs)) k.table) (sym j.is_told.known)))
+      (before ∙ (ap (λ (zs : List Batch). newest_at zs k.table (Some e)) put.shown
+      ∙ ap (newest_at (take s.shown.begun (map shown_batch xs)) k.table) (sym j.is_told.known)))
       renews

@@ -12,14 +12,14 @@ use Rattle.dl_values.specs.Limits.{limit_by}
 use Rattle.dl_values.proofs.Repeats.{bytes_eq-comm}
 use Rattle.dl_values.proofs.Names.{bytes_eq-same}
 use Rattle.dl_desk.specs.History.{is_of_table, has_member, greatest, serves}
-use Rattle.dl_desk.specs.StoredBatch.{StoredBatch}
+use Rattle.dl_desk.specs.Inside.StoredBatch.{StoredBatch}
 use Rattle.dl_desk.specs.BatchBook.{Batch, BatchBook}
-use Rattle.dl_desk.specs.Preparation.{prepared_batch, shown_batch, members_of, members_at, put_member, room_of, book_room}
-use Rattle.dl_desk.specs.Marks.{IsStored}
+use Rattle.dl_desk.specs.Inside.Preparation.{prepared_batch, shown_batch, members_of, members_at, put_member, room_of, book_room}
+use Rattle.dl_desk.specs.Inside.Marks.{IsStored}
 use Rattle.dl_desk.specs.declared.desk.Extent.{Extent}
 use Rattle.dl_desk.specs.declared.table_book.Newest.{Newest}
-use Rattle.dl_desk.specs.TableBook.{TableBook, told, untouched, is_of, newest_at, TellsNewest, TellsLimits, AreTouched, TouchedBy, BothBatches}
-use Rattle.dl_desk.specs.TableBook.{TellsTheSame, AreTables, FitTables, Renews, renewed, IsNewest, open_at, open_for, IsOf}
+use Rattle.dl_desk.specs.Inside.TableBook.{TableBook, told, untouched, is_of, newest_at, TellsNewest, TellsLimits, AreTouched, TouchedBy, BothBatches}
+use Rattle.dl_desk.specs.Inside.TableBook.{TellsTheSame, AreTables, FitTables, Renews, renewed, IsNewest, open_at, open_for, IsOf}
 use Rattle.dl_desk.proofs.Facts.{greatest-below}
 use Rattle.dl_desk.proofs.LawBatches.{greatest-passes}
 use Rattle.dl_desk.proofs.Tails.{get-set_same, get-set_other, map-set_unseen, same_each}

@@ -7,7 +7,7 @@ use Rattle.std.specs.Map.{lookup}
 use Rattle.std.specs.BTreeMap.{BTreeMap, Updates, is_at}
 use Rattle.std.proofs.lemmas.Map.Text.{is_eq-slice_cmp}
 use Rattle.dl_values.proofs.Names.{bytes_eq-same}
-use Rattle.dl_desk.specs.TableName.{number_of, name_cmp}
+use Rattle.dl_desk.specs.Inside.TableName.{number_of, name_cmp}
 
 is_eq-then : (o p : Ordering) → is_eq (ordering_then o p) ≡ (is_eq o && is_eq p)
 is_eq-then Less p = refl

@@ -1,12 +1,13 @@
 -- What is told of tables in places, once a place is added or changed.
-use Rattle.std.proofs.Common.{◌≡◌, ◌∙◌, sym, ap, ℕ, zero, suc, ◌<◌, List, [], ◌∷◌, ◌++◌, length, get_or, set, Bool, true, false, cond, true≢false, Some, None, IsSome, inl, inr, subst, bytes_eq, refl}
+use Rattle.std.proofs.Common.{◌≡◌, ◌∙◌, sym, ap, ℕ, zero, suc, ◌<◌, List, [], ◌∷◌, ◌++◌, length, get_or, set, Bool, true, false, cond, true≢false, Some, None}
+use Rattle.std.proofs.Common.{IsSome, inl, inr, subst, bytes_eq, refl}
 use Rattle.std.specs.Map.{lookup}
 use Rattle.std.proofs.lemmas.Bool.{cases_eq, cases_lt}
 use Rattle.std.proofs.lemmas.List.{get_or-set_same, get_or-set_other, get_or_past, get_or_read, set-get_or}
 use Rattle.dl_values.proofs.Names.{bytes_eq-same}
 use Rattle.dl_desk.specs.declared.table_book.Newest.{Newest}
-use Rattle.dl_desk.specs.TableName.{place_of}
-use Rattle.dl_desk.specs.TableMap.{Tells, told_in}
+use Rattle.dl_desk.specs.Inside.TableName.{place_of}
+use Rattle.dl_desk.specs.Inside.TableMap.{Tells, told_in}
 
 get-added : (places : List (List (List ℕ × Newest))) (i : ℕ) → get_or (places ++ [] ∷ []) i [] ≡ get_or places i []
 get-added [] zero = refl
@@ -42,7 +43,8 @@ told-set places table e place low tells q = elim (cases_eq (place_of q) (place_o
       let new : get_or (set places (place_of table) place) (place_of q) [] ≡ place =
       ap (λ (i : ℕ). get_or (set places (place_of table) place) i []) here ∙ get_or-set_same places (place_of table) place [] low in
       ap (lookup (bytes_eq q)) new ∙ (tells q ∙ ap (λ (i : ℕ). cond (bytes_eq table q) (Some e) (lookup (bytes_eq q) (get_or places i []))) (sym here))
-  | inr apart ↦ ap (lookup (bytes_eq q)) (get_or-set_other places (place_of table) (place_of q) place [] apart) ∙ others places table q e apart (bytes_eq table q) refl
+  | inr apart ↦ ap (lookup (bytes_eq q)) (get_or-set_other places (place_of table) (place_of q) place [] apart)
+      ∙ others places table q e apart (bytes_eq table q) refl
 ]
 
 module _ (places : List (List (List ℕ × Newest))) (table : List ℕ) (i : ℕ) (x : List (List ℕ × Newest)) (read : x ≡ get_or places i x) where

@@ -4,9 +4,9 @@ use Rattle.std.proofs.Common.{refl, arith}
 use Rattle.std.proofs.lemmas.Bool.{cases_lt, cases_eq}
 use Rattle.std.proofs.lemmas.List.{length-map}
 use Rattle.std.proofs.lemmas.Option.{slice_get_read}
-use Rattle.dl_desk.specs.StoredBatch.{StoredBatch}
+use Rattle.dl_desk.specs.Inside.StoredBatch.{StoredBatch}
 use Rattle.dl_desk.specs.BatchBook.{Batch}
-use Rattle.dl_desk.specs.Preparation.{prepared_batch, shown_batch, Same}
+use Rattle.dl_desk.specs.Inside.Preparation.{prepared_batch, shown_batch, Same}
 
 -- ---- one place of a list
 
@@ -41,7 +41,8 @@ map-set_unseen f (z ∷ xs) (suc n) x y at same = rw (map-set_unseen f xs n x y 
 
 -- ---- ranges
 
-pub same_each : (xs : List StoredBatch) → ((b : ℕ) (x : StoredBatch) → slice_get xs b ≡ Some x → shown_batch x ≡ prepared_batch x) → map shown_batch xs ≡ map prepared_batch xs
+pub same_each : (xs : List StoredBatch) → ((b : ℕ) (x : StoredBatch) → slice_get xs b ≡ Some x → shown_batch x ≡ prepared_batch x)
+    → map shown_batch xs ≡ map prepared_batch xs
 same_each [] each = refl
 same_each (x ∷ xs) each = rw (each 0 x refl, same_each xs (λ b. each (suc b))) refl
 
@@ -51,7 +52,8 @@ same_all from to xs done same = same_each xs (λ b x at. elim (cases_lt b from)
     [ inl below ↦ same b (inl below) x at | inr above ↦ same b (inr (omega arith)) x at ])
 
 -- one more batch of the range was cut or shown
-pub same_step : (n to : ℕ) (xs : List StoredBatch) (y : StoredBatch) → n < length xs → shown_batch y ≡ prepared_batch y → Same n to xs → Same (n + 1) to (set xs n y)
+pub same_step : (n to : ℕ) (xs : List StoredBatch) (y : StoredBatch) → n < length xs → shown_batch y ≡ prepared_batch y → Same n to xs
+    → Same (n + 1) to (set xs n y)
 same_step n to xs y low done same b outside x at = elim (cases_eq b n) [
   | inl e ↦ let is : slice_get (set xs n y) b ≡ Some y = rw e (get-set_same xs n y low) in let s : ◌≡◌ {A = Option StoredBatch} (Some y) (Some x) =
       sym is ∙ at in let f : y ≡ x = cc in rw (← f) done
@@ -63,7 +65,8 @@ pub same_length : (f g : StoredBatch → Batch) (xs ys : List StoredBatch) → m
 same_length f g xs ys same = sym (length-map xs f) ∙ (ap length same ∙ length-map ys g)
 
 -- a turn of the loop that cuts or shows: the batch at n was x and is y
-pub cut_turn : (f : StoredBatch → Batch) (n to len : ℕ) (xs first : List StoredBatch) (x y : StoredBatch) → to ≤ len → len ≡ length first → n < to → x ≡ get_or xs n x
+pub cut_turn : (f : StoredBatch → Batch) (n to len : ℕ) (xs first : List StoredBatch) (x y : StoredBatch) → to ≤ len → len ≡ length first → n < to
+    → x ≡ get_or xs n x
     → shown_batch y ≡ prepared_batch y → f y ≡ f x
     → Same n to xs × (map f xs ≡ map f first) → Same (n + 1) to (set xs n y) × (map f (set xs n y) ≡ map f first)
 cut_turn f n to len xs first x y within len_is below read done unseen inv =

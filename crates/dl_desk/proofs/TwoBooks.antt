@@ -6,11 +6,11 @@ use Rattle.std.proofs.lemmas.Bool.{cases_lt}
 use Rattle.std.proofs.lemmas.Option.{slice_get-map, slice_get_past}
 use Rattle.std.proofs.lemmas.List.{map-append, map-set, length-map, length-take, take-append-le}
 use Rattle.dl_values.specs.Key.{Key, key_eq}
-use Rattle.dl_desk.specs.StoredBatch.{StoredBatch, blank}
+use Rattle.dl_desk.specs.Inside.StoredBatch.{StoredBatch, blank}
 use Rattle.dl_values.specs.Limits.{Rules}
 use Rattle.dl_desk.specs.BatchBook.{Batch, BatchBook}
-use Rattle.dl_desk.specs.Preparation.{prepared_batch, shown_batch, empty, members_of, MayJoin, put_member}
-use Rattle.dl_desk.specs.Marks.{DeskFields, IsStored, IsDesk, MakesRoom, more, IsAdded}
+use Rattle.dl_desk.specs.Inside.Preparation.{prepared_batch, shown_batch, empty, members_of, MayJoin, put_member}
+use Rattle.dl_desk.specs.Inside.Marks.{DeskFields, IsStored, IsDesk, MakesRoom, more, IsAdded}
 use Rattle.dl_desk.specs.declared.desk.Extent.{Extent}
 use Rattle.dl_values.proofs.KeyLemmas.{key_eq-refl, key_eq-sym, key_eq-same}
 use Rattle.dl_desk.proofs.NewMember.{first_member}

@@ -11,9 +11,9 @@ use Rattle.dl_values.specs.Key.{Key, key_eq}
 use Rattle.dl_values.proofs.KeyLemmas.{key_eq-sym}
 use Rattle.dl_desk.specs.History.{has_member}
 use Rattle.dl_desk.specs.declared.reply.End.{End}
-use Rattle.dl_desk.specs.StoredBatch.{StoredBatch, AreApart, AreMembers}
+use Rattle.dl_desk.specs.Inside.StoredBatch.{StoredBatch, AreApart, AreMembers}
 use Rattle.dl_desk.specs.BatchBook.{Batch}
-use Rattle.dl_desk.specs.Preparation.{prepared_batch, shown_batch}
+use Rattle.dl_desk.specs.Inside.Preparation.{prepared_batch, shown_batch}
 use Rattle.dl_desk.proofs.DispatchJobs.{get-take}
 use Rattle.dl_desk.proofs.Tails.{get-append_left, get-append_last}
 use Rattle.dl_desk.proofs.BatchEnd.{take-next}

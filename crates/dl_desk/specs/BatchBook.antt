@@ -58,3 +58,19 @@ state_by is_sent None = if is_sent then Sent else Collecting
 -- the batch as the history shows it
 abbrev pub batch_view : List Atom → ℕ → BatchView
 batch_view history b = record { members = members history b; state = state_by (nat_lt b (sent history)) (end_of history b) }
+
+-- ---- which batch may end
+
+abbrev pub end_in : Option Batch → Option End
+end_in None = None
+end_in (Some x) = x.end
+
+-- how a batch of the book ended
+abbrev pub end_at : BatchBook → ℕ → Option End
+end_at book b = end_in (slice_get book.batches b)
+
+-- a batch of the book may end: it is sent, and has not ended
+pub record MayEndIn (book : BatchBook) (b : ℕ) : Type 0 where
+  pub is_begun : b < length book.batches
+  pub is_sent : b < book.sent
+  pub no_end : end_at book b ≡ None

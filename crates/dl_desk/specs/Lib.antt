@@ -1,14 +1,10 @@
 pub mod History
 pub mod Calls
-pub mod StoredBatch
 pub mod BatchBook
-pub mod Preparation
-pub mod TableName
-pub mod TableMap
-pub mod TableBook
-pub mod Marks
 pub mod Ready
 pub mod Events
 pub mod Service
 pub mod Legal
 pub mod Laws
+-- words of private functions, and of what values are made of
+pub mod Inside

@@ -5,7 +5,7 @@ use Rattle.dl_desk.specs.History.{Atom, load_replies, prime_reply, jobs}
 use Rattle.dl_desk.specs.Calls.{after}
 use Rattle.dl_desk.specs.BatchBook.{Desk, StandsFor}
 use Rattle.dl_desk.specs.declared.call.DeskCall.{DeskCall}
-use Rattle.dl_desk.specs.declared.call.DeskCall.TheVariants.{Load, LoadMany, Prime, Clear, ClearAll, Dispatch, Settle, Fail}
+use Rattle.dl_desk.specs.declared.call.DeskCall.TheVariants.{Load, LoadMany, Prime, Dispatch}
 use Rattle.dl_desk.specs.declared.reply.DeskReply.{DeskReply}
 use Rattle.dl_desk.specs.declared.reply.DeskReply.TheVariants as reply
 use Rattle.dl_desk.specs.declared.ready.Ready.{Ready}
@@ -16,14 +16,7 @@ IsReplyTo rules history (Load k) (reply.Loads replies) = replies.items ≡ load_
 IsReplyTo rules history (LoadMany ks) (reply.Loads replies) = replies.items ≡ load_replies rules history ks
 IsReplyTo rules history (Prime k) (reply.Primed primed) = primed ≡ prime_reply history k
 IsReplyTo rules history Dispatch (reply.Sent sent) = sent.items ≡ jobs history
-IsReplyTo rules history (Load k) _ = ⊥
-IsReplyTo rules history (LoadMany ks) _ = ⊥
-IsReplyTo rules history (Prime k) _ = ⊥
-IsReplyTo rules history Dispatch _ = ⊥
-IsReplyTo rules history (Clear k) _ = ⊥
-IsReplyTo rules history ClearAll _ = ⊥
-IsReplyTo rules history (Settle b) _ = ⊥
-IsReplyTo rules history (Fail b) _ = ⊥
+IsReplyTo rules history call told = ⊥
 
 -- what is prepared in the desk is the call, and the reply is the call's
 pub record IsReadyFor (desk : Desk) (call : DeskCall) (ready : Ready) : Type 0 where

@@ -3,8 +3,8 @@
 ghost use Rattle.std.specs.Prelude.{◌≡◌, Some, false, ◌<◌, slice_get, [], ◌∷◌, ◌++◌, length, take, map, OnOk, OnErr, IfOk};
 ghost use Rattle.std.specs.List.{zip};
 ghost use Rattle.dl_desk.specs.History.{has_member, is_of_table};
-ghost use Rattle.dl_desk.specs.StoredBatch.{StoredBatch, blank, is_first_of, AreApart};
-ghost use Rattle.dl_desk.specs.Preparation.{prepared_batch, shown_batch};
+ghost use Rattle.dl_desk.specs.Inside.StoredBatch.{StoredBatch, blank, is_first_of, AreApart};
+ghost use Rattle.dl_desk.specs.Inside.Preparation.{prepared_batch, shown_batch};
 
 use crate::reply::End;
 use dl_values::{FetchKey, Keys};
@@ -33,7 +33,7 @@ pub(crate) struct StoredBatch {
 
 impl Model for StoredBatch {
     ghost use Rattle.std.specs.List.{zip};
-    ghost use Rattle.dl_desk.specs.StoredBatch.{StoredBatch, AreMembers};
+    ghost use Rattle.dl_desk.specs.Inside.StoredBatch.{StoredBatch, AreMembers};
 
     ghost Value = { StoredBatch };
 

@@ -8,8 +8,8 @@ ghost use Rattle.dl_values.specs.Key.{Key, key_eq};
 ghost use Rattle.dl_values.specs.Limits.{mixed, by_table};
 ghost use Rattle.dl_desk.specs.History.{Atom, Load, Prime, has_member, load_reply, prime_reply};
 ghost use Rattle.dl_desk.specs.BatchBook.{StandsFor};
-ghost use Rattle.dl_desk.specs.TableBook.{rules_of, AreNoTables};
-ghost use Rattle.dl_desk.specs.Preparation.{members_at, has_room_in, book_room, book_jobs, MayJoin, Joins, Puts, PutsAlone, RefusesStep};
+ghost use Rattle.dl_desk.specs.Inside.TableBook.{rules_of, AreNoTables};
+ghost use Rattle.dl_desk.specs.Inside.Preparation.{members_at, has_room_in, book_room, book_jobs, MayJoin, Joins, Puts, PutsAlone, RefusesStep};
 
 mod batch_view;
 mod calls;
@@ -98,9 +98,9 @@ impl Drop for Desk {
 impl Model for Desk {
     ghost use Rattle.std.specs.Prelude.{take, map};
     ghost use Rattle.dl_desk.specs.BatchBook.{Desk};
-    ghost use Rattle.dl_desk.specs.Preparation.{prepared_batch, shown_batch};
-    ghost use Rattle.dl_desk.specs.TableBook.{rules_of};
-    ghost use Rattle.dl_desk.specs.Marks.{IsDesk};
+    ghost use Rattle.dl_desk.specs.Inside.Preparation.{prepared_batch, shown_batch};
+    ghost use Rattle.dl_desk.specs.Inside.TableBook.{rules_of};
+    ghost use Rattle.dl_desk.specs.Inside.Marks.{IsDesk};
 
     ghost Value = { Desk };
 

@@ -4,8 +4,8 @@ ghost use Rattle.std.specs.Prelude.{◌≡◌, ◌≤◌, Ok, None, if◌then◌
 ghost use Rattle.std.specs.Map.{lookup};
 ghost use Rattle.dl_values.specs.Key.{Key, key_eq};
 ghost use Rattle.dl_desk.specs.History.{has_member};
-ghost use Rattle.dl_desk.specs.Preparation.{prepared_batch, shown_batch, Same, members_of, NoneFrom, without};
-ghost use Rattle.dl_desk.specs.Marks.{IsAdded, MakesRoom};
+ghost use Rattle.dl_desk.specs.Inside.Preparation.{prepared_batch, shown_batch, Same, members_of, NoneFrom, without};
+ghost use Rattle.dl_desk.specs.Inside.Marks.{IsAdded, MakesRoom};
 
 use crate::batch::StoredBatch;
 use dl_values::FetchKey;

@@ -1,12 +1,14 @@
 //! What a desk keeps of its tables, where each batch is of one table.
 
-ghost use Rattle.std.specs.Prelude.{◌≡◌, ℕ, ◌<◌, ◌≤◌, ◌+◌, List, [], length, map, take, max, vec_len, option_map, Some, None, IsSome, IfOk, IfSome, OnOk, OnErr};
+ghost use Rattle.std.specs.Prelude.{◌≡◌, ℕ, ◌<◌, ◌≤◌, ◌+◌, List, [], length, map, take, max, vec_len, option_map, Some, None, IsSome, IfOk, IfSome, OnOk};
+ghost use Rattle.std.specs.Prelude.{OnErr};
 ghost use Rattle.dl_values.specs.Limits.{limit_by};
-ghost use Rattle.dl_desk.specs.Preparation.{prepared_batch, shown_batch, book_room, Same, NoneFrom};
-ghost use Rattle.dl_desk.specs.Marks.{IsStored, IsAdded, MakesRoom};
+ghost use Rattle.dl_desk.specs.Inside.Preparation.{prepared_batch, shown_batch, book_room, Same, NoneFrom};
+ghost use Rattle.dl_desk.specs.Inside.Marks.{IsStored, IsAdded, MakesRoom};
 ghost use Rattle.dl_desk.specs.BatchBook.{BatchBook};
-ghost use Rattle.dl_desk.specs.TableMap.{told_in};
-ghost use Rattle.dl_desk.specs.TableBook.{told, newest_at, open_at, open_for, untouched, both, renewed, AreTables, TellsTheSame, AreTouched, TouchedBy, Renews, IsNewest, IsOf};
+ghost use Rattle.dl_desk.specs.Inside.TableMap.{told_in};
+ghost use Rattle.dl_desk.specs.Inside.TableBook.{told, newest_at, open_at, open_for, untouched, both, renewed, AreTables, TellsTheSame, AreTouched, TouchedBy};
+ghost use Rattle.dl_desk.specs.Inside.TableBook.{Renews, IsNewest, IsOf};
 
 use crate::batch::StoredBatch;
 use crate::desk::Extent;
@@ -70,7 +72,7 @@ impl Drop for TableBook {
 }
 
 impl Model for TableBook {
-    ghost use Rattle.dl_desk.specs.TableBook.{TableBook};
+    ghost use Rattle.dl_desk.specs.Inside.TableBook.{TableBook};
 
     ghost Value = { TableBook };
 

@@ -2,7 +2,7 @@
 
 ghost use Rattle.std.specs.Prelude.{◌≡◌, Some, [], IsSome, OnOk, OnErr, bytes_eq, if◌then◌else◌};
 ghost use Rattle.std.specs.Map.{lookup};
-ghost use Rattle.dl_desk.specs.TableMap.{Tells};
+ghost use Rattle.dl_desk.specs.Inside.TableMap.{Tells};
 
 use crate::table_book::Newest;
 use crate::table_name::TableName;

@@ -5,7 +5,7 @@ ghost use Rattle.std.proofs.Common.{rules};
 ghost use Rattle.std.specs.Ordering.{as_partial_cmp, eq_by_cmp};
 ghost use Rattle.std.specs.Cmp.{partial_order_from_own_ties};
 ghost use Rattle.std.specs.Cmp.Rules.{comparing};
-ghost use Rattle.dl_desk.specs.TableName.{with_byte, number_of, place_of, name_cmp};
+ghost use Rattle.dl_desk.specs.Inside.TableName.{with_byte, number_of, place_of, name_cmp};
 
 use dl_values::FetchKey;
 use std::alloc::AllocError;
@@ -35,7 +35,7 @@ impl Drop for TableName {
 
 impl Model for TableName {
     ghost use Rattle.std.specs.Prelude.{◌≡◌, List, ℕ};
-    ghost use Rattle.dl_desk.specs.TableName.{number_of};
+    ghost use Rattle.dl_desk.specs.Inside.TableName.{number_of};
 
     ghost Value = { List ℕ };
 

@@ -28,7 +28,8 @@ impl Desk {
             → replies.items ≡ load_replies self.old.book.rules history keys.now) }
         ensures stands { OnOk result ((history : List Atom) → StandsFor self.old.book history
             → StandsFor self.new.prepared (loaded self.old.book.rules history keys.now)) }
-        ensures accepted { OnOk result ((history : List Atom) → StandsFor self.old.book history → refusal self.old.book.rules history (LoadMany keys.now) ≡ None) }
+        ensures accepted { OnOk result ((history : List Atom) → StandsFor self.old.book history
+            → refusal self.old.book.rules history (LoadMany keys.now) ≡ None) }
         ensures fault { IfErr result (λ fault. (history : List Atom) → StandsFor self.old.book history
             → IsRefusal self.old.book.rules history (LoadMany keys.now) fault) }
         ensures nothing_prepared { OnErr result (self.new.prepared ≡ self.old.book) }
@@ -102,7 +103,8 @@ impl Desk {
             → replies.items ≡ load_replies self.old.book.rules history keys.now) }
         ensures stands { OnOk result ((history : List Atom) → StandsFor self.old.book history
             → StandsFor self.new.book (after self.old.book.rules history (LoadMany keys.now))) }
-        ensures accepted { OnOk result ((history : List Atom) → StandsFor self.old.book history → refusal self.old.book.rules history (LoadMany keys.now) ≡ None) }
+        ensures accepted { OnOk result ((history : List Atom) → StandsFor self.old.book history
+            → refusal self.old.book.rules history (LoadMany keys.now) ≡ None) }
         ensures fault { IfErr result (λ fault. (history : List Atom) → StandsFor self.old.book history
             → IsRefusal self.old.book.rules history (LoadMany keys.now) fault) }
         ensures err { OnErr result (self.new.book ≡ self.old.book) }
@@ -123,7 +125,8 @@ impl Desk {
         ensures reply { IfOk result (λ reply. (history : List Atom) → StandsFor self.old.book history → reply ≡ prime_reply history key.now) }
         ensures stands { OnOk result ((history : List Atom) → StandsFor self.old.book history
             → StandsFor self.new.prepared (after self.old.book.rules history (Prime key.now))) }
-        ensures accepted { OnOk result ((history : List Atom) → StandsFor self.old.book history → refusal self.old.book.rules history (Prime key.now) ≡ None) }
+        ensures accepted { OnOk result ((history : List Atom) → StandsFor self.old.book history
+            → refusal self.old.book.rules history (Prime key.now) ≡ None) }
         ensures fault { IfErr result (λ fault. (history : List Atom) → StandsFor self.old.book history
             → IsRefusal self.old.book.rules history (Prime key.now) fault) }
         ensures nothing_prepared { OnErr result (self.new.prepared ≡ self.old.book) }
@@ -142,7 +145,8 @@ impl Desk {
         ensures reply { IfOk result (λ reply. (history : List Atom) → StandsFor self.old.book history → reply ≡ prime_reply history key.now) }
         ensures stands { OnOk result ((history : List Atom) → StandsFor self.old.book history
             → StandsFor self.new.book (after self.old.book.rules history (Prime key.now))) }
-        ensures accepted { OnOk result ((history : List Atom) → StandsFor self.old.book history → refusal self.old.book.rules history (Prime key.now) ≡ None) }
+        ensures accepted { OnOk result ((history : List Atom) → StandsFor self.old.book history
+            → refusal self.old.book.rules history (Prime key.now) ≡ None) }
         ensures fault { IfErr result (λ fault. (history : List Atom) → StandsFor self.old.book history
             → IsRefusal self.old.book.rules history (Prime key.now) fault) }
         ensures err { OnErr result (self.new.book ≡ self.old.book) }

@@ -6,8 +6,8 @@ ghost use Rattle.dl_values.specs.Key.{key_eq};
 ghost use Rattle.dl_desk.specs.History.{Atom};
 ghost use Rattle.dl_desk.specs.Calls.{refusal, after, ended_so, unfit};
 ghost use Rattle.dl_desk.specs.declared.call.DeskCall.TheVariants.{Settle, Fail};
-ghost use Rattle.dl_desk.specs.BatchBook.{StandsFor, batch_view};
-ghost use Rattle.dl_desk.specs.Preparation.{RefusesEnd, MayEndIn, Forgets, set_end};
+ghost use Rattle.dl_desk.specs.BatchBook.{StandsFor, batch_view, MayEndIn};
+ghost use Rattle.dl_desk.specs.Inside.Preparation.{RefusesEnd, Forgets, set_end};
 
 use crate::desk::{BatchView, Desk};
 use crate::fault::DeskFault;

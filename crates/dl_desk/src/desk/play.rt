@@ -27,7 +27,8 @@ impl Desk {
             → reply ≡ reply_to self.old.book.rules history call.now) }
         ensures stands { OnOk result ((history : List Atom) → StandsFor self.old.book history
             → StandsFor self.new.book (after self.old.book.rules history call.now)) }
-        ensures accepted { OnOk result ((history : List Atom) → StandsFor self.old.book history → refusal self.old.book.rules history call.now ≡ None) }
+        ensures accepted { OnOk result ((history : List Atom) → StandsFor self.old.book history
+            → refusal self.old.book.rules history call.now ≡ None) }
         ensures fault { IfErr result (λ fault. (history : List Atom) → StandsFor self.old.book history
             → IsRefusal self.old.book.rules history call.now fault) }
         ensures err { OnErr result (self.new.book ≡ self.old.book) }
@@ -66,7 +67,8 @@ impl Desk {
             → reply ≡ reply_to self.old.book.rules history (LoadMany keys.now)) }
         ensures stands { OnOk result ((history : List Atom) → StandsFor self.old.book history
             → StandsFor self.new.book (after self.old.book.rules history (LoadMany keys.now))) }
-        ensures accepted { OnOk result ((history : List Atom) → StandsFor self.old.book history → refusal self.old.book.rules history (LoadMany keys.now) ≡ None) }
+        ensures accepted { OnOk result ((history : List Atom) → StandsFor self.old.book history
+            → refusal self.old.book.rules history (LoadMany keys.now) ≡ None) }
         ensures fault { IfErr result (λ fault. (history : List Atom) → StandsFor self.old.book history
             → IsRefusal self.old.book.rules history (LoadMany keys.now) fault) }
         ensures err { OnErr result (self.new.book ≡ self.old.book) }

@@ -23,7 +23,8 @@ impl Desk {
     pub fn ready_loads(&mut self, alloc: Global, keys: &[FetchKey]) -> Result<Ready, DeskFault>
         ensures book { self.new.book ≡ self.old.book }
         ensures ready { IfOk result (IsReadyFor self.new (LoadMany keys.now)) }
-        ensures accepted { OnOk result ((history : List Atom) → StandsFor self.old.book history → refusal self.old.book.rules history (LoadMany keys.now) ≡ None) }
+        ensures accepted { OnOk result ((history : List Atom) → StandsFor self.old.book history
+            → refusal self.old.book.rules history (LoadMany keys.now) ≡ None) }
         ensures fault { IfErr result (λ fault. (history : List Atom) → StandsFor self.old.book history
             → IsRefusal self.old.book.rules history (LoadMany keys.now) fault) }
         ensures nothing_prepared { OnErr result (self.new.prepared ≡ self.old.book) }
@@ -41,7 +42,8 @@ impl Desk {
     pub fn ready_prime(&mut self, key: &FetchKey) -> Result<Ready, DeskFault>
         ensures book { self.new.book ≡ self.old.book }
         ensures ready { IfOk result (IsReadyFor self.new (Prime key.now)) }
-        ensures accepted { OnOk result ((history : List Atom) → StandsFor self.old.book history → refusal self.old.book.rules history (Prime key.now) ≡ None) }
+        ensures accepted { OnOk result ((history : List Atom) → StandsFor self.old.book history
+            → refusal self.old.book.rules history (Prime key.now) ≡ None) }
         ensures fault { IfErr result (λ fault. (history : List Atom) → StandsFor self.old.book history
             → IsRefusal self.old.book.rules history (Prime key.now) fault) }
         ensures nothing_prepared { OnErr result (self.new.prepared ≡ self.old.book) }

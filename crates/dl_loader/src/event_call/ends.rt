@@ -2,9 +2,8 @@
 
 ghost use Rattle.std.specs.Prelude.{◌≡◌, [], IfErr, IfOk, List, None, OnOk, Some, length, map};
 ghost use Rattle.dl_values.specs.Key.{Key};
-ghost use Rattle.dl_desk.specs.BatchBook.{StandsFor};
+ghost use Rattle.dl_desk.specs.BatchBook.{StandsFor, MayEndIn};
 ghost use Rattle.dl_desk.specs.History.{Atom, members};
-ghost use Rattle.dl_desk.specs.Preparation.{MayEndIn};
 ghost use Rattle.dl_desk.specs.declared.event.Call.TheVariants as made;
 ghost use Rattle.dl_desk.specs.declared.event.Reply.TheVariants as reply;
 ghost use Rattle.dl_loader.specs.Asks.{end_by, fault_of};

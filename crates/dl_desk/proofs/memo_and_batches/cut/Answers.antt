@@ -1,5 +1,5 @@
 use Rattle.std.proofs.Common.{◌∙◌, sym}
-use Rattle.dl_desk.specs.Preparation.{shown_batch}
+use Rattle.dl_desk.specs.Inside.Preparation.{shown_batch}
 use Rattle.dl_desk.proofs.Tails.{same_all, cut_turn}
 use Rattle.dl_desk.proofs.memo_and_batches.cut.Goals as goal
 

@@ -1,7 +1,7 @@
 use Rattle.std.proofs.Common.{◌≡◌, ◌∙◌, sym, ℕ, Option, Some, None, [], take, refl}
 use Rattle.std.specs.Map.{lookup}
 use Rattle.dl_values.specs.Key.{Key, key_eq}
-use Rattle.dl_desk.specs.Preparation.{without}
+use Rattle.dl_desk.specs.Inside.Preparation.{without}
 use Rattle.dl_desk.proofs.BatchEnd.{option_eq-true, option_eq-false, take-next}
 use Rattle.dl_desk.proofs.MemoView.{Forgot, forgot_removed, forgot_kept}
 use Rattle.dl_desk.proofs.memo_and_batches.forget.Goals as goal

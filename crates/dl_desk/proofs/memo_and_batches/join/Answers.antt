@@ -1,6 +1,6 @@
 use Rattle.std.proofs.Common.{◌∙◌, ◌<◌, ◌≤◌, inl, inr, length, length-append, refl, arith}
 use Rattle.std.proofs.lemmas.Option.{slice_get_read}
-use Rattle.dl_desk.specs.Marks.{MakesRoom}
+use Rattle.dl_desk.specs.Inside.Marks.{MakesRoom}
 use Rattle.dl_desk.proofs.TwoBooks.{low_choice}
 use Rattle.dl_desk.proofs.memo_and_batches.join.Goals as goal
 use Rattle.dl_desk.proofs.memo_and_batches.join.Goals.{then-number-len+in_ok-new+in_ok-push, else-number-len}

@@ -1,5 +1,5 @@
 use Rattle.std.proofs.Common.{◌≡◌, map}
-use Rattle.dl_desk.specs.Preparation.{prepared_batch, Same}
+use Rattle.dl_desk.specs.Inside.Preparation.{prepared_batch, Same}
 use Rattle.dl_desk.proofs.memo_and_batches.show.Given as goal
 
 abbrev pub invariant-loop-number : goal.invariant-loop-number

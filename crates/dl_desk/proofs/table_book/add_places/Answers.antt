@@ -1,6 +1,6 @@
 use Rattle.std.proofs.Common.{◌∙◌, ap, ℕ, List, [], ◌∷◌, ◌++◌, length-append, refl, arith}
 use Rattle.dl_desk.specs.declared.table_book.Newest.{Newest}
-use Rattle.dl_desk.specs.TableMap.{told_in}
+use Rattle.dl_desk.specs.Inside.TableMap.{told_in}
 use Rattle.dl_desk.proofs.TablePlaces.{told-added}
 use Rattle.dl_desk.proofs.table_book.add_places.Goals as goal
 

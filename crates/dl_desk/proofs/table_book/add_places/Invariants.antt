@@ -1,5 +1,5 @@
 use Rattle.std.proofs.Common.{◌≡◌, ◌≤◌, ℕ, List, length}
-use Rattle.dl_desk.specs.TableMap.{told_in}
+use Rattle.dl_desk.specs.Inside.TableMap.{told_in}
 use Rattle.dl_desk.proofs.table_book.add_places.Given as goal
 
 abbrev pub invariant-loop-place : goal.invariant-loop-place

@@ -1,6 +1,6 @@
 use Rattle.std.proofs.Common.{◌≡◌, map, drop}
-use Rattle.dl_desk.specs.Preparation.{shown_batch}
-use Rattle.dl_desk.specs.TableBook.{AreTouched}
+use Rattle.dl_desk.specs.Inside.Preparation.{shown_batch}
+use Rattle.dl_desk.specs.Inside.TableBook.{AreTouched}
 use Rattle.dl_desk.proofs.table_book.cut_each.Given as goal
 
 abbrev pub invariant-loop-number : goal.invariant-loop-number

@@ -1,5 +1,5 @@
 use Rattle.std.proofs.Common.{◌∙◌, sym, ◌<◌, length, get_or, refl, arith}
-use Rattle.dl_desk.specs.Preparation.{prepared_batch}
+use Rattle.dl_desk.specs.Inside.Preparation.{prepared_batch}
 use Rattle.dl_desk.proofs.TableLemmas.{touched_turn, touched_inside, touched_all}
 use Rattle.dl_desk.proofs.table_book.show_each.Goals as goal
 
@@ -10,8 +10,10 @@ index_mut-requires c =
     omega (arith, c.loop-number.batches.ok.0)
 
 pub loop-number-preserved : goal.loop-number-preserved
-loop-number-preserved c = touched_turn prepared_batch c.args.touched.now c.loop-number.number-index _ c.loop-number.batches.items _ _ _ c.loop-number-test.true refl
+loop-number-preserved c =
+    touched_turn prepared_batch c.args.touched.now c.loop-number.number-index _ c.loop-number.batches.items _ _ _ c.loop-number-test.true refl
     c.index_mut.ensures.value (c.show.ensures.shown ∙ sym c.show.ensures.prepared) c.show.ensures.prepared c.loop-number.invariant
 
 pub returns-clause-shown : goal.returns-clause-shown
-returns-clause-shown c = touched_all c.args.touched.now c.loop-number.number-index _ c.loop-number-test.false c.loop-number.invariant.0 ∙ c.loop-number.invariant.1
+returns-clause-shown c = touched_all c.args.touched.now c.loop-number.number-index _ c.loop-number-test.false c.loop-number.invariant.0
+    ∙ c.loop-number.invariant.1

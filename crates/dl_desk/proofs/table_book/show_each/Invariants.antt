@@ -1,7 +1,8 @@
 use Rattle.std.proofs.Common.{◌≡◌, map, drop}
-use Rattle.dl_desk.specs.Preparation.{prepared_batch}
-use Rattle.dl_desk.specs.TableBook.{AreTouched}
+use Rattle.dl_desk.specs.Inside.Preparation.{prepared_batch}
+use Rattle.dl_desk.specs.Inside.TableBook.{AreTouched}
 use Rattle.dl_desk.proofs.table_book.show_each.Given as goal
 
 abbrev pub invariant-loop-number : goal.invariant-loop-number
-invariant-loop-number l = AreTouched (drop l.number-index l.touched) l.batches.items × (map prepared_batch l.batches.items ≡ map prepared_batch l.fn.batches.items)
+invariant-loop-number l = AreTouched (drop l.number-index l.touched) l.batches.items
+    × (map prepared_batch l.batches.items ≡ map prepared_batch l.fn.batches.items)

@@ -2,7 +2,7 @@ use Rattle.std.proofs.Common.{◌≡◌, ◌∙◌, sym, ◌<◌, length, map, s
 use Rattle.std.specs.Option.{is_some}
 use Rattle.std.proofs.lemmas.Option.{slice_get_read, slice_get-map}
 use Rattle.std.proofs.lemmas.List.{length-map}
-use Rattle.dl_desk.specs.Preparation.{shown_batch}
+use Rattle.dl_desk.specs.Inside.Preparation.{shown_batch}
 use Rattle.dl_desk.specs.declared.reply.End.{End}
 use Rattle.dl_desk.proofs.DispatchJobs.{get-take}
 use Rattle.dl_desk.proofs.TwoBooks.{length-begun}

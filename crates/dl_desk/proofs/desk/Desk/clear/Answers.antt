@@ -10,7 +10,8 @@ returns-clause-stands c = λ history stands.
     let memo : c.self.inside.memo.entries ≡ c.args.self.now.book.memo =
     ap (λ (d : Desk). d.prepared.memo) c.self.view_is ∙ ap (λ (b : BatchBook). b.memo) c.discard.ensures.prepared in
     let entries = c.swap_remove.new.self.entries in
-    rw (c.len-self-inside.ensures.len, inside) (stands_cleared _ _ _ history c.args.key.now (ap (λ (d : Desk). d.book) c.self.view_is ∙ c.discard.ensures.book) stands
+    rw (c.len-self-inside.ensures.len, inside)
+    (stands_cleared _ _ _ history c.args.key.now (ap (λ (d : Desk). d.book) c.self.view_is ∙ c.discard.ensures.book) stands
     (λ q. rw (take_all (length entries) entries (omega arith)) (rw memo at (c.swap_remove.ensures.updates.0 q))))
   where
     inside : c.if-is_some.self-inside ≡ record c.self.inside { memo = c.swap_remove.new.self; forgotten = c.if-is_some.self-inside.forgotten }

@@ -1,5 +1,5 @@
 use Rattle.std.proofs.Common.{◌≡◌}
-use Rattle.dl_desk.specs.Preparation.{Forgets}
+use Rattle.dl_desk.specs.Inside.Preparation.{Forgets}
 use Rattle.dl_desk.specs.declared.reply.End.TheVariants.{Settled}
 use Rattle.dl_desk.proofs.EndLemmas.{ended, stands_settled, stands_failed}
 use Rattle.dl_desk.proofs.desk.Desk.end.Goals as goal

@@ -4,7 +4,7 @@ use Rattle.std.proofs.lemmas.Option.{slice_get_read}
 use Rattle.std.proofs.lemmas.Result.{IfOk-from_err}
 use Rattle.dl_values.specs.Key.{Key}
 use Rattle.dl_desk.specs.BatchBook.{Desk}
-use Rattle.dl_desk.specs.Preparation.{prepared_batch, members_at}
+use Rattle.dl_desk.specs.Inside.Preparation.{prepared_batch, members_at}
 use Rattle.dl_desk.proofs.DispatchJobs.{book_jobs-more, members_at-stored}
 use Rattle.dl_desk.proofs.desk.Desk.jobs.Goals as goal
 use Rattle.dl_desk.proofs.desk.Desk.jobs.Goals.{After-push_reserved}
@@ -15,7 +15,8 @@ at c =
     slice_get_read c.self.inside.batches.items (length c.self.inside.batches.items) c.loop-number.number c.index.result.now refl (omega arith) c.index.ensures
 
 members : (c : After-push_reserved) → members_at c.args.self.now.prepared c.loop-number.number ≡ c.index.result.now.members
-members c = members_at-stored prepared_batch c.args.self.now.prepared c.self.inside.prepared.begun c.loop-number.number c.self.inside.batches.items c.index.result.now
+members c =
+    members_at-stored prepared_batch c.args.self.now.prepared c.self.inside.prepared.begun c.loop-number.number c.self.inside.batches.items c.index.result.now
     (sym (ap (λ (d : Desk). d.prepared.batches) c.self.view_is)) c.loop-number-test.true (at c)
 
 pub loop-number-preserved : goal.loop-number-preserved

@@ -1,5 +1,5 @@
 use Rattle.std.proofs.Common.{◌≡◌, ◌≤◌, ◌+◌, ◌-◌, length, vec_capacity}
-use Rattle.dl_desk.specs.Preparation.{book_jobs}
+use Rattle.dl_desk.specs.Inside.Preparation.{book_jobs}
 use Rattle.dl_desk.proofs.desk.Desk.jobs.Given as goal
 
 abbrev pub invariant-loop-number : goal.invariant-loop-number

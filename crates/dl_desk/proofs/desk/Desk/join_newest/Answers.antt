@@ -2,7 +2,7 @@ use Rattle.std.proofs.Common.{◌≡◌, ◌∙◌, ap, sym, Bool, ℕ, List, ta
 use Rattle.dl_values.specs.Key.{Key}
 use Rattle.dl_desk.specs.History.{has_member}
 use Rattle.dl_desk.specs.BatchBook.{Batch}
-use Rattle.dl_desk.specs.Preparation.{prepared_batch, members_of, book_room}
+use Rattle.dl_desk.specs.Inside.Preparation.{prepared_batch, members_of, book_room}
 use Rattle.dl_desk.proofs.FieldMarks.{desk_grown, desk_put}
 use Rattle.dl_desk.proofs.TableLemmas.{no_tables, fit_none}
 use Rattle.dl_desk.proofs.MemoMembers.{none_stored}

@@ -1,6 +1,6 @@
 use Rattle.std.proofs.Common.{◌≡◌, map, take, Some, refl}
-use Rattle.dl_desk.specs.Preparation.{prepared_batch, book_room}
-use Rattle.dl_desk.specs.TableBook.{IsOf}
+use Rattle.dl_desk.specs.Inside.Preparation.{prepared_batch, book_room}
+use Rattle.dl_desk.specs.Inside.TableBook.{IsOf}
 use Rattle.dl_desk.proofs.FieldMarks.{desk_grown, desk_put}
 use Rattle.dl_desk.proofs.MemoMembers.{none_stored}
 use Rattle.dl_desk.proofs.TwoBooks.{length-begun, put_batches, batches_shown, same_book}

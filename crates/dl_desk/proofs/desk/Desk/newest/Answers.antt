@@ -1,5 +1,5 @@
 use Rattle.std.proofs.Common.{◌≡◌, ◌∙◌, sym, ℕ, ◌-◌, suc, false, arith}
-use Rattle.dl_desk.specs.Preparation.{has_room_in}
+use Rattle.dl_desk.specs.Inside.Preparation.{has_room_in}
 use Rattle.dl_desk.proofs.TwoBooks.{length-begun}
 use Rattle.dl_desk.proofs.OpenBatch.{last_room, next_room}
 use Rattle.dl_desk.proofs.desk.Desk.newest.Goals as goal

@@ -33,7 +33,8 @@ loop-key-preserved c =
 
 pub returns-clause-accepted : goal.returns-clause-accepted
 returns-clause-accepted c = loading_accepted c.args.self.now.book c.loop-key.self c.args.keys.now c.loop-key.replies.items
-    (loading_all c.args.self.now.book c.loop-key.self c.args.keys.now c.loop-key.key-index c.loop-key.replies.items c.loop-key-test.false c.loop-key.invariant.loading)
+    (loading_all c.args.self.now.book c.loop-key.self c.args.keys.now c.loop-key.key-index c.loop-key.replies.items c.loop-key-test.false
+    c.loop-key.invariant.loading)
 
 pub returns-in_err-replies-clause-replies : goal.returns-in_err-replies-clause-replies
 returns-in_err-replies-clause-replies c = IfOk-from_err _ _ c.from_residual.ensures.0

@@ -1,8 +1,8 @@
 use Rattle.std.proofs.Common.{◌≡◌, ◌∙◌, ap, ℕ, List, set, cond, Some, None, inr, bytes_eq, refl, arith}
 use Rattle.dl_values.proofs.Errors.{on_err}
 use Rattle.dl_desk.specs.declared.table_book.Newest.{Newest}
-use Rattle.dl_desk.specs.TableMap.{told_in}
-use Rattle.dl_desk.specs.TableBook.{TableBook, TellsTheSame}
+use Rattle.dl_desk.specs.Inside.TableMap.{told_in}
+use Rattle.dl_desk.specs.Inside.TableBook.{TableBook, TellsTheSame}
 use Rattle.dl_desk.proofs.TablePlaces.{told-changed, told-kept}
 use Rattle.dl_desk.proofs.table_book.TableBook.begin.Goals as goal
 
@@ -11,7 +11,8 @@ returns-clause-renews c = rw (← c.self.view_is) (record {
   limits = refl;
   newest = λ q. told-changed c.add_places.new.places.items c.args.table.now c.place.result c.index_mut.result.now c.index_mut.ensures.value _ c.insert.new.self
       c.place.ensures (let e = c.in_ok-add_places.ensures.enough in omega arith) c.in_ok-insert.ensures.tells q
-      ∙ ap (cond (bytes_eq c.args.table.now q) (Some (record { most = c.most.result; latest = c.args.next; before = None }))) (c.in_ok-add_places.ensures.told q);
+      ∙ ap (cond (bytes_eq c.args.table.now q) (Some (record { most = c.most.result; latest = c.args.next; before = None })))
+      (c.in_ok-add_places.ensures.told q);
   touched = refl;
 })
 

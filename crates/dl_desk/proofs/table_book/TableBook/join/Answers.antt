@@ -1,9 +1,9 @@
 use Rattle.std.proofs.Common.{◌≡◌, ◌≤◌, length, map, take, Some, inl, inr, refl, rules, arith}
 use Rattle.std.proofs.lemmas.Bool.{cases_eq}
 use Rattle.dl_values.proofs.Errors.{on_err}
-use Rattle.dl_desk.specs.Preparation.{prepared_batch, shown_batch}
+use Rattle.dl_desk.specs.Inside.Preparation.{prepared_batch, shown_batch}
 use Rattle.dl_desk.specs.declared.table_book.Newest.{Newest}
-use Rattle.dl_desk.specs.TableBook.{newest_at, open_for, renewed, Renews}
+use Rattle.dl_desk.specs.Inside.TableBook.{newest_at, open_for, renewed, Renews}
 use Rattle.dl_desk.proofs.TableLemmas.{touching, some_low, next_empty, tables_kept}
 use Rattle.dl_desk.proofs.TableJoins.{IsTold, is_told, IsJoined, within, beside_grown, last_low, room_low, joined_room, joined_next, joined_old, joined_new}
 use Rattle.dl_desk.proofs.table_book.TableBook.join.Goals as goal
@@ -24,7 +24,8 @@ pub with_room-open-requires-clause-newest : goal.with_room-open-requires-clause-
 with_room-open-requires-clause-newest c = some_low c.newest_in-last.result c.args.standing.prepared.begun
     (last_low (told-open c).beside c.args.key.now.table c.in_ok-newest.newest (told-open c).known c.newest_in-last.result (last c))
 
-told-reserve : (c : goal.After-drop-name-in_err-reserve) → IsTold c.args.standing c.args.key.now c.args.batches.now.items c.newest_of.new.self c.in_ok-newest.newest
+told-reserve : (c : goal.After-drop-name-in_err-reserve)
+    → IsTold c.args.standing c.args.key.now c.args.batches.now.items c.newest_of.new.self c.in_ok-newest.newest
 told-reserve c = is_told _ _ _ c.args.self.now c.newest_of.new.self c.in_ok-newest.newest c.in_ok-name.name c.max_batch.result
     (record { stored = c.requires.stored; later = c.requires.shown; fits = c.requires.fits }) c.in_ok-name.ensures c.max_batch.ensures.value
     c.in_ok-newest.ensures.renews c.in_ok-newest.ensures.newest
@@ -51,7 +52,8 @@ join-requires-clause-newest c =
 pub join-requires-clause-next_is_empty : goal.join-requires-clause-next_is_empty
 join-requires-clause-next_is_empty c = next_empty c.args.standing.prepared _ _ c.requires.stored
 
-told-number : (c : goal.After-drop-name-in_err-number) → IsTold c.args.standing c.args.key.now c.args.batches.now.items c.newest_of.new.self c.in_ok-newest.newest
+told-number : (c : goal.After-drop-name-in_err-number)
+    → IsTold c.args.standing c.args.key.now c.args.batches.now.items c.newest_of.new.self c.in_ok-newest.newest
 told-number c = is_told _ _ _ c.args.self.now c.newest_of.new.self c.in_ok-newest.newest c.in_ok-name.name c.max_batch.result
     (record { stored = c.requires.stored; later = c.requires.shown; fits = c.requires.fits }) c.in_ok-name.ensures c.max_batch.ensures.value
     c.in_ok-newest.ensures.renews c.in_ok-newest.ensures.newest
@@ -69,7 +71,8 @@ room-then : (c : goal.After-drop-name-2) → c.with_room-open.result ≡ open_fo
     (take c.args.standing.prepared.begun (map prepared_batch c.args.batches.now.items)) c.args.key.now.table c.in_ok-newest.newest
 room-then c = search rules
 
-joined : (c : goal.After-drop-name-2) → IsJoined c.args.standing c.args.key.now c.args.cell c.args.batches.now.items c.join.new.batches.items c.newest_of.new.self
+joined : (c : goal.After-drop-name-2)
+    → IsJoined c.args.standing c.args.key.now c.args.cell c.args.batches.now.items c.join.new.batches.items c.newest_of.new.self
     c.in_ok-newest.newest c.with_room-open.result c.in_ok-number.number
 joined c = record { is_told = told-then c; room_is = room-then c; number = c.in_ok-number.ensures.number; added = c.in_ok-number.ensures.added }
 
@@ -84,7 +87,8 @@ returns-clause-fits c =
     let touched = rw c.reserve.ensures.items at c.push_reserved.ensures.items in
     elim (cases_eq c.in_ok-number.number c.args.standing.prepared.begun) [
       | inl is ↦
-          let e : Newest = renewed (take c.args.standing.shown.begun (map shown_batch c.join.new.batches.items)) c.args.key.now.table c.in_ok-newest.newest c.in_ok-number.number in
+          let e : Newest = renewed (take c.args.standing.shown.begun (map shown_batch c.join.new.batches.items)) c.args.key.now.table c.in_ok-newest.newest
+          c.in_ok-number.number in
           let renews : Renews (touching c.newest_of.new.self c.in_ok-number.number) c.args.key.now.table e c.tell.new.self =
           rw (← c.self.view_is, ← c.as_slice-3.ensures.value) (rw (touched, c.in_ok-name.ensures) at (c.tell.ensures.begun is)) in
           joined_new (joined c) e c.tell.new.self is refl refl refl renews

@@ -1,5 +1,5 @@
 use Rattle.std.proofs.Common.{◌<◌, length, refl}
-use Rattle.dl_desk.specs.TableName.{place_of}
+use Rattle.dl_desk.specs.Inside.TableName.{place_of}
 use Rattle.dl_desk.proofs.TablePlaces.{place_low, told-changed}
 use Rattle.dl_desk.proofs.table_book.TableBook.renew.Goals as goal
 
@@ -9,7 +9,8 @@ returns c =
     place_low c.self.inside.newest.items c.args.table.now (rw (← c.self.view_is) at c.requires) in
     rw (← c.self.view_is) (record {
       limits = refl;
-      newest = told-changed c.self.inside.newest.items c.args.table.now c.place.result c.index_mut.result.now c.index_mut.ensures.value c.args.newest c.replace.new.self
+      newest = told-changed c.self.inside.newest.items c.args.table.now c.place.result c.index_mut.result.now c.index_mut.ensures.value c.args.newest
+          c.replace.new.self
           c.place.ensures low c.replace.ensures;
       touched = refl;
     })

@@ -1,6 +1,6 @@
 use Rattle.std.proofs.Common.{◌∙◌, sym, ◌≤◌, length, map, take, arith}
 use Rattle.std.proofs.lemmas.List.{length-take}
-use Rattle.dl_desk.specs.Preparation.{shown_batch}
+use Rattle.dl_desk.specs.Inside.Preparation.{shown_batch}
 use Rattle.dl_desk.proofs.TableLemmas.{told_again}
 use Rattle.dl_desk.proofs.table_book.TableBook.tell.Goals as goal
 use Rattle.dl_desk.proofs.table_book.TableBook.tell.Goals.{else-number-next-via-then-number-next+else-last-next, else-number-next-via-else-number-next}

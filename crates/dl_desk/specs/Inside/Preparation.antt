@@ -5,8 +5,8 @@ use Rattle.std.specs.Map.{lookup}
 use Rattle.dl_values.specs.Key.{Key, key_eq}
 use Rattle.dl_values.specs.Limits.{limit_of}
 use Rattle.dl_desk.specs.History.{has_member, serves, greatest}
-use Rattle.dl_desk.specs.StoredBatch.{StoredBatch}
-use Rattle.dl_desk.specs.BatchBook.{Batch, BatchBook}
+use Rattle.dl_desk.specs.Inside.StoredBatch.{StoredBatch}
+use Rattle.dl_desk.specs.BatchBook.{Batch, BatchBook, end_at}
 use Rattle.dl_desk.specs.declared.reply.End.{End}
 use Rattle.dl_values.specs.declared.job.Job.{Job}
 use Rattle.dl_desk.specs.declared.reply.LoadReply.{LoadReply}
@@ -122,14 +122,6 @@ abbrev pub book_jobs : BatchBook → ℕ → ℕ → List Job
 book_jobs book b zero = []
 book_jobs book b (suc n) = book_jobs book b n ++ record { batch = b + n; keys = map (λ m. m.0) (members_at book (b + n)) } ∷ []
 
-abbrev pub end_in : Option Batch → Option End
-end_in None = None
-end_in (Some x) = x.end
-
--- how a batch of the book ended
-abbrev pub end_at : BatchBook → ℕ → Option End
-end_at book b = end_in (slice_get book.batches b)
-
 -- whether the list has a member of this key and cell
 abbrev pub has_pair : List (Key × ℕ) → Key → ℕ → Bool
 has_pair [] k c = false
@@ -145,12 +137,6 @@ abbrev pub set_end : List Batch → ℕ → End → List Batch
 set_end [] b e = []
 set_end (x ∷ xs) zero e = record { members = x.members; end = Some e } ∷ xs
 set_end (x ∷ xs) (suc b) e = x ∷ set_end xs b e
-
--- a batch of the book may end: it is sent, and has not ended
-pub record MayEndIn (book : BatchBook) (b : ℕ) : Type 0 where
-  pub is_begun : b < length book.batches
-  pub is_sent : b < book.sent
-  pub no_end : end_at book b ≡ None
 
 -- an end of a batch of the book is refused so
 abbrev pub RefusesEnd : BatchBook → ℕ → DeskFault → Type 0

@@ -5,9 +5,9 @@ use Rattle.std.specs.List.{list_any}
 use Rattle.dl_values.specs.Limits.{Limits, Rules, limit_by}
 use Rattle.dl_desk.specs.History.{is_of_table, greatest}
 use Rattle.dl_desk.specs.BatchBook.{Batch, BatchBook}
-use Rattle.dl_desk.specs.StoredBatch.{StoredBatch}
-use Rattle.dl_desk.specs.Preparation.{members_of, prepared_batch, shown_batch}
-use Rattle.dl_desk.specs.TableMap.{told_in}
+use Rattle.dl_desk.specs.Inside.StoredBatch.{StoredBatch}
+use Rattle.dl_desk.specs.Inside.Preparation.{members_of, prepared_batch, shown_batch}
+use Rattle.dl_desk.specs.Inside.TableMap.{told_in}
 use Rattle.dl_desk.specs.declared.table_book.Newest.{Newest}
 
 -- what contracts see of it: the tables' own limits, what is told of each table's newest batch, and the batches in which

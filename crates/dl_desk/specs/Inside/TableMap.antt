@@ -1,7 +1,7 @@
 -- What is told of the newest batches of tables.
 use Rattle.std.specs.Prelude.{◌≡◌, ℕ, List, [], Option, Some, get_or, bytes_eq, if◌then◌else◌}
 use Rattle.std.specs.Map.{lookup}
-use Rattle.dl_desk.specs.TableName.{place_of}
+use Rattle.dl_desk.specs.Inside.TableName.{place_of}
 use Rattle.dl_desk.specs.declared.table_book.Newest.{Newest}
 
 -- it is told of the table, and of the others what was

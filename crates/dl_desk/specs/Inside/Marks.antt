@@ -1,10 +1,10 @@
 -- What holds of the fields of a desk: of what is shown, of what is prepared, and of both.
 use Rattle.std.specs.Prelude.{◌≡◌, ℕ, Bool, false, ◌<◌, ◌≤◌, List, [], ◌∷◌, ◌++◌, ◌⊎◌, length, map, set, take, slice_get, Option, Some}
 use Rattle.dl_values.specs.Key.{Key}
-use Rattle.dl_desk.specs.StoredBatch.{StoredBatch, blank}
+use Rattle.dl_desk.specs.Inside.StoredBatch.{StoredBatch, blank}
 use Rattle.dl_desk.specs.BatchBook.{Batch}
-use Rattle.dl_desk.specs.Preparation.{prepared_batch, shown_batch, empty, Same, AllHeld}
-use Rattle.dl_desk.specs.TableBook.{TableBook, FitTables, both}
+use Rattle.dl_desk.specs.Inside.Preparation.{prepared_batch, shown_batch, empty, Same, AllHeld}
+use Rattle.dl_desk.specs.Inside.TableBook.{TableBook, FitTables, both}
 use Rattle.dl_desk.specs.declared.desk.Extent.{Extent}
 
 -- the fields of a desk that its two books are read from

@@ -1,0 +1,6 @@
+pub mod StoredBatch
+pub mod Preparation
+pub mod TableName
+pub mod TableMap
+pub mod TableBook
+pub mod Marks
