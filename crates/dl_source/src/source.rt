@@ -1,4 +1,4 @@
-//! Sources: where outcomes come from.
+//! Sources, which answer the keys of a batch.
 
 ghost use Rattle.std.specs.Prelude.{◌≡◌, List, IfOk};
 ghost use Rattle.dl_values.specs.Key.{Key};
