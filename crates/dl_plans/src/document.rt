@@ -32,7 +32,7 @@ use std::thread::Threads;
 
 /// Reads a document, and writes the text that it gives once all of it is made. At most one byte more is read than
 /// a document has. The plans of a plan file are served at once, each on a thread of its own, and as many workers as the
-/// options say fetch for them. Keys are hashed by `hashing`, of which nothing is seen. Where the options name a file, the picture of
+/// options say fetch for them. Keys are hashed by `hashing`, of which nothing is seen. If the options name a file, the picture of
 /// what happened goes there first, as a whole or not at all.
 ///
 /// It is for the end of a process: what was read and served is left to the system, and isn't taken apart.
@@ -40,7 +40,7 @@ use std::thread::Threads;
 /// # Errors
 /// `Read` where the reader fails, `Refused` where what it holds is no document, `Run` where the plans of a plan file
 /// aren't served, `OutOfMemory` where an allocation failed, and `Write` where the picture's file or the writer fails. Only after
-/// `Write` something may be written: a front of the text, and nothing where it was the file.
+/// `Write` something may be written: a front of the text, and nothing if it was the file.
 pub fn run<R: Read, W: Write, T: Threads + Wait + Sync + Files + RandomSource>(
     rt: &T,
     alloc: Global,
@@ -62,14 +62,14 @@ pub fn run<R: Read, W: Write, T: Threads + Wait + Sync + Files + RandomSource>(
     write_all(writer, given.text.as_bytes())
 }
 
-/// What a document gives: its text, and its picture where one is wanted.
+/// What a document gives: its text, and its picture if one is wanted.
 #[derive(Drop)]
 struct Given {
     text: String,
     picture: Option<String>,
 }
 
-/// Has the picture in its file, where one is wanted.
+/// Has the picture in its file, if one is wanted.
 fn keep_picture<T: Files + RandomSource>(
     rt: &T,
     alloc: Global,

@@ -1,4 +1,4 @@
-//! What the program is asked for, and how it ends, over a runtime. Where standard error takes no line, the status alone tells.
+//! What the program is asked for, and how it ends, over a runtime. If standard error takes no line, the status says all.
 
 use crate::command::{options, unreadable};
 use crate::fault::RunError;

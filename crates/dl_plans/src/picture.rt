@@ -23,7 +23,7 @@ pub(crate) fn report_picture(alloc: Global, report: &Report) -> Result<String, A
 /// older file.
 ///
 /// # Errors
-/// `Write` where the file can't be written, or where a folder, a link or a device has its name, and `OutOfMemory` where an
+/// `Write` if the file can't be written, or a folder, a link or a device has its name, and `OutOfMemory` if an
 /// allocation failed.
 pub(crate) fn write_picture<R: Files + RandomSource>(
     rt: &R,
@@ -82,7 +82,7 @@ fn fill<R: Files>(
     {
         return Ok(());
     }
-    // Where it can't be removed either, it stays.
+    // If it can't be removed either, it stays.
     let _ = fs::remove_file(rt, part);
     Err(RunError::Write)
 }

@@ -7,7 +7,7 @@ pub struct Options {
     pub workers: u32,
     /// Whether the rounds and batches of a plan file with exactly one plan are printed.
     pub batches: bool,
-    /// The file into which a picture is drawn, if one is.
+    /// The file of the picture, if one is wanted.
     pub picture: Option<String>,
     /// Whether a plan file of version 1 is written as version 2, and not answered.
     pub migrate: bool,
