@@ -9,16 +9,15 @@ import argparse
 import asyncio
 import json
 import os
-import sqlite3
 import sys
 import tempfile
-from collections import defaultdict
 from dataclasses import dataclass
 
 sys.path.append("/usr/lib/python3/dist-packages")  # Debian's graphql-core, for a Python that isn't Debian's.
 
 from graphql import build_ast_schema, graphql, parse  # noqa: E402
 
+from blog import Database, fill  # noqa: E402
 from thrushscreen import DataLoader  # noqa: E402
 
 try:
@@ -46,45 +45,6 @@ QUERIES = {
 }
 
 
-def fill(path):
-    """Makes the tables: 12 users, 100 posts, and 300 comments."""
-    with sqlite3.connect(path) as connection:
-        connection.execute("CREATE TABLE user (id INTEGER PRIMARY KEY, name TEXT, best_friend INTEGER)")
-        connection.execute("CREATE TABLE post (id INTEGER PRIMARY KEY, title TEXT, author INTEGER)")
-        connection.execute("CREATE TABLE comment (id INTEGER PRIMARY KEY, text TEXT, author INTEGER, post INTEGER)")
-        users = [(n, f"user {n}", n % 12 + 1 if n % 3 else None) for n in range(1, 13)]
-        posts = [(n, f"post {n}", n % 12 + 1) for n in range(1, 101)]
-        comments = [(n, f"comment {n}", n * 7 % 12 + 1, n % 100 + 1) for n in range(1, 301)]
-        connection.executemany("INSERT INTO user VALUES (?, ?, ?)", users)
-        connection.executemany("INSERT INTO post VALUES (?, ?, ?)", posts)
-        connection.executemany("INSERT INTO comment VALUES (?, ?, ?, ?)", comments)
-    connection.close()
-
-
-class Database:
-    """The file, and how many statements it was asked. They are so short that the event loop's own thread makes them."""
-
-    def __init__(self, path):
-        self.statements = 0
-        self.connection = sqlite3.connect(path)
-        self.connection.row_factory = sqlite3.Row
-
-    async def rows(self, statement, values=()):
-        self.statements += 1
-        return [dict(row) for row in self.connection.execute(statement, values)]
-
-    async def rows_by(self, table, column, keys):
-        """The rows of each key."""
-        marks = ", ".join("?" * len(keys))
-        found = defaultdict(list)
-        for row in await self.rows(f"SELECT * FROM {table} WHERE {column} IN ({marks}) ORDER BY id", list(keys)):
-            found[row[column]].append(row)
-        return [found[key] for key in keys]
-
-    def close(self):
-        self.connection.close()
-
-
 class NoLoader:
     """Asks for each key by itself, as a server without loaders does."""
 
@@ -110,13 +70,13 @@ class Request:
 
     def one(self, table):
         async def batch_load_fn(ids):
-            return [rows[0] if rows else None for rows in await self.database.rows_by(table, "id", ids)]
+            return self.database.row_by(table, ids)
 
         return batch_load_fn
 
     def many(self, table, column):
         async def batch_load_fn(ids):
-            return await self.database.rows_by(table, column, ids)
+            return self.database.rows_by(table, column, ids)
 
         return batch_load_fn
 

@@ -1,4 +1,4 @@
-"""The examples of the documents print what stands beside them."""
+"""The examples of the documents print what is beside them."""
 
 import pathlib
 import re
@@ -14,13 +14,17 @@ class Examples(unittest.TestCase):
         ran = subprocess.run([sys.executable, *program], capture_output=True, text=True)
         self.assertEqual((ran.stdout, ran.returncode), (output, 0), ran.stderr)
 
-    def test_the_server(self):
-        self.check([TOP / "examples" / "server.py"], (TOP / "examples" / "server.out").read_text())
+    def test_the_servers(self):
+        for server in ("server", "threads_server"):
+            with self.subTest(server=server):
+                self.check([TOP / "examples" / f"{server}.py"], (TOP / "examples" / f"{server}.out").read_text())
 
-    def test_the_program_of_the_page(self):
+    def test_the_programs_of_the_page(self):
         page = (TOP / "python/README.md").read_text()
-        program, output = re.search(r"`hello\.py`:\n\n```python\n(.*?)```.*?```text\n(.*?)```", page, re.DOTALL).groups()
-        self.check(["-c", program], output)
+        programs = re.findall(r"^```python\n(.*?)```\n\n```text\n(.*?)```", page, re.DOTALL | re.MULTILINE)
+        self.assertEqual(len(programs), 2)
+        for program, output in programs:
+            self.check(["-c", program], output)
 
 
 if __name__ == "__main__":

@@ -6,11 +6,11 @@ import sys
 import unittest
 import warnings
 
-from thrushscreen import DataLoader, data_loader
+from thrushscreen import DataLoader, _options, data_loader
 from test_nothing_hangs import run_on, soon, turns
 
 # The lines that are interrupted.
-LINES = data_loader.__file__
+LINES = {data_loader.__file__, _options.__file__}
 
 
 def wrapping(loop, coroutine, **options):
@@ -30,7 +30,7 @@ class Interrupt:
         self.where = None
 
     def trace(self, frame, event, _):
-        if frame.f_code.co_filename != LINES:
+        if frame.f_code.co_filename not in LINES:
             return None
         self.left -= 1
         if self.left == 0:

@@ -11,7 +11,7 @@ import tempfile
 import unittest
 
 import thrushscreen
-from thrushscreen import _desk
+from thrushscreen import _desk, threads
 
 TESTS = pathlib.Path(__file__).resolve().parent
 PACKAGE = pathlib.Path(thrushscreen.__file__).resolve().parent
@@ -27,6 +27,12 @@ WRONG = {
     "keys: DataLoader[int, str] = DataLoader[int, str](fetch).clear(1).load(1)": "assignment",
     "DataLoader[str, str](fetch)": "arg-type",
     "DataLoader[int, str](fetch, get_cache_key=3)": "arg-type",
+    "threads.DataLoader[int, str](fetch)": "arg-type",
+    'threads.DataLoader[int, str](fetch_here).load("1")': "arg-type",
+    "own: int = threads.DataLoader[int, str](fetch_here).load(1).result()": "assignment",
+    "length: threads.Later[str] = threads.DataLoader[int, str](fetch_here).load(1).then(len)": "arg-type",
+    "title: int = threads.run(page(1))": "assignment",
+    "await threads.DataLoader[int, str](fetch_here).load(1)": "misc",
 }
 
 
@@ -37,16 +43,20 @@ def names_of(kind):
 class Names(unittest.TestCase):
     def test_the_public_names_are_those_of_the_documents(self):
         self.assertEqual(sorted(thrushscreen.__all__), ["Counters", "DataLoader", "LoaderFull"])
-        self.assertEqual(
-            names_of(thrushscreen.DataLoader),
-            {"load", "load_many", "held", "prime", "clear", "clear_all", "counters"}
-            | {"batch", "max_batch_size", "cache", "cache_map", "get_cache_key", "batch_schedule_fn", "name", "max_cells"},
-        )
+        self.assertEqual(sorted(threads.__all__), ["DataLoader", "Later", "run"])
+        for kind in (thrushscreen.DataLoader, threads.DataLoader):
+            self.assertEqual(
+                names_of(kind),
+                {"load", "load_many", "held", "prime", "clear", "clear_all", "counters"}
+                | {"batch", "max_batch_size", "cache", "cache_map", "get_cache_key", "batch_schedule_fn", "name", "max_cells"},
+            )
+        self.assertEqual(names_of(threads.Later), {"done", "result", "exception", "then", "add_done_callback"})
 
     def test_options_have_the_names_of_the_ports(self):
-        options = list(inspect.signature(thrushscreen.DataLoader).parameters)
-        self.assertEqual(options[:4], ["batch_load_fn", "batch", "max_batch_size", "cache"])
-        self.assertIn("get_cache_key", options)
+        for kind in (thrushscreen.DataLoader, threads.DataLoader):
+            options = list(inspect.signature(kind).parameters)
+            self.assertEqual(options[:4], ["batch_load_fn", "batch", "max_batch_size", "cache"])
+            self.assertIn("get_cache_key", options)
 
     def test_the_version_is_that_of_the_wheel_and_of_the_changes(self):
         self.assertEqual(importlib.metadata.version("thrushscreen"), thrushscreen.__version__)
@@ -56,6 +66,9 @@ class Names(unittest.TestCase):
     def test_calls_of_the_extension_tell_what_they_take(self):
         for call in ("load", "held", "clear"):
             self.assertEqual(str(inspect.signature(getattr(thrushscreen.DataLoader, call))), "(self, key, /)")
+
+    def test_the_class_for_threads_is_no_longer_than_it_may_be(self):
+        self.assertLessEqual(len((PACKAGE / "threads.py").read_text().splitlines()), 250)
 
 
 class Files(unittest.TestCase):

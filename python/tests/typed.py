@@ -3,9 +3,10 @@
 from __future__ import annotations
 
 import asyncio
-from collections.abc import Callable
+from collections.abc import Callable, Generator
+from typing import Any
 
-from thrushscreen import Counters, DataLoader, LoaderFull
+from thrushscreen import Counters, DataLoader, LoaderFull, threads
 
 
 async def fetch(keys: list[int]) -> list[str | BaseException]:
@@ -14,6 +15,15 @@ async def fetch(keys: list[int]) -> list[str | BaseException]:
 
 async def fetch_plain(keys: list[int]) -> list[str]:
     return [str(key) for key in keys]
+
+
+def fetch_here(keys: list[int]) -> list[str | BaseException]:
+    return [KeyError(key) if key < 0 else str(key) for key in keys]
+
+
+def page(key: int) -> Generator[Any, Any, str]:
+    one: str = yield threads.DataLoader(fetch_here).load(key)
+    return one
 
 
 class Users(DataLoader[int, str]):
@@ -49,3 +59,25 @@ async def main() -> None:
     ratio: float = counters.hits / counters.loads
     full: RuntimeError = LoaderFull()
     print(value, other, third, several, raised, held, ratio, full, loader.name)
+
+
+class Pages(threads.DataLoader[int, str]):
+    max_batch_size = 100
+
+    def batch_load_fn(self, keys: list[int]) -> list[str]:
+        return [str(key) for key in keys]
+
+
+def in_a_thread() -> None:
+    loader = Pages(cache_map={}, name="pages")
+    value: str = loader.load(1).result()
+    lengths: threads.Later[int] = loader.load(1).then(len)
+    chained: threads.Later[str] = loader.load(1).then(lambda one: loader.load(len(one)))
+    several: list[str | BaseException] = loader.load_many([1, 2]).result()
+    raised: list[str] = loader.load_many([1, 2], return_exceptions=False).result()
+    same: Pages = loader.prime(1, "one").prime(2, KeyError(2)).prime(3, loader.load(1)).clear(1).clear_all()
+    held: threads.Later[str] | None = same.held(1)
+    title: str = threads.run(page(1))
+    error: BaseException | None = lengths.exception()
+    counters: Counters = loader.counters
+    print(value, chained.result(), several, raised, held, title, error, counters, chained.done(), threads.run(lengths) + 1)

@@ -1,6 +1,7 @@
 /* The desk for Python: a type over dl_desk.h that keeps, for each cell, who waits for it and then its outcome, and that watches
  * the tasks that send and fetch. It works under the interpreter's lock, and a desk belongs to the thread and the event loop of
- * its first load.
+ * its first load. A loader of threads has rounds in an event loop's place: an object of its thread that makes futures, and that is
+ * told of each list of batches (`collect`), which it then has fetched by `_fetch_here`.
  *
  * Any call of Python's may come back with another call of the same desk, by a finalizer if nothing else. So what the desk answers
  * is noted before the next such call, and a cell is looked up by its number after each. An interrupt comes only while Python's
@@ -18,9 +19,8 @@
 typedef struct {
     PyObject *options[9]; /* their names */
     PyObject *desk_type, *known_type, *loader_full, *no_args;
-    PyObject *get_running_loop, *future_type, *base_create_future, *cancelled_error, *invalid_state, *shield, *is_future,
-        *partial;
-    PyObject *add_done_callback, *batch_schedule_fn, *cancel, *cancelled, *check_options, *clear, *close, *create_future,
+    PyObject *get_running_loop, *future_type, *base_create_future, *cancelled_error, *invalid_state, *shield, *partial;
+    PyObject *add_done_callback, *batch_schedule_fn, *cancel, *cancelled, *check_options, *clear, *close, *collect, *create_future,
         *create_task, *dispatch, *end_as, *exception, *fetch, *get, *pop, *result, *set_exception, *set_result, *setdefault,
         *task_ended, *thread_id;
 } Module;
@@ -47,7 +47,7 @@ typedef struct {
 #define NO_CELL UINT32_MAX
 
 typedef struct {
-    PyObject *key;  /* the key as the caller gave it, or NULL */
+    PyObject *key;  /* the key as the caller gave it; of a cell that was primed with a future, that future; or NULL */
     PyObject *what; /* of waiters: NULL, a future, or a list of them */
     Known *known;   /* if the desk holds it for its key: that key, else NULL */
     CellState state;
@@ -80,7 +80,8 @@ typedef struct {
     uint64_t next_number;    /* none from this one on was given to a key */
     PyObject *tasks;         /* a dict: of each task the list of its batches that haven't ended, or NULL */
     PyObject *sending;       /* the list of the task that will send what is collected, or NULL */
-    PyObject *loop;          /* the event loop of the first load, or NULL */
+    PyObject *rounds;        /* a function that gives the rounds of the thread, or NULL if loads need an event loop */
+    PyObject *loop;          /* the event loop or the rounds of the first load, or NULL */
     unsigned long thread;    /* its thread */
     PyObject *of_loop;       /* {"loop": loop}, or NULL */
     PyObject *create_future; /* the loop's own method, or NULL if it makes asyncio's futures */
@@ -99,6 +100,19 @@ static PyObject *call_one(PyObject *callable, PyObject *argument)
 static PyObject *call_method(PyObject *of, PyObject *name, PyObject *argument)
 {
     return PyObject_CallMethodObjArgs(of, name, argument, NULL);
+}
+
+/* Calls a method of a future, which may be written in Python. An interrupt that meets it comes again, once it has been called. */
+static PyObject *call_future(PyObject *future, PyObject *name, PyObject *argument)
+{
+    PyObject *given = call_method(future, name, argument);
+
+    if (given == NULL && PyErr_ExceptionMatches(PyExc_KeyboardInterrupt)) {
+        PyErr_Clear();
+        given = call_method(future, name, argument);
+        PyErr_SetInterrupt();
+    }
+    return given;
 }
 
 /* Puts a reference in the place of another one. */
@@ -329,7 +343,7 @@ static bool is_in_thread(const Desk *self)
 {
     if (self->loop != NULL && self->thread != PyThread_get_thread_ident()) {
         PyErr_SetString(PyExc_RuntimeError,
-                        "the loader belongs to another thread: make a loader for each request, on the thread of its event loop");
+                        "the loader belongs to another thread: make a loader for each request, in its thread");
         return false;
     }
     return true;
@@ -381,7 +395,12 @@ static bool find_loop(Desk *self)
     PyObject *loop, *run;
     bool is_own = false;
 
-    if (!is_in_thread(self) || (loop = PyObject_CallNoArgs(self->module->get_running_loop)) == NULL) {
+    if (!self->desk.is_open) {
+        raise_code(self, DL_CLOSED);
+        return false;
+    }
+    if (!is_in_thread(self) ||
+        (loop = PyObject_CallNoArgs(self->rounds != NULL ? self->rounds : self->module->get_running_loop)) == NULL) {
         return false;
     }
     if (loop == Py_None) {
@@ -391,8 +410,8 @@ static bool find_loop(Desk *self)
     } else if (self->loop == loop) {
         is_own = true;
     } else {
-        PyErr_SetString(PyExc_RuntimeError,
-                        "the loader belongs to another event loop: make a loader for each request, inside its loop");
+        PyErr_Format(PyExc_RuntimeError, "the loader belongs to another %s: make a loader for each request, in its %s",
+                     self->rounds != NULL ? "thread" : "event loop", self->rounds != NULL ? "thread" : "loop");
     }
     Py_DECREF(loop);
     if (is_own) {
@@ -464,7 +483,7 @@ static PyObject *held_error(Desk *self, PyObject *error, const char *told)
 static bool end_future(Desk *self, PyObject *future, PyObject *outcome, Ending ending)
 {
     Module *module = self->module;
-    PyObject *none = call_method(future, ending == WITH_VALUE ? module->set_result : module->set_exception, outcome);
+    PyObject *none = call_future(future, ending == WITH_VALUE ? module->set_result : module->set_exception, outcome);
 
     if (none != NULL && ending == WITH_SILENT_ERROR) {
         /* The loop reports no exception that was looked at. */
@@ -866,12 +885,25 @@ static bool watch(Desk *self, PyObject *task, PyObject *batches)
     return none != NULL;
 }
 
+/* Tells the thread's rounds of a list whose batches they are to fetch: if it is empty, they have it filled. */
+static bool collect(Desk *self, PyObject *batches)
+{
+    PyObject *none = PyObject_CallMethodObjArgs(self->loop, self->module->collect, self, batches, NULL);
+
+    Py_XDECREF(none);
+    return none != NULL;
+}
+
 /* Begins a task that fetches the only batch of its list, or sends first if the list is empty. */
 static bool begin_task(Desk *self, PyObject *batches)
 {
-    PyObject *coroutine = call_method((PyObject *)self, self->module->fetch, batches), *task = NULL;
+    PyObject *coroutine, *task = NULL;
     bool is_begun;
 
+    if (self->rounds != NULL) {
+        return collect(self, batches);
+    }
+    coroutine = call_method((PyObject *)self, self->module->fetch, batches);
     if (coroutine != NULL && (task = call_method(self->loop, self->module->create_task, coroutine)) == NULL) {
         PyObject *error = take_error(), *none = call_method(coroutine, self->module->close, NULL);
         Py_XDECREF(none);
@@ -944,6 +976,34 @@ static bool fetch_each(Desk *self, PyObject *batches)
 static PyObject *desk_fetch_each(Desk *self, PyObject *batches)
 {
     if (!fetch_each(self, batches)) {
+        return NULL;
+    }
+    Py_RETURN_NONE;
+}
+
+/* Calls `_fetch` for each batch of the list, which is taken off before: what that leaves of it ends with what it raises. An interrupt is
+ * raised again, and leaves those behind it in the list. */
+static PyObject *desk_fetch_here(Desk *self, PyObject *batches)
+{
+    PyObject *fault = NULL;
+
+    while (fault == NULL && PyList_Size(batches) > 0) {
+        PyObject *own = PyList_GetSlice(batches, 0, 1), *none = NULL;
+        if (own != NULL && PyList_SetSlice(batches, 0, 1, NULL) == 0) {
+            none = call_method((PyObject *)self, self->module->fetch, own);
+        }
+        if (none == NULL) {
+            fault = take_error();
+            fail_batches(self, own == NULL ? batches : own, fault, GIVEN);
+        }
+        if (fault != NULL && PyErr_GivenExceptionMatches(fault, PyExc_Exception)) {
+            Py_CLEAR(fault);
+        }
+        Py_XDECREF(none);
+        Py_XDECREF(own);
+    }
+    if (fault != NULL) {
+        raise_again(fault);
         return NULL;
     }
     Py_RETURN_NONE;
@@ -1060,7 +1120,7 @@ static PyObject *load_cell(Desk *self, PyObject *key, PyObject *cache_key)
     return future;
 }
 
-/* Loads a key by the cache map, which has a future of each cell. Callers have theirs over it. */
+/* Loads a key by the cache map, which has a future of each cell. Callers have theirs over it, if one could cancel it. */
 static PyObject *load_mapped(Desk *self, PyObject *key)
 {
     PyObject *cache_key = cache_key_of(self, key), *held, *future;
@@ -1076,8 +1136,11 @@ static PyObject *load_mapped(Desk *self, PyObject *key)
         replace(&held, load_cell(self, key, cache_key));
     }
     Py_DECREF(cache_key);
-    future = held == NULL ? NULL : call_one(self->module->shield, held);
-    Py_XDECREF(held);
+    if (held == NULL || self->rounds != NULL) {
+        return held;
+    }
+    future = call_one(self->module->shield, held);
+    Py_DECREF(held);
     return future;
 }
 
@@ -1319,6 +1382,7 @@ static void end_primed(Desk *self, uint32_t place, PyObject *outcome)
     if (place >= self->cell_count || self->cells[place].state != SENT) {
         return;
     }
+    replace(&self->cells[place].key, NULL);
     if (PyExceptionInstance_Check(outcome)) {
         /* The loop doesn't report it: the caller knows it. */
         end_with_error(self, place, outcome, WITH_SILENT_ERROR, PRIMED);
@@ -1337,8 +1401,8 @@ static PyObject *desk_end_as(Desk *self, PyObject *const *args, Py_ssize_t count
         return NULL;
     }
     place = (uint32_t)PyLong_AsUnsignedLong(args[0]);
-    error = call_method(args[1], self->module->exception, NULL);
-    outcome = error == Py_None ? call_method(args[1], self->module->result, NULL) : error != NULL ? error : take_error();
+    error = call_future(args[1], self->module->exception, NULL);
+    outcome = error == Py_None ? call_future(args[1], self->module->result, NULL) : error != NULL ? error : take_error();
     if (error == Py_None) {
         Py_DECREF(error);
     }
@@ -1365,12 +1429,11 @@ static bool end_with_future(Desk *self, uint32_t place, PyObject *future)
 
 static PyObject *desk_prime(Desk *self, PyObject *const *args, Py_ssize_t count)
 {
-    PyObject *is_future;
     uint32_t place;
     int is_begun;
 
-    if (count != 2) {
-        PyErr_SetString(PyExc_TypeError, "_prime takes a key and a value");
+    if (count != 3) {
+        PyErr_SetString(PyExc_TypeError, "_prime takes a key, a value, and whether that is a future");
         return NULL;
     }
     if (!is_in_thread(self)) {
@@ -1379,19 +1442,18 @@ static PyObject *desk_prime(Desk *self, PyObject *const *args, Py_ssize_t count)
     if (!self->is_memo && self->cache_map == NULL) {
         return of_cache_map_by_key(self, self->module->get, args[0]);
     }
-    is_future = call_one(self->module->is_future, args[1]);
-    if (is_future == NULL) {
-        return NULL;
-    }
-    Py_DECREF(is_future);
     is_begun = self->is_memo ? prime_key(self, args[0], &place) : prime_mapped(self, args[0], &place);
-    if (is_begun == 1 && is_future != Py_True) {
+    if (is_begun == 1 && args[2] != Py_True) {
         end_primed(self, place, args[1]);
     } else if (is_begun == 1 && !end_with_future(self, place, args[1])) {
         PyObject *error = take_error();
         fail_cell(self, place, error, WITH_SILENT_ERROR, GIVEN);
         raise_again(error);
         return NULL;
+    } else if (is_begun == 1 && self->cells[place].state == SENT) {
+        /* A future may need somebody who keeps it. */
+        Py_INCREF(args[1]);
+        self->cells[place].key = args[1];
     }
     if (is_begun < 0) {
         return NULL;
@@ -1766,7 +1828,7 @@ static bool read_options(Desk *self, Options *options)
     return none != NULL;
 }
 
-static PyObject *desk_open(Desk *self, PyObject *Py_UNUSED(nothing))
+static PyObject *desk_open(Desk *self, PyObject *const *args, Py_ssize_t count)
 {
     Options options = {0};
     int is_batched, is_cached;
@@ -1787,7 +1849,10 @@ static PyObject *desk_open(Desk *self, PyObject *Py_UNUSED(nothing))
     self->is_memo = is_cached && options.cache_map == Py_None;
     keep(&self->get_cache_key, options.get_cache_key);
     if (is_cached) {
-        keep(&self->cache_map, options.cache_map);
+        keep(&self->cache_map, count == 2 ? args[1] : options.cache_map);
+    }
+    if (count == 2) {
+        keep(&self->rounds, args[0]);
     }
 done:
     for (int place = 0; place < OPTIONS; place++) {
@@ -1810,6 +1875,7 @@ static int desk_traverse(Desk *self, visitproc visit, void *arg)
     Py_VISIT(self->keys);
     Py_VISIT(self->tasks);
     Py_VISIT(self->sending);
+    Py_VISIT(self->rounds);
     Py_VISIT(self->loop);
     Py_VISIT(self->of_loop);
     Py_VISIT(self->create_future);
@@ -1839,6 +1905,7 @@ static int desk_forget(Desk *self)
     Py_CLEAR(self->keys);
     Py_CLEAR(self->tasks);
     Py_CLEAR(self->sending);
+    Py_CLEAR(self->rounds);
     Py_CLEAR(self->loop);
     Py_CLEAR(self->of_loop);
     Py_CLEAR(self->create_future);
@@ -1867,12 +1934,14 @@ static PyMethodDef desk_methods[] = {
     {"clear", CALL(desk_clear), METH_O, PyDoc_STR("clear($self, key, /)\n--\n\nForgets the key, and answers the loader.")},
     {"clear_all", CALL(desk_clear_all), METH_NOARGS,
      PyDoc_STR("clear_all($self, /)\n--\n\nForgets all keys, and answers the loader.")},
-    {"_open", CALL(desk_open), METH_NOARGS, PyDoc_STR("_open($self, /)\n--\n\nOpens the desk with the loader's options: once.")},
+    {"_open", CALL(desk_open), METH_FASTCALL,
+     PyDoc_STR("_open($self, rounds=None, cache_map=None, /)\n--\n\nOpens the desk with the loader's options: once. Of a thread it is "
+               "given both.")},
     {"_load_all", CALL(desk_load_all), METH_O,
      PyDoc_STR("_load_all($self, keys, /)\n--\n\nThe futures of the keys, in order. All are loaded, or none is.")},
     {"_prime", CALL(desk_prime), METH_FASTCALL,
-     PyDoc_STR("_prime($self, key, value, /)\n--\n\nHolds a value, an error or what a future ends with for the key, unless it is "
-               "held.")},
+     PyDoc_STR("_prime($self, key, value, is_future, /)\n--\n\nHolds a value, an error or what a future ends with for the key, "
+               "unless it is held.")},
     {"_end_as", CALL(desk_end_as), METH_FASTCALL,
      PyDoc_STR("_end_as($self, cell, future, /)\n--\n\nEnds a cell that was primed as the future has ended.")},
     {"_dispatch", CALL(desk_dispatch), METH_NOARGS,
@@ -1883,6 +1952,8 @@ static PyMethodDef desk_methods[] = {
                "batch with its keys.")},
     {"_fetch_each", CALL(desk_fetch_each), METH_O,
      PyDoc_STR("_fetch_each($self, batches, /)\n--\n\nHas a task fetch each batch of the list.")},
+    {"_fetch_here", CALL(desk_fetch_here), METH_O,
+     PyDoc_STR("_fetch_here($self, batches, /)\n--\n\nCalls `_fetch` for each batch of the list, and ends what that leaves.")},
     {"_settle", CALL(desk_settle), METH_FASTCALL,
      PyDoc_STR(
          "_settle($self, batches, answer, /)\n--\n\nEnds the only batch of the list with an outcome for each key. An answer that "
@@ -1960,6 +2031,7 @@ static const struct {
     {offsetof(Module, check_options), "_check_options"},
     {offsetof(Module, clear), "clear"},
     {offsetof(Module, close), "close"},
+    {offsetof(Module, collect), "collect"},
     {offsetof(Module, create_future), "create_future"},
     {offsetof(Module, create_task), "create_task"},
     {offsetof(Module, dispatch), "_dispatch"},
@@ -1986,7 +2058,6 @@ static const struct {
     {offsetof(Module, cancelled_error), "asyncio", "CancelledError"},
     {offsetof(Module, invalid_state), "asyncio", "InvalidStateError"},
     {offsetof(Module, shield), "asyncio", "shield"},
-    {offsetof(Module, is_future), "asyncio", "isfuture"},
     {offsetof(Module, partial), "functools", "partial"},
 };
 

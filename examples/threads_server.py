@@ -1,0 +1,159 @@
+#!/usr/bin/env python3
+"""A server with a thread for each request over an SQLite file, and with loaders for each request: a WSGI application on the server of
+Python's library, with neither an event loop nor a framework.
+
+Without arguments it answers some requests by HTTP, and prints how many SQL statements each took with loaders and without. With
+`--port PORT` it serves until it is stopped.
+"""
+
+import argparse
+import json
+import os
+import tempfile
+import threading
+import urllib.request
+from concurrent.futures import ThreadPoolExecutor
+from socketserver import ThreadingMixIn
+from wsgiref.simple_server import WSGIRequestHandler, WSGIServer, make_server
+
+from blog import Database, fill
+from thrushscreen.threads import DataLoader, run
+
+
+class NoLoader(DataLoader):
+    """Asks for each key by itself, and as often as it is loaded, as a server without loaders does."""
+
+    batch = False
+    cache = False
+
+
+class Request:
+    """What the views of one request ask. It is made in the request's own thread, as a connection of SQLite's is."""
+
+    def __init__(self, path, kind):
+        self.database = Database(path)
+        self.user = kind(lambda ids: self.database.row_by("user", ids))
+        self.post = kind(lambda ids: self.database.row_by("post", ids))
+        self.posts_of = kind(lambda ids: self.database.rows_by("post", "author", ids))
+        self.comments_of = kind(lambda ids: self.database.rows_by("comment", "post", ids))
+
+
+# Views. A generator yields what it waits for: a load, another generator, or a list of these.
+
+
+def post(request, row):
+    """A post, its author, and its comments."""
+    author, comments = yield [request.user.load(row["author"]), request.comments_of.load(row["id"])]
+    return {"title": row["title"], "author": author["name"], "comments": (yield [comment(request, row) for row in comments])}
+
+
+def comment(request, row):
+    author = yield request.user.load(row["author"])
+    friend = (yield request.user.load(author["best_friend"])) if author["best_friend"] else None
+    return {"text": row["text"], "author": author["name"], "friend": friend and friend["name"]}
+
+
+def posts_view(request):
+    return (yield [post(request, row) for row in request.database.rows("SELECT * FROM post ORDER BY id")])
+
+
+def post_view(request, number):
+    return (yield post(request, (yield request.post.load(number))))
+
+
+def user_view(request, number):
+    user, posts = yield [request.user.load(number), request.posts_of.load(number)]
+    return {"name": user["name"], "posts": (yield [post(request, row) for row in posts])}
+
+
+def names_view(request):
+    """A view without generators: what it loads before it asks for the first result is one batch."""
+    authors = [request.user.load(row["author"]) for row in request.database.rows("SELECT * FROM post ORDER BY id")]
+    return [author.result()["name"] for author in authors]
+
+
+VIEWS = {"posts": posts_view, "post": post_view, "user": user_view, "names": names_view}
+
+
+class Application:
+    """What WSGI calls for each request, and how many statements all took."""
+
+    def __init__(self, path, kind=DataLoader):
+        self.path, self.kind = path, kind
+        self.statements = 0
+        self.lock = threading.Lock()
+
+    def __call__(self, environ, start_response):
+        name, *numbers = environ["PATH_INFO"].strip("/").split("/")
+        if name not in VIEWS or not all(number.isdecimal() for number in numbers):
+            start_response("404 Not Found", [("Content-Type", "text/plain")])
+            return [b"there is no such page\n"]
+        request = Request(self.path, self.kind)
+        try:
+            answer = VIEWS[name](request, *map(int, numbers))
+            body = json.dumps(answer if isinstance(answer, list) else run(answer)).encode()
+        finally:
+            request.database.close()
+            with self.lock:
+                self.statements += request.database.statements
+        start_response("200 OK", [("Content-Type", "application/json"), ("Content-Length", str(len(body)))])
+        return [body]
+
+
+class Server(ThreadingMixIn, WSGIServer):
+    """One thread a request."""
+
+    daemon_threads = True
+    request_queue_size = 64
+
+
+class Quiet(WSGIRequestHandler):
+    def log_message(self, *_):
+        pass
+
+
+def serve(application, port):
+    return make_server("127.0.0.1", port, application, Server, Quiet)
+
+
+def count(path, pages, kind):
+    """How many statements the pages take that are asked for at once, and what they are."""
+    application = Application(path, kind)
+    with serve(application, 0) as server:
+        threading.Thread(target=server.serve_forever, daemon=True).start()
+
+        def ask(page):
+            with urllib.request.urlopen(f"http://127.0.0.1:{server.server_port}/{page}", timeout=60) as answer:
+                return json.load(answer)
+
+        with ThreadPoolExecutor(len(pages)) as callers:
+            answers = list(callers.map(ask, pages))
+        server.shutdown()
+    return application.statements, answers
+
+
+def compare(path):
+    pages = ["names", "posts", "post/7", "user/3"]
+    for name, asked in [*((f"/{page}", [page]) for page in pages), ("all of these at once, five times", pages * 5)]:
+        few, answers = count(path, asked, DataLoader)
+        many, others = count(path, asked, NoLoader)
+        assert answers == others, name
+        print(f"{name}: {few} SQL statements with loaders, {many} without")
+
+
+def main():
+    parser = argparse.ArgumentParser(description=__doc__.splitlines()[0])
+    parser.add_argument("--port", type=int)
+    port = parser.parse_args().port
+    with tempfile.TemporaryDirectory() as folder:
+        path = os.path.join(folder, "blog.sqlite")
+        fill(path)
+        if port is None:
+            compare(path)
+        else:
+            print(f"serving on http://127.0.0.1:{port}")
+            serve(Application(path), port).serve_forever()
+
+
+if __name__ == "__main__":
+    main()
