@@ -8,7 +8,7 @@ mod player;
 mod refused;
 mod row;
 mod rows;
-mod stage;
+pub(crate) mod stage;
 mod step;
 mod texts;
 mod threads;
@@ -33,7 +33,7 @@ use std::sync::Wait;
 use std::thread::Threads;
 
 /// The users' tables.
-fn users<R: Abort + RandomSource>(rt: &R, alloc: Global) -> Tables {
+pub(crate) fn users<R: Abort + RandomSource>(rt: &R, alloc: Global) -> Tables {
     tables(alloc, hashing(rt), USERS).expect(rt, "no tables")
 }
 
@@ -46,13 +46,7 @@ fn hashing<R: Abort + RandomSource>(rt: &R) -> RandomState {
 fn play_rows<R: Abort + Eprint + RandomSource + Wait>(rt: &R, alloc: Global, rows: &[Row]) {
     let users = users(rt, alloc);
     let nothing = Refusal::of_nothing(alloc);
-    let stage = Stage {
-        rt,
-        alloc,
-        hashing: hashing(rt),
-        refusal: &nothing,
-        table: None,
-    };
+    let stage = Stage::new(rt, alloc, &nothing);
     for row in rows {
         play_over(&stage, &users, row);
     }
@@ -107,13 +101,7 @@ fn two_callers_of_one_key(rt: HostRuntime) {
     let opening = Opening::new(rt.alloc(), hashing(&rt), &users, limits, 2);
     let opening = opening.expect(&rt, "no opening");
     let nothing = Refusal::of_nothing(rt.alloc());
-    let stage = Stage {
-        rt: &rt,
-        alloc: rt.alloc(),
-        hashing: hashing(&rt),
-        refusal: &nothing,
-        table: None,
-    };
+    let stage = Stage::new(&rt, rt.alloc(), &nothing);
     threads::load_by_two::<Brand, _, _>(&stage, &users, opening);
 }
 

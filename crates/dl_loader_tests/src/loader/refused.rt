@@ -4,7 +4,7 @@
 
 use crate::loader::stage::Stage;
 use crate::loader::step::{Part, Row};
-use crate::loader::{hashing, play_over, users};
+use crate::loader::{play_over, users};
 use dl_tests::{Kind, MOST_GROWTHS, Refusal};
 
 /// The calls of one caller.
@@ -99,13 +99,8 @@ fn calls_of_a_loader(rt: HostRuntime) {
     for nth in 1..MOST_GROWTHS {
         let refusal = Refusal::of_each(rt.alloc(), Kind::Growth, nth);
         for table in &TABLES {
-            let stage = Stage {
-                rt: &rt,
-                alloc: rt.alloc(),
-                hashing: hashing(&rt),
-                refusal: &refusal,
-                table: *table,
-            };
+            let mut stage = Stage::new(&rt, rt.alloc(), &refusal);
+            stage.table = *table;
             for row in &ROWS {
                 play_over(&stage, &users, row);
             }

@@ -2,6 +2,7 @@
 
 ghost use Rattle.std.specs.Prelude.{◌≡◌};
 
+use super::hashing;
 use super::step::Row;
 use dl_desk::{Limits, TableLimit, TableLimits, Text};
 use dl_loader::{Opening, StartFault};
@@ -11,16 +12,30 @@ use std::alloc::Global;
 use std::hash::RandomState;
 use std::io::Eprint;
 use std::process::Abort;
+use std::random::RandomSource;
 
 /// What loaders are opened with, and what their calls are refused.
 #[derive(Drop)]
-pub(super) struct Stage<'a, R> {
-    pub(super) rt: &'a R,
-    pub(super) alloc: Global,
-    pub(super) hashing: RandomState,
-    pub(super) refusal: &'a Refusal,
+pub(crate) struct Stage<'a, R> {
+    pub(crate) rt: &'a R,
+    pub(crate) alloc: Global,
+    pub(crate) hashing: RandomState,
+    pub(crate) refusal: &'a Refusal,
     /// A table whose batches have one key, where each batch is of one table. None: batches may mix tables.
-    pub(super) table: Option<&'static str>,
+    pub(crate) table: Option<&'static str>,
+}
+
+impl<'a, R: Abort + RandomSource> Stage<'a, R> {
+    /// A stage of loaders whose batches may mix tables.
+    pub(crate) fn new(rt: &'a R, alloc: Global, refusal: &'a Refusal) -> Stage<'a, R> {
+        Stage {
+            rt,
+            alloc,
+            hashing: hashing(rt),
+            refusal,
+            table: None,
+        }
+    }
 }
 
 impl<R: Abort + Eprint> Stage<'_, R> {

@@ -6,13 +6,14 @@ ghost use Rattle.dl_loader.specs.Opening.{Names};
 ghost use Rattle.dl_loader.specs.Pass.{GaveTicket};
 ghost use Rattle.dl_queue.specs.Seats.{AreSeatsOf, IsSenderOf, IsTakerOf};
 
+use crate::loader::stage::Stage;
+use crate::loader::users;
 use dl_desk::{FetchKey, Limits};
 use dl_loader::{CallFault, CloseFault, History, Loader, LoaderName, Opening, Pass, Ticket};
 use dl_source::{Source, Tables};
 use dl_tests::{ADA, BOB, Refusal, USERS, assert_is, numbered_keys, outcome_text, tables};
 use dl_workers::{Gate, JobQueue, QueueFault, Sender, Taker, Tally, WorkerEnd, work};
 use std::alloc::Global;
-use std::hash::RandomState;
 use std::io::Eprint;
 use std::marker::Brand;
 use std::process::Abort;
@@ -160,26 +161,11 @@ impl Gate for Told {
     }
 }
 
-/// What calls are made with, and what they are refused.
-#[derive(Drop)]
-pub(crate) struct Stage<'a, R> {
-    pub(crate) rt: &'a R,
-    pub(crate) alloc: Global,
-    pub(crate) hashing: RandomState,
-    pub(crate) refusal: &'a Refusal,
-}
-
 #[test]
 fn jobs_and_their_ends(rt: HostRuntime) {
-    let hashing = RandomState::new(&rt).expect(&rt, "no random numbers");
-    let users = tables(rt.alloc(), hashing, USERS).expect(&rt, "no tables");
+    let users = users(&rt, rt.alloc());
     let nothing = Refusal::of_nothing(rt.alloc());
-    let stage = Stage {
-        rt: &rt,
-        alloc: rt.alloc(),
-        hashing,
-        refusal: &nothing,
-    };
+    let stage = Stage::new(&rt, rt.alloc(), &nothing);
     for row in &ROWS {
         try_row(&stage, &users, row);
     }
