@@ -1,7 +1,5 @@
-use Rattle.std.proofs.Common.{rules, string_bytes, ◌≡◌, ◌⊎◌, inl, inr, Err}
+use Rattle.std.proofs.Common.{rules, string_bytes, ◌≡◌, Err}
 use Rattle.dl_plans.specs.Run.{IsOutput, IsRefused}
-use Rattle.dl_plans.specs.declared.fault.RunError.{RunError}
-use Rattle.dl_plans.specs.declared.fault.RunError.TheVariants as error
 use Rattle.dl_plans.proofs.Runs.{output_all, refused_all, run_ok, run_refused, run_writes_front, front_of_none}
 use Rattle.dl_plans.proofs.document.run.Goals as goal
 
@@ -25,3 +23,10 @@ returns-clause-write g c = λ failed.
     run_writes_front (IsOutput c.args.options) (output_all c.args.options) (g.R.Read.remaining c.args.reader.now) c.in_ok-bytes.bytes.items
     (string_bytes c.in_ok-given.given.text) (g.W.Write.contents c.args.writer.now) (g.W.Write.contents c.write_all.new.writer)
     c.in_ok-bytes.ensures.bytes output (rw c.as_bytes.ensures.value at c.write_all.ensures.front)
+
+pub returns-in_err-keep_picture-clause-write : goal.returns-in_err-keep_picture-clause-write
+returns-in_err-keep_picture-clause-write g c = λ failed.
+    let output : IsOutput c.args.options c.in_ok-bytes.bytes.items (string_bytes c.in_ok-given.given.text) = c.in_ok-given.ensures.ok in
+    let held = g.W.Write.contents c.args.writer.now in
+    run_writes_front (IsOutput c.args.options) (output_all c.args.options) (g.R.Read.remaining c.args.reader.now) c.in_ok-bytes.bytes.items
+    (string_bytes c.in_ok-given.given.text) held held c.in_ok-bytes.ensures.bytes output (front_of_none held (string_bytes c.in_ok-given.given.text))
