@@ -1,9 +1,9 @@
 //! The reference loader: what no contract says, that it replies to each call.
 
 use crate::assert_is;
-use dl_desk::{DeskFault, DeskPrime, Job, LoadReply, Text};
-use dl_documents::{Input, Script, ScriptCall, read_input};
-use dl_reference::{Atom, Call, Reply, Rules, reply_to};
+use dl_desk::{DeskFault, Job, LoadReply, Reply, Text};
+use dl_documents::{Input, Script, read_input};
+use dl_reference::{Atom, Rules, answer};
 use std::alloc::{AllocError, Global};
 use std::hash::RandomState;
 use std::process::Abort;
@@ -41,51 +41,39 @@ fn rules(rt: &impl Abort, alloc: Global, script: &Script) -> Rules {
     }
 }
 
-/// A call of a script, as the reference loader has it.
-fn call_of(alloc: Global, call: &ScriptCall) -> Result<Call, AllocError> {
-    match call {
-        ScriptCall::Load(key) => key.try_copy().map(Call::Load),
-        ScriptCall::LoadMany(keys) => keys.as_slice().to_vec(alloc).map(Call::LoadMany),
-        ScriptCall::Prime(key) => key.try_copy().map(Call::Prime),
-        ScriptCall::Clear(key) => key.try_copy().map(Call::Clear),
-        ScriptCall::ClearAll => Ok(Call::ClearAll),
-        ScriptCall::Dispatch => Ok(Call::Dispatch),
-        ScriptCall::Settle(batch) => Ok(Call::Settle(*batch)),
-        ScriptCall::Fail(batch) => Ok(Call::Fail(*batch)),
-    }
-}
-
 /// Makes the calls of a script in order, from the empty history on, and answers the lines of their replies.
 fn lines_of(rt: &impl Abort, alloc: Global, rules: &Rules, script: &Script) -> String {
     let mut history: Vec<Atom> = Vec::new(alloc);
     let mut text = String::new(alloc);
     for call in script.calls.as_slice() {
-        let call = call_of(alloc, call).expect(rt, "no memory");
-        let reply = reply_to(alloc, rules, &mut history, &call);
-        let reply = reply.expect(rt, "no memory");
-        write_reply(&mut text, &reply).expect(rt, "no memory");
+        let told = answer(alloc, rules, &mut history, call).expect(rt, "no memory");
+        write_answer(&mut text, &told).expect(rt, "no memory");
     }
     text
+}
+
+fn write_answer(text: &mut String, told: &Result<Reply, DeskFault>) -> Result<(), AllocError> {
+    match told {
+        Ok(reply) => write_reply(text, reply),
+        Err(DeskFault::CellsFull { limit }) => writeln!(text, "refused CellsFull {limit}"),
+        Err(fault) => writeln!(text, "refused {fault:?}"),
+    }
 }
 
 fn write_reply(text: &mut String, reply: &Reply) -> Result<(), AllocError> {
     match reply {
         Reply::Loaded(reply) => write_load(text, *reply),
         Reply::Many(replies) => {
-            writeln!(text, "many {}", replies.len())?;
-            for reply in replies {
+            writeln!(text, "many {}", replies.as_slice().len())?;
+            for reply in replies.as_slice() {
                 write_load(text, *reply)?;
             }
             Ok(())
         }
-        Reply::Primed(DeskPrime::Primed(cell)) => writeln!(text, "primed {cell}"),
-        Reply::Primed(DeskPrime::Kept) => writeln!(text, "kept"),
+        Reply::Primed(cell) => writeln!(text, "primed {cell}"),
+        Reply::Kept => writeln!(text, "kept"),
         Reply::Done => writeln!(text, "ok"),
-        Reply::Sent(jobs) => write_sent(text, jobs),
-        Reply::Refused(DeskFault::CellsFull { limit }) => {
-            writeln!(text, "refused CellsFull {limit}")
-        }
-        Reply::Refused(fault) => writeln!(text, "refused {fault:?}"),
+        Reply::Sent(jobs) => write_sent(text, jobs.as_slice()),
     }
 }
 
