@@ -6,7 +6,7 @@ use Rattle.std.specs.List.{zip}
 use Rattle.std.specs.Map.{lookup}
 use Rattle.std.proofs.lemmas.Bool.{cases_lt, eq-eqb}
 use Rattle.dl_values.specs.Key.{Key}
-use Rattle.dl_desk.specs.History.{Atom, cells, members, sent, end_of}
+use Rattle.dl_desk.specs.History.{Atom, cells, sent, end_of}
 use Rattle.dl_desk.specs.Events.{call_atoms, atoms, last_of, primes, ends, cell_batch, Placed, newest, ending, batch_cells, outcome_given, outcome}
 use Rattle.dl_desk.specs.Legal.{IsNext, IsLegal}
 use Rattle.dl_desk.specs.Service.{Service}

@@ -1,5 +1,5 @@
 -- The past of a history, one event after another, and the legal histories.
-use Rattle.std.proofs.Common.{◌≡◌, ◌∙◌, sym, ap, subst, ℕ, suc, List, [], ◌∷◌, ◌++◌, length, take, drop, reverse, Some, slice_get, append_assoc}
+use Rattle.std.proofs.Common.{◌≡◌, ◌∙◌, sym, ap, subst, ℕ, suc, List, [], ◌∷◌, ◌++◌, take, drop, reverse, Some, slice_get, append_assoc}
 use Rattle.std.proofs.lemmas.List.{reverse-append, reverse-reverse, take-append-drop}
 use Rattle.std.proofs.lemmas.Grind.{reverse_onto}
 use Rattle.dl_desk.specs.Events.{atoms}

@@ -1,5 +1,5 @@
 -- What holds of the history of every closed loader, whatever its callers do. What holds of every legal past is said by dl_desk.
-use Rattle.std.specs.Prelude.{◌≡◌, ℕ, List, [], Some, slice_get}
+use Rattle.std.specs.Prelude.{◌≡◌, ℕ, [], Some, slice_get}
 use Rattle.dl_desk.specs.Service.{Service}
 use Rattle.dl_desk.specs.declared.event.Event.{Event}
 use Rattle.dl_history.specs.Agreement.{entries_of}
