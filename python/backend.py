@@ -26,7 +26,7 @@ METADATA = f"""\
 Metadata-Version: 2.1
 Name: thrushscreen
 Version: {VERSION}
-Summary: A data loader for asyncio over a proved library
+Summary: A data loader for asyncio, and one for threads, over a proved library
 Requires-Python: >=3.10
 """
 

@@ -9,7 +9,7 @@ import sys
 
 import _testcapi
 
-from thrushscreen import DataLoader
+from thrushscreen import DataLoader, threads
 
 # After so many seconds what waits is taken to wait for ever.
 LONGEST = 20
@@ -138,6 +138,52 @@ async def check_answer(first, last):
     return first < 20
 
 
+def fetch_here(keys):
+    return [KeyError(key) if key == "bad" else f"{key}!" for key in keys]
+
+
+def follows(loader):
+    one = yield loader.load("new")
+    return (yield [loader.load(one), loader.load_many([one, "collected"])])
+
+
+# The same of the class for threads, each with its own answer.
+IN_THREADS = {
+    "load": (lambda loader: loader.load("new").result(), "new!"),
+    "load of a held key": (lambda loader: loader.load("a").result(), "a!"),
+    "load of a primed key": (lambda loader: loader.load("primed").result(), 6),
+    "load of a key with an error": (lambda loader: repr(loader.load("bad").exception()), "KeyError('bad')"),
+    "load_many": (lambda loader: loader.load_many(["new", "a", "collected", "new"]).result(), ["new!", "a!", "collected!", "new!"]),
+    "held": (lambda loader: loader.held("a").result(), "a!"),
+    "prime": (lambda loader: loader.prime("other", 5).load("other").result(), 5),
+    "prime of a Later": (lambda loader: loader.prime("other", loader.load("new")).load("other").result(), "new!"),
+    "then": (lambda loader: loader.load("new").then(loader.load).then(len).result(), 5),
+    "run": (lambda loader: threads.run(follows(loader)), ["new!!", ["new!!", "collected!"]]),
+    "a loader": (lambda loader: threads.DataLoader(fetch_here).load(1).result(), "1!"),
+}
+
+
+async def check_in_threads(name, first, last):
+    """The same of a call of the class for threads. What waits for it may have lost that, and then says so."""
+    threads._threads.rounds = threads._Rounds()
+    loader = threads.DataLoader(fetch_here)
+    loader.load_many(["a", "bad"]).result()
+    collected = loader.prime("primed", 6).load("collected")
+    call, own = IN_THREADS[name]
+    answer = refused(lambda: call(loader), first, last)
+    lost = isinstance(answer, RuntimeError) and "nothing is under way" in str(answer)
+    if answer != own and "MemoryError" not in repr(answer) and not lost:
+        raise AssertionError(f"{name} in a thread, growth {first}: it gives {answer!r}")
+    if not is_memory(outcome := collected.exception()) and collected._place.value != "collected!":
+        raise AssertionError(f"{name} in a thread, growth {first}: a load ends with {outcome!r}, {collected._place.value}")
+    for _ in range(2):
+        answers = loader.load_many(["a", "new", "collected", "next"]).result()
+        if answers != ["a!", "new!", "collected!", "next!"]:
+            raise AssertionError(f"{name} in a thread, growth {first}: the loader answers {answers}")
+        loader.clear_all()
+    return answer != own
+
+
 def is_met(coroutine):
     """Runs one check in a loop of its own: whether it met a refusal."""
     loop = asyncio.new_event_loop()
@@ -164,6 +210,14 @@ def main():
                 count += met
                 if not met and first > 30:
                     break
+    # Other versions, 3.10, 3.12 and 3.13 among them, end or crash by themselves where they get no memory for a generator.
+    for name in IN_THREADS if sys.version_info[:2] == (3, 11) else ():
+        for first in range(1, MOST):
+            # Once only: CPython itself ends where its own code can't make an exception.
+            met = is_met(check_in_threads(name, first, first + 1))
+            count += met
+            if not met and first > 60:
+                break
     assert count > 50, count
     print(f"{count} growths refused")
 

@@ -157,6 +157,24 @@ class Waits(unittest.TestCase):
         with self.assertRaisesRegex(RuntimeError, "waits for itself"):
             later.result()
 
+    def test_a_generator_is_waited_for_once(self):
+        def asks():
+            return (yield loader_of([]).load(1))
+
+        def twice():
+            made = asks()
+            with self.assertRaisesRegex(RuntimeError, "waited for once"):
+                yield [made, made]
+            return "went on"
+
+        self.assertEqual(run(twice()), "went on")
+        for steps in (0, 1):
+            begun = asks()
+            later = next(begun) if steps else run(begun)
+            with self.assertRaisesRegex(RuntimeError, "waited for once"):
+                run(begun)
+            del later
+
     def test_what_is_nothing_to_wait_for_is_refused_where_it_is_yielded(self):
         def wrong():
             for asked in (3, None, "a", {"a": 1}, [loader_of([]).load(1), 3], iter([])):

@@ -22,7 +22,7 @@ typedef struct {
     PyObject *get_running_loop, *future_type, *base_create_future, *cancelled_error, *invalid_state, *shield, *partial;
     PyObject *add_done_callback, *batch_schedule_fn, *cancel, *cancelled, *check_options, *clear, *close, *collect, *create_future,
         *create_task, *dispatch, *end_as, *exception, *fetch, *get, *pop, *result, *set_exception, *set_result, *setdefault,
-        *task_ended, *thread_id;
+        *task_ended, *thread_id, *loop, *ready;
 } Module;
 
 /* What a cell is. */
@@ -128,6 +128,14 @@ static void replace(PyObject **place, PyObject *given)
 static PyObject *type_name(PyObject *of)
 {
     return PyObject_GetAttrString((PyObject *)Py_TYPE(of), "__name__");
+}
+
+/* A reference to an object, or to None if there is none. */
+static PyObject *or_none(PyObject *given)
+{
+    given = given == NULL ? Py_None : given;
+    Py_INCREF(given);
+    return given;
 }
 
 /* Errors. */
@@ -362,8 +370,9 @@ static bool bind(Desk *self, PyObject *loop)
     if (method != self->module->base_create_future && (own = PyObject_GetAttr(loop, name)) == NULL) {
         return false;
     }
-    of_loop = Py_BuildValue("{sO}", "loop", loop);
-    if (of_loop == NULL) {
+    of_loop = PyDict_New();
+    if (of_loop == NULL || PyDict_SetItem(of_loop, self->module->loop, loop) < 0) {
+        Py_XDECREF(of_loop);
         Py_XDECREF(own);
         return false;
     }
@@ -1562,6 +1571,15 @@ static PyObject *batch_keys(Desk *self, uint32_t batch)
     return keys;
 }
 
+/* A batch by its number, with its keys. */
+static PyObject *batch_pair(uint64_t batch, PyObject *keys)
+{
+    PyObject *number = PyLong_FromUnsignedLongLong(batch), *pair = number == NULL ? NULL : PyTuple_Pack(2, number, keys);
+
+    Py_XDECREF(number);
+    return pair;
+}
+
 /* Adds the batches that the desk has sent to the list, each by its number with the keys of its members. One whose loads have all
  * raised is ended, and isn't among them. */
 static bool list_batches(Desk *self, dl_dispatched sent, PyObject *batches)
@@ -1574,7 +1592,7 @@ static bool list_batches(Desk *self, dl_dispatched sent, PyObject *batches)
         if (is_empty) {
             dl_desk_settle(&self->desk, batch);
         } else if (keys != NULL) {
-            pair = Py_BuildValue("(KO)", (unsigned long long)(self->first_batch + batch), keys);
+            pair = batch_pair(self->first_batch + batch, keys);
         }
         is_listed = is_empty || (pair != NULL && PyList_Append(batches, pair) == 0);
         Py_XDECREF(pair);
@@ -1624,6 +1642,21 @@ static bool send(Desk *self, PyObject *batches)
         note_sent(self, batch);
     }
     return true;
+}
+
+/* What the loop has ready, if it has a list of that, else None. If the list of batches isn't that of the task that sends, it is given back:
+ * an eager task runs within the load that has begun it. */
+static PyObject *desk_look(Desk *self, PyObject *batches)
+{
+    PyObject *ready = batches;
+
+    if (batches == self->sending) {
+        ready = self->loop_dict == NULL ? NULL : PyDict_GetItemWithError(self->loop_dict, self->module->ready);
+        if (ready == NULL && PyErr_Occurred()) {
+            return NULL;
+        }
+    }
+    return or_none(ready);
 }
 
 static PyObject *desk_send(Desk *self, PyObject *batches)
@@ -1736,13 +1769,6 @@ static PyObject *desk_counts(Desk *self, void *Py_UNUSED(closure))
 static PyObject *desk_cells(Desk *self, void *Py_UNUSED(closure))
 {
     return PyLong_FromUnsignedLong(self->cell_count);
-}
-
-static PyObject *or_none(PyObject *given)
-{
-    given = given == NULL ? Py_None : given;
-    Py_INCREF(given);
-    return given;
 }
 
 static PyObject *desk_loop(Desk *self, void *Py_UNUSED(closure))
@@ -1946,6 +1972,9 @@ static PyMethodDef desk_methods[] = {
      PyDoc_STR("_end_as($self, cell, future, /)\n--\n\nEnds a cell that was primed as the future has ended.")},
     {"_dispatch", CALL(desk_dispatch), METH_NOARGS,
      PyDoc_STR("_dispatch($self, /)\n--\n\nSends what is collected, and has a task fetch each batch.")},
+    {"_look", CALL(desk_look), METH_O,
+     PyDoc_STR("_look($self, batches, /)\n--\n\nWhat the loop has ready, or None if it doesn't say; or the list itself, if it isn't that "
+               "of the task that sends.")},
     {"_send", CALL(desk_send), METH_O,
      PyDoc_STR("_send($self, batches, /)\n--\n\nSends what is collected, if the list is that of the task that sends: the list "
                "gets each "
@@ -2046,6 +2075,8 @@ static const struct {
     {offsetof(Module, setdefault), "setdefault"},
     {offsetof(Module, task_ended), "_task_ended"},
     {offsetof(Module, thread_id), "_thread_id"},
+    {offsetof(Module, loop), "loop"},
+    {offsetof(Module, ready), "_ready"},
 };
 
 /* Of each that another module has: where it is, and the two names. */

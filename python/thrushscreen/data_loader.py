@@ -75,10 +75,11 @@ class DataLoader(Options[K, V, Awaitable[Sequence[Union[V, BaseException]]], "as
         """Fetches the only batch of a list, and ends it. If there is none, it sends what is collected first, once callers that are a few
         tasks behind have made their loads. The desk has tasks of this, and ends what they leave: it isn't sent, or not fetched."""
         if not batches:
-            if self._sending is not batches:
+            ready = self._look(batches)
+            if ready is batches:
                 # It is an eager task, within the load that has begun it.
                 await _NEXT_TURN
-            ready = getattr(self._loop, "_ready", None)
+                ready = self._look(batches)
             if ready or _senders or type(ready) is not deque:
                 await self._others(ready)
             self._send(batches)

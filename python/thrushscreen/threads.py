@@ -5,14 +5,15 @@ from __future__ import annotations
 import threading
 from collections import deque
 from collections.abc import Callable, Generator, Iterable, MutableMapping, Sequence
+from inspect import GEN_CREATED, getgeneratorstate
+from types import GeneratorType
 from typing import Any, Generic, Literal, TypeVar, Union, overload
 from weakref import ref
 
-from ._options import K, Options, V, checked, checked_map
+from ._options import F, K, Options, V, checked, checked_map
 
 __all__ = ["DataLoader", "Later", "run"]
 
-W = TypeVar("W")
 V_co = TypeVar("V_co", covariant=True)
 
 
@@ -60,7 +61,7 @@ class _Rounds:
         self.name = threading.current_thread().name
         self.due: deque[_Place] = deque()
         self.collected: list[tuple[ref[DataLoader[Any, Any]], list[Any]]] = []
-        self.going = self.steps(_Place())
+        self.going = (False for _ in ())
 
     def collect(self, loader: DataLoader[Any, Any], batches: list[Any]) -> None:
         """Notes a list whose batches are to be fetched. If it is empty, the loader is to send what it has collected."""
@@ -85,17 +86,13 @@ class _Rounds:
             ended.calls.popleft()(ended) if ended.calls else self.due.popleft()
         return is_due
 
-    def steps(self, place: _Place) -> Generator[bool, None, None]:
-        while self.due or not place.is_done:
-            yield self.call() or self.fetch()
-
     def go_on(self, place: _Place) -> None:
         """Makes the calls that are due, and then a round, until the place has its outcome and no call is due. What is called meanwhile and
         waits itself has rounds made before other calls, so that they don't nest."""
         if self.going.gi_running:
             has_ended = all(self.fetch() or self.call() for _ in iter(lambda: place.is_done, True))
         else:
-            self.going = self.steps(place)
+            self.going = (self.call() or self.fetch() for _ in iter(lambda: place.is_done and not self.due, True))
             has_ended = all(self.going)
         if not has_ended:
             raise RuntimeError("nothing is under way that ends this: it waits for itself, isn't sent, or was interrupted")
@@ -129,7 +126,7 @@ class Later(Generic[V_co]):
         self.exception()
         return self._place.result()  # type: ignore[no-any-return]
 
-    def then(self, call: Callable[[V_co], Later[W] | W]) -> Later[W]:
+    def then(self, call: Callable[[V_co], Later[F] | F]) -> Later[F]:
         """What the call makes of the value, once that is there: its own outcome if it gives a Later. An error passes the call by."""
         return _begin(_after(self._checked()._place, call), self)
 
@@ -154,6 +151,8 @@ def _later(asked: object) -> Later[Any]:
     if isinstance(asked, Later):
         return asked._checked()
     if isinstance(asked, Generator):
+        if isinstance(asked, GeneratorType) and getgeneratorstate(asked) != GEN_CREATED:
+            raise RuntimeError("a generator is waited for once, before it has begun")
         return _begin(asked, None)
     if isinstance(asked, (list, tuple)):
         laters = [_later(each) for each in asked]
