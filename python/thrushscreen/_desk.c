@@ -22,7 +22,7 @@ typedef struct {
     PyObject *get_running_loop, *future_type, *base_create_future, *cancelled_error, *invalid_state, *shield, *partial;
     PyObject *add_done_callback, *batch_schedule_fn, *cancel, *cancelled, *check_options, *clear, *close, *collect, *create_future,
         *create_task, *dispatch, *end_as, *exception, *fetch, *get, *pop, *result, *set_exception, *set_result, *setdefault,
-        *task_ended, *thread_id, *loop, *ready;
+        *task_ended, *thread_id, *loop, *ready, *plain_loop;
 } Module;
 
 /* What a cell is. */
@@ -78,7 +78,9 @@ typedef struct {
     PyObject *cache_map;     /* a mapping that is the memo in the desk's place, or NULL */
     PyObject *keys;          /* a dict: what is known of each key, or NULL */
     uint64_t next_number;    /* none from this one on was given to a key */
-    PyObject *tasks;         /* a dict: of each task the list of its batches that haven't ended, or NULL */
+    PyObject *task;          /* a task, or NULL */
+    PyObject *task_batches;  /* the list of its batches that haven't ended, or NULL */
+    PyObject *tasks;         /* a dict: the same of each other task, or NULL. Most loaders need none */
     PyObject *sending;       /* the list of the task that will send what is collected, or NULL */
     PyObject *rounds;        /* a function that gives the rounds of the thread, or NULL if loads need an event loop */
     PyObject *loop;          /* the event loop or the rounds of the first load, or NULL */
@@ -357,17 +359,34 @@ static bool is_in_thread(const Desk *self)
     return true;
 }
 
+/* Whether loops of this type make asyncio's futures: 1, 0, or -1 with an exception. The last type that does is kept. */
+static int makes_plain_futures(Module *module, PyObject *type)
+{
+    PyObject *method;
+
+    if (type == module->plain_loop) {
+        return 1;
+    }
+    method = PyObject_GetAttr(type, module->create_future);
+    if (method == NULL) {
+        return -1;
+    }
+    Py_DECREF(method);
+    if (method != module->base_create_future) {
+        return 0;
+    }
+    Py_INCREF(type);
+    replace(&module->plain_loop, type);
+    return 1;
+}
+
 /* Takes on the loop of the first load. */
 static bool bind(Desk *self, PyObject *loop)
 {
-    PyObject *name = self->module->create_future, *method = PyObject_GetAttr((PyObject *)Py_TYPE(loop), name), *of_loop,
-             *own = NULL;
+    int is_plain = makes_plain_futures(self->module, (PyObject *)Py_TYPE(loop));
+    PyObject *of_loop, *own = NULL;
 
-    if (method == NULL) {
-        return false;
-    }
-    Py_DECREF(method);
-    if (method != self->module->base_create_future && (own = PyObject_GetAttr(loop, name)) == NULL) {
+    if (is_plain < 0 || (!is_plain && (own = PyObject_GetAttr(loop, self->module->create_future)) == NULL)) {
         return false;
     }
     of_loop = PyDict_New();
@@ -873,20 +892,51 @@ static void fail_batches(Desk *self, PyObject *batches, PyObject *fault, const c
 
 /* Tasks. */
 
+/* Notes the list of a task. */
+static bool note_task(Desk *self, PyObject *task, PyObject *batches)
+{
+    if (self->task == NULL) {
+        Py_INCREF(task);
+        Py_INCREF(batches);
+        self->task = task;
+        self->task_batches = batches;
+        return true;
+    }
+    if (self->tasks == NULL) {
+        self->tasks = PyDict_New();
+    }
+    return self->tasks != NULL && PyDict_SetItem(self->tasks, task, batches) == 0;
+}
+
+/* The list of a task, which is forgotten: a new reference, or NULL if there is none, or with an exception. */
+static PyObject *take_task(Desk *self, PyObject *task)
+{
+    PyObject *batches;
+
+    if (task == self->task) {
+        batches = self->task_batches;
+        self->task_batches = NULL;
+        Py_CLEAR(self->task);
+        return batches;
+    }
+    batches = self->tasks == NULL ? NULL : PyDict_GetItemWithError(self->tasks, task);
+    Py_XINCREF(batches);
+    if (batches != NULL && PyDict_DelItem(self->tasks, task) < 0) {
+        PyErr_Clear();
+    }
+    return batches;
+}
+
 /* Has the end of a task end the batches of its list that are still there. */
 static bool watch(Desk *self, PyObject *task, PyObject *batches)
 {
     PyObject *ended = PyObject_GetAttr((PyObject *)self, self->module->task_ended), *none = NULL;
 
-    if (self->tasks == NULL) {
-        self->tasks = PyDict_New();
-    }
-    if (ended != NULL && self->tasks != NULL && PyDict_SetItem(self->tasks, task, batches) == 0 &&
+    if (ended != NULL && note_task(self, task, batches) &&
         (none = call_method(task, self->module->add_done_callback, ended)) == NULL) {
-        PyObject *error = take_error();
-        if (PyDict_DelItem(self->tasks, task) < 0) {
-            PyErr_Clear();
-        }
+        PyObject *error = take_error(), *taken = take_task(self, task);
+        Py_XDECREF(taken);
+        PyErr_Clear();
         raise_again(error);
     }
     Py_XDECREF(ended);
@@ -942,17 +992,13 @@ static PyObject *fault_of(Desk *self, PyObject *task)
 /* Ends what is collected, if the task that has ended would have sent it, and what it should have fetched. */
 static PyObject *desk_task_ended(Desk *self, PyObject *task)
 {
-    PyObject *batches = self->tasks == NULL ? NULL : PyDict_GetItemWithError(self->tasks, task), *fault;
+    PyObject *batches = take_task(self, task), *fault;
 
     if (batches == NULL) {
         if (PyErr_Occurred()) {
             return NULL;
         }
         Py_RETURN_NONE;
-    }
-    Py_INCREF(batches);
-    if (PyDict_DelItem(self->tasks, task) < 0) {
-        PyErr_Clear();
     }
     if (batches == self->sending || PyList_Size(batches) > 0) {
         const char *told;
@@ -1899,6 +1945,8 @@ static int desk_traverse(Desk *self, visitproc visit, void *arg)
     Py_VISIT(self->get_cache_key);
     Py_VISIT(self->cache_map);
     Py_VISIT(self->keys);
+    Py_VISIT(self->task);
+    Py_VISIT(self->task_batches);
     Py_VISIT(self->tasks);
     Py_VISIT(self->sending);
     Py_VISIT(self->rounds);
@@ -1929,6 +1977,8 @@ static int desk_forget(Desk *self)
     Py_CLEAR(self->get_cache_key);
     Py_CLEAR(self->cache_map);
     Py_CLEAR(self->keys);
+    Py_CLEAR(self->task);
+    Py_CLEAR(self->task_batches);
     Py_CLEAR(self->tasks);
     Py_CLEAR(self->sending);
     Py_CLEAR(self->rounds);
