@@ -1,4 +1,4 @@
-//! Why a call is refused.
+//! Why a desk rejects a call.
 
 ghost use Rattle.std.specs.Prelude.{◌≡◌};
 ghost use Rattle.dl_desk.specs.declared.fault.DeskFault.TheVariants.{OutOfMemory};
@@ -6,22 +6,22 @@ ghost use Rattle.dl_desk.specs.declared.fault.DeskFault.TheVariants.{OutOfMemory
 use std::alloc::{AllocError, AllocFailed};
 use thiserror::Error;
 
-/// Why a desk refuses a call, which then leaves it as it was.
+/// Why a desk rejects a call. A rejected call leaves the desk as it was.
 #[derive(Clone, Copy, Debug, PartialEq, Eq, Error)]
 pub enum DeskFault {
     /// No batch has this number yet.
-    #[error("there is no such batch")]
+    #[error("no batch has this number yet")]
     NoBatch,
-    /// The batch still collects keys.
-    #[error("the batch has not been sent")]
+    /// The batch has not gone out: it still collects keys.
+    #[error("the batch has not been sent: dispatch it first")]
     NotSent,
-    /// The batch has ended before, settled or failed.
-    #[error("the batch has ended before")]
+    /// The batch has already ended, settled or failed.
+    #[error("the batch has already ended")]
     SettledBefore,
-    /// The call would begin more cells than the limit.
-    #[error("a loader of {limit} cells is full")]
+    /// The call needs more cells than the limit leaves.
+    #[error("a loader of {limit} cells is full: give it more, at most 65,536")]
     CellsFull { limit: u32 },
-    /// An allocation failed.
+    /// Memory ran out.
     #[error("out of memory")]
     OutOfMemory,
 }

@@ -1,4 +1,4 @@
-//! Why a loader isn't started, refuses a call or a wait, or isn't closed.
+//! Why a loader doesn't start, rejects a call or a wait, or doesn't close.
 
 ghost use Rattle.std.specs.Prelude.{◌≡◌};
 ghost use Rattle.dl_history.specs.declared.fault.CallFault.TheVariants as call;
@@ -11,16 +11,16 @@ use dl_desk::DeskFault;
 use std::alloc::AllocError;
 use thiserror::Error;
 
-/// Why a loader can't be opened or started, the first cause that applies.
+/// Why you can't open or start a loader: the first of these causes that applies.
 #[derive(Clone, Copy, Debug, PartialEq, Eq, Error)]
 pub enum StartFault {
     /// A loader has at least one caller.
-    #[error("a loader needs a caller")]
+    #[error("a loader needs a caller: give it 1 to 32")]
     NoCallers,
     /// A loader has at most 32 callers (`dl_loader::MOST_CALLERS`).
-    #[error("a loader has too many callers")]
+    #[error("a loader has at most 32 callers")]
     TooManyCallers,
-    /// An allocation failed.
+    /// Memory ran out.
     #[error("out of memory")]
     OutOfMemory,
 }
@@ -33,67 +33,67 @@ impl From<AllocError> for StartFault {
     }
 }
 
-/// Why a loader refuses a call, the first cause that applies. A refused call leaves the loader, its history
+/// Why a loader rejects a call: the first of these causes that applies. A rejected call leaves the loader, its history
 /// and the pass as they were.
 #[derive(Clone, Copy, Debug, PartialEq, Eq, Error)]
 pub enum CallFault {
-    /// The loader was stopped.
+    /// Somebody has stopped the loader.
     #[error("the loader is stopped")]
     Stopped,
-    /// The pass has seen more of a history than this one has. It never comes in a run; no proof excludes it, since what a
-    /// pass has seen is held against the history only at the close. Treat it as a bug.
+    /// The pass has seen more of a history than this one has. It never comes in a run. No proof excludes it, since only
+    /// the close compares passes with the history. Treat it as a bug.
     #[error("a pass has seen {front} events, and the history has {len}")]
     Behind { front: u32, len: u32 },
-    /// The history has as many events as it may have.
-    #[error("a history of {limit} calls is full")]
+    /// The history has all the events that it may have.
+    #[error("a history of {limit} calls is full: give it more, at most 65,536")]
     LogFull { limit: u32 },
     /// No batch has this number yet.
-    #[error("there is no such batch")]
+    #[error("no batch has this number yet")]
     NoBatch,
-    /// The batch still collects keys.
-    #[error("the batch has not been sent")]
+    /// The batch has not gone out: it still collects keys.
+    #[error("the batch has not been sent: dispatch it first")]
     NotSent,
-    /// The batch has ended before, settled or failed.
-    #[error("the batch has ended before")]
+    /// The batch has already ended, settled or failed.
+    #[error("the batch has already ended")]
     SettledBefore,
     /// The keys aren't those of the batch, in order.
-    #[error("the keys are not those of the batch")]
+    #[error("the keys must be those of the batch, in its order")]
     WrongKeys,
-    /// The call would begin more cells than the limit.
-    #[error("a loader of {limit} cells is full")]
+    /// The call needs more cells than the limit leaves.
+    #[error("a loader of {limit} cells is full: give it more, at most 65,536")]
     CellsFull { limit: u32 },
-    /// An allocation failed.
+    /// Memory ran out.
     #[error("out of memory")]
     OutOfMemory,
-    /// The history's own cell refused the event. It never comes in a run; no proof excludes it, since none says that a
+    /// The history's own cell refused the event. It never comes in a run. No proof excludes it, since none says that a
     /// set on an empty cell succeeds. Treat it as a bug.
     #[error("the history refused the event")]
     LogRefused,
 }
 
-/// The loader was stopped, and a ticket's cell had not ended.
+/// Somebody has stopped the loader, and the ticket's cell had not ended. The error of a wait.
 #[derive(Clone, Copy, Debug, PartialEq, Eq, Error)]
 #[error("the loader is stopped")]
 pub struct Stopped;
 
-/// Why a loader can't be closed, the first cause that applies. The loader and the passes are then handed back.
+/// Why you can't close a loader: the first of these causes that applies. You get the loader and the passes back.
 #[derive(Clone, Copy, Debug, PartialEq, Eq, Error)]
 pub enum CloseFault {
-    /// Not each caller has exactly one of the passes.
-    #[error("{got} of {want} callers have their pass there")]
+    /// The passes must be those of all callers, one of each.
+    #[error("closing takes one pass of each of {want} callers, and got those of {got}")]
     PassesMissing { want: u32, got: u32 },
-    /// A pass has seen more of a history than this one has. It never comes in a run; no proof excludes it, since nothing
-    /// says that a pass was used with one loader alone. Treat it as a bug.
+    /// A pass has seen more of a history than this one has. It never comes in a run. No proof excludes it, since
+    /// nothing says that you used a pass with one loader alone. Treat it as a bug.
     #[error("a pass has seen {front} events, and the history has {len}")]
     Behind { front: u32, len: u32 },
-    /// A cell refused its outcome, and a pass has an outcome of it. It never comes in a run; no proof excludes it, since
-    /// none says that a set on an empty cell succeeds. Treat it as a bug.
+    /// A cell refused its outcome, and a pass has an outcome of it. It never comes in a run. No proof excludes it,
+    /// since none says that a set on an empty cell succeeds. Treat it as a bug.
     #[error("cell {cell} refused its outcome")]
     Unshown { cell: u32 },
-    /// A batch has not ended, sent or not.
-    #[error("batch {batch} has not ended")]
+    /// A batch has not ended, whether it has gone out or not.
+    #[error("batch {batch} has not ended: settle it or fail it first")]
     Unsettled { batch: u32 },
-    /// An allocation failed.
+    /// Memory ran out.
     #[error("out of memory")]
     OutOfMemory,
 }
