@@ -13,14 +13,14 @@ use std::alloc::{AllocError, Global};
 use std::hash::RandomState;
 use std::marker::Model;
 
-/// How many members a batch may have to be asked for a key by a look at each. A larger one is asked by its index.
+/// A batch of at most this many members looks at each to find a key. A larger one has an index for that.
 const SCANNED: usize = 8;
 
-/// How many members a batch has room for when it is begun.
+/// A new batch has room for this many members.
 const ROOM: usize = 8;
 
-/// A batch: the keys of its members, each once and in order, with the cell of each, and how it
-/// ended. The first `seen` members are shown, the others are prepared.
+/// A batch: the keys of its members, each once and in order, with the cell of each, and how it ended. It shows its
+/// first `seen` members; the others are prepared.
 #[derive(Drop)]
 pub(crate) struct StoredBatch {
     keys: Vec<FetchKey>,
@@ -43,7 +43,7 @@ impl Model for StoredBatch {
 }
 
 impl StoredBatch {
-    /// A batch with no members. The error is a failed allocation.
+    /// A batch with no members. Fails if memory runs out.
     pub(crate) fn new(alloc: Global, hashing: RandomState) -> Result<StoredBatch, AllocError>
         ensures { IfOk result (λ batch. batch ≡ blank) }
     {
@@ -58,7 +58,7 @@ impl StoredBatch {
         })
     }
 
-    /// How many members it has, shown and prepared.
+    /// The number of members, shown and prepared.
     pub(crate) fn len(&self) -> usize
         ensures { result ≡ length self.now.members }
     {
@@ -101,7 +101,7 @@ impl StoredBatch {
         self.end
     }
 
-    /// Whether a member has the key, shown or prepared. The error is a failed allocation.
+    /// Whether a member has the key, shown or prepared. Fails if memory runs out.
     // Out of line, so that a load whose batch isn't asked costs nothing of it.
     #[cold]
     #[inline(never)]
@@ -116,7 +116,8 @@ impl StoredBatch {
         Ok(self.index.contains(key))
     }
 
-    /// Prepares one more member, of a key that none has. The error is a failed allocation, and leaves the batch as it was.
+    /// Prepares one more member, of a key that none has. If memory runs out, the call fails and leaves the batch as it
+    /// was.
     pub(crate) fn push(&mut self, key: &FetchKey, cell: u32) -> Result<(), AllocError>
         requires { has_member self.old.members key.now ≡ false }
         ensures shown { shown_batch self.new ≡ shown_batch self.old }
@@ -156,7 +157,7 @@ impl StoredBatch {
         self.end = Some(end);
     }
 
-    /// The members that are shown: their keys and their cells, in order.
+    /// The members that the batch shows: their keys and their cells, in order.
     pub(crate) fn shown(&self) -> (&[FetchKey], &[u32])
         ensures members { zip result.0.now result.1.now ≡ (shown_batch self.now).members }
         ensures as_many { length result.0.now ≡ length result.1.now }
@@ -165,7 +166,7 @@ impl StoredBatch {
     }
 }
 
-/// Puts all of the keys into an index that has the first of them. The error is a failed allocation, and then the index
+/// Puts all of the keys into an index that has the first of them. If memory runs out, the call fails, and the index
 /// still has the first of them.
 fn index_keys(
     index: &mut IndexSet<FetchKey, RandomState>,

@@ -1,24 +1,25 @@
-//! The calls of a desk.
+//! The calls of a desk, as values.
 
 use dl_values::{FetchKey, Keys};
 
-/// A call of a desk, which never sees outcomes. The numbers are those of batches.
+/// A call of a desk, as a value for [`Desk::call`](crate::Desk::call) and [`Desk::play`](crate::Desk::play). The
+/// numbers are those of batches. A desk never sees an outcome.
 #[derive(Debug, Drop)]
 pub enum DeskCall {
-    /// The load of a key.
+    /// `load` of a key.
     Load(FetchKey),
-    /// The loads of several keys in order, as one call.
+    /// `load_many`: loads of several keys in order, as one call.
     LoadMany(Keys),
-    /// The prime of a key.
+    /// `prime` of a key.
     Prime(FetchKey),
-    /// The memo forgets a key.
+    /// `clear`: the memo forgets a key.
     Clear(FetchKey),
-    /// The memo forgets all keys.
+    /// `clear_all`: the memo forgets all keys.
     ClearAll,
-    /// Every batch that was begun and not sent is sent.
+    /// `dispatch`: each batch that hasn't gone out goes out.
     Dispatch,
-    /// A batch ends with an outcome for each member.
+    /// `settle`: a batch ends with an outcome for each member.
     Settle(u32),
-    /// A batch fails as a whole.
+    /// `fail`: a batch fails as a whole.
     Fail(u32),
 }

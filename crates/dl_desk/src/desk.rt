@@ -37,16 +37,20 @@ pub(crate) struct Extent {
     pub(crate) cells: u32,
 }
 
-/// The loader of one thread: it holds a cell for each key that was loaded or primed, and collects
-/// the keys of fresh loads in batches (DataLoader: `load`, `loadMany`, `prime`, `clear`, `clearAll`,
-/// `maxBatchSize`).
+/// The loader of one thread (DataLoader: `load`, `loadMany`, `prime`, `clear`, `clearAll`, `maxBatchSize`). It holds a
+/// cell for each key that you load or prime, until something forgets the key, and it collects the keys of fresh loads
+/// in batches.
 ///
-/// A call is prepared first, by allocations and steps that nobody sees, and then shown by moving
-/// marks, so that a refused call leaves the desk as it was. What was prepared and not shown is
-/// taken back by the next call that changes the desk.
+/// You give it keys and get numbers, of cells and of batches, each counted from 0. It never sees an outcome:
+/// [`dispatch`](Desk::dispatch) hands you the keys to fetch, and you end each batch by [`settle`](Desk::settle) or
+/// [`fail`](Desk::fail).
+///
+/// A call first prepares its steps, with all its allocations, which nobody sees. Then it shows them by moving marks. So
+/// a rejected call leaves the desk as it was. If you prepare a call and don't make it, the next call that changes the
+/// desk takes it back.
 ///
 /// # Examples
-/// A key is loaded twice and fetched once, from `crates/example_one_thread`:
+/// You load a key twice and fetch it once, as `crates/example_one_thread` does:
 ///
 /// ```rust
 /// let mut desk = Desk::new(alloc, hashing, Limits::new(64, 1_024, 4_096)?);
@@ -137,8 +141,8 @@ impl Model for Desk {
 }
 
 impl Desk {
-    /// A desk with an empty history, whose batches may mix tables. It hashes keys by
-    /// `hashing`, of which nothing is seen: what a desk answers is the same whatever it is.
+    /// A desk with an empty history, whose batches may mix tables. `hashing` places keys in its maps. It has no effect
+    /// on what the desk answers.
     pub fn new(alloc: Global, hashing: RandomState, limits: Limits) -> Desk
         ensures rules { result.book.rules ≡ mixed limits }
         ensures stands { StandsFor result.book [] }
@@ -146,8 +150,8 @@ impl Desk {
         Desk::of(alloc, hashing, limits, None)
     }
 
-    /// A desk with an empty history, each of whose batches is of one table, and has at most as many keys as the limit of
-    /// that table, or else `max_batch` of the limits. It hashes keys by `hashing`, as in [`new`](Desk::new).
+    /// A desk with an empty history, with keys of one table in each batch. A batch has at most as many keys as the
+    /// limit of its table or, if the table has none of its own, as `max_batch`. `hashing` is as in [`new`](Desk::new).
     pub fn by_table(
         alloc: Global,
         hashing: RandomState,
@@ -185,7 +189,7 @@ impl Desk {
         }
     }
 
-    /// Takes back what is prepared, if anything is.
+    /// Takes back what is prepared, if anything.
     #[inline(always)]
     fn discard(&mut self)
         ensures book { self.new.book ≡ self.old.book }
@@ -215,7 +219,7 @@ impl Desk {
         self.is_prepared = false;
     }
 
-    /// Takes back what is prepared, for a call that is refused so.
+    /// Takes back what is prepared, for a call that the desk rejects with this fault.
     // Out of line, so that calls that are made cost nothing of it.
     #[cold]
     #[inline(never)]
@@ -228,7 +232,7 @@ impl Desk {
         fault
     }
 
-    /// Whether nothing is prepared.
+    /// Whether the desk shows all that it has prepared.
     fn is_shown(&self) -> bool
         ensures shown { IsTrue result → self.now.prepared ≡ self.now.book }
         ensures within { self.now.prepared.cells ≤ self.now.prepared.rules.limits.max_cells }
@@ -236,7 +240,7 @@ impl Desk {
         !self.is_prepared
     }
 
-    /// Makes the call that was prepared last, if one was: shows what is prepared.
+    /// Makes the call that you prepared last, if you prepared one: the desk shows it from now on. It can't fail.
     pub fn make_prepared(&mut self)
         ensures rules { self.new.book.rules ≡ self.old.book.rules }
         ensures book { self.new.book ≡ self.old.prepared }
@@ -265,14 +269,14 @@ impl Desk {
         self.is_prepared = false;
     }
 
-    /// The cell that is held for the key, with what is prepared.
+    /// The cell that the memo holds for the key, with what is prepared.
     fn found(&self, key: &FetchKey) -> Option<u32>
         ensures { result ≡ lookup (key_eq key.now) self.now.prepared.memo }
     {
         self.memo.get(key).copied()
     }
 
-    /// Whether no more cells may be begun, with what is prepared.
+    /// Whether the desk has begun all its cells, with what is prepared.
     fn is_full(&self) -> bool
         ensures full { result ≡ nat_le self.now.prepared.rules.limits.max_cells self.now.prepared.cells }
         ensures within { self.now.prepared.cells ≤ self.now.prepared.rules.limits.max_cells }
@@ -289,8 +293,8 @@ impl Desk {
             && self.batches[number as usize].len() < self.limits.max_batch() as usize
     }
 
-    /// The batch that takes the next member, with what is prepared, where no member of it has the key: the last one
-    /// that was begun, if it is open, and else the next one.
+    /// The batch that takes the next member if no member of it has the key, with what is prepared: the last batch, if
+    /// it is open, else the next one.
     fn newest(&self) -> u32
         requires { self.now.prepared.rules.tables ≡ None }
         ensures low { result ≤ length self.now.prepared.batches }
@@ -306,7 +310,7 @@ impl Desk {
     }
 
     /// Prepares a member of the key in the batch that has room for it, and answers which. No batch from `forgotten` on
-    /// has a member of the key. The error is a failed allocation, and part of the step may be prepared then.
+    /// has a member of the key. If memory runs out, the call fails, and part of the step may be prepared.
     // Inlined, as is the next one, so that batches that may mix tables cost nothing more for those of one table.
     #[inline(always)]
     fn join(
@@ -327,7 +331,7 @@ impl Desk {
         }
     }
 
-    /// The same, where batches may mix tables.
+    /// The same, if batches may mix tables.
     #[inline(always)]
     fn join_newest(
         &mut self,
@@ -361,7 +365,7 @@ impl Desk {
         Ok(batch)
     }
 
-    /// The same, where each batch is of one table.
+    /// The same, if each batch has one table.
     // Out of line, so that the steps of batches that may mix tables stay as short as they are without it.
     #[cold]
     #[inline(never)]
@@ -400,8 +404,8 @@ impl Desk {
         Ok(batch)
     }
 
-    /// Prepares the load of one more key, where more cells may be begun. The error is a failed allocation, and part of
-    /// the step may be prepared then.
+    /// Prepares the load of one more key. There are cells left. If memory runs out, the call fails, and part of the
+    /// step may be prepared.
     // Inlined for the sake of loads that find their key.
     #[inline(always)]
     fn put(&mut self, alloc: Global, key: &FetchKey) -> Result<LoadReply, AllocError>
@@ -421,7 +425,7 @@ impl Desk {
         Ok(LoadReply::Fresh { cell, batch })
     }
 
-    /// Prepares a prime of the key, where more cells may be begun. The error is a failed allocation.
+    /// Prepares a prime of the key. There are cells left. Fails if memory runs out.
     fn put_alone(&mut self, key: &FetchKey) -> Result<DeskPrime, AllocError>
         requires not_full { self.old.prepared.cells < self.old.prepared.rules.limits.max_cells }
         ensures book { self.new.book ≡ self.old.book }
@@ -437,7 +441,7 @@ impl Desk {
         Ok(DeskPrime::Primed(cell))
     }
 
-    /// Prepares the load of one more key. A refusal takes back all that is prepared.
+    /// Prepares the load of one more key. If the desk rejects it, it takes back all that is prepared.
     // Inlined for the sake of loads that find their key.
     #[inline(always)]
     fn load_step(&mut self, alloc: Global, key: &FetchKey) -> Result<LoadReply, DeskFault>
@@ -464,7 +468,7 @@ impl Desk {
         }
     }
 
-    /// Prepares a prime of the key. A refusal takes back all that is prepared.
+    /// Prepares a prime of the key. If the desk rejects it, it takes back all that is prepared.
     fn prime_step(&mut self, key: &FetchKey) -> Result<DeskPrime, DeskFault>
         ensures book { self.new.book ≡ self.old.book }
         ensures rules { self.new.prepared.rules ≡ self.old.prepared.rules }
@@ -488,8 +492,7 @@ impl Desk {
         }
     }
 
-    /// The jobs of the batches that are begun and not sent, with what is prepared. The error is
-    /// a failed allocation.
+    /// The jobs of the batches that have not gone out, with what is prepared. Fails if memory runs out.
     fn jobs(&self, alloc: Global) -> Result<Vec<Job>, AllocError>
         ensures { IfOk result (λ jobs. jobs.items
             ≡ book_jobs self.now.prepared self.now.prepared.sent (length self.now.prepared.batches - self.now.prepared.sent)) }

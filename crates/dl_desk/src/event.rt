@@ -1,4 +1,4 @@
-//! The events of a shared loader: who called what, and what was replied.
+//! The events of a shared loader: who made which call, and the reply.
 
 use crate::replies::{Jobs, Replies};
 use crate::reply::LoadReply;
@@ -8,17 +8,17 @@ use dl_values::{BatchFault, FetchKey, Keys, Outcome, Outcomes};
 /// A call of a shared loader, with its arguments.
 #[derive(Debug, Drop)]
 pub enum Call {
-    /// The load of a key.
+    /// `load` of a key.
     Load(FetchKey),
-    /// The loads of several keys in order, as one call.
+    /// `load_many`: loads of several keys in order, as one call.
     LoadMany(Keys),
-    /// The prime of a key with an outcome.
+    /// `prime` of a key with an outcome.
     Prime(FetchKey, Shared<Outcome>),
-    /// The memo forgets a key.
+    /// `clear`: the memo forgets a key.
     Clear(FetchKey),
-    /// The memo forgets all keys.
+    /// `clear_all`: the memo forgets all keys.
     ClearAll,
-    /// Every batch that was begun and not sent is sent.
+    /// `dispatch`: each batch that hasn't gone out goes out.
     Dispatch,
     /// A batch ends with an outcome for each member, in order.
     Settle {
@@ -39,9 +39,9 @@ pub enum Reply {
     Loaded(LoadReply),
     /// To a loadMany: a reply for each key, in order.
     Many(Shared<Replies>),
-    /// To a prime of a key that wasn't held: the new cell.
+    /// To a prime of a key that the loader didn't hold: the new cell.
     Primed(u32),
-    /// To a prime of a key that is held: nothing changed.
+    /// To a prime of a key that the loader holds: nothing changed.
     Kept,
     /// To a clear, a clearAll, a settle and a fail.
     Done,
@@ -49,14 +49,14 @@ pub enum Reply {
     Sent(Shared<Jobs>),
 }
 
-/// A call of a shared loader with its reply. Its place in the history is how many events stand before it.
+/// A call of a shared loader with its reply. Its place in the history is the number of events before it.
 #[derive(Debug)]
 pub struct Event {
     /// The caller, counted from 0.
     pub caller: u32,
-    /// What was called.
+    /// The call.
     pub call: Call,
-    /// What was replied.
+    /// The reply.
     pub reply: Reply,
 }
 
@@ -80,11 +80,10 @@ impl Drop for Event {
     }
 }
 
-/// What a cell of a shared loader shows once it has ended: its outcome, and the place of the event that
-/// gave it the outcome.
+/// What a cell of a shared loader shows once it has ended: its outcome, and the place of the event that gave it.
 #[derive(Debug)]
 pub struct Ending {
-    /// The place: a history has at most 65,536 events, so it is below that.
+    /// The place, below 65,536, since a history has at most 65,536 events.
     pub at: u16,
     /// The outcome.
     pub outcome: Outcome,

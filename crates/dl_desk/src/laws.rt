@@ -1,24 +1,24 @@
-//! Laws of the definitions, for every legal history. Each function does nothing: its contract is the
-//! law.
+//! Laws of the definitions, which hold for every legal history. Each function does nothing: its contract is the law,
+//! for your proof.
 
 ghost use Rattle.dl_desk.specs.Laws.{FreshLoadsAreApart, BatchesAreWithinLimits, BatchesByTableAreWithinLimits, PastsTellLegalHistories, EndsStay, OutcomesStay};
 
 use dl_values::{Limits, TableLimits};
 
-/// Between two fresh loads of one key something forgets the key: a clear of it, a clear of all, or the
-/// failure of the first one's batch.
+/// Between two fresh loads of one key, something forgets the key: a clear of it, a clear of all keys, or the failure of
+/// the first load's batch.
 pub fn fresh_loads_are_apart()
     ensures { FreshLoadsAreApart }
 {}
 
-/// The members of a batch have distinct keys, are no more than its limit and, where tables have limits
-/// of their own, are of one table.
+/// The members of a batch have distinct keys and are no more than its limit. If tables have limits of their own, they
+/// are also of one table.
 pub fn batches_are_within_limits()
     ensures { BatchesAreWithinLimits }
 {}
 
-/// Where each batch is of one table, the members of a batch have distinct keys, are of one table, and are no more than the
-/// limit of that table, or than `max_batch` where it has none of its own.
+/// If each batch has one table, the members of a batch have distinct keys of one table, and are no more than that
+/// table's limit or, if it has none of its own, than `max_batch`.
 pub fn batches_by_table_are_within_limits(limits: &Limits, tables: &TableLimits)
     ensures { BatchesByTableAreWithinLimits limits.now tables.now }
 {
@@ -26,17 +26,17 @@ pub fn batches_by_table_are_within_limits(limits: &Limits, tables: &TableLimits)
     tables.keeps();
 }
 
-/// The history that a legal past of several callers' events tells is legal, so the laws above hold of it too.
+/// A legal past of several callers' events gives you a legal history of calls, so the laws above hold of it too.
 pub fn pasts_tell_legal_histories()
     ensures { PastsTellLegalHistories }
 {}
 
-/// A cell that was ended keeps the place of its end, whatever is called after.
+/// A cell that has ended keeps the place of its end, whatever you call later.
 pub fn ends_stay()
     ensures { EndsStay }
 {}
 
-/// A cell that was given an outcome keeps it, whatever is called after.
+/// A cell that has an outcome keeps it, whatever you call later.
 pub fn outcomes_stay()
     ensures { OutcomesStay }
 {}

@@ -1,8 +1,8 @@
-//! The sequential loader: the memo of held cells, and batches. Keys, outcomes and limits are those of `dl_values`, which have
-//! the same names here.
+//! The single-threaded loader: a memo of keys with their cells, and batches of keys to fetch.
 //!
-//! A [`Desk`] answers each call as a data loader of one thread does. Its contracts speak of the
-//! history of the calls made so far, in the words of `specs/History.antt`.
+//! A [`Desk`] answers each of your calls as a data loader of one thread does. Its contracts speak of the history of the
+//! calls so far, in the words of `specs/History.antt`. Keys, outcomes and limits are those of `dl_values`, under the
+//! same names.
 #![tactic(auto)]
 
 mod batch;

@@ -38,8 +38,8 @@ pub(crate) fn show(batches: &mut Vec<StoredBatch>, from: usize, to: usize)
     }
 }
 
-/// The cell that is held for the key; where none is, the new cell is held from now on. The error is a failed
-/// allocation, and leaves the memo.
+/// The cell that the memo holds for the key. If it holds none, it holds the new cell from now on. If memory runs out,
+/// the call fails and leaves the memo as it was.
 #[inline(always)]
 pub(crate) fn hold(
     memo: &mut IndexMap<FetchKey, u32, RandomState>,
@@ -60,7 +60,7 @@ pub(crate) fn hold(
     }
 }
 
-/// The batches that one more member may go into: the newest one, and the next one. No batch from `forgotten` on has a
+/// The batches that one more member may join: the newest one, and the next one. No batch from `forgotten` on has a
 /// member of its key.
 #[derive(Clone, Copy)]
 pub(crate) struct BatchChoice {
@@ -69,7 +69,7 @@ pub(crate) struct BatchChoice {
     pub(crate) forgotten: u32,
 }
 
-/// The newest batch or, where a member of it has the key, the next one. The error is a failed allocation.
+/// The newest batch or, if a member of it has the key, the next one. Fails if memory runs out.
 fn choose(
     batches: &mut Vec<StoredBatch>,
     choice: BatchChoice,
@@ -95,8 +95,8 @@ fn choose(
     Ok(newest)
 }
 
-/// Prepares a member of the key in the newest batch, or in the next one where a member of the newest has the
-/// key, and answers which. The error is a failed allocation, and then an empty batch may have been added.
+/// Prepares a member of the key in the newest batch or, if a member of that has the key, in the next one, and answers
+/// which. If memory runs out, the call fails, and there may be a new, empty batch.
 // Inlined into the step of batches of one table.
 #[inline(always)]
 pub(crate) fn join(
@@ -124,7 +124,7 @@ pub(crate) fn join(
     Ok(number)
 }
 
-/// The same, where batches may mix tables.
+/// The same, if batches may mix tables.
 // Out of line, so that loads that find their key cost nothing of it.
 #[inline(never)]
 pub(crate) fn join_mixed(
@@ -147,7 +147,7 @@ pub(crate) fn join_mixed(
     join(batches, alloc, hashing, choice, key, cell)
 }
 
-/// Forgets each member's key that is held with the member's own cell.
+/// Forgets each member's key for which the memo holds the member's own cell.
 pub(crate) fn forget(memo: &mut IndexMap<FetchKey, u32, RandomState>, batch: &StoredBatch)
     ensures { (k : Key) → lookup (key_eq k) memo.new.entries ≡ without batch.now.members k (lookup (key_eq k) memo.old.entries) }
 {

@@ -4,9 +4,9 @@ ghost use Rattle.std.specs.Prelude.{◌≡◌};
 
 use crate::reply::DeskReply;
 
-/// A call whose allocations are made and whose steps are prepared in the desk that gave it. Only
-/// [`Desk::commit`](crate::Desk::commit) of that desk takes it; any other call that changes the
-/// desk takes back what was prepared.
+/// A call with its allocations made and its steps prepared, in the desk that gave it to you. Only
+/// [`Desk::commit`](crate::Desk::commit) of that desk takes it. Any other call that changes the desk takes back what it
+/// prepared.
 #[derive(Debug, Drop)]
 pub struct Ready {
     pub(crate) reply: DeskReply,

@@ -2,21 +2,21 @@
 
 use dl_values::Job;
 
-/// The reply to a load: the cell that will show the key's outcome.
+/// The reply to a load: the cell that will have the key's outcome.
 #[derive(Clone, Copy, Debug, PartialEq, Eq)]
 pub enum LoadReply {
     /// The memo holds the key: its cell.
     Hit(u32),
-    /// A new cell, and the batch that will fetch it.
+    /// The memo didn't hold the key: a new cell, and the batch that will fetch it.
     Fresh { cell: u32, batch: u32 },
 }
 
 /// The reply to a prime.
 #[derive(Clone, Copy, Debug, PartialEq, Eq)]
 pub enum DeskPrime {
-    /// The new cell, which is held from now on.
+    /// The memo holds this new cell for the key from now on.
     Primed(u32),
-    /// The key is held already, and nothing changed.
+    /// The memo holds the key already, and nothing changed.
     Kept,
 }
 
@@ -29,7 +29,7 @@ pub enum End {
     Failed,
 }
 
-/// The reply to a call that a desk can prepare.
+/// The reply to a call that you can prepare with a desk.
 #[derive(Debug, Drop)]
 pub enum DeskReply {
     /// To a load of several keys: a reply for each, in order.
@@ -43,9 +43,9 @@ pub enum DeskReply {
 /// How far a batch has come.
 #[derive(Clone, Copy, Debug, PartialEq, Eq)]
 pub enum BatchState {
-    /// It isn't sent, and takes members while it has room and is the last one, or the last one of its table.
+    /// It has not gone out, and takes members while it has room and is the last one, or the last one of its table.
     Collecting,
-    /// It is sent, and has not ended.
+    /// It has gone out, and has not ended.
     Sent,
     /// It ended with an outcome for each member.
     Settled,

@@ -1,4 +1,4 @@
-//! Values that several places share.
+//! Values that several owners share.
 
 ghost use Rattle.std.specs.Prelude.{◌≡◌, IfOk};
 ghost use Rattle.std.specs.Arc.{arc_value};
@@ -8,8 +8,8 @@ use std::marker::Model;
 use std::ops::Deref;
 use std::sync::Arc;
 
-/// A value in a block of its own, which several places share, so that what has it is small. A copy costs one atomic step.
-/// Contracts see the value.
+/// A value in a block of its own, which several owners share, so that each of them stays small. A copy costs one atomic
+/// step. Contracts see the value.
 #[derive(Debug)]
 pub struct Shared<T> {
     value: Arc<T>,
@@ -45,7 +45,7 @@ impl<T> Deref for Shared<T> {
 }
 
 impl<T: Drop> Shared<T> {
-    /// A value, shared by nobody yet. The error is a failed allocation.
+    /// A value that nobody shares yet. Fails if memory runs out.
     pub fn new(alloc: Global, value: T) -> Result<Shared<T>, AllocError>
         ensures { IfOk result (λ shared. shared ≡ value) }
     {
@@ -53,7 +53,7 @@ impl<T: Drop> Shared<T> {
         Ok(Shared { value })
     }
 
-    /// The same value, shared. The error is that the reference count would overflow.
+    /// The same value, shared. Fails if the reference count would overflow.
     pub fn try_copy(&self) -> Result<Shared<T>, AllocError>
         ensures { IfOk result (λ shared. shared ≡ self.now) }
     {

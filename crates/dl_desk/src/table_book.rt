@@ -1,4 +1,4 @@
-//! What a desk keeps of its tables, where each batch is of one table.
+//! What a desk keeps of its tables, if each batch has one table.
 
 ghost use Rattle.std.specs.Prelude.{◌≡◌, ℕ, ◌<◌, ◌≤◌, ◌+◌, List, [], length, map, take, max, vec_len, option_map, Some, None, IsSome, IfOk, IfSome, OnOk};
 ghost use Rattle.std.specs.Prelude.{OnErr};
@@ -20,7 +20,7 @@ use std::alloc::{AllocError, Global};
 use std::hash::RandomState;
 use std::marker::Model;
 
-/// Of a table, how many keys a batch of it may have, and which batch is its newest.
+/// The most keys that a batch of a table may have, and the table's newest batch.
 #[derive(Clone, Copy)]
 pub(crate) struct Newest {
     most: u32,
@@ -30,8 +30,8 @@ pub(crate) struct Newest {
     before: Option<u32>,
 }
 
-/// How a desk's batches stand: the limits, how far they have come with what is prepared, how far what is shown has, and
-/// from which on all were begun since something was forgotten.
+/// How far a desk has come: its limits, the extent with and without what is prepared, and the first batch after the
+/// memo last forgot something.
 #[derive(Clone, Copy)]
 pub(crate) struct Standing {
     pub(crate) limits: Limits,
@@ -40,15 +40,15 @@ pub(crate) struct Standing {
     pub(crate) forgotten: u32,
 }
 
-/// What a new batch is made with.
+/// What you need to make a new batch.
 #[derive(Clone, Copy)]
 pub(crate) struct BatchMeans {
     pub(crate) alloc: Global,
     pub(crate) hashing: RandomState,
 }
 
-/// The tables' own limits, and the newest batch of each table. What is told of a table is never taken back: whether its
-/// latest batch counts is told by that batch.
+/// The tables' own limits, and the newest batch of each table. The book never takes back what it notes of a table: the
+/// table's latest batch shows whether the note counts.
 pub(crate) struct TableBook {
     limits: TableLimits,
     // By the places of tables. They are added when the first table is told of.
@@ -116,15 +116,15 @@ impl TableBook {
         self.touched.clear();
     }
 
-    /// How many keys a batch of the table may have.
+    /// The most keys that a batch of the table may have.
     fn most(&self, max_batch: u32, table: &str) -> u32
         ensures { result ≡ limit_by max_batch (Some self.now.limits) table.now }
     {
         self.limits.limit(table).unwrap_or(max_batch)
     }
 
-    /// The newest batch of the table. Where nothing is told of the table, it is told from now on that its first batch may
-    /// be the next one. The error is a failed allocation, and leaves what is told.
+    /// The newest batch of the table. If the book has no note of the table, it notes that the table's first batch may
+    /// be the next one. If memory runs out, the call fails and leaves the notes as they were.
     fn newest_of(
         &mut self,
         alloc: Global,
@@ -142,7 +142,7 @@ impl TableBook {
         self.begin(alloc, max_batch, next, table)
     }
 
-    /// What is told of the table.
+    /// The book's note of the table.
     #[inline(always)]
     fn told(&self, table: &TableName) -> Option<Newest>
         ensures { result ≡ told self.now table.now }
@@ -155,8 +155,8 @@ impl TableBook {
         }
     }
 
-    /// Tells of a table of which nothing is told that its first batch may be the next one. The error is a failed
-    /// allocation, and leaves what is told.
+    /// Notes, for a table with no note, that its first batch may be the next one. If memory runs out, the call fails
+    /// and leaves the notes as they were.
     // Out of line, as is the next one, since of each table or batch it is called once.
     #[cold]
     #[inline(never)]
@@ -182,7 +182,7 @@ impl TableBook {
         Ok(newest)
     }
 
-    /// Tells another newest batch of a table.
+    /// Notes another newest batch of a table.
     #[cold]
     #[inline(never)]
     fn renew(&mut self, table: &TableName, newest: Newest)
@@ -192,8 +192,8 @@ impl TableBook {
         self.newest[table.place()].replace(table, newest);
     }
 
-    /// Tells of a table, of which `last` is told, that a member was put into the batch: it is the table's newest from now
-    /// on, where it is the next one.
+    /// Notes that a member of a table, whose note is `last`, has joined the batch. If that is the next batch, it is the
+    /// table's newest from now on.
     fn tell(
         &mut self,
         batches: &[StoredBatch],
@@ -221,8 +221,8 @@ impl TableBook {
         }
     }
 
-    /// Prepares a member of the key in the newest batch of its table, if that is open for the key, and else in the next
-    /// one, and answers which. The error is a failed allocation, and then an empty batch may have been added.
+    /// Prepares a member of the key in the newest batch of its table, if that is open for the key, else in the next
+    /// one, and answers which. If memory runs out, the call fails, and there may be a new, empty batch.
     pub(crate) fn join(
         &mut self,
         batches: &mut Vec<StoredBatch>,
@@ -272,7 +272,7 @@ impl TableBook {
     }
 }
 
-/// Adds the places that are missing. The error is a failed allocation, and then some may have been added.
+/// Adds the places that are missing. If memory runs out, the call fails, and some may be there.
 fn add_places(alloc: Global, places: &mut Vec<TableMap>) -> Result<(), AllocError>
     ensures enough { OnOk result (32 ≤ length places.new.items) }
     ensures told { (q : List ℕ) → told_in places.new.items q ≡ told_in places.old.items q }
@@ -283,7 +283,7 @@ fn add_places(alloc: Global, places: &mut Vec<TableMap>) -> Result<(), AllocErro
     Ok(())
 }
 
-/// The newest of the first batches that is of the table, as is told of the table.
+/// The newest of the first batches that is of the table, by the table's note.
 fn newest_in(batches: &[StoredBatch], begun: u32, newest: Newest, table: &str) -> Option<u32>
     requires { begun ≤ length batches.now }
     ensures { result ≡ newest_at (take begun (map prepared_batch batches.now)) table.now (Some newest) }
@@ -295,7 +295,7 @@ fn newest_in(batches: &[StoredBatch], begun: u32, newest: Newest, table: &str) -
     }
 }
 
-/// The same, of what is shown.
+/// The same, of what the batches show.
 fn newest_shown(batches: &[StoredBatch], shown: u32, newest: Newest, table: &str) -> Option<u32>
     requires { shown ≤ length batches.now }
     ensures { result ≡ newest_at (take shown (map shown_batch batches.now)) table.now (Some newest) }
@@ -307,7 +307,7 @@ fn newest_shown(batches: &[StoredBatch], shown: u32, newest: Newest, table: &str
     }
 }
 
-/// The batch, where it isn't sent and has fewer members than the most, and else the next one.
+/// The batch, if it has not gone out and has fewer members than the most, else the next one.
 fn with_room(batches: &[StoredBatch], extent: Extent, most: u32, newest: Option<u32>) -> u32
     requires within { extent.begun ≤ length batches.now }
     requires newest { IfSome newest (λ b. b < extent.begun) }
@@ -343,7 +343,7 @@ fn show_each(batches: &mut Vec<StoredBatch>, touched: &[u32])
     }
 }
 
-/// Takes back what is prepared: in a range of batches, where they may mix tables, and else in those that were touched.
+/// Takes back what is prepared: in a range of batches, if they may mix tables, else in the batches that were touched.
 pub(crate) fn cut(
     tables: &mut Option<TableBook>,
     batches: &mut Vec<StoredBatch>,
@@ -363,7 +363,7 @@ pub(crate) fn cut(
     }
 }
 
-/// Shows what is prepared: in a range of batches, where they may mix tables, and else in those that were touched.
+/// Shows what is prepared: in a range of batches, if they may mix tables, else in the batches that were touched.
 // Inlined, but not what batches of one table take, so that those that may mix tables cost nothing more.
 #[inline(always)]
 pub(crate) fn show(

@@ -10,7 +10,7 @@ use std::alloc::{AllocError, Global};
 use std::collections::BTreeMap;
 use std::marker::Model;
 
-/// What is told of the newest batches of some of the tables. Contracts see each of them once.
+/// Notes of the newest batches of some of the tables. Contracts see one for each table.
 pub(crate) struct TableMap {
     newest: BTreeMap<TableName, Newest>,
 }
@@ -33,7 +33,7 @@ impl Model for TableMap {
 }
 
 impl TableMap {
-    /// Nothing is told.
+    /// No notes.
     pub(crate) fn new(alloc: Global) -> TableMap
         ensures { result ≡ [] }
     {
@@ -42,7 +42,7 @@ impl TableMap {
         }
     }
 
-    /// What is told of the table.
+    /// The note of the table.
     #[inline(always)]
     pub(crate) fn get(&self, table: &TableName) -> Option<Newest>
         ensures { result ≡ lookup (bytes_eq table.now) self.now }
@@ -50,7 +50,7 @@ impl TableMap {
         self.newest.get(table).copied()
     }
 
-    /// Tells of a table. The error is a failed allocation, and leaves what is told.
+    /// Adds the note of a table. If memory runs out, the call fails and leaves the notes as they were.
     pub(crate) fn insert(&mut self, table: &TableName, newest: Newest) -> Result<(), AllocError>
         ensures tells { OnOk result (Tells self.old table.now newest self.new) }
         ensures err { OnErr result (self.new ≡ self.old) }
@@ -59,7 +59,7 @@ impl TableMap {
         Ok(())
     }
 
-    /// Tells something else of a table of which something is told.
+    /// Replaces the note of a table that has one.
     pub(crate) fn replace(&mut self, table: &TableName, newest: Newest)
         requires { IsSome (lookup (bytes_eq table.now) self.old) }
         ensures { Tells self.old table.now newest self.new }

@@ -1,4 +1,4 @@
-//! The names of tables, as a desk finds them.
+//! The names of tables, in the form by which a desk finds them.
 
 ghost use Rattle.std.specs.Prelude.{◌≡◌, IfOk};
 ghost use Rattle.std.proofs.Common.{rules};
@@ -15,11 +15,11 @@ use std::marker::Model;
 /// An odd factor of many bits, so that each byte of a name changes the number.
 const FACTOR: u64 = 1_099_511_628_211;
 
-/// In how many places tables are found.
+/// The number of places for tables.
 pub(crate) const PLACES: usize = 32;
 
-/// The name of a table, beside a number that its bytes make. Names are ordered by their numbers, and only where these are
-/// one by their bytes, so that a search compares numbers, and hardly ever two names.
+/// The name of a table, with a number that its bytes make. Names have the order of their numbers and, if these are
+/// equal, of their bytes. So a search compares numbers, and hardly ever two names.
 pub(crate) struct TableName {
     number: u64,
     // A key of the table, of which a copy takes no memory.
@@ -45,7 +45,7 @@ impl Model for TableName {
 }
 
 impl TableName {
-    /// The name of the key's table. The error is that a reference count would overflow.
+    /// The name of the key's table. Fails if a reference count would overflow.
     pub(crate) fn of(key: &FetchKey) -> Result<TableName, AllocError>
         ensures { IfOk result (λ n. n ≡ key.now.table) }
     {
@@ -62,7 +62,7 @@ impl TableName {
         self.key.table()
     }
 
-    /// The place where the table is found.
+    /// The place of the table.
     #[inline(always)]
     pub(crate) fn place(&self) -> usize
         ensures { result ≡ place_of self.now }
@@ -70,7 +70,7 @@ impl TableName {
         (self.number % PLACES as u64) as usize
     }
 
-    /// The same name, shared. The error is that a reference count would overflow.
+    /// The same name, shared. Fails if a reference count would overflow.
     pub(crate) fn try_copy(&self) -> Result<TableName, AllocError>
         ensures { IfOk result (λ n. n ≡ self.now) }
     {

@@ -1,4 +1,4 @@
-//! What a desk shows of its memo and its batches.
+//! What you can see of a desk's memo and batches.
 
 ghost use Rattle.std.specs.Prelude.{◌≡◌, ◌<◌, ◌≤◌, List, length, map, IfSome, IfNone};
 ghost use Rattle.std.specs.List.{zip};
@@ -14,7 +14,7 @@ use std::iter::Zip;
 use std::marker::Model;
 use std::slice::Iter;
 
-/// A batch of a desk.
+/// A look at a batch of a desk: its members and how far it has come.
 #[derive(Drop)]
 pub struct BatchView<'a> {
     keys: &'a [FetchKey],
@@ -65,7 +65,7 @@ impl<'a> BatchView<'a> {
 }
 
 impl Desk {
-    /// The cell that is held for the key, if one is.
+    /// The cell that the desk holds for the key, or `None` if it holds none.
     pub fn held(&self, key: &FetchKey) -> Option<u32>
         ensures { (history : List Atom) → StandsFor self.now.book history → result ≡ held history key.now }
     {
@@ -77,7 +77,7 @@ impl Desk {
         }
     }
 
-    /// The batch of a number, if it was begun.
+    /// The batch of this number, or `None` if there isn't one yet.
     pub fn batch(&self, number: u32) -> Option<BatchView<'_>>
         ensures none { IfNone result ((history : List Atom) → StandsFor self.now.book history → begun history ≤ number) }
         ensures some { IfSome result (λ view. (history : List Atom) → StandsFor self.now.book history
@@ -89,7 +89,7 @@ impl Desk {
         Some(self.view(number))
     }
 
-    /// The batch of a number that was begun.
+    /// The batch of this number, which there is.
     pub(super) fn view(&self, number: u32) -> BatchView<'_>
         requires { number < length self.now.book.batches }
         ensures { (history : List Atom) → StandsFor self.now.book history → result ≡ batch_view history number }

@@ -13,10 +13,10 @@ use dl_values::{FetchKey, Job};
 use std::alloc::{AllocError, Global};
 
 impl Desk {
-    /// Prepares loads of the keys, in order, as [`prepare_load`](Desk::prepare_load) does one.
+    /// Prepares loads of the keys, in order, as [`prepare_load`](Desk::prepare_load) prepares one.
     ///
     /// # Errors
-    /// As [`load_many`](Desk::load_many).
+    /// Those of [`load_many`](Desk::load_many).
     pub fn prepare_loads(
         &mut self,
         alloc: Global,
@@ -42,11 +42,11 @@ impl Desk {
         Ok(replies)
     }
 
-    /// Prepares the load of a key: makes its allocations, and changes nothing that can be seen.
-    /// [`make_prepared`](Desk::make_prepared) then makes the call. A refused load leaves nothing prepared.
+    /// Prepares the load of a key: makes its allocations and changes nothing that you can see.
+    /// [`make_prepared`](Desk::make_prepared) then makes the call. A rejected load leaves nothing prepared.
     ///
     /// # Errors
-    /// As [`load`](Desk::load).
+    /// Those of [`load`](Desk::load).
     // Inlined for the sake of loads that find their key.
     #[inline(always)]
     pub fn prepare_load(&mut self, alloc: Global, key: &FetchKey) -> Result<LoadReply, DeskFault>
@@ -66,10 +66,11 @@ impl Desk {
         self.load_step(alloc, key)
     }
 
-    /// Loads a key: the cell that is held for it, or a new one in a batch (DataLoader: `load`).
+    /// Loads a key (DataLoader: `load`). If the desk holds the key, you get the cell that it has. Else the key gets a
+    /// new cell and joins a batch, which [`dispatch`](Desk::dispatch) hands you.
     ///
     /// # Errors
-    /// `CellsFull` where the key isn't held and all cells are begun; `OutOfMemory`.
+    /// `CellsFull` if the desk doesn't hold the key and has begun all its cells; `OutOfMemory`.
     pub fn load(&mut self, alloc: Global, key: &FetchKey) -> Result<LoadReply, DeskFault>
         ensures rules { self.new.book.rules ≡ self.old.book.rules }
         ensures reply { IfOk result (λ reply. (history : List Atom) → StandsFor self.old.book history
@@ -88,11 +89,11 @@ impl Desk {
         Ok(reply)
     }
 
-    /// Loads the keys in order, as one call, all or nothing (DataLoader: `loadMany`).
+    /// Loads the keys in order, as one call, all or nothing, with a reply for each (DataLoader: `loadMany`).
     ///
     /// # Errors
-    /// `CellsFull` where the new cells, one for each distinct key that isn't held, are more than
-    /// may be begun; `OutOfMemory`.
+    /// `CellsFull` if the call needs more new cells than are left, one for each distinct key that the desk doesn't
+    /// hold; `OutOfMemory`.
     pub fn load_many(
         &mut self,
         alloc: Global,
@@ -115,10 +116,10 @@ impl Desk {
         Ok(replies)
     }
 
-    /// Prepares a prime of the key, as [`prepare_load`](Desk::prepare_load) does a load.
+    /// Prepares a prime of the key, as [`prepare_load`](Desk::prepare_load) prepares a load.
     ///
     /// # Errors
-    /// As [`prime`](Desk::prime).
+    /// Those of [`prime`](Desk::prime).
     pub fn prepare_prime(&mut self, key: &FetchKey) -> Result<DeskPrime, DeskFault>
         ensures book { self.new.book ≡ self.old.book }
         ensures rules { self.new.prepared.rules ≡ self.old.book.rules }
@@ -135,11 +136,11 @@ impl Desk {
         self.prime_step(key)
     }
 
-    /// Begins a cell of the key in no batch, for an outcome that the caller has, unless the key is
-    /// held already (DataLoader: `prime`).
+    /// Begins a cell for the key, in no batch, since you have its outcome. If the desk holds the key, it changes
+    /// nothing (DataLoader: `prime`).
     ///
     /// # Errors
-    /// `CellsFull` where the key isn't held and all cells are begun; `OutOfMemory`.
+    /// `CellsFull` if the desk doesn't hold the key and has begun all its cells; `OutOfMemory`.
     pub fn prime(&mut self, key: &FetchKey) -> Result<DeskPrime, DeskFault>
         ensures rules { self.new.book.rules ≡ self.old.book.rules }
         ensures reply { IfOk result (λ reply. (history : List Atom) → StandsFor self.old.book history → reply ≡ prime_reply history key.now) }
@@ -157,7 +158,7 @@ impl Desk {
         Ok(reply)
     }
 
-    /// Prepares a dispatch, as [`prepare_load`](Desk::prepare_load) does a load. The error is a failed allocation.
+    /// Prepares a dispatch, as [`prepare_load`](Desk::prepare_load) prepares a load. Fails if memory runs out.
     pub fn prepare_dispatch(&mut self, alloc: Global) -> Result<Vec<Job>, AllocError>
         ensures book { self.new.book ≡ self.old.book }
         ensures rules { self.new.prepared.rules ≡ self.old.book.rules }
@@ -173,8 +174,8 @@ impl Desk {
         Ok(jobs)
     }
 
-    /// Sends every batch that was begun and not sent, in order, each as a job. The error is a
-    /// failed allocation.
+    /// Sends every batch that hasn't gone out yet, in order, each as a job. Nobody dispatches for you. Fails if memory
+    /// runs out.
     pub fn dispatch(&mut self, alloc: Global) -> Result<Vec<Job>, AllocError>
         ensures rules { self.new.book.rules ≡ self.old.book.rules }
         ensures reply { IfOk result (λ sent. (history : List Atom) → StandsFor self.old.book history → sent.items ≡ jobs history) }
@@ -188,7 +189,8 @@ impl Desk {
         Ok(jobs)
     }
 
-    /// Forgets the key, if it is held (DataLoader: `clear`).
+    /// Forgets the key, if the desk holds it (DataLoader: `clear`). A fresh load of it never joins a batch that has it
+    /// already.
     pub fn clear(&mut self, key: &FetchKey)
         ensures rules { self.new.book.rules ≡ self.old.book.rules }
         ensures stands { (history : List Atom) → StandsFor self.old.book history

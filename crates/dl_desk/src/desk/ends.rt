@@ -15,10 +15,10 @@ use crate::memo_and_batches;
 use crate::reply::End;
 
 impl Desk {
-    /// The batch of a number, where it may end.
+    /// The batch of this number, if it may end now.
     ///
     /// # Errors
-    /// `NoBatch`, `NotSent`, `SettledBefore`, in this order.
+    /// The first of these that applies: `NoBatch`, `NotSent`, `SettledBefore`.
     pub fn ending(&self, number: u32) -> Result<BatchView<'_>, DeskFault>
         ensures view { IfOk result (λ view. (history : List Atom) → StandsFor self.now.book history → view ≡ batch_view history number) }
         ensures may { OnOk result (MayEndIn self.now.book number) }
@@ -29,7 +29,7 @@ impl Desk {
         Ok(self.view(number))
     }
 
-    /// Whether the batch may end.
+    /// Fails if the batch may not end now.
     fn check_end(&self, number: u32) -> Result<(), DeskFault>
         ensures ok { OnOk result (MayEndIn self.now.book number) }
         ensures fault { IfErr result (RefusesEnd self.now.book number) }
@@ -46,8 +46,8 @@ impl Desk {
         Ok(())
     }
 
-    /// Ends a batch that may end. A failed batch's keys are forgotten where the memo still holds the
-    /// batch's own cell.
+    /// Ends a batch that may end, as [`ending`](Desk::ending) finds out. If you fail it, the memo forgets each of its
+    /// keys for which it still holds the batch's own cell.
     pub fn end(&mut self, number: u32, end: End)
         requires { MayEndIn self.old.book number }
         ensures rules { self.new.book.rules ≡ self.old.book.rules }
@@ -63,7 +63,7 @@ impl Desk {
         }
     }
 
-    /// Forgets the keys of a batch that are held with the batch's own cells.
+    /// Forgets the keys of a batch for which the memo holds the batch's own cells.
     fn forget_own(&mut self, number: u32)
         requires nothing_prepared { self.old.prepared ≡ self.old.book }
         requires number { number < length self.old.book.batches }
@@ -75,7 +75,7 @@ impl Desk {
         self.forgotten = self.prepared.begun;
     }
 
-    /// Marks a batch as ended.
+    /// Notes how a batch ended.
     fn mark(&mut self, number: u32, end: End)
         requires nothing_prepared { self.old.prepared ≡ self.old.book }
         requires number { number < length self.old.book.batches }
@@ -84,11 +84,11 @@ impl Desk {
         self.batches[number as usize].finish(end);
     }
 
-    /// Ends a batch with an outcome for each member, which the desk doesn't look at. It takes no
-    /// memory.
+    /// Ends a batch with an outcome for each member, which the desk doesn't look at. The memo forgets no key, and the
+    /// call takes no memory.
     ///
     /// # Errors
-    /// `NoBatch`, `NotSent`, `SettledBefore`, in this order.
+    /// The first of these that applies: `NoBatch`, `NotSent`, `SettledBefore`.
     pub fn settle(&mut self, number: u32) -> Result<(), DeskFault>
         ensures rules { self.new.book.rules ≡ self.old.book.rules }
         ensures stands { OnOk result ((history : List Atom) → StandsFor self.old.book history
@@ -103,11 +103,10 @@ impl Desk {
         Ok(())
     }
 
-    /// Fails a batch as a whole: its keys are forgotten where the memo still holds the batch's own
-    /// cell.
+    /// Fails a batch as a whole: the memo forgets each of its keys for which it still holds the batch's own cell.
     ///
     /// # Errors
-    /// `NoBatch`, `NotSent`, `SettledBefore`, in this order.
+    /// The first of these that applies: `NoBatch`, `NotSent`, `SettledBefore`.
     pub fn fail(&mut self, number: u32) -> Result<(), DeskFault>
         ensures rules { self.new.book.rules ≡ self.old.book.rules }
         ensures stands { OnOk result ((history : List Atom) → StandsFor self.old.book history

@@ -16,10 +16,10 @@ use dl_values::{FetchKey, List};
 use std::alloc::{AllocError, Global};
 
 impl Desk {
-    /// Makes a call that is a value.
+    /// Makes a call that you have as a value.
     ///
     /// # Errors
-    /// As the call of that name.
+    /// Those of the method of that name.
     #[inline(always)]
     pub fn call(&mut self, alloc: Global, call: &DeskCall) -> Result<Reply, DeskFault>
         ensures rules { self.new.book.rules ≡ self.old.book.rules }
@@ -60,7 +60,7 @@ impl Desk {
         }
     }
 
-    /// Loads the keys as one call, whose reply is shared.
+    /// Loads the keys as one call, with a reply that several may share.
     fn call_many(&mut self, alloc: Global, keys: &[FetchKey]) -> Result<Reply, DeskFault>
         ensures rules { self.new.book.rules ≡ self.old.book.rules }
         ensures reply { IfOk result (λ reply. (history : List Atom) → StandsFor self.old.book history
@@ -79,7 +79,7 @@ impl Desk {
         Ok(Reply::Many(replies))
     }
 
-    /// Sends what is begun and not sent, and shares the jobs.
+    /// Sends each batch that has not gone out yet, with jobs that several may share.
     fn call_dispatch(&mut self, alloc: Global) -> Result<Reply, AllocError>
         ensures rules { self.new.book.rules ≡ self.old.book.rules }
         ensures reply { IfOk result (λ reply. (history : List Atom) → StandsFor self.old.book history
@@ -94,8 +94,8 @@ impl Desk {
         Ok(Reply::Sent(jobs))
     }
 
-    /// Makes calls in their order, and answers each by its reply or its refusal. The error is a failed allocation, after
-    /// which the first of them are made.
+    /// Makes the calls in their order, and answers each by its reply or by why the desk rejects it. If memory runs out
+    /// at a call, it fails, and has made the calls before that one.
     pub fn play(
         &mut self,
         alloc: Global,
@@ -114,7 +114,7 @@ impl Desk {
         Ok(told)
     }
 
-    /// What a call is answered. The error is a failed allocation, and leaves the desk as it was.
+    /// What the desk answers to a call. If memory runs out, the call fails and leaves the desk as it was.
     #[inline(always)]
     fn answer(
         &mut self,

@@ -1,4 +1,4 @@
-//! Calls in two steps: the first makes the allocations, the second can't fail.
+//! Calls in two steps: the first makes the allocations, and the second can't fail.
 
 ghost use Rattle.std.specs.Prelude.{◌≡◌, List, None, IfOk, OnOk, IfErr, OnErr};
 ghost use Rattle.dl_desk.specs.History.{Atom};
@@ -16,10 +16,11 @@ use dl_values::FetchKey;
 use std::alloc::{AllocError, Global};
 
 impl Desk {
-    /// Makes the allocations of [`load_many`](Desk::load_many), and changes nothing that can be seen.
+    /// Makes the allocations of [`load_many`](Desk::load_many), and changes nothing that you can see.
+    /// [`commit`](Desk::commit) then makes the call.
     ///
     /// # Errors
-    /// As `load_many`.
+    /// Those of `load_many`.
     pub fn ready_loads(&mut self, alloc: Global, keys: &[FetchKey]) -> Result<Ready, DeskFault>
         ensures book { self.new.book ≡ self.old.book }
         ensures ready { IfOk result (IsReadyFor self.new (LoadMany keys.now)) }
@@ -35,10 +36,10 @@ impl Desk {
         })
     }
 
-    /// Makes the allocations of [`prime`](Desk::prime), and changes nothing that can be seen.
+    /// Makes the allocations of [`prime`](Desk::prime), and changes nothing that you can see.
     ///
     /// # Errors
-    /// As `prime`.
+    /// Those of `prime`.
     pub fn ready_prime(&mut self, key: &FetchKey) -> Result<Ready, DeskFault>
         ensures book { self.new.book ≡ self.old.book }
         ensures ready { IfOk result (IsReadyFor self.new (Prime key.now)) }
@@ -54,8 +55,8 @@ impl Desk {
         })
     }
 
-    /// Makes the allocations of [`dispatch`](Desk::dispatch), and changes nothing that can be seen.
-    /// The error is a failed allocation.
+    /// Makes the allocations of [`dispatch`](Desk::dispatch), and changes nothing that you can see. Fails if memory
+    /// runs out.
     pub fn ready_dispatch(&mut self, alloc: Global) -> Result<Ready, AllocError>
         ensures book { self.new.book ≡ self.old.book }
         ensures ready { IfOk result (IsReadyFor self.new Dispatch) }
@@ -67,7 +68,7 @@ impl Desk {
         })
     }
 
-    /// Makes the call that is ready, and answers its reply.
+    /// Makes the call that is ready, and gives you its reply. It can't fail.
     pub fn commit(&mut self, ready: Ready) -> DeskReply
         requires { (call : DeskCall) × IsReadyFor self.old call ready }
         ensures told { result ≡ ready.reply }
