@@ -10,7 +10,7 @@ use dl_cells::{CellRow, Flag};
 use dl_desk::{Ending, Event, Limits};
 use std::marker::{Model, PhantomData};
 
-/// Where the events of a loader and the outcomes of its cells lie, how many of both there may be, and the loader's flags. Contracts
+/// The rows of one loader: a cell for each event that it may have, a cell for each outcome, and its flags. Contracts
 /// see the limits.
 pub struct CellRows<L: LoaderName> {
     limits: Limits,
@@ -48,7 +48,7 @@ impl<L: LoaderName> Model for CellRows<L> {
 }
 
 impl<L: LoaderName> CellRows<L> {
-    /// The rows of the loader that `L` stands for, which have room for all that these limits let it have.
+    /// The rows of the loader that `L` names. They must have room for all that these limits allow.
     pub fn new(
         limits: Limits,
         log: CellRow<Event>,
@@ -72,7 +72,7 @@ impl<L: LoaderName> CellRows<L> {
         }
     }
 
-    /// The limits.
+    /// The limits of the loader.
     pub fn limits(&self) -> Limits
         ensures own { result ≡ L.service.rules.limits }
         ensures view { result ≡ self.now }
@@ -80,14 +80,14 @@ impl<L: LoaderName> CellRows<L> {
         self.limits
     }
 
-    /// What the rows of a loader keep: its limits are limits.
+    /// The limits of a loader are limits. The call does nothing when it runs; its clause is for your proof.
     pub fn keeps(&self)
         ensures { AreLimits L.service.rules.limits }
     {
         let _ = self.limits.max_calls();
     }
 
-    /// The row that the events lie in.
+    /// The row of the events.
     pub(crate) fn log(&self) -> &CellRow<Event>
         ensures row { result.now ≡ L.cells.log }
         ensures calls { row_len L.cells.log ≡ L.service.rules.limits.max_calls }
@@ -95,7 +95,7 @@ impl<L: LoaderName> CellRows<L> {
         &self.log
     }
 
-    /// The row that the outcomes of cells lie in.
+    /// The row of the outcomes of cells.
     pub fn outcomes(&self) -> &CellRow<Ending>
         ensures row { result.now ≡ L.cells.outcomes }
         ensures cells { row_len L.cells.outcomes ≡ L.service.rules.limits.max_cells }
@@ -103,21 +103,21 @@ impl<L: LoaderName> CellRows<L> {
         &self.outcomes
     }
 
-    /// The flag that is raised when the loader is stopped.
+    /// The flag that goes up when the loader stops.
     pub(crate) fn stop(&self) -> &Flag
         ensures { result.now ≡ L.cells.flags.stop }
     {
         &self.flags.stop
     }
 
-    /// The flag that is raised when a cell refuses its outcome.
+    /// The flag that goes up when a cell refuses its outcome.
     pub(crate) fn refusal(&self) -> &Flag
         ensures { result.now ≡ L.cells.flags.refusal }
     {
         &self.flags.refusal
     }
 
-    /// Takes the rows apart: the one that the events lie in, and the one that the outcomes of cells lie in.
+    /// Takes the rows apart into the row of the events and the row of the outcomes.
     pub(crate) fn into_parts(self) -> (CellRow<Event>, CellRow<Ending>)
         ensures log { result.0 ≡ L.cells.log }
         ensures outcomes { result.1 ≡ L.cells.outcomes }

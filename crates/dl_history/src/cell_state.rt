@@ -1,4 +1,4 @@
-//! What the lock of a loader guards of each cell of an outcome.
+//! What the lock of a loader guards of each cell.
 
 ghost use Rattle.std.specs.Prelude.{◌≡◌, ◌<◌, IfSome, MatchBool, None, Option, Some, option_copied, option_map};
 ghost use Rattle.dl_cells.specs.Cells.{cell_of, row_len};
@@ -11,18 +11,18 @@ use crate::name::LoaderName;
 use dl_cells::{CellRow, Reader};
 use dl_desk::{Ending, Outcome};
 
-/// Whether a cell took the outcome that it was given.
+/// Whether a cell took its outcome.
 #[derive(Drop)]
 pub enum Mark {
-    /// It was given none.
+    /// It has got none.
     Waiting,
     /// It took it.
     Ended,
-    /// It took none, and the end that it refused is kept here.
+    /// It refused this end.
     Refused(Ending),
 }
 
-/// A cell of an outcome: a reader of it, and whether it took what it was given.
+/// A cell: a reader of it, and whether it took its outcome.
 #[derive(Drop)]
 pub struct CellState {
     pub(crate) reader: Reader<Ending>,
@@ -41,7 +41,7 @@ impl CellState {
         }
     }
 
-    /// Gives the cell its outcome, and tells whether the cell took it. If so, the reader knows it from then on.
+    /// Gives the cell its outcome, and answers whether the cell took it. If it did, the reader knows it from then on.
     pub(crate) fn end(&mut self, row: &CellRow<Ending>, cell: u32, ending: Ending) -> bool
         requires in_row { cell < row_len row.now }
         requires of_cell { self.old.reader.cell ≡ cell_of row.now cell }
@@ -61,7 +61,7 @@ impl CellState {
         }
     }
 
-    /// The outcome that the cell was given, if it was given one: the one that it shows, or that it refused.
+    /// The outcome that the cell got, shown or refused, if it got one.
     pub(crate) fn outcome<'a>(&'a self, row: &'a CellRow<Ending>, cell: u32) -> Option<&'a Outcome>
         requires in_row { cell < row_len row.now }
         requires of_cell { self.now.reader.cell ≡ cell_of row.now cell }
@@ -77,7 +77,7 @@ impl CellState {
         }
     }
 
-    /// What is known of the cell is what was read of it, whichever threads know and read.
+    /// What this reader knows of the cell is what the entry saw there, whichever threads have looked. It is for proofs.
     pub(crate) fn agree<L: LoaderName>(&self, seen: &Read<L>)
         requires { self.now.reader.cell ≡ cell_of L.cells.outcomes seen.now.cell }
         ensures { IfSome self.now.reader.known (λ ending. ending ≡ seen.now.ending) }

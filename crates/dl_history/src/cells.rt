@@ -11,7 +11,7 @@ use dl_cells::CellRow;
 use dl_desk::{Ending, Outcome};
 use std::marker::Model;
 
-/// The cells that were begun of a loader that was closed, in order, each with what became of it.
+/// The cells of a closed loader, in order, each with what became of it.
 #[derive(Drop)]
 pub(crate) struct Cells {
     outcomes: CellRow<Ending>,
@@ -35,7 +35,7 @@ impl Model for Cells {
 }
 
 impl Cells {
-    /// The cells that stand so, of a row.
+    /// The cells of a row, in these states.
     pub(crate) fn new(outcomes: CellRow<Ending>, states: Vec<CellState>) -> Cells
         requires own { AreOwn outcomes states.items }
         requires in_row { length states.items ≤ row_len outcomes }
@@ -44,7 +44,7 @@ impl Cells {
         Cells { outcomes, states }
     }
 
-    /// The outcome that a cell was given, if it was begun and given one.
+    /// The outcome of a cell, if there is such a cell and it got one.
     pub(crate) fn outcome(&self, cell: u32) -> Option<&Outcome>
         ensures { (end : Option Ending) → ShownAs (slice_get self.now cell) end → option_copied result ≡ option_map (λ e. e.outcome) end }
     {

@@ -1,4 +1,4 @@
-//! The entries of a pass: calls that were made, and outcomes that were read.
+//! The entries of a pass: its calls, and the outcomes that its caller has seen.
 
 ghost use Rattle.std.specs.Prelude.{◌≡◌, ◌<◌, IfErr, IfOk, IfSome, IsSomeAnd};
 ghost use Rattle.dl_cells.specs.Cells.{cell_of, row_len};
@@ -12,16 +12,16 @@ use dl_cells::{CellRow, Reader};
 use dl_desk::{Ending, Event};
 use std::marker::{Model, PhantomData};
 
-/// What an entry of a pass is.
+/// What an entry of a pass is, by places of the history and numbers of cells.
 #[derive(Clone, Copy, Debug, PartialEq, Eq)]
 pub enum EntryKind {
     /// The caller's event at this place of the history.
     Call { at: u32 },
-    /// The outcome of a cell, which the event at this place gave it.
+    /// The outcome of a cell that the caller has seen, and the place of the event that gave it.
     Saw { cell: u32, at: u32 },
 }
 
-/// An event that lies in the log, and its place there. Contracts see both.
+/// An event in the log, and its place there. Contracts see both.
 pub struct PlacedEvent<L: LoaderName> {
     at: u16,
     reader: Reader<Event>,
@@ -55,7 +55,7 @@ impl<L: LoaderName> Model for PlacedEvent<L> {
 }
 
 impl<L: LoaderName> PlacedEvent<L> {
-    /// Puts an event into its cell of the log. Where the log has another event there, hands the event back.
+    /// Puts an event into its cell of the log. If the log has another event there, you get the event back.
     // Inlined, so that an event is made where it will lie, and not moved there.
     #[inline(always)]
     pub(crate) fn store(
@@ -95,7 +95,7 @@ impl<L: LoaderName> PlacedEvent<L> {
         self.reader.again()
     }
 
-    /// A reader of the event's cell that knows an event knows this one, whichever threads hold the two.
+    /// A reader of the event's cell that knows an event knows this one, whichever threads have the two.
     pub(crate) fn agree(&self, reader: &Reader<Event>)
         requires { reader.now.cell ≡ cell_of L.cells.log self.now.at }
         ensures { IfSome reader.now.known (λ event. event ≡ self.now.event) }
@@ -104,8 +104,7 @@ impl<L: LoaderName> PlacedEvent<L> {
     }
 }
 
-/// An outcome that was read of a cell. Contracts see the cell, the outcome, and the place of the event
-/// that gave it.
+/// An outcome that a caller has seen. Contracts see the cell, the outcome, and the place of the event that gave it.
 #[derive(Drop)]
 pub struct Read<L: LoaderName> {
     cell: u32,
@@ -131,7 +130,7 @@ impl<L: LoaderName> Model for Read<L> {
 }
 
 impl<L: LoaderName> Read<L> {
-    /// The outcome that a reader of a cell knows, which the event at `at` gave the cell.
+    /// The outcome that a reader of a cell knows, which the event at `at` gave it.
     pub(crate) fn of(cell: u32, at: u16, reader: Reader<Ending>) -> Read<L>
         requires in_row { cell < row_len L.cells.outcomes }
         requires of_cell { reader.cell ≡ cell_of L.cells.outcomes cell }
@@ -160,7 +159,7 @@ impl<L: LoaderName> Read<L> {
         self.ended_at
     }
 
-    /// A reader of the cell that knows an outcome knows this one, whichever threads hold the two.
+    /// A reader of the cell that knows an outcome knows this one, whichever threads have the two.
     pub(crate) fn agree(&self, reader: &Reader<Ending>)
         requires { reader.now.cell ≡ cell_of L.cells.outcomes self.now.cell }
         ensures { IfSome reader.now.known (λ ending. ending ≡ self.now.ending) }
@@ -169,7 +168,7 @@ impl<L: LoaderName> Read<L> {
     }
 }
 
-/// An entry of a pass: a call that was made, or an outcome that was read.
+/// An entry of a pass: a call of its caller, or an outcome that its caller has seen. [`kind`](Entry::kind) says which.
 pub struct Entry<L: LoaderName> {
     kind: Kind<L>,
 }
@@ -204,7 +203,7 @@ impl<L: LoaderName> Model for Entry<L> {
 }
 
 impl<L: LoaderName> Entry<L> {
-    /// The entry of a call that was made.
+    /// The entry of a call.
     pub(crate) fn call(stored: PlacedEvent<L>) -> Entry<L>
         ensures { result ≡ Called stored }
     {
@@ -213,7 +212,7 @@ impl<L: LoaderName> Entry<L> {
         }
     }
 
-    /// The entry of an outcome that was read.
+    /// The entry of an outcome that the caller has seen.
     pub(crate) fn saw(seen: Read<L>) -> Entry<L>
         ensures { result ≡ Saw seen }
     {
@@ -237,7 +236,7 @@ impl<L: LoaderName> Entry<L> {
         }
     }
 
-    /// What the journal has at the entry's place, or of its cell, is what the entry tells.
+    /// What the journal has at the entry's place, or of its cell, is what the entry says. It is for proofs.
     pub(crate) fn agree(&self, journal: &Journal<L>)
         ensures { Meets journal.now.history journal.now.cells self.now }
     {

@@ -7,7 +7,7 @@ use dl_cells::{CellRow, Reader};
 use dl_desk::Event;
 use std::marker::Model;
 
-/// The events of a loader that was closed, in order, each in its cell of the log. Contracts see the list.
+/// The events of a closed loader, in order, each in its cell of the log. Contracts see the list.
 #[derive(Drop)]
 pub struct Events {
     log: CellRow<Event>,
@@ -39,7 +39,7 @@ impl Events {
         Events { log, readers }
     }
 
-    /// How many events there are.
+    /// The number of events.
     pub fn len(&self) -> usize
         ensures { result ≡ length self.now }
     {

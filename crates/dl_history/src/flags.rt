@@ -1,4 +1,4 @@
-//! The flags of a loader, and what is known of them.
+//! The flags of a loader, and what its parts know of them.
 
 ghost use Rattle.std.specs.Prelude.{◌≡◌, true, false};
 ghost use Rattle.dl_history.specs.Flags.{known_flags};
@@ -9,7 +9,7 @@ use dl_cells::{Flag, Raised};
 use std::marker::{Model, PhantomData};
 use std::sync::Wait;
 
-/// The flags of a loader, each of which is raised once and stays so: that the loader is stopped, and that a cell refused its outcome.
+/// The flags of a loader: somebody has stopped it, and a cell has refused its outcome. Once a flag is up, it stays up.
 #[derive(Drop)]
 pub struct Flags {
     pub(crate) stop: Flag,
@@ -17,7 +17,7 @@ pub struct Flags {
 }
 
 impl Flags {
-    /// Flags that nobody has raised.
+    /// Flags that nobody has raised yet.
     pub fn new() -> Flags {
         Flags {
             stop: Flag::new(),
@@ -26,8 +26,8 @@ impl Flags {
     }
 }
 
-/// What one holder knows of the flags of a loader: whether it is stopped, and whether a cell refused its outcome. What is known stays
-/// so for good, and nobody knows of a flag that wasn't raised.
+/// What one holder knows of the flags of a loader: whether it is stopped, and whether a cell refused its outcome. It
+/// never forgets, and nobody knows of a flag that is down.
 pub struct KnownFlags<L: LoaderName> {
     stop: Option<Raised>,
     refusal: Option<Raised>,
@@ -58,7 +58,7 @@ impl<L: LoaderName> Model for KnownFlags<L> {
 }
 
 impl<L: LoaderName> KnownFlags<L> {
-    /// Nothing is known.
+    /// It knows of no flag.
     pub fn none() -> KnownFlags<L>
         ensures { result ≡ known_flags false false }
     {
@@ -69,14 +69,14 @@ impl<L: LoaderName> KnownFlags<L> {
         }
     }
 
-    /// Whether the loader is known to be stopped.
+    /// Whether it knows that the loader is stopped. `false` says nothing of the loader.
     pub fn is_stopped(&self) -> bool
         ensures { result ≡ self.now.stopped }
     {
         self.stop.is_some()
     }
 
-    /// Stops the loader. Whoever has its rows may do so.
+    /// Stops the loader. You need its rows for that. It waits only while another thread raises the flag.
     pub fn stop(&mut self, rt: &impl Wait, rows: &CellRows<L>)
         ensures { self.new ≡ known_flags true self.old.refused }
     {
@@ -84,7 +84,7 @@ impl<L: LoaderName> KnownFlags<L> {
         self.stop = Some(raised);
     }
 
-    /// Notes that a cell refused its outcome. Whoever has the rows may do so.
+    /// Notes that a cell refused its outcome. You need the rows of the loader for that.
     pub fn refuse(&mut self, rt: &impl Wait, rows: &CellRows<L>)
         ensures { self.new ≡ known_flags self.old.stopped true }
     {
@@ -92,7 +92,7 @@ impl<L: LoaderName> KnownFlags<L> {
         self.refusal = Some(raised);
     }
 
-    /// Learns that the loader is stopped from who knows it.
+    /// Learns from another holder that the loader is stopped.
     pub fn learn_stop(&mut self, other: &KnownFlags<L>)
         requires { other.now.stopped ≡ true }
         ensures { self.new ≡ known_flags true self.old.refused }
@@ -100,7 +100,7 @@ impl<L: LoaderName> KnownFlags<L> {
         self.stop = other.stop.as_ref().map(|raised| raised.again());
     }
 
-    /// Learns that a cell refused its outcome from who knows it.
+    /// Learns from another holder that a cell refused its outcome.
     pub fn learn_refusal(&mut self, other: &KnownFlags<L>)
         requires { other.now.refused ≡ true }
         ensures { self.new ≡ known_flags self.old.stopped true }
@@ -109,7 +109,7 @@ impl<L: LoaderName> KnownFlags<L> {
     }
 }
 
-/// Raises a flag. It waits only while another thread is raising it.
+/// Raises a flag. It waits only while another thread raises it.
 fn raise(rt: &impl Wait, flag: &Flag) -> Raised
     ensures { result ≡ flag.now }
 {

@@ -1,4 +1,4 @@
-//! Histories: what closed loaders leave.
+//! Histories: what you get when you close a loader.
 
 ghost use Rattle.std.specs.Prelude.{◌≡◌, ◌<◌, ◌≤◌, [], IfNone, IfOk, IfSome, MatchOption, Some, flat_map, length, map, option_copied};
 ghost use Rattle.dl_desk.specs.Events.{atoms, outcome};
@@ -26,10 +26,21 @@ use dl_desk::{BatchState, Desk, End, Outcome};
 use std::alloc::{AllocError, Global};
 use std::marker::Model;
 
-/// The history of a loader that was closed: its events in order, and what each caller knows of them.
+/// The history of a closed loader: its events in order, and what each caller knows of them.
 ///
-/// It is legal, each caller's entries are its part of it, and each batch in it has ended. It names no loader, so that
-/// whoever opens, uses and closes one can hand it out.
+/// It is legal, each caller's entries are its part of it, and each of its batches has ended. It doesn't name its
+/// loader, so the function that opens, uses and closes the loader can return it.
+///
+/// # Examples
+/// `Loader::close` of `dl_loader` gives you the history, or hands back what you gave it, as in
+/// `crates/example_one_caller`:
+///
+/// ```rust
+/// match loader.close(alloc, passes) {
+///     Ok(history) => println!(rt; "{} events", history.events().len())?,
+///     Err((fault, _, _)) => return Err(fault.into()),
+/// }
+/// ```
 pub struct History {
     events: Events,
     cells: Cells,
@@ -71,8 +82,8 @@ impl Model for History {
 }
 
 impl History {
-    /// The history that a loader leaves: its rows, its desk and its journal, and the accounts of its callers.
-    /// Whoever calls it closes the loader.
+    /// The history that a loader leaves, from its rows, its desk, its journal and the outlines of its callers. It takes
+    /// what only the loader has, so `Loader::close` of `dl_loader` is the one to call.
     pub fn of<L: LoaderName>(
         rows: CellRows<L>,
         desk: Desk,
@@ -93,8 +104,8 @@ impl History {
         }
     }
 
-    /// What every history is: for what some loader served by, it is legal, each caller has an account that agrees with
-    /// it, and each batch has ended.
+    /// What holds of every history: it is legal for some service, each caller has an account that agrees with it, and
+    /// each batch has ended. The call does nothing when it runs; its clause is for your proof.
     pub fn keeps(&self)
         ensures { (service : Service) × IsHistory service self.now }
     {
@@ -108,14 +119,14 @@ impl History {
         &self.events
     }
 
-    /// The batches, each with its keys and whether it was settled.
+    /// The batches, each with its keys and how it ended.
     pub fn batches(&self) -> Batches<'_>
         ensures { result ≡ self.now.events }
     {
         Batches::new(self)
     }
 
-    /// The outcome of a cell, and none exactly where there is no such cell.
+    /// The outcome of a cell, or `None` exactly if there is no such cell.
     pub fn outcome(&self, cell: u32) -> Option<&Outcome>
         ensures given { option_copied result ≡ outcome (past self.now.events) cell }
         ensures begun { MatchOption result (cells (atoms (past self.now.events)) ≤ cell) (λ _. cell < cells (atoms (past self.now.events))) }
@@ -123,8 +134,8 @@ impl History {
         self.cells.outcome(cell)
     }
 
-    /// What the entries of a caller are, in order, and none where there is no such caller. What they tell stands in the
-    /// history.
+    /// What the entries of a caller are, in order. There are none if there is no such caller. What they speak of is in
+    /// the history.
     pub fn entries(&self, caller: u32) -> &[EntryKind]
         ensures entries { result.now ≡ map kind_of (entries_of caller self.now.accounts) }
         ensures agree { caller < length self.now.accounts → Agrees self.now.events (account caller (entries_of caller self.now.accounts)) }
@@ -133,8 +144,7 @@ impl History {
         kinds_of(self.outlines.as_slice(), caller)
     }
 
-    /// The places of a caller's events, in order, and none where there is no such caller. The error is a failed
-    /// allocation.
+    /// The places of a caller's events, in order. There are none if there is no such caller. Fails if memory runs out.
     pub fn of_caller(&self, alloc: Global, caller: u32) -> Result<Vec<u32>, AllocError>
         ensures { IfOk result (λ found. found.items ≡ places (λ e. e.caller) caller 0 self.now.events) }
     {
@@ -142,7 +152,7 @@ impl History {
         places_of(alloc, self.entries(caller))
     }
 
-    /// The batch of a number, if it was begun.
+    /// The batch of this number, or `None` if there isn't one.
     fn batch(&self, batch: u32) -> Option<EndedBatch<'_>>
         ensures begun { IfSome result (λ b. batch < begun (atoms (past self.now.events))) }
         ensures keys { IfSome result (λ b. b.keys ≡ keys_of (atoms (past self.now.events)) batch) }
@@ -159,7 +169,7 @@ impl History {
     }
 }
 
-/// What the entries of a caller are, and none where it has no outline.
+/// What the entries of a caller are, and none if it has no outline.
 fn kinds_of(outlines: &[Outline], caller: u32) -> &[EntryKind]
     ensures { result.now ≡ kinds_of caller outlines.now }
 {
@@ -171,7 +181,7 @@ fn kinds_of(outlines: &[Outline], caller: u32) -> &[EntryKind]
     &[]
 }
 
-/// The places of the calls among the entries, in order. The error is a failed allocation.
+/// The places of the calls among the entries, in order. Fails if memory runs out.
 fn places_of(alloc: Global, entries: &[EntryKind]) -> Result<Vec<u32>, AllocError>
     ensures { IfOk result (λ places. places.items ≡ flat_map place_of entries.now) }
 {

@@ -1,4 +1,4 @@
-//! The history and the cells of a loader, as they are known under its lock.
+//! The history and the cells of a loader, for who has its lock.
 
 ghost use Rattle.std.specs.Prelude.{◌≡◌, ◌+◌, ◌<◌, ◌≤◌, ◌∷◌, ◌++◌, [], MatchBool, None, OnOk, Some, length, set, slice_get};
 ghost use Rattle.dl_cells.specs.Cells.{cell_of};
@@ -21,8 +21,8 @@ use std::marker::Model;
 use std::sync::ledger;
 use std::sync::ledger::Share;
 
-/// The events of a loader in order, the cells that were begun, and the count of the events. Contracts see
-/// the history, the cells, and for how many more of both there is room.
+/// The events of a loader in order, its cells, and the count of the events. Contracts see the history, the cells, and
+/// the room for more of both.
 pub struct Journal<L: LoaderName> {
     log: Vec<Reader<Event>>,
     states: Vec<CellState>,
@@ -60,7 +60,7 @@ impl<L: LoaderName> Model for Journal<L> {
 }
 
 impl<L: LoaderName> Journal<L> {
-    /// The journal of a loader that had no call.
+    /// The journal of a loader that has had no call.
     pub fn new(alloc: Global, calls: ledger::Book<L>) -> Journal<L>
         requires { calls.total ≡ 0 }
         ensures history { result.history ≡ [] }
@@ -73,21 +73,21 @@ impl<L: LoaderName> Journal<L> {
         }
     }
 
-    /// How many events there are.
+    /// The number of events.
     pub fn len(&self) -> usize
         ensures { result ≡ length self.now.history }
     {
         self.log.len()
     }
 
-    /// How many cells were begun.
+    /// The number of cells.
     fn cells(&self) -> usize
         ensures { result ≡ length self.now.cells }
     {
         self.states.len()
     }
 
-    /// Makes room for one event more. The error is a failed allocation, and changes nothing.
+    /// Makes room for one event more. If memory runs out, the call fails and changes nothing.
     fn reserve(&mut self) -> Result<(), AllocError>
         ensures history { self.new.history ≡ self.old.history }
         ensures cells { self.new.cells ≡ self.old.cells }
@@ -96,7 +96,7 @@ impl<L: LoaderName> Journal<L> {
         self.log.reserve(1)
     }
 
-    /// Makes room for so many cells more. The error is a failed allocation, and changes nothing.
+    /// Makes room for `cells` cells more. If memory runs out, the call fails and changes nothing.
     fn reserve_cells(&mut self, cells: u32) -> Result<(), AllocError>
         ensures history { self.new.history ≡ self.old.history }
         ensures cells { self.new.cells ≡ self.old.cells }
@@ -134,7 +134,7 @@ impl<L: LoaderName> Journal<L> {
         self.states.push_reserved(CellState::new(reader));
     }
 
-    /// Gives a cell its outcome, and tells whether the cell took it.
+    /// Gives a cell its outcome, and answers whether the cell took it.
     pub fn end(&mut self, rows: &CellRows<L>, cell: u32, ending: Ending) -> bool
         requires in_row { cell < L.service.rules.limits.max_cells }
         requires waits { slice_get self.old.cells cell ≡ Some waiting }
@@ -146,7 +146,7 @@ impl<L: LoaderName> Journal<L> {
         self.states[cell as usize].end(rows.outcomes(), cell, ending)
     }
 
-    /// A reader of a cell that was begun, which knows what the cell shows.
+    /// A reader of a cell, which knows what the cell shows.
     pub fn reader(&self, cell: u32) -> Reader<Ending>
         requires { cell < length self.now.cells }
         ensures cell { result.cell ≡ cell_of L.cells.outcomes cell }
@@ -154,7 +154,7 @@ impl<L: LoaderName> Journal<L> {
         self.states[cell as usize].reader.again()
     }
 
-    /// Takes the journal apart, over the rows that its events and outcomes lie in.
+    /// Takes the journal apart into the events and the cells, each with its row.
     pub(crate) fn into_parts(self, rows: CellRows<L>) -> (Events, Cells)
         requires { length self.cells ≤ L.service.rules.limits.max_cells }
         ensures events { result.0 ≡ self.history }

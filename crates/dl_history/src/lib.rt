@@ -1,9 +1,11 @@
-//! Histories of shared loaders: events and their outcomes, the passes and tickets by which callers know of them, why a loader
-//! refuses, when a history is legal and when a caller's entries agree with it, and the history that a closed loader leaves.
+//! Histories of shared loaders, and what callers hold of them.
 //!
-//! A loader keeps its history in a [`Journal`] while it is open, and gives it to a [`History`] when it is closed. What a caller
-//! knows of the history stands in its [`Pass`]. Whatever makes a pass or a ticket, or adds a call to a pass, asks for the loader's
-//! journal, its rows or a part of its ledger, and no caller gets hold of these.
+//! While a loader is open, it keeps its history in a [`Journal`]. When you close it, you get a [`History`]: the events
+//! in order, and what each caller has called and seen. A caller has a [`Pass`], which records that, and gets a
+//! [`Ticket`] for each of its loads. The faults are why a loader rejects what you ask of it.
+//!
+//! To make a pass or a ticket, or to add a call to a pass, you need the loader's journal, its rows or a part of its
+//! ledger, and no caller gets hold of these.
 #![tactic(auto)]
 
 mod cell_rows;

@@ -6,9 +6,9 @@ ghost use Rattle.dl_desk.specs.Service.{Service, no_service};
 use std::marker::Brand;
 use std::sync::ledger::Ledger;
 
-/// A type that stands for one loader, in all that belongs to it. It has no functions and no values:
-/// whoever opens a loader calls a function over `L: LoaderName` at `std::marker::Brand`, which the
-/// proof then names after the opening. The number of callers is the ledger's number of parts.
+/// A type that names one loader, in all that belongs to it. It has no functions and no values. To open a loader, you
+/// call a function over `L: LoaderName` at `std::marker::Brand`, and the proof then names the brand after the opening.
+/// The ledger's number of parts is the number of callers.
 pub trait LoaderName: Ledger {
     // The row that the history lies in, the row that the outcomes of cells lie in, and the flags.
     ghost cells: { CellNames };

@@ -1,4 +1,4 @@
-//! Outlines: what passes leave when their loader is closed.
+//! Outlines: what passes leave when you close their loader.
 
 ghost use Rattle.std.specs.Prelude.{◌≡◌, IfOk, map};
 ghost use Rattle.dl_history.specs.ClosedHistory.{outline};
@@ -9,8 +9,8 @@ use crate::name::LoaderName;
 use std::alloc::{AllocError, Global};
 use std::marker::Model;
 
-/// A caller and what the entries of its pass are, in order. What they tell lies in the history, so an outline
-/// names no loader.
+/// A caller, and what the entries of its pass are, in order. What they speak of is in the history, so an outline names
+/// no loader.
 pub struct Outline {
     caller: u32,
     entries: Vec<EntryKind>,
@@ -36,7 +36,7 @@ impl Model for Outline {
 }
 
 impl Outline {
-    /// The outline of a caller whose pass has these entries. The error is a failed allocation.
+    /// The outline of a caller with these entries. Fails if memory runs out.
     pub(crate) fn of<L: LoaderName>(
         alloc: Global,
         caller: u32,

@@ -23,7 +23,7 @@ use std::alloc::{AllocError, Global};
 use std::marker::Model;
 use std::sync::ledger::Share;
 
-/// A ticket that a pass gave.
+/// A ticket that a pass has given.
 #[derive(Clone, Copy)]
 pub(crate) struct GivenTicket {
     // The cell of its load.
@@ -32,8 +32,24 @@ pub(crate) struct GivenTicket {
     seen: bool,
 }
 
-/// What one caller knows of the loader: the calls that it made, the outcomes that it read, the tickets that it was given, and
-/// whether it was refused since the loader is stopped. Contracts see these, and for how many more of them there is room.
+/// What one caller has done with a loader and seen of it: its calls, the outcomes that it has seen, its tickets, and
+/// whether it knows that the loader is stopped. You get one for each caller when you start a loader, and each call of
+/// the loader takes one. To close the loader, you give them all back. Contracts see all of this, and the room for more.
+///
+/// # Examples
+/// You start a loader, give each pass to its caller, and close the loader with all of them, as
+/// `crates/example_one_caller` does:
+///
+/// ```rust
+/// let (loader, mut passes) = Loader::<L>::start(alloc, opening)?;
+/// for pass in &mut passes {
+///     load_and_print(rt, alloc, source, &loader, pass)?;
+/// }
+/// match loader.close(alloc, passes) {
+///     Ok(history) => println!(rt; "{} events", history.events().len())?,
+///     Err((fault, _, _)) => return Err(fault.into()),
+/// }
+/// ```
 pub struct Pass<L: LoaderName> {
     caller: u32,
     entries: Vec<Entry<L>>,
@@ -86,8 +102,8 @@ impl<L: LoaderName> Model for Pass<L> {
 }
 
 impl<L: LoaderName> Pass<L> {
-    /// The pass of a caller that has made no call, with its part of the ledger that counts the loader's events. A loader that is
-    /// started makes one for each caller: nobody else has parts of its ledger.
+    /// The pass of a caller that has made no call, with its part of the ledger that counts the loader's events.
+    /// `Loader::start` of `dl_loader` makes one for each caller; nobody else has parts of its ledger.
     pub fn fresh(alloc: Global, caller: u32, share: Share<L>) -> Pass<L>
         requires caller { caller < L.service.callers }
         requires part { share.parts ≡ 1 }
@@ -116,8 +132,7 @@ impl<L: LoaderName> Pass<L> {
         self.caller
     }
 
-    /// The outline of the pass: its caller, and what its entries are. Whoever sees the pass may ask for it. The error is a failed
-    /// allocation.
+    /// The outline of the pass: its caller, and what its entries are. Fails if memory runs out.
     pub fn outline(&self, alloc: Global) -> Result<Outline, AllocError>
         ensures { IfOk result (λ made. made ≡ outline_of (account_of self.now.trace)) }
     {
@@ -129,9 +144,8 @@ impl<L: LoaderName> Pass<L> {
         Outline::of(alloc, *caller, entries.as_slice())
     }
 
-    /// The calls that were made and the outcomes that were read, in order. The calls are the caller's own; each has a place above
-    /// those of all calls and reads before it; and each outcome that was read is of a cell with which a call before it was
-    /// answered.
+    /// The calls of this caller, and the outcomes that it has seen, in order. Each call has a place above those of all
+    /// entries before it. Each outcome is of a cell that a call before it got in reply.
     pub fn entries(&self) -> &[Entry<L>]
         ensures entries { result.now ≡ self.now.trace.entries }
         ensures account { IsAccount L.service.callers (account_of self.now.trace) }
@@ -139,30 +153,30 @@ impl<L: LoaderName> Pass<L> {
         self.entries.as_slice()
     }
 
-    /// How many calls were made.
+    /// The number of this caller's calls.
     pub fn calls(&self) -> usize
         ensures { result ≡ length (calls_of self.now.trace.entries) }
     {
         self.calls
     }
 
-    /// The length that the history has at least: one more than the greatest place among the entries,
-    /// and 0 without any.
+    /// The history has at least this many events: one more than the greatest place among the entries, or 0 if there are
+    /// none.
     pub fn front(&self) -> u32
         ensures { result ≡ front_of self.now.trace.entries }
     {
         self.front
     }
 
-    /// How many tickets were given. Whoever sees the pass may ask.
+    /// The number of tickets that the pass has given.
     pub fn tickets(&self) -> usize
         ensures { result ≡ length self.now.trace.tickets }
     {
         self.tickets.len()
     }
 
-    /// Makes room for one call more and so many tickets. Whoever has the pass may do so, since nothing that the pass tells
-    /// changes. The error is a failed allocation, and comes only where the room was missing.
+    /// Makes room for one call and `tickets` tickets more. The pass keeps all its entries and tickets. Fails if there
+    /// is less room and memory runs out.
     pub fn reserve(&mut self, tickets: usize) -> Result<(), AllocError>
         ensures trace { self.new.trace ≡ self.old.trace }
         ensures room { OnOk result (tickets + 1 ≤ self.new.spare) }
@@ -175,7 +189,7 @@ impl<L: LoaderName> Pass<L> {
         Ok(())
     }
 
-    /// Makes room for one call more and so many tickets, where there is less. The error is a failed allocation.
+    /// Makes room for one call and `tickets` tickets more, since there is less. Fails if memory runs out.
     #[cold]
     fn grow(&mut self, tickets: usize) -> Result<(), AllocError>
         requires { self.old.spare ≤ tickets }
@@ -194,8 +208,8 @@ impl<L: LoaderName> Pass<L> {
         Ok(())
     }
 
-    /// Gives the pass a ticket for each load that was replied so, in order. It has no use for the journal: that is asked for so
-    /// that a loader alone gives tickets, since nobody else has its journal.
+    /// Gives the pass a ticket for each of these replies to loads, in order. It doesn't use the journal: it takes it so
+    /// that only a loader gives tickets, since nobody else has its journal.
     pub fn add_tickets(&mut self, _journal: &Journal<L>, replies: &[LoadReply])
         requires room { length replies.now ≤ self.old.spare }
         requires answered { Every (λ r. Among (cell_of_load r) (cells_of self.old.trace.entries)) replies.now }
@@ -207,7 +221,7 @@ impl<L: LoaderName> Pass<L> {
         }
     }
 
-    /// Adds a ticket of a cell.
+    /// Adds a ticket for a cell.
     fn add_ticket(&mut self, cell: u32)
         requires room { 0 < self.old.spare }
         requires answered { Among cell (cells_of self.old.trace.entries) }
@@ -220,14 +234,14 @@ impl<L: LoaderName> Pass<L> {
             .push_reserved(GivenTicket { cell, seen: false });
     }
 
-    /// What the caller was told of the loader's flags.
+    /// What the caller knows of the loader's flags.
     pub fn flags(&self) -> &KnownFlags<L>
         ensures { result.now ≡ self.now.flags }
     {
         &self.flags
     }
 
-    /// Learns that the loader is stopped from who knows it.
+    /// Learns from another holder that the loader is stopped.
     pub fn learn_stop(&mut self, flags: &KnownFlags<L>)
         requires { flags.now.stopped ≡ true }
         ensures trace { self.new.trace ≡ self.old.trace }
@@ -236,7 +250,7 @@ impl<L: LoaderName> Pass<L> {
         self.flags.learn_stop(flags);
     }
 
-    /// Learns that a cell refused its outcome from who knows it.
+    /// Learns from another holder that a cell refused its outcome.
     pub fn learn_refusal(&mut self, flags: &KnownFlags<L>)
         requires { flags.now.refused ≡ true }
         ensures trace { self.new.trace ≡ self.old.trace }
@@ -245,8 +259,8 @@ impl<L: LoaderName> Pass<L> {
         self.flags.learn_refusal(flags);
     }
 
-    /// Adds the outcome that a ticket of this pass shows, once: where it is among the entries already,
-    /// nothing changes. It never waits.
+    /// Adds the outcome that a ticket of this pass shows, once: if it is among the entries already, nothing changes. It
+    /// never waits.
     pub fn saw(&mut self, ticket: &mut Ticket<'_, L>)
         requires gave { (seen : Bool) × GaveTicket self.old.trace ticket.old seen }
         requires shown { IsSome ticket.old.known }
@@ -259,7 +273,7 @@ impl<L: LoaderName> Pass<L> {
         }
     }
 
-    /// Whether the outcome of the ticket of this number is among the entries.
+    /// Whether the outcome of this ticket is among the entries.
     fn has_seen(&self, number: usize) -> bool
         requires { number < length self.now.trace.tickets }
         ensures { IfSome (slice_get self.now.trace.tickets number) (λ ticket. result ≡ ticket.seen) }
@@ -267,7 +281,7 @@ impl<L: LoaderName> Pass<L> {
         self.tickets[number].seen
     }
 
-    /// Adds the outcome of the ticket of this number.
+    /// Adds the outcome of this ticket.
     fn add_saw(&mut self, number: usize, seen: Read<L>)
         requires { slice_get self.old.trace.tickets number ≡ Some (given seen.cell false) }
         ensures { self.new.trace ≡ with_saw self.old.trace number seen.cell seen.ending false }

@@ -1,4 +1,4 @@
-//! Tickets: what a caller holds of a load.
+//! Tickets: what a caller has of a load.
 
 ghost use Rattle.std.specs.Prelude.{◌≡◌, ◌<◌, IfNone, IfSome, IsSome, None, Some};
 ghost use Rattle.dl_cells.specs.Cells.{Agrees, cell_of, row_len};
@@ -11,8 +11,23 @@ use dl_cells::{CellRow, Reader};
 use dl_desk::{Ending, LoadReply, Outcome};
 use std::marker::{Model, PhantomData};
 
-/// A caller's hold on the cell of a load, which shows the outcome once the cell has ended. Contracts
-/// see its number among the tickets of its pass, the reply to the load, and what it knows of the cell.
+/// A load's claim to an outcome. You get one from `Loader::load` of `dl_loader`, and [`look`](Ticket::look) shows you
+/// the outcome once the cell of the load has ended. Contracts see its number among the tickets of its pass, the reply
+/// to the load, and what it knows of the cell.
+///
+/// # Examples
+/// You load a key, have its batch fetched, wait, and look, as `crates/example_one_caller` does:
+///
+/// ```rust
+/// let mut ticket = loader.load(rt, alloc, pass, &key)?;
+/// let jobs = loader.dispatch(rt, alloc, pass)?;
+/// end_jobs(rt, alloc, loader, source, pass, jobs)?;
+/// loader.wait(rt, pass, &mut ticket)?;
+/// match ticket.look() {
+///     Some(Outcome::Value(name)) => println!(rt; "{}", name.to_text(alloc)?)?,
+///     _ => bail!("no user"),
+/// }
+/// ```
 pub struct Ticket<'a, L: LoaderName> {
     row: &'a CellRow<Ending>,
     number: usize,
@@ -51,7 +66,7 @@ impl<'a, L: LoaderName> Model for Ticket<'a, L> {
         × (t.reader.cell ≡ cell_of L.cells.outcomes (cell_of_load t.reply)) };
 }
 
-/// The cell of a load that was replied so.
+/// The cell that this reply to a load names.
 pub fn load_cell(reply: LoadReply) -> u32
     ensures { result ≡ cell_of_load reply }
 {
@@ -62,8 +77,8 @@ pub fn load_cell(reply: LoadReply) -> u32
 }
 
 impl<'a, L: LoaderName> Ticket<'a, L> {
-    /// A ticket of this number for a load that was replied so. A loader's book makes the tickets of its loader: nobody else has the
-    /// row of its outcomes, nor readers of its cells.
+    /// A ticket of this number for a load with this reply. A loader's book makes the tickets of its loader: nobody else
+    /// has the row of its outcomes, or readers of its cells.
     pub fn new(
         row: &'a CellRow<Ending>,
         number: usize,
@@ -98,7 +113,7 @@ impl<'a, L: LoaderName> Ticket<'a, L> {
         self.reply
     }
 
-    /// The outcome, if the cell has ended. From then on it is answered each time. It never waits.
+    /// The outcome, or `None` if the cell has not ended. Once you get it, you get it each time. It never waits.
     pub fn look(&mut self) -> Option<&'a Outcome>
         ensures number { self.new.number ≡ self.old.number }
         ensures reply { self.new.reply ≡ self.old.reply }
@@ -110,7 +125,7 @@ impl<'a, L: LoaderName> Ticket<'a, L> {
         Some(&ending.outcome)
     }
 
-    /// Two tickets of one cell that know its outcome know the same one, whichever threads looked.
+    /// Two tickets of one cell that know its outcome know the same one, whichever threads looked. It is for proofs.
     pub(crate) fn agree(&self, other: &Ticket<'_, L>)
         requires { cell_of_load other.now.reply ≡ cell_of_load self.now.reply }
         ensures { IfSome other.now.known (Agrees self.now.known) }
@@ -125,7 +140,7 @@ impl<'a, L: LoaderName> Ticket<'a, L> {
         self.number
     }
 
-    /// What the ticket knows of its cell, as an entry tells it.
+    /// What the ticket knows of its cell, for an entry.
     pub(crate) fn seen(&mut self) -> Read<L>
         requires { IsSome self.old.known }
         ensures same { self.new ≡ self.old }
@@ -138,7 +153,7 @@ impl<'a, L: LoaderName> Ticket<'a, L> {
         Read::of(self.cell(), at, self.reader.again())
     }
 
-    /// The place and the outcome, if the cell has ended.
+    /// The place and the outcome, or `None` if the cell has not ended.
     fn look_ending(&mut self) -> Option<&'a Ending>
         ensures number { self.new.number ≡ self.old.number }
         ensures reply { self.new.reply ≡ self.old.reply }

@@ -27,7 +27,7 @@ impl<'a> Model for EndedBatch<'a> {
 }
 
 impl<'a> EndedBatch<'a> {
-    /// A batch of members with these keys, which ended so.
+    /// A batch with these keys and this end.
     pub(crate) fn new(keys: &'a [FetchKey], end: End) -> EndedBatch<'a>
         ensures keys { result.keys ≡ keys.now }
         ensures end { result.end ≡ end }
@@ -42,7 +42,7 @@ impl<'a> EndedBatch<'a> {
         self.keys
     }
 
-    /// Whether it was settled; else it failed.
+    /// Whether it was settled. If not, it failed.
     pub fn is_settled(&self) -> bool
         ensures { MatchBool result (self.now.end ≡ Settled) (self.now.end ≡ Failed) }
     {
@@ -80,7 +80,7 @@ impl<'a> Batches<'a> {
         Batches { history }
     }
 
-    /// The batch of a number, and none past the last one.
+    /// The batch of this number, counted from 0, or `None` if there isn't one.
     pub fn get(&self, batch: u32) -> Option<EndedBatch<'a>>
         ensures begun { IfSome result (λ b. batch < begun (atoms (past self.now))) }
         ensures keys { IfSome result (λ b. b.keys ≡ keys_of (atoms (past self.now)) batch) }

@@ -17,13 +17,13 @@ use dl_desk::{Ending, Event};
 use std::alloc::AllocError;
 use std::sync::ledger::Share;
 
-/// Why a journal takes no event.
+/// Why a journal doesn't take an event.
 #[derive(Clone, Copy, Debug, PartialEq, Eq)]
 pub enum AppendFault {
-    /// An allocation failed.
+    /// Memory ran out.
     OutOfMemory,
-    /// The log has another event at the next place. It never comes: who appends holds the lock. No proof excludes it,
-    /// since none knows that a cell of the log is empty.
+    /// The log has another event at the next place. It never comes: to append, you need the lock. No proof excludes it,
+    /// since none says that a cell of the log is empty.
     LogRefused,
 }
 
@@ -36,12 +36,11 @@ impl From<AllocError> for AppendFault {
 }
 
 impl<L: LoaderName> Journal<L> {
-    /// Adds an event, which the share of its caller counts, with as many cells as it begins, and answers what the
-    /// caller knows of it. All allocations are made first, then the event is stored in the log, and after that nothing can
-    /// be refused.
+    /// Adds an event, which the share of its caller counts, with the cells that it begins, and answers what the caller
+    /// knows of it. It makes all allocations first and then stores the event in the log. After that nothing can fail.
     ///
     /// # Errors
-    /// `OutOfMemory`, `LogRefused`. The journal and the share then tell what they told before.
+    /// `OutOfMemory`, `LogRefused`. The journal and the share are then as they were.
     // Inlined, so that an event is made where it will lie, and not moved there.
     #[inline(always)]
     pub(crate) fn append(
@@ -74,8 +73,8 @@ impl<L: LoaderName> Journal<L> {
         Ok(stored)
     }
 
-    /// Makes the allocations of an event at a place, begins as many cells as it does, of which `first` is the next, and
-    /// answers a reader of the event's cell, which knows nothing of it. The error is a failed allocation, and changes nothing.
+    /// Makes the allocations of an event at a place and begins its cells, with `first` as the next. Answers a reader of
+    /// the event's cell, which knows nothing of it. If memory runs out, the call fails and changes nothing.
     #[inline(always)]
     fn grow(
         &mut self,
@@ -102,8 +101,8 @@ impl<L: LoaderName> Journal<L> {
         Ok(reader)
     }
 
-    /// Begins so many cells, which have no end yet, of which `first` is the next. The error is a failed allocation, and changes
-    /// nothing.
+    /// Begins `cells` cells, which have no end yet, with `first` as the next. If memory runs out, the call fails and
+    /// changes nothing.
     #[inline(always)]
     fn begin_cells(
         &mut self,
@@ -131,7 +130,7 @@ impl<L: LoaderName> Journal<L> {
         Ok(())
     }
 
-    /// Takes back all cells from one on.
+    /// Takes back all cells from `first` on.
     fn cut_cells(&mut self, first: u32)
         ensures history { self.new.history ≡ self.old.history }
         ensures cells { self.new.cells ≡ take first self.old.cells }
@@ -151,7 +150,7 @@ impl<L: LoaderName> Journal<L> {
         place as u16
     }
 
-    /// The next cell, from which on there are numbers for so many cells.
+    /// The next cell. There are numbers for `cells` cells from that one on.
     fn next_cell(&self, rows: &CellRows<L>, cells: u32) -> u32
         requires { length self.now.cells + cells ≤ L.service.rules.limits.max_cells }
         ensures first { result ≡ length self.now.cells }

@@ -1,4 +1,5 @@
-//! What a journal tells: its events, the outcomes of its cells, and what it holds against the entries of passes.
+//! What you can see of a journal: its events and the outcomes of its cells. And how it compares with the entries of
+//! passes.
 
 ghost use Rattle.std.specs.Prelude.{◌≡◌, IfSome, length, slice_get};
 ghost use Rattle.dl_history.specs.Agreement.{Meets};
@@ -12,7 +13,7 @@ use crate::name::LoaderName;
 use std::sync::ledger::Share;
 
 impl<L: LoaderName> Journal<L> {
-    /// The event at the place of a call, if there is one, is the call's.
+    /// The event at the place of a call, if there is one, is the call's. It is for proofs.
     pub(crate) fn agree_call(&self, stored: &PlacedEvent<L>)
         ensures { IfSome (slice_get self.now.history stored.now.at) (λ event. event ≡ stored.now.event) }
     {
@@ -21,7 +22,7 @@ impl<L: LoaderName> Journal<L> {
         }
     }
 
-    /// What a cell that was read is known to show, if it was begun, is what was read.
+    /// The outcome of a cell, if the journal knows it, is the one that the entry saw. It is for proofs.
     pub(crate) fn agree_read(&self, seen: &Read<L>)
         ensures { IfSome (slice_get self.now.cells seen.now.cell) (λ cell. IfSome cell.shows (λ ending. ending ≡ seen.now.ending)) }
     {
@@ -30,7 +31,7 @@ impl<L: LoaderName> Journal<L> {
         }
     }
 
-    /// What the journal has at the entries' places, or of their cells, is what the entries tell.
+    /// What the journal has at the entries' places, or of their cells, is what the entries say. It is for proofs.
     pub(crate) fn agree(&self, entries: &[Entry<L>])
         ensures { Every (Meets self.now.history self.now.cells) entries.now }
     {
@@ -49,7 +50,7 @@ impl<L: LoaderName> Journal<L> {
         }
     }
 
-    /// Tells how a share of the ledger stands to the events: with all parts it has counted as many calls as there are
+    /// Compares a share of the ledger with the events: if it has all parts, it has counted as many calls as there are
     /// events. It changes nothing.
     pub(crate) fn audit(&mut self, share: &mut Share<L>)
         ensures same { self.new ≡ self.old }

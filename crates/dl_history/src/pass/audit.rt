@@ -11,16 +11,16 @@ use crate::pass::Pass;
 use std::sync::ledger::Share;
 
 impl<L: LoaderName> Pass<L> {
-    /// What every pass keeps of its caller and its entries.
+    /// What every pass keeps of its caller and its entries. It is for proofs.
     fn keeps(&self)
         ensures { IsAccount L.service.callers (account_of self.now.trace) }
     {
         let _ = &self.share;
     }
 
-    /// Holds passes against the journal: what it has at the places of their entries, or of their cells, is what they tell,
-    /// and with all parts of the ledger they have as many calls as it has events. It changes nothing. A loader's book does so:
-    /// nobody else has its journal.
+    /// Compares passes with the journal: what it has at the places of their entries, or of their cells, is what they
+    /// say, and with all parts of the ledger they have as many calls as it has events. It changes nothing. Only a
+    /// loader's book has the journal, and so only the book can call this.
     pub fn audit(journal: &mut Journal<L>, passes: &mut [Pass<L>])
         ensures journal { journal.new ≡ journal.old }
         ensures passes { passes.new ≡ passes.old }
@@ -35,8 +35,8 @@ impl<L: LoaderName> Pass<L> {
     }
 }
 
-/// The same as [`Pass::audit`], where `all` has further parts of the ledger. It lends it the shares of the passes, so it calls
-/// itself once for each pass.
+/// The same as [`Pass::audit`], if `all` has further parts of the ledger. It lends `all` the shares of the passes one
+/// by one, so it calls itself once for each pass.
 fn audit_with<L: LoaderName>(journal: &mut Journal<L>, passes: &mut [Pass<L>], all: &mut Share<L>)
     requires backed { all.old.parts ≡ 0 → all.old.amount ≡ 0 }
     ensures journal { journal.new ≡ journal.old }

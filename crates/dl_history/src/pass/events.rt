@@ -12,13 +12,12 @@ use crate::pass::Pass;
 use dl_desk::Event;
 
 impl<L: LoaderName> Pass<L> {
-    /// Adds an event of this caller, for which the pass has room, to the journal, with as many cells as it begins, and to
-    /// the entries. All allocations are made first, and once the log has the event nothing can be refused. A loader's book adds
-    /// the events of its loader: nobody else has its journal and its rows.
+    /// Adds an event of this caller to the journal, with the cells that it begins, and to the entries, which have room
+    /// for it. It makes all allocations first. Once the log has the event, nothing can fail. Only a loader's book has
+    /// the journal and the rows, and so only the book can call this.
     ///
     /// # Errors
-    /// `OutOfMemory`; `LogRefused` where the log's cell has another event. The journal and the pass then tell
-    /// what they told before.
+    /// `OutOfMemory`; `LogRefused` if the log's cell has another event. The journal and the pass are then as they were.
     // Inlined, so that an event is made where it will lie, and not moved there.
     #[inline(always)]
     pub fn add_event(
