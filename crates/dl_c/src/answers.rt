@@ -6,7 +6,7 @@ ghost use Rattle.dl_c.specs.Answers.{loaded_as, primed_as, held_as, refused_as, 
 use crate::codes::{DONE, FRESH, HIT};
 use dl_desk::{DeskPrime, Job, LoadReply};
 
-/// The answer to a call on a cell: a code, and where the code says so a cell and a batch, else zeros.
+/// The answer to a call on a cell: a code and, if the code says so, a cell and a batch. They are 0 if not.
 #[repr(C)]
 #[derive(Clone, Copy, Debug, PartialEq, Eq)]
 pub struct Loaded {
@@ -15,7 +15,7 @@ pub struct Loaded {
     pub batch: u32,
 }
 
-/// The answer to a dispatch: a code, and how many batches are sent, from which one on.
+/// The answer to a dispatch: a code, the number of the first batch that went out, and the number of batches.
 #[repr(C)]
 #[derive(Clone, Copy, Debug, PartialEq, Eq)]
 pub struct Dispatched {
@@ -75,7 +75,7 @@ impl Loaded {
         }
     }
 
-    /// The answer to a look-up.
+    /// The answer to `dl_desk_held`.
     pub fn of_held(cell: Option<u32>) -> Loaded
         ensures { result ≡ held_as cell }
     {
@@ -87,7 +87,7 @@ impl Loaded {
 }
 
 impl Dispatched {
-    /// The batches of these jobs are sent.
+    /// The batches of these jobs went out.
     #[tactic(auto, using(crate::proofs::Rows::first_of_some, crate::proofs::Rows::first_of_none))]
     pub fn sent(jobs: &[Job]) -> Dispatched
         ensures { result ≡ sent_as jobs.now }
@@ -103,7 +103,7 @@ impl Dispatched {
         }
     }
 
-    /// No batch is sent, for the reason that the code names.
+    /// No batch went out, for the reason that the code names.
     pub fn refused(code: u32) -> Dispatched
         ensures { result ≡ record { code = code; first = 0; count = 0 } }
     {

@@ -1,4 +1,4 @@
-//! The calls on batches: the dispatch, what a batch has, and its end.
+//! The calls on batches: you dispatch them, read what they have, and end them.
 
 ghost use Rattle.std.specs.Prelude.{◌≡◌, ◌<◌, List, IfSome, slice_get};
 ghost use Rattle.dl_desk.specs.History.{Atom, members};
@@ -16,8 +16,8 @@ use crate::key_texts::KeyTexts;
 use dl_desk::Desk;
 use std::alloc::Global;
 
-/// Sends every batch that was begun and not sent, in order: how many these are, and the number of the first one. The others
-/// follow it.
+/// Sends every batch that has not gone out yet, in order. You get the number of the first one and how many they are;
+/// the others follow it.
 ///
 /// Codes: `DONE`; `CLOSED`, `OUT_OF_MEMORY`.
 #[unsafe(no_mangle)]
@@ -43,7 +43,7 @@ fn dispatch(alloc: Global, desk: &mut Desk) -> Dispatched
     }
 }
 
-/// The cell of a batch's member, by the member's index. It changes nothing.
+/// The cell of a batch's member, by the member's index from 0 on. It changes nothing.
 ///
 /// Codes: `HIT` with the cell; `CLOSED`, `NO_BATCH`, `NO_MEMBER`.
 #[unsafe(no_mangle)]
@@ -76,8 +76,8 @@ fn member(desk: &Desk, batch: u32, index: u32) -> Loaded
     }
 }
 
-/// The texts of the key of a batch's member, by the member's index. It changes nothing else, and where it is refused not the
-/// texts either.
+/// Writes the key of a batch's member, by the member's index from 0 on, to `texts`. It changes nothing else, and on
+/// failure not the texts either.
 ///
 /// Codes: `DONE`; `CLOSED`, `NO_BATCH`, `NO_MEMBER`.
 #[unsafe(no_mangle)]
@@ -117,7 +117,7 @@ fn spell(desk: &Desk, batch: u32, index: u32, texts: &mut KeyTexts) -> u32
     }
 }
 
-/// Ends a batch with an outcome for each member, which the host keeps.
+/// Ends a batch with an outcome for each member. Your host keeps the outcomes.
 ///
 /// Codes: `DONE`; `CLOSED`, `NO_BATCH`, `NOT_SENT`, `ENDED_BEFORE`.
 #[unsafe(no_mangle)]
@@ -142,7 +142,7 @@ fn settle(desk: &mut Desk, batch: u32) -> u32
     }
 }
 
-/// Fails a batch as a whole: its keys are forgotten where they are held still with the batch's own cells.
+/// Fails a batch as a whole: the desk forgets each of its keys for which it still holds the batch's own cell.
 ///
 /// Codes: `DONE`; `CLOSED`, `NO_BATCH`, `NOT_SENT`, `ENDED_BEFORE`.
 #[unsafe(no_mangle)]

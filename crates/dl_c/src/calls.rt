@@ -17,7 +17,8 @@ use crate::key_texts::key_of;
 use dl_desk::{Desk, FetchKey};
 use std::alloc::Global;
 
-/// Loads the key of a table and an id: the cell that is held for it, or a new one in a batch (DataLoader: `load`).
+/// Loads the key of a table and an id (DataLoader: `load`). If the desk holds the key, you get the cell that it has.
+/// Else the key gets a new cell in a batch.
 ///
 /// Codes: `HIT` with the cell, `FRESH` with the cell and its batch; `CLOSED`, `BAD_KEY`, `CELLS_FULL`, `OUT_OF_MEMORY`.
 #[unsafe(no_mangle)]
@@ -64,10 +65,11 @@ fn load_key(alloc: Global, desk: &mut Desk, key: &FetchKey) -> Loaded
     }
 }
 
-/// Begins a cell of the key in no batch, for an outcome that the host has, unless the key is held (DataLoader: `prime`).
+/// Begins a cell for the key, in no batch, since your host has its outcome. If the desk holds the key, it changes
+/// nothing (DataLoader: `prime`).
 ///
-/// Codes: `FRESH` with the cell, `HIT` where the key is held and nothing changed; `CLOSED`, `BAD_KEY`, `CELLS_FULL`,
-/// `OUT_OF_MEMORY`.
+/// Codes: `FRESH` with the new cell, `HIT` if the desk holds the key and nothing changed; `CLOSED`, `BAD_KEY`,
+/// `CELLS_FULL`, `OUT_OF_MEMORY`.
 #[unsafe(no_mangle)]
 pub extern "C" fn dl_desk_prime(
     alloc: Global,
@@ -111,9 +113,9 @@ fn prime_key(desk: &mut Desk, key: &FetchKey) -> Loaded
     }
 }
 
-/// The cell that is held for the key. It changes nothing.
+/// The cell that the desk holds for the key. It changes nothing.
 ///
-/// Codes: `HIT` with the cell, `FRESH` where none is held; `CLOSED`, `BAD_KEY`, `OUT_OF_MEMORY`.
+/// Codes: `HIT` with the cell, `FRESH` if it holds none; `CLOSED`, `BAD_KEY`, `OUT_OF_MEMORY`.
 #[unsafe(no_mangle)]
 pub extern "C" fn dl_desk_held(
     alloc: Global,
@@ -145,7 +147,7 @@ fn held(alloc: Global, kept: &mut KeptDesk, table: &[u8], id: &[u8]) -> Loaded
     }
 }
 
-/// Forgets the key, if it is held (DataLoader: `clear`).
+/// Forgets the key, if the desk holds it (DataLoader: `clear`).
 ///
 /// Codes: `DONE`; `CLOSED`, `BAD_KEY`, `OUT_OF_MEMORY`.
 #[unsafe(no_mangle)]

@@ -5,64 +5,64 @@ ghost use Rattle.dl_c.specs.Codes.{code_of, table_code_of};
 
 use dl_desk::{DeskFault, TableLimitFault};
 
-/// The call is made, and has no other answer.
+/// The desk made the call, and has nothing else to answer.
 pub const DONE: u32 = 0;
 
-/// A load or a look-up found a cell; a prime found that the key is held.
+/// A load or a look-up found a cell; for a prime, the desk holds the key.
 pub const HIT: u32 = 0;
 
 /// A load or a prime began a cell; a look-up found none.
 pub const FRESH: u32 = 1;
 
-/// An allocation failed.
+/// Memory ran out.
 pub const OUT_OF_MEMORY: u32 = 2;
 
-/// The call would begin more cells than the limit.
+/// The call needs more cells than the limit leaves.
 pub const CELLS_FULL: u32 = 3;
 
 /// No batch has this number yet.
 pub const NO_BATCH: u32 = 4;
 
-/// The batch still collects keys.
+/// The batch has not gone out: it still collects keys.
 pub const NOT_SENT: u32 = 5;
 
-/// The batch has ended before, settled or failed.
+/// The batch has already ended, settled or failed.
 pub const ENDED_BEFORE: u32 = 6;
 
-/// The two texts are no key.
+/// The two texts aren't a key: each must be UTF-8, a table 1 to 64 bytes, and an id 1 to 256.
 pub const BAD_KEY: u32 = 7;
 
-/// A number is no limit.
+/// A limit isn't 1 to 65,536.
 pub const BAD_LIMIT: u32 = 8;
 
-/// The handle has no desk.
+/// The handle has no desk: open one first.
 pub const CLOSED: u32 = 9;
 
-/// The handle has a desk already.
+/// The handle has a desk already: close it first.
 pub const OPEN: u32 = 10;
 
 /// The batch has no member of this index.
 pub const NO_MEMBER: u32 = 11;
 
-/// The lengths of several keys' texts don't add up to the texts, or are not as many as the answers.
+/// The lengths don't add up to the length of the texts, or there are more or fewer of them than answers.
 pub const BAD_LENGTHS: u32 = 12;
 
-/// The name of a table is no UTF-8.
+/// The name of a table isn't UTF-8.
 pub const BAD_TEXT: u32 = 13;
 
 /// The name of a table is empty.
 pub const EMPTY_TABLE: u32 = 14;
 
-/// The name of a table is too long.
+/// The name of a table has more than 64 bytes.
 pub const TABLE_TOO_LONG: u32 = 15;
 
-/// The number of a table is no limit.
+/// The limit of a table isn't 1 to 65,536.
 pub const BAD_TABLE_LIMIT: u32 = 16;
 
-/// A table stands twice.
+/// The list names a table twice.
 pub const DUPLICATE_TABLE: u32 = 17;
 
-/// The code of a desk's refusal.
+/// The code of a desk's fault.
 pub fn code_of(fault: DeskFault) -> u32
     ensures code { result ≡ code_of fault }
     ensures refused { FRESH < result }
@@ -76,7 +76,7 @@ pub fn code_of(fault: DeskFault) -> u32
     }
 }
 
-/// The code of tables that are refused.
+/// The code of a fault of limits by table.
 pub fn table_code_of(fault: TableLimitFault) -> u32
     ensures code { result ≡ table_code_of fault }
     ensures refused { FRESH < result }

@@ -1,4 +1,4 @@
-//! The handle that a host keeps of its desk.
+//! The handle that your host keeps of its desk.
 
 ghost use Rattle.std.specs.Prelude.{◌≡◌, Bool, true, false, IfSome, IfNone};
 ghost use Rattle.dl_c.specs.declared.kept_desk.KeptDesk.{KeptDesk};
@@ -10,8 +10,8 @@ use std::alloc::Global;
 use std::marker::Model;
 use std::{mem, ptr};
 
-/// A place for a desk that is kept: a pointer to it, or nothing. A pointer to a desk can't cross to C, since a desk has parts
-/// that can't, so this one says nothing of what it points to.
+/// A place for a desk: a pointer to it, or nothing. A pointer to a desk can't cross to C, since some parts of a desk
+/// can't. So this pointer's type says nothing of what is there.
 #[repr(C)]
 #[derive(Drop)]
 pub struct Held {
@@ -64,7 +64,7 @@ impl Held {
     }
 }
 
-/// What a host keeps of its desk (`dl_desk` in C). All zeros is a closed one. A host neither copies nor writes it.
+/// What your host keeps of its desk (`dl_desk` in C). All zeros is a closed handle. Never copy a handle or write to it.
 #[repr(C)]
 #[derive(Drop)]
 pub struct Handle {
@@ -96,14 +96,14 @@ impl Handle {
     }
 }
 
-/// A value of a type that may cross threads, as a handle is.
+/// A value of a type that may cross threads, as a handle may.
 fn crossing<T: Send>(value: T) -> T
     ensures { result ≡ value }
 {
     value
 }
 
-/// The desk of a handle, which is closed then. A closed one has none, and stays as it is.
+/// Takes the desk out of a handle and so closes the handle. A closed handle has none, and stays as it is.
 pub fn take(alloc: Global, handle: &mut Handle) -> Option<Box<KeptDesk>>
     ensures taken { IfSome result (λ kept. (handle.old.is_open ≡ true) × (kept.value ≡ handle.old.held.kept)) }
     ensures left { IfSome result (λ _. handle.new.is_open ≡ false) }

@@ -1,8 +1,8 @@
-//! A desk with what its calls use again.
+//! A desk, with memory that its calls use again.
 
 use dl_desk::{Desk, FetchKey};
 
-/// A desk, and the key of the last call on one, whose memory the next such call may take.
+/// A desk, and the key of its last call on a key. The next such call may use the memory of that key.
 #[derive(Drop)]
 pub struct KeptDesk {
     pub(crate) desk: Desk,

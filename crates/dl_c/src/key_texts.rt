@@ -8,7 +8,7 @@ use crate::codes::{BAD_KEY, OUT_OF_MEMORY};
 use dl_desk::{FetchKey, ID_BYTES, TABLE_BYTES};
 use std::alloc::Global;
 
-/// A key's two texts with their lengths in bytes. What stands behind them means nothing.
+/// A key's two texts, with their lengths in bytes. What comes after those bytes means nothing.
 #[repr(C)]
 pub struct KeyTexts {
     pub table_len: usize,
@@ -17,7 +17,7 @@ pub struct KeyTexts {
     pub id: [u8; ID_BYTES],
 }
 
-/// How many bytes the table and the id of a key have.
+/// The lengths in bytes of the table and the id of a key.
 #[repr(C)]
 #[derive(Clone, Copy, Debug, PartialEq, Eq)]
 pub struct KeyLengths {
@@ -25,8 +25,8 @@ pub struct KeyLengths {
     pub id: u32,
 }
 
-/// The key of a table and an id, in the memory of the spare key if nobody shares that. The error is a code: `BAD_KEY` where a
-/// text is no UTF-8, is empty or is too long, else `OUT_OF_MEMORY`.
+/// The key of a table and an id, in the memory of the spare key if nobody shares that. Fails with a code: `BAD_KEY` if
+/// a text isn't UTF-8, is empty or is too long; else `OUT_OF_MEMORY`.
 // Inlined for the sake of loads that find their key.
 #[inline(always)]
 pub fn key_of(
@@ -47,7 +47,7 @@ pub fn key_of(
 }
 
 impl KeyTexts {
-    /// Takes the texts of a key.
+    /// Copies the texts of a key.
     pub fn copy_from(&mut self, key: &FetchKey)
         ensures { Spells self.new key.now }
     {

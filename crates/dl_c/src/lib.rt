@@ -1,8 +1,8 @@
-//! The desk as a C library: the loader of one thread, for a host that is written in C or that calls C.
+//! The desk as a C library: the loader of one thread, for a host in C or in a language that calls C.
 //!
-//! A host keeps its desk behind a [`Handle`](handle::Handle), and its outcomes by their cells' numbers. Each export has the
-//! clauses of the desk's call stated again, with a code in place of an error. `c/dl_desk.h` at the top of the repository
-//! declares them for C.
+//! Your host keeps its desk behind a [`Handle`](handle::Handle), and keeps the outcomes itself, by the numbers of their
+//! cells. Each export has the clauses of the desk's own call, with a code instead of an error. `c/dl_desk.h` at the top
+//! of the repository declares them for C.
 #![tactic(auto)]
 
 mod answers;

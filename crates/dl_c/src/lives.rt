@@ -1,4 +1,4 @@
-//! Opening a desk, also one by table, and closing it.
+//! Opening a desk, whose batches may mix tables or not, and closing it.
 
 ghost use Rattle.std.specs.Prelude.{◌≡◌, ◌<◌, true, false};
 ghost use Rattle.dl_c.specs.Handles.{OnClosed};
@@ -12,7 +12,7 @@ use crate::tables::{NamedLimit, limits_of_tables};
 use dl_desk::{Desk, LARGEST_LIMIT, Limits};
 use std::alloc::Global;
 
-/// What a desk by table is opened with: the limits and the seed of [`dl_desk_open`].
+/// What you open a desk by table with: the limits and the seed, as in [`dl_desk_open`].
 #[repr(C)]
 #[derive(Clone, Copy, Debug, PartialEq, Eq)]
 pub struct Opening {
@@ -22,10 +22,11 @@ pub struct Opening {
     pub seed_high: u64,
 }
 
-/// Opens a desk of batches of so many keys and of so many cells at most, each 1 to 65,536. Its handle begins as all zeros. The
-/// seed is two random numbers, by which it hashes keys, so that nobody can make keys whose hashes meet.
+/// Opens a desk, whose batches have at most `max_batch` keys and which begins at most `max_cells` cells, each 1 to
+/// 65,536. Begin with a handle of all zeros. The seed is two random numbers, by which the desk hashes keys, so that
+/// nobody can make keys whose hashes meet.
 ///
-/// Codes: `DONE`; `OPEN`, `BAD_LIMIT`, `OUT_OF_MEMORY`, each of which leaves the handle.
+/// Codes: `DONE`; `OPEN`, `BAD_LIMIT`, `OUT_OF_MEMORY`, each of which leaves the handle as it was.
 #[unsafe(no_mangle)]
 pub extern "C" fn dl_desk_open(
     alloc: Global,
@@ -49,13 +50,13 @@ pub extern "C" fn dl_desk_open(
     keep(alloc, handle, Desk::new(alloc, hashing, limits))
 }
 
-/// Opens a desk as [`dl_desk_open`] does, of which each batch is of one table. The names of the tables that have a limit of their
-/// own stand one behind the other, with nothing between them, in the order of their limits. A batch of another table takes as
-/// many keys as the limit of the opening says.
+/// Opens a desk as [`dl_desk_open`] does, with keys of one table in each batch. `names` has the names of the tables
+/// that have a limit of their own, one after another with nothing between them, in the order of `tables`. A batch of
+/// another table has at most `max_batch` keys.
 ///
 /// Codes: `DONE`; `OPEN`, `BAD_LIMIT`, `BAD_LENGTHS`, `BAD_TEXT`, `EMPTY_TABLE`, `TABLE_TOO_LONG`, `BAD_TABLE_LIMIT`,
-/// `DUPLICATE_TABLE`, `OUT_OF_MEMORY`, each of which leaves the handle. Of those from `EMPTY_TABLE` on it is the first that
-/// applies to any table.
+/// `DUPLICATE_TABLE`, `OUT_OF_MEMORY`, each of which leaves the handle as it was. From `EMPTY_TABLE` on, you get the
+/// first one that applies to any table.
 #[unsafe(no_mangle)]
 pub extern "C" fn dl_desk_open_by_table(
     alloc: Global,
@@ -85,7 +86,7 @@ pub extern "C" fn dl_desk_open_by_table(
     }
 }
 
-/// Keeps a desk in a closed handle. A code.
+/// Keeps a desk in a closed handle, and answers a code.
 fn keep(alloc: Global, handle: &mut Handle, desk: Desk) -> u32
     requires { handle.old.is_open ≡ false }
     ensures kept { result ≡ DONE → (handle.new.is_open ≡ true) × (handle.new.held.kept.desk ≡ desk) }

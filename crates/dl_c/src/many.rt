@@ -18,9 +18,9 @@ use crate::key_texts::{KeyLengths, key_of};
 use dl_desk::{Desk, FetchKey, LoadReply};
 use std::alloc::Global;
 
-/// Loads several keys in order, as one call, all or nothing (DataLoader: `loadMany`). The texts are those of all keys, each
-/// table before its id, with nothing between them, and the lengths are theirs. There is room for as many answers, each of
-/// which is that to a load; a refused call leaves them as they were.
+/// Loads several keys in order, as one call, all or nothing (DataLoader: `loadMany`). `texts` has the texts of all
+/// keys, each table before its id, with nothing between them, and `lengths` has their lengths. `answers` must have room
+/// for one answer for each key. If the call fails, it leaves the answers as they were.
 ///
 /// Codes: `DONE`; `CLOSED`, `BAD_LENGTHS`, `BAD_KEY`, `CELLS_FULL`, `OUT_OF_MEMORY`.
 #[unsafe(no_mangle)]
@@ -61,7 +61,7 @@ fn load_many(
     }
 }
 
-/// The keys that the lengths cut the texts into. The error is a code, for the first of the keys that has a fault.
+/// The keys that the lengths cut the texts into. Fails with a code, for the first key that has a fault.
 fn keys_of(alloc: Global, texts: &[u8], lengths: &[KeyLengths]) -> Result<Vec<FetchKey>, u32>
     ensures keys { IfOk result (λ keys. keys.items ≡ cut texts.now lengths.now) }
     ensures are_keys { OnOk result (All IsKeyText (cut texts.now lengths.now)) }
@@ -86,7 +86,7 @@ fn keys_of(alloc: Global, texts: &[u8], lengths: &[KeyLengths]) -> Result<Vec<Fe
     }
 }
 
-/// The key at the front of the texts, and the texts after it. The error is a code.
+/// The key at the front of the texts, and the texts after it. Fails with a code.
 fn next_key(alloc: Global, texts: &[u8], lengths: KeyLengths) -> Result<(FetchKey, &[u8]), u32>
     ensures key { IfOk result (λ next. next.0 ≡ front_key texts.now lengths) }
     ensures is_key { OnOk result (IsKeyText (front_key texts.now lengths)) }

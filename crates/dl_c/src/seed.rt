@@ -4,7 +4,7 @@ use std::hash::RandomState;
 use std::io;
 use std::random::RandomSource;
 
-/// Sixteen random bytes of the host, as a source of random bytes.
+/// Sixteen random bytes of your host, as a source of random bytes.
 #[derive(Drop)]
 struct Seed {
     bytes: [u8; 16],
@@ -19,7 +19,7 @@ impl RandomSource for Seed {
     }
 }
 
-/// Hashing by two random numbers. Nothing that a desk answers depends on them.
+/// Hashing by two random numbers. They have no effect on what a desk answers.
 pub fn hashing(low: u64, high: u64) -> io::Result<RandomState> {
     let bytes = (low as u128 | (high as u128) << 64).to_le_bytes();
     RandomState::new(&Seed { bytes })

@@ -1,4 +1,4 @@
-//! Tables with limits of their own as C hands them in.
+//! Tables with limits of their own, as C hands them in.
 
 ghost use Rattle.std.specs.Prelude.{◌≡◌, ◌<◌, ◌≤◌, ◌⊎◌, length, drop, OnOk, IfOk, IfErr, None};
 ghost use Rattle.std.specs.Str.{IsUtf8};
@@ -11,7 +11,7 @@ use dl_desk::{TableLimit, TableLimits, Text};
 use std::alloc::Global;
 use std::str;
 
-/// How many bytes the name of a table has, and the most keys of a batch of the table.
+/// The length in bytes of a table's name, and the most keys of a batch of the table.
 #[repr(C)]
 #[derive(Clone, Copy, Debug, PartialEq, Eq)]
 pub struct NamedLimit {
@@ -19,8 +19,8 @@ pub struct NamedLimit {
     pub limit: u32,
 }
 
-/// The limits of the tables whose names stand one behind the other, with nothing between them. The error is a code: that of the
-/// first name that can't be read, or of the first cause by which the tables are refused.
+/// The limits of the tables with these names, one after another with nothing between them. Fails with a code, for the
+/// first name that the call can't read or else for the first cause by which [`TableLimits::new`] rejects the tables.
 pub fn limits_of_tables(
     alloc: Global,
     names: &[u8],
@@ -39,7 +39,7 @@ pub fn limits_of_tables(
     }
 }
 
-/// The tables whose names stand one behind the other. The error is a code, for the first of the names that has a fault.
+/// The tables with these names, one after another. Fails with a code, for the first name that has a fault.
 fn tables_of(alloc: Global, names: &[u8], tables: &[NamedLimit]) -> Result<Vec<TableLimit>, u32>
     ensures tables { IfOk result (λ list. list.items ≡ tables_of names.now tables.now) }
     ensures are_names { OnOk result (AreNames names.now tables.now) }
@@ -63,7 +63,7 @@ fn tables_of(alloc: Global, names: &[u8], tables: &[NamedLimit]) -> Result<Vec<T
     }
 }
 
-/// The table at the front of the names, and the names after it. The error is a code.
+/// The table at the front of the names, and the names after it. Fails with a code.
 fn next_table(alloc: Global, names: &[u8], table: NamedLimit) -> Result<(TableLimit, &[u8]), u32>
     ensures table { IfOk result (λ next. next.0 ≡ front_table names.now table) }
     ensures is_named { OnOk result (IsNamed (front_table names.now table)) }
@@ -79,7 +79,7 @@ fn next_table(alloc: Global, names: &[u8], table: NamedLimit) -> Result<(TableLi
     Ok((TableLimit { table: name, limit }, rest))
 }
 
-/// The text of these bytes. The error is a code.
+/// The text of these bytes. Fails with a code.
 fn text_of(alloc: Global, bytes: &[u8]) -> Result<Text, u32>
     ensures text { IfOk result (λ text. text ≡ bytes.now) }
     ensures is_text { OnOk result (IsUtf8 bytes.now) }
