@@ -18,15 +18,15 @@ use std::marker::Brand;
 use std::sync::Wait;
 use std::thread::{self, Threads};
 
-/// How many calls each caller makes, beside the ends of what it dispatches.
+/// The number of calls that each caller makes, not counting the ends of what it dispatches.
 const CALLS: u64 = 24;
 
-/// The keys that are called.
+/// The tables of the keys that callers use.
 static TABLES: [&str; 4] = ["user", "post", "own0", "shop"];
 
 static IDS: [&str; 8] = ["a", "b", "c", "d", "e", "f", "1", "2"];
 
-/// The text of the history that so many callers leave, each of which makes calls on a thread of its own, as the source draws them.
+/// The text of the history that callers leave, each with calls on a thread of its own, as the source draws them.
 pub(crate) fn called<R: AllocGlobal + Threads + Wait + Sync>(
     rt: &R,
     hashing: RandomState,
@@ -43,7 +43,7 @@ pub(crate) fn called<R: AllocGlobal + Threads + Wait + Sync>(
     use_loader::<Brand, _>(rt, alloc, source, opening)
 }
 
-/// The text of the history of the loader of an opening, which `L` stands for.
+/// The text of the history of the loader of an opening, which `L` names.
 fn use_loader<L: LoaderName + Send + Sync, R: Threads + Wait + Sync>(
     rt: &R,
     alloc: Global,
@@ -59,7 +59,7 @@ fn use_loader<L: LoaderName + Send + Sync, R: Threads + Wait + Sync>(
     close(alloc, loader, passes)
 }
 
-/// Closes a loader: the text of its history.
+/// Closes a loader, and gives you the text of its history.
 fn close<L: LoaderName>(alloc: Global, loader: Loader<L>, passes: Vec<Pass<L>>) -> Result<String> {
     match loader.close(alloc, passes) {
         Ok(history) => {
@@ -91,7 +91,7 @@ fn call_by_each<L: LoaderName + Send + Sync, S: Source + Drawn + Sync, R: Thread
     );
 }
 
-/// Makes the calls of a caller. Where one is refused the loader is stopped, so that no other caller waits for ever.
+/// Makes the calls of a caller. If one fails, it stops the loader, so that no other caller waits for ever.
 fn call_or_stop<L: LoaderName, S: Source + Drawn, R: Wait>(
     rt: &R,
     alloc: Global,
@@ -113,7 +113,7 @@ fn call_or_stop<L: LoaderName, S: Source + Drawn, R: Wait>(
     }
 }
 
-/// Makes the call that is drawn.
+/// Makes the call that the number draws.
 fn call<L: LoaderName, S: Source + Drawn, R: Wait>(
     rt: &R,
     alloc: Global,
@@ -138,21 +138,21 @@ fn call<L: LoaderName, S: Source + Drawn, R: Wait>(
     }
 }
 
-/// The key that is drawn. The error is a failed allocation.
+/// The key that the number draws. Fails if memory runs out.
 fn key(alloc: Global, drawn: u64) -> Result<FetchKey, AllocError> {
     let table = TABLES[(drawn % 4) as usize];
     let id = IDS[(drawn / 4 % 8) as usize];
     FetchKey::new(alloc, table, id).or(Err(AllocError))
 }
 
-/// The three keys that are drawn. The error is a failed allocation.
+/// The three keys that the number draws. Fails if memory runs out.
 fn keys(alloc: Global, drawn: u64) -> Result<[FetchKey; 3], AllocError> {
     let first = key(alloc, drawn)?;
     let second = key(alloc, drawn / 32)?;
     Ok([first, second, key(alloc, drawn / 1_024)?])
 }
 
-/// Loads a key that is drawn.
+/// Loads the key that the number draws.
 fn load<L: LoaderName, R: Wait>(
     rt: &R,
     alloc: Global,
@@ -165,7 +165,7 @@ fn load<L: LoaderName, R: Wait>(
     Ok(())
 }
 
-/// Primes a key that is drawn with an error.
+/// Primes the key that the number draws with an error.
 fn prime<L: LoaderName, R: Wait>(
     rt: &R,
     alloc: Global,
@@ -179,7 +179,7 @@ fn prime<L: LoaderName, R: Wait>(
     Ok(())
 }
 
-/// Clears a key that is drawn.
+/// Clears the key that the number draws.
 fn clear<L: LoaderName, R: Wait>(
     rt: &R,
     alloc: Global,
@@ -191,7 +191,7 @@ fn clear<L: LoaderName, R: Wait>(
     loader.clear(rt, alloc, pass, &key)
 }
 
-/// Each caller in turn sends what waits to be sent, and ends it.
+/// Each caller in turn sends what has not gone out, and ends it.
 fn end_by_each<L: LoaderName, S: Source, R: Wait>(
     rt: &R,
     alloc: Global,
@@ -207,7 +207,7 @@ fn end_by_each<L: LoaderName, S: Source, R: Wait>(
     Ok(())
 }
 
-/// Sends what waits to be sent, and ends it.
+/// Sends what has not gone out, and ends it.
 fn end_all<L: LoaderName, S: Source, R: Wait>(
     rt: &R,
     alloc: Global,
@@ -222,7 +222,7 @@ fn end_all<L: LoaderName, S: Source, R: Wait>(
     end_jobs(rt, alloc, loader, source, pass, jobs)
 }
 
-/// Loads keys in one call, sends what waits to be sent and ends it, and reads each outcome.
+/// Loads keys in one call, sends what has not gone out, ends it, and reads each outcome.
 fn round<L: LoaderName, S: Source, R: Wait>(
     rt: &R,
     alloc: Global,

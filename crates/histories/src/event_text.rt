@@ -9,8 +9,8 @@ use dl_values::BatchFault;
 /// No loader has a caller of this number.
 const CALLERS: u32 = 33;
 
-/// Appends the events of a history, each with its caller, its call and its reply, and then the entries of each caller that has some: a
-/// place for a call, and a pair of a cell and a place for an outcome that was read.
+/// Appends the events of a history, each with its caller, its call and its reply. Then it appends the entries of each
+/// caller that has some: a place for a call, and a pair of a cell and a place for an outcome that the caller has seen.
 pub(crate) fn push_history(sheet: &mut Sheet, history: &History) {
     let events = history.events();
     for at in 0..events.len() {
@@ -111,7 +111,7 @@ fn push_outcome(sheet: &mut Sheet, outcome: &Outcome) {
     sheet.push("]");
 }
 
-/// Appends as more items why a batch failed.
+/// Appends why a batch failed, as more items.
 fn push_fault(sheet: &mut Sheet, fault: &BatchFault) {
     match fault {
         BatchFault::Source(text) => {

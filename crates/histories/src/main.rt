@@ -1,7 +1,9 @@
-//! Histories of shared loaders, for a script to hold against a loader of one thread: it serves the plan file that stands on standard
-//! input, or has callers of its own make calls over the tables of that file, while the source and the gate yield as a seed draws it.
-//! Then it prints what the report and the closed loader tell, a line of JSON for each answer, event and caller, and how often the source was
-//! asked.
+//! Writes histories of shared loaders, for a script to compare with a loader of one thread.
+//!
+//! You give it a plan file on standard input. It serves the file's plans, or lets callers of its own make calls over
+//! the file's tables, while the source and the gate yield as a seed draws it. Then it prints the report and the
+//! history: a line of JSON for each answer, event and caller. At the end it prints how many times the loader asked the
+//! source.
 #![tactic(auto)]
 
 mod callers;
@@ -20,14 +22,14 @@ use std::io::Read;
 use std::sync::Wait;
 use std::thread::Threads;
 
-/// What is done with a file.
+/// What you ask for.
 #[derive(Clone, Copy)]
 struct Command {
-    /// What the yields and the calls of callers are drawn from.
+    /// The seed that draws the yields and the calls of callers.
     seed: u64,
-    /// How many workers serve the plans, or how many callers make calls.
+    /// The number of workers that serve the plans, or of callers.
     threads: u32,
-    /// For how many jobs the queue has room. None, for 0: there are no plans served.
+    /// The number of jobs that the queue has room for. With 0 it serves no plans.
     queue: u32,
 }
 
@@ -43,7 +45,7 @@ fn main(rt: HostRuntime) -> Result<()> {
     Ok(())
 }
 
-/// The text of what was done with a file, and of how often its tables were asked.
+/// The text of what happened with a file, and the number of times that the loader asked its tables.
 fn answered<R: AllocGlobal + Threads + Wait + Sync>(
     rt: &R,
     hashing: RandomState,
@@ -73,7 +75,7 @@ fn answered<R: AllocGlobal + Threads + Wait + Sync>(
     Ok(text)
 }
 
-/// The command that the program's words spell: a seed, a number of threads, and the places of a queue.
+/// The command that the program's words spell: a seed, a number of threads, and the capacity of a queue.
 fn asked(rt: &HostRuntime) -> Result<Command> {
     let words = env::args(rt)?.collect::<Vec<_>>(rt.alloc())?;
     let [_, seed, threads, queue] = words.as_slice() else {

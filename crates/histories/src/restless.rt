@@ -1,4 +1,4 @@
-//! Tables that yield, and count how often they are asked.
+//! Tables that yield, and count the questions to them.
 
 use dl_source::{BatchAnswer, Source, Tables};
 use dl_values::FetchKey;
@@ -7,7 +7,7 @@ use std::alloc::{AllocError, Global};
 use std::sync::atomic::{AtomicU64, Ordering};
 use std::thread::yield_now;
 
-/// Tables, and a gate, that yield as a seed draws it. They count how often they are asked for keys.
+/// Tables, and a gate, that yield as a seed draws it. They count how many times a loader asks them for keys.
 #[derive(Drop)]
 pub(crate) struct Restless {
     tables: Tables,
@@ -26,18 +26,18 @@ impl Restless {
         }
     }
 
-    /// How often it was asked for keys.
+    /// The number of times that a loader has asked for keys.
     pub(crate) fn fetches(&self) -> u64 {
         self.fetches.load(Ordering::SeqCst)
     }
 }
 
-/// What is drawn from a seed.
+/// What a seed draws.
 pub(crate) trait Drawn {
-    /// The number that is drawn for a number.
+    /// The number that the seed draws for a number.
     fn drawn(&self, number: u64) -> u64;
 
-    /// Yields some times, or not.
+    /// Yields a few times, or not at all.
     fn rest(&self);
 }
 

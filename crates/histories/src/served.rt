@@ -1,4 +1,4 @@
-//! Plans that are served.
+//! Serving plans.
 
 use crate::event_text::push_history;
 use crate::restless::Restless;
@@ -27,7 +27,8 @@ pub(crate) fn served<R: Threads + Wait + Sync>(
     }
 }
 
-/// The answers of each plan, the rounds of the plans, the jobs that were sent, taken and left, and the history.
+/// The answers of each plan, the rounds of the plans, the jobs that went out, got to a worker and are left, and the
+/// history.
 fn report_text(alloc: Global, report: &Report) -> Result<String, AllocError> {
     let mut sheet = Sheet::new(alloc);
     for (plan, answers) in report.answers().iter().enumerate() {

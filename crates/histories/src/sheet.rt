@@ -8,7 +8,7 @@ use std::alloc::{AllocError, Global};
 
 /// Appends JSON.
 pub(crate) trait PushJson {
-    /// Appends what parts an item of a list from those before it, of which there are so many.
+    /// Appends what separates an item of a list from the `before` items before it.
     fn part(&mut self, before: usize);
 
     /// Appends a text in quotation marks.
@@ -52,7 +52,7 @@ impl PushJson for Sheet {
     }
 }
 
-/// Appends a text, if there was memory for it.
+/// Appends a text, if there is memory for it.
 fn push_made(sheet: &mut Sheet, made: Result<String, AllocError>) {
     match made {
         Ok(text) => sheet.push(text.as_str()),
