@@ -1,11 +1,11 @@
-//! What a history is made of.
+//! The parts of a history.
 
 ghost use Rattle.std.specs.Prelude.{◌≡◌};
 ghost use Rattle.dl_desk.specs.History as desk;
 
 use dl_desk::{DeskPrime, End, FetchKey, Jobs, LoadReply, Shared};
 
-/// A call that was accepted, with its reply. A `loadMany` stands as its loads, one after another.
+/// An accepted call with its reply. A `loadMany` counts as its loads, one after another.
 #[derive(Debug, Drop)]
 pub enum Atom {
     /// A load of a key.
@@ -18,20 +18,20 @@ pub enum Atom {
     ClearAll,
     /// A dispatch, with its jobs.
     Dispatch(Shared<Jobs>),
-    /// A batch was settled.
+    /// The end of a batch with an outcome for each member.
     Settle(u32),
-    /// A batch failed.
+    /// The failure of a batch as a whole.
     Fail(u32),
 }
 
-/// A cell that an atom begins: its key and, unless it was primed, its batch.
+/// A cell that an atom begins: its key and, unless a prime began it, its batch.
 #[derive(Clone, Copy, Debug)]
 pub struct Begun<'a> {
     /// The key.
     pub key: &'a FetchKey,
     /// The cell.
     pub cell: u32,
-    /// The batch that fetches it.
+    /// The batch that fetches it, or `None` for a prime.
     pub batch: Option<u32>,
 }
 
@@ -41,7 +41,7 @@ impl Atom {
     ghost use Rattle.dl_reference.specs.History.{desk_atom, ended_by};
     ghost use Rattle.dl_reference.specs.Beginnings.{begun_of};
 
-    /// The cell that this atom begins: a fresh load's or a prime's.
+    /// The cell that this atom begins, if it is a fresh load or a prime.
     pub fn begins(&self) -> Option<Begun<'_>>
         ensures { option_map begun_of result ≡ desk.begins (desk_atom self.now) }
     {
@@ -60,7 +60,7 @@ impl Atom {
         }
     }
 
-    /// The batch that this atom names, as a fresh load does.
+    /// The batch of this atom, if it is a fresh load.
     pub fn fresh_batch(&self) -> Option<u32>
         ensures { result ≡ desk.batch_of (desk.begins (desk_atom self.now)) }
     {
@@ -70,8 +70,8 @@ impl Atom {
         }
     }
 
-    /// Whether this atom makes the memo forget a key whose cell is of the batch: a clear of the key, a
-    /// clear of all, or the failure of that very batch.
+    /// Whether this atom makes the memo forget a key whose cell is of the batch: a clear of the key, a clear of all
+    /// keys, or the failure of that very batch.
     pub fn forgets(&self, key: &FetchKey, batch: Option<u32>) -> bool
         ensures { result ≡ desk.forgets key.now batch (desk_atom self.now) }
     {
@@ -83,7 +83,7 @@ impl Atom {
         }
     }
 
-    /// How this atom ends the batch of a number, if it does.
+    /// How this atom ends the batch of this number, or `None` if it doesn't.
     pub fn ends(&self, number: usize) -> Option<End>
         ensures { result ≡ ended_by (desk_atom self.now) number }
     {

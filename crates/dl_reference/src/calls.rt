@@ -1,4 +1,5 @@
-//! Calls, one after another: which are refused, what the others reply, and the history they leave.
+//! Calls, one after another: which of them the loader rejects, what it replies to the others, and the history that they
+//! leave.
 
 ghost use Rattle.std.specs.Prelude.{◌≡◌, ◌∷◌, IfOk, OnOk};
 ghost use Rattle.std.specs.List.{list_any};
@@ -22,7 +23,7 @@ fn has_key(keys: &[FetchKey], key: &FetchKey) -> bool
     keys.iter().any(|other| key == other)
 }
 
-/// How many distinct keys of the list are not held.
+/// The number of distinct keys of the list that the memo doesn't hold.
 fn new_count(history: &[Atom], keys: &[FetchKey]) -> usize
     ensures { result ≡ desk.new_count (history_of history.now) keys.now }
 {
@@ -35,7 +36,7 @@ fn new_count(history: &[Atom], keys: &[FetchKey]) -> usize
     count
 }
 
-/// The refusal where the cells that calls on the keys begin would be more than the limit.
+/// The rejection of calls on the keys, if they need more cells than the limit leaves.
 fn full(rules: &Rules, history: &[Atom], keys: &[FetchKey]) -> Option<DeskFault>
     ensures { result ≡ desk.full (rules_of rules.now) (history_of history.now) keys.now }
 {
@@ -47,7 +48,7 @@ fn full(rules: &Rules, history: &[Atom], keys: &[FetchKey]) -> Option<DeskFault>
     None
 }
 
-/// The refusal of an end of the batch: there is none of this number, it isn't sent, or it has ended.
+/// The rejection of an end of the batch: there is none of this number, it hasn't gone out, or it has ended.
 fn unfit(history: &[Atom], number: usize) -> Option<DeskFault>
     ensures { result ≡ desk.unfit (history_of history.now) number }
 {
@@ -60,7 +61,7 @@ fn unfit(history: &[Atom], number: usize) -> Option<DeskFault>
     end_of(history, number).map(|_| DeskFault::SettledBefore)
 }
 
-/// The refusal of a call, if it is refused.
+/// The rejection of a call, or `None` if the loader accepts it.
 pub fn refusal(rules: &Rules, history: &[Atom], call: &DeskCall) -> Option<DeskFault>
     ensures { result ≡ desk.refusal (rules_of rules.now) (history_of history.now) call.now }
 {
@@ -84,7 +85,7 @@ fn add(history: &mut Vec<Atom>, atom: Atom) -> Result<(), AllocError>
     Ok(())
 }
 
-/// Adds the loads of the keys to the history, in order, and answers their replies.
+/// Adds the loads of the keys to the history, in order, and answers a reply to each.
 fn load_all(
     alloc: Global,
     rules: &Rules,
@@ -103,7 +104,7 @@ fn load_all(
     Ok(replies)
 }
 
-/// Makes a call that isn't refused: adds it to the history and answers its reply.
+/// Makes a call that the loader accepts: adds it to the history and answers its reply.
 fn accept(
     alloc: Global,
     rules: &Rules,
@@ -155,8 +156,8 @@ fn accept(
     }
 }
 
-/// What a call is answered: its refusal, or its reply, and then it is added to the history. A legal history stays
-/// legal. After a failed allocation the history is of no use.
+/// The answer to a call: why the loader rejects it, or its reply, and then the call joins the history. A legal history
+/// stays legal. If memory runs out, the call fails, and the history is of no use after that.
 pub fn answer(
     alloc: Global,
     rules: &Rules,

@@ -1,4 +1,4 @@
-//! Which cells and batches a history has begun and sent.
+//! The cells and batches that a history has begun and sent.
 
 ghost use Rattle.std.specs.Prelude.{◌≡◌, IfOk};
 ghost use Rattle.dl_desk.specs.History as desk;
@@ -8,7 +8,7 @@ use crate::atom::Atom;
 use dl_desk::{End, FetchKey};
 use std::alloc::{AllocError, Global};
 
-/// How many cells were begun: by fresh loads and by primes.
+/// The number of cells: fresh loads and primes begin them.
 pub fn cells(history: &[Atom]) -> usize
     ensures { result ≡ desk.cells (history_of history.now) }
 {
@@ -21,7 +21,7 @@ pub fn cells(history: &[Atom]) -> usize
     total
 }
 
-/// The keys and cells of the fresh loads that name a batch, in their order.
+/// The keys and cells of the fresh loads that name a batch, in order.
 pub fn members(
     alloc: Global,
     history: &[Atom],
@@ -55,7 +55,7 @@ fn is_named(history: &[Atom], number: usize) -> bool
     named
 }
 
-/// How many batches fresh loads name.
+/// The number of batches that fresh loads name.
 pub fn begun(history: &[Atom]) -> usize
     ensures { result ≡ desk.begun (history_of history.now) }
 {
@@ -70,7 +70,7 @@ pub fn begun(history: &[Atom]) -> usize
     count
 }
 
-/// How many batches were begun before the last dispatch: these are sent.
+/// The number of batches before the last dispatch. These have gone out.
 pub fn sent(history: &[Atom]) -> usize
     ensures { result ≡ desk.sent (history_of history.now) }
 {
@@ -83,7 +83,7 @@ pub fn sent(history: &[Atom]) -> usize
     count
 }
 
-/// How a batch ended, if it did.
+/// How a batch ended, or `None` if it hasn't.
 pub fn end_of(history: &[Atom], number: usize) -> Option<End>
     ensures { result ≡ desk.end_of (history_of history.now) number }
 {

@@ -1,12 +1,11 @@
-//! The reference loader: a data loader of one thread that is as plain as can be, by which the
-//! definitions of `dl_desk` are reviewed.
+//! The reference loader: a data loader of one thread, as plain as can be, for your review of the definitions of
+//! `dl_desk`.
 //!
-//! `crates/dl_desk/specs/History.antt` and `Calls.antt` define what a loader replies at a history of
-//! calls. This crate is the same in plain Rust, for a reader who would rather read that. It keeps no memo
-//! and no batches, but the list of the calls that were accepted, each an [`Atom`], and looks through all
-//! of it for each answer. Each answer is proved to be the one that the definitions give. So calls that
-//! are run here, with replies that were worked out by hand, test the definitions themselves; `dl_tests`
-//! runs them.
+//! `crates/dl_desk/specs/History.antt` and `Calls.antt` define what a loader replies at a history of calls. This crate
+//! is the same in plain Rust, if you would rather read that. It has no memo and no batches. It keeps the list of
+//! accepted calls, each an [`Atom`], and looks through all of it for each answer. The proof is that each answer is the
+//! one that the definitions give. So if you run calls here and compare the replies with what you worked out by hand,
+//! you test the definitions themselves; `dl_tests` does.
 //!
 //! It is a slow loader, and no program uses it.
 #![tactic(auto)]

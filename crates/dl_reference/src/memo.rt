@@ -1,4 +1,4 @@
-//! Which cell the memo holds for a key.
+//! The cell that the memo holds for a key.
 
 ghost use Rattle.std.specs.Prelude.{◌≡◌, ◌<◌, length, option_map, IfSome};
 ghost use Rattle.std.specs.List.{list_any};
@@ -14,7 +14,7 @@ use dl_desk::FetchKey;
 pub(crate) struct Latest {
     /// The cell.
     cell: u32,
-    /// The batch that fetches it.
+    /// The batch that fetches it, or `None` for a prime.
     batch: Option<u32>,
     /// The atom's place in the history.
     place: usize,
@@ -40,7 +40,7 @@ fn find_latest(history: &[Atom], key: &FetchKey) -> Option<Latest>
     found
 }
 
-/// Whether one of the atoms makes the memo forget the key, whose cell is of the batch.
+/// Whether one of the atoms makes the memo forget the key, whose cell is of this batch.
 fn is_forgotten(atoms: &[Atom], key: &FetchKey, batch: Option<u32>) -> bool
     ensures { result ≡ list_any (desk.forgets key.now batch) (history_of atoms.now) }
 {
@@ -53,8 +53,8 @@ fn is_forgotten(atoms: &[Atom], key: &FetchKey, batch: Option<u32>) -> bool
     forgotten
 }
 
-/// The cell that is held for the key: that of the last fresh load or prime of it, if no atom after it
-/// makes the memo forget it.
+/// The cell that the memo holds for the key: that of the last fresh load or prime of it, if no atom after it makes the
+/// memo forget it.
 pub fn held(history: &[Atom], key: &FetchKey) -> Option<u32>
     ensures { result ≡ desk.held (history_of history.now) key.now }
 {

@@ -14,12 +14,12 @@ use crate::memo::held;
 use dl_desk::{DeskPrime, FetchKey, Job, Keys, Limits, LoadReply, Text};
 use std::alloc::{AllocError, Global};
 
-/// The limits of a loader and, where each batch is of one table, the tables with a limit of their own.
+/// The limits of a loader and, if each batch has one table, the tables with a limit of their own.
 #[derive(Debug, Drop)]
 pub struct Rules {
     /// The limits.
     pub limits: Limits,
-    /// The tables that have a limit of their own; where there is no list, batches may mix tables.
+    /// The tables with a limit of their own. With `None`, batches may mix tables.
     pub tables: Option<Vec<(Text, u32)>>,
 }
 
@@ -44,7 +44,7 @@ fn has_member(members: &[(FetchKey, u32)], key: &FetchKey) -> bool
     members.iter().any(|member| *key == member.0)
 }
 
-/// Whether a batch with these members is one for the key: any is where tables mix, else one of its table.
+/// Whether a batch with these members is one for the key: any batch is if tables mix, else only one of its table.
 fn serves(rules: &Rules, key: &FetchKey, members: &[(FetchKey, u32)]) -> bool
     ensures { result ≡ desk.serves (rules_of rules.now) key.now members.now }
 {
@@ -57,7 +57,7 @@ fn serves(rules: &Rules, key: &FetchKey, members: &[(FetchKey, u32)]) -> bool
     }
 }
 
-/// The batch that was begun last of those for the key.
+/// The newest of the batches for the key.
 fn last_for(
     alloc: Global,
     rules: &Rules,
@@ -77,7 +77,7 @@ fn last_for(
     Ok(last)
 }
 
-/// Whether the batch isn't sent, has fewer members than its limit, and none of the key.
+/// Whether the batch has not gone out, has fewer members than its limit, and has none of the key.
 fn is_open(
     alloc: Global,
     rules: &Rules,
@@ -93,8 +93,7 @@ fn is_open(
     Ok(unsent && short && !has_member(members.as_slice(), key))
 }
 
-/// The batch that a fresh load of the key goes into: the last one for the key if that is open, and
-/// else a new one.
+/// The batch that a fresh load of the key joins: the last one for the key, if that is open, else a new one.
 pub fn room(
     alloc: Global,
     rules: &Rules,
@@ -111,7 +110,7 @@ pub fn room(
     Ok(begun(history))
 }
 
-/// A count as a reply tells it. The error is that there are more than it can tell.
+/// A count as a number of a reply. Fails if it is too large for that.
 fn as_number(count: usize) -> Result<u32, AllocError>
     ensures { IfOk result (λ n. n ≡ count) }
 {
@@ -146,7 +145,7 @@ pub fn prime_reply(history: &[Atom], key: &FetchKey) -> Result<DeskPrime, AllocE
     }
 }
 
-/// The job of a batch: its keys in order.
+/// The job of a batch: its number, and its keys in order.
 fn job(alloc: Global, history: &[Atom], number: usize) -> Result<Job, AllocError>
     ensures { IfOk result (λ j. j ≡ desk.job (history_of history.now) number) }
 {
@@ -161,7 +160,7 @@ fn job(alloc: Global, history: &[Atom], number: usize) -> Result<Job, AllocError
     })
 }
 
-/// The reply to a dispatch: the jobs of the batches that were begun and not sent.
+/// The reply to a dispatch: the jobs of the batches that have not gone out.
 pub fn jobs(alloc: Global, history: &[Atom]) -> Result<Vec<Job>, AllocError>
     ensures { IfOk result (λ js. js.items ≡ desk.jobs (history_of history.now)) }
 {
