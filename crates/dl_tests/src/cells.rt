@@ -1,4 +1,4 @@
-//! `dl_cells`: what no contract says, that the calls succeed and that a fresh reader finds a shown value.
+//! `dl_cells`: what no contract says. The calls succeed, and a fresh reader finds a shown value.
 ghost use Rattle.std.specs.Prelude.{◌≡◌, ◌<◌};
 ghost use Rattle.dl_cells.specs.Cells.{row_len, cell_of};
 
@@ -29,7 +29,7 @@ impl<'a> Watched<'a> {
         Watched { row, place, reader }
     }
 
-    /// Shows a value in the cell. The answer is the value, where it came back.
+    /// Shows a value in the cell, and answers the value if the cell gives it back.
     fn show(&mut self, value: u8) -> Option<u8> {
         self.row.show(self.place, &mut self.reader, value).err()
     }
@@ -40,14 +40,14 @@ impl<'a> Watched<'a> {
     }
 }
 
-/// Rows of cells: how many there are, one in which a value is shown, another one or the same, and the value.
+/// Rows of cells: their length, a cell to show a value in, another cell or the same, and the value.
 static ROWS: [(u32, u32, u32, u8); 3] = [
     (1, 0, 0, 5),
     (130, 129, 0, 7),
     (65_536, 65_535, 65_534, 9),
 ];
 
-/// A cell shows nothing, then the value, and no other after it, also to a fresh reader. Another cell stays empty.
+/// A cell shows nothing, then the value, and no other after it, to a fresh reader too. Another cell stays empty.
 fn assert_answers(rt: &(impl Abort + Eprint), row: &CellRow<u8>, place: u32, value: u8)
     requires { place < row_len row.now }
 {
@@ -75,7 +75,7 @@ fn cells_answer(rt: HostRuntime) {
     }
 }
 
-/// Shows a copy of the value in a cell. The answer is whether it was set.
+/// Shows a copy of the value in a cell, and answers whether the cell took it.
 fn show_copy(rt: &impl Abort, row: &CellRow<Arc<u8>>, place: u32, value: &Arc<u8>) -> bool
     requires { place < row_len row.now }
 {
@@ -84,7 +84,7 @@ fn show_copy(rt: &impl Abort, row: &CellRow<Arc<u8>>, place: u32, value: &Arc<u8
     row.show(place, &mut reader, copy).is_ok()
 }
 
-/// Shows copies of the value in a new row: in each of two cells one, and one that comes back.
+/// Shows copies of the value in a new row: one in each of two cells, and one that comes back.
 fn show_copies(rt: &(impl Abort + Eprint), alloc: Global, value: &Arc<u8>) {
     let row = CellRow::new(alloc, 65).expect(rt, "no memory");
     assert!(rt; show_copy(rt, &row, 0, value));
@@ -117,7 +117,8 @@ fn threads_look_by_one_shared_reader(rt: HostRuntime) {
     assert_is!(&rt, &seen, &(Some(3), Some(3)), "what is seen");
 }
 
-/// Shows a value in cell 0, and then looks, by a reader of its own: whether the value was set, and what is seen.
+/// Shows a value in cell 0, and then looks with a reader of its own. Answers whether the cell took the value, and what
+/// it shows.
 fn show_and_look(rt: &impl Abort, row: &CellRow<u8>, value: u8) -> (bool, Option<u8>)
     requires { 0 < row_len row.now }
 {
@@ -126,8 +127,8 @@ fn show_and_look(rt: &impl Abort, row: &CellRow<u8>, value: u8) -> (bool, Option
     (is_set, cell.look())
 }
 
-/// Two threads race to set one cell, one to 5 and one to 6. One of them wins. Who sees a value sees its value, and the other
-/// thread may look while it is still being set.
+/// Two threads race to set one cell, one to 5 and one to 6. One of them wins. Whoever sees a value sees the winner's,
+/// and the other thread may look before it is there.
 fn race<R: Abort + Eprint + Threads + Sync>(rt: &R, alloc: Global) {
     let row = CellRow::new(alloc, 1).expect(rt, "no memory");
     let shared = &row;

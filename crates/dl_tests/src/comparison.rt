@@ -5,7 +5,7 @@ use std::alloc::{AllocError, Global};
 use std::fmt::{Debug, Display};
 use std::io::Eprint;
 
-/// Whether the value is the one that is wanted. If it isn't, a line on standard error says so, and what it is about.
+/// Whether you got what you want. If not, a line on standard error says so, and what it is about.
 pub fn is_same<R: Eprint, T: PartialEq + Debug, D: Display + Drop>(
     rt: &R,
     got: &T,
@@ -19,7 +19,7 @@ pub fn is_same<R: Eprint, T: PartialEq + Debug, D: Display + Drop>(
     is_same
 }
 
-/// The value is the one that is wanted. If it isn't, the test ends, and says what it was about.
+/// You got what you want. If not, the test ends, and says what it is about.
 #[macro_export]
 macro_rules! assert_is {
     ($rt:expr, $got:expr, $want:expr, $about:expr $(,)?) => {

@@ -1,11 +1,11 @@
-//! A source that counts how often it is asked.
+//! A source that counts the questions to it.
 
 use dl_source::{BatchAnswer, Source, Tables};
 use dl_values::FetchKey;
 use std::alloc::{AllocError, Global};
 use std::sync::atomic::{AtomicU32, Ordering};
 
-/// Tables that count how often they are asked.
+/// Tables that count the questions to them.
 #[derive(Drop)]
 pub struct CountedTables {
     tables: Tables,
@@ -13,7 +13,7 @@ pub struct CountedTables {
 }
 
 impl CountedTables {
-    /// The tables, which were not asked yet.
+    /// The tables, with no questions so far.
     pub fn new(tables: Tables) -> CountedTables {
         CountedTables {
             tables,
@@ -21,7 +21,7 @@ impl CountedTables {
         }
     }
 
-    /// How often they were asked.
+    /// The number of questions so far.
     pub fn fetches(&self) -> u32 {
         self.fetches.load(Ordering::Relaxed)
     }

@@ -1,4 +1,4 @@
-//! Desks of the most keys: their calls allocate once at their largest.
+//! Desks with the most keys: their calls allocate once at their largest.
 
 use crate::{assert_is, numbered_keys};
 use dl_desk::{Desk, DeskReply, FetchKey, Limits};
@@ -7,7 +7,7 @@ use std::hash::RandomState;
 use std::process::Abort;
 use std::random::RandomSource;
 
-/// A desk of so many keys of a batch and so many cells at most.
+/// A desk with these limits.
 fn new_desk<R: Abort + RandomSource>(
     rt: &R,
     alloc: Global,
@@ -19,10 +19,10 @@ fn new_desk<R: Abort + RandomSource>(
     Desk::new(alloc, hashing, limits)
 }
 
-/// The most keys that there may be, of a batch and in all.
+/// The most keys, both of a batch and in all.
 const MOST: u32 = 65_536;
 
-/// The most keys of a batch, and in how many batches the most keys are then.
+/// The most keys of a batch, and the number of batches that the most keys make.
 static SIZES: [(u32, usize); 2] = [(MOST, 1), (1, 65_536)];
 
 #[test]
@@ -35,7 +35,7 @@ fn the_most_keys_are_made_ready(rt: HostRuntime) {
     }
 }
 
-/// Loads the keys and sends their batches, by calls that are made ready: how many loads and jobs there are.
+/// Loads the keys and sends their batches, in two steps each, and answers the numbers of loads and jobs.
 fn make_most(rt: &impl Abort, alloc: Global, desk: &mut Desk, keys: &[FetchKey]) -> (usize, usize) {
     let loads = desk.ready_loads(alloc, keys).expect(rt, "not ready");
     let DeskReply::Loads(replies) = desk.commit(loads) else {

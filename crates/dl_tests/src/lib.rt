@@ -1,10 +1,12 @@
-//! What the crates of tests share: the tables of users that worked rows read from, tables that count how often they are asked, tables
-//! without memory for one of them, many keys, and plans, terms, answers and long lists from their texts; how tests compare; and what they ask
-//! of the library that stands below them, to refuse a call its n-th growth or thread.
+//! What the crates of tests share, and the tests of the crates below the shared loader.
 //!
-//! And the tests of the crates below the shared loader, of what no contract says: that cells show what is set whatever threads do, that
-//! the most keys that there may be are made ready, that the reference loader replies, and that each call answers as ever where it was
-//! refused memory before. What keys, limits, tables and terms are is asked from outside, by documents and by calls of the C library.
+//! The crates share the tables of users that worked rows read, tables that count the questions to them, tables with no
+//! memory for one of them, many keys, and plans, terms, answers and long lists from their texts. They also share how
+//! tests compare, and what they ask of the library below them, which refuses a call its n-th growth or thread.
+//!
+//! The tests here are of what no contract says. Cells show what somebody has set, whatever threads do. A desk takes the
+//! most keys that it may have. The reference loader replies. And a call that ran out of memory answers as ever when you
+//! make it again. Documents and calls of the C library test keys, limits, tables and terms from outside.
 #![tactic(auto)]
 
 #[cfg(test)]

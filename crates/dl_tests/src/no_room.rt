@@ -1,10 +1,10 @@
-//! A source without memory for one table.
+//! A source with no memory for one table.
 
 use dl_source::{BatchAnswer, Source, Tables};
 use dl_values::FetchKey;
 use std::alloc::{AllocError, Global};
 
-/// Tables that have no memory for what lists a key of the table `shop`.
+/// Tables that run out of memory for a list with a key of the table `shop`.
 #[derive(Drop)]
 pub struct NoRoom {
     tables: Tables,
@@ -24,7 +24,7 @@ impl Source for NoRoom {
 
     ghost fits = { without_room_fits };
 
-    /// What the tables answer, or the error where a key is of the table `shop`.
+    /// What the tables answer. Fails if a key is of the table `shop`.
     fn fetch(&self, alloc: Global, keys: &[FetchKey]) -> Result<BatchAnswer, AllocError> {
         if keys.iter().any(|key| key.table() == "shop") {
             return Err(AllocError);

@@ -3,7 +3,7 @@
 use dl_values::FetchKey;
 use std::alloc::Global;
 
-/// So many keys of the table `t`, whose ids are the numbers from 0 on, if there is memory for them.
+/// `count` keys of the table `t`, with the numbers from 0 on as ids, if there is memory for them.
 pub fn numbered_keys(alloc: Global, count: u32) -> Option<Vec<FetchKey>> {
     let mut keys = Vec::new(alloc);
     for number in 0..count {

@@ -1,4 +1,4 @@
-//! The reference loader: what no contract says, that it replies to each call.
+//! The reference loader: what no contract says. It replies to each call.
 
 use crate::assert_is;
 use dl_desk::{DeskFault, Job, LoadReply, Reply, Text};
@@ -8,7 +8,7 @@ use std::alloc::{AllocError, Global};
 use std::hash::RandomState;
 use std::process::Abort;
 
-/// A script with each call by each of its replies, whose batches are of one table each.
+/// A script with each call by each of its replies, whose batches have one table each.
 const SCRIPT: &str = concat!(
     r#"{"script":2,"maxBatchSize":2,"maxCells":6,"tableLimits":[["s",1]],"calls":[{"load":["t","a"]},"#,
     r#"{"loadMany":[["s","x"],["t","b"],["s","x"]]},{"prime":["s","y"]},{"prime":["s","y"]},{"settle":0},{"settle":5},"#,
@@ -16,7 +16,8 @@ const SCRIPT: &str = concat!(
     r#"{"fail":1},{"load":["s","x"]},{"clearAll":true},{"load":["s","x"]},{"dispatch":true}]}"#
 );
 
-/// The text that it gives, as worked out by hand: batch 0 fails late, so `a` is held still by its newer cell, and `b` isn't.
+/// The text that it gives, worked out by hand: batch 0 fails late, so the loader still holds `a` with its newer cell,
+/// and forgets `b`.
 const TEXT: &str = concat!(
     "fresh 0 0\nmany 3\nfresh 1 1\nfresh 2 0\nhit 1\nprimed 3\nkept\nrefused NotSent\nrefused NoBatch\n",
     "sent 2\njob 0 [\"t\",\"a\"] [\"t\",\"b\"]\njob 1 [\"s\",\"x\"]\nok\nfresh 4 2\nok\nhit 4\nfresh 5 2\nok\n",
@@ -31,7 +32,7 @@ fn script(alloc: Global, hashing: RandomState, document: &str) -> Option<Script>
     }
 }
 
-/// The rules of a script whose batches are of one table each, and those of `s` have one key.
+/// The rules of a script whose batches have one table each. Those of `s` have one key.
 fn rules(rt: &impl Abort, alloc: Global, script: &Script) -> Rules {
     let table = Text::new(alloc, "s").expect(rt, "no memory");
     let tables = vec![in alloc; (table, 1)].expect(rt, "no memory");
@@ -41,7 +42,7 @@ fn rules(rt: &impl Abort, alloc: Global, script: &Script) -> Rules {
     }
 }
 
-/// Makes the calls of a script in order, from the empty history on, and answers the lines of their replies.
+/// Makes the calls of a script in order, from the empty history on, and answers their replies as lines.
 fn lines_of(rt: &impl Abort, alloc: Global, rules: &Rules, script: &Script) -> String {
     let mut history: Vec<Atom> = Vec::new(alloc);
     let mut text = String::new(alloc);

@@ -1,23 +1,24 @@
-//! What a test asks of the library that stands below it, `tests/refuse.c`: to refuse the n-th growth, or the n-th thread, of a call.
-//! Where that library isn't there nothing is refused, and the test is a plain one.
+//! What a test asks of the library below it, `tests/refuse.c`: to refuse the n-th growth, or the n-th thread, of a
+//! call. If that library isn't there, nothing is refused, and the test is a plain one.
 
 use std::alloc::{AllocError, Global};
 use std::cell::Cell;
 use std::io::Eprint;
 
-/// A growth of so many bytes, which nothing else has, has a growth refused: with n bytes more, the n-th that follows.
+/// A growth of this many bytes and n more asks the library to refuse the n-th growth after it. Nothing else has that
+/// size.
 const GROWTHS: usize = 5_000_011;
 
-/// The same, of threads.
+/// The same, for threads.
 const THREADS: usize = 5_200_011;
 
-/// A growth of so many bytes ends that, and is itself refused where something was.
+/// A growth of this many bytes ends that. The library refuses it too if it has refused something.
 const ENDS: usize = 5_400_013;
 
-/// No call makes so many growths.
+/// No call makes this many growths.
 pub const MOST_GROWTHS: usize = 10_000;
 
-/// What is refused to the calls that are begun under it: the n-th growth or the n-th thread of each of them, or of one of them alone.
+/// What the library refuses to calls: the n-th growth or the n-th thread of each of them, or of one of them alone.
 #[derive(Drop)]
 pub struct Refusal {
     alloc: Global,
@@ -31,7 +32,7 @@ pub struct Refusal {
     has_met: Cell<bool>,
 }
 
-/// What is refused.
+/// What the library refuses.
 #[derive(Clone, Copy)]
 pub enum Kind {
     Growth,
@@ -39,7 +40,7 @@ pub enum Kind {
 }
 
 impl Kind {
-    /// The bytes of the growth that asks for the refusal of the n-th.
+    /// The bytes of the growth that asks the library to refuse the n-th.
     fn word(self, nth: usize) -> usize {
         match self {
             Kind::Growth => GROWTHS.saturating_add(nth),
@@ -56,17 +57,17 @@ impl Kind {
 }
 
 impl Refusal {
-    /// No call is refused anything.
+    /// The library refuses nothing.
     pub fn of_nothing(alloc: Global) -> Refusal {
         Refusal::by(alloc, Kind::Growth, 1, Some(usize::MAX))
     }
 
-    /// Each call is refused its n-th growth or thread, from 1 on.
+    /// The library refuses each call its n-th growth or thread, from 1 on.
     pub fn of_each(alloc: Global, kind: Kind, nth: usize) -> Refusal {
         Refusal::by(alloc, kind, nth, None)
     }
 
-    /// The call of a number, from 0 on, is refused its n-th growth, and no other is.
+    /// The library refuses the call of this number, from 0 on, its n-th growth, and refuses the others nothing.
     pub fn of_growths_of_call(alloc: Global, nth: usize, call: usize) -> Refusal {
         Refusal::by(alloc, Kind::Growth, nth, Some(call))
     }
@@ -95,7 +96,8 @@ impl Refusal {
         }
     }
 
-    /// The call of this name has ended. Answers whether something was refused to it, and tells that on standard error.
+    /// The call of this name has ended. Answers whether the library refused it something, and says so on standard
+    /// error.
     pub fn end<R: Eprint>(&self, rt: &R, call: &str) -> bool {
         let was_refused = room(self.alloc, ENDS).is_err();
         if was_refused {
@@ -105,30 +107,30 @@ impl Refusal {
         was_refused
     }
 
-    /// The call of this name has ended, and was out of memory or not. Answers whether it is to be made again, since it was out of memory
-    /// and something was refused to it.
+    /// The call of this name has ended, out of memory or not. Answers whether you must make it again: it was out of
+    /// memory, and the library had refused it something.
     pub fn is_again<R: Eprint>(&self, rt: &R, call: &str, is_out_of_memory: bool) -> bool {
         self.end(rt, call) && is_out_of_memory
     }
 
-    /// Whether anything was refused to a call.
+    /// Whether the library has refused anything to a call.
     pub fn has_met(&self) -> bool {
         self.has_met.get()
     }
 
-    /// How many calls were begun.
+    /// The number of calls so far.
     pub fn calls(&self) -> usize {
         self.calls.get()
     }
 }
 
-/// Room for so many bytes.
+/// Room for `bytes` bytes.
 fn room(alloc: Global, bytes: usize) -> Result<Vec<u8>, AllocError> {
     Vec::with_capacity(alloc, bytes)
 }
 
-/// Makes a call of a name under the refusal of a stage, which has the runtime beside it, and makes it again where it is refused so; by
-/// another expression, where one is given.
+/// Makes a call of a name under the refusal of a stage, which has the runtime too. If the call fails by that, makes it
+/// again, by another expression if you give one.
 #[macro_export]
 macro_rules! made {
     ($stage:expr, $name:literal, $refused:pat, $call:expr) => {
@@ -146,7 +148,7 @@ macro_rules! made {
     }};
 }
 
-/// Makes a call that meets no growth under the refusal of a stage. It isn't made again.
+/// Makes a call with no growth under the refusal of a stage. It doesn't make the call again.
 #[macro_export]
 macro_rules! made_once {
     ($stage:expr, $name:literal, $call:expr) => {{

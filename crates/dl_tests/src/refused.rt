@@ -1,6 +1,8 @@
-//! The calls that need no loader, each with its first growth refused, then with the second, and so on until it meets no refusal. It is
-//! out of memory then or answers as ever, and where it was out of memory the same call made again answers as ever. `tests/calls` runs
-//! this above `tests/refuse.c`; without that library nothing is refused, and each call is made once.
+//! The calls that need no loader, each with its first growth refused, then with the second, and so on until nothing is.
+//!
+//! A call is then out of memory or answers as ever. If it was out of memory, the same call answers as ever the next
+//! time. `tests/calls` runs this above `tests/refuse.c`. Without that library nothing is refused, and each call happens
+//! once.
 
 mod cells;
 mod desk;
@@ -14,7 +16,7 @@ use std::hash::RandomState;
 use std::io::Eprint;
 use std::process::Abort;
 
-/// What calls are made with, and what they are refused.
+/// What calls need, and what the library refuses them.
 #[derive(Drop)]
 struct Stage<'a, R> {
     rt: &'a R,

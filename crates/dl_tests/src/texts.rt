@@ -1,10 +1,10 @@
-//! How answers and long lists are written in rows.
+//! The texts of answers and long lists in rows.
 
 use dl_terms::{Answer, EvalFault};
 use dl_values::BatchFault;
 use std::alloc::{AllocError, Global};
 
-/// The text of an answer: of a value its JSON, else why there is none.
+/// The text of an answer: the JSON of a value, or why there is none.
 pub fn answer_text(alloc: Global, answer: &Answer) -> Result<String, AllocError> {
     match answer {
         Answer::Value(value) => value.to_text(alloc),
@@ -36,7 +36,7 @@ fn cause(fault: &BatchFault) -> &str {
     }
 }
 
-/// The JSON list that has an item so many times.
+/// The JSON list of `times` copies of an item.
 pub fn list_text(alloc: Global, item: &str, times: usize) -> Result<String, AllocError> {
     let items = [item].repeat(alloc, times)?.join(alloc, ",")?;
     format!(in alloc; "[{}]", items.as_str())

@@ -1,4 +1,4 @@
-//! The tables of users that the worked rows read from, and how values and outcomes are written in them.
+//! The tables of users that worked rows read, and the texts of values and outcomes in them.
 
 use dl_source::Tables;
 use dl_values::{BatchFault, Json, Outcome, has_float};
@@ -34,7 +34,7 @@ pub fn json(alloc: Global, text: &str) -> Option<Json> {
     Json::new(alloc, value).ok()
 }
 
-/// The text of an outcome: of a value its JSON, else what failed and why.
+/// The text of an outcome: the JSON of a value, or what failed and why.
 pub fn outcome_text(alloc: Global, outcome: &Outcome) -> Result<String, AllocError> {
     match outcome {
         Outcome::Value(value) => value.to_text(alloc),

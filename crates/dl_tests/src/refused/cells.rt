@@ -43,8 +43,8 @@ impl<R: Abort + Eprint> Stage<'_, R> {
     }
 }
 
-/// Where the first growth behind those of cell 0 is refused, the last cell of its segment has a reader, and the first cell of the next
-/// segment has none.
+/// If the first growth after those of cell 0 is refused, the last cell of its segment has a reader, and the first cell
+/// of the next segment has none.
 #[test]
 fn segments_have_32_cells(rt: HostRuntime) {
     let row: CellRow<u8> = CellRow::new(rt.alloc(), 130).expect(&rt, "no row");

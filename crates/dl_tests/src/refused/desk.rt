@@ -1,4 +1,4 @@
-//! Desks: a call that was out of memory changes nothing, and made again it answers as if it were the first.
+//! Desks: a call that ran out of memory changes nothing, and the next one answers as if it were the first.
 
 use crate::refused::Stage;
 use crate::{assert_is, made, made_once};
@@ -17,8 +17,8 @@ static BATCHES: [(u32, BatchState, &str, u32); 3] = [
 ];
 
 impl<R: Abort + Eprint> Stage<'_, R> {
-    /// The calls of a desk whose batches may mix tables. The second of two batches is settled and then the first fails. So a is loaded
-    /// anew, and b is held still.
+    /// The calls of a desk whose batches may mix tables. The second of two batches ends well, and then the first fails.
+    /// So a needs a new load, and the desk still holds b.
     pub(crate) fn use_mixed_desk(&self) {
         let limits = Limits::new(1, 8, 16).expect(self.rt, "no limits");
         let mut desk = Desk::new(self.alloc, self.hashing, limits);
@@ -38,7 +38,7 @@ impl<R: Abort + Eprint> Stage<'_, R> {
         self.make_ready(&mut desk);
     }
 
-    /// The primes of a key on a new desk, and of the same key once it is held; and the same where each is made ready first.
+    /// The primes of a key on a new desk, and of the same key when the desk holds it; and both again in two steps.
     pub(crate) fn use_primed_desks(&self) {
         let limits = Limits::new(2, 8, 16).expect(self.rt, "no limits");
         let a = self.key("t", "a");
@@ -50,7 +50,7 @@ impl<R: Abort + Eprint> Stage<'_, R> {
         }
     }
 
-    /// The batches of the desk are so, and there is no other.
+    /// The desk has these batches and no others.
     fn assert_batches(&self, desk: &Desk) {
         for (number, state, id, cell) in &BATCHES {
             let batch = desk.batch(*number).expect(self.rt, "no batch");
@@ -62,7 +62,7 @@ impl<R: Abort + Eprint> Stage<'_, R> {
         assert!(self.rt; desk.batch(3).is_none());
     }
 
-    /// The calls of a desk each of whose batches is of one table, of which one has a limit of its own.
+    /// The calls of a desk with one table in each batch. One table has a limit of its own.
     pub(crate) fn use_desk_by_table(&self) {
         let limits = Limits::new(2, 8, 16).expect(self.rt, "no limits");
         let tables = self.limit_of("s", 1);
@@ -115,7 +115,7 @@ impl<R: Abort + Eprint> Stage<'_, R> {
         assert_is!(self.rt, &reply, &Ok(want), "prime");
     }
 
-    /// A prime that is made ready, and then made.
+    /// A prime in two steps.
     fn make_prime_ready(&self, desk: &mut Desk, key: &FetchKey, want: DeskPrime) {
         let ready = made!(
             self,
@@ -130,7 +130,7 @@ impl<R: Abort + Eprint> Stage<'_, R> {
         assert_is!(self.rt, &reply, &want, "ready_prime");
     }
 
-    /// The jobs of a dispatch have so many keys.
+    /// The jobs of a dispatch have these numbers of keys.
     fn dispatch(&self, desk: &mut Desk, want: &[usize]) {
         let jobs = made!(self, "Desk::dispatch", Err(_), desk.dispatch(self.alloc));
         let jobs = jobs.expect(self.rt, "no jobs");
@@ -140,7 +140,7 @@ impl<R: Abort + Eprint> Stage<'_, R> {
         }
     }
 
-    /// A load that is made ready, and then made; and a dispatch of its job that is made ready.
+    /// A load in two steps, and a dispatch of its job in two steps.
     fn make_ready(&self, desk: &mut Desk) {
         let key = self.key("t", "c");
         let ready = made!(
@@ -179,7 +179,7 @@ fn is_fresh(reply: &DeskReply) -> bool {
     }
 }
 
-/// Whether there is one job, which is of batch 3 and has this key alone.
+/// Whether there is one job, of batch 3 with this key alone.
 fn is_job_of(jobs: &[Job], key: &FetchKey) -> bool {
     match jobs {
         [job] => job.batch == 3 && job.keys.as_slice() == slice::from_ref(key),

@@ -1,4 +1,4 @@
-//! Tables, and what is fetched from them.
+//! Tables, and what you fetch from them.
 
 use crate::refused::Stage;
 use crate::{USERS, assert_is, made, outcome_text};

@@ -1,4 +1,4 @@
-//! Terms that are explored round by round.
+//! Terms, explored round by round.
 
 use crate::refused::Stage;
 use crate::{ADA, BOB, FRIENDS, assert_is, ids_text, json, made, term};
@@ -7,17 +7,17 @@ use dl_terms::{Answer, Asked, Node, Term, explore, unexplored};
 use std::io::Eprint;
 use std::process::Abort;
 
-/// The users, each by its id and what its load gives.
+/// The users, each with its id and what its load gives.
 static USERS: [(&str, &str); 3] = [("u1", ADA), ("u2", BOB), ("u3", r#"{"name":"Cy"}"#)];
 
-/// How many of the users are known in each round of the friends of `u1`, and the ids that are wanted then.
+/// For each round of the friends of `u1`: the number of known users, and the ids that the term wants.
 static ROUNDS: [(usize, &str); 3] = [(0, "u1"), (1, "u2 u3"), (3, "")];
 
 /// What the friends of `u1` give.
 const ANSWER: &str = r#"[{"best":"u1","friends":[],"name":"Bob"},{"name":"Cy"}]"#;
 
 impl<R: Abort + Eprint> Stage<'_, R> {
-    /// The rounds of the friends of `u1`. A round that was out of memory has ended its node, and is made again with another.
+    /// The rounds of the friends of `u1`. A round that runs out of memory ends its node, and starts again with another.
     pub(crate) fn use_terms(&self) {
         let outcomes = self.outcomes();
         for round in 0..ROUNDS.len() {
@@ -43,7 +43,7 @@ impl<R: Abort + Eprint> Stage<'_, R> {
         outcomes
     }
 
-    /// Makes a round, refused or not. Whether it wasn't out of memory.
+    /// Makes a round, refused or not. Answers whether there was memory for it.
     fn is_explored(
         &self,
         outcomes: &[(FetchKey, Outcome)],
@@ -92,7 +92,7 @@ impl<R: Abort + Eprint> Stage<'_, R> {
         assert_is!(self.rt, &text.as_str(), &ANSWER, "the answer as one value");
     }
 
-    /// Learns outcomes, behind those that are known, until so many are.
+    /// Learns outcomes, after those that it knows, until it knows `count`.
     fn learn<'a>(
         &self,
         asked: &mut Asked<'a>,
@@ -105,7 +105,7 @@ impl<R: Abort + Eprint> Stage<'_, R> {
         }
     }
 
-    /// Learns the outcome of the first wanted key.
+    /// Learns the outcome of the first key that the term wants.
     fn learn_one<'a>(&self, asked: &mut Asked<'a>, outcome: &'a Outcome) {
         assert!(self.rt; !asked.wanted().is_empty(), "no key is wanted");
         self.refusal.begin();
@@ -119,8 +119,8 @@ impl<R: Abort + Eprint> Stage<'_, R> {
         }
     }
 
-    /// What is left of the term after the rounds before this one, the keys that it has asked for, and of how many of the users
-    /// the outcome is known.
+    /// What the rounds before this one leave of the term, the keys that it has asked for, and the number of users with
+    /// a known outcome.
     fn left_before<'a>(
         &self,
         outcomes: &'a [(FetchKey, Outcome)],

@@ -53,7 +53,7 @@ impl<R: Abort + Eprint> Stage<'_, R> {
         self.use_job(&key, copy.expect(self.rt, "no copy"));
     }
 
-    /// The calls of a job with these keys, of which this is the first.
+    /// The calls of a job with these keys, the first of which is `key`.
     fn use_job(&self, key: &FetchKey, keys: Keys) {
         let job = Job { batch: 7, keys };
         let copy = made_once!(self, "Job::try_copy", job.try_copy());
@@ -102,7 +102,7 @@ impl<R: Abort + Eprint> Stage<'_, R> {
         assert_is!(self.rt, &text.as_str(), &"true", "a value");
     }
 
-    /// Takes a value out while another shares it.
+    /// Takes a value out while somebody else shares it.
     fn take_out_shared(&self) {
         let list = json(self.alloc, "[true]").expect(self.rt, "no value");
         let value = made!(
