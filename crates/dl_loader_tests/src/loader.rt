@@ -52,8 +52,9 @@ fn play_rows<R: Abort + Eprint + RandomSource + Wait>(rt: &R, alloc: Global, row
     }
 }
 
-/// Makes the calls and the closes of a row on a loader of its own over these tables. Where the loader's start is refused, it is started
-/// again. What the row is about is told first, so where an assertion fails the last text told names its row.
+/// Makes the calls and the closes of a row on a loader of its own over these tables. If the loader doesn't start,
+/// starts it again. Before all that it prints what the row is about, so if an assertion fails, the last such line names
+/// its row.
 fn play_over<R: Abort + Eprint + Wait>(stage: &Stage<'_, R>, users: &Tables, row: &Row) {
     let told = stage.rt.eprintln(row.about);
     told.expect(stage.rt, "no text told");
@@ -62,7 +63,7 @@ fn play_over<R: Abort + Eprint + Wait>(stage: &Stage<'_, R>, users: &Tables, row
     }
 }
 
-/// As `play_over`, where the start is refused or not. False where it was out of memory.
+/// As `play_over`, with a refused start or not. `false` if the start ran out of memory.
 fn is_played<R: Abort + Eprint + Wait>(
     stage: &Stage<'_, R>,
     users: &Tables,

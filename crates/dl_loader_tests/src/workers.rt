@@ -1,5 +1,5 @@
-//! The job queue of `dl_queue` and the fetch workers of `dl_workers`: worked rows of calls on one thread, exchanges of jobs between many threads, and a
-//! worker that ends the jobs of a caller, also where growths are refused.
+//! The job queue of `dl_queue` and the fetch workers of `dl_workers`: worked rows of calls on one thread, exchanges of
+//! jobs between many threads, and a worker that ends the jobs of a caller, with refused growths too.
 
 mod exchanges;
 mod queue;

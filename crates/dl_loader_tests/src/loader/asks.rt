@@ -1,4 +1,4 @@
-//! The calls of a loader, from their texts, and what they answer as a text.
+//! The calls of a loader, from their texts, and their answers as texts.
 
 ghost use Rattle.std.specs.Prelude.{◌≡◌, false, IfOk, IfSome};
 ghost use Rattle.dl_desk.specs.Service.{Answers};
@@ -18,7 +18,7 @@ use std::slice;
 use std::sync::Wait;
 
 impl<'a, L: LoaderName, S: Source, R: Abort + Eprint + Wait> Scene<'a, L, S, R> {
-    /// What a call answers, by its name and its words, or why it is refused.
+    /// What a call answers, by its name and its words, or why the loader rejects it.
     pub(super) fn answer(&self, pass: &mut Pass<L>, name: &str, words: &str, by_law: bool) -> String
         requires { Answers (S.answer self.now.source.now) L.service }
     {
@@ -186,7 +186,7 @@ impl<'a, L: LoaderName, S: Source, R: Abort + Eprint + Wait> Scene<'a, L, S, R> 
         self.done(cleared)
     }
 
-    /// The text of a call that answers nothing.
+    /// The text of a call with no answer.
     fn done(&self, made: Result<(), CallFault>) -> Result<String, CallFault> {
         made?;
         Ok(String::from_str(self.alloc, "done").expect(self.rt, "no memory"))
@@ -240,7 +240,7 @@ impl<'a, L: LoaderName, S: Source, R: Abort + Eprint + Wait> Scene<'a, L, S, R> 
         }
     }
 
-    /// The text of an end: how many cells show it. None refuses it.
+    /// The text of an end: the number of cells that show it. None refuses it.
     fn shown(&self, settled: Settled) -> String {
         let Settled { shown, refused } = settled;
         assert_is!(self.rt, &refused, &0, "cells that refuse");

@@ -1,4 +1,4 @@
-//! What the history tells that a closed loader leaves, as text.
+//! The history of a closed loader, as text.
 
 use super::stage::Stage;
 use super::texts::looked_text;
@@ -8,8 +8,8 @@ use std::alloc::Global;
 use std::io::Eprint;
 use std::process::Abort;
 
-/// What a history tells: the number of its events and the batches that they end, in order; the entries of each caller that has some,
-/// with the places of its events; the batches with their keys; and the outcomes.
+/// A history as text: the number of its events and the batches that they end, in order; the entries of each caller that
+/// has some, with the places of its events; the batches with their keys; and the outcomes.
 pub(super) fn history_text<R: Abort + Eprint>(stage: &Stage<'_, R>, history: &History) -> String {
     let mut text = String::new(stage.alloc);
     write_events(stage.rt, &mut text, history);
@@ -63,7 +63,7 @@ fn write_caller<R: Abort + Eprint>(
     writeln!(text, " of {:?}", places.as_slice()).expect(rt, "no memory");
 }
 
-/// Writes an entry, behind a space: the place of a call, or the cell that was read.
+/// Writes a space and an entry: the place of a call, or the cell that the caller has read.
 pub(super) fn write_entry(rt: &impl Abort, text: &mut String, entry: EntryKind) {
     let written = match entry {
         EntryKind::Call { at } => write!(text, " {at}"),

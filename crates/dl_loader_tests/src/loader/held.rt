@@ -1,4 +1,4 @@
-//! Calls that are made while a caller has a ticket, by which it reads its outcome then.
+//! Calls of others while a caller has a ticket, which it then reads its outcome by.
 
 ghost use Rattle.dl_desk.specs.Service.{Answers};
 
@@ -17,8 +17,8 @@ const FIRST: LoadReply = LoadReply::Fresh { cell: 0, batch: 0 };
 const SECOND: LoadReply = LoadReply::Fresh { cell: 1, batch: 1 };
 
 impl<'a, L: LoaderName, S: Source, R: Abort + Eprint + Wait> Scene<'a, L, S, R> {
-    /// Loads the first key of a loader. With the word `end` its batch is then ended, and with the word `stop` the loader is stopped,
-    /// before its outcome is waited for: one that has ended is read after a stop too.
+    /// Loads the first key of a loader. With the word `end` it then ends the batch, and with the word `stop` it stops
+    /// the loader. Then it waits for the outcome: if the cell has ended, you can read it after a stop too.
     pub(super) fn hold(&self, pass: &mut Pass<L>, words: &str) -> String
         requires { Answers (S.answer self.now.source.now) L.service }
     {
@@ -36,9 +36,9 @@ impl<'a, L: LoaderName, S: Source, R: Abort + Eprint + Wait> Scene<'a, L, S, R> 
         self.read(pass, &mut ticket)
     }
 
-    /// The first caller loads the first key of a loader and sends its batch, another caller clears the key and loads it anew, and the first
-    /// ends the batch. With the word `see` the other then loads the key once more, and the first adds what it is shown to its pass. Answers
-    /// what the older cell shows. The newer one shows nothing.
+    /// The first caller loads the first key of a loader and sends its batch, another caller clears the key and loads it
+    /// anew, and the first ends the batch. With the word `see` the other then loads the key once more, and the first
+    /// adds what it sees to its pass. Answers what the older cell shows. The newer one shows nothing.
     pub(super) fn renew(&self, passes: &mut [Pass<L>], words: &str) -> String
         requires { Answers (S.answer self.now.source.now) L.service }
     {

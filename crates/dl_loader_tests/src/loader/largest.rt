@@ -14,7 +14,7 @@ use std::sync::Wait;
 /// The most keys of a batch, cells and calls.
 pub(super) const MOST: u32 = 65_536;
 
-/// Opens a loader, has its first caller make as many calls as there may be, and closes it: its history.
+/// Opens a loader, has its first caller make as many calls as the limits allow, and closes it. You get its history.
 pub(super) fn fill<L: LoaderName, S: Source, R: Abort + Eprint + Wait>(
     rt: &R,
     alloc: Global,
@@ -31,7 +31,7 @@ pub(super) fn fill<L: LoaderName, S: Source, R: Abort + Eprint + Wait>(
     }
 }
 
-/// Makes as many calls as there may be, and one more.
+/// Makes as many calls as the limits allow, and one more.
 fn clear_often<L: LoaderName, R: Abort + Eprint + Wait>(
     rt: &R,
     alloc: Global,

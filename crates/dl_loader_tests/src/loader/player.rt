@@ -1,4 +1,4 @@
-//! The player of rows: it makes their calls, each of which must answer as its row says.
+//! The player of rows: it makes their calls, and each must answer as its row says.
 
 ghost use Rattle.std.specs.Prelude.{◌≡◌, false};
 ghost use Rattle.dl_desk.specs.Service.{Answers};
@@ -16,7 +16,7 @@ use std::io::Eprint;
 use std::process::Abort;
 use std::sync::Wait;
 
-/// What calls are made on, and with what; and what they are refused, which may be nothing. A call that is out of memory is made again.
+/// What calls need, and what the library refuses them, if anything. A call that runs out of memory happens again.
 #[derive(Drop)]
 pub(super) struct Scene<'a, L: LoaderName, S: Source, R: Abort + Wait> {
     pub(super) rt: &'a R,
@@ -43,7 +43,7 @@ impl<'a, L: LoaderName, S: Source, R: Abort + Eprint + Wait> Scene<'a, L, S, R> 
         }
     }
 
-    /// Makes one call, which must answer so.
+    /// Makes one call, which must answer `want`.
     pub(super) fn make(&self, pass: &mut Pass<L>, call: &str, want: &str)
         requires { Answers (S.answer self.now.source.now) L.service }
     {
@@ -67,7 +67,7 @@ impl<'a, L: LoaderName, S: Source, R: Abort + Eprint + Wait> Scene<'a, L, S, R> 
         String::new(self.alloc)
     }
 
-    /// Loads a key that is held, and reads its outcome.
+    /// Loads a key that the loader holds, and reads its outcome.
     fn read_held(&self, pass: &mut Pass<L>, how: &str, id: &str) -> String {
         let ticket = self.loaded(pass, &user(self.rt, self.alloc, id));
         let mut ticket = ticket.expect(self.rt, "no ticket");
@@ -86,7 +86,8 @@ impl<'a, L: LoaderName, S: Source, R: Abort + Eprint + Wait> Scene<'a, L, S, R> 
         format!(in self.alloc; "hit {cell}: {text}").expect(self.rt, "no memory")
     }
 
-    /// Waits for the ticket's outcome, which the ticket shows then; or it shows none, and the loader is stopped.
+    /// Waits for the ticket's outcome, and the ticket shows it. If not, the ticket shows none, and the loader is
+    /// stopped.
     pub(super) fn read(&self, pass: &mut Pass<L>, ticket: &mut Ticket<'_, L>) -> String
         requires { GaveTicket pass.old.trace ticket.old false }
     {
@@ -96,7 +97,7 @@ impl<'a, L: LoaderName, S: Source, R: Abort + Eprint + Wait> Scene<'a, L, S, R> 
         looked_text(self.rt, self.alloc, outcome)
     }
 
-    /// Sends what waits to be sent, and ends it.
+    /// Sends what has not gone out, and ends it.
     pub(super) fn end_all(&self, pass: &mut Pass<L>)
         requires { Answers (S.answer self.now.source.now) L.service }
         ensures { pass.new.trace.tickets ≡ pass.old.trace.tickets }
@@ -107,7 +108,7 @@ impl<'a, L: LoaderName, S: Source, R: Abort + Eprint + Wait> Scene<'a, L, S, R> 
         ended.expect(self.rt, "no end");
     }
 
-    /// What the pass tells: its entries, how many of them are calls, and its front.
+    /// The text of a pass: its entries, the number of calls among them, and its front.
     fn told(&self, pass: &Pass<L>) -> String {
         let mut text = String::new(self.alloc);
         for entry in pass.entries() {

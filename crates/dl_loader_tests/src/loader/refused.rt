@@ -1,6 +1,8 @@
-//! Each call of a loader, with its first growth refused, then with the second, and so on until it meets no refusal. It is out of
-//! memory then or answers as ever, and where it was out of memory the same call made again answers as ever. `tests/calls` runs this
-//! above `tests/refuse.c`; without that library nothing is refused, and each call is made once.
+//! Each call of a loader, with its first growth refused, then with the second, and so on until nothing is.
+//!
+//! A call is then out of memory or answers as ever. If it was out of memory, the same call answers as ever the next
+//! time. `tests/calls` runs this above `tests/refuse.c`. Without that library nothing is refused, and each call happens
+//! once.
 
 use crate::loader::stage::Stage;
 use crate::loader::step::{Part, Row};

@@ -14,7 +14,8 @@ use std::io::Eprint;
 use std::process::Abort;
 use std::sync::Wait;
 
-/// Makes the calls and the closes of a row on the loader of an opening, which `L` stands for. False where its start is out of memory.
+/// Makes the calls and the closes of a row on the loader of an opening, which `L` names. `false` if the start runs out
+/// of memory.
 pub(super) fn play<L: LoaderName, S: Source, R: Abort + Eprint + Wait>(
     stage: &Stage<'_, R>,
     source: &S,
@@ -50,7 +51,7 @@ pub(super) fn play<L: LoaderName, S: Source, R: Abort + Eprint + Wait>(
     true
 }
 
-/// What a close answers. Where it is refused a growth, it is made again.
+/// What a close answers. If it runs out of memory by a refusal, it happens again.
 fn closed<L: LoaderName, R: Abort + Eprint>(
     stage: &Stage<'_, R>,
     loader: Loader<L>,
@@ -68,7 +69,7 @@ fn closed<L: LoaderName, R: Abort + Eprint>(
     }
 }
 
-/// Closes the loader as the part says. Where that is refused the loader and the passes come back.
+/// Closes the loader as the part says. If that fails, you get the loader and the passes back.
 fn close<L: LoaderName, R: Abort + Eprint>(
     stage: &Stage<'_, R>,
     loader: Loader<L>,

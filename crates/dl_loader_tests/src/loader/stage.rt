@@ -1,4 +1,4 @@
-//! What loaders are opened with, and what their calls are refused.
+//! What you open loaders with, and what the library refuses their calls.
 
 ghost use Rattle.std.specs.Prelude.{◌≡◌};
 
@@ -14,14 +14,14 @@ use std::io::Eprint;
 use std::process::Abort;
 use std::random::RandomSource;
 
-/// What loaders are opened with, and what their calls are refused.
+/// What you open loaders with, and what the library refuses their calls.
 #[derive(Drop)]
 pub(crate) struct Stage<'a, R> {
     pub(crate) rt: &'a R,
     pub(crate) alloc: Global,
     pub(crate) hashing: RandomState,
     pub(crate) refusal: &'a Refusal,
-    /// A table whose batches have one key, where each batch is of one table. None: batches may mix tables.
+    /// If each batch has one table: a table whose batches have one key. With `None`, batches may mix tables.
     pub(crate) table: Option<&'static str>,
 }
 
@@ -75,7 +75,7 @@ impl<R: Abort + Eprint> Stage<'_, R> {
         first.expect(self.rt, "no opening")
     }
 
-    /// An opening whose batches are each of one table; those of this one have one key.
+    /// An opening with one table in each batch. The batches of this table have one key.
     fn opening_by_table<'s, S: Source>(
         &self,
         source: &'s S,

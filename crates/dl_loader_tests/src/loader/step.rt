@@ -1,23 +1,26 @@
-//! Rows of calls as data. A call is a text: its name, and behind it the number of a batch, ids of users, each of which stands for its
-//! key, and an outcome: `load u1`, `loadMany u1 u2`, `prime u1 error gone`, `clear u1`, `clearAll`, `dispatch`, `settle 0 u1 u2` by what
-//! the source answers, and `fail 0 u1` or `unsent 0 u1`. Behind the word `law` it is made as a value, on the locked book.
+//! Rows of calls as data.
 //!
-//! Other texts are `look u1`, `wait u1` and `waitWithBook u1`, which load a key that is held and read its outcome; `hold`, with the words
-//! `end` and `stop`, and `renew u13`, with the word `see`, which make several calls (`held.rt`); `stop`; and `tells`, which gives what
-//! the caller's pass tells.
+//! A call is a text. Its name comes first, and then the number of a batch, ids of users, each for its key, and an
+//! outcome: `load u1`, `loadMany u1 u2`, `prime u1 error gone`, `clear u1`, `clearAll`, `dispatch`, `settle 0 u1 u2` by
+//! what the source answers, and `fail 0 u1` or `unsent 0 u1`. After the word `law` the row makes the call as a value,
+//! on the locked book.
+//!
+//! There are other texts too. `look u1`, `wait u1` and `waitWithBook u1` load a key that the loader holds and read its
+//! outcome. `hold`, with the words `end` and `stop`, and `renew u13`, with the word `see`, make several calls
+//! (`held.rt`). `stop` stops the loader. And `tells` gives the caller's pass as text.
 
 /// A caller, its call, and what that must answer.
 pub(super) type Step = (usize, &'static str, &'static str);
 
 /// The calls on one loader over the tables of users.
 pub(super) struct Row {
-    /// What the row is about, which names it.
+    /// What the row is about, as its name.
     pub(super) about: &'static str,
     /// The most keys of a batch, cells and calls.
     pub(super) limits: (u32, u32, u32),
     /// The number of callers.
     pub(super) callers: u32,
-    /// The calls. After a close that is refused the row goes on with the next part.
+    /// The calls. After a close that fails, the row goes on with the next part.
     pub(super) parts: &'static [Part],
 }
 
@@ -25,8 +28,8 @@ pub(super) struct Row {
 pub(super) struct Part {
     /// The calls.
     pub(super) steps: &'static [Step],
-    /// How many of the passes are handed to the close, from the first caller on.
+    /// The number of passes that the close gets, from the first caller on.
     pub(super) passes: usize,
-    /// What the close must answer: what the history tells, or why it is refused.
+    /// What the close must answer: the text of the history, or why it fails.
     pub(super) close: &'static str,
 }

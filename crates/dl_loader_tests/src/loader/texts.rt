@@ -1,4 +1,4 @@
-//! Keys and outcomes from their texts, and the texts of what calls answer.
+//! Keys and outcomes from their texts, and the answers of calls as texts.
 
 use dl_desk::{BatchFault, FetchKey, Job, LoadReply, Message, Outcome};
 use dl_loader::Reply;
@@ -21,7 +21,7 @@ pub(super) fn users(rt: &impl Abort, alloc: Global, ids: &str) -> Vec<FetchKey> 
     keys
 }
 
-/// The outcome that a key is primed with.
+/// The outcome for a prime of a key.
 pub(super) fn outcome(rt: &impl Abort, alloc: Global, text: &str) -> Outcome {
     if text == "memory" {
         return Outcome::BatchFailed(BatchFault::Memory);
@@ -32,7 +32,7 @@ pub(super) fn outcome(rt: &impl Abort, alloc: Global, text: &str) -> Outcome {
     }
 }
 
-/// The outcome that is shown, if one is. The row of the user `u1` is told by its name.
+/// The outcome, if there is one. For the row of the user `u1` it is the name.
 pub(super) fn looked_text(rt: &impl Abort, alloc: Global, outcome: Option<&Outcome>) -> String {
     let text = match outcome {
         Some(outcome) => outcome_text(alloc, outcome),

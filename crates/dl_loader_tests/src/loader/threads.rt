@@ -1,4 +1,4 @@
-//! One key that two callers load, each on a thread of its own.
+//! Two callers load one key, each on a thread of its own.
 
 ghost use Rattle.std.specs.Prelude.{◌≡◌, false};
 ghost use Rattle.dl_desk.specs.Service.{Answers};
@@ -20,8 +20,8 @@ use std::process::Abort;
 use std::sync::Wait;
 use std::thread::{Threads, join};
 
-/// Two callers load a key, each on a thread of its own. Then the first of them ends the batch, both read the
-/// outcome, and the loader is closed.
+/// Two callers load a key, each on a thread of its own. Then the first of them ends the batch, both read the outcome,
+/// and the loader closes.
 pub(super) fn load_by_two<
     L: LoaderName + Send + Sync,
     S: Source,
@@ -158,7 +158,7 @@ fn assert_history<R: Abort + Eprint>(stage: &Stage<'_, R>, history: &History) {
     assert!(rt; is_first || text.as_str() == SECOND, "{text}");
 }
 
-/// What the history tells where the first caller loads first, and where the other does.
+/// The text of the history if the first caller loads first, and if the other does.
 const FIRST: &str = concat!(
     "4 events, settles 0\n",
     "caller 0: 0 2 3 saw 0 at 3 of [0, 2, 3]\n",

@@ -1,4 +1,5 @@
-//! How a program uses the shared loader: callers on threads of their own load one key, and the loader is closed.
+//! How a program uses the shared loader: callers on threads of their own load one key, and then the program closes the
+//! loader.
 
 ghost use Rattle.std.specs.Prelude.{◌≡◌};
 ghost use Rattle.dl_desk.specs.Service.{Answers};
@@ -18,7 +19,7 @@ use std::sync::Wait;
 use std::thread;
 use std::thread::Threads;
 
-/// Opens a loader, has each of its callers load the key on a thread of its own, and closes it: its history.
+/// Opens a loader, has each of its callers load the key on a thread of its own, and closes it. You get its history.
 pub(super) fn load_by_each<
     L: LoaderName + Send + Sync,
     S: Source + Sync,
@@ -56,7 +57,7 @@ fn start_threads<L: LoaderName + Send + Sync, S: Source + Sync, R: Threads + Wai
     );
 }
 
-/// One caller loads the key. Where a call is refused the loader is stopped, so that no other caller waits for ever.
+/// One caller loads the key. If a call fails, it stops the loader, so that no other caller waits for ever.
 fn load_or_stop<L: LoaderName, S: Source, R: Wait>(
     rt: &R,
     alloc: Global,
@@ -72,7 +73,7 @@ fn load_or_stop<L: LoaderName, S: Source, R: Wait>(
     }
 }
 
-/// Loads the key, ends each batch that waits to be sent, and waits for the key's outcome.
+/// Loads the key, ends each batch that has not gone out, and waits for the key's outcome.
 fn load<L: LoaderName, S: Source, R: Wait>(
     rt: &R,
     alloc: Global,
@@ -90,7 +91,7 @@ fn load<L: LoaderName, S: Source, R: Wait>(
     Ok(())
 }
 
-/// The history has one batch, which is settled, and both callers have read the outcome.
+/// The history has one settled batch, and both callers have read the outcome.
 pub(super) fn assert_history(rt: &(impl Abort + Eprint), alloc: Global, history: &History) {
     let batches = history.batches();
     let batch = batches.get(0).expect(rt, "no batch");

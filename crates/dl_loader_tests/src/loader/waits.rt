@@ -1,5 +1,5 @@
-//! Callers that wait at once, each on a thread of its own: for one batch or for several, while batches are ended or the
-//! loader is stopped, and after that.
+//! Callers that wait at once, each on a thread of its own: for one batch or for several, while another caller ends the
+//! batches or stops the loader, and after that.
 
 ghost use Rattle.std.specs.Prelude.{◌≡◌};
 ghost use Rattle.dl_desk.specs.Service.{Answers};
@@ -18,10 +18,10 @@ use std::sync::atomic::{AtomicU32, Ordering};
 use std::thread;
 use std::thread::Threads;
 
-/// How many callers there are.
+/// The number of callers.
 pub(super) const CALLERS: u32 = 6;
 
-/// How often a caller looks whether the others have come, until it gives up.
+/// A caller looks this often whether the others have come, and then gives up.
 const MOST_LOOKS: u32 = 10_000_000;
 
 /// How the first caller releases the others from their waiting.
@@ -38,7 +38,7 @@ pub(super) enum Release {
 pub(super) struct Crowd {
     /// The most keys of a batch.
     pub(super) max_batch: u32,
-    /// The users that the callers load, in turn, with the outcomes that they are to read.
+    /// The users that the callers load, in turn, with the outcomes that they must read.
     pub(super) loads: &'static [(&'static str, &'static str)],
     /// What the first caller does once all have loaded.
     pub(super) release: Release,
@@ -47,7 +47,7 @@ pub(super) struct Crowd {
 }
 
 impl Crowd {
-    /// What a caller is to read, where this is the outcome: nothing at a loader that is stopped.
+    /// What a caller must read if this is the outcome: nothing if the loader is stopped.
     fn shown<'a>(&self, text: &'a str) -> &'a str {
         match self.release {
             Release::Stops => "nothing",
@@ -56,7 +56,8 @@ impl Crowd {
     }
 }
 
-/// A crowd, and how many steps its callers have taken: each but the first has loaded, or the first has ended the waiting.
+/// A crowd, and the number of steps that its callers have taken: each but the first has loaded, or the first has ended
+/// the waiting.
 #[derive(Drop)]
 struct Meeting {
     crowd: &'static Crowd,
@@ -64,7 +65,7 @@ struct Meeting {
 }
 
 impl Meeting {
-    /// Returns once so many callers have taken their steps.
+    /// Returns once callers have taken `count` steps.
     fn await_steps(&self, rt: &impl Abort, count: u32) {
         for _ in 0..MOST_LOOKS {
             if self.steps.load(Ordering::SeqCst) == count {

@@ -13,21 +13,22 @@ use std::sync::Wait;
 use std::sync::atomic::{AtomicBool, AtomicU32, Ordering};
 use std::thread::{self, Threads, join};
 
-/// How a queue is used: its room and its seats, and how many jobs each sender means to send.
+/// How an exchange uses a queue: the room and the seats of the queue, and the number of jobs that each sender has for
+/// it.
 struct Exchange {
     capacity: u32,
     senders: u32,
     takers: u32,
     jobs: u32,
-    /// How many of its jobs each of the first two senders sends before it shuts the queue. Where that is all of them,
-    /// the queue is shut once every sender has sent all.
+    /// Each of the first two senders shuts the queue after this many jobs. If that is all of them, one shuts it after
+    /// every sender has sent all.
     shut_after: u32,
-    /// How often the exchange is made.
+    /// The number of times that the exchange happens.
     times: u32,
 }
 
-/// The jobs of an exchange, and which of them were taken or came back. The jobs are told apart by their numbers: each sender has
-/// the same many, and those of the first sender come first.
+/// The jobs of an exchange, and which of them a taker took or a sender got back. Each has a number: all senders have
+/// equally many, and the jobs of the first sender come first.
 #[derive(Drop)]
 struct Jobs {
     keys: Keys,
@@ -36,7 +37,7 @@ struct Jobs {
 }
 
 impl Jobs {
-    /// So many jobs of one key.
+    /// `count` jobs of one key.
     fn new(rt: &impl Abort, alloc: Global, count: u32) -> Jobs {
         let key = FetchKey::new(alloc, "t", "a").expect(rt, "no key");
         let mut is_noted = Vec::new(alloc);
@@ -51,7 +52,7 @@ impl Jobs {
         }
     }
 
-    /// Notes that a job was taken or came back, which it did not before.
+    /// Notes that a taker took a job or that it came back, for the first time.
     fn note(&self, rt: &impl Abort, job: &Job) {
         let is_noted = self.is_noted.get(job.batch as usize);
         let was_noted = is_noted
@@ -61,7 +62,7 @@ impl Jobs {
         self.noted.fetch_add(1, Ordering::SeqCst);
     }
 
-    /// Sends the job of a number. Where it comes back it is noted, and the answer is `true`.
+    /// Sends the job of this number. If it comes back, notes that and answers `true`.
     fn send<R: Abort + Eprint + Wait>(
         &self,
         rt: &R,
@@ -83,7 +84,7 @@ impl Jobs {
     }
 }
 
-/// Sends the jobs of the sender of a number. A sender that has shut the queue gets each of them back.
+/// Sends the jobs of the sender of this number. After it shuts the queue, it gets each of them back.
 fn send_all<R: Abort + Eprint + Wait>(
     rt: &R,
     queue: &JobQueue,
@@ -202,7 +203,8 @@ fn use_seats<R: Abort + Eprint + Threads + Wait + Sync>(
     )
 }
 
-/// Makes an exchange on a queue of its own. Each of its jobs is taken or comes back once, but for those that are left.
+/// Makes an exchange on a queue of its own. A taker takes each of its jobs or it comes back, once, but for those that
+/// the queue keeps.
 fn make<R: Abort + Eprint + Threads + Wait + Sync>(
     rt: &R,
     alloc: Global,
@@ -220,7 +222,7 @@ fn make<R: Abort + Eprint + Threads + Wait + Sync>(
     tally
 }
 
-/// The queue is shut once all jobs are sent.
+/// A sender shuts the queue after all jobs are in.
 static ALL_SENT: [Exchange; 4] = [
     Exchange {
         capacity: 4,
@@ -276,8 +278,8 @@ fn each_job_is_taken_once(rt: HostRuntime) {
     }
 }
 
-/// Two senders shut the queue while the others send. A send that had begun by then may put its job behind the end
-/// marks, where it is left, and so each queue has a place for the job of every other sender: one that found none
+/// Two senders shut the queue while the others send. A send that has begun by then may put its job after the end marks,
+/// and the queue keeps it. So each queue has a place for the job of every other sender: if a sender found none, it
 /// would wait for ever.
 static SHUT_MEANWHILE: [Exchange; 4] = [
     Exchange {

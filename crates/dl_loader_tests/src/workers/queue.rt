@@ -17,7 +17,7 @@ fn job(rt: &impl Abort, alloc: Global, batch: u32) -> Job {
     Job { batch, keys }
 }
 
-/// Capacities and numbers of senders and takers: the bounds, and what lies past them.
+/// Capacities and numbers of senders and takers: the bounds, and what is past them.
 static NUMBERS: [(u32, u32, u32, Option<QueueFault>); 12] = [
     (0, 1, 1, Some(QueueFault::BadCapacity)),
     (1_025, 1, 1, Some(QueueFault::BadCapacity)),
@@ -41,7 +41,7 @@ fn numbers_out_of_range(rt: HostRuntime) {
     }
 }
 
-/// A sender sends the job of a number. Whether it comes back is as it is said.
+/// A sender sends the job of this number, which comes back or not, as `is_back` says.
 fn send<R: Abort + Eprint + Wait>(
     rt: &R,
     alloc: Global,
@@ -112,8 +112,8 @@ fn one_job_left(rt: HostRuntime) {
     );
 }
 
-/// Three jobs and two end marks fill the queue: a second `shut` that sent marks would wait for ever. Each sender's
-/// jobs come back then, and the takers first get what is left, and then the end, which comes again.
+/// Three jobs and two end marks fill the queue: a second `shut` that sent marks would wait for ever. Each sender's jobs
+/// come back then. The takers first get what the queue still has, and then the end, which comes again.
 #[test]
 fn what_is_left_comes_before_the_end(rt: HostRuntime) {
     let alloc = rt.alloc();

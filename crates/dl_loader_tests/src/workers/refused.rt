@@ -1,5 +1,5 @@
-//! A queue that is made and a worker that works, with the first growth of each refused, then with the second, and so on until they meet no
-//! refusal. `tests/calls` runs this above `tests/refuse.c`; without that library nothing is refused, and each call is made once.
+//! A queue and a worker, with the first growth of each refused, then with the second, and so on until nothing is.
+//! `tests/calls` runs this above `tests/refuse.c`. Without that library nothing is refused, and each call happens once.
 
 use crate::loader::stage::Stage;
 use crate::loader::users;

@@ -24,28 +24,29 @@ use std::sync::atomic::{AtomicU32, Ordering};
 /// outcome of its last load, and makes one more call.
 pub(crate) struct Row {
     about: &'static str,
-    /// How many jobs the queue has room for.
+    /// The number of jobs that the queue has room for.
     capacity: u32,
     /// The most keys of a batch, cells and calls.
     most: (u32, u32, u32),
-    /// How many keys of no table are loaded first.
+    /// The number of keys of no table that the caller loads first.
     crowd: u32,
-    /// The users that are loaded then.
+    /// The users that it loads then.
     ids: &'static [&'static str],
-    /// How many jobs these are. All of them are taken.
+    /// The number of jobs. The worker takes all of them.
     jobs: u64,
     end: WorkerEnd,
-    /// What the gate is told, by a digit for each call: 2 b + 1 before batch b is fetched, and 2 b + 2 once it has ended.
+    /// What the gate hears, with a digit for each call: 2 b + 1 before the fetch of batch b, and 2 b + 2 once it has
+    /// ended.
     told: u32,
-    /// The text of the outcome that the caller waits for, or that it was stopped.
+    /// The text of the outcome that the caller waits for, or that the loader is stopped.
     waited: &'static str,
-    /// What a clear of all keys answers in the end.
+    /// What a clear of all keys answers at the end.
     next: Result<(), CallFault>,
-    /// For each batch whether it was settled, or why the loader can't be closed.
+    /// For each batch whether it was settled, or why the loader doesn't close.
     closed: Result<&'static [bool], CloseFault>,
 }
 
-/// A row of one load, from which the others differ.
+/// A row of one load. The others differ from it.
 pub(crate) const ROW: Row = Row {
     about: "a batch of one key",
     capacity: 2,
@@ -137,7 +138,7 @@ static ROWS: [Row; 8] = [
     },
 ];
 
-/// A gate that notes what it is told, as the rows write it.
+/// A gate that notes what it hears, as the rows write it.
 #[derive(Drop)]
 struct Told {
     digits: AtomicU32,
@@ -180,7 +181,7 @@ pub(crate) fn try_row<R: Abort + Eprint + Wait>(stage: &Stage<'_, R>, users: &Ta
     play::<Brand, _, _>(stage, users, opening, row);
 }
 
-/// Plays a row on the loader of an opening, which `L` stands for, and closes it.
+/// Plays a row on the loader of an opening, which `L` names, and closes it.
 fn play<L: LoaderName, S: Source, R: Abort + Eprint + Wait>(
     stage: &Stage<'_, R>,
     source: &S,
@@ -199,7 +200,7 @@ fn play<L: LoaderName, S: Source, R: Abort + Eprint + Wait>(
     }
 }
 
-/// The history has the batches of the row, each of which was settled or not, as the row says. Where a growth was refused, none was.
+/// The history has the batches of the row, settled or not, as the row says. After a refused growth, none is settled.
 fn assert_batches(rt: &(impl Abort + Eprint), history: &History, row: &Row, was_refused: bool) {
     let want = row.closed.expect(rt, row.about);
     let batches = history.batches();
@@ -233,7 +234,8 @@ fn queue<R: Abort + Eprint>(
     first.expect(stage.rt, "no queue")
 }
 
-/// Plays a caller and a worker by these passes. Answers whether the batch was failed, since a growth was refused to the worker.
+/// Plays a caller and a worker by these passes. Answers whether the worker failed the batch because of a refused
+/// growth.
 fn use_loader<L: LoaderName, S: Source, R: Abort + Eprint + Wait>(
     stage: &Stage<'_, R>,
     loader: &Loader<L>,
@@ -274,13 +276,13 @@ fn use_loader<L: LoaderName, S: Source, R: Abort + Eprint + Wait>(
 #[derive(Clone, Copy)]
 struct Worked {
     end: WorkerEnd,
-    /// What its gate was told, as the rows write it.
+    /// What its gate heard, as the rows write it.
     told: u32,
-    /// Whether a growth was refused to it.
+    /// Whether the library refused it a growth.
     was_refused: bool,
 }
 
-/// A worker ends the jobs of a queue that was shut.
+/// A worker ends the jobs of a queue that is shut.
 fn work_once<L: LoaderName, S: Source, R: Abort + Eprint + Wait>(
     stage: &Stage<'_, R>,
     loader: &Loader<L>,
@@ -329,7 +331,7 @@ fn load<'a, L: LoaderName, R: Abort + Wait>(
     loader.load(rt, alloc, pass, &last).expect(rt, "no ticket")
 }
 
-/// Dispatches, and sends each job. Each of them is taken by the queue.
+/// Dispatches, and sends each job. The queue takes each of them.
 fn send<L: LoaderName, R: Abort + Wait>(
     rt: &R,
     alloc: Global,
@@ -347,7 +349,7 @@ fn send<L: LoaderName, R: Abort + Wait>(
     }
 }
 
-/// Waits for a ticket's outcome: its text, or that it was stopped.
+/// Waits for a ticket's outcome, and answers its text, or that the loader is stopped.
 fn wait<L: LoaderName, R: Abort + Wait>(
     rt: &R,
     alloc: Global,

@@ -1,9 +1,9 @@
-//! Closes of a loader, some of which are refused, and what the last one leaves.
+//! Closes of a loader, some of which fail, and what the last one leaves.
 
 use crate::loader::play_rows;
 use crate::loader::step::{Part, Row};
 
-/// The load of the first key, and a close, which is refused.
+/// The load of the first key, and a close, which fails.
 const BEGUN: Part = Part {
     steps: &[(0, "load u1", "fresh 0 0")],
     passes: 1,

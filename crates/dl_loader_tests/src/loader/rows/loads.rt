@@ -1,4 +1,4 @@
-//! Loads, primes and clears, and the outcomes that are read.
+//! Loads, primes and clears, and reads of outcomes.
 
 use crate::loader::play_rows;
 use crate::loader::step::{Part, Row};

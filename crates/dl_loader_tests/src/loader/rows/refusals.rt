@@ -1,4 +1,4 @@
-//! Calls that are refused, each by the first cause that applies. A refused call leaves the pass as it was.
+//! Calls that the loader rejects, each by the first cause that applies. A rejected call leaves the pass as it was.
 
 use crate::loader::play_rows;
 use crate::loader::step::{Part, Row};
