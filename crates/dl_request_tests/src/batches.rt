@@ -6,7 +6,7 @@ use std::alloc::Global;
 use std::io::Eprint;
 use std::process::Abort;
 
-/// The ids of a batch's keys, with `true` where the batch was settled.
+/// The ids of a batch's keys, with `true` if the batch was settled.
 pub(crate) type Batch = (&'static str, bool);
 
 /// The history has these batches and no others.
@@ -29,7 +29,7 @@ pub(crate) fn assert_batches<R: Abort + Eprint>(
     assert_is!(rt, &batches.get(number).is_none(), &true, about);
 }
 
-/// How many batches the history has.
+/// The number of batches of the history.
 pub(crate) fn count_batches(history: &History) -> u32 {
     let batches = history.batches();
     for number in 0..u32::MAX {

@@ -1,5 +1,5 @@
-//! Terms whose batches the caller ends on its own thread, or a worker on another: their answers, their rounds, and the batches
-//! that these make. What else terms give is asked of the program, as rows of `tests/documents.py`.
+//! Terms whose batches the caller ends on its own thread, or a worker on another: their answers, their rounds, and the
+//! batches that these make. Rows of `tests/documents.py` test what else terms give, by the program.
 
 use crate::batches::{Batch, assert_batches};
 use crate::player::{By, Turn, play_over};
@@ -24,13 +24,13 @@ struct Row<'a> {
     max_cells: u32,
     /// The text of its answer.
     answer: &'a str,
-    /// How many rounds of loads it takes.
+    /// The number of rounds of loads that it takes.
     rounds: u32,
     /// Its batches.
     batches: &'static [Batch],
 }
 
-/// A row of a term that needs no load, from which the others differ.
+/// A row of a term that needs no load. The others differ from it.
 const ROW: Row<'static> = Row {
     about: "a value",
     by: &[By::Itself, By::Worker],
@@ -107,7 +107,7 @@ static FAULTS: [Row<'static>; 3] = [
     },
 ];
 
-/// How often each row is played.
+/// Each row plays this often.
 const TIMES: u32 = 20;
 
 #[test]
@@ -147,14 +147,14 @@ fn as_many_items_as_there_may_be(rt: HostRuntime) {
     try_row(&stage, users, &row);
 }
 
-/// The term that loads the first user so many times.
+/// The term that loads the first user `times` times.
 fn crowd(rt: &impl Abort, alloc: Global, times: usize) -> String {
     let users = list_text(alloc, "\"u1\"", times).expect(rt, "no memory");
     let text = format!(in alloc; "{{\"each\":[{{\"value\":{{\"f\":{users}}}}},\"f\",\"user\"]}}");
     text.expect(rt, "no memory")
 }
 
-/// Plays a row, which is seen to be as it says, by each of those who end its batches.
+/// Plays a row with each of those who end its batches, and checks what it says.
 fn try_row<
     S: Source + Sync,
     R: Abort + AllocGlobal + Eprint + RandomSource + Threads + Wait + Sync,

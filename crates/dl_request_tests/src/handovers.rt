@@ -1,4 +1,4 @@
-//! Terms whose jobs are handed over by a queue, to a worker on a thread of its own or, where the queue was shut, to nobody:
+//! Terms that hand over their jobs by a queue, to a worker on a thread of its own or, if the queue is shut, to nobody:
 //! worked rows of answers, rounds, jobs, and what the caller's pass has.
 
 use crate::batches::{Batch, assert_batches};
@@ -16,13 +16,13 @@ use std::random::RandomSource;
 use std::sync::Wait;
 use std::thread::Threads;
 
-/// Terms that are evaluated one after another, on a loader of these limits, and what the loader leaves.
+/// Terms, one after another on a loader of these limits, and what the loader leaves.
 struct Series {
     about: &'static str,
     /// The most keys of a batch, cells and calls.
     most: (u32, u32, u32),
     turns: &'static [Turn<'static>],
-    /// Why the loader can't be closed. None: it can, and its history tells what follows.
+    /// Why the loader doesn't close. With `None` it does, and its history has what follows.
     fault: Option<CloseFault>,
     /// The first caller's entries.
     entries: &'static [EntryKind],
@@ -41,7 +41,7 @@ const LOAD: Turn<'static> = Turn {
     end: WorkerEnd::Done { batches: 1 },
 };
 
-/// A load of the first user over a queue that was shut.
+/// A load of the first user over a queue that is shut.
 const UNSENT: Turn<'static> = Turn {
     by: By::Nobody,
     answer: "batch of u1: unsent",
@@ -50,7 +50,7 @@ const UNSENT: Turn<'static> = Turn {
     ..LOAD
 };
 
-/// The first two users, over a queue that was shut.
+/// The first two users, over a queue that is shut.
 const UNSENT_BOTH: Turn<'static> = Turn {
     term: r#"{"all":[{"load":["user","u1"]},{"load":["user","u2"]}]}"#,
     ..UNSENT
@@ -76,7 +76,7 @@ const THREE: Turn<'static> = Turn {
     ..LOAD
 };
 
-/// A load whose dispatch is refused.
+/// A load with a dispatch that the loader rejects.
 const FULL_AT_DISPATCH: Turn<'static> = Turn {
     answer: "Call(LogFull { limit: 1 })",
     rounds: 0,
@@ -85,7 +85,7 @@ const FULL_AT_DISPATCH: Turn<'static> = Turn {
     ..LOAD
 };
 
-/// A load whose batch the worker can't end.
+/// A load with a batch that the worker can't end.
 const GIVEN_UP: Turn<'static> = Turn {
     answer: "Stopped",
     rounds: 0,
@@ -93,14 +93,14 @@ const GIVEN_UP: Turn<'static> = Turn {
     ..LOAD
 };
 
-/// A load whose batch the caller can't fail, over a queue that was shut.
+/// A load with a batch that the caller can't fail, over a queue that is shut.
 const FULL_AT_FAIL: Turn<'static> = Turn {
     answer: "Call(LogFull { limit: 2 })",
     rounds: 0,
     ..UNSENT
 };
 
-/// A load whose batch the other caller can't end on its own thread.
+/// A load with a batch that the other caller can't end on its own thread.
 const FULL_AT_END: Turn<'static> = Turn {
     by: By::Itself,
     answer: "Call(LogFull { limit: 2 })",
@@ -108,14 +108,14 @@ const FULL_AT_END: Turn<'static> = Turn {
     ..LOAD
 };
 
-/// A load at a loader that is stopped.
+/// A load on a stopped loader.
 const STOPPED: Turn<'static> = Turn {
     answer: "Call(Stopped)",
     rounds: 0,
     ..UNSENT
 };
 
-/// A series of a load that leaves its batch without an end, from which those differ that a full log ends.
+/// A series of a load that leaves its batch without an end. The series that end by a full log differ from it.
 const UNSETTLED: Series = Series {
     about: "a log that is full at the dispatch",
     most: (2, 8, 1),
@@ -207,7 +207,7 @@ static SERIES: [Series; 8] = [
     },
 ];
 
-/// A load of a table for which the source has no memory.
+/// A load of a table that the source has no memory for.
 static SHOP: Series = Series {
     about: "a source without memory",
     most: (2, 8, 16),
@@ -222,7 +222,7 @@ static SHOP: Series = Series {
     batches: &[("s", false)],
 };
 
-/// How often each series is played.
+/// Each series plays this often.
 const TIMES: u32 = 100;
 
 #[test]
@@ -237,7 +237,7 @@ fn terms_whose_jobs_are_handed_over(rt: HostRuntime) {
     try_series(&stage, &NoRoom::new(setting.copy_of_users(&rt)), &SHOP);
 }
 
-/// Plays a series, which is seen to be as it says.
+/// Plays a series, and checks what it says.
 fn try_series<
     S: Source + Sync,
     R: Abort + AllocGlobal + Eprint + RandomSource + Threads + Wait + Sync,

@@ -1,6 +1,6 @@
-//! Tests of requests over the shared loader: worked rows of terms that are evaluated on the caller's own thread, of terms whose
-//! jobs are handed over to a worker on a thread of its own, of futures that are polled by hand, and of plans that are served; and the
-//! same calls where growths or threads are refused.
+//! Tests of requests over the shared loader: worked rows of terms on the caller's own thread, of terms that hand their
+//! jobs over to a worker on a thread of its own, of futures that a test polls by hand, and of plans that `serve`
+//! serves; and the same calls with refused growths or threads.
 #![tactic(auto)]
 
 #[cfg(test)]

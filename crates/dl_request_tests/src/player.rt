@@ -1,5 +1,5 @@
-//! How terms are evaluated one after another, on a loader of two callers: on a caller's own thread, or by the first caller over
-//! a queue, whose jobs the second one takes as a worker; each under a refusal, which may be of nothing.
+//! How rows evaluate terms, one after another, on a loader of two callers: on a caller's own thread, or by the first
+//! caller over a queue, with the second as the worker that takes its jobs. Each has a refusal, which may be of nothing.
 
 ghost use Rattle.std.specs.Prelude.{◌≡◌, All, length};
 ghost use Rattle.dl_desk.specs.Service.{Answers};
@@ -24,20 +24,20 @@ use std::random::RandomSource;
 use std::sync::Wait;
 use std::thread::{Threads, join};
 
-/// The evaluation of a term, and what must be seen of it.
+/// The evaluation of a term, and what a test must see of it.
 #[derive(Clone, Copy)]
 pub(crate) struct Turn<'a> {
     pub(crate) term: &'a str,
     pub(crate) by: By,
     /// The text of its answer, or why there is none.
     pub(crate) answer: &'a str,
-    /// What else it may give where it is refused a growth.
+    /// What else it may give if the library refuses it a growth.
     pub(crate) refused: &'static [&'static str],
-    /// How many rounds of loads it takes.
+    /// The number of rounds of loads that it takes.
     pub(crate) rounds: u32,
-    /// How many jobs its queue has room for.
+    /// The number of jobs that its queue has room for.
     pub(crate) capacity: u32,
-    /// How many jobs are sent over the queue. All of them are taken.
+    /// The number of jobs that it sends over the queue. The worker takes all of them.
     pub(crate) jobs: u64,
     /// How the worker at the queue ends.
     pub(crate) end: WorkerEnd,
@@ -48,13 +48,13 @@ pub(crate) struct Turn<'a> {
 pub(crate) enum By {
     /// The second caller, which evaluates it on its own thread.
     Itself,
-    /// The same, while a future of a load of the first user is polled by hand.
+    /// The same, while the test polls a future of a load of the first user by hand.
     WithFuture,
     /// A worker on a thread of its own, while the first caller evaluates the term and then shuts the queue.
     Worker,
     /// Nobody: the first caller shuts the queue before.
     Nobody,
-    /// The second caller, which polls a run of the term by hand. It isn't polled on once a poll was out of memory.
+    /// The second caller, which polls a run of the term by hand, until the answer or until a poll runs out of memory.
     Hand,
 }
 
@@ -64,7 +64,7 @@ pub(crate) struct Given {
     /// The text of the answer, or why there is none.
     pub(crate) text: String,
     pub(crate) rounds: u32,
-    /// Whether a growth was refused to it.
+    /// Whether the library refused it a growth.
     pub(crate) was_refused: bool,
 }
 
@@ -92,7 +92,7 @@ struct Worker<L: LoaderName> {
     end: Option<WorkerEnd>,
 }
 
-/// Plays turns on a loader of two callers over a source: its history, or why it can't be closed.
+/// Plays turns on a loader of two callers over a source. You get its history, or why it doesn't close.
 pub(crate) fn play_over<
     S: Source + Sync,
     R: Abort + AllocGlobal + Eprint + RandomSource + Threads + Wait + Sync,
@@ -108,7 +108,7 @@ pub(crate) fn play_over<
     play::<Brand, _, _>(stage, source, opening, turns)
 }
 
-/// Plays turns on the loader of an opening, which `L` stands for, and closes it.
+/// Plays turns on the loader of an opening, which `L` names, and closes it.
 fn play<
     'x,
     L: LoaderName + Send + Sync,
@@ -144,7 +144,7 @@ impl<
     S: Source + Sync,
     R: Abort + AllocGlobal + Eprint + RandomSource + Threads + Wait + Sync,
 > Scene<'l, L, S, R> {
-    /// Takes a turn by these passes, which is seen to be as it says.
+    /// Takes a turn with these passes, and checks what it says.
     fn take_turn(&self, passes: &mut Vec<Pass<L>>, turn: &Turn<'_>)
         requires { Answers (S.answer self.now.source.now) L.service }
     {
@@ -283,7 +283,7 @@ impl<'l, L: LoaderName, S: Source, R: Abort + Eprint + Wait> Scene<'l, L, S, R> 
         caller
     }
 
-    /// A poll of a load's future gives this text. It is never out of memory.
+    /// A poll of a load's future gives this text. It never runs out of memory.
     fn assert_poll(&self, task: &MockTask, load: &mut LoadFuture<'l, L>, want: &str) {
         let (rt, alloc) = (self.stage.rt, self.stage.alloc);
         let polled = made_once!(self.stage, "LoadFuture::poll", task.poll(load));
@@ -298,7 +298,7 @@ impl<'l, L: LoaderName, S: Source, R: Abort + Eprint + Wait> Scene<'l, L, S, R> 
 }
 
 impl<R: Abort + Eprint> Stage<'_, R> {
-    /// What an evaluation gave that a call of this name made.
+    /// What an evaluation gave, by a call of this name.
     fn given(&self, call: &str, evaluated: Result<(Answer, u32), RunFault>) -> Given {
         let was_refused = self.refusal.end(self.rt, call);
         let (text, rounds) = match evaluated {
@@ -315,7 +315,8 @@ impl<R: Abort + Eprint> Stage<'_, R> {
         }
     }
 
-    /// Whether an evaluation gave what its turn says. Else a growth was refused to it, and it gave what it may give then.
+    /// Whether an evaluation gave what its turn says. If not, the library refused it a growth, and it gave what it may
+    /// give then.
     fn is_own(&self, given: &Given, turn: &Turn<'_>) -> bool {
         let text = given.text.as_str();
         if given.was_refused && turn.refused.iter().any(|other| *other == text) {

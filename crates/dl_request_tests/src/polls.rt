@@ -1,4 +1,4 @@
-//! A run of a term that is polled by hand.
+//! A run of a term that a test polls by hand.
 
 ghost use Rattle.dl_desk.specs.Service.{Answers};
 
@@ -24,7 +24,7 @@ impl<'l, L: LoaderName, S: Source, R: Abort + AllocGlobal + Eprint + RandomSourc
     S,
     R,
 > {
-    /// Polls a run of a turn's term, until its answer or until a poll is out of memory.
+    /// Polls a run of a turn's term, until its answer or until a poll runs out of memory.
     pub(crate) fn poll_run(&self, passes: &mut Vec<Pass<L>>, turn: &Turn<'_>)
         requires { Answers (S.answer self.now.source.now) L.service }
     {
@@ -52,7 +52,7 @@ impl<'l, L: LoaderName, S: Source, R: Abort + Eprint + Wait> Scene<'l, L, S, R> 
         run.expect(stage.rt, "no run")
     }
 
-    /// Polls a run that loads the first two users, and then answers so. None where a poll is out of memory.
+    /// Polls a run that loads the first two users, and then gives this answer. `None` if a poll runs out of memory.
     fn poll_to_the_end(
         &self,
         pass: &mut Pass<L>,
@@ -74,7 +74,7 @@ impl<'l, L: LoaderName, S: Source, R: Abort + Eprint + Wait> Scene<'l, L, S, R> 
         self.poll(task, run, "Finished")
     }
 
-    /// Sends what waits to be sent, and ends it.
+    /// Sends what has not gone out, and ends it.
     fn end_all(&self, pass: &mut Pass<L>)
         requires { Answers (S.answer self.now.source.now) L.service }
     {
@@ -83,7 +83,7 @@ impl<'l, L: LoaderName, S: Source, R: Abort + Eprint + Wait> Scene<'l, L, S, R> 
         end_jobs(rt, alloc, loader, self.source, pass, jobs).expect(rt, "no ends");
     }
 
-    /// A poll of a run gives this text. None where it is out of memory: so is the next one.
+    /// A poll of a run gives this text. `None` if it runs out of memory, and then so does the next one.
     fn poll(&self, task: &MockTask, run: &mut TermRun<'l, L>, want: &str) -> Option<()> {
         let rt = self.stage.rt;
         self.stage.refusal.begin();
@@ -101,7 +101,7 @@ impl<'l, L: LoaderName, S: Source, R: Abort + Eprint + Wait> Scene<'l, L, S, R> 
     }
 }
 
-/// The text of a poll that is out of memory.
+/// The text of a poll that ran out of memory.
 const OUT_OF_MEMORY: &str = "OutOfMemory";
 
 impl<R: Abort + Eprint> Stage<'_, R> {

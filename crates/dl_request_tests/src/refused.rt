@@ -1,6 +1,8 @@
-//! Evaluations and polls that are refused their first growth, then their second, and so on until they meet no refusal; and plans that
-//! are served so, also where their threads are refused. They are out of memory then, or answer as ever. `tests/calls` runs this above
-//! `tests/refuse.c`; without that library nothing is refused, and each call is made once.
+//! Evaluations, polls and served plans, with the first growth refused, then with the second, and so on until nothing
+//! is. Plans get refused threads too.
+//!
+//! They are then out of memory, or answer as ever. `tests/calls` runs this above `tests/refuse.c`. Without that library
+//! nothing is refused, and each call happens once.
 
 use crate::evaluations::TWO_FRIENDS;
 use crate::player::{By, Turn, play_over};
@@ -14,8 +16,8 @@ use std::slice;
 /// The most keys of a batch, cells and calls.
 const MOST: (u32, u32, u32) = (2, 8, 32);
 
-/// What a term may give where a growth is refused to its evaluation. A batch can be failed then, since its next growth isn't refused: so
-/// no loader is stopped.
+/// What a term may give if the library refuses its evaluation a growth. The next growth is free, so the caller can then
+/// fail a batch, and no loader stops.
 const FAILED: &[&str] = &[
     "batch of u1: no memory",
     "batch of u2: no memory",
@@ -35,7 +37,7 @@ const FRIENDS_OF_ONE: Turn<'static> = Turn {
     end: WorkerEnd::Done { batches: 2 },
 };
 
-/// What is evaluated with the n-th growth refused. One that was out of memory isn't made again: it may have made calls.
+/// Evaluations with the n-th growth refused. One that runs out of memory doesn't happen again: it may have made calls.
 static EVALUATIONS: [Turn<'static>; 3] = [
     FRIENDS_OF_ONE,
     Turn {
@@ -69,7 +71,8 @@ fn evaluations_whose_growths_are_refused(rt: HostRuntime) {
     panic!(rt; "growths without end");
 }
 
-/// What is polled with the n-th growth of one call refused: three loads of two keys, and a load beside the evaluation of another.
+/// Polls with the n-th growth of one call refused: three loads of two keys, and a load during the evaluation of
+/// another.
 static POLLS: [Turn<'static>; 2] = [
     Turn {
         term: r#"{"all":[{"load":["user","u1"]},{"load":["user","u1"]},{"load":["user","u2"]}]}"#,
@@ -89,7 +92,7 @@ static POLLS: [Turn<'static>; 2] = [
     },
 ];
 
-/// So many calls they are together.
+/// They make this many calls together.
 const MOST_CALLS: usize = 9;
 
 #[test]
@@ -110,7 +113,7 @@ fn polls_that_are_out_of_memory(rt: HostRuntime) {
     }
 }
 
-/// Two plans, of which one takes two rounds.
+/// Two plans, one with two rounds.
 static PLANS: Row = Row {
     about: "two plans where something is refused",
     most: MOST,

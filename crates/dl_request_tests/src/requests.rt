@@ -1,6 +1,6 @@
-//! Plans that are served at once: worked rows of their answers, rounds and batches by one, two and three workers, of plans that
-//! are refused, of plans that are stopped by the fault of another, of workers that fetch at once, and of many plans over a queue
-//! with room for one job.
+//! Plans that `serve` serves at once: worked rows of their answers, rounds and batches by one, two and three workers;
+//! of plans that it rejects; of plans that stop by the fault of another; of workers that fetch at once; and of many
+//! plans over a queue with room for one job.
 
 mod held_workers;
 mod refusals;

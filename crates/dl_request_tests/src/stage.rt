@@ -1,4 +1,4 @@
-//! What calls are made with, and what they are refused.
+//! What calls need, and what the library refuses them.
 
 use dl_scope::Plan;
 use dl_source::Tables;
@@ -9,17 +9,17 @@ use std::hash::RandomState;
 use std::process::Abort;
 use std::random::RandomSource;
 
-/// What calls are made with, and what they are refused.
+/// What calls need, and what the library refuses them.
 #[derive(Drop)]
 pub(crate) struct Stage<'a, R> {
     pub(crate) rt: &'a R,
     pub(crate) alloc: Global,
-    /// By what keys are hashed.
+    /// How the loader hashes keys.
     pub(crate) hashing: RandomState,
     pub(crate) refusal: &'a Refusal,
 }
 
-/// The tables of users, and what stages are made of.
+/// The tables of users, and what you make stages of.
 #[derive(Drop)]
 pub(crate) struct Setting {
     alloc: Global,
@@ -44,12 +44,12 @@ impl Setting {
         tables(self.alloc, self.hashing, USERS).expect(rt, "no tables")
     }
 
-    /// A stage on which nothing is refused.
+    /// A stage that refuses nothing.
     pub(crate) fn stage<'a, R>(&'a self, rt: &'a R) -> Stage<'a, R> {
         self.refused(rt, &self.nothing)
     }
 
-    /// A stage on which this is refused.
+    /// A stage with this refusal.
     pub(crate) fn refused<'a, R>(&self, rt: &'a R, refusal: &'a Refusal) -> Stage<'a, R> {
         Stage {
             rt,

@@ -1,4 +1,4 @@
-//! Workers that fetch at once, and plans that run at once: one worker is held until another has ended its batch.
+//! Workers that fetch at once, and plans that run at once: a gate holds one worker until another has ended its batch.
 
 use crate::requests::row::{Row, try_row};
 use crate::requests::rows::ROW;
@@ -8,7 +8,7 @@ use dl_workers::Gate;
 use std::sync::atomic::{AtomicBool, Ordering};
 use std::thread::yield_now;
 
-/// How often a worker that is held looks whether it may go on.
+/// A held worker looks this often whether it may go on.
 const MOST_LOOKS: u32 = 10_000_000;
 
 /// A gate that holds the worker of batch 0 until batch 1 has ended.
@@ -39,7 +39,7 @@ impl Gate for Held {
     }
 }
 
-/// Plans of two batches of one key each, which two workers fetch.
+/// Plans of two batches of one key each, for two workers.
 static ROWS: [Row; 2] = [
     Row {
         about: "two workers for one plan",

@@ -1,4 +1,4 @@
-//! Plans that are refused, at both sides of each limit, and batches that are not fetched.
+//! Plans that `serve` rejects, at both sides of each limit, and batches that nobody fetches.
 
 use crate::requests::row::{Row, try_row};
 use crate::stage::Setting;
@@ -20,7 +20,7 @@ const FORTY: &str = concat!(
     r#""c0","c1","c2","c3","c4","c5","c6","c7","c8","c9","d0","d1","d2","d3","d4","d5","d6","d7","d8","d9"]}},"f","user"]}}]"#
 );
 
-/// A row of a plan of no steps, from which the others differ.
+/// A row of a plan of no steps. The others differ from it.
 const REFUSED: Row = Row {
     about: "a plan of no steps",
     most: (2, 8, 32),
@@ -104,7 +104,7 @@ static ROWS: [Row; 9] = [
     },
 ];
 
-/// Batches for which the source has no memory: the second of two, and both of two.
+/// Batches that the source has no memory for: the second of two, and both of two.
 static NOT_FETCHED: [Row; 2] = [
     Row {
         about: "the second batch isn't fetched",

@@ -1,4 +1,4 @@
-//! Rows of plans, and how they are served: under a refusal, which may be of nothing.
+//! Rows of plans, and how `serve` serves them: under a refusal, which may be of nothing.
 
 use crate::batches::{Batch, assert_batches, count_batches};
 use crate::stage::Stage;
@@ -15,32 +15,32 @@ use std::thread::Threads;
 /// The answers of a plan's terms, each with its step.
 pub(crate) type Answers = &'static [(usize, &'static str)];
 
-/// Plans that are served at once, and what the report must have.
+/// Plans for one call of `serve`, and what the report must have.
 pub(crate) struct Row {
     pub(crate) about: &'static str,
     /// The most keys of a batch, cells and calls.
     pub(crate) most: (u32, u32, u32),
-    /// How many jobs the queue has room for.
+    /// The number of jobs that the queue has room for.
     pub(crate) queue: u32,
-    /// By how many workers the plans are served, one number after another, and how often by each.
+    /// Each number of workers serves the plans `times` times.
     pub(crate) workers: &'static [u32],
     pub(crate) times: u32,
     /// Each as a plan file has it.
     pub(crate) plans: &'static [&'static str],
-    /// Why there is no report. None: there is one, and it has what follows.
+    /// Why there is no report. With `None` there is one, and it has what follows.
     pub(crate) fault: Option<ScopeFault>,
     /// For each plan, the answers of its terms.
     pub(crate) answers: &'static [Answers],
-    /// For each plan, how many rounds of loads its terms take.
+    /// For each plan, the number of rounds of loads that its terms take.
     pub(crate) rounds: &'static [u64],
-    /// All batches, in order, where no schedule changes them: the job of each was sent and taken.
+    /// All batches, in order, if no schedule changes them. The job of each went out to a worker.
     pub(crate) batches: Option<&'static [Batch]>,
-    /// How many calls all plans and workers make, where no schedule changes that.
+    /// The number of calls of all plans and workers, if no schedule changes it.
     pub(crate) calls: Option<usize>,
 }
 
-/// Serves the plans of a row as often as it says, each time with the report that it says. Where they are out of memory, since something
-/// was refused, they are served again at once. Answers how many batches the histories of all these reports have.
+/// Serves the plans of a row as often as it says, each time with the report that it says. If `serve` runs out of memory
+/// by a refusal, serves them again at once. Answers the number of batches in the histories of all these reports.
 pub(crate) fn try_row<S: Source + Sync, G: Gate + Sync, R: Abort + Eprint + Threads + Wait + Sync>(
     stage: &Stage<'_, R>,
     source: &S,
@@ -60,8 +60,8 @@ pub(crate) fn try_row<S: Source + Sync, G: Gate + Sync, R: Abort + Eprint + Thre
     batches
 }
 
-/// Serves the plans of a row by so many workers, refused or not. None where they are out of memory, since something was refused. Else
-/// there is the report that the row says, or the fault, and the answer is how many batches there were.
+/// Serves the plans of a row with this many workers, refused or not. `None` if that runs out of memory by a refusal.
+/// Else there is the report that the row says, or the fault, and the answer is the number of batches.
 fn serve_row<S: Source + Sync, G: Gate + Sync, R: Abort + Eprint + Threads + Wait + Sync>(
     stage: &Stage<'_, R>,
     source: &S,
@@ -100,7 +100,7 @@ fn serve_row<S: Source + Sync, G: Gate + Sync, R: Abort + Eprint + Threads + Wai
 }
 
 impl<R: Abort + Eprint> Stage<'_, R> {
-    /// Whether plans may end so where a growth or a thread is refused.
+    /// Whether plans may end like this with a refused growth or thread.
     fn is_out_of_memory(&self, fault: Option<ScopeFault>) -> bool {
         let text = format!(in self.alloc; "{fault:?}").expect(self.rt, "no memory");
         text.contains("OutOfMemory") || text.contains("Unfetched")

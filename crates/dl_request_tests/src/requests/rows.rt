@@ -1,5 +1,5 @@
-//! Plans that are served by one, two and three workers: their answers, their rounds, and the batches that these make; and many
-//! plans at a small queue, whose answers are those by one worker, whatever the schedule.
+//! Plans that one, two and three workers serve: their answers, their rounds, and the batches that these make; and many
+//! plans at a small queue, with the answers that one worker gives, whatever the schedule.
 
 use crate::evaluations::TWO_FRIENDS;
 use crate::requests::row::{Answers, Row, try_row};
@@ -10,7 +10,7 @@ use dl_scope::ScopeFault;
 use dl_tests::{ADA, BOB, CountedTables, ONE, assert_is};
 use dl_workers::NoGate;
 
-/// A row of a plan with a load, from which the others differ.
+/// A row of a plan with a load. The others differ from it.
 pub(crate) const ROW: Row = Row {
     about: "a load",
     most: (2, 64, 256),
@@ -71,7 +71,7 @@ static SMALL: [Row; 4] = [
     },
 ];
 
-/// Plans of which most load what others load.
+/// Plans, most of which load what others load.
 const PLANS: [&str; 8] = [
     r#"[{"eval":{"pick":[{"follow":[{"load":["user","u1"]},"best","user"]},"name"]}}]"#,
     r#"[{"eval":{"each":[{"load":["user","u1"]},"friends","user"]}}]"#,

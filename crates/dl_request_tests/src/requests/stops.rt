@@ -1,5 +1,5 @@
-//! Plans that are stopped by the fault of another, while they wait for a batch: the plan with the fault is named, whichever stands
-//! first, and none is left waiting.
+//! Plans that stop by the fault of another, while they wait for a batch: the fault names the plan that has it,
+//! whichever is first, and none waits for ever.
 
 use crate::requests::row::{Row, try_row};
 use crate::requests::rows::ROW;
@@ -13,21 +13,21 @@ use std::sync::atomic::{AtomicU32, Ordering};
 use std::thread::sleep;
 use std::time::{Clock, Duration};
 
-/// How many cells there may be.
+/// The most cells.
 const MOST_CELLS: u32 = 6;
 
-/// A plan that needs more cells than there may be.
+/// A plan that needs more cells than that.
 const FAULTY: &str =
     r#"[{"eval":{"each":[{"value":{"f":["a","b","c","d","e","f","g"]}},"f","user"]}}]"#;
 
-/// A plan of six batches, one after another, which then needs more cells than there may be.
+/// A plan of six batches, one after another, which then needs more cells than that.
 const LATER: &str = concat!(
     r#"[{"eval":{"load":["user","u1"]}},{"eval":{"load":["user","u2"]}},{"eval":{"load":["user","u3"]}},"#,
     r#"{"eval":{"load":["user","u4"]}},{"eval":{"load":["user","u5"]}},{"eval":{"load":["user","u6"]}},"#,
     r#"{"eval":{"load":["user","u7"]}}]"#
 );
 
-/// For how many milliseconds a worker is held before it fetches.
+/// A gate holds a worker for this many milliseconds before it fetches.
 const HOLD: u64 = 50;
 
 /// A gate that holds each worker for a while, and counts the batches that have ended.
@@ -47,7 +47,7 @@ impl<'a, R: Clock> Gate for Slow<'a, R> {
     }
 }
 
-/// Two plans, of which one waits while the other meets its fault.
+/// Two plans, one of which waits while the other meets its fault.
 static ROWS: [Row; 2] = [
     Row {
         about: "the first plan meets its fault while the second waits",
