@@ -6,14 +6,14 @@ use dl_source::{BatchAnswer, Source};
 use serde_json::Value;
 use std::alloc::{AllocError, Global};
 
-/// A source whose outcome for each key is one and the same value.
+/// A source with one and the same outcome for each key.
 #[derive(Drop)]
 pub(crate) struct Alike {
     value: Json,
 }
 
 impl Alike {
-    /// The source that answers `null`. The error is a failed allocation.
+    /// The source that answers `null`. Fails if memory runs out.
     pub(crate) fn null(alloc: Global) -> Result<Alike, AllocError> {
         let value = Json::new(alloc, Value::Null)?;
         Ok(Alike { value })

@@ -3,12 +3,12 @@
 use dl_desk::LARGEST_LIMIT;
 use thiserror::Error;
 
-/// What is run.
+/// What the program runs.
 #[derive(Clone, Copy)]
 pub(crate) enum Workload {
     /// Loads the keys one by one on a desk, then dispatches.
     OneByOne(Ids),
-    /// The same, of tables in turn.
+    /// The same, with keys of tables in turn.
     OfTables(TableTurns),
     /// Makes the keys, and then calls of a desk.
     Listed(Calls),
@@ -22,30 +22,30 @@ pub(crate) enum Workload {
     Terms(Evaluated),
 }
 
-/// Of how many tables keys are, and which a batch may have.
+/// The number of tables of the keys, and the rule for tables in a batch.
 #[derive(Clone, Copy)]
 pub(crate) struct TableTurns {
     pub(crate) count: u32,
     pub(crate) rule: Rule,
 }
 
-/// Of which tables the keys of a batch may be.
+/// Which tables the keys of a batch may have.
 #[derive(Clone, Copy)]
 pub(crate) enum Rule {
-    /// Of any.
+    /// Any tables.
     Mixed,
-    /// Of one, which has a limit of its own.
+    /// One table, with a limit of its own.
     ByTable,
 }
 
-/// How terms are evaluated.
+/// How the program evaluates terms.
 #[derive(Clone, Copy)]
 pub(crate) enum Evaluated {
     /// One term of many parts, by one caller.
     One,
-    /// So many terms, one after another, by one caller.
+    /// `count` terms, one after another, by one caller.
     InTurn { count: u32 },
-    /// A plan for each of so many terms, all at once, by fetch workers.
+    /// A plan for each of `count` terms, all at once, by fetch workers.
     Served { count: u32, workers: u32 },
 }
 
@@ -54,13 +54,13 @@ pub(crate) enum Evaluated {
 pub(crate) enum Ids {
     /// The keys' numbers.
     Short,
-    /// They share one hash under a seed that is known.
+    /// They share one hash under a known seed.
     Hostile,
-    /// They are as long, and share no hash.
+    /// They have the same length, and share no hash.
     Harmless,
 }
 
-/// The calls of a desk whose keys are made first.
+/// The calls of a desk, after the program has made its keys.
 #[derive(Clone, Copy)]
 pub(crate) enum Calls {
     /// Loads the keys in one call.
@@ -71,19 +71,19 @@ pub(crate) enum Calls {
     Rounds,
 }
 
-/// Who calls a shared loader.
+/// The callers of a shared loader.
 #[derive(Clone, Copy)]
 pub(crate) enum Callers {
     /// One caller: for each batch of keys it loads them in one call, dispatches, settles, and reads each outcome.
     One,
-    /// Callers each on a thread of its own: each loads the keys one by one. Then the first dispatches, and settles.
+    /// Callers, each on a thread of its own. Each loads the keys one by one. Then the first dispatches, and settles.
     Threads,
 }
 
-/// The most keys of a batch, where neither the words nor the workload need another.
+/// The most keys of a batch, if neither the words nor the workload need another limit.
 const BATCH: u32 = 64;
 
-/// The word that asks for each workload of N or of two numbers, and the most keys of its batches, where the words don't say it.
+/// The word for each workload of N or of two numbers, and the most keys of its batches, if the words don't say it.
 static WORKLOADS: [(&str, Option<u32>, Workload); 13] = [
     ("loads", None, Workload::OneByOne(Ids::Short)),
     ("hostile", Some(BATCH), Workload::OneByOne(Ids::Hostile)),
@@ -112,13 +112,13 @@ static WORKLOADS: [(&str, Option<u32>, Workload); 13] = [
 #[derive(Clone, Copy)]
 pub(crate) struct Command {
     pub(crate) workload: Workload,
-    /// How many keys; of `terms`, how many parts; of `inline` and `serve`, how many rounds.
+    /// The number of keys; for `terms` of parts, and for `inline` and `serve` of rounds.
     pub(crate) keys: u32,
-    /// The most keys of a batch; of `threads`, how many callers.
+    /// The most keys of a batch; for `threads` the number of callers.
     pub(crate) most: u32,
 }
 
-/// Why words are no command.
+/// Why words aren't a command.
 #[derive(Debug, Drop, Error)]
 pub(crate) enum CommandFault {
     #[error("usage: dl_bench loads|many|rounds|tables|loader N B, hostile|harmless[-tables] N, hits|clears|terms N, threads N C, tables-of|mixed-of T N, inline P N, or serve P W N")]
@@ -128,7 +128,7 @@ pub(crate) enum CommandFault {
 }
 
 impl Command {
-    /// The command of these words, of which the first is the program's name.
+    /// The command of these words. The first is the program's name.
     pub(crate) fn from_words(words: &[String]) -> Result<Command, CommandFault> {
         match words {
             [_, name, keys] => Command::named(name.as_str(), size(keys.as_str())?, None),
@@ -163,7 +163,7 @@ impl Command {
         }
     }
 
-    /// The command of so many keys, of so many tables in turn.
+    /// The command of this many keys, with this many tables in turn.
     fn of_tables(rule: Rule, count: u32, keys: u32) -> Command {
         Command {
             workload: Workload::OfTables(TableTurns { count, rule }),
@@ -172,7 +172,7 @@ impl Command {
         }
     }
 
-    /// The command of terms that take so many rounds.
+    /// The command of terms of this many rounds.
     fn of_terms(evaluated: Evaluated, rounds: u32) -> Command {
         Command {
             workload: Workload::Terms(evaluated),
@@ -181,7 +181,7 @@ impl Command {
         }
     }
 
-    /// The command of a workload's name, whose batches are limited by the workload or by a word, and not by both.
+    /// The command of a workload's name. The workload or a word limits its batches, and not both.
     fn named(word: &str, keys: u32, most: Option<u32>) -> Result<Command, CommandFault> {
         for (name, own, workload) in &WORKLOADS {
             if *name == word {
@@ -197,7 +197,7 @@ impl Command {
     }
 }
 
-/// The number that a word spells in decimal.
+/// The number of a word in decimal.
 fn size(word: &str) -> Result<u32, CommandFault> {
     match word.parse::<u32>() {
         Ok(number) if (1..=LARGEST_LIMIT).contains(&number) => Ok(number),

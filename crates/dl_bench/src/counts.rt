@@ -4,8 +4,8 @@ use dl_desk::{Job, LARGEST_LIMIT, LoadReply};
 use dl_loader::{EndedBatch, EntryKind, History};
 use dl_source::BatchAnswer;
 
-/// Loads that began a cell and loads that were hits, batches begun, jobs sent, batches settled, outcomes fetched or read, and
-/// the batch of the newest cell.
+/// The numbers of loads that began a cell, of hits, of batches, of jobs, of settled batches, and of outcomes that it
+/// fetched or read; and the batch of the newest cell.
 #[derive(Default, Drop)]
 pub(crate) struct Counts {
     pub(crate) cells: u64,
@@ -18,7 +18,7 @@ pub(crate) struct Counts {
 }
 
 impl Counts {
-    /// Counts the batches of a history, with the cells of their keys, and the outcomes that its first caller read.
+    /// Counts the batches of a history, with the cells of their keys, and the outcomes that its first caller has read.
     pub(crate) fn history(&mut self, history: &History) {
         let batches = history.batches();
         for number in 0..LARGEST_LIMIT {
@@ -34,7 +34,7 @@ impl Counts {
         }
     }
 
-    /// Counts a batch of a history, which was sent as a job.
+    /// Counts a batch of a history, which went out as a job.
     fn batch(&mut self, batch: &EndedBatch<'_>) {
         self.batches = self.batches.saturating_add(1);
         self.jobs = self.jobs.saturating_add(1);
@@ -44,7 +44,7 @@ impl Counts {
         }
     }
 
-    /// Counts a load, and a batch where it isn't that of the newest cell.
+    /// Counts a load, and a batch if it isn't that of the newest cell.
     #[inline]
     pub(crate) fn load(&mut self, reply: LoadReply) {
         match reply {
@@ -66,12 +66,12 @@ impl Counts {
         }
     }
 
-    /// Counts jobs that were sent.
+    /// Counts jobs.
     pub(crate) fn jobs(&mut self, jobs: &[Job]) {
         self.jobs = self.jobs.saturating_add(jobs.len() as u64);
     }
 
-    /// Counts a batch that was settled.
+    /// Counts a settled batch.
     pub(crate) fn settle(&mut self) {
         self.settled = self.settled.saturating_add(1);
     }

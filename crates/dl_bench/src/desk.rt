@@ -9,8 +9,7 @@ use std::alloc::Global;
 use std::hash::RandomState;
 use std::ops::Range;
 
-/// The most keys that can be loaded, cleared and loaded again on one desk, since each begins two
-/// cells.
+/// The most keys that you can load, clear and load again on one desk, since each begins two cells.
 const LOADED_TWICE: u32 = 32_768;
 
 /// Loads keys one by one on a new desk, then dispatches.
@@ -51,7 +50,7 @@ fn loads(alloc: Global, desk: &mut Desk, counts: &mut Counts, keys: u32) -> Resu
     Ok(())
 }
 
-/// Loads keys of which each id is the front and then the key's number in eight digits.
+/// Loads keys. Each id is the front and then the key's number in eight digits.
 fn fronted(
     alloc: Global,
     desk: &mut Desk,
@@ -122,7 +121,7 @@ fn hits(
     Ok(())
 }
 
-/// For each batch of keys: loads them in one call, dispatches, and settles what was sent.
+/// For each batch of keys: loads them in one call, dispatches, and settles the jobs.
 fn rounds(
     alloc: Global,
     desk: &mut Desk,
@@ -137,7 +136,7 @@ fn rounds(
     Ok(())
 }
 
-/// Dispatches, and settles each batch that was sent.
+/// Dispatches, and settles each job.
 fn settle(alloc: Global, desk: &mut Desk, counts: &mut Counts) -> Result<(), DeskFault> {
     let jobs = desk.dispatch(alloc)?;
     counts.jobs(&jobs);
@@ -148,7 +147,7 @@ fn settle(alloc: Global, desk: &mut Desk, counts: &mut Counts) -> Result<(), Des
     Ok(())
 }
 
-/// Loads, clears and loads again each key in turn, on a new desk where the first can take no more.
+/// Loads, clears and loads again each key in turn. Begins a new desk when the old one is full.
 pub(crate) fn clears(
     alloc: Global,
     hashing: RandomState,

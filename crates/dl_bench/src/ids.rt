@@ -1,7 +1,7 @@
-//! The ids of keys, which may all share a hash where keys are hashed by the kit's `FoldHasher`, whose seed is fixed.
+//! The ids of keys, which may all share a hash if the kit's `FoldHasher`, whose seed is fixed, hashes them.
 //!
 //! Of 32 bytes it first multiplies halves of the first 16 into its state. Then it joins that by xor with the next eight
-//! bytes, and multiplies by the last eight. Where its state is spelled by those next eight bytes the product is 0.
+//! bytes, and multiplies by the last eight. If those next eight bytes spell its state, the product is 0.
 
 use crate::command::Ids;
 use std::alloc::AllocError;
@@ -13,7 +13,7 @@ const HOSTILE: &str = "hostileu7hlkD2YNg6";
 /// The front of ids whose keys have hashes of their own.
 const HARMLESS: &str = "harmless to anyone";
 
-/// The front of ids of rows that all have one hash: a row is found by its id alone, and such an id has 32 bytes.
+/// The front of ids of rows that all have one hash: the id alone finds a row, and such an id has 32 bytes.
 const HOSTILE_ROW: &str = "hostileBiTzKyZUyTP71oLzh";
 
 /// The front of ids of rows that have hashes of their own.
@@ -39,7 +39,7 @@ impl Ids {
     }
 }
 
-/// The table of the keys whose ids begin so.
+/// The table of the keys whose ids begin with this front.
 pub(crate) fn table_of(front: Option<&str>) -> &'static str {
     match front {
         Some(_) => "trips",

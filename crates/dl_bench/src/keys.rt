@@ -5,18 +5,18 @@ use dl_desk::{FetchKey, LARGEST_LIMIT, LimitFault, Limits};
 use itoa::Buffer;
 use std::alloc::{AllocError, Global};
 
-/// The limit of a batch, beside the largest other limits.
+/// The limits with this limit of a batch, and the largest others.
 pub(crate) fn limits(batch: u32) -> Result<Limits, LimitFault> {
     Limits::new(batch, LARGEST_LIMIT, LARGEST_LIMIT)
 }
 
-/// The key of a number: its id is the number in decimal. The error is a failed allocation.
+/// The key of a number: its id is the number in decimal. Fails if memory runs out.
 pub(crate) fn key_of(alloc: Global, number: u32) -> Result<FetchKey, AllocError> {
     let mut buffer = Buffer::new();
     FetchKey::new(alloc, "users", buffer.format(number)).or(Err(AllocError))
 }
 
-/// The keys of the first numbers. The error is a failed allocation.
+/// The keys of the first numbers. Fails if memory runs out.
 pub(crate) fn keys_of(alloc: Global, count: u32) -> Result<Vec<FetchKey>, AllocError> {
     let mut keys = Vec::with_capacity(alloc, count as usize)?;
     for number in 0..count {
@@ -25,8 +25,8 @@ pub(crate) fn keys_of(alloc: Global, count: u32) -> Result<Vec<FetchKey>, AllocE
     Ok(keys)
 }
 
-/// The key of a front and a number in eight digits, whose id is written in the room of the last one. The error is a failed
-/// allocation.
+/// The key of a front and a number in eight digits, with its id written in the room of the last one. Fails if memory
+/// runs out.
 pub(crate) fn fronted_key(
     alloc: Global,
     id: &mut String,
@@ -38,7 +38,7 @@ pub(crate) fn fronted_key(
     FetchKey::new(alloc, table_of(Some(front)), id.as_str()).or(Err(AllocError))
 }
 
-/// The keys of a front and the first numbers. The error is a failed allocation.
+/// The keys of a front and the first numbers. Fails if memory runs out.
 pub(crate) fn fronted_keys(
     alloc: Global,
     front: &str,

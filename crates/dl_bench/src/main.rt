@@ -1,6 +1,6 @@
-//! A stopwatch without a clock: it runs one workload on a desk or a shared loader, to be measured from outside, and
-//! prints counts of what it did, so that the same words always print the same. It is proved to be safe, and no
-//! contract says what it counts.
+//! A stopwatch without a clock: it runs one workload on a desk or a shared loader, for you to measure from outside, and
+//! prints counts of what it did. The same words always print the same counts. The proof is that it is safe; no contract
+//! says what it counts.
 #![tactic(auto)]
 
 mod alike;
@@ -61,13 +61,13 @@ fn run<R: RandomSource + Threads + Wait + Sync>(
     }
 }
 
-/// How many parts a term has of which there are several.
+/// The number of parts of a term, if there are several terms.
 const PARTS: u32 = 16;
 
-/// How many rounds of loads a term takes that is the only one.
+/// The number of rounds of loads of a term, if there is only one.
 const ROUNDS: u32 = 16;
 
-/// Evaluates terms, of which one has so many parts, or each of several takes so many rounds.
+/// Evaluates terms: one with this many parts, or several with this many rounds each.
 fn evaluate<R: Threads + Wait + Sync>(
     scene: &Scene<'_, R>,
     counts: &mut Counts,

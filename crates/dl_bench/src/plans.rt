@@ -1,4 +1,4 @@
-//! The workload of plans that are served at once.
+//! The workload of plans that `serve` serves at once.
 
 use crate::alike::Alike;
 use crate::counts::Counts;
@@ -12,10 +12,10 @@ use std::alloc::{AllocError, Global};
 use std::sync::Wait;
 use std::thread::Threads;
 
-/// For how many jobs the queue between plans and workers has room.
+/// The number of jobs that the queue between plans and workers has room for.
 const QUEUE: u32 = 16;
 
-/// Serves a plan for each term by so many workers, over a source that answers each key with one row.
+/// Serves a plan for each term with this many workers, over a source that answers each key with one row.
 pub(crate) fn served<R: Threads + Wait + Sync>(
     scene: &Scene<'_, R>,
     counts: &mut Counts,
@@ -46,7 +46,7 @@ pub(crate) fn served<R: Threads + Wait + Sync>(
     Ok(())
 }
 
-/// A plan for each term. The error is a failed allocation.
+/// A plan for each term. Fails if memory runs out.
 fn plans_of(alloc: Global, terms: Terms) -> Result<Vec<Plan>, AllocError> {
     let mut plans = Vec::with_capacity(alloc, terms.count as usize)?;
     for number in 0..terms.count {

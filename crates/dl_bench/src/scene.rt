@@ -1,4 +1,4 @@
-//! What a workload is run with.
+//! What a workload needs.
 
 use std::alloc::Global;
 use std::hash::RandomState;

@@ -19,13 +19,13 @@ use std::sync::Wait;
 use std::thread;
 use std::thread::Threads;
 
-/// The most keys of a batch where there are several callers.
+/// The most keys of a batch, if there are several callers.
 const BATCH: u32 = 64;
 
-/// Calls of a loader over a source that answers every key `null`. At the end the loader is closed.
+/// Calls of a loader over a source that answers every key `null`. It closes the loader at the end.
 ///
-/// One caller makes a round for each batch of keys, of at most so many. As many callers as that, each on a thread of
-/// its own, load the same keys, one by one, and when all have, the first of them ends what was begun.
+/// One caller makes a round for each batch of at most `most` keys. With threads, `most` callers, each on a thread of
+/// its own, load the same keys, one by one, and after all of them the first ends what has not gone out.
 pub(crate) fn on_loader<R: Threads + Wait + Sync>(
     scene: &Scene<'_, R>,
     counts: &mut Counts,
@@ -45,7 +45,7 @@ pub(crate) fn on_loader<R: Threads + Wait + Sync>(
     Ok(())
 }
 
-/// The calls on a loader of so many callers: its history.
+/// The calls on a loader with this many callers, and its history.
 fn called<R: Threads + Wait + Sync>(
     scene: &Scene<'_, R>,
     callers: Callers,
@@ -58,7 +58,7 @@ fn called<R: Threads + Wait + Sync>(
     each_call::<Brand, _, _>(scene, &source, opening, callers, keys, limits)
 }
 
-/// The calls on the loader of an opening, which `L` stands for: its history.
+/// The calls on the loader of an opening, which `L` names, and its history.
 fn each_call<L: LoaderName + Send + Sync, S: Source, R: Threads + Wait + Sync>(
     scene: &Scene<'_, R>,
     source: &S,
@@ -79,7 +79,7 @@ fn each_call<L: LoaderName + Send + Sync, S: Source, R: Threads + Wait + Sync>(
     close(scene.alloc, loader, passes)
 }
 
-/// Closes a loader: its history.
+/// Closes a loader, and gives you its history.
 pub(crate) fn close<L: LoaderName>(
     alloc: Global,
     loader: Loader<L>,
@@ -110,7 +110,7 @@ fn rounds<L: LoaderName, S: Source, R: Wait>(
     Ok(())
 }
 
-/// Loads keys in one call, dispatches, settles what was sent, and reads each outcome.
+/// Loads keys in one call, dispatches, settles the jobs, and reads each outcome.
 fn round<L: LoaderName, S: Source, R: Wait>(
     scene: &Scene<'_, R>,
     source: &S,
@@ -130,7 +130,7 @@ fn round<L: LoaderName, S: Source, R: Wait>(
     Ok(())
 }
 
-/// Each caller loads the keys on a thread of its own. When all have, the first of them ends what was begun.
+/// Each caller loads the keys on a thread of its own. After all of them the first ends what has not gone out.
 fn load_at_once<L: LoaderName + Send + Sync, S: Source, R: Threads + Wait + Sync>(
     scene: &Scene<'_, R>,
     source: &S,
@@ -147,7 +147,7 @@ fn load_at_once<L: LoaderName + Send + Sync, S: Source, R: Threads + Wait + Sync
     }
 }
 
-/// Dispatches, and settles what was sent.
+/// Dispatches, and settles the jobs.
 fn end_all<L: LoaderName, S: Source, R: Wait>(
     scene: &Scene<'_, R>,
     source: &S,
@@ -178,7 +178,7 @@ fn load_by_each<L: LoaderName + Send + Sync, R: Threads + Wait + Sync>(
     );
 }
 
-/// Loads the keys one by one. Where a load is refused the loader is stopped, so that its next call tells of it.
+/// Loads the keys one by one. If a load fails, it stops the loader, so that the next call on it fails too.
 fn load_each<L: LoaderName, R: Wait>(
     rt: &R,
     alloc: Global,

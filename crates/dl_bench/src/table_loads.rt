@@ -65,7 +65,7 @@ fn load(
     Ok(())
 }
 
-/// The names of so many tables: each is a number in decimal. The error is a failed allocation.
+/// The names of the tables: each is a number in decimal. Fails if memory runs out.
 fn names_of(alloc: Global, tables: u32) -> Result<Vec<Text>, AllocError> {
     let mut names = Vec::with_capacity(alloc, tables as usize)?;
     let mut name = Buffer::new();

@@ -26,7 +26,7 @@ pub(crate) fn tables(
     Ok(fetch_rows(alloc, counts, &tables, front, keys, limits)?)
 }
 
-/// Fetches the keys of the rows, a batch at a time, and counts their outcomes. The error is a failed allocation.
+/// Fetches the keys of the rows, a batch at a time, and counts their outcomes. Fails if memory runs out.
 fn fetch_rows(
     alloc: Global,
     counts: &mut Counts,
@@ -54,7 +54,7 @@ fn fetch_all(
     Ok(())
 }
 
-/// The keys of the rows. The error is a failed allocation.
+/// The keys of the rows. Fails if memory runs out.
 fn row_keys(alloc: Global, front: Option<&str>, keys: u32) -> Result<Vec<FetchKey>, AllocError> {
     match front {
         Some(front) => fronted_keys(alloc, front, keys),
@@ -62,7 +62,7 @@ fn row_keys(alloc: Global, front: Option<&str>, keys: u32) -> Result<Vec<FetchKe
     }
 }
 
-/// Tables with a row for each key, read from their text.
+/// Tables with a row for each key, from their text.
 fn tables_of(
     alloc: Global,
     hashing: RandomState,
@@ -73,7 +73,7 @@ fn tables_of(
     Ok(Tables::from_owned_value(alloc, hashing, tree)?)
 }
 
-/// A tree of one table, with a row for each key, read from its text.
+/// A tree of one table, with a row for each key, from its text.
 fn tree_of(alloc: Global, front: Option<&str>, keys: u32) -> Result<Value> {
     let text = tree_text(alloc, front, keys)?;
     Ok(Value::from_str(alloc, text.as_str())?)
@@ -94,7 +94,7 @@ fn push_tree(text: &mut String, front: Option<&str>, keys: u32) -> Result<(), Al
     text.push_str("]}]")
 }
 
-/// Writes the row of a number, behind those before it.
+/// Writes the row of a number, after those before it.
 fn push_row(text: &mut String, front: Option<&str>, number: u32) -> Result<(), AllocError> {
     if number > 0 {
         text.push_str(",")?;

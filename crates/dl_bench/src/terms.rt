@@ -1,4 +1,4 @@
-//! The workload of terms that are evaluated over a shared loader, one after another.
+//! The workload of terms over a shared loader, one after another.
 
 ghost use Rattle.std.specs.Prelude.{◌≡◌};
 ghost use Rattle.dl_desk.specs.Service.{Answers};
@@ -20,19 +20,19 @@ use std::alloc::{AllocError, Global};
 use std::marker::Brand;
 use std::sync::Wait;
 
-/// How many terms there are, and how large each is.
+/// The number of terms, and the size of each.
 #[derive(Clone, Copy)]
 pub(crate) struct Terms {
     pub(crate) count: u32,
-    /// Of how many parts each is.
+    /// The number of parts of each.
     pub(crate) parts: u32,
-    /// How many rounds of loads each takes, which is how deep it is.
+    /// The number of rounds of loads that each takes, which is how deep it is.
     pub(crate) rounds: u32,
 }
 
 /// Evaluates terms over a loader, whose source answers each key with one row. Each part of a term loads a key, and in
-/// each further round the key that the row names in another table, so no key is loaded twice. At the end the loader is
-/// closed.
+/// each further round the key that the row names in another table, so it loads no key twice. It closes the loader at
+/// the end.
 pub(crate) fn evaluated<R: Wait>(
     scene: &Scene<'_, R>,
     counts: &mut Counts,
@@ -46,7 +46,7 @@ pub(crate) fn evaluated<R: Wait>(
     Ok(())
 }
 
-/// The evaluations on the loader of an opening, which `L` stands for: its history.
+/// The evaluations on the loader of an opening, which `L` names, and its history.
 fn on_loader<L: LoaderName, S: Source, R: Wait>(
     scene: &Scene<'_, R>,
     source: &S,
@@ -99,7 +99,7 @@ fn evaluate_one<L: LoaderName, S: Source, R: Wait>(
     }
 }
 
-/// The term of a number. The error is a failed allocation.
+/// The term of a number. Fails if memory runs out.
 pub(crate) fn term_of(alloc: Global, terms: Terms, number: u32) -> Result<Term, AllocError> {
     let next = Text::new(alloc, "next")?;
     let parts = parts_of(alloc, &next, terms, number)?;
@@ -121,7 +121,7 @@ fn parts_of(
     Ok(parts)
 }
 
-/// The part of a number, over all terms, which takes so many rounds of loads. The field `next` of a row names its next key.
+/// The part of a number, over all terms, with this many rounds of loads. The field `next` of a row names its next key.
 fn part_of(alloc: Global, next: &Text, number: u32, rounds: u32) -> Result<Term, AllocError> {
     let first = number.saturating_mul(rounds);
     let mut part = Term::Load(key_of(alloc, first)?);
