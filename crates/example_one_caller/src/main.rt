@@ -1,4 +1,4 @@
-//! One caller of a loader of its own: from the opening to the outcome of a load.
+//! One caller with a loader of its own: you open it, load a key, read the outcome, and close it.
 #![tactic(auto)]
 
 ghost use Rattle.std.specs.Prelude.{◌≡◌};
@@ -30,7 +30,7 @@ fn users(alloc: Global, hashing: RandomState) -> Result<Tables> {
     Ok(Tables::from_value(alloc, hashing, &rows)?)
 }
 
-/// Starts the loader that `L` stands for, makes calls, and closes it.
+/// Starts the loader that `L` names, makes calls, and closes it.
 fn with_loader<L: LoaderName, S: Source, R: Wait + Print>(
     rt: &R,
     alloc: Global,

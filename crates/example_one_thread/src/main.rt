@@ -1,4 +1,4 @@
-//! The loader of one thread: a key is loaded twice and fetched once.
+//! The loader of one thread: you load a key twice and fetch it once.
 #![tactic(auto)]
 
 use dl_desk::{Desk, FetchKey, Limits};

@@ -1,4 +1,4 @@
-//! A source of one's own, and two requests that are served over it.
+//! A source of your own, and two requests over it.
 #![tactic(auto)]
 
 ghost use Rattle.std.specs.Prelude.{◌≡◌, IfOk};
@@ -13,7 +13,7 @@ use serde_json::json;
 use std::alloc::{AllocError, Global};
 use std::hash::RandomState;
 
-/// A source that knows of each domain the one that it lies in.
+/// A source of domains: it knows the domain that each one is part of.
 #[derive(Drop)]
 struct Domains;
 
@@ -34,7 +34,7 @@ impl Source for Domains {
     }
 }
 
-/// The outcome of a domain: of `www.example.org` it is the row `{"parent":"example.org"}`.
+/// The outcome of a domain: for `www.example.org` the row `{"parent":"example.org"}`.
 fn outcome(alloc: Global, id: &str) -> Result<Outcome, AllocError>
     ensures { IfOk result (λ o. o ≡ outcome_of id.now) }
 {

@@ -1,4 +1,4 @@
-//! Two requests that are served at once.
+//! Two requests that `serve` runs at once.
 #![tactic(auto)]
 
 use dl_desk::{FetchKey, Limits};
