@@ -1,5 +1,5 @@
--- What a row of set-once cells and a reader of one of them are in clauses.
--- To other crates the names are opaque: `row_len` and `cell_of` are functions of a row's name, and no more is said.
+-- What a row of set-once cells and a reader of one of them are in clauses. To other crates the names are opaque: all
+-- that they know of `row_len` and `cell_of` is that these are functions of a row's name.
 use Rattle.std.specs.Prelude.{◌≡◌, ℕ, ◌/◌, ◌%◌, List, [], Option, IfSome, slice_index}
 
 -- which cell it is: the cell that its segment is kept in, and the place inside the segment
