@@ -1,4 +1,4 @@
--- What contracts see of a desk, and the histories that it stands for.
+-- What contracts see of a desk, and which histories it may have had.
 use Rattle.std.specs.Prelude.{◌≡◌, ℕ, ◌<◌, Bool, List, length, Option, Some, None, slice_get, nat_lt, if◌then◌else◌}
 use Rattle.std.specs.Map.{lookup}
 use Rattle.dl_values.specs.Key.{Key, key_eq}
@@ -14,8 +14,8 @@ pub record Batch : Type 0 where
   pub members : List (Key × ℕ)
   pub end : Option End
 
--- The book of a desk: how many cells it has begun and how many batches it has sent, the cells that
--- its memo holds, and its batches in order.
+-- The book of a desk: how many cells it has begun and how many batches it has sent, the cells that its memo holds, and
+-- its batches in order.
 pub record BatchBook : Type 0 where
   pub rules : Rules
   pub cells : ℕ
@@ -23,7 +23,7 @@ pub record BatchBook : Type 0 where
   pub memo : List (Key × ℕ)
   pub batches : List Batch
 
--- the batch as the history tells it
+-- the batch as the history has it
 abbrev pub batch_at : List Atom → ℕ → Batch
 batch_at history b = record { members = members history b; end = end_of history b }
 
@@ -36,15 +36,14 @@ pub record StandsFor (book : BatchBook) (history : List Atom) : Type 0 where
   pub count : length book.batches ≡ begun history
   pub batches : (b : ℕ) → b < begun history → slice_get book.batches b ≡ Some (batch_at history b)
 
--- What contracts see of a desk: its book, and the book that it would have if what is prepared in it
--- were made.
+-- What contracts see of a desk: its book, and the book that it would have once it makes what it has prepared.
 pub record Desk : Type 0 where
   pub book : BatchBook
   pub prepared : BatchBook
 
 -- ---- what a desk shows of a batch
 
--- a batch as it is shown: its members in order, and how far it has come
+-- a batch as a desk shows it: its members in order, and how far it has come
 pub record BatchView : Type 0 where
   pub members : List (Key × ℕ)
   pub state : BatchState

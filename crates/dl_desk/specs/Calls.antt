@@ -1,4 +1,4 @@
--- The calls of a desk: what a call is replied, when it is refused, and the history that it leaves.
+-- The calls of a desk: what it replies to a call, when it refuses one, and the history that a call leaves.
 use Rattle.std.specs.Prelude.{◌≡◌, ℕ, ◌+◌, ◌⊎◌, List, [], ◌∷◌, ◌||◌, Option, Some, None, is_some, nat_lt, nat_le, if◌then◌else◌, Result, Ok, Err}
 use Rattle.std.specs.List.{list_any}
 use Rattle.dl_values.specs.Key.{Key, key_eq}
@@ -35,12 +35,12 @@ reply_to rules history (Fail b) = Done
 
 -- ---- refusals
 
--- how many keys of the list are not held, each counted at its last place: the cells that their loads begin
+-- how many keys of the list the memo doesn't hold, each counted at its last place: their loads begin as many cells
 abbrev pub new_count : List Atom → List Key → ℕ
 new_count history [] = 0
 new_count history (k ∷ ks) = (if is_some (held history k) || list_any (key_eq k) ks then 0 else 1) + new_count history ks
 
--- the refusal where the cells that loads of the keys, or a prime, begin would be more than the limit
+-- the refusal if the cells that loads of the keys, or a prime, begin would bring the number of cells above its limit
 abbrev pub full : Rules → List Atom → List Key → Option DeskFault
 full rules history ks = if nat_lt rules.limits.max_cells (cells history + new_count history ks) then Some (CellsFull rules.limits.max_cells) else None
 
@@ -49,7 +49,7 @@ abbrev pub unfit : List Atom → ℕ → Option DeskFault
 unfit history b = if nat_le (begun history) b then Some NoBatch else if nat_le (sent history) b then Some NotSent else if is_some (end_of history b) then Some
     SettledBefore else None
 
--- the refusal of a call at a history, unless memory ran out
+-- the refusal of a call at a history, unless memory runs out
 abbrev pub refusal : Rules → List Atom → DeskCall → Option DeskFault
 refusal rules history (Load k) = full rules history (k ∷ [])
 refusal rules history (LoadMany ks) = full rules history ks
@@ -60,7 +60,7 @@ refusal rules history Dispatch = None
 refusal rules history (Settle b) = unfit history b
 refusal rules history (Fail b) = unfit history b
 
--- the call is refused so: for its cause, or because memory ran out
+-- the fault of a refused call: its cause, or that memory ran out
 abbrev pub IsRefusal : Rules → List Atom → DeskCall → DeskFault → Type 0
 IsRefusal rules history call fault = (fault ≡ OutOfMemory) ⊎ (refusal rules history call ≡ Some fault)
 
@@ -88,7 +88,7 @@ abbrev pub answer_by : Option DeskFault → Reply → Result Reply DeskFault
 answer_by None reply = Ok reply
 answer_by (Some fault) reply = Err fault
 
--- what a call is answered after a history: its refusal, or else its reply
+-- the answer to a call after a history: its refusal, or else its reply
 abbrev pub answer : Rules → List Atom → DeskCall → Result Reply DeskFault
 answer rules history call = answer_by (refusal rules history call) (reply_to rules history call)
 
@@ -100,7 +100,7 @@ next_by (Some fault) history longer = history
 abbrev pub next : Rules → List Atom → DeskCall → List Atom
 next rules history call = next_by (refusal rules history call) history (after rules history call)
 
--- what calls are answered, one after another from a history on
+-- the answers to calls, one after another from a history on
 abbrev pub answers : Rules → List Atom → List DeskCall → List (Result Reply DeskFault)
 answers rules history [] = []
 answers rules history (call ∷ calls) = answer rules history call ∷ answers rules (next rules history call) calls

@@ -1,4 +1,4 @@
--- Events: the calls of several callers, each with its reply, what they tell in atoms, and which of them ended a cell.
+-- Events: the calls of several callers, each with its reply, what they are as atoms, and which of them ended a cell.
 use Rattle.std.specs.Prelude.{ℕ, Bool, false, List, [], ◌∷◌, ◌++◌, length, map, reverse, Option, Some, None, option_map, if◌then◌else◌, nat_eq}
 use Rattle.std.specs.Option.{option_or, option_and_then}
 use Rattle.std.specs.List.{zip}
@@ -16,8 +16,8 @@ use Rattle.dl_desk.specs.declared.event.Reply.TheVariants.{Loaded, Many, Primed,
 use Rattle.dl_desk.specs.declared.reply.LoadReply.{LoadReply}
 use Rattle.dl_desk.specs.declared.reply.DeskPrime.TheVariants as prime
 
--- A past is a list of events, the newest first. The place of an event is how many stand before it, so
--- that of the newest is the length of the rest.
+-- A past is a list of events, the newest first. The place of an event is the number of events before it, so that of the
+-- newest is the length of the rest.
 
 -- ---- the history of a past
 
@@ -25,7 +25,7 @@ use Rattle.dl_desk.specs.declared.reply.DeskPrime.TheVariants as prime
 abbrev pub loads : List Key → List LoadReply → List Atom
 loads ks rs = reverse (map (λ p. atom.Load p.0 p.1) (zip ks rs))
 
--- the atoms of a call with its reply, the newest first: a loadMany stands as its loads
+-- the atoms of a call with its reply, the newest first: a loadMany counts as its loads
 abbrev pub call_atoms : Call → Reply → List Atom
 call_atoms (Load k) (Loaded r) = atom.Load k r ∷ []
 call_atoms (LoadMany ks) (Many rs) = loads ks rs
@@ -38,7 +38,7 @@ call_atoms (Settle b os) reply = atom.Settle b ∷ []
 call_atoms (Fail b fault) reply = atom.Fail b ∷ []
 call_atoms call reply = []
 
--- the history that the events tell
+-- the history of atoms that the events are
 abbrev pub atoms : List Event → List Atom
 atoms [] = []
 atoms (e ∷ before) = call_atoms e.call e.reply ++ atoms before
@@ -99,8 +99,8 @@ abbrev pub batch_cells : List Atom → Option ℕ → List ℕ
 batch_cells history None = []
 batch_cells history (Some b) = map (λ m. m.1) (members history b)
 
--- What a call gives to a cell that it ends: a prime its outcome, a settle the outcome that stands where the
--- cell stands among its batch's members, a fail its fault.
+-- What a call gives to a cell that it ends: a prime its outcome, a settle the outcome at the cell's place among its
+-- batch's members, a fail its fault.
 abbrev pub outcome_given : List Atom → ℕ → Call → Option Outcome
 outcome_given history c (Prime k o) = Some o
 outcome_given history c (Settle b os) = lookup (nat_eq c) (zip (batch_cells history (cell_batch history c)) os)

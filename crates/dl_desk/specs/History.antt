@@ -1,6 +1,6 @@
--- What a data loader of one thread replies to each call, told by looking back through the whole
--- history of its calls (the reference documentation of graphql/dataloader: load, loadMany, clear,
--- clearAll, prime, maxBatchSize). Nothing here keeps a memo, a batch or a cell from call to call.
+-- What a data loader of one thread replies to each call. Each definition looks back through the whole history of calls,
+-- and none keeps a memo, a batch or a cell from call to call (the reference documentation of graphql/dataloader: load,
+-- loadMany, clear, clearAll, prime, maxBatchSize).
 use Rattle.std.specs.Prelude.{◌≡◌, ℕ, zero, suc, ◌+◌, ◌-◌, ◌<◌, Bool, true, false, not, ◌&&◌, ◌||◌, List, [], ◌∷◌, ◌++◌, length, map, Option, Some, None}
 use Rattle.std.specs.Prelude.{if◌then◌else◌, nat_eq, nat_lt, nat_le, bytes_eq}
 use Rattle.std.specs.List.{list_any}
@@ -16,7 +16,7 @@ use Rattle.dl_desk.specs.declared.reply.End.TheVariants.{Settled, Failed}
 
 -- ---- calls
 
--- A call with its reply. A loadMany stands as its loads, one after another.
+-- A call with its reply. A loadMany counts as its loads, one after another.
 pub data Atom : Type 0 where
   Load : Key → LoadReply → Atom
   Prime : Key → DeskPrime → Atom
@@ -26,11 +26,11 @@ pub data Atom : Type 0 where
   Settle : ℕ → Atom
   Fail : ℕ → Atom
 
--- A history is a list of atoms, the newest first: what stands before an atom is the rest of the list.
+-- A history is a list of atoms, the newest first: the atoms before an atom are the rest of the list.
 
 -- ---- cells and batches
 
--- A cell that an atom begins: its key and, unless it was primed, its batch.
+-- A cell that an atom begins: its key and, unless a prime began it, its batch.
 pub record Begun : Type 0 where
   pub key : Key
   pub cell : ℕ
@@ -52,7 +52,7 @@ abbrev pub count_cell : Option Begun → ℕ → ℕ
 count_cell None n = n
 count_cell (Some g) n = n + 1
 
--- how many cells were begun
+-- how many cells there are
 abbrev pub cells : List Atom → ℕ
 cells [] = 0
 cells (a ∷ before) = count_cell (begins a) (cells before)
@@ -75,7 +75,7 @@ abbrev pub count_batch : Option ℕ → List Atom → ℕ → ℕ
 count_batch None before n = n
 count_batch (Some b) before n = if is_named before b then n else n + 1
 
--- how many batches fresh loads name, each counted where it is named first
+-- how many batches fresh loads name, each counted at the first load that names it
 abbrev pub begun : List Atom → ℕ
 begun [] = 0
 begun (a ∷ before) = count_batch (batch_of (begins a)) before (begun before)
@@ -91,7 +91,7 @@ members (a ∷ before) b = add_member b (begins a) (members before b)
 
 -- ---- what the memo holds
 
--- The last atom that began a cell for a key: the cell, its batch, and the atoms that stand after it.
+-- The last atom that began a cell for a key: the cell, its batch, and the atoms after it.
 pub record Latest : Type 0 where
   pub cell : ℕ
   pub batch : Option ℕ
@@ -124,14 +124,14 @@ abbrev pub cell_kept : Key → Option Latest → Option ℕ
 cell_kept k None = None
 cell_kept k (Some l) = if list_any (forgets k l.batch) l.after then None else Some l.cell
 
--- The cell that is held for a key: that of the last fresh load or prime of it, if nothing forgets it
--- after that (DataLoader: the memo, clear, clearAll; kept errors stay, failed batches don't).
+-- The cell that the memo holds for a key: that of the last fresh load or prime of it, if nothing forgets it after that
+-- (DataLoader: the memo, clear, clearAll; kept errors stay, failed batches don't).
 abbrev pub held : List Atom → Key → Option ℕ
 held history k = cell_kept k (latest history k)
 
 -- ---- which batch a fresh load goes into
 
--- how many batches were begun before the last dispatch: these are sent
+-- how many batches there were before the last dispatch: these are sent
 abbrev pub sent : List Atom → ℕ
 sent [] = 0
 sent (Dispatch js ∷ before) = begun before
@@ -155,7 +155,7 @@ abbrev pub serves_by : Option (List (List ℕ × ℕ)) → Key → List (Key × 
 serves_by None k ms = true
 serves_by (Some ts) k ms = is_of_table k.table ms
 
--- whether a batch with these members is one for the key: any is where tables mix, else one of its table
+-- whether a batch with these members is one for the key: any is if tables mix, else only one of its table
 abbrev pub serves : Rules → Key → List (Key × ℕ) → Bool
 serves rules k ms = serves_by rules.tables k ms
 
@@ -172,8 +172,7 @@ abbrev pub room_in : Rules → List Atom → Key → Option ℕ → ℕ
 room_in rules history k None = begun history
 room_in rules history k (Some b) = if is_open rules history k b then b else begun history
 
--- The batch that a fresh load of the key goes into: the last one for the key, if that is open, and
--- else a new one (DataLoader: maxBatchSize).
+-- The batch that a fresh load of the key joins: the last one for the key, if that is open, else a new one (DataLoader: maxBatchSize).
 abbrev pub room : Rules → List Atom → Key → ℕ
 room rules history k = room_in rules history k (greatest (λ b. serves rules k (members history b)) (begun history))
 
@@ -204,7 +203,7 @@ abbrev pub jobs_from : List Atom → ℕ → ℕ → List Job
 jobs_from history b zero = []
 jobs_from history b (suc n) = jobs_from history b n ++ job history (b + n) ∷ []
 
--- the reply to a dispatch: the jobs of the batches that were begun and not sent
+-- the reply to a dispatch: the jobs of the batches that are not sent yet
 abbrev pub jobs : List Atom → List Job
 jobs history = jobs_from history (sent history) (begun history - sent history)
 
@@ -221,12 +220,12 @@ end_of (Dispatch js ∷ before) b = end_of before b
 end_of (Settle n ∷ before) b = if nat_eq b n then Some Settled else end_of before b
 end_of (Fail n ∷ before) b = if nat_eq b n then Some Failed else end_of before b
 
--- a batch may end where it is sent and has not ended
+-- a batch may end if it is sent and has not ended
 pub record MayEnd (history : List Atom) (b : ℕ) : Type 0 where
   pub is_sent : b < sent history
   pub no_end : end_of history b ≡ None
 
--- an atom has the reply that the history before it gives, and an end is one that may be
+-- an atom has the reply that the history before it gives, and an end is of a batch that may end
 abbrev pub IsAnswered : Rules → List Atom → Atom → Type 0
 IsAnswered rules before (Load k r) = r ≡ load_reply rules before k
 IsAnswered rules before (Prime k r) = r ≡ prime_reply before k
@@ -236,7 +235,7 @@ IsAnswered rules before (Dispatch js) = js ≡ jobs before
 IsAnswered rules before (Settle b) = MayEnd before b
 IsAnswered rules before (Fail b) = MayEnd before b
 
--- each atom of the history is answered so
+-- each atom of the history is answered as the atoms before it say
 abbrev pub IsLegal : Rules → List Atom → Type 0
 IsLegal rules [] = Unit {0}
 IsLegal rules (a ∷ before) = IsAnswered rules before a × IsLegal rules before

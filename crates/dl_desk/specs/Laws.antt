@@ -13,9 +13,8 @@ use Rattle.dl_values.specs.declared.outcome.Outcome.{Outcome}
 
 -- ---- histories
 
--- Between two fresh loads of one key something forgets the key: a clear of it, a clear of all, or the
--- failure of the first one's batch. So a key is fetched once between clears, unless its whole batch
--- failed (DataLoader: the memo).
+-- Between two fresh loads of one key something forgets the key: a clear of it, a clear of all, or the failure of the
+-- first one's batch. So a key is fetched once between clears, unless its whole batch failed (DataLoader: the memo).
 abbrev pub FreshLoadsAreApart : Type 0
 FreshLoadsAreApart = (rules : Rules) (key : Key) (cell batch later_cell later_batch : ℕ) (later between before : List Atom)
     → IsLegal rules (later ++ Load key (Fresh later_cell later_batch) ∷ (between ++ Load key (Fresh cell batch) ∷ before))
@@ -25,39 +24,39 @@ FreshLoadsAreApart = (rules : Rules) (key : Key) (cell batch later_cell later_ba
 pub record HaveLimits (rules : Rules) : Type 0 where
   pub least : (table : List ℕ) → 1 ≤ limit_of rules table
 
--- where tables have limits of their own, the members are of one table
+-- if tables have limits of their own, the members are of one table
 abbrev pub AreOfOneTable : Option (List (List ℕ × ℕ)) → List (Key × ℕ) → Type 0
 AreOfOneTable None ms = Unit {0}
 AreOfOneTable (Some tables) ms = AllPairs (λ m n. m.0.table ≡ n.0.table) ms
 
--- the members of a batch as the rules allow it (DataLoader: maxBatchSize)
+-- the members of a batch as the rules allow them (DataLoader: maxBatchSize)
 pub record IsBatch (rules : Rules) (ms : List (Key × ℕ)) : Type 0 where
   pub distinct : AllPairs (λ m n. m.0 ≢ n.0) ms
   pub within : All (λ m. length ms ≤ limit_of rules m.0.table) ms
   pub tables : AreOfOneTable rules.tables ms
 
--- a batch has distinct keys, no more than its limit, and of one table where tables have limits
+-- a batch has distinct keys, no more than its limit, and of one table if tables have limits
 abbrev pub BatchesAreWithinLimits : Type 0
 BatchesAreWithinLimits = (rules : Rules) → HaveLimits rules → (history : List Atom) → IsLegal rules history → (batch : ℕ)
     → IsBatch rules (members history batch)
 
--- where each batch is of one table, a batch has distinct keys, all of one table, and no more than the limit of that table
+-- if each batch is of one table, a batch has distinct keys, all of one table, and no more than the limit of that table
 abbrev pub BatchesByTableAreWithinLimits : Limits → List (List ℕ × ℕ) → Type 0
 BatchesByTableAreWithinLimits limits tables = (history : List Atom) → IsLegal (by_table limits tables) history → (batch : ℕ)
     → IsBatch (by_table limits tables) (members history batch)
 
 -- ---- pasts
 
--- The history that a legal past tells is legal, so what is said above holds of it too.
+-- The history of a legal past is legal, so the laws above hold of it too.
 abbrev pub PastsTellLegalHistories : Type 0
 PastsTellLegalHistories = (service : Service) (past : List Event) → event.IsLegal service past → IsLegal service.rules (atoms past)
 
--- a cell that was ended keeps the place of its end in every longer past
+-- a cell that has ended keeps the place of its end in every longer past
 abbrev pub EndsStay : Type 0
 EndsStay = (service : Service) (later before : List Event) (cell place : ℕ) → event.IsLegal service (later ++ before) → ended before cell ≡ Some place
     → ended (later ++ before) cell ≡ Some place
 
--- and it keeps the outcome that it was given
+-- and it keeps the outcome that it got
 abbrev pub OutcomesStay : Type 0
 OutcomesStay = (service : Service) (later before : List Event) (cell : ℕ) (given : Outcome) → event.IsLegal service (later ++ before)
     → outcome before cell ≡ Some given → outcome (later ++ before) cell ≡ Some given

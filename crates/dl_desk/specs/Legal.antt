@@ -1,5 +1,5 @@
--- When a past is legal: each event is a call that may be made, with the reply that the definitions of a data
--- loader of one thread give there.
+-- When a past is legal: each event is a call that may be made, with the reply that the definitions of a data loader of
+-- one thread give there.
 use Rattle.std.specs.Prelude.{◌≡◌, ℕ, ◌<◌, List, [], ◌∷◌, map}
 use Rattle.dl_values.specs.Key.{Key}
 use Rattle.dl_values.specs.Limits.{Rules}
@@ -41,14 +41,14 @@ reply_to rules history call = desk.reply_to rules history (call_of call)
 abbrev pub keys_of : List Atom → ℕ → List Key
 keys_of history b = map (λ m. m.0) (members history b)
 
--- a batch fails with the text with which the source breaks for its keys, or because it was given up
+-- a batch fails with the text of the source's break for its keys, or because its caller gives it up
 abbrev pub IsFault : (List Key → BatchAnswer) → List Key → BatchFault → Type 0
 IsFault answer keys (Source text) = answer keys ≡ answered.Break text
 IsFault answer keys Memory = Unit {0}
 IsFault answer keys Unsent = Unit {0}
 
--- A call may be made after a history: an end is of a batch that was sent and has not ended, a settle
--- brings the outcomes that the source answers to the batch's keys, and a fail has its fault.
+-- A call may be made after a history: an end is of a batch that is sent and has not ended, a settle brings the outcomes
+-- that the source answers to the batch's keys, and a fail has such a fault.
 abbrev pub MayBeMade : (List Key → BatchAnswer) → List Atom → Call → Type 0
 MayBeMade answer history (Settle b os) = MayEnd history b × (answer (keys_of history b) ≡ answered.Each os)
 MayBeMade answer history (Fail b fault) = MayEnd history b × IsFault answer (keys_of history b) fault
@@ -56,14 +56,13 @@ MayBeMade answer history call = Unit {0}
 
 -- ---- legal pasts
 
--- an event after a past: of a caller of the loader, a call that may be made, with the reply that a data
--- loader of one thread gives there
+-- an event after a past: of a caller of the loader, a call that may be made, with the reply that a data loader of one thread gives there
 pub record IsNext (service : Service) (before : List Event) (e : Event) : Type 0 where
   pub caller : e.caller < service.callers
   pub reply : e.reply ≡ reply_to service.rules (atoms before) e.call
   pub made : MayBeMade service.answer (atoms before) e.call
 
--- each event of the past is one that may stand after those before it
+-- each event of the past may come after those before it
 abbrev pub IsLegal : Service → List Event → Type 0
 IsLegal service [] = Unit {0}
 IsLegal service (e ∷ before) = IsNext service before e × IsLegal service before

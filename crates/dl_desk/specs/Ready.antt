@@ -18,7 +18,7 @@ IsReplyTo rules history (Prime k) (reply.Primed primed) = primed ≡ prime_reply
 IsReplyTo rules history Dispatch (reply.Sent sent) = sent.items ≡ jobs history
 IsReplyTo rules history call told = ⊥
 
--- what is prepared in the desk is the call, and the reply is the call's
+-- the desk has prepared the call, and the reply is the call's
 pub record IsReadyFor (desk : Desk) (call : DeskCall) (ready : Ready) : Type 0 where
   pub stands : (history : List Atom) → StandsFor desk.book history → StandsFor desk.prepared (after desk.book.rules history call)
   pub reply : (history : List Atom) → StandsFor desk.book history → IsReplyTo desk.book.rules history call ready.reply

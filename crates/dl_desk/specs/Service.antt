@@ -6,8 +6,7 @@ use Rattle.dl_values.specs.declared.outcome.BatchAnswer.{BatchAnswer}
 use Rattle.dl_values.specs.declared.outcome.BatchAnswer.TheVariants.{Each, Break}
 use Rattle.dl_values.specs.declared.outcome.Outcome.{Outcome}
 
--- What a loader serves by: how it makes batches, how many callers it has, and the one function by
--- which its source answers.
+-- What a loader serves by: how it makes batches, how many callers it has, and the one function that its source answers by.
 pub record Service : Type 0 where
   pub rules : Rules
   pub callers : ℕ
@@ -20,7 +19,7 @@ service rules callers answer = record { rules = rules; callers = callers; answer
 abbrev pub AnswersEach : (List Key → BatchAnswer) → Type 0
 AnswersEach answer = (ks : List Key) (os : List Outcome) → answer ks ≡ Each os → length os ≡ length ks
 
--- a source with this function is the one that the service is by
+-- a source with this function answers as the service does
 abbrev pub Answers : (List Key → BatchAnswer) → Service → Type 0
 Answers source service = (keys : List Key) → source keys ≡ service.answer keys
 
