@@ -8,7 +8,7 @@ use Rattle.dl_desk.specs.declared.event.Event.{Event}
 
 -- ---- accounts
 
--- what a pass leaves when its loader is closed: its caller, and what its entries tell
+-- what a pass leaves when its loader closes: its caller and its entries
 pub record Account : Type 0 where
   pub caller : ℕ
   pub entries : List Entry
@@ -24,7 +24,7 @@ accounts_by n accounts = count_by (λ a. nat_eq n a.caller) accounts
 abbrev pub HasEach : ℕ → List Account → Type 0
 HasEach callers accounts = (n : ℕ) → n < callers → accounts_by n accounts ≡ 1
 
--- the entries of a caller's account, and none where it has none
+-- the entries of a caller's account, and none if it has no account
 abbrev pub entries_of : ℕ → List Account → List Entry
 entries_of n [] = []
 entries_of n (a ∷ accounts) = if nat_eq n a.caller then a.entries else entries_of n accounts
@@ -35,28 +35,28 @@ entries_of n (a ∷ accounts) = if nat_eq n a.caller then a.entries else entries
 abbrev pub places_of : List Entry → List ℕ
 places_of entries = map (λ t. t.at) (calls_of entries)
 
--- An entry tells what the history has: a call its event, at its place; an outcome that was read the one that the
--- history gives the cell, with the place of the event that gave it.
+-- The history has what an entry says: a call's event, at its place; and for a cell that was read the same outcome, with
+-- the place of the event that gave it.
 abbrev pub Tells : List Event → Entry → Type 0
 Tells history (Called t) = slice_get history t.at ≡ Some t.event
 Tells history (Saw r) = ending_of history r.cell ≡ Some r.ending
 
 -- The entries are their caller's part of the history: the places of the calls are those of the caller's events, in
--- order; each entry tells what the history has; each cell that was read is one with which a call before it was
--- answered; and each call has a place above those of all calls and reads before it.
+-- order; the history has what each entry says; each cell that was read is one that a call before it got in reply; and
+-- each call has a place above those of all calls and reads before it.
 pub record Agrees (history : List Event) (a : Account) : Type 0 where
   pub places_are : places_of a.entries ≡ places (λ e. e.caller) a.caller 0 history
   pub tells : Every (Tells history) a.entries
   pub answered_are : Answered [] a.entries
   pub ordered : Ordered 0 a.entries
 
--- An account has its caller's calls of the history: their places are those of the caller's events, in order, and each tells
--- the event at its place.
+-- An account has its caller's calls of the history: their places are those of the caller's events, in order, and each
+-- has the event at its place.
 pub record HasCalls (history : List Event) (a : Account) : Type 0 where
   pub places_are : places_of a.entries ≡ places (λ e. e.caller) a.caller 0 history
   pub tell : Every (λ t. slice_get history t.at ≡ Some t.event) (calls_of a.entries)
 
--- ---- what holds before the history is looked at
+-- ---- what holds without a look at the history
 
 -- what a pass keeps of its caller and its entries
 pub record IsAccount (callers : ℕ) (a : Account) : Type 0 where
@@ -65,12 +65,12 @@ pub record IsAccount (callers : ℕ) (a : Account) : Type 0 where
   pub own : Every (IsOwn a.caller) (calls_of a.entries)
   pub answered_are : Answered [] a.entries
 
--- where the book has an event at the call's place, or knows what the cell that was read shows, the entry tells it
+-- if the book has an event at the call's place, or knows what the cell that was read shows, the entry has the same
 abbrev pub Meets : List Event → List Cell → Entry → Type 0
 Meets history cells (Called t) = IfSome (slice_get history t.at) (λ e. e ≡ t.event)
 Meets history cells (Saw r) = IfSome (slice_get cells r.cell) (λ x. IfSome x.shows (λ e. e ≡ r.ending))
 
--- an account of a caller, whose entries tell what the book has
+-- an account of a caller, whose entries meet what the book has
 pub record Fits (callers : ℕ) (history : List Event) (cells : List Cell) (a : Account) : Type 0 where
   pub is_account : IsAccount callers a
   pub meets : Every (Meets history cells) a.entries
@@ -85,7 +85,7 @@ abbrev pub read_in : Entry → List ℕ
 read_in (Called t) = []
 read_in (Saw r) = r.cell ∷ []
 
--- the cells whose outcome stands among the entries of the accounts
+-- the cells whose outcome is among the entries of the accounts
 abbrev pub reads_of : List Account → List ℕ
 reads_of accounts = flat_map (λ a. flat_map read_in a.entries) accounts
 
@@ -93,6 +93,6 @@ reads_of accounts = flat_map (λ a. flat_map read_in a.entries) accounts
 abbrev pub refused_in : List Cell → List ℕ → List ℕ
 refused_in cells ns = filter (λ c. cell_refused (slice_get cells c)) ns
 
--- the cells that refused their outcome and of which the accounts have one
+-- the cells that refused their outcome, though the accounts have one of them
 abbrev pub unshown : List Cell → List Account → List ℕ
 unshown cells accounts = refused_in cells (reads_of accounts)

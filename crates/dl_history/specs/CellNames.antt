@@ -2,8 +2,8 @@
 use Rattle.dl_cells.specs.Cells.{RowName, no_row}
 use Rattle.dl_history.specs.declared.flags.Flags.{Flags}
 
--- the row that the history lies in, the row that the outcomes of cells lie in, and the flags that are raised when the loader is stopped and when
--- a cell refuses its outcome
+-- the row of the events, the row of the cells' outcomes, and the flags that go up when the loader is stopped and when a
+-- cell refuses its outcome
 pub record CellNames : Type 0 where
   pub log : RowName
   pub outcomes : RowName

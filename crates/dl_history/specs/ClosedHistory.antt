@@ -21,8 +21,8 @@ pub record History : Type 0 where
 abbrev pub history_of : List Event → List Account → History
 history_of events accounts = record { events = events; accounts = accounts }
 
--- What every history is, for the service of its loader: it is legal, its callers and nobody else have an account each, which
--- agrees with the events, and each batch has ended.
+-- What holds of every history, for the service of its loader: it is legal, its callers and nobody else have an account
+-- each, which agrees with the events, and each batch has ended.
 pub record IsHistory (service : Service) (h : History) : Type 0 where
   pub limits : AreLimits service.rules.limits
   pub legal : IsLegal service h.events
@@ -37,9 +37,9 @@ pub record EndedBatch : Type 0 where
   pub keys : List Key
   pub end : End
 
--- ---- accounts without what their entries tell
+-- ---- accounts without what their entries say
 
--- a caller, and of each of its entries what it is
+-- a caller, and what each of its entries is
 pub record Outline : Type 0 where
   pub caller : ℕ
   pub kinds : List EntryKind
@@ -50,8 +50,7 @@ outline caller kinds = record { caller = caller; kinds = kinds }
 abbrev pub outline_of : Account → Outline
 outline_of a = outline a.caller (map kind_of a.entries)
 
--- An entry as a history tells it: a call by the event at its place, an outcome that was read by the one that the history
--- gives the cell.
+-- An entry as a history has it: a call with the event at its place, an outcome that was read with the one that the history gives the cell.
 abbrev pub entry_at : List Event → EntryKind → Entry
 entry_at events (kind.Call at) = Called (event_at at (event_known (slice_get events at)))
 entry_at events (kind.Saw cell at) = Saw (read cell (record { at = at; outcome = (ending_known (ending_of events cell)).outcome }))
@@ -62,7 +61,7 @@ account_at events o = account o.caller (map (entry_at events) o.kinds)
 abbrev pub accounts_at : List Event → List Outline → List Account
 accounts_at events outlines = map (account_at events) outlines
 
--- what the entries of a caller's account are, and none where it has none
+-- what the entries of a caller's account are, and none if it has no account
 abbrev pub kinds_of : ℕ → List Outline → List EntryKind
 kinds_of n [] = []
 kinds_of n (o ∷ outlines) = if nat_eq n o.caller then o.kinds else kinds_of n outlines

@@ -1,4 +1,4 @@
--- What the entries of a pass tell.
+-- What the entries of a pass say.
 use Rattle.std.specs.Prelude.{◌≡◌, ℕ, ◌+◌, ◌≤◌, List, [], ◌∷◌, ◌++◌, map, max, Option, Some, None}
 use Rattle.dl_values.specs.declared.outcome.Outcome.TheVariants.{BatchFailed}
 use Rattle.dl_values.specs.declared.outcome.BatchFault.TheVariants.{Unsent}
@@ -36,17 +36,17 @@ pub data Entry : Type 0 where
   Called : PlacedEvent → Entry
   Saw : Read → Entry
 
--- an entry without what was told
+-- an entry without its event or its outcome
 abbrev pub kind_of : Entry → EntryKind
 kind_of (Called t) = kind.Call t.at
 kind_of (Saw r) = kind.Saw r.cell r.ending.at
 
--- what is known of a log's cell, and else an event of nobody
+-- what is known of a log's cell, else an event of nobody
 abbrev pub event_known : Option Event → Event
 event_known None = record { caller = 0; call = ClearAll; reply = Done }
 event_known (Some e) = e
 
--- what is known of an outcome's cell, and else an end of no batch
+-- what is known of an outcome's cell, else an end of no batch
 abbrev pub ending_known : Option Ending → Ending
 ending_known None = record { at = 0; outcome = BatchFailed Unsent }
 ending_known (Some e) = e
@@ -92,7 +92,7 @@ abbrev pub cell_of_load : LoadReply → ℕ
 cell_of_load (Hit c) = c
 cell_of_load (Fresh c b) = c
 
--- the cells with which a call is answered
+-- the cells that a call gets in reply
 abbrev pub answered : Reply → List ℕ
 answered (Loaded r) = cell_of_load r ∷ []
 answered (Many rs) = map cell_of_load rs
@@ -105,7 +105,7 @@ abbrev pub cells_in : Entry → List ℕ
 cells_in (Called t) = answered t.event.reply
 cells_in (Saw r) = []
 
--- the cells with which the calls among the entries were answered
+-- the cells that the calls among the entries got in reply
 abbrev pub cells_of : List Entry → List ℕ
 cells_of [] = []
 cells_of (entry ∷ entries) = cells_in entry ++ cells_of entries
@@ -114,7 +114,7 @@ abbrev pub IsOf : List ℕ → Entry → Type 0
 IsOf cs (Called t) = Unit {0}
 IsOf cs (Saw r) = Among r.cell cs
 
--- each outcome that was read is of one of these cells, or of one with which a call before it was answered
+-- each outcome that was read is of one of these cells, or of one that a call before it got in reply
 abbrev pub Answered : List ℕ → List Entry → Type 0
 Answered cs [] = Unit {0}
 Answered cs (entry ∷ entries) = IsOf cs entry × Answered (cs ++ cells_in entry) entries

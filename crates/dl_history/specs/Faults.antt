@@ -1,4 +1,4 @@
--- The refusals of what stands below, as a loader tells them.
+-- The refusals of a desk and a journal, as a loader has them.
 use Rattle.dl_desk.specs.declared.fault.DeskFault.{DeskFault}
 use Rattle.dl_desk.specs.declared.fault.DeskFault.TheVariants as desk_fault
 use Rattle.dl_history.specs.declared.journal.append.AppendFault.{AppendFault}

@@ -12,7 +12,7 @@ use Rattle.dl_desk.specs.declared.event.Ending.{Ending}
 abbrev pub past : List Event → List Event
 past events = reverse events
 
--- each event of the history is one that may stand after those before it
+-- each event of the history may come after those before it
 abbrev pub IsLegal : Service → List Event → Type 0
 IsLegal service events = desk.IsLegal service (past events)
 
@@ -23,7 +23,7 @@ end_with None o = None
 end_with (Some at) None = None
 end_with (Some at) (Some o) = Some (record { at = at; outcome = o })
 
--- what a cell shows once it has ended: the place of the event that ended it, and the outcome that it was given
+-- what a cell shows once it has ended: the place of the event that ended it, and the outcome that it got
 abbrev pub ending_of : List Event → ℕ → Option Ending
 ending_of events c = end_with (ended (past events) c) (outcome (past events) c)
 

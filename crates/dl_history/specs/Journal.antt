@@ -8,8 +8,7 @@ use Rattle.dl_history.specs.declared.cell_state.Mark.{Mark}
 use Rattle.dl_history.specs.declared.cell_state.Mark.TheVariants.{Waiting, Ended, Refused}
 use Rattle.dl_history.specs.declared.cell_state.CellState.{CellState}
 
--- how a cell stands: whether it took the end that it was given, or else which one it refused, and what it is known to
--- show
+-- the state of a cell: whether it took the end that it got, or else which one it refused, and what it is known to show
 pub record Cell : Type 0 where
   pub mark : Mark
   pub shows : Option Ending
@@ -43,7 +42,7 @@ refusals cells = count_by (λ x. is_refused x.mark) cells
 abbrev pub Refuses : List Cell → List Cell → ℕ → Ending → Type 0
 Refuses before now c end = (other : Option Ending) × (now ≡ set before c (refused end other))
 
--- the events in order, the cells that were begun, and for how many more of each there is room
+-- the events in order, the cells, and how many more of each there is room for
 pub record Journal : Type 0 where
   pub history : List Event
   pub cells : List Cell
@@ -76,7 +75,7 @@ cells_by states = map cell_by states
 pub record AreOwn (outcomes : RowName) (states : List CellState) : Type 0 where
   pub at : (c : ℕ) (s : CellState) → slice_get states c ≡ Some s → s.reader.cell ≡ cell_of outcomes c
 
--- the fields of a journal: how many events were counted, the readers that know them, in order, and how each cell stands
+-- the fields of a journal: how many events it has counted, the readers that know them, in order, and the state of each cell
 pub record JournalFields : Type 0 where
   pub counted : ℕ
   pub readers : List (Reader Event)

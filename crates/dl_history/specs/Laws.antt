@@ -1,4 +1,4 @@
--- What holds of the history of every closed loader, whatever its callers do. What holds of every legal past is said by dl_desk.
+-- What holds of the history of every closed loader, whatever its callers do. dl_desk has the laws of every legal past.
 use Rattle.std.specs.Prelude.{◌≡◌, ℕ, [], Some, slice_get}
 use Rattle.dl_desk.specs.Service.{Service}
 use Rattle.dl_desk.specs.declared.event.Event.{Event}
@@ -12,6 +12,6 @@ abbrev pub EventsAreCalls : Type 0
 EventsAreCalls = (service : Service) (h : History) → IsHistory service h → (k : ℕ) (e : Event) → slice_get h.events k ≡ Some e
     → Among (event_at k e) (calls_of (entries_of e.caller h.accounts))
 
--- so a loader begins with an empty history: where its callers made no call, there is no event
+-- so a loader begins with an empty history: if its callers made no call, there is no event
 abbrev pub HistoriesBeginEmpty : Type 0
 HistoriesBeginEmpty = (service : Service) (h : History) → IsHistory service h → Every (λ a. calls_of a.entries ≡ []) h.accounts → h.events ≡ []

@@ -1,4 +1,4 @@
--- Lists, and what is added up over them.
+-- Lists, and sums over them.
 use Rattle.std.specs.Prelude.{◌≡◌, ℕ, ◌+◌, Bool, cond, List, [], ◌∷◌, Some, slice_get, nat_eq, if◌then◌else◌}
 
 -- the fact holds of each element
@@ -14,7 +14,7 @@ total f (x ∷ xs) = f x + total f xs
 abbrev pub one_if : Bool → ℕ
 one_if b = cond b 1 0
 
--- x stands in the list
+-- x is in the list
 abbrev pub Among : {X : Type 0} → X → List X → Type 0
 Among x xs = (i : ℕ) × (slice_get xs i ≡ Some x)
 

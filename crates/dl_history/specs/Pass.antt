@@ -12,7 +12,7 @@ use Rattle.dl_history.specs.Entries.{event_at, Entry, Called, Saw, read, calls_o
 
 -- ---- passes
 
--- a caller, what its entries tell, and the tickets that it was given, in order
+-- a caller, its entries, and the tickets that it got, in order
 pub record Trace : Type 0 where
   pub caller : ℕ
   pub entries : List Entry
@@ -21,15 +21,15 @@ pub record Trace : Type 0 where
 abbrev pub trace : ℕ → List Entry → List GivenTicket → Trace
 trace caller entries tickets = record { caller = caller; entries = entries; tickets = tickets }
 
--- what contracts see of a pass: its trace, for how many more entries and tickets it has room
--- beside an entry for each ticket whose outcome isn't among the entries yet, and what its caller was told of the loader's flags
+-- what contracts see of a pass: its trace; how many more entries and tickets it has room for, on top of an entry for
+-- each ticket whose outcome isn't among the entries yet; and what its caller knows of the loader's flags
 pub record Pass : Type 0 where
   pub trace : Trace
   pub spare : ℕ
   pub flags : KnownFlags
 
--- the fields of a pass, with how many entries and tickets there is room for, and its share of the ledger: so many parts,
--- which have counted so many calls
+-- the fields of a pass, with its room for entries and tickets, and its share of the ledger: how many parts it has, and
+-- how many calls these have counted
 pub record PassFields : Type 0 where
   pub caller : ℕ
   pub entries : List Entry
@@ -56,7 +56,7 @@ pass_view fields = record {
 abbrev pub unseen_of : List GivenTicket → ℕ
 unseen_of gs = total (λ g. one_if (not g.seen)) gs
 
--- what holds of them, where there are so many callers
+-- what holds of them, if there are this many callers
 pub record IsPass (callers : ℕ) (fields : PassFields) : Type 0 where
   pub caller_is : fields.caller < callers
   pub front_is : fields.front ≡ front_of fields.entries
@@ -79,11 +79,11 @@ with_call p at e = trace p.caller (p.entries ++ Called (event_at at e) ∷ []) p
 abbrev pub given : ℕ → Bool → GivenTicket
 given cell seen = record { cell = cell; seen = seen }
 
--- the trace with a ticket more, of which nothing was seen
+-- the trace with one ticket more, whose outcome isn't among the entries
 abbrev pub with_ticket : Trace → ℕ → Trace
 with_ticket p cell = trace p.caller p.entries (p.tickets ++ given cell false ∷ [])
 
--- the trace with a ticket more for each load
+-- the trace with one ticket more for each load
 abbrev pub with_tickets : Trace → List LoadReply → Trace
 with_tickets p [] = p
 with_tickets p (r ∷ rs) = with_tickets (with_ticket p (cell_of_load r)) rs
@@ -100,8 +100,7 @@ new_traces k (suc n) = trace k [] [] ∷ new_traces (k + 1) n
 
 -- ---- tickets
 
--- what contracts see of a ticket: its number among those of its pass, the reply of its load, and what is
--- known of its cell
+-- what contracts see of a ticket: its number among those of its pass, the reply to its load, and what it knows of its cell
 pub record Ticket : Type 0 where
   pub number : ℕ
   pub reply : LoadReply
@@ -114,16 +113,16 @@ ticket number reply known = record { number = number; reply = reply; known = kno
 abbrev pub Shows : Ticket → Outcome → Type 0
 Shows t outcome = (ending : Ending) × (t.known ≡ Some ending) × (ending.outcome ≡ outcome)
 
--- the pass gave the ticket, whose outcome is among the entries or isn't
+-- the pass gave the ticket, and its outcome is among the entries or isn't
 abbrev pub GaveTicket : Trace → Ticket → Bool → Type 0
 GaveTicket p t seen = slice_get p.tickets t.number ≡ Some (given (cell_of_load t.reply) seen)
 
--- tickets for loads with these replies, in order, numbered from one on
+-- tickets for loads with these replies, in order, with the numbers from `first` on
 pub record AreTickets (first : ℕ) (replies : List LoadReply) (ts : List Ticket) : Type 0 where
   pub replies_are : map (λ t. t.reply) ts ≡ replies
   pub numbered : (i : ℕ) (t : Ticket) → slice_get ts i ≡ Some t → t.number ≡ first + i
 
--- the pass gave each of the tickets, which are numbered from one on, and saw none of their outcomes
+-- the pass gave each of the tickets, which have the numbers from `first` on, and saw none of their outcomes
 pub record GaveTickets (p : Trace) (first : ℕ) (ts : List Ticket) : Type 0 where
   pub numbered : (i : ℕ) (t : Ticket) → slice_get ts i ≡ Some t → t.number ≡ first + i
   pub gave : (i : ℕ) (t : Ticket) → slice_get ts i ≡ Some t → GaveTicket p t false
