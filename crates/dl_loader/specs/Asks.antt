@@ -1,4 +1,4 @@
--- What an event call asks for: the call that the history will tell, and the job that it ends.
+-- What an event call asks for: the call that the history will have, and the job that it ends.
 use Rattle.std.specs.Prelude.{ℕ, Option, Some, None}
 use Rattle.dl_values.specs.declared.outcome.BatchFault.{BatchFault}
 use Rattle.dl_values.specs.declared.outcome.BatchFault.TheVariants as fault
@@ -19,13 +19,13 @@ abbrev pub end_by : ℕ → BatchAnswer → Call
 end_by b (Each os) = Settle b os
 end_by b (Break text) = Fail b (fault.Source text)
 
--- the fault of a batch that is given up
+-- the fault of a batch that its caller gives up
 abbrev pub fault_of : GiveUp → BatchFault
 fault_of Memory = fault.Memory
 fault_of Unsent = fault.Unsent
 
 module _ {S : Type 0} {G : Ghosts S} where
-  -- the call that the history tells of an ask
+  -- the call that the history has for an ask
   abbrev pub call_asked : Ask S G → Call
   call_asked (ask.Load k) = Load k.now
   call_asked (ask.LoadMany ks) = LoadMany ks.now

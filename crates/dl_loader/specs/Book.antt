@@ -7,8 +7,7 @@ use Rattle.dl_history.specs.Journal.{Cell}
 use Rattle.dl_history.specs.LoaderState.{LoaderState, loader_state, IsLoaderState}
 use Rattle.dl_desk.specs.declared.event.Event.{Event}
 
--- What contracts see of a book: the history, the desk with its memo and batches, each cell that was begun,
--- and what is known of the loader's flags.
+-- What contracts see of a book: the history, the desk with its memo and batches, the cells, and what it knows of the loader's flags.
 pub record Book : Type 0 where
   pub history : List Event
   pub desk : BatchBook

@@ -1,4 +1,4 @@
--- When a loader may be closed, and why it is refused.
+-- When a loader may close, and why it may not.
 use Rattle.std.specs.Prelude.{◌≡◌, ℕ, zero, suc, ◌+◌, ◌<◌, ◌≤◌, List, [], length, Option, None, Some, nat_eq}
 use Rattle.dl_desk.specs.Events.{atoms}
 use Rattle.dl_desk.specs.History.{begun, end_of}
@@ -20,7 +20,7 @@ abbrev pub present : ℕ → List Account → ℕ
 present zero accounts = 0
 present (suc n) accounts = present n accounts + one_if (nat_eq (accounts_by n accounts) 1)
 
--- Of the accounts that have seen more events than there are, this is the least caller's, with this front.
+-- Of the accounts that have seen more events than there are, this is the one of the least caller, with this front.
 pub record IsBehind (len : ℕ) (accounts : List Account) (first : PassFront) : Type 0 where
   pub entries : List Entry
   pub among : Among (account first.caller entries) accounts
@@ -37,7 +37,7 @@ IsLeastOf (Some n) ns = Among n ns × Every (λ m. n ≤ m) ns
 
 -- ---- batches that have no end
 
--- the batch was begun, and is the least that has no end
+-- the batch is the first one that has no end
 pub record IsFirstOpen (history : List Event) (b : ℕ) : Type 0 where
   pub is_begun : b < begun (atoms (past history))
   pub no_end : end_of (atoms (past history)) b ≡ None
@@ -45,14 +45,14 @@ pub record IsFirstOpen (history : List Event) (b : ℕ) : Type 0 where
 
 -- ---- refusals
 
--- The accounts tell the whole history: each caller has one, none has seen more than there is, and each has its caller's
+-- The accounts fix the whole history: each caller has one, none has seen more than there is, and each has its caller's
 -- calls. So no other legal history would do (one_history in dl_history/proofs/OneHistory.antt).
 pub record TellWhole (callers : ℕ) (history : List Event) (accounts : List Account) : Type 0 where
   pub each : HasEach callers accounts
   pub seen : NoneBehind (length history) accounts
   pub calls : Every (HasCalls history) accounts
 
--- why it is refused: the first cause that applies, unless memory ran out
+-- the fault of a refused close: the first cause that applies, unless memory ran out
 abbrev pub RefusesClose : ℕ → Book → List Account → CloseFault → Type 0
 RefusesClose callers b accounts (PassesMissing want got) = (want ≡ callers) × (got ≡ present callers accounts) × (got < want)
 RefusesClose callers b accounts (Behind front len) =
@@ -61,6 +61,6 @@ RefusesClose callers b accounts (Unshown cell) = TellWhole callers b.history acc
 RefusesClose callers b accounts (Unsettled batch) = TellWhole callers b.history accounts × (unshown b.cells accounts ≡ []) × IsFirstOpen b.history batch
 RefusesClose callers b accounts OutOfMemory = Unit {0}
 
--- at a book that keeps what the loader's does the close was refused so; that it was the locked one nothing says
+-- the close was refused so at a book that keeps what the loader's does; nothing says that it was the locked one
 abbrev pub CloseWasRefused : Service → List Account → CloseFault → Type 0
 CloseWasRefused service accounts fault = (b : Book) × Keeps service b × RefusesClose service.callers b accounts fault

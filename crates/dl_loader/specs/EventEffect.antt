@@ -1,4 +1,4 @@
--- What an event that was made leaves in the book and in the pass of its caller.
+-- What an event leaves in the book and in the pass of its caller.
 use Rattle.std.specs.Prelude.{◌≡◌, ℕ, ◌≤◌, true, List, [], ◌∷◌, ◌++◌, length, Option}
 use Rattle.dl_values.specs.declared.job.Job.{Job}
 use Rattle.dl_desk.specs.declared.reply.LoadReply.{LoadReply}
@@ -38,17 +38,17 @@ pub record Makes (before : Book) (old : Trace) (call : Call) (reply : Reply) (no
   pub trace : new ≡ with_event old (length before.history) call reply
   pub flags : now.flags ≡ before.flags
 
--- ---- what a caller knows of a call that was made under the lock
+-- ---- what a caller knows of a call under the lock
 
--- at a book that keeps what the loader's does, and has at least the events that the pass had seen, the call was made so
+-- the call was made so at a book that keeps what the loader's does, and has at least as many events as the pass had seen
 abbrev pub WasMade : Service → Trace → Call → Reply → Trace → Type 0
 WasMade service old call reply new =
     (before now : Book) × Keeps service before × Keeps service now × (front_of old.entries ≤ length before.history) × Makes before old call reply now new
 
--- at a book that keeps what the loader's does the call was refused so; that it was the locked one nothing says
+-- the call was refused so at a book that keeps what the loader's does; nothing says that it was the locked one
 abbrev pub WasRefused : Service → Trace → Call → Option Job → CallFault → Type 0
 WasRefused service p call job fault = (before : Book) × Keeps service before × IsRefusal service before p call job fault
 
--- Whoever is refused since the loader is stopped knows the flag that says so.
+-- Whoever meets the fault that the loader is stopped knows the flag that says so.
 abbrev pub KnowsStop : KnownFlags → CallFault → Type 0
 KnowsStop flags fault = fault ≡ Stopped → flags.stopped ≡ true

@@ -1,11 +1,11 @@
--- What event calls answer beside tickets and jobs.
+-- What event calls answer other than tickets and jobs.
 use Rattle.std.specs.Prelude.{ℕ, cond}
 use Rattle.dl_desk.specs.declared.event.Reply.{Reply}
 use Rattle.dl_desk.specs.declared.event.Reply.TheVariants.{Primed, Kept}
 use Rattle.dl_loader.specs.declared.reply.PrimeReply.{PrimeReply}
 use Rattle.dl_loader.specs.declared.reply.PrimeReply.TheVariants as prime
 
--- the reply that the history tells of a prime
+-- the reply to a prime, as the history has it
 abbrev pub reply_by : PrimeReply → Reply
 reply_by (prime.Primed cell shown) = Primed cell
 reply_by prime.Kept = Kept

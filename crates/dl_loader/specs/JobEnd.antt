@@ -1,5 +1,4 @@
--- How a caller ends the batch of a job: by what the loader's source answers to the job's keys, or as one that
--- failed since memory ran out.
+-- How a caller ends the batch of a job: by what the loader's source answers to the job's keys, or as one that failed since memory ran out.
 use Rattle.std.specs.Prelude.{◌≡◌, ◌⊎◌, ℕ, List, [], ◌∷◌, take, Some, slice_get}
 use Rattle.dl_values.specs.declared.outcome.BatchFault.TheVariants.{Memory}
 use Rattle.dl_values.specs.declared.job.Job.{Job}
@@ -18,11 +17,11 @@ use Rattle.dl_history.specs.declared.fault.CallFault.{CallFault}
 abbrev pub end_answered : Service → Job → Call
 end_answered service job = end_by job.batch (service.answer job.keys)
 
--- its end where there is no memory for that
+-- its end if there is no memory for that
 abbrev pub end_unanswered : Job → Call
 end_unanswered job = Fail job.batch Memory
 
--- one call was made, which is one of the two
+-- one call was made, one of these two
 abbrev pub WasEnded : Service → Trace → Job → Trace → Type 0
 WasEnded service old job new =
     WasMade service old (end_answered service job) Done new ⊎ WasMade service old (end_unanswered job) Done new
@@ -37,7 +36,7 @@ abbrev pub WereEnded : Service → Trace → List Job → Trace → Type 0
 WereEnded service old [] new = new ≡ old
 WereEnded service old (job ∷ jobs) new = (next : Trace) × WasEnded service old job next × WereEnded service next jobs new
 
--- such a call was made for each of the jobs before one of them, in order, and no other, and for that one it was refused so
+-- the same for the jobs before one of them, and for that one such a call was refused so
 abbrev pub WereEndedBefore : Service → Trace → List Job → Trace → CallFault → Type 0
 WereEndedBefore service old jobs new fault =
     (n : ℕ) × (job : Job) × (slice_get jobs n ≡ Some job) × WereEnded service old (take n jobs) new × WasNotEnded service new job fault

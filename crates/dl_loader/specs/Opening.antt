@@ -1,4 +1,4 @@
--- What a loader is opened with.
+-- What you open a loader with.
 use Rattle.std.specs.Prelude.{◌≡◌, ℕ, ◌<◌, ◌≤◌, List}
 use Rattle.dl_cells.specs.Cells.{row_len}
 use Rattle.dl_values.specs.Key.{Key}
@@ -9,8 +9,8 @@ use Rattle.dl_desk.specs.Service.{Service, Answers, AnswersEach, service}
 use Rattle.dl_history.specs.declared.fault.StartFault.{StartFault}
 use Rattle.dl_history.specs.declared.fault.StartFault.TheVariants.{NoCallers, TooManyCallers, OutOfMemory}
 
--- what contracts see of an opening: its source, how batches will be made, how many callers there will be,
--- the loader's set-once cells, and the name of the ledger that counts its events
+-- what contracts see of an opening: its source, the rules for batches, the number of callers, the loader's set-once
+-- cells, and the name of the ledger that counts its events
 pub record Opening (S : Type 0) : Type 0 where
   pub source : S
   pub rules : Rules
@@ -27,8 +27,7 @@ pub record AreCallers (callers : ℕ) : Type 0 where
   pub least : 1 ≤ callers
   pub most : callers ≤ most_callers
 
--- the fields of an opening, beside its source: its limits, how many callers there will be, the parts of the ledger, and the
--- loader's set-once cells
+-- the fields of an opening, but for its source: its limits, the number of callers, the parts of the ledger, and the loader's set-once cells
 pub record OpeningFields : Type 0 where
   pub limits : Limits
   pub callers : ℕ
@@ -42,18 +41,18 @@ pub record IsOpening (fields : OpeningFields) : Type 0 where
   pub calls_fit : row_len fields.cells.log ≡ fields.limits.max_calls
   pub cells_fit : row_len fields.cells.outcomes ≡ fields.limits.max_cells
 
--- the fault names the first cause why there can't be so many callers
+-- the fault names the first cause why there can't be this many callers; if there is none, memory ran out
 abbrev pub RefusedAs : ℕ → StartFault → Type 0
 RefusedAs callers NoCallers = callers ≡ 0
 RefusedAs callers TooManyCallers = most_callers < callers
 RefusedAs callers OutOfMemory = AreCallers callers
 
--- what the loader of an opening will serve by, where sources answer so
+-- what the loader of an opening serves by, if sources answer so
 abbrev pub service_of : {S : Type 0} → (S → List Key → BatchAnswer) → Opening S → Service
 service_of answer opening = service opening.rules opening.callers (answer opening.source)
 
--- The loader that a type stands for is the one of the opening: what the type says of it is what it serves by, the number of the
--- ledger's parts, its set-once cells, and the ledger.
+-- The type names the loader of the opening: what the type says of it is what it serves by, the number of the ledger's
+-- parts, its set-once cells, and the ledger.
 pub record Names {S : Type 0} (answer : S → List Key → BatchAnswer) (opening : Opening S) (own : Service) (parts : ℕ) (cells : CellNames)
     (ledger : ℕ) : Type 0 where
   pub rules : opening.rules ≡ own.rules

@@ -19,8 +19,7 @@ use Rattle.dl_history.specs.declared.fault.CallFault.{CallFault}
 use Rattle.dl_history.specs.declared.fault.CallFault.TheVariants.{Stopped, Behind, LogFull, WrongKeys, OutOfMemory, LogRefused}
 use Rattle.dl_history.specs.Faults.{call_fault}
 
--- Why a pass may make no event at all: the loader is stopped, the pass has seen more events than there are, or
--- the history is full.
+-- Why a pass may make no event at all: the loader is stopped, the pass has seen more events than there are, or the history is full.
 abbrev pub unready : Service → Book → Trace → Option CallFault
 unready service b p =
     if b.flags.stopped then Some Stopped
@@ -41,12 +40,12 @@ wrong_keys history (Some job) = if same_keys job.keys (keys_of history job.batch
 abbrev pub cause : Rules → List Atom → Call → Option Job → Option CallFault
 cause rules history call job = option_or (option_map call_fault (desk.refusal rules history (call_of call))) (wrong_keys history job)
 
--- The refusal of a call, perhaps with a job that it ends: the first cause that applies, unless memory ran out
--- and a log that refuses.
+-- The refusal of a call, perhaps with a job that it ends: the first cause that applies, unless memory runs out or the
+-- log refuses the event.
 abbrev pub refusal : Service → Book → Trace → Call → Option Job → Option CallFault
 refusal service b p call job = option_or (unready service b p) (cause service.rules (atoms (past b.history)) call job)
 
--- The call is refused so: for its cause, because memory ran out, or, where it has no cause, because the log refused its event.
+-- The fault of a refused call: its cause, that memory ran out, or, if it has no cause, that the log refused its event.
 abbrev pub IsRefusal : Service → Book → Trace → Call → Option Job → CallFault → Type 0
 IsRefusal service b p call job fault =
     (fault ≡ OutOfMemory) ⊎ ((fault ≡ LogRefused) × (refusal service b p call job ≡ None)) ⊎ (refusal service b p call job ≡ Some fault)
