@@ -54,9 +54,7 @@ pub enum Reply {
 pub struct Event {
     /// The caller, counted from 0.
     pub caller: u32,
-    /// The call.
     pub call: Call,
-    /// The reply.
     pub reply: Reply,
 }
 
@@ -85,7 +83,6 @@ impl Drop for Event {
 pub struct Ending {
     /// The place, below 65,536, since a history has at most 65,536 events.
     pub at: u16,
-    /// The outcome.
     pub outcome: Outcome,
 }
 
