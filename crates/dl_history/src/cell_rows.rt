@@ -80,7 +80,7 @@ impl<L: LoaderName> CellRows<L> {
         self.limits
     }
 
-    /// The limits of a loader are limits. The call does nothing when it runs; its clause is for your proof.
+    /// Each limit of a loader is 1 to 65,536. The call does nothing when it runs; its clause is for your proof.
     pub fn keeps(&self)
         ensures { AreLimits L.service.rules.limits }
     {

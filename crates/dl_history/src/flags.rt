@@ -9,7 +9,8 @@ use dl_cells::{Flag, Raised};
 use std::marker::{Model, PhantomData};
 use std::sync::Wait;
 
-/// The flags of a loader: somebody has stopped it, and a cell has refused its outcome. Once a flag is up, it stays up.
+/// The flags of a loader: one goes up when somebody stops it, and one when a cell refuses its outcome. Once a flag is
+/// up, it stays up.
 #[derive(Drop)]
 pub struct Flags {
     pub(crate) stop: Flag,

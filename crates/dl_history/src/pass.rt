@@ -33,8 +33,9 @@ pub(crate) struct GivenTicket {
 }
 
 /// What one caller has done with a loader and seen of it: its calls, the outcomes that it has seen, its tickets, and
-/// whether it knows that the loader is stopped. You get one for each caller when you start a loader, and each call of
-/// the loader takes one. To close the loader, you give them all back. Contracts see all of this, and the room for more.
+/// whether it knows that the loader is stopped. You get one for each caller when you start a loader, and its caller
+/// hands it to each call. To close the loader, you give them all back. Contracts see all of this, and the room for
+/// more.
 ///
 /// # Examples
 /// You start a loader, give each pass to its caller, and close the loader with all of them, as

@@ -113,7 +113,7 @@ impl<'a, L: LoaderName> Ticket<'a, L> {
         self.reply
     }
 
-    /// The outcome, or `None` if the cell has not ended. Once you get it, you get it each time. It never waits.
+    /// The outcome, if the cell has ended and shows it. Once you get it, you get it each time. It never waits.
     pub fn look(&mut self) -> Option<&'a Outcome>
         ensures number { self.new.number ≡ self.old.number }
         ensures reply { self.new.reply ≡ self.old.reply }
@@ -153,7 +153,7 @@ impl<'a, L: LoaderName> Ticket<'a, L> {
         Read::of(self.cell(), at, self.reader.again())
     }
 
-    /// The place and the outcome, or `None` if the cell has not ended.
+    /// The place and the outcome, if the cell has ended and shows them.
     fn look_ending(&mut self) -> Option<&'a Ending>
         ensures number { self.new.number ≡ self.old.number }
         ensures reply { self.new.reply ≡ self.old.reply }

@@ -40,7 +40,7 @@ impl<L: LoaderName> Journal<L> {
     /// knows of it. It makes all allocations first and then stores the event in the log. After that nothing can fail.
     ///
     /// # Errors
-    /// `OutOfMemory`, `LogRefused`. The journal and the share are then as they were.
+    /// `OutOfMemory`, `LogRefused`. The events, the cells and the share are then as they were.
     // Inlined, so that an event is made where it will lie, and not moved there.
     #[inline(always)]
     pub(crate) fn append(

@@ -17,7 +17,8 @@ impl<L: LoaderName> Pass<L> {
     /// the journal and the rows, and so only the book can call this.
     ///
     /// # Errors
-    /// `OutOfMemory`; `LogRefused` if the log's cell has another event. The journal and the pass are then as they were.
+    /// `OutOfMemory`; `LogRefused` if the log's cell has another event. The events and the cells of the journal, and
+    /// the entries and the tickets of the pass, are then as they were.
     // Inlined, so that an event is made where it will lie, and not moved there.
     #[inline(always)]
     pub fn add_event(
