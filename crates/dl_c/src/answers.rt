@@ -6,7 +6,7 @@ ghost use Rattle.dl_c.specs.Answers.{loaded_as, primed_as, held_as, refused_as, 
 use crate::codes::{DONE, FRESH, HIT};
 use dl_desk::{DeskPrime, Job, LoadReply};
 
-/// The answer to a call on a cell: a code and, if the code says so, a cell and a batch. They are 0 if not.
+/// The answer to a call on a cell: a code, a cell and a batch. If the code promises no cell or no batch, that one is 0.
 #[repr(C)]
 #[derive(Clone, Copy, Debug, PartialEq, Eq)]
 pub struct Loaded {

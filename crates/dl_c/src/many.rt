@@ -19,8 +19,8 @@ use dl_desk::{Desk, FetchKey, LoadReply};
 use std::alloc::Global;
 
 /// Loads several keys in order, as one call, all or nothing (DataLoader: `loadMany`). `texts` has the texts of all
-/// keys, each table before its id, with nothing between them, and `lengths` has their lengths. `answers` must have room
-/// for one answer for each key. If the call fails, it leaves the answers as they were.
+/// keys, each table before its id, with nothing between them, and `lengths` has their lengths. `answers` must have one
+/// place for each key. If the call fails, it leaves the answers as they were.
 ///
 /// Codes: `DONE`; `CLOSED`, `BAD_LENGTHS`, `BAD_KEY`, `CELLS_FULL`, `OUT_OF_MEMORY`.
 #[unsafe(no_mangle)]
