@@ -27,9 +27,7 @@ pub enum Atom {
 /// A cell that an atom begins: its key and, unless a prime began it, its batch.
 #[derive(Clone, Copy, Debug)]
 pub struct Begun<'a> {
-    /// The key.
     pub key: &'a FetchKey,
-    /// The cell.
     pub cell: u32,
     /// The batch that fetches it, or `None` for a prime.
     pub batch: Option<u32>,

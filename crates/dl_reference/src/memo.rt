@@ -12,7 +12,6 @@ use dl_desk::FetchKey;
 /// The last atom that began a cell for a key.
 #[derive(Clone, Copy, Debug)]
 pub(crate) struct Latest {
-    /// The cell.
     cell: u32,
     /// The batch that fetches it, or `None` for a prime.
     batch: Option<u32>,

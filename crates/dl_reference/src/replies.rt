@@ -17,7 +17,6 @@ use std::alloc::{AllocError, Global};
 /// The limits of a loader and, if each batch has one table, the tables with a limit of their own.
 #[derive(Debug, Drop)]
 pub struct Rules {
-    /// The limits.
     pub limits: Limits,
     /// The tables with a limit of their own. With `None`, batches may mix tables.
     pub tables: Option<Vec<(Text, u32)>>,
