@@ -26,7 +26,6 @@ pub(super) struct Row {
 
 /// Calls, and the close that follows them.
 pub(super) struct Part {
-    /// The calls.
     pub(super) steps: &'static [Step],
     /// The number of passes that the close gets, from the first caller on.
     pub(super) passes: usize,
