@@ -59,14 +59,12 @@ impl Counts {
         }
     }
 
-    /// Counts loads.
     pub(crate) fn loads(&mut self, replies: &[LoadReply]) {
         for reply in replies {
             self.load(*reply);
         }
     }
 
-    /// Counts jobs.
     pub(crate) fn jobs(&mut self, jobs: &[Job]) {
         self.jobs = self.jobs.saturating_add(jobs.len() as u64);
     }
