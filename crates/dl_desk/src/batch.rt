@@ -1,4 +1,4 @@
-//! Batches as a desk stores them: members, of which the last may be prepared.
+//! Batches as a desk stores them. Their last members may be prepared and not shown yet.
 
 ghost use Rattle.std.specs.Prelude.{◌≡◌, Some, false, ◌<◌, slice_get, [], ◌∷◌, ◌++◌, length, take, map, OnOk, OnErr, IfOk};
 ghost use Rattle.std.specs.List.{zip};

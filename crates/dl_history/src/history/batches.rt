@@ -53,7 +53,7 @@ impl<'a> EndedBatch<'a> {
     }
 }
 
-/// The batches of a history, each of which has ended. Contracts see the history.
+/// The batches of a history. Each of them has ended. Contracts see the history.
 #[derive(Drop)]
 pub struct Batches<'a> {
     history: &'a History,
