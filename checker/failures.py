@@ -158,7 +158,7 @@ class Terms:
         return [Found([], path)]
 
     def look_up(self, table: str, path: Path) -> None:
-        """Warns of a table that isn't there, and of which no step primes a key."""
+        """Warns of a table that isn't there, if no step primes a key of it."""
         if table in self.tables or table in self.primed:
             return
         cause = f'No table has the name {shown(table)}, so each of its keys is an error ("no table").'

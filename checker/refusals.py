@@ -1,6 +1,6 @@
 """Finds what is wrong with a document, in the order of the program's refusals.
 
-docs/documents.schema.json says most of what a document may be. The rest is here: it counts bytes, tells a whole number from 1.0, and
+docs/documents.schema.json says most of what a document may be. The rest is here: it counts bytes, distinguishes a whole number from 1.0, and
 sees how high a term is, how long a document is, and which table or id comes twice.
 """
 
@@ -238,7 +238,7 @@ def schema_findings(document: Json) -> Iterator[Finding]:
 
 
 def height(term: Json) -> int:
-    """The height of a term, of which nothing else may be wrong."""
+    """The height of a term with which nothing else is wrong."""
     ((form, argument),) = term.items()
     if form in ("value", "load"):
         return 1

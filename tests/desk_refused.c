@@ -1,7 +1,7 @@
-/* A C program that makes the calls of dl_desk.h where a growth is refused: of each call its first growth, then its second, and so
- * on until it meets no refusal. A call that is refused a growth answers DL_OUT_OF_MEMORY or its own answer, and made again its own;
- * and so do all calls behind it. It is linked with refuse.c, and first looks whether that refuses each way to grow: a sweep can't see
- * which refusals it lacks. It prints each check that fails, and how many calls and ways passed. */
+/* A C program that makes the calls of dl_desk.h and refuses growths: of each call the first, then the second, and so on until it meets
+ * no refusal. A call that is refused a growth answers DL_OUT_OF_MEMORY or its own answer. If it is made again it gives its own, and so
+ * do all later calls. Link it with refuse.c. It first checks that this refuses each way to grow: a sweep can't see which refusals it
+ * lacks. It prints each check that fails, and how many calls and ways passed. */
 #include "dl_desk.h"
 #include "refuse.h"
 
@@ -128,13 +128,13 @@ static const call CALLS[] = {
     {OPEN, "", 0, {DL_DONE, 0, 0, 0}, true},
     {LOAD, "a", 0, {DL_FRESH, 0, 0, 0}, true},
     {LOAD, "b", 0, {DL_FRESH, 1, 0, 0}, true},
-    /* A call on a key takes memory for it where the last one's is shared, as here. */
+    /* A call on a key takes memory for it if the last one's is shared, as here. */
     {HELD, "a", 0, {DL_HIT, 0, 0, 0}, true},
     {LOAD, "a", 0, {DL_HIT, 0, 0, 0}, true},
     {HELD, "z", 0, {DL_FRESH, 0, 0, 0}, true},
     {PRIME, "c", 0, {DL_FRESH, 2, 0, 0}, true},
     {PRIME, "c", 0, {DL_HIT, 0, 0, 0}, true},
-    /* d, e, a hit, f, and g: cells 3, 4, 1, 5, 6 and batches 1, 1, none, 2, 2, of which four are fresh. */
+    /* d, e, a hit, f, and g: cells 3, 4, 1, 5, 6 and batches 1, 1, none, 2, 2. Four are fresh. */
     {LOAD_MANY, "debfg", 0, {DL_DONE, 19, 6, 4}, true},
     {CLEAR, "d", 0, {DL_DONE, 0, 0, 0}, true},
     {CLEAR, "z", 0, {DL_DONE, 0, 0, 0}, true},
@@ -209,7 +209,7 @@ static void *grow(unsigned way, void *block)
     }
 }
 
-/* How many of the ways to grow aren't refused where they should be: as the first growth, and as the second. */
+/* How many of the ways to grow aren't refused when they should be: as the first growth, and as the second. */
 static unsigned ways_unrefused(void)
 {
     static const char *const names[WAYS] = {"malloc", "calloc", "realloc"};

@@ -1,5 +1,4 @@
-"""What the program `plans` gives for documents and command lines: rows, by what they show. The program `program` beside this one
-runs it on each."""
+"""What the program `plans` gives for documents and command lines: rows, by what they show. tests/program runs it on each."""
 
 import itertools
 from typing import NamedTuple
@@ -42,7 +41,7 @@ def answered(about, text, *lines, **others):
 
 
 def refused(line, *parts, about=None):
-    """The row of a document that is refused with this line, whatever the words. Where nothing is said about it, it is short."""
+    """The row of a document that gets this refusal, whatever the words. If `about` says nothing, the document is short."""
     text = document(*parts)
     return Row(about or text.decode(), text, command_lines=("", "--batches", "migrate"), status=1, error=f"refused: {line}\n")
 
@@ -258,7 +257,7 @@ ROWS["other calls are refused"] = [
 
 
 def load_of(table, key):
-    """The parts of a script that loads a key, whose table and id have so many bytes."""
+    """The parts of a script that loads a key, whose table and id have this many bytes."""
     return '{"script":1,"calls":[{"load":["', ("x", table), '","', ("x", key), '"]}]}'
 
 
@@ -517,7 +516,7 @@ ROWS["other documents are no plan files"] = [
     refused("not json", "[1] 2"),
     refused("not json", "[1"),
     refused("not json", '{"version":1,"tables":[],"plans":[[]]'),
-    # lists and objects nest 127 deep at most, wherever they stand
+    # lists and objects nest 127 deep at most, at each place
     refused("version", ("[", 127), ("]", 127), about="127 lists in one another"),
     refused("not json", ("[", 128), ("]", 128), about="128 lists in one another"),
     refused("table Shape", '{"version":1,"plans":[[]],"tables":', ("[", 126), ("]", 126), "}", about="tables 127 deep"),
@@ -839,7 +838,7 @@ ROWS["other tables are refused"] = [
 
 
 def table_of(member, name, key, text):
-    """The parts of a file over one table whose member lists one pair. A name, an id and a text have so many bytes."""
+    """The parts of a file over one table whose member lists one pair. A name, an id and a text have this many bytes."""
     return tables_file(1, '[{"name":"', ("t", name), f'","rows":[],"{member}":[["', ("x", key), '","', ("e", text), '"]]}]')
 
 
@@ -868,7 +867,7 @@ LOADED = {
 
 
 def loaded(form, table, key):
-    """A plan whose term loads a text of so many bytes from a table whose name has so many."""
+    """A plan whose term loads a text of this many bytes from a table whose name has this many."""
     front, middle, back = LOADED[form]
     return document(TERM, front, ("x", key), middle, ("t", table), back)
 
@@ -1015,7 +1014,7 @@ ROWS["in version 2 a table may have a number"] = [
 
 # ---- both kinds
 
-# Where a name stands twice in one object, the last member counts.
+# If an object has a name twice, the last member counts.
 ROWS["of a name that stands twice the last counts"] = [
     answered(
         "in a script, and in a call",
@@ -1040,7 +1039,7 @@ ROWS["of a name that stands twice the last counts"] = [
     refused("table Shape", '{"version":1,"tables":[],"plans":[[]],"tables":5}'),
 ]
 
-# A number that a float can't hold stands nowhere in JSON as it is read here, not even under a name that counts for nothing.
+# JSON as we read it has no number that a float can't hold, not even under a name that counts for nothing.
 ROWS["a number out of range is no JSON"] = [
     refused("not json", '{"script":1,"calls":[],"maxCells":1e999}'),
     refused("not json", '{"script":3,"calls":[{"load":1e999}]}'),
@@ -1143,7 +1142,7 @@ TABLES_OF_FILE = listed(f'{{"name":"{table}","rows":[]}}' for table in ROOM)
 
 
 def most_rows(about, count, limits, jobs):
-    """The row of a plan file with these limits that loads so many rows in one round, each of which is 7, in these jobs."""
+    """The row of a plan file with these limits that loads this many rows in one round, each of them 7, in these jobs."""
     rows = listed(f'["{key}",7]' for key in SHORT[:count])
     # An each has 1,024 items at most.
     parts = [SHORT[at : min(at + 1_024, count)] for at in range(0, count, 1_024)]

@@ -1,4 +1,4 @@
-"""What `plans --batches` prints of a plan file: a plain evaluation of a plan by one loader on one thread, as docs/reference/formats.md says.
+"""What `plans --batches` prints of a plan file: a plain evaluation of a plan by a single-threaded loader, as docs/reference/formats.md says.
 
 It shares nothing with the program, and refuses no document.
 """
@@ -73,7 +73,7 @@ class Source:
 
 
 class Limits(NamedTuple):
-    """The most keys of a batch, cells and calls; and the tables' own limits, where each batch is of one table."""
+    """The most keys of a batch, cells and calls; and the tables' own limits, if each batch has keys of one table."""
 
     keys: int = LIMIT
     cells: int = LIMIT
@@ -192,7 +192,7 @@ class Evaluation:
             self.rounds += 1
 
     def explore(self, term):
-        """The answer of a term from what is known, or None where it waits for keys, which are then wanted."""
+        """The answer of a term from what is known, or None if it waits for keys, which it then wants."""
         ((form, argument),) = term.items()
         if form == "value":
             return Answer(False, argument)

@@ -1,4 +1,4 @@
-"""A program below which refuse.c stands: what a run of it is refused, and how the run ends."""
+"""A program that runs above refuse.c: what refuse.c refuses it, and how the run ends."""
 
 import os
 import pathlib
@@ -12,12 +12,12 @@ from shared import TOP
 
 PROGRAM = TOP / "crates/plans/out/plans"
 
-# After so many seconds a run is stopped, which takes a few thousandths of one.
+# A run takes a few thousandths of a second. This is when it is stopped, in seconds.
 LONGEST = 60
 
 
 class Ending(NamedTuple):
-    """How a run ends: its status, None where it hasn't ended by itself, and what is on standard output and standard error."""
+    """How a run ends: its status, or None if it didn't end by itself, and what is on standard output and standard error."""
 
     status: int | None
     output: bytes
@@ -48,7 +48,7 @@ class Interposer:
         self.folder.cleanup()
 
     def told(self):
-        """The file by which runs of this thread tell how many were refused."""
+        """The file in which runs of this thread say how many were refused."""
         if not hasattr(self.threads, "told"):
             self.threads.told = os.memfd_create("told")
         os.pwrite(self.threads.told, bytes(8), 0)

@@ -1,5 +1,5 @@
-"""The public calls of the libraries that may take memory, as their sources have them: each function that anyone may call and that is
-given an allocator, or answers that memory ran out; and the polls of futures."""
+"""The public calls of the libraries that may take memory, from their sources: each function that anyone may call and that takes an
+allocator, or answers that memory ran out; and the polls of futures."""
 
 import re
 
@@ -14,7 +14,7 @@ CRATES = [
 # What a signature names that may take memory. A fault of limits names no memory.
 TAKES_MEMORY = re.compile(r"\b(alloc: Global|AllocGlobal|AllocError|(?!Limit)\w+Fault|RunError)\b")
 
-# The head of an impl block at the left, or of a function with its signature, up to its clauses, its body, or its end where it has none.
+# The head of an impl block at the left, or of a function with its signature, up to its clauses, its body, or its end if it has none.
 ITEM = re.compile(
     r"^impl\b(?P<impl>[^{]*?)(?:\{|\n\s*ghost)|^ *(?P<visible>pub )?fn (?P<name>\w+)(?P<signature>[^{]*?)(?=\{|;\n|\n\s*requires|\n\s*ensures)",
     re.M | re.S,

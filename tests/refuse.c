@@ -1,13 +1,13 @@
-/* Stands below a program (LD_PRELOAD, or linked with it) and refuses what it asks of the system.
+/* Lies below a program (LD_PRELOAD, or linked with it) and refuses what it asks of the system.
  *
  * The environment says what: REFUSE_GROWTH, REFUSE_THREAD, REFUSE_RANDOM, REFUSE_READ or REFUSE_WRITE=n refuses the n-th, counted
  * from 1; with a + behind it, that one and all that follow; and with :e behind that, by the error e. By the error 0 a write takes
- * nothing. MOST_READ and MOST_WRITE have a read or a write take so many bytes at most. Of reads those of standard input count
- * alone, and of writes those of standard output. REFUSE_IN counts the growths alone that are asked for by a library whose file has
- * this in its name. YIELD=s has threads yield or sleep for an instant at growths, as s draws it.
+ * nothing. MOST_READ and MOST_WRITE let a read or a write take at most this many bytes. Only reads of standard input count, and
+ * only writes to standard output. With REFUSE_IN, only the growths count that a library asks for whose file has this in its name.
+ * YIELD=s lets threads yield or sleep for an instant at growths, as s draws it.
  *
  * A test asks from inside, by growths of sizes that nothing else has (crates/dl_tests): GROWTHS + n bytes refuse the n-th growth from
- * then on, THREADS + n the n-th thread, and ENDS bytes end that, and are refused themselves where one was.
+ * then on, THREADS + n the n-th thread, and ENDS bytes end that, and are refused themselves if one was.
  *
  * REFUSE_TOLD is the number of an open file, whose first eight bytes become how many were refused. */
 #define _GNU_SOURCE

@@ -1,4 +1,4 @@
-/* What a program asks of refuse.c that stands below it. */
+/* What a program asks of refuse.c below it. */
 #ifndef REFUSE_H
 #define REFUSE_H
 

@@ -10,7 +10,7 @@ TOP = pathlib.Path(__file__).resolve().parent.parent
 
 
 def imported(name):
-    """A program in Python that stands at the top, as a module."""
+    """A program in Python at the top of the repository, as a module."""
     loader = importlib.machinery.SourceFileLoader(name, str(TOP / name))
     module = importlib.util.module_from_spec(importlib.util.spec_from_loader(name, loader))
     loader.exec_module(module)

@@ -34,7 +34,7 @@ pub record IsTextOf (bytes : List ℕ) (d : Data) : Type 0 where
 abbrev pub is_script : Data → Bool
 is_script d = is_some (get (codes "script") d)
 
--- the member whose number tells the version
+-- the member whose number gives the version
 abbrev pub version_name : Data → List ℕ
 version_name d = if is_script d then codes "script" else codes "version"
 
@@ -44,7 +44,7 @@ list_name d = if is_script d then codes "calls" else codes "plans"
 
 -- ---- versions
 
--- the whole number that tells the version
+-- the whole number that gives the version
 abbrev pub version_number : Data → Option ℤ
 version_number d = option_and_then whole (get (version_name d) d)
 
@@ -62,7 +62,7 @@ IsOfNoVersion d = (version : Version) → IsOfVersion d version → ⊥
 abbrev pub is_limit_member : List ℕ → Bool
 is_limit_member name = bytes_eq name (codes "maxBatchSize") || (bytes_eq name (codes "maxCells") || bytes_eq name (codes "maxCalls"))
 
--- scripts of version 2 have one member more
+-- a script of version 2 has one member more
 abbrev pub is_script_member : Version → List ℕ → Bool
 is_script_member First name = bytes_eq name (codes "script") || (bytes_eq name (codes "calls") || is_limit_member name)
 is_script_member Second name =
@@ -76,7 +76,7 @@ abbrev pub is_known : Bool → Version → List ℕ → Bool
 is_known true version name = is_script_member version name
 is_known false version name = is_plans_member name
 
--- whether each member of an object is one of its kind and of the version
+-- whether each member of an object is one of its kind and version
 abbrev pub has_only_known : Version → Data → Bool
 has_only_known version d = has_only (is_known (is_script d) version) d
 
@@ -88,7 +88,7 @@ abbrev pub whole_or_largest : Option Data → Option ℤ
 whole_or_largest None = Some (pos largest_limit)
 whole_or_largest (Some d) = whole d
 
--- the whole number that a limit's member is, or the largest limit where there is no such member
+-- the whole number of a limit's member, or the largest limit if there is no such member
 abbrev pub number_at : List ℕ → Data → Option ℤ
 number_at name d = whole_or_largest (get name d)
 
@@ -109,7 +109,7 @@ pub record GivesOwn (d : Data) (tables : Option TableLimits) : Type 0 where
   pub numbers : script_numbers (version_by tables) d ≡ Some given
   pub limits : AreTheirLimits given (own tables)
 
--- the member `tables` gives the tables, of which nothing is refused, and these limits of their own
+-- the member `tables` gives tables that are not refused, and these limits of their own
 pub record GivesTables (d : Data) (tables : Tables) (limited : Option TableLimits) : Type 0 where
   pub tree : Data
   pub member : get (codes "tables") d ≡ Some tree

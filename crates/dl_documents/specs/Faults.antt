@@ -33,8 +33,9 @@ limit_name BatchLimit = codes "maxBatchSize"
 limit_name CellLimit = codes "maxCells"
 limit_name CallLimit = codes "maxCalls"
 
--- The members aren't those of a document of its kind and version: a strange one, no list of calls or plans, no tables or no list
--- of 1 to 16 lists in a plan file, a limit that is no whole number, or no list of tables' numbers in a script.
+-- The members aren't those of a document of its kind and version: there is a strange one, no list of calls or plans, no
+-- tables or no list of 1 to 16 lists in a plan file, a limit that isn't a whole number, or no list of tables' numbers
+-- in a script.
 pub data IsBadTop (d : Data) : Type 0 where
   HasStrange : (version : Version) → IsOfVersion d version → has_only_known version d ≡ false → IsBadTop d
   LacksList : items_at (list_name d) d ≡ None → IsBadTop d
@@ -100,7 +101,7 @@ IsDeepStep d n s = (step : Data) × IsStepAt d n s step × IsTooDeep step
 abbrev pub IsLongPlan : Data → ℕ → Type 0
 IsLongPlan d n = (steps : Items) × IsPlanAt d n steps × (most_steps < items_len steps)
 
--- the member `tables` is refused for the fault
+-- the member `tables` has the fault
 pub record IsBadTable (d : Data) (f : TableFault) : Type 0 where
   pub version : Version
   pub is : IsOfVersion d version
@@ -110,11 +111,11 @@ pub record IsBadTable (d : Data) (f : TableFault) : Type 0 where
 
 -- ---- causes in limits
 
--- a number that no limit is
+-- a number that isn't a limit
 abbrev pub IsOutside : ℤ → Type 0
 IsOutside z = (n : ℕ) → IsLimit n → z ≡ pos n → ⊥
 
--- the member is a whole number that is no limit
+-- the member is a whole number that isn't a limit
 pub record IsBadLimit (name : List ℕ) (d : Data) : Type 0 where
   pub given : ℤ
   pub number : number_at name d ≡ Some given
@@ -126,18 +127,18 @@ pub data GivesNumbers (d : Data) (ns : List TableNumber) : Type 0 where
   InTables : (version : Version) (tree : Data) (tables : Tables) → is_script d ≡ false → IsOfVersion d version → get (codes "tables") d ≡ Some tree
       → SpellsNumbers version tree tables ns → GivesNumbers d ns
 
--- one of the numbers is no limit
+-- one of the numbers isn't a limit
 abbrev pub HasOutside : List TableNumber → Type 0
 HasOutside ns = (k : ℕ) × (n : TableNumber) × (slice_get ns k ≡ Some n) × IsOutside n.number
 
--- the number at the top is no limit, or, where batches are limited, a table's number is none
+-- the number at the top isn't a limit or, for the limit of a batch, a table's number isn't one
 pub data IsBadNumber (d : Data) (l : LimitFault) : Type 0 where
   AtTop : IsBadLimit (limit_name l) d → IsBadNumber d l
   OfTable : l ≡ BatchLimit → (ns : List TableNumber) → GivesNumbers d ns → HasOutside ns → IsBadNumber d l
 
 -- ---- causes
 
--- what in a document's tree is a cause of a refusal
+-- what in a document's tree causes a refusal
 abbrev pub Causes : Data → PlanFault → Type 0
 Causes d TooLarge = ⊥
 Causes d NotJson = ⊥
@@ -151,7 +152,7 @@ Causes d (Table f) = IsBadTable d f
 Causes d (Limit l) = IsBadNumber d l
 Causes d OutOfMemory = ⊥
 
--- a cause in the tree that the bytes are the text of
+-- a cause in the tree whose text the bytes are
 pub record CausesIn (bytes : List ℕ) (f : PlanFault) : Type 0 where
   pub tree : Data
   pub text : IsTextOf bytes tree
@@ -196,7 +197,7 @@ number (Table f) = 9
 number (Limit l) = 10
 number OutOfMemory = 11
 
--- where a refusal among those of its number stands: its call or plan, and then its step
+-- the place of a refusal among those of its number: its call or plan, and then its step
 abbrev pub place : PlanFault → ℕ × ℕ
 place TooLarge = (0, 0)
 place NotJson = (0, 0)

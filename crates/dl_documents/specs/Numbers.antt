@@ -14,7 +14,7 @@ pub record AreGiven (d : Data) (n : Numbers) : Type 0 where
   pub cells : number_at (codes "maxCells") d ≡ Some n.max_cells
   pub calls : number_at (codes "maxCalls") d ≡ Some n.max_calls
 
--- the member of a limit is no whole number
+-- the member of a limit isn't a whole number
 abbrev pub LacksNumber : Data → Type 0
 LacksNumber d = (l : LimitFault) × (number_at (limit_name l) d ≡ None)
 
@@ -29,7 +29,7 @@ pub record AreLimitsOf (n : Numbers) (l : Limits) : Type 0 where
 abbrev pub IsInside : ℤ → Type 0
 IsInside z = (m : ℕ) × (z ≡ pos m) × IsLimit m
 
--- the first of the three numbers that is no limit
+-- the first of the three numbers that isn't a limit
 abbrev pub IsFirstOutside : Numbers → LimitFault → Type 0
 IsFirstOutside n BatchLimit = IsOutside n.max_batch
 IsFirstOutside n CellLimit = IsInside n.max_batch × IsOutside n.max_cells

@@ -12,7 +12,7 @@ use Rattle.dl_documents.specs.declared.head.Version.TheVariants.{First, Second}
 abbrev pub TableLimits : Type 0
 TableLimits = List (List ℕ × ℕ)
 
--- what has limits of tables, be they none, is of version 2
+-- a document that has limits of tables, even if for no table, has version 2
 abbrev pub version_by : Option TableLimits → Version
 version_by None = First
 version_by (Some tables) = Second

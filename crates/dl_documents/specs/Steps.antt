@@ -17,7 +17,7 @@ use Rattle.dl_documents.specs.Terms.{two, term_tree, IsTerm, IsWhole}
 
 -- ---- what steps say
 
--- a step, whose term is seen as its tree
+-- a step, with the tree of its term
 pub data StepTree : Type 0 where
   prime : Key → Outcome → StepTree
   clear : Key → StepTree
@@ -69,7 +69,7 @@ IsPrimed (Value d) = IsWhole d
 IsPrimed (KeyError text) = length text ≤ text_bytes
 IsPrimed (BatchFailed fault) = ⊥
 
--- a step's key is a key, its outcome may be primed, and its term is a term
+-- a step's key is a key, its outcome is one to prime, and its term is a term
 abbrev pub IsPlanStep : StepTree → Type 0
 IsPlanStep (prime k o) = IsKey k × IsPrimed o
 IsPlanStep (clear k) = IsKey k
@@ -93,7 +93,7 @@ IsLow (clear k) = Unit {0}
 IsLow clear_all = Unit {0}
 IsLow (eval t) = height_of t ≤ most_height
 
--- the steps of a plan are steps, whose terms aren't too high, and not too many
+-- the steps of a plan are steps, their terms aren't too high, and there aren't too many
 pub record IsPlan (plan : List StepTree) : Type 0 where
   pub steps : AllByRecursion IsPlanStep plan
   pub low : AllByRecursion IsLow plan

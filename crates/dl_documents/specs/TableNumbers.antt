@@ -24,7 +24,7 @@ numbered table number = record { table = table; number = number }
 abbrev pub named : List TableNumber → List (List ℕ × ℤ)
 named ns = map (λ n. (n.table, n.number)) ns
 
--- the tables have names of tables, and none stands twice
+-- the tables have names of tables, and none is there twice
 pub record AreNamed (ns : List TableNumber) : Type 0 where
   pub names : AllByRecursion (λ n. IsTableName n.table) ns
   pub once : repeats (named ns) ≡ false
@@ -49,7 +49,7 @@ numbers_listed (item d ds) = both (table_number_in d) (numbers_listed ds)
 abbrev pub table_numbers_in : Data → Option (List TableNumber)
 table_numbers_in d = option_and_then numbers_listed (as_array d)
 
--- no table stands twice
+-- no table is there twice
 abbrev pub once_each : List TableNumber → Option (List TableNumber)
 once_each ns = if repeats (named ns) then None else Some ns
 
@@ -57,7 +57,7 @@ abbrev pub numbers_or_none : Option Data → Option (List TableNumber)
 numbers_or_none None = Some []
 numbers_or_none (Some d) = option_and_then once_each (table_numbers_in d)
 
--- the numbers of tables under `tableLimits`, and none where there is no such member
+-- the numbers of tables under `tableLimits`, or none if there is no such member
 abbrev pub listed_numbers : Data → Option (List TableNumber)
 listed_numbers d = numbers_or_none (get (codes "tableLimits") d)
 

@@ -14,15 +14,15 @@ abbrev pub SpellsTables : Version → Data → Tables → Type 0
 SpellsTables First = Spells
 SpellsTables Second = SpellsWithNumbers
 
--- the tree spells the tables with these numbers, of which version 1 has none
+-- the tree spells the tables with these numbers; in version 1 there are none
 abbrev pub SpellsNumbers : Version → Data → Tables → List TableNumber → Type 0
 SpellsNumbers First tree tables numbers = Spells tree tables × (numbers ≡ [])
 SpellsNumbers Second tree tables numbers = SpellsNumbered tree tables numbers
 
--- what in the tree is a cause of a refusal as tables
+-- what in the tree causes a refusal as tables
 abbrev pub TableCauses : Version → Data → TableFault → Type 0
 TableCauses version = table.Causes (SpellsTables version)
 
--- the fault has a cause in the tree, and none that is tested before it has one
+-- the fault has a cause in the tree, and none before it has one
 abbrev pub IsTableFault : Version → Data → TableFault → Type 0
 IsTableFault version = table.IsLeast (SpellsTables version)

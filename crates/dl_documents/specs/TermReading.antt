@@ -14,7 +14,7 @@ use Rattle.dl_documents.specs.Reading.{two_in, three_in, key_in}
 
 -- ---- values and names
 
--- the value that a tree is, if all its numbers are whole
+-- the tree as a value, if all its numbers are whole
 abbrev pub value_in : Data → Option Data
 value_in d = if has_float d then None else Some d
 
@@ -37,12 +37,12 @@ link_in d = option_and_then with_link (three_in d)
 
 -- ---- forms
 
--- what was found in the first item
+-- what the first item gives
 abbrev pub first : List (Option Tree) → Option Tree
 first [] = None
 first (o ∷ os) = o
 
--- what was found in all items
+-- what all items give
 abbrev pub together : List (Option Tree) → Option (List Tree)
 together [] = Some []
 together (o ∷ os) = both o (together os)

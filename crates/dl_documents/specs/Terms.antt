@@ -50,7 +50,7 @@ abbrev pub IsValue : Answer → Type 0
 IsValue (Value d) = IsWhole d
 IsValue (Fault f) = ⊥
 
--- the values, keys and names of a term are such
+-- the values, keys and names of a term are what these must be
 abbrev mutual
   pub IsTerm : Tree → Type 0
   IsTerm (ended a) = IsValue a

@@ -1,4 +1,4 @@
-//! The arguments of calls and steps.
+//! Reads the arguments of calls and steps.
 
 ghost use Rattle.std.specs.Prelude.{◌≡◌, IfOk, option_map};
 ghost use Rattle.dl_documents.specs.Reading.{two_in, three_in, texts_in, key_in, keys_in, is_true};
@@ -21,7 +21,7 @@ pub(crate) fn pair<'v, 'a>(tree: &'v Value<'a>) -> Option<(&'v Value<'a>, &'v Va
     Some((&items[0], &items[1]))
 }
 
-/// The items of a list of two, taken out of it.
+/// The items of a list of two, moved out of it.
 pub(crate) fn into_pair(tree: Value<'_>) -> Option<(Value<'_>, Value<'_>)>
     ensures { option_map (λ p. (tree_data p.0, tree_data p.1)) result ≡ two_in (tree_data tree.entry) }
 {
@@ -34,7 +34,7 @@ pub(crate) fn into_pair(tree: Value<'_>) -> Option<(Value<'_>, Value<'_>)>
     Some((first, second))
 }
 
-/// The items of a list of three, taken out of it.
+/// The items of a list of three, moved out of it.
 pub(crate) fn into_triple(tree: Value<'_>) -> Option<(Value<'_>, Value<'_>, Value<'_>)>
     ensures { option_map (λ p. (tree_data p.0, tree_data p.1, tree_data p.2)) result ≡ three_in (tree_data tree.entry) }
 {
@@ -58,7 +58,7 @@ fn texts<'a>(tree: &Value<'a>) -> Option<(&'a str, &'a str)>
     Some((table, id))
 }
 
-/// The key that a list of two texts is, if it is one.
+/// The key that a tree spells, a list of two texts, if it spells one. Fails if memory runs out.
 pub(crate) fn key(alloc: Global, tree: &Value<'_>) -> Result<Option<FetchKey>, AllocError>
     ensures { IfOk result (λ k. k ≡ key_in (tree_data tree.now)) }
 {
@@ -72,7 +72,7 @@ pub(crate) fn key(alloc: Global, tree: &Value<'_>) -> Result<Option<FetchKey>, A
     }
 }
 
-/// The keys of a list, if each item is one.
+/// The keys of a list, if each item spells one. Fails if memory runs out.
 pub(crate) fn keys(alloc: Global, tree: &Value<'_>) -> Result<Option<Keys>, AllocError>
     ensures { IfOk result (λ ks. ks ≡ keys_in (tree_data tree.now)) }
 {
@@ -89,7 +89,7 @@ pub(crate) fn keys(alloc: Global, tree: &Value<'_>) -> Result<Option<Keys>, Allo
     Ok(Some(Keys::new(alloc, keys)?))
 }
 
-/// The value that the tree is, if all its numbers are whole.
+/// The tree as a value, if all its numbers are whole. Fails if memory runs out.
 pub(crate) fn json(alloc: Global, tree: Value<'_>) -> Result<Option<Json>, AllocError>
     ensures { IfOk result (λ v. v ≡ value_in (tree_data tree.entry)) }
 {

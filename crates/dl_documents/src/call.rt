@@ -1,4 +1,4 @@
-//! Reading calls.
+//! Reads calls.
 
 ghost use Rattle.std.specs.Prelude.{◌≡◌, IfOk};
 ghost use Rattle.dl_documents.specs.Reading.{number_in, call_in, call_named};
@@ -10,7 +10,7 @@ use dl_desk::DeskCall;
 use json::Value;
 use std::alloc::{AllocError, Global};
 
-/// The call that an object with one member is, if it is one.
+/// The call that an object with one member spells, if it spells one. Fails if memory runs out.
 pub(crate) fn call(alloc: Global, tree: Value<'_>) -> Result<Option<DeskCall>, AllocError>
     ensures { IfOk result (λ c. c ≡ call_in (tree_data tree.entry)) }
 {
@@ -20,7 +20,7 @@ pub(crate) fn call(alloc: Global, tree: Value<'_>) -> Result<Option<DeskCall>, A
     }
 }
 
-/// The call of a name, if the argument is one of it.
+/// The call of this name, if the argument is right for it. Fails if memory runs out.
 fn named(alloc: Global, name: &str, argument: &Value<'_>) -> Result<Option<DeskCall>, AllocError>
     ensures { IfOk result (λ c. c ≡ call_named name.now (tree_data argument.now)) }
 {
@@ -37,7 +37,7 @@ fn named(alloc: Global, name: &str, argument: &Value<'_>) -> Result<Option<DeskC
     })
 }
 
-/// The number of a batch that the argument is, if it is one.
+/// The number of a batch that the argument spells, if it spells one.
 fn number(argument: &Value<'_>) -> Option<u32>
     ensures { result ≡ number_in (tree_data argument.now) }
 {

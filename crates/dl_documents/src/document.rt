@@ -1,4 +1,4 @@
-//! Reading documents from their bytes.
+//! Reads documents from their bytes.
 
 ghost use Rattle.std.specs.Prelude.{◌≡◌, ◌⊎◌, ◌≤◌, length, IfOk, IfErr, OnOk};
 ghost use Rattle.serde_json.specs.Data.{Data};
@@ -18,13 +18,25 @@ use json::Scratch;
 use std::alloc::Global;
 use std::hash::RandomState;
 
-/// The most bytes of a document.
+/// The most bytes that a document may have.
 pub const MOST_BYTES: usize = 1_048_576;
 
-/// What a document says. Tables are hashed by `hashing`, of which nothing is seen.
+/// Reads a document: a call script or a plan file, in JSON. `hashing` hashes tables, and nothing that you see depends
+/// on it.
 ///
 /// # Errors
-/// The first cause of [`PlanFault`] that applies anywhere in the document, in its order; `OutOfMemory` where an allocation failed.
+/// The first cause of [`PlanFault`] that applies anywhere in the document, in its order. `OutOfMemory` may come before
+/// any other.
+///
+/// # Examples
+/// The last plan of a file, if the text is a plan file, from `crates/dl_tests`:
+///
+/// ```rust
+/// match read_input(alloc, hashing, file.as_bytes()) {
+///     Ok(Input::Plans(mut file)) => file.plans.pop(),
+///     Ok(Input::Script(_)) | Err(_) => None,
+/// }
+/// ```
 pub fn read_input(alloc: Global, hashing: RandomState, bytes: &[u8]) -> Result<Input, PlanFault>
     ensures ok { IfOk result (λ i. (d : Data) × IsTextOf bytes.now d × Spells d i) }
     ensures passes { OnOk result ((f : PlanFault) → Applies bytes.now f → ⊥) }
@@ -35,7 +47,7 @@ pub fn read_input(alloc: Global, hashing: RandomState, bytes: &[u8]) -> Result<I
     input(alloc, hashing, top)
 }
 
-/// The tree of a document, and what it says.
+/// Reads a document as [`read_input`] does, and gives you its tree too.
 ///
 /// # Errors
 /// Those of [`read_input`].
@@ -56,7 +68,7 @@ pub fn read_document(
     }
 }
 
-/// The top of the document that the bytes are the text of, unless they are too many.
+/// The top of the document in these bytes.
 fn top<'a>(alloc: Global, bytes: &'a [u8], scratch: &'a mut Scratch) -> Result<Top<'a>, PlanFault>
     ensures ok { IfOk result (λ t. IsTextOf bytes.now (top_data t)) }
     ensures apart { IfOk result IsApart }
@@ -72,7 +84,7 @@ fn top<'a>(alloc: Global, bytes: &'a [u8], scratch: &'a mut Scratch) -> Result<T
     read_top(alloc, text, scratch)?.ok_or(PlanFault::Version)
 }
 
-/// What a document says. It is taken apart, so that each part is let go once it is read. Only what lives on is copied.
+/// What a document says. This takes the document apart, drops each part once it is read, and copies only what lives on.
 fn input(alloc: Global, hashing: RandomState, top: Top<'_>) -> Result<Input, PlanFault>
     requires { IsApart top }
     ensures ok { IfOk result (Spells (top_data top.entry)) }

@@ -9,43 +9,46 @@ use json::Invalid;
 use std::alloc::{AllocError, AllocFailed};
 use thiserror::Error;
 
-/// Why bytes are no document: the first cause that applies anywhere in it, in this order. Of equal causes it is that of the
-/// first call, or of the first plan and in it the first step. All are counted from 0.
+/// Why bytes aren't a document: the first cause that applies anywhere in them, in this order. If several have the same
+/// cause, it is that of the first call, or of the first plan and its first such step. Calls, plans and steps have
+/// numbers from 0.
+///
+/// The members of a document have the right form if `calls` is a list, `plans` a list of 1 to
+/// [`MOST_PLANS`](crate::MOST_PLANS) lists, each of the three limits a whole number, and the `tableLimits` of a script
+/// a list of pairs of a table's name and a whole number, with no table twice.
 #[derive(Clone, Copy, Debug, PartialEq, Eq, Error)]
 pub enum PlanFault {
     /// There are more than [`MOST_BYTES`](crate::MOST_BYTES) bytes.
     #[error("too large")]
     TooLarge,
-    /// The bytes are not the text of a JSON value.
+    /// The bytes aren't the text of a JSON value.
     #[error("not json")]
     NotJson,
-    /// The document is not of version 1 or 2: a script by its member `script`, a plan file by its member `version`.
+    /// The member `script` of a script, or `version` of a plan file, isn't 1 or 2.
     #[error("version")]
     Version,
-    /// The document has a member that its kind does not have in its version, lacks one that it needs, has no list of calls or of
-    /// 1 to [`MOST_PLANS`](crate::MOST_PLANS) lists of steps, or one of its three limits is not a whole number; or a script's
-    /// `tableLimits` are no list of pairs of a table's name and a whole number, or a table stands twice in it.
+    /// A member at the top is missing, has the wrong form, or isn't one of this kind and version.
     #[error("top")]
     Top,
-    /// A call is none of a script's.
+    /// This item isn't a call.
     #[error("call {call}")]
     BadCall { call: usize },
-    /// A step is none of a plan's.
+    /// This item isn't a step.
     #[error("plan {plan} step {step}")]
     Shape { plan: usize, step: usize },
-    /// The term of a step is more than [`MOST_HEIGHT`](crate::MOST_HEIGHT) high.
+    /// The term of this step is more than [`MOST_HEIGHT`](crate::MOST_HEIGHT) high.
     #[error("too deep plan {plan} step {step}")]
     TooDeep { plan: usize, step: usize },
-    /// A plan has more than [`MOST_STEPS`](crate::MOST_STEPS) steps.
+    /// This plan has more than [`MOST_STEPS`](crate::MOST_STEPS) steps.
     #[error("too many steps plan {plan}")]
     TooManySteps { plan: usize },
-    /// The tables are refused.
+    /// The tables have this fault.
     #[error("table {0:?}")]
     Table(TableFault),
-    /// One of the three limits is out of range, or a table's limit of a batch.
+    /// One of the three limits, or a table's limit of a batch, is out of range.
     #[error("limit {0:?}")]
     Limit(LimitFault),
-    /// An allocation failed.
+    /// Memory ran out.
     #[error("memory")]
     OutOfMemory,
 }

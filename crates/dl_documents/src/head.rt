@@ -1,4 +1,4 @@
-//! The head of a document: its kind, its version, its members and the numbers of its limits.
+//! Reads the head of a document: its kind, its version, its members and the numbers of its limits.
 
 ghost use Rattle.std.specs.Prelude.{◌≡◌, MatchOption, IfOk, IfErr, IsTrue, ◌↔◌, Some, pos};
 ghost use Rattle.std.specs.List.{list_all};
@@ -14,8 +14,8 @@ use crate::top::Top;
 use crate::tree::whole;
 use json::Value;
 
-/// The version of a document. In the first a batch may mix tables. In the second each batch is of one table, and a table may
-/// have a limit of its own.
+/// The version of a document. In the first, a batch may mix tables. In the second, each batch has keys of one table,
+/// and a table may have a limit of its own.
 #[derive(Clone, Copy)]
 pub(crate) enum Version {
     First,
@@ -29,7 +29,11 @@ pub(crate) struct Head {
     pub(crate) numbers: Numbers,
 }
 
-/// The head of a document, where it is of a version and its members are those of its kind and version.
+/// The head of a document.
+///
+/// # Errors
+/// `Version` if it has neither version, and `Top` if a member is not of its kind and version, or a limit isn't a whole
+/// number.
 pub(crate) fn read_head(top: &Top<'_>) -> Result<Head, PlanFault>
     ensures ok { IfOk result (HasHead (top_data top.now)) }
     ensures err { IfErr result (IsLeast (Causes (top_data top.now))) }
@@ -46,14 +50,14 @@ pub(crate) fn read_head(top: &Top<'_>) -> Result<Head, PlanFault>
     }
 }
 
-/// Whether the document is a call script, and not a plan file.
+/// Whether the document is a call script. Else it is a plan file.
 pub(crate) fn is_script(top: &Top<'_>) -> bool
     ensures { result ≡ is_script (top_data top.now) }
 {
     member(top, "script").is_some()
 }
 
-/// The version of a document, if it is of one.
+/// The version of a document, if it has one.
 fn version_of(top: &Top<'_>) -> Option<Version>
     ensures { MatchOption result (IsOfNoVersion (top_data top.now)) (IsOfVersion (top_data top.now)) }
 {
@@ -66,7 +70,7 @@ fn version_of(top: &Top<'_>) -> Option<Version>
     None
 }
 
-/// Whether the number of the document's version is this one.
+/// Whether the document's version has this number.
 fn has_number(top: &Top<'_>, number: i128) -> bool
     ensures { IsTrue result ↔ (version_number (top_data top.now) ≡ Some number) }
 {
@@ -75,7 +79,7 @@ fn has_number(top: &Top<'_>, number: i128) -> bool
     given == Some(number)
 }
 
-/// Whether each of the document's members is one of its kind and of the version.
+/// Whether each member of the document is one of its kind and version.
 fn has_only_known(version: Version, top: &Top<'_>) -> bool
     ensures { result ≡ has_only_known version (top_data top.now) }
 {
@@ -84,7 +88,7 @@ fn has_only_known(version: Version, top: &Top<'_>) -> bool
     knows_tables && all_known(is_script, version, &top.members)
 }
 
-/// Whether each of these is the member of a script, or of a plan file.
+/// Whether each of these is a member of a script, or of a plan file.
 fn all_known(is_script: bool, version: Version, members: &[(&str, Value<'_>)]) -> bool
     ensures { result ≡ list_all (λ m. is_known is_script version m.0.now) members.now }
 {
@@ -93,7 +97,7 @@ fn all_known(is_script: bool, version: Version, members: &[(&str, Value<'_>)]) -
         .all(|member| is_known(is_script, version, member.0))
 }
 
-/// Whether the name is that of a script's member, or of a plan file's.
+/// Whether a member of a script, or of a plan file, has this name.
 fn is_known(is_script: bool, version: Version, name: &str) -> bool
     ensures { result ≡ is_known is_script version name.now }
 {
@@ -107,7 +111,7 @@ fn is_known(is_script: bool, version: Version, name: &str) -> bool
     }
 }
 
-/// Whether the name is that of a member of a script of the version.
+/// Whether a member of a script of this version has this name.
 fn is_script_member(version: Version, name: &str) -> bool
     ensures { result ≡ is_script_member version name.now }
 {

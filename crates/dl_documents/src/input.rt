@@ -5,7 +5,7 @@ use dl_source::Tables;
 use dl_terms::Plan;
 use dl_values::{Limits, List, TableLimits};
 
-/// A document that was read.
+/// A document that you have read.
 #[derive(Drop)]
 pub enum Input {
     /// A call script.
@@ -14,12 +14,12 @@ pub enum Input {
     Plans(PlanFile),
 }
 
-/// Calls that one desk answers in their order.
+/// Calls, which one desk answers in their order.
 #[derive(Debug, Drop)]
 pub struct Script {
     /// The desk's limits.
     pub limits: Limits,
-    /// In version 2 the tables that have a limit of their own, where each batch is of one table; none in version 1.
+    /// In version 2, each batch has keys of one table, and these tables have limits of their own. `None` in version 1.
     pub table_limits: Option<TableLimits>,
     /// The calls.
     pub calls: Calls,
@@ -28,16 +28,16 @@ pub struct Script {
 /// The calls of a script.
 pub type Calls = List<DeskCall>;
 
-/// Plans that are served at once over tables.
+/// Plans to serve at once over tables.
 #[derive(Drop)]
 pub struct PlanFile {
     /// The loader's limits.
     pub limits: Limits,
-    /// In version 2 the tables that have a limit of their own, where each batch is of one table; none in version 1.
+    /// In version 2, each batch has keys of one table, and these tables have limits of their own. `None` in version 1.
     pub table_limits: Option<TableLimits>,
-    /// The tables, which the keys are fetched from.
+    /// The tables, from which the keys are fetched.
     pub tables: Tables,
-    /// The plans: 1 to [`MOST_PLANS`](crate::MOST_PLANS), each of at most [`MOST_STEPS`](crate::MOST_STEPS) steps, whose
-    /// terms are at most [`MOST_HEIGHT`](crate::MOST_HEIGHT) high.
+    /// The plans: 1 to [`MOST_PLANS`](crate::MOST_PLANS), each of at most [`MOST_STEPS`](crate::MOST_STEPS) steps, with
+    /// terms at most [`MOST_HEIGHT`](crate::MOST_HEIGHT) high.
     pub plans: Vec<Plan>,
 }

@@ -1,4 +1,5 @@
-//! Documents of the program `plans`: what their bytes say, or why they are refused.
+//! Documents of the program `plans`: what their bytes say, or why they are refused. [`read_input`] reads one.
+//!
 //! The label of a loop is its name in `proofs/`.
 #![tactic(auto)]
 

@@ -1,4 +1,4 @@
-//! Reading the limits of a document.
+//! Reads the limits of a document.
 
 ghost use Rattle.std.specs.Prelude.{◌≡◌, pos, false, bytes_eq, codes, IfOk, IfErr, MatchOption};
 ghost use Rattle.dl_values.specs.Limits.{IsLimit, IsNoLimit};
@@ -12,7 +12,7 @@ use crate::top::Top;
 use crate::tree::whole;
 use dl_values::{LARGEST_LIMIT, LimitFault, Limits};
 
-/// The whole numbers that a document gives for its limits.
+/// The numbers that a document gives for its limits.
 #[derive(Clone, Copy)]
 pub(crate) struct Numbers {
     pub(crate) max_batch: i128,
@@ -34,10 +34,10 @@ pub(crate) fn given(top: &Top<'_>) -> Option<Numbers>
     })
 }
 
-/// The limits that the numbers are.
+/// The limits of these numbers.
 ///
 /// # Errors
-/// The first of the three that is no limit.
+/// The first of the three that isn't a limit.
 pub(crate) fn limits(numbers: Numbers) -> Result<Limits, LimitFault>
     ensures ok { IfOk result (AreLimitsOf numbers) }
     ensures err { IfErr result (IsFirstOutside numbers) }
@@ -49,7 +49,7 @@ pub(crate) fn limits(numbers: Numbers) -> Result<Limits, LimitFault>
     )
 }
 
-/// The whole number of a member, and the largest limit where there is no such member.
+/// The whole number of a member, or the largest limit if there is no such member.
 fn number(top: &Top<'_>, name: &str) -> Option<i128>
     requires { bytes_eq name.now (codes "tables") ≡ false }
     ensures { result ≡ number_at name.now (top_data top.now) }
@@ -60,7 +60,7 @@ fn number(top: &Top<'_>, name: &str) -> Option<i128>
     }
 }
 
-/// The number as one that a limit may be, and 0, which no limit is, where there is none.
+/// The number as a `u32`, or 0, which no limit is, if it doesn't fit.
 pub(crate) fn limit(number: i128) -> u32
     ensures inside { IsLimit result → number ≡ pos result }
     ensures outside { IsNoLimit result → IsOutside number }

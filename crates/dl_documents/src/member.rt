@@ -1,4 +1,4 @@
-//! Members of JSON objects. Where a name stands more than once in an object, the last counts.
+//! Members of JSON objects. If an object has a name more than once, the last counts.
 
 ghost use Rattle.std.specs.Prelude.{◌≡◌, None, false, bytes_eq, codes, option_map, option_and_then, MatchOption};
 ghost use Rattle.std.specs.List.{list_all};
@@ -21,7 +21,7 @@ pub(crate) fn member<'v, 'a>(top: &'v Top<'a>, name: &str) -> Option<&'v Value<'
     Some(&top.members[place].1)
 }
 
-/// The name and the value of an object's one member, taken out of it.
+/// The name and the value of an object's one member, moved out of it.
 pub(crate) fn into_only(tree: Value<'_>) -> Option<(&str, Value<'_>)>
     ensures { option_map (λ p. (p.0.now, tree_data p.1)) result ≡ one_in (tree_data tree.entry) }
 {
@@ -41,7 +41,7 @@ fn all_named(members: &[(&str, Value<'_>)], name: &str) -> bool
     members.iter().all(|member| member.0 == name)
 }
 
-/// The list that a member is, taken out of all.
+/// The list in a member, moved out of all members.
 pub(crate) fn into_list<'a>(
     members: Vec<(&'a str, Value<'a>)>,
     name: &str,

@@ -1,4 +1,4 @@
-//! Numbers of JSON.
+//! Reads numbers of JSON.
 
 ghost use Rattle.std.specs.Prelude.{◌≡◌, option_map, true, false};
 ghost use Rattle.serde_json.specs.Read.{number_of, number_from};

@@ -1,4 +1,4 @@
-//! Values that own their texts, as a document's tokens spell them.
+//! Values that own their texts, read from a document's tokens.
 
 ghost use Rattle.std.specs.Prelude.{◌≡◌, ◌∷◌, ◌<◌, ◌≤◌, length, Some, IfOk, IfErr, OnOk};
 ghost use Rattle.json.specs.Reads.{token_of};
@@ -12,10 +12,10 @@ use json::{Reader, Token};
 use serde_json::{Map, Value};
 use std::alloc::Global;
 
-/// The next value of the reader. Lists and objects may nest `depth` deep.
+/// Reads the next value. Its lists and objects may nest `depth` deep.
 ///
 /// # Errors
-/// `NotJson` where no such value is next, or one of its numbers is out of range; `OutOfMemory` where an allocation failed.
+/// `NotJson` if no such value comes next, or one of its numbers is out of range; `OutOfMemory`.
 #[cycle(values)]
 #[inline(always)]
 pub(crate) fn read_value(
@@ -31,7 +31,7 @@ pub(crate) fn read_value(
     begun_value(alloc, token, reader, depth)
 }
 
-/// The value that begins with this token, and goes on where the reader stands.
+/// Reads the rest of a value that begins with this token.
 ///
 /// # Errors
 /// Those of [`read_value`].
@@ -63,7 +63,7 @@ pub(crate) fn begun_value(
     }
 }
 
-/// The items of a list, whose bracket was read.
+/// Reads the items of a list, behind its bracket.
 #[cycle(values)]
 #[inline(never)]
 fn read_items(alloc: Global, reader: &mut Reader<'_>, depth: usize) -> Result<Vec<Value>, PlanFault>
@@ -79,7 +79,7 @@ fn read_items(alloc: Global, reader: &mut Reader<'_>, depth: usize) -> Result<Ve
     Ok(found)
 }
 
-/// The members of an object, whose brace was read.
+/// Reads the members of an object, behind its brace.
 #[cycle(values)]
 #[inline(never)]
 fn read_members(

@@ -1,4 +1,4 @@
-//! Reading plan files.
+//! Reads plan files.
 
 ghost use Rattle.std.specs.Prelude.{◌≡◌, ◌⊎◌, false, map, IfOk, IfErr, MatchOption};
 ghost use Rattle.std.specs.List.{position, AllByRecursion};
@@ -28,16 +28,16 @@ use json::Value;
 use std::alloc::Global;
 use std::hash::RandomState;
 
-/// The greatest height of a step's term.
+/// How high the term of a step may be.
 pub const MOST_HEIGHT: u32 = 32;
 
-/// The most steps of a plan.
+/// How many steps a plan may have.
 pub const MOST_STEPS: usize = 256;
 
-/// The plan file that a document is, whose head has been read.
+/// The plan file of a document, once its head is read.
 ///
 /// # Errors
-/// The first cause that applies; `OutOfMemory` where an allocation failed.
+/// The first cause that applies, or `OutOfMemory`.
 pub(crate) fn plan_file(
     alloc: Global,
     hashing: RandomState,
@@ -63,7 +63,7 @@ pub(crate) fn plan_file(
 
 // ---- the top
 
-/// The lists of steps of a document's plans, and the value of its tables, taken out of it.
+/// The lists of steps of a document's plans, and the value of its tables, moved out of it.
 fn lists_and_tables(
     alloc: Global,
     top: Top<'_>,
@@ -83,7 +83,7 @@ fn lists_and_tables(
     Ok((lists, tables))
 }
 
-/// The list of a document's plans, and the value of its tables, taken out of it.
+/// The list of a document's plans, and the value of its tables, moved out of it.
 fn plans_and_tables(top: Top<'_>) -> Option<(Vec<Value<'_>>, serde_json::Value)>
     requires kind { is_script (top_data top) ≡ false }
     requires apart { IsApart top }
@@ -95,10 +95,10 @@ fn plans_and_tables(top: Top<'_>) -> Option<(Vec<Value<'_>>, serde_json::Value)>
     Some((plans, tables))
 }
 
-/// The lists that the items are.
+/// The items as lists.
 ///
 /// # Errors
-/// `Top` where one is no list, and `OutOfMemory` where an allocation failed.
+/// `Top` if one isn't a list, and `OutOfMemory`.
 fn lists(alloc: Global, items: Vec<Value<'_>>) -> Result<Vec<Vec<Value<'_>>>, PlanFault>
     ensures ok { IfOk result (λ ls. AreRows (map tree_data items.entry.items) (rows_view ls.items)) }
     ensures err { IfErr result (λ f. (f ≡ PlanFault.OutOfMemory) ⊎ ((f ≡ PlanFault.Top) × HasOther (map tree_data items.entry.items))) }
@@ -113,10 +113,10 @@ fn lists(alloc: Global, items: Vec<Value<'_>>) -> Result<Vec<Vec<Value<'_>>>, Pl
 
 // ---- steps
 
-/// The plans whose steps the lists have.
+/// The plans of these lists of steps.
 ///
 /// # Errors
-/// `Shape` at the first item that is no step, and `OutOfMemory` where an allocation failed.
+/// `Shape` at the first item that isn't a step, and `OutOfMemory`.
 fn plans(alloc: Global, lists: Vec<Vec<Value<'_>>>) -> Result<Vec<Plan>, PlanFault>
     ensures ok { IfOk result (λ ps. AreRead (rows_view lists.entry.items) (map plan_view ps.items)) }
     ensures err { IfErr result (λ f. (f ≡ PlanFault.OutOfMemory) ⊎ IsFirstBadStep (rows_view lists.entry.items) f) }
@@ -129,7 +129,7 @@ fn plans(alloc: Global, lists: Vec<Vec<Value<'_>>>) -> Result<Vec<Plan>, PlanFau
     Ok(plans)
 }
 
-/// The plan of this number, whose steps the items are.
+/// The plan with this number and these steps.
 fn plan(alloc: Global, number: usize, items: Vec<Value<'_>>) -> Result<Plan, PlanFault>
     ensures ok { IfOk result (λ p. IsPlanOf (map tree_data items.entry.items) (plan_view p)) }
     ensures err { IfErr result (λ f. (f ≡ PlanFault.OutOfMemory) ⊎ IsFirstBadIn number (map tree_data items.entry.items) f) }
@@ -146,9 +146,12 @@ fn plan(alloc: Global, number: usize, items: Vec<Value<'_>>) -> Result<Plan, Pla
     Ok(Plan { steps })
 }
 
-// ---- what is tested once all steps are read
+// ---- what to test once all steps are read
 
-/// The tables, the limits and those of tables, unless the plans, the tables or a number are refused, in this order.
+/// The tables, the limits and those of tables.
+///
+/// # Errors
+/// The fault of the plans, of the tables or of a number, the first that there is, or `OutOfMemory`.
 fn rest(
     alloc: Global,
     hashing: RandomState,
@@ -167,7 +170,7 @@ fn rest(
     Ok((tables, limits, table_limits))
 }
 
-/// Why the plans are refused: their first term that is too high, or else the first plan that has too many steps.
+/// The fault of the plans: their first term that is too high, or else the first plan that has too many steps.
 fn misfit(plans: &[Plan]) -> Option<PlanFault>
     ensures { MatchOption result (Fit (map plan_view plans.now)) (IsMisfit (map plan_view plans.now)) }
 {
@@ -180,7 +183,7 @@ fn misfit(plans: &[Plan]) -> Option<PlanFault>
     }
 }
 
-/// The refusal of the first term that is too high.
+/// The fault of the first term that is too high.
 fn too_deep(plans: &[Plan]) -> Option<PlanFault>
     ensures { MatchOption result (AllByRecursion AreLow (map plan_view plans.now)) (IsFirstHigh (map plan_view plans.now)) }
 {
@@ -199,7 +202,7 @@ fn first_high(plan: &Plan) -> Option<usize>
     plan.steps.iter().position(|step| is_high(step))
 }
 
-/// Whether it is the step of a term that is too high.
+/// Whether it is a step with a term that is too high.
 fn is_high(step: &Step) -> bool
     ensures { result ≡ is_high (step_view step.now) }
 {
@@ -223,7 +226,7 @@ fn is_long(plan: &Plan) -> bool
     plan.steps.len() > MOST_STEPS
 }
 
-/// The tables that a value spells, with the numbers that it gives them.
+/// The tables that a value spells, and the numbers that it gives them.
 fn read_tables(
     alloc: Global,
     hashing: RandomState,
@@ -240,7 +243,7 @@ fn read_tables(
     }
 }
 
-/// The tables that a value spells as the version has them, with the numbers that it gives them: none in the first.
+/// The tables that a value spells in this version, and the numbers that it gives them: none in the first.
 fn spelled(
     alloc: Global,
     hashing: RandomState,

@@ -1,4 +1,4 @@
-//! What the calls of a script are answered.
+//! Runs scripts.
 
 ghost use Rattle.std.specs.Prelude.{◌≡◌, [], IfOk};
 ghost use Rattle.dl_values.specs.Limits.{rules_by};
@@ -10,18 +10,21 @@ use dl_desk::{Desk, DeskFault, Reply};
 use std::alloc::{AllocError, Global};
 use std::hash::RandomState;
 
-/// What a script leaves: what each of its calls was answered, in order, and the desk that answered them.
+/// What the calls of a script leave: the answer of each, in order, and the desk that gave them.
 #[derive(Drop)]
 pub struct ScriptRun {
-    /// The reply of each call, or its refusal, which changed nothing.
+    /// The reply of each call, or its refusal, which changes nothing.
     pub answers: Vec<Result<Reply, DeskFault>>,
-    /// The desk.
+    /// The desk, after the last call.
     pub desk: Desk,
 }
 
 impl Script {
-    /// Makes the calls in order, on one desk within the script's limits. The desk hashes keys by `hashing`, of which nothing
-    /// is seen. The error is a failed allocation.
+    /// Makes the calls in order, on one desk with the script's limits. `hashing` hashes the desk's keys, and nothing
+    /// that you see depends on it.
+    ///
+    /// # Errors
+    /// `AllocError` if memory runs out.
     pub fn play(&self, alloc: Global, hashing: RandomState) -> Result<ScriptRun, AllocError>
         ensures { IfOk result (IsRunOf self.now) }
     {
@@ -30,7 +33,7 @@ impl Script {
         Ok(ScriptRun { answers, desk })
     }
 
-    /// A desk within the script's limits. The error is that a reference count would overflow.
+    /// A desk with the script's limits. Fails if a reference count would overflow.
     fn desk(&self, alloc: Global, hashing: RandomState) -> Result<Desk, AllocError>
         ensures rules { IfOk result (λ desk. desk.book.rules ≡ rules_by self.now.limits self.now.table_limits) }
         ensures stands { IfOk result (λ desk. StandsFor desk.book []) }

@@ -1,4 +1,4 @@
-//! Reading call scripts.
+//! Reads call scripts.
 
 ghost use Rattle.std.specs.Prelude.{◌≡◌, ◌⊎◌, true, map, codes, IfOk, IfErr};
 ghost use Rattle.dl_documents.specs.Document.{SpellsScript, is_script};
@@ -20,10 +20,10 @@ use json::Value;
 use std::alloc::Global;
 use std::hash::RandomState;
 
-/// The call script that a document is, whose head has been read.
+/// The call script of a document, once its head is read.
 ///
 /// # Errors
-/// The first cause that applies; `OutOfMemory` where an allocation failed.
+/// The first cause that applies, or `OutOfMemory`.
 pub(crate) fn script(
     alloc: Global,
     hashing: RandomState,
@@ -48,10 +48,10 @@ pub(crate) fn script(
     })
 }
 
-/// The calls that the items are. Each item is let go once it is read.
+/// The calls of these items. It drops each item once that is read.
 ///
 /// # Errors
-/// `BadCall` at the first item that is none, and `OutOfMemory` where an allocation failed.
+/// `BadCall` at the first item that isn't a call, and `OutOfMemory`.
 fn calls(alloc: Global, items: Vec<Value<'_>>) -> Result<Vec<DeskCall>, PlanFault>
     ensures ok { IfOk result (λ cs. AreCalls (map tree_data items.entry.items) cs.items) }
     ensures err { IfErr result (λ f. (f ≡ PlanFault.OutOfMemory) ⊎ IsFirstBadCall (map tree_data items.entry.items) f) }

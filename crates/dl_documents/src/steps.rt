@@ -1,4 +1,4 @@
-//! Reading steps.
+//! Reads steps.
 
 ghost use Rattle.std.specs.Prelude.{◌≡◌, IfOk, option_map, option_and_then};
 ghost use Rattle.dl_documents.specs.Reading.{two_in};
@@ -16,7 +16,8 @@ use dl_values::{Message, Outcome};
 use json::Value;
 use std::alloc::{AllocError, Global};
 
-/// The step that an object with one member is, if it is one. Its term may be of any height.
+/// The step that an object with one member spells, if it spells one. Its term may have any height. Fails if memory runs
+/// out.
 pub(crate) fn read_step(alloc: Global, tree: Value<'_>) -> Result<Option<Step>, AllocError>
     ensures { IfOk result (λ s. option_map step_view s ≡ step_in (tree_data tree.entry)) }
 {
@@ -26,7 +27,7 @@ pub(crate) fn read_step(alloc: Global, tree: Value<'_>) -> Result<Option<Step>, 
     }
 }
 
-/// The step of a name, if the argument is one of it.
+/// The step of this name, if the argument is right for it. Fails if memory runs out.
 fn named(alloc: Global, name: &str, argument: Value<'_>) -> Result<Option<Step>, AllocError>
     ensures { IfOk result (λ s. option_map step_view s ≡ step_named name.now (tree_data argument.entry)) }
 {
@@ -39,7 +40,7 @@ fn named(alloc: Global, name: &str, argument: Value<'_>) -> Result<Option<Step>,
     })
 }
 
-/// The prime of a list of a key and an outcome.
+/// The prime of a list of a key and an outcome. Fails if memory runs out.
 fn prime(alloc: Global, argument: Value<'_>) -> Result<Option<Step>, AllocError>
     ensures { IfOk result (λ s. option_map step_view s ≡ option_and_then primes (two_in (tree_data argument.entry))) }
 {
@@ -55,7 +56,7 @@ fn prime(alloc: Global, argument: Value<'_>) -> Result<Option<Step>, AllocError>
     Ok(Some(Step::Prime(key, outcome)))
 }
 
-/// The outcome that an object with one member primes, if it is one.
+/// The outcome to prime that an object with one member spells, if it spells one. Fails if memory runs out.
 fn primed(alloc: Global, tree: Value<'_>) -> Result<Option<Outcome>, AllocError>
     ensures { IfOk result (λ o. o ≡ primed_in (tree_data tree.entry)) }
 {
@@ -79,7 +80,7 @@ fn primed_named(
     })
 }
 
-/// The text of an error, if it isn't too long.
+/// The text of an error, if it isn't too long. Fails if memory runs out.
 fn error(alloc: Global, tree: &Value<'_>) -> Result<Option<Message>, AllocError>
     ensures { IfOk result (λ t. t ≡ error_in (tree_data tree.now)) }
 {

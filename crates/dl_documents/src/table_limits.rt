@@ -1,4 +1,4 @@
-//! The limits of a document, with those that tables have of their own.
+//! Reads the limits of a document and those that tables have of their own.
 
 ghost use Rattle.std.specs.Prelude.{◌≡◌, ◌⊎◌, IfOk, IfErr};
 ghost use Rattle.dl_documents.specs.Faults.{HasOutside};
@@ -13,10 +13,10 @@ use dl_source::TableNumber;
 use dl_values::{LimitFault, Limits, TableLimit, TableLimitFault, TableLimits};
 use std::alloc::{AllocError, Global};
 
-/// The limits that the numbers of a document's head are, and those of tables that have a number of their own.
+/// The limits of the numbers in a document's head, and of those that it gives tables.
 ///
 /// # Errors
-/// `Limit` with the first that is none, where those of tables count as the first; `OutOfMemory` where an allocation failed.
+/// `Limit` with the first number that isn't a limit, and those of tables count as the first; `OutOfMemory`.
 pub(crate) fn all_limits(
     alloc: Global,
     head: Head,
@@ -33,7 +33,7 @@ pub(crate) fn all_limits(
     }
 }
 
-/// The limits of tables that the numbers are, which documents of the second version have.
+/// The limits of tables by these numbers, in version 2.
 fn own_limits(
     alloc: Global,
     version: Version,
@@ -52,7 +52,7 @@ fn own_limits(
     }
 }
 
-/// The limits of tables that the numbers are.
+/// The limits of tables by these numbers.
 fn table_limits(alloc: Global, numbers: Vec<TableNumber>) -> Result<TableLimits, PlanFault>
     requires { AreNamed numbers.items }
     ensures ok { IfOk result (AreTheirLimits numbers.items) }
@@ -65,7 +65,8 @@ fn table_limits(alloc: Global, numbers: Vec<TableNumber>) -> Result<TableLimits,
     }
 }
 
-/// The refusal of a document whose limits of tables are refused, each table named and none twice.
+/// The fault of a document whose tables' numbers give no limits. Each of these tables has a name, and none is there
+/// twice.
 fn refusal(fault: TableLimitFault) -> PlanFault
     ensures { result ≡ refusal fault }
 {
@@ -75,7 +76,7 @@ fn refusal(fault: TableLimitFault) -> PlanFault
     }
 }
 
-/// The numbers as limits may be: 0, which no limit is, for one that is none.
+/// Each number as a `u32`, or 0, which no limit is, if it doesn't fit.
 fn as_limits(alloc: Global, numbers: Vec<TableNumber>) -> Result<Vec<TableLimit>, AllocError>
     ensures { IfOk result (λ ls. AreAsLimits numbers.items ls.items) }
 {

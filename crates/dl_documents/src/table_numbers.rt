@@ -1,4 +1,4 @@
-//! Reading the numbers that a script gives tables.
+//! Reads the numbers that a script gives tables.
 
 ghost use Rattle.std.specs.Prelude.{◌≡◌, ◌⊎◌, Some, None, option_map, IfOk, IfErr};
 ghost use Rattle.dl_values.specs.TableLimits.{repeats};
@@ -19,11 +19,11 @@ use json::Value;
 use std::alloc::{AllocError, Global};
 use std::hash::RandomState;
 
-/// The numbers that a script of the version gives tables. In the first version there are none.
+/// The numbers that a script of this version gives tables: none in the first.
 ///
 /// # Errors
-/// `Top` where the member `tableLimits` is no list of pairs of a table's name and a whole number, or a table stands twice in it;
-/// `OutOfMemory` where an allocation failed.
+/// `Top` if the member `tableLimits` isn't a list of pairs of a table's name and a whole number, or has a table twice;
+/// `OutOfMemory`.
 pub(crate) fn script_numbers(
     alloc: Global,
     hashing: RandomState,
@@ -43,7 +43,8 @@ pub(crate) fn script_numbers(
     }
 }
 
-/// The numbers under `tableLimits`, if they are a list of such, no table twice. Without the member there are none.
+/// The numbers in the member `tableLimits`, if it is a list of such and has no table twice. Without the member there
+/// are none.
 fn listed_numbers(
     alloc: Global,
     hashing: RandomState,
@@ -63,7 +64,7 @@ fn listed_numbers(
     Ok(Some(numbers))
 }
 
-/// The numbers of a list, if each item is one of a table.
+/// The numbers of a list, if each item gives a table one.
 fn table_numbers(alloc: Global, tree: &Value<'_>) -> Result<Option<Vec<TableNumber>>, AllocError>
     ensures { IfOk result (λ ns. option_map (λ v. v.items) ns ≡ table_numbers_in (tree_data tree.now)) }
 {
@@ -81,7 +82,7 @@ fn table_numbers(alloc: Global, tree: &Value<'_>) -> Result<Option<Vec<TableNumb
     Ok(Some(numbers))
 }
 
-/// The table and the number of a list of the two, if the table has a table's length and the number is whole.
+/// The table and the number of a list of the two, if the name has the length of a table's and the number is whole.
 fn table_number<'a>(tree: &Value<'a>) -> Option<(&'a str, i128)>
     ensures { option_map (λ p. numbered p.0.now p.1) result ≡ table_number_in (tree_data tree.now) }
 {
@@ -95,7 +96,7 @@ fn table_number<'a>(tree: &Value<'a>) -> Option<(&'a str, i128)>
     }
 }
 
-/// Whether a table stands twice. The error is a failed allocation.
+/// Whether a table is there twice. Fails if memory runs out.
 fn repeats(alloc: Global, hashing: RandomState, numbers: &[TableNumber]) -> Result<bool, AllocError>
     ensures { IfOk result (λ b. b ≡ repeats (named numbers.now)) }
 {

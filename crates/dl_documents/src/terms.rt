@@ -1,4 +1,4 @@
-//! Reading terms.
+//! Reads terms.
 
 ghost use Rattle.std.specs.Prelude.{◌≡◌, IfOk, option_map};
 ghost use Rattle.dl_terms.specs.Tree.{follow, each};
@@ -14,7 +14,7 @@ use dl_values::{TABLE_BYTES, Text};
 use json::Value;
 use std::alloc::{AllocError, Global};
 
-/// The term that an object with one member is, if it is one. It is read to its bottom, however high it is.
+/// The term that an object with one member spells, if it spells one. It reads a term of any height to its bottom.
 #[cycle(reading)]
 pub(crate) fn read_term(alloc: Global, tree: Value<'_>) -> Result<Option<Term>, AllocError>
     ensures { IfOk result (λ t. option_map term_view t ≡ term_in (tree_data tree.entry)) }
@@ -25,7 +25,7 @@ pub(crate) fn read_term(alloc: Global, tree: Value<'_>) -> Result<Option<Term>, 
     }
 }
 
-/// The term of a name, if the argument is one of it.
+/// The term of this name, if the argument is right for it.
 #[cycle(reading)]
 fn named(alloc: Global, name: &str, argument: Value<'_>) -> Result<Option<Term>, AllocError>
     ensures { IfOk result (λ t. option_map term_view t ≡ term_named name.now (tree_data argument.entry) (parts_in (tree_data argument.entry))) }
@@ -112,7 +112,7 @@ fn read_part(alloc: Global, tree: Value<'_>) -> Result<Option<Box<Term>>, AllocE
     }
 }
 
-/// The part and the field of a list of the two, taken out of it.
+/// The part and the field of a list of the two, moved out of it.
 fn field(tree: Value<'_>) -> Option<(Value<'_>, &str)>
     ensures { option_map (λ p. (tree_data p.0, p.1.now)) result ≡ field_in (tree_data tree.entry) }
 {
@@ -121,7 +121,8 @@ fn field(tree: Value<'_>) -> Option<(Value<'_>, &str)>
     Some((part, field))
 }
 
-/// The part, the field and the table of a list of the three, taken out of it, if the table has a table's length.
+/// The part, the field and the table of a list of the three, moved out of it, if the table's name has the length of
+/// one.
 fn link(tree: Value<'_>) -> Option<(Value<'_>, &str, &str)>
     ensures { option_map (λ p. (tree_data p.0, p.1.now, p.2.now)) result ≡ link_in (tree_data tree.entry) }
 {

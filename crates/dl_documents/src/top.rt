@@ -1,4 +1,4 @@
-//! The top of a document: the members of its object.
+//! Reads the top of a document: the members of its object.
 
 ghost use Rattle.std.specs.Prelude.{◌≡◌, ◌<◌, length, Some, IfOk, IfErr, OnOk};
 ghost use Rattle.serde_json.specs.Data.{Data, put};
@@ -14,23 +14,23 @@ use crate::tree::has_fitting_numbers;
 use json::{Error, Reader, Scratch, Token, Value};
 use std::alloc::Global;
 
-/// How deep a document's lists and objects nest at most.
+/// How deep a document's lists and objects may nest.
 const MOST_DEPTH: usize = 127;
 
-/// The members of a document's object. The tables live on when it is read, so they own their texts. All else is let go, and
-/// borrows them.
+/// The members of a document's object. The tables live on after reading, so they own their texts. All else borrows
+/// them, and goes.
 #[derive(Drop)]
 pub(crate) struct Top<'a> {
     /// The value of the member `tables`, if there is one.
     pub(crate) tables: Option<serde_json::Value>,
-    /// The other members, as the text has them: a name may stand twice, and the last counts.
+    /// The other members, as they are in the text: a name may be there twice, and the last counts.
     pub(crate) members: Vec<(&'a str, Value<'a>)>,
 }
 
-/// The top of the document that a text is. There is none where the document is no object.
+/// The top of the document in a text, or `None` if the document isn't an object.
 ///
 /// # Errors
-/// `NotJson` where the text is no JSON, or a number in it is out of range; `OutOfMemory` where an allocation failed.
+/// `NotJson` if the text isn't JSON, or a number in it is out of range; `OutOfMemory`.
 pub(crate) fn read_top<'a>(
     alloc: Global,
     text: &'a str,
@@ -47,7 +47,7 @@ pub(crate) fn read_top<'a>(
     Ok(top)
 }
 
-/// The top that the reader's first value has.
+/// The top of the reader's first value.
 fn first_top<'a>(alloc: Global, reader: &mut Reader<'a>) -> Result<Option<Top<'a>>, PlanFault>
     ensures ok { IfOk result (λ t. (d : Data) × (first_value max_depth reader.old ≡ Some (d, reader.new)) × IsTopOf d t) }
     ensures err { IfErr result (IsUnread (first_value max_depth reader.old)) }
@@ -61,7 +61,7 @@ fn first_top<'a>(alloc: Global, reader: &mut Reader<'a>) -> Result<Option<Top<'a
     Ok(None)
 }
 
-/// The top whose brace was read.
+/// The top of an object, behind its brace.
 fn begun_top<'a>(alloc: Global, reader: &mut Reader<'a>) -> Result<Top<'a>, PlanFault>
     ensures ok { IfOk result (λ t. first_members 126 reader.old ≡ Some (top_members t, reader.new)) }
     ensures apart { IfOk result IsApart }
@@ -77,7 +77,7 @@ fn begun_top<'a>(alloc: Global, reader: &mut Reader<'a>) -> Result<Top<'a>, Plan
     Ok(top)
 }
 
-/// Adds a member to the top, whose value is next.
+/// Reads the value of a member, and adds the member to the top.
 fn read_member<'a>(
     alloc: Global,
     name: &'a str,
@@ -98,7 +98,7 @@ fn read_member<'a>(
     Ok(())
 }
 
-/// The next value of the reader, which borrows its texts.
+/// Reads the next value, which borrows its texts.
 fn read_borrowed<'a>(alloc: Global, reader: &mut Reader<'a>) -> Result<Value<'a>, PlanFault>
     ensures ok { IfOk result (λ v. first_value 126 reader.old ≡ Some (tree_data v, reader.new)) }
     ensures shorter { OnOk result (length reader.new < length reader.old) }

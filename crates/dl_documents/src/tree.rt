@@ -1,4 +1,4 @@
-//! Trees of a document, whose texts are borrowed from its own.
+//! Trees of a document, which borrow their texts from its own.
 
 ghost use Rattle.std.specs.Prelude.{◌≡◌, is_some, option_map, IfOk};
 ghost use Rattle.json.specs.Value.{value_view, items_view, members_view};
@@ -51,30 +51,30 @@ fn members_fit(members: &[(&str, Value<'_>)]) -> bool
     true
 }
 
-// ---- looking into a tree
+// ---- look into a tree
 
-/// The text that a tree is.
+/// The text, if the tree is one.
 pub(crate) fn text<'a>(tree: &Value<'a>) -> Option<&'a str>
     ensures { option_map (λ s. s.now) result ≡ as_str (tree_data tree.now) }
 {
     tree.as_str()
 }
 
-/// The truth value that a tree is.
+/// The truth value, if the tree is one.
 pub(crate) fn truth(tree: &Value<'_>) -> Option<bool>
     ensures { result ≡ as_bool (tree_data tree.now) }
 {
     tree.as_bool()
 }
 
-/// The number that a tree is.
+/// The number, if the tree is one.
 pub(crate) fn number(tree: &Value<'_>) -> Option<Number>
     ensures { option_map owned.number_view result ≡ as_number (tree_data tree.now) }
 {
     number_of(tree.as_number()?)
 }
 
-/// The whole number that a tree is, if it is one: one that an `i64` or a `u64` holds.
+/// The whole number, if the tree is one that an `i64` or a `u64` holds.
 pub(crate) fn whole(tree: &Value<'_>) -> Option<i128>
     ensures { result ≡ whole (tree_data tree.now) }
 {
@@ -91,9 +91,9 @@ pub(crate) fn items<'v, 'a>(tree: &'v Value<'a>) -> Option<&'v [Value<'a>]>
     }
 }
 
-// ---- taking a tree apart
+// ---- take a tree apart
 
-/// The items of a list, taken out of it.
+/// The items of a list, moved out of it.
 pub(crate) fn into_items(tree: Value<'_>) -> Option<Vec<Value<'_>>>
     ensures { option_map (λ v. list_data v.items) result ≡ as_array (tree_data tree.entry) }
 {
@@ -103,7 +103,7 @@ pub(crate) fn into_items(tree: Value<'_>) -> Option<Vec<Value<'_>>>
     }
 }
 
-/// The members of an object, taken out of it, as its text has them: a name may stand twice.
+/// The members of an object, moved out of it, as they are in its text: a name may be there twice.
 pub(crate) fn into_members(tree: Value<'_>) -> Option<Vec<(&str, Value<'_>)>>
     ensures { option_map (λ v. object_data v.items) result ≡ as_object (tree_data tree.entry) }
 {
@@ -113,7 +113,8 @@ pub(crate) fn into_members(tree: Value<'_>) -> Option<Vec<(&str, Value<'_>)>>
     }
 }
 
-/// The tree as a value that owns its texts. Each part of the tree is let go once it is copied. The error is a failed allocation.
+/// The tree as a value that owns its texts. It drops each part of the tree once that is copied. Fails if memory runs
+/// out.
 #[cycle(owning)]
 pub(crate) fn into_value(alloc: Global, tree: Value<'_>) -> Result<serde_json::Value, AllocError>
     ensures { IfOk result (λ v. owned.view v ≡ tree_data tree.entry) }

@@ -6,7 +6,7 @@ use Rattle.dl_values.specs.declared.outcome.Outcome.{Outcome}
 use Rattle.dl_desk.specs.declared.event.Ending.{Ending}
 use Rattle.dl_loader.specs.Pass.{Ticket}
 
--- the ticket later: the same load, and what it showed it shows
+-- the ticket later: of the same load, and it still shows what it showed
 pub record Later (t u : Ticket) : Type 0 where
   pub number : u.number ≡ t.number
   pub reply : u.reply ≡ t.reply
@@ -24,7 +24,7 @@ abbrev pub with_shown : Option Ending → List Outcome → List Outcome
 with_shown None os = os
 with_shown (Some ending) os = ending.outcome ∷ os
 
--- the outcomes that tickets show, in order
+-- the outcomes that the tickets show, in order
 abbrev pub outcomes_shown : List Ticket → List Outcome
 outcomes_shown [] = []
 outcomes_shown (t ∷ ts) = with_shown t.known (outcomes_shown ts)

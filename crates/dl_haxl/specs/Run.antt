@@ -13,8 +13,8 @@ use Rattle.dl_haxl.specs.declared.fault.PollFault.{PollFault}
 use Rattle.dl_haxl.specs.declared.stage.Stage.{Stage}
 use Rattle.dl_haxl.specs.declared.stage.Stage.TheVariants.{Learning, Wanting, Ended}
 
--- a run: what is left of its term, the pairs that it has learned, and the keys that it waits for, with
--- the tickets that were supplied last
+-- a run: what is left of its term, the pairs that it knows, the keys that it waits for, and the tickets of the last
+-- supply
 pub record Run : Type 0 where
   pub stage : Stage
   pub left : Tree
@@ -37,15 +37,15 @@ ended_at Learning = None
 ended_at Wanting = None
 ended_at (Ended fault) = Some fault
 
--- the keys to be loaded
+-- the keys to load
 abbrev pub wanted_by : Run → List Key
 wanted_by r = wanted_at r.stage r.keys
 
--- the keys of the tickets whose outcomes were not learned yet
+-- the keys of the tickets whose outcomes the run doesn't know yet
 abbrev pub asked_by : Run → List Key
 asked_by r = asked_at r.stage r.keys
 
--- what each poll answers, once the answer was given or an allocation failed
+-- what each poll answers, once one gave the answer or memory ran out
 abbrev pub ended_by : Run → Option PollFault
 ended_by r = ended_at r.stage
 
@@ -53,36 +53,36 @@ ended_by r = ended_at r.stage
 abbrev pub IsRunOf : Tree → Run → Type 0
 IsRunOf t r = MeansSame (outcome_in r.learned) t r.left
 
--- every supplied ticket shows its outcome, and each key asked for was learned with its own ticket's
+-- every supplied ticket shows its outcome, and the run learns each key that it asked for by the key's own ticket
 pub record Learns (old new : Run) : Type 0 where
   pub shown : all_show new.tickets ≡ true
   pub learned : new.learned ≡ old.learned ++ paired (asked_by old) (outcomes_shown new.tickets)
 
--- a supplied ticket shows no outcome yet: nothing is wanted, and the same tickets are waited for
+-- a supplied ticket shows no outcome yet: the run wants nothing, and waits for the same tickets
 pub record StillWaits (old new : Run) : Type 0 where
   pub unshown : all_show new.tickets ≡ false
   pub none : wanted_by new ≡ []
   pub asked : asked_by new ≡ asked_by old
   pub learned : new.learned ≡ old.learned
 
--- keys are wanted: all that the term waits for, with what was learned
+-- the run wants keys: all that the term waits for, with what the run knows
 pub record NowWants (old new : Run) : Type 0 where
   pub learns : Learns old new
   pub some : wanted_by new ≢ []
   pub all : (t : Tree) → IsRunOf t old → wanted_by new ≡ frontier t new.learned
 
--- the answer is the term's, with what was learned
+-- the answer is the term's, with what the run knows
 pub record Finishes (old new : Run) (a : Answer) : Type 0 where
   pub learns : Learns old new
   pub given : (t : Tree) → IsRunOf t old → gives t new.learned a
 
 -- ---- what holds of the fields of a run, by its stage
 
--- tickets were supplied, one for each key
+-- the run has a ticket for each key
 pub record Supplied (r : Run) : Type 0 where
   pub each : length r.keys ≡ length r.tickets
 
--- the keys are all that is waited for, and the tickets before were learned
+-- the keys are all that the term waits for, and each earlier ticket shows its outcome
 pub record Waiting (r : Run) : Type 0 where
   pub frontier : r.keys ≡ frontier r.left r.learned
   pub some : r.keys ≢ []
@@ -98,6 +98,6 @@ pub record Pends (old new : Run) : Type 0 where
   pub run : (t : Tree) → IsRunOf t old → IsRunOf t new
   pub waits : StillWaits old new ⊎ NowWants old new
 
--- an answer that some poll may give: what is left gives it once more is known
+-- an answer that some poll may give: what is left gives it once the run knows more
 abbrev pub MayAnswer : Run → Result Answer PollFault → Type 0
 MayAnswer r result = IfOk result (λ a. (q : Key → Option Outcome) × KnowsMore (outcome_in r.learned) q × (answer q r.left ≡ Some a))

@@ -1,4 +1,4 @@
-//! The evaluation of terms in rounds of loads, wherever the jobs of these go.
+//! Evaluates terms in rounds of loads, wherever the jobs go.
 
 ghost use Rattle.std.specs.Prelude.{◌≡◌, ◌≤◌, ◌^◌, ◌<◌, [], true, IfErr, IfOk, OnErr, OnOk, length};
 ghost use Rattle.dl_history.specs.Entries.{front_of};
@@ -23,22 +23,22 @@ use std::alloc::Global;
 use std::hash::RandomState;
 use std::sync::Wait;
 
-/// What terms are evaluated by: the loader that loads their keys, and the outlet that the dispatched jobs go to.
+/// What it takes to evaluate terms: the loader that loads their keys, and the outlet to which the dispatched jobs go.
 #[derive(Drop)]
 pub(crate) struct Evaluator<'l, L: LoaderName, O> {
     pub(crate) alloc: Global,
-    // By what the keys of each term are hashed.
+    // Hashes the keys of each term.
     pub(crate) hashing: RandomState,
     pub(crate) loader: &'l Loader<L>,
     pub(crate) outlet: &'l O,
 }
 
 impl<'l, L: LoaderName, O: Outlet<L>> Evaluator<'l, L, O> {
-    /// Evaluates a term, and answers how many rounds of loads that took. Each round loads the keys that the term waits
-    /// for, dispatches, gives out the jobs, and reads the outcome of each load.
+    /// Evaluates a term. You get its answer, and how many rounds of loads it took: at most the term's depth. Each round
+    /// loads the keys that the term waits for, dispatches, gives out the jobs, and reads the outcome of each load.
     ///
     /// # Errors
-    /// `Call` where the loader refuses a call, `Stopped` where it is stopped or a cell refuses its outcome, and
+    /// `Call` if the loader rejects a call, `Stopped` if it is stopped or a cell refuses its outcome, and
     /// `OutOfMemory`.
     pub(crate) fn evaluate<R: Wait>(
         &self,
@@ -61,7 +61,7 @@ impl<'l, L: LoaderName, O: Outlet<L>> Evaluator<'l, L, O> {
         self.go_on(rt, seat, pass, &mut run)
     }
 
-    /// Takes a new run to its answer, and answers how many rounds of loads that took.
+    /// Takes a new run to its answer. You get that, and how many rounds of loads it took.
     fn go_on<R: Wait>(
         &self,
         rt: &R,
@@ -98,12 +98,11 @@ impl<'l, L: LoaderName, O: Outlet<L>> Evaluator<'l, L, O> {
         unreachable!()
     }
 
-    /// A round: loads the wanted keys, dispatches, gives out the jobs, and reads the outcome of each load. The tickets,
-    /// one for each key, show their outcomes.
+    /// One round: loads the wanted keys, dispatches, gives out the jobs, and reads the outcome of each load. You get a
+    /// ticket for each key, and each of them shows its outcome.
     ///
     /// # Errors
-    /// `Call` where a call is refused, and `Stopped` where the loader is stopped or a cell refuses its outcome. Where
-    /// a job isn't ended that must be, the loader is stopped.
+    /// Those of [`evaluate`](Evaluator::evaluate). If the outlet fails to end a job, the loader is stopped.
     fn round<R: Wait>(
         &self,
         rt: &R,
@@ -128,16 +127,16 @@ impl<'l, L: LoaderName, O: Outlet<L>> Evaluator<'l, L, O> {
         let jobs = self.loader.dispatch(rt, self.alloc, pass)?;
         O::give_out(self, rt, seat, pass, jobs)?;
         read_each(rt, self.loader, pass, tickets.as_mut_slice())?;
-        // As its clause says, the greatest place fits a `u32`.
+        // By its clause, the greatest place fits a `u32`.
         let _front = pass.front();
         Ok(tickets)
     }
 }
 
-/// Waits for each of the tickets, which the pass gave and of which it has read none, and reads its outcome.
+/// Waits for each of the tickets and reads its outcome. They must be tickets that the pass got and has not read yet.
 ///
 /// # Errors
-/// `Stopped` where the loader is stopped and a cell has not ended.
+/// `Stopped` if the loader is stopped and a cell has not ended.
 fn read_each<L: LoaderName>(
     rt: &impl Wait,
     loader: &Loader<L>,

@@ -1,4 +1,4 @@
-//! Why a poll gives no answer, and why the evaluation of a term is cut short.
+//! Why a poll or an evaluation gives no answer.
 
 ghost use Rattle.std.specs.Prelude.{◌≡◌};
 ghost use Rattle.dl_haxl.specs.declared.fault.PollFault.TheVariants as poll;
@@ -11,10 +11,10 @@ use thiserror::Error;
 /// Why a poll gives no answer.
 #[derive(Clone, Copy, Debug, PartialEq, Eq, Error)]
 pub enum PollFault {
-    /// The answer was given before.
+    /// An earlier poll gave the answer.
     #[error("the answer was given before")]
     Finished,
-    /// An allocation failed, in this poll or in one before.
+    /// Memory ran out, in this poll or in an earlier one.
     #[error("out of memory")]
     OutOfMemory,
 }
@@ -27,16 +27,16 @@ impl From<AllocError> for PollFault {
     }
 }
 
-/// Why the evaluation of a term gives no answer. The entries that the pass gained before stay.
+/// Why a term gives no answer. The entries that the pass gained until then stay in it.
 #[derive(Clone, Copy, Debug, PartialEq, Eq, Error)]
 pub enum RunFault {
-    /// The loader refused a call.
+    /// The loader rejected a call.
     #[error("{0}")]
     Call(CallFault),
-    /// The loader is stopped, by another or since an outcome was refused.
+    /// The loader is stopped, or a cell refused its outcome.
     #[error("the loader is stopped")]
     Stopped,
-    /// An allocation failed.
+    /// Memory ran out.
     #[error("out of memory")]
     OutOfMemory,
 }

@@ -18,12 +18,12 @@ use std::alloc::AllocError;
 #[derive(Drop)]
 pub struct LoadFuture<'a, L: LoaderName> {
     ticket: Ticket<'a, L>,
-    // What each poll answers from now on, once the outcome was given or an allocation failed.
+    // What each poll answers from now on, once one gave the outcome or memory ran out.
     ended: Option<PollFault>,
 }
 
 impl<'a, L: LoaderName> LoadFuture<'a, L> {
-    /// The future of the outcome that the ticket will show.
+    /// The future of the outcome that this ticket will show.
     pub fn new(ticket: Ticket<'a, L>) -> LoadFuture<'a, L>
         ensures ticket { result.ticket ≡ ticket.entry }
         ensures ended { result.ended ≡ None }
@@ -40,10 +40,10 @@ impl<L: LoaderName> Future for LoadFuture<'_, L> {
 
     ghost gives = { λ f r. MayGive f.ended f.ticket.known r };
 
-    /// The outcome that the ticket shows, once; pending while it shows none.
+    /// The outcome that the ticket shows, once. The poll is pending while the ticket shows none.
     ///
     /// # Errors
-    /// `Finished` after the outcome was given; `OutOfMemory` where it couldn't be copied, and from then on.
+    /// `Finished` after a poll gave the outcome. `OutOfMemory` if the poll can't copy the outcome, and from then on.
     fn poll(&mut self, cx: &mut Context<'_>) -> Poll<Result<Outcome, PollFault>>
         ensures value { IfReady result (MayGive self.old.ended self.old.ticket.known) }
         ensures again { OnPending result ⊤ }

@@ -1,4 +1,4 @@
-//! Terms whose jobs are handed over to fetch workers.
+//! Evaluates terms whose jobs go to fetch workers.
 
 ghost use Rattle.std.specs.Prelude.{◌≡◌, ◌≤◌, ◌++◌, ℕ, List, IfErr, IfOk, OnErr, OnOk};
 ghost use Rattle.dl_values.specs.declared.outcome.BatchFault.TheVariants.{Unsent};
@@ -24,15 +24,18 @@ use std::alloc::Global;
 use std::hash::RandomState;
 use std::sync::Wait;
 
-/// Evaluates a term whose jobs fetch workers end, and answers how many rounds of loads that took. Each round loads
-/// the keys that the term waits for, dispatches, sends each job to the queue, and waits for the outcome of each
-/// load. A job that comes back, since the queue was shut or the seat is full, is failed as one that was not sent.
-/// Keys are hashed by `hashing`, of which nothing is seen.
+/// Evaluates a term, and leaves its jobs to fetch workers. You get the answer, and how many rounds of loads it took: at
+/// most the term's depth. Each round loads the keys that the term waits for, dispatches, sends each job to the queue,
+/// and waits for the outcome of each load. If a job comes back, because the queue is shut or the seat is full, this
+/// call fails its batch as unsent.
+///
+/// Use a seat of this queue, and let workers take its jobs meanwhile: this call waits for them, if need be for ever.
+/// `hashing` hashes keys, and nothing that you see depends on it.
 ///
 /// # Errors
-/// `Call` where the loader refuses a call, `Stopped` where it is stopped or a cell refuses its outcome, and
-/// `OutOfMemory`. What the pass gained before stays, and what was sent is sent. Where a job that came back isn't
-/// failed, or a cell refuses its outcome, the loader is stopped.
+/// `Call` if the loader rejects a call, `Stopped` if it is stopped or a cell refuses its outcome, and `OutOfMemory`.
+/// What the pass gained until then stays, and so does what this call sent. If it can't fail a job that came back, or a
+/// cell refuses that failure, it stops the loader.
 pub fn run_term<L: LoaderName, R: Wait>(
     rt: &R,
     alloc: Global,
@@ -71,7 +74,7 @@ impl<L: LoaderName> Outlet<L> for JobQueue {
 
     ghost jobs_end = { HandedOver };
 
-    /// Sends each job. One that comes back is failed as unsent.
+    /// Sends each job. If one comes back, fails its batch as unsent.
     fn give_out<R: Wait>(
         evaluator: &Evaluator<'_, L, Self>,
         rt: &R,
@@ -92,7 +95,7 @@ impl<L: LoaderName> Outlet<L> for JobQueue {
 }
 
 impl<L: LoaderName> Evaluator<'_, L, JobQueue> {
-    /// Fails the batch of a job that was not sent, whose cells all show that then.
+    /// Fails the batch of a job that the queue didn't take. All its cells show that then.
     fn fail_unsent(&self, rt: &impl Wait, pass: &mut Pass<L>, job: Job) -> Result<(), RunFault>
         ensures failed { OnOk result (WasMade L.service pass.old.trace (Fail job.batch Unsent) Done pass.new.trace) }
         ensures tickets { pass.new.trace.tickets ≡ pass.old.trace.tickets }

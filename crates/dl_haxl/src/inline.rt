@@ -1,4 +1,4 @@
-//! Terms that are evaluated on the caller's own thread.
+//! Evaluates terms on the caller's own thread.
 
 ghost use Rattle.std.specs.Prelude.{◌≡◌, ◌≤◌, ℕ, List, [], IfErr, IfOk, OnErr, OnOk};
 ghost use Rattle.dl_values.specs.declared.job.Job.{Job};
@@ -21,15 +21,26 @@ use std::alloc::Global;
 use std::hash::RandomState;
 use std::sync::Wait;
 
-/// Evaluates a term on the caller's own thread, and answers how many rounds of loads that took. Each round
-/// loads the keys that the term waits for, dispatches, and ends each job by what the loader's source answers to
-/// its keys, or, where an allocation fails, as one that failed since memory ran out. Keys are hashed by
-/// `hashing`, of which nothing is seen.
+/// Evaluates a term on your own thread. You get the answer, and how many rounds of loads it took: at most the term's
+/// depth. Each round loads the keys that the term waits for, dispatches, and ends each job by what the source answers
+/// to its keys or, if memory runs out for that, as one that failed. Use the source of the loader. `hashing` hashes
+/// keys, and nothing that you see depends on it.
 ///
 /// # Errors
-/// `Call` where the loader refuses a call, `Stopped` where it is stopped or a cell refuses its outcome, and
-/// `OutOfMemory`. What the pass gained before stays. Where a job isn't ended, or a cell refuses its outcome, the
-/// loader is stopped.
+/// `Call` if the loader rejects a call, `Stopped` if it is stopped or a cell refuses its outcome, and `OutOfMemory`.
+/// What the pass gained until then stays. If this call can't end a job, or a cell of it refuses its outcome, it stops
+/// the loader.
+///
+/// # Examples
+/// From `crates/dl_bench`, which counts no rounds:
+///
+/// ```rust
+/// let (answer, _rounds) = run_inline(scene.rt, alloc, hashing, loader, source, pass, term)?;
+/// match answer {
+///     Answer::Value(_) => Ok(()),
+///     Answer::Fault(_) => bail!("a term without a value"),
+/// }
+/// ```
 pub fn run_inline<L: LoaderName, S: Source>(
     rt: &impl Wait,
     alloc: Global,
@@ -57,7 +68,7 @@ pub fn run_inline<L: LoaderName, S: Source>(
     evaluator.evaluate(rt, &mut (), pass, term)
 }
 
-/// The evaluating thread, which fetches from its source.
+/// The outlet of the evaluating thread, which fetches from the source.
 #[derive(Drop)]
 struct OwnThread<'s, S> {
     source: &'s S,
@@ -91,7 +102,7 @@ impl<L: LoaderName, S: Source> Outlet<L> for OwnThread<'_, S> {
 }
 
 impl<L: LoaderName, S: Source> Evaluator<'_, L, OwnThread<'_, S>> {
-    /// Ends the batch of a job, whose cells all show their outcomes then.
+    /// Ends the batch of a job. All its cells show their outcomes then.
     fn end_shown(&self, rt: &impl Wait, pass: &mut Pass<L>, job: Job) -> Result<(), RunFault>
         requires source { Answers (S.answer self.now.outlet.now.source.now) L.service }
         ensures ended { OnOk result (WasEnded L.service pass.old.trace job pass.new.trace) }

@@ -1,12 +1,12 @@
-//! Loads and fetch terms as futures over the shared loader (Haxl).
+//! Loads and terms as futures over the shared loader, and calls that evaluate terms (Haxl).
 //!
-//! A [`LoadFuture`] is the outcome of one load. A [`TermRun`] is the answer of a [`Term`]: a poll takes the
-//! term as far as the supplied tickets show, and then tells the keys that it waits for. Both are polled by
-//! hand or by an executor of `futures`, and no poll waits.
+//! A [`LoadFuture`] is the outcome of one load. A [`TermRun`] is the answer of a [`Term`]: a poll takes the term as far
+//! as the tickets that you supplied allow, and then you see which keys it waits for. Poll them by hand or on an
+//! executor of `futures`. No poll waits.
 //!
 //! [`run_inline`] and [`run_term`] evaluate a term in rounds. Each round loads the keys that the term waits for,
-//! dispatches, and waits for the outcome of each load. `run_inline` fetches the dispatched jobs on the caller's own
-//! thread, and `run_term` hands them over to fetch workers by a queue. [`take_steps`] takes the steps of a whole plan so.
+//! dispatches, and waits for the outcome of each load. `run_inline` fetches the dispatched jobs on your own thread, and
+//! `run_term` sends them to fetch workers by a queue. [`take_steps`] takes the steps of a whole plan in this way.
 #![tactic(auto)]
 
 mod evaluator;

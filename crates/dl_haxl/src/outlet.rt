@@ -13,9 +13,9 @@ use dl_desk::Job;
 use dl_loader::{LoaderName, Pass};
 use std::sync::Wait;
 
-/// Where the jobs of a round go: to the source of the evaluating thread, or to fetch workers.
+/// Where the jobs of a round go: to the source, on the evaluating thread, or to fetch workers.
 pub(crate) trait Outlet<L: LoaderName> {
-    /// What the evaluating thread gives them out by.
+    /// What the evaluating thread needs to give out jobs: nothing, or a seat at a queue.
     type Seat;
 
     // The seat is one of this outlet.
@@ -24,14 +24,14 @@ pub(crate) trait Outlet<L: LoaderName> {
     // The jobs that the seat has sent to fetch workers.
     ghost sent_by: { Self.Seat → List Job };
 
-    // Of the jobs of a caller's dispatch, which are sent to fetch workers, and the entries of the ends of the others.
+    // Of the jobs of a caller's dispatch: those that go to fetch workers, and the entries of the ends of the others.
     ghost jobs_end: { ℕ → List Job → List Job → List Entry → Type 0 };
 
-    /// Gives out the jobs of a dispatch, in order. Where a batch can't be ended or a cell refuses its outcome, the loader
-    /// is stopped.
+    /// Gives out the jobs of a dispatch, in order. If it can't end a batch, or a cell refuses its outcome, it stops the
+    /// loader.
     ///
     /// # Errors
-    /// `Call` where a batch can't be ended, and `Stopped` where a cell refuses its outcome.
+    /// `Call` if it can't end a batch, and `Stopped` if a cell refuses its outcome.
     fn give_out<R: Wait>(
         evaluator: &Evaluator<'_, L, Self>,
         rt: &R,

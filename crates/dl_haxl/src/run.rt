@@ -17,19 +17,30 @@ use futures::task::{Context, Poll};
 use std::alloc::{AllocError, Global};
 use std::hash::RandomState;
 
-/// The answer of a term, as a future. It is polled in turns with the loads that it waits for: after a
-/// pending poll [`TermRun::wanted`] tells the keys to load, and [`TermRun::supply`] takes their tickets. A
-/// key is wanted once in a run: its first outcome serves all of the term.
+/// The answer of a term, as a future. You poll it and load its keys in turns: after a pending poll, load the keys of
+/// [`wanted`](TermRun::wanted) and hand their tickets to [`supply`](TermRun::supply). A run wants each key once, and
+/// its first outcome serves the whole term.
 ///
-/// A poll recurses as deep as the lists of the term stand in one another, as [`Term`] says.
+/// # Examples
+/// A test of `crates/dl_request_tests` polls a run, loads the two users that it wants, and supplies their tickets:
+///
+/// ```rust
+/// self.poll(task, run, "pending")?;
+/// self.stage.assert_ids(run.wanted(), "u1 u2");
+/// let tickets = self.loader.load_many(rt, alloc, pass, run.wanted());
+/// run.supply(tickets.expect(rt, "no tickets"));
+/// ```
+///
+/// # Stack
+/// A poll takes a stack as deep as the term's lists lie inside one another: see [`Term`].
 #[derive(Drop)]
 pub struct TermRun<'l, L: LoaderName> {
     alloc: Global,
     // What is left of the term.
     root: Node,
-    // The keys that were asked for, with the outcomes that were learned. The others are wanted, or their tickets were supplied.
+    // The keys that the run asked for. The first of them have outcomes; the others are wanted, or have tickets.
     asked: Asked<'l>,
-    // The tickets that were supplied last.
+    // The tickets of the last supply.
     tickets: Vec<Ticket<'l, L>>,
     stage: Stage,
     ghost supplied: { stage ≡ Learning → Supplied (run_at stage (node_view root) (pairs_of asked) (wanted_of asked) tickets.items) },
@@ -49,8 +60,10 @@ impl<'l, L: LoaderName> TermRun<'l, L> {
     ghost use Rattle.dl_haxl.specs.declared.fault.PollFault.TheVariants.{Finished, OutOfMemory};
     ghost use Rattle.dl_haxl.specs.declared.stage.Stage.TheVariants.{Ended};
 
-    /// A run of the term, of which nothing was explored yet. It hashes keys by `hashing`, of which nothing
-    /// is seen. The error is a failed allocation.
+    /// A run of a term that you haven't polled yet. `hashing` hashes keys, and nothing that you see depends on it.
+    ///
+    /// # Errors
+    /// `AllocError` if memory runs out.
     pub fn new(
         alloc: Global,
         hashing: RandomState,
@@ -72,9 +85,9 @@ impl<'l, L: LoaderName> TermRun<'l, L> {
         })
     }
 
-    /// The keys that the term waits for, after a pending poll that found all tickets to show their outcomes:
-    /// left to right, each once. There are none before the first poll, from a supply of tickets to the poll
-    /// that finds them all shown, and after an answer or a failed allocation.
+    /// The keys to load: all that the term waits for, left to right, each once. There are none before the first poll,
+    /// none from a supply of tickets to the poll that finds an outcome in each, and none after an answer or
+    /// `OutOfMemory`.
     pub fn wanted(&self) -> &[FetchKey]
         ensures { result.now ≡ wanted_by (seen self.now) }
     {
@@ -84,8 +97,8 @@ impl<'l, L: LoaderName> TermRun<'l, L> {
         }
     }
 
-    /// Takes a ticket for each wanted key, in order, all of one call of
-    /// [`load_many`](dl_loader::Loader::load_many). With nothing wanted nothing changes.
+    /// Hands in a ticket for each wanted key, in order. Get them all by one call of
+    /// [`load_many`](dl_loader::Loader::load_many). If the run wants nothing, this changes nothing.
     pub fn supply(&mut self, tickets: Vec<Ticket<'l, L>>)
         requires each { length tickets.items ≡ length (wanted_by (seen self.old)) }
         ensures run { (t : Tree) → IsRunOf t (seen self.old) → IsRunOf t (seen self.new) }
@@ -101,7 +114,7 @@ impl<'l, L: LoaderName> TermRun<'l, L> {
         }
     }
 
-    /// What a poll of the run answers. It never waits.
+    /// What a poll answers. It never waits.
     pub(crate) fn advance(&mut self) -> Poll<Result<Answer, PollFault>>
         ensures ended { IfSome (ended_by (seen self.old)) (λ fault. result ≡ poll.Ready (Err fault)) }
         ensures after { IfReady result (λ r. ended_by (seen self.new) ≡ Some (end_after r)) }
@@ -121,8 +134,8 @@ impl<'l, L: LoaderName> TermRun<'l, L> {
         }
     }
 
-    /// Explores what is left of the term with what the tickets show, once all of them show their outcomes. What fails on
-    /// the way has failed for good.
+    /// Explores what is left of the term, once all tickets show their outcomes. If memory runs out on the way, the run
+    /// has ended for good.
     fn explore(&mut self) -> Result<Option<Answer>, AllocError>
         requires learning { self.old.stage ≡ Learning }
         ensures tickets { AllLater (seen self.old).tickets (seen self.new).tickets }
@@ -161,11 +174,12 @@ impl<L: LoaderName> Future for TermRun<'_, L> {
 
     ghost gives = { λ run r. MayAnswer (seen run) r };
 
-    /// The answer of the term, once all that it waits for was learned. While a supplied ticket shows no outcome,
-    /// the poll is pending and nothing is wanted; else it learns what the tickets show and goes on.
+    /// The answer of the term, once the run knows the outcomes of all that the term waits for. While a supplied ticket
+    /// shows no outcome, the poll is pending and the run wants nothing. Once all of them do, the poll learns what they
+    /// show and goes on.
     ///
     /// # Errors
-    /// `Finished` after the answer was given; `OutOfMemory` where an allocation failed, and from then on.
+    /// `Finished` after a poll gave the answer. `OutOfMemory` if memory runs out, and from then on.
     fn poll(&mut self, cx: &mut Context<'_>) -> Poll<Result<Answer, PollFault>>
         ensures value { IfReady result (MayAnswer (seen self.old)) }
         ensures again { OnPending result ⊤ }

@@ -5,10 +5,10 @@ use crate::fault::PollFault;
 /// What the next poll of a run does.
 #[derive(Clone, Copy)]
 pub(crate) enum Stage {
-    /// It looks at the tickets of the keys, and goes on once all of them show their outcomes.
+    /// Looks at the tickets of the keys, and goes on once all of them show their outcomes.
     Learning,
-    /// Nothing: the keys are wanted, and have no tickets yet.
+    /// Nothing: the run wants these keys, and has no tickets of them yet.
     Wanting,
-    /// It answers this.
+    /// Answers this.
     Ended(PollFault),
 }

@@ -1,4 +1,4 @@
-//! How the steps of a plan are taken.
+//! Takes the steps of a plan.
 
 ghost use Rattle.std.specs.Prelude.{◌≡◌, ◌+◌, ◌^◌, ◌<◌, ◌∷◌, ◌++◌, [], ℕ, IfErr, IfOk, OnErr, OnOk};
 ghost use Rattle.dl_desk.specs.declared.event.Call.TheVariants.{Prime};
@@ -21,7 +21,7 @@ use std::alloc::{AllocError, Global};
 use std::hash::RandomState;
 use std::sync::Wait;
 
-/// Adds what the step of a number gave, if it has a term: its answer and its rounds. The error is a failed allocation.
+/// Adds the answer and the rounds of the step of a number, if it has a term. Fails if memory runs out.
 fn add(
     given: &mut StepAnswers,
     number: usize,
@@ -41,12 +41,32 @@ fn add(
     Ok(())
 }
 
-/// Takes the steps of a plan, in order: a prime, a clear and a clearAll are calls of the pass, and a term is evaluated as by
-/// [`run_term`].
+/// Takes the steps of a plan, in order: a prime, a clear and a clearAll are calls of the pass, and
+/// [`run_term`](crate::run_term) says how a term goes. You get the answers of the terms, and how many rounds of loads
+/// they took.
 ///
 /// # Errors
-/// That of the first step which meets one; `Stopped` also where a primed cell refuses its outcome. What the pass gained before
-/// stays. Whoever takes the steps then stops the loader, if others may wait for what this caller would have done.
+/// That of the first step that meets one: those of `run_term`, and `Stopped` if a primed cell refuses its outcome. What
+/// the pass gained until then stays. If others may wait for what this caller would have done, stop the loader then.
+///
+/// # Examples
+/// The thread of a plan takes its steps, and stops the loader if one fails, in `crates/dl_scope`:
+///
+/// ```rust
+/// let given = take_steps(
+///     rt,
+///     alloc,
+///     hashing,
+///     loader,
+///     &mut pass,
+///     queue,
+///     &mut sender,
+///     steps,
+/// );
+/// if given.is_err() {
+///     loader.stop(rt);
+/// }
+/// ```
 pub fn take_steps<L: LoaderName, R: Wait>(
     rt: &R,
     alloc: Global,
@@ -79,7 +99,7 @@ pub fn take_steps<L: LoaderName, R: Wait>(
     let mut number: usize = 0;
     for step in steps {
         let taken = evaluator.take_step(rt, sender, pass, step)?;
-        // As its clause says, the calls fit a `usize`, and there are no more rounds than calls.
+        // By its clause, the calls fit a `usize`, and there are no more rounds than calls.
         let _calls = pass.calls();
         add(&mut given, number, taken)?;
         number += 1;
@@ -88,7 +108,7 @@ pub fn take_steps<L: LoaderName, R: Wait>(
 }
 
 impl<L: LoaderName> Evaluator<'_, L, JobQueue> {
-    /// Takes a step: the answer of its term, and how many rounds of loads that took, if it has a term.
+    /// Takes a step. If it has a term, you get its answer, and how many rounds of loads it took.
     fn take_step<R: Wait>(
         &self,
         rt: &R,
@@ -117,7 +137,7 @@ impl<L: LoaderName> Evaluator<'_, L, JobQueue> {
         Ok(None)
     }
 
-    /// Primes a key. The error is also for a cell that refuses its outcome.
+    /// Primes a key. Fails also if the cell refuses its outcome.
     fn prime(
         &self,
         rt: &impl Wait,

@@ -1,4 +1,4 @@
--- What migrating the bytes of a document answers.
+-- What you get if you migrate the bytes of a document.
 use Rattle.std.specs.Prelude.{◌≡◌, ℕ, List, None}
 use Rattle.serde_json.specs.Data.{Data}
 use Rattle.serde_json.specs.Written.{compact_text}
@@ -23,7 +23,8 @@ abbrev pub IsFirst : Input → Type 0
 IsFirst (input.Script s) = ⊥
 IsFirst (input.Plans file) = file.table_limits ≡ None
 
--- the bytes are a plan file of version 1, and the text is the compact text of its tree in version 2, as which it is read again
+-- the bytes are a plan file of version 1, and the text is that of its tree in version 2, compact, and is again a text
+-- of that tree
 pub record IsMigrated (bytes text : List ℕ) : Type 0 where
   pub tree : Data
   pub said : Input
@@ -44,7 +45,7 @@ abbrev pub unmigrated : PlanFault → MigrateFault
 unmigrated plan.OutOfMemory = OutOfMemory
 unmigrated f = Refused f
 
--- Why there is no text: the refusal of reading, or a document that is no plan file of version 1. Memory may run out.
+-- Why there is no text: reading refuses the bytes, they aren't a plan file of version 1, or memory runs out.
 abbrev pub IsUnmigrated : List ℕ → MigrateFault → Type 0
 IsUnmigrated bytes (Refused f) = IsLeast (Applies bytes) f
 IsUnmigrated bytes NotVersion1 = IsOther bytes

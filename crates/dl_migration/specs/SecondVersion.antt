@@ -8,7 +8,7 @@ use Rattle.dl_documents.specs.declared.input.PlanFile.{PlanFile}
 use Rattle.dl_migration.specs.Migrated.{migrated}
 use Rattle.dl_migration.specs.Migration.{IsMigrated, ReadsAs}
 
--- the same tables, plans and limits, in version 2, where no table has a limit of its own
+-- the same tables, plans and limits, in version 2, with no table that has a limit of its own
 abbrev pub in_second_version : PlanFile → PlanFile
 in_second_version file = record file { table_limits = Some [] }
 
@@ -16,7 +16,8 @@ in_second_version file = record file { table_limits = Some [] }
 abbrev pub MigratedIsTheSame : Type 0
 MigratedIsTheSame = (d : Data) (file : PlanFile) → SpellsPlans d file → file.table_limits ≡ None → SpellsPlans (migrated d) (in_second_version file)
 
--- So the text of a plan file of version 1, migrated, reads as the same file in version 2, where it isn't too large to be read.
+-- So the text of a plan file of version 1, migrated, reads as the same file in version 2, unless it is too large to
+-- read.
 abbrev pub MigratedReadsTheSame : Type 0
 MigratedReadsTheSame = (bytes text : List ℕ) → IsMigrated bytes text → length text ≤ most_bytes
     → (d : Data) × (file : PlanFile) × ReadsAs bytes d (Plans file) × ReadsAs text (migrated d) (Plans (in_second_version file))

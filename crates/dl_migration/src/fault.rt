@@ -8,17 +8,17 @@ use dl_documents::PlanFault;
 use std::alloc::AllocError;
 use thiserror::Error;
 
-/// Why a document isn't migrated, the first cause that applies. `OutOfMemory` has no place in that order: it comes wherever an
-/// allocation failed.
+/// Why a document isn't migrated: the first cause that applies. `OutOfMemory` has no place in that order: it comes
+/// wherever memory runs out.
 #[derive(Clone, Copy, Debug, PartialEq, Eq, Error)]
 pub enum MigrateFault {
-    /// Reading refuses the document.
+    /// [`read_input`](dl_documents::read_input) refuses the document for this.
     #[error("{0}")]
     Refused(PlanFault),
     /// The document is a script, or a plan file of version 2.
-    #[error("not version 1")]
+    #[error("the document is not a plan file of version 1")]
     NotVersion1,
-    /// An allocation failed.
+    /// Memory ran out.
     #[error("out of memory")]
     OutOfMemory,
 }

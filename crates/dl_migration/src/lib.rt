@@ -1,4 +1,4 @@
-//! Plan files of version 1 as those of version 2.
+//! Writes plan files of version 1 as those of version 2.
 #![tactic(auto)]
 
 mod fault;

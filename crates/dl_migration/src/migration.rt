@@ -1,4 +1,4 @@
-//! Migrating the bytes of a document.
+//! Migrates the bytes of a document.
 
 ghost use Rattle.std.specs.Prelude.{◌≡◌, ◌≤◌, ◌↔◌, IfOk, IfErr, OnOk, IsSome, IsTrue, Some, false, string_bytes};
 ghost use Rattle.serde_json.specs.Data.{depth};
@@ -15,13 +15,13 @@ use serde_json::Value;
 use std::alloc::{AllocError, Global};
 use std::hash::RandomState;
 
-/// The text of a plan file of version 1 as one of version 2: the same tree but for its member `version`, which is 2, as compact
-/// JSON without a line feed. The bytes are read as [`read_input`](dl_documents::read_input) reads them, and the text is read
-/// again where it isn't too large for a document. Tables are hashed by `hashing`, of which nothing is seen.
+/// Writes a plan file of version 1 as one of version 2. You get compact JSON without a line feed: the same tree, but
+/// its member `version` is 2. It reads the bytes as [`read_input`](dl_documents::read_input) does, and that reads the
+/// text too, unless it is too large for a document. `hashing` hashes tables, and nothing that you see depends on it.
 ///
 /// # Errors
-/// `Refused` with the cause for which reading refuses the bytes, `NotVersion1` where they are a script or a plan file of
-/// version 2, and `OutOfMemory` where an allocation failed, also in reading.
+/// `Refused` with the cause for which `read_input` refuses the bytes, `NotVersion1` if they are a script or a plan file
+/// of version 2, and `OutOfMemory`.
 pub fn migrate(alloc: Global, hashing: RandomState, bytes: &[u8]) -> Result<String, MigrateFault>
     ensures ok { IfOk result (λ text. IsMigrated bytes.now (string_bytes text)) }
     ensures err { IfErr result (IsUnmigrated bytes.now) }
@@ -56,7 +56,7 @@ fn migrated_text(alloc: Global, document: &mut Value) -> Result<String, AllocErr
     Value::to_string(document, alloc)
 }
 
-/// Gives a document the second version. The error is a failed allocation.
+/// Gives a document the second version. Fails if memory runs out.
 fn with_second_version(alloc: Global, document: &mut Value) -> Result<(), AllocError>
     requires { IsSome (as_object (view document.old)) }
     ensures { OnOk result (view document.new ≡ migrated (view document.old)) }

@@ -19,16 +19,16 @@ use Rattle.dl_picture.specs.declared.numbers.PlanNumbers.{PlanNumbers}
 
 -- ---- loads
 
--- whether the event is the caller's, where one is named
+-- whether the event is the caller's, or no caller is named
 abbrev pub is_by : Option ℕ → Event → Bool
 is_by None e = true
 is_by (Some n) e = nat_eq n e.caller
 
--- the events of a caller, and all where none is named
+-- the events of a caller, or all if no caller is named
 abbrev pub events_by : Option ℕ → List Event → List Event
 events_by caller events = filter (is_by caller) events
 
--- what a call's loads were replied: a load has one reply, a loadMany one for each of its keys
+-- the replies to a call's loads: one for a load, and one for each key of a loadMany
 abbrev pub replies_in : Reply → List LoadReply
 replies_in (Loaded r) = r ∷ []
 replies_in (Many rs) = rs
@@ -37,7 +37,7 @@ replies_in Kept = []
 replies_in Done = []
 replies_in (Sent js) = []
 
--- what the loads of events were replied, in their order
+-- the replies to the loads of events, in their order
 abbrev pub load_replies : List Event → List LoadReply
 load_replies events = flat_map (λ e. replies_in e.reply) events
 
@@ -73,12 +73,12 @@ round_events caller events = filter (λ e. nat_eq caller e.caller && is_round e.
 
 -- ---- batches
 
--- how many keys each of the first batches has, so many of them
+-- how many keys each of the first batches has, for this many of them
 abbrev pub sizes_of : List Atom → ℕ → List ℕ
 sizes_of history zero = []
 sizes_of history (suc n) = sizes_of history n ++ length (keys_of history n) ∷ []
 
--- how many keys each batch has, in the order in which they were begun
+-- how many keys each batch has, in the order in which they began
 abbrev pub batch_sizes : List Atom → List ℕ
 batch_sizes history = sizes_of history (begun history)
 
@@ -87,7 +87,7 @@ abbrev pub greatest : List ℕ → ℕ
 greatest [] = 0
 greatest (n ∷ ns) = max n (greatest ns)
 
--- how many batches have these sizes, how many keys they have together, and how many the largest
+-- how many batches have these sizes, how many keys they have together, and how many keys the largest has
 pub record AreSizes (sizes : List ℕ) (n : BatchNumbers) : Type 0 where
   pub batches : n.batches ≡ length sizes
   pub keys : n.keys ≡ sum sizes
@@ -105,7 +105,7 @@ pub record AreHistoryNumbers (events : List Event) (n : HistoryNumbers) : Type 0
   pub loads : AreLoadNumbers (load_replies events) n.loads
   pub batches : AreBatchNumbers (atoms (past events)) n.batches
 
--- the numbers of a plan in the history of those that are served: its rounds and its loads
+-- the numbers of a plan in the history of those that were served: its rounds and its loads
 pub record ArePlanNumbers (events : List Event) (plan : ℕ) (n : PlanNumbers) : Type 0 where
   pub rounds : n.rounds ≡ length (round_events plan events)
   pub loads : AreLoadNumbers (load_replies (events_by (Some plan) events)) n.loads

@@ -2,13 +2,13 @@
 use Rattle.std.specs.Prelude.{ℕ, List, Bool, ◌||◌, codes, encode_utf8, flat_map, if◌then◌else◌, nat_eq, nat_lt}
 use Rattle.std.specs.Str.{chars}
 
--- a character that XML 1.0 forbids, of those that a text has: a control character but for tab, line feed and carriage return, or
+-- a character of a text that XML 1.0 forbids: a control character other than tab, line feed and carriage return, or
 -- U+FFFE or U+FFFF
 abbrev pub is_forbidden : ℕ → Bool
 is_forbidden c = nat_lt c 32 || nat_eq c 65534 || nat_eq c 65535
 
--- A character as XML has it. What marks XML up is a reference, and so is white space that XML would change; for one that is
--- forbidden stands U+FFFD.
+-- A character in XML: a reference if it marks XML up, or is white space that XML would change; U+FFFD if XML forbids
+-- it; else itself.
 abbrev pub written : ℕ → List ℕ
 written c =
     if nat_eq c 38 then codes "&amp;"
@@ -22,6 +22,6 @@ written c =
     else if is_forbidden c then encode_utf8 65533
     else encode_utf8 c
 
--- a text as XML has it, character by character
+-- a text in XML, character by character
 abbrev pub escaped : List ℕ → List ℕ
 escaped text = flat_map written (chars text)

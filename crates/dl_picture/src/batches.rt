@@ -12,7 +12,7 @@ use dl_desk::Desk;
 use dl_history::Batches;
 use std::alloc::AllocError;
 
-/// How many batches there are, how many keys they have together, and how many the largest has.
+/// How many batches there are, how many keys they have together, and how many keys the largest has.
 #[derive(Clone, Copy)]
 pub struct BatchNumbers {
     pub batches: u64,
@@ -20,7 +20,7 @@ pub struct BatchNumbers {
     pub largest: u64,
 }
 
-/// How many keys a batch has on the average: so many, and a rest that is shared by so many batches.
+/// How many keys a batch has on average: `whole`, and the fraction `rest` of `of`.
 #[derive(Clone, Copy)]
 pub struct Mean {
     pub whole: u64,
@@ -31,7 +31,7 @@ pub struct Mean {
 /// The numbers of a history's batches.
 ///
 /// # Errors
-/// `AllocError` where there are more than a number counts, which no memory holds.
+/// `AllocError` if there are more than a number can count, which no memory holds.
 pub(crate) fn batch_numbers(batches: &Batches<'_>) -> Result<BatchNumbers, AllocError>
     ensures { IfOk result (AreBatchNumbers (atoms (past batches.now))) }
 {
@@ -45,10 +45,10 @@ pub(crate) fn batch_numbers(batches: &Batches<'_>) -> Result<BatchNumbers, Alloc
     Err(AllocError)
 }
 
-/// The numbers of a desk's batches, also of those that aren't sent.
+/// The numbers of a desk's batches, sent or not.
 ///
 /// # Errors
-/// `AllocError` where there are more than a number counts, which no memory holds.
+/// `AllocError` if there are more than a number can count, which no memory holds.
 pub(crate) fn desk_numbers(desk: &Desk) -> Result<BatchNumbers, AllocError>
     ensures { IfOk result (λ numbers. (history : List Atom) → StandsFor desk.now.book history → AreBatchNumbers history numbers) }
 {
@@ -63,7 +63,7 @@ pub(crate) fn desk_numbers(desk: &Desk) -> Result<BatchNumbers, AllocError>
 }
 
 impl BatchNumbers {
-    /// The numbers of no batch.
+    /// The numbers if there is no batch.
     fn of_none() -> BatchNumbers
         ensures { AreSizes [] result }
     {
@@ -74,7 +74,7 @@ impl BatchNumbers {
         }
     }
 
-    /// The numbers with one batch more, which has so many keys.
+    /// The numbers with one batch more, which has this many keys.
     fn with(self, size: usize) -> Result<BatchNumbers, AllocError>
         ensures { IfOk result (λ more. (sizes : List ℕ) → AreSizes sizes self → AreSizes (sizes ++ size ∷ []) more) }
     {
@@ -86,7 +86,7 @@ impl BatchNumbers {
         })
     }
 
-    /// How many keys a batch has on the average, and none where there is no batch.
+    /// How many keys a batch has on average, or `None` if there is no batch.
     pub fn mean(&self) -> Option<Mean>
         ensures none { IfNone result (self.now.batches ≡ 0) }
         ensures whole { IfSome result (λ mean. mean.whole ≡ self.now.keys / self.now.batches) }

@@ -5,8 +5,8 @@ use dl_desk::LoadReply;
 use dl_history::{Events, History, Reply};
 use std::alloc::{AllocError, Global};
 
-/// Of each cell of a history, in order, what became of it: it is fresh where a load began it and it was given a value. The error
-/// is a failed allocation.
+/// What became of each cell of a history, in order: it is fresh if a load began it and it got a value. Fails if memory
+/// runs out.
 pub(crate) fn cell_marks(alloc: Global, history: &History) -> Result<Vec<Mark>, AllocError> {
     let mut cells = Vec::new(alloc);
     push_all_cells(&mut cells, history.events())?;
@@ -41,7 +41,7 @@ fn push_cells(cells: &mut Vec<Mark>, reply: &Reply) -> Result<(), AllocError> {
     Ok(())
 }
 
-/// What the loads of a call were replied.
+/// The replies to the loads of a call.
 pub(crate) fn replies_of(reply: &Reply) -> &[LoadReply] {
     match reply {
         Reply::Loaded(reply) => std::slice::from_ref(reply),

@@ -6,13 +6,13 @@ use crate::mark::{MARKS, Mark};
 use crate::phrase::Phrase;
 use crate::sheet::Sheet;
 
-/// A column with more lines than this is summed up by counts.
+/// A column with more lines than this shows counts in their place.
 const MOST_LINES: usize = 200;
 
 /// How wide a column is.
 pub(crate) const COLUMN_WIDTH: u64 = 224;
 
-/// How high a line of a column is, and what stands above and below all its lines.
+/// How high a line of a column is, and how much room is above and below all its lines.
 const LINE_HEIGHT: u64 = 18;
 
 const HEADING_HEIGHT: u64 = 26;
@@ -31,12 +31,12 @@ const FOOT: u64 = 12;
 /// The room inside a column, at each side.
 const PADDING: u64 = 10;
 
-/// For how many characters a line has room, and how many of them the number of a batch takes.
+/// How many characters a line has room for, and how many of them the number of a batch takes.
 const LINE_ROOM: u64 = 25;
 
 const BATCH_ROOM: u64 = 7;
 
-/// A column: a heading, what stands at its right, and lines.
+/// A column: a heading, what is to the right of it, and lines.
 #[derive(Clone, Copy)]
 pub(crate) struct Column<'a> {
     pub(crate) heading: Phrase,
@@ -53,7 +53,7 @@ impl Column<'_> {
     }
 }
 
-/// How many lines are drawn of these.
+/// How many lines a column draws of these.
 fn drawn_lines(lines: Lines<'_>, marks: &[Mark]) -> u64 {
     let count = lines.count();
     if count <= MOST_LINES {
@@ -68,7 +68,7 @@ fn drawn_lines(lines: Lines<'_>, marks: &[Mark]) -> u64 {
     sums
 }
 
-/// A column that is so high, whose corner stands at x and y.
+/// A column of this height, with its corner at x and y.
 pub(crate) fn push_column(sheet: &mut Sheet, x: u64, y: u64, height: u64, column: &Column<'_>) {
     push_card(sheet, x, y, height);
     sheet.push_words("head", PADDING, HEADING_FOOT, column.heading);
@@ -78,7 +78,7 @@ pub(crate) fn push_column(sheet: &mut Sheet, x: u64, y: u64, height: u64, column
     sheet.push("</svg>\n");
 }
 
-/// The front of a column that is so high, whose corner stands at x and y, and its card.
+/// The beginning of a column of this height, with its corner at x and y, and its card.
 fn push_card(sheet: &mut Sheet, x: u64, y: u64, height: u64) {
     let (width, inside) = (COLUMN_WIDTH - 2, height.saturating_sub(2));
     sheet.push_form(
@@ -87,7 +87,7 @@ fn push_card(sheet: &mut Sheet, x: u64, y: u64, height: u64) {
     );
 }
 
-/// The lines of a column, or their sums where they are too many.
+/// The lines of a column, or their counts if they are too many.
 fn push_lines(sheet: &mut Sheet, lines: Lines<'_>) {
     if lines.count() > MOST_LINES {
         return push_sums(sheet, lines, &MARKS);
@@ -114,7 +114,7 @@ fn push_sums(sheet: &mut Sheet, lines: Lines<'_>, marks: &[Mark]) {
     }
 }
 
-/// A line of a column, at a height.
+/// A line of a column, at this height.
 fn push_line(sheet: &mut Sheet, y: u64, line: &Line<'_>) {
     match line.label.text(sheet.alloc) {
         Ok(label) => {
@@ -126,7 +126,7 @@ fn push_line(sheet: &mut Sheet, y: u64, line: &Line<'_>) {
     }
 }
 
-/// The front of a line at a height, with its title: its whole label, and what became of it.
+/// The beginning of a line at this height, with its title: its whole label, and what became of it.
 fn push_title(sheet: &mut Sheet, y: u64, line: &Line<'_>, label: &str) {
     sheet.push_form("<g transform='translate(# #)'><title>", &[PADDING, y]);
     sheet.push_escaped(label);
@@ -138,7 +138,7 @@ fn push_title(sheet: &mut Sheet, y: u64, line: &Line<'_>, label: &str) {
     sheet.push("</title>");
 }
 
-/// What a line says behind its badge, and its end.
+/// The words of a line behind its badge, and its end.
 fn push_label(sheet: &mut Sheet, batch: Option<u32>, label: &str) {
     match batch {
         Some(batch) => {
@@ -157,7 +157,7 @@ fn push_label(sheet: &mut Sheet, batch: Option<u32>, label: &str) {
     sheet.push("</g>\n");
 }
 
-/// The badge of a mark, whose corner stands at x and y: a square of its colour with its letter.
+/// The badge of a mark, with its corner at x and y: a square in the colour of the mark, with its letter.
 pub(crate) fn push_badge(sheet: &mut Sheet, x: u64, y: u64, mark: Mark) {
     sheet.push("<rect class='");
     sheet.push(mark.class());

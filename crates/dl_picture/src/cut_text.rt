@@ -1,4 +1,4 @@
-//! Texts that are cut in their middle where they need more room than there is.
+//! Texts, cut in their middle if they need more room than there is.
 
 use crate::sheet::Sheet;
 
@@ -8,12 +8,12 @@ const FIRST_WIDE: char = '\u{590}';
 /// How many pixels a narrow character takes.
 pub(crate) const CHARACTER: u64 = 7;
 
-/// How many narrow characters a character takes the room of.
+/// The room of a character, in narrow characters.
 fn room_of(c: char) -> u64 {
     if c < FIRST_WIDE { 1 } else { 2 }
 }
 
-/// How many narrow characters a text takes the room of.
+/// The room of a text, in narrow characters.
 fn room_for(text: &str) -> u64 {
     let mut room: u64 = 0;
     for c in text.chars() {
@@ -22,8 +22,8 @@ fn room_for(text: &str) -> u64 {
     room
 }
 
-/// A `text` element at x and y: the text, which is cut in its middle where it needs more room than that of so many narrow
-/// characters. One with wide characters is fitted to its room, whatever the font is.
+/// A `text` element at x and y. It cuts the text in its middle if that needs more room than this many narrow
+/// characters. If the text has wide characters, it fits its room in every font.
 pub(crate) fn push_cut_text(sheet: &mut Sheet, x: u64, y: u64, text: &str, room: u64) {
     sheet.push_form("<text x='#' y='#'", &[x, y]);
     let whole = room_for(text);
@@ -40,7 +40,7 @@ pub(crate) fn push_cut_text(sheet: &mut Sheet, x: u64, y: u64, text: &str, room:
     sheet.push("</text>");
 }
 
-/// The text without its middle, which is whole as wide as so many narrow characters, and has room for fewer.
+/// A text without its middle. All of it is `whole` narrow characters wide, and there is room for fewer.
 fn push_cut(sheet: &mut Sheet, text: &str, whole: u64, room: u64) {
     let half = room.saturating_sub(1) / 2;
     let mut passed: u64 = 0;

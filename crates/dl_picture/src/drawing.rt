@@ -1,4 +1,4 @@
-//! Drawings: elements of SVG one under another, in rows of columns.
+//! Drawings: elements of SVG from top to bottom, in rows of columns.
 
 use crate::column::{COLUMN_WIDTH, Column, push_column};
 use crate::phrase::Phrase;
@@ -12,7 +12,7 @@ const WIDTH: u64 = 1200;
 /// The room at each side of a drawing.
 pub(crate) const MARGIN: u64 = 20;
 
-/// How many columns stand beside one another.
+/// How many columns a row has.
 const COLUMNS: u64 = 5;
 
 /// The room between columns, and between rows.
@@ -23,8 +23,8 @@ const WORDS_FOOT: u64 = 18;
 
 const WORDS_HEIGHT: u64 = 26;
 
-/// What is drawn so far: a sheet with elements of SVG, and how high they are together; how many tiles the head has; and of the
-/// row that is begun, how many columns it has and how high the highest of them is.
+/// What is drawn so far: a sheet with elements of SVG, and how high they are together; how many tiles the head has; and
+/// how many columns the open row has, and how high the highest of them is.
 #[derive(Drop)]
 pub(crate) struct Drawing {
     pub(crate) sheet: Sheet,
@@ -35,7 +35,7 @@ pub(crate) struct Drawing {
 }
 
 impl Drawing {
-    /// A drawing of nothing.
+    /// An empty drawing.
     pub(crate) fn new(alloc: Global) -> Drawing {
         Drawing {
             sheet: Sheet::new(alloc),
@@ -46,19 +46,19 @@ impl Drawing {
         }
     }
 
-    /// Leaves so much room below what is drawn.
+    /// Leaves this much room below the drawing.
     pub(crate) fn add_height(&mut self, height: u64) {
         self.height = self.height.saturating_add(height);
     }
 
-    /// A line of the program's own words, in a class of the style, below the row that is begun.
+    /// A line of the program's own words, in a class of the style, below the open row.
     pub(crate) fn add_words(&mut self, class: &str, words: Phrase) {
         self.begin_words(class);
         self.sheet.push_phrase(words);
         self.sheet.push("</text>\n");
     }
 
-    /// The front of such a line.
+    /// The beginning of such a line.
     pub(crate) fn begin_words(&mut self, class: &str) {
         self.end_row();
         let foot = self.height.saturating_add(WORDS_FOOT);
@@ -66,7 +66,7 @@ impl Drawing {
         self.sheet.begin_text(class, MARGIN, foot);
     }
 
-    /// A column, in the row that is begun, or in the next one where that is full.
+    /// A column, in the open row, or in the next one if that is full.
     pub(crate) fn add_column(&mut self, column: &Column<'_>) {
         if self.columns >= COLUMNS {
             self.end_row();
@@ -78,7 +78,7 @@ impl Drawing {
         push_column(&mut self.sheet, x, y, height, column);
     }
 
-    /// Ends the row that is begun, if there is one.
+    /// Ends the open row, if there is one.
     fn end_row(&mut self) {
         if self.columns > 0 {
             let tallest = self.tallest;
@@ -89,7 +89,7 @@ impl Drawing {
         }
     }
 
-    /// The drawing as a document. The error is that memory ran out.
+    /// The drawing as a document. Fails if memory ran out.
     pub(crate) fn finish(&mut self) -> Result<String, AllocError> {
         self.end_row();
         let height = self.height.saturating_add(MARGIN);
@@ -99,7 +99,7 @@ impl Drawing {
     }
 }
 
-/// Appends a document of these elements, which are so high together.
+/// Appends a document of these elements, which have this height together.
 fn push_document(sheet: &mut Sheet, height: u64, elements: &Sheet) {
     sheet.push_form(
         "<svg xmlns='http://www.w3.org/2000/svg' width='#' height='#' viewBox='0 0 # #'>\n",

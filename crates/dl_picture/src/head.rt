@@ -9,7 +9,7 @@ use crate::numbers::HistoryNumbers;
 use crate::phrase::Phrase;
 use crate::sheet::Sheet;
 
-/// How wide and how high a tile with a number is, and how far the next one stands.
+/// How wide and how high a tile with a number is, and how far away the next one is.
 const TILE_WIDTH: u64 = 157;
 
 const TILE_HEIGHT: u64 = 50;
@@ -22,7 +22,7 @@ const ROOM: u64 = 20;
 /// The room between what two marks mean, with a badge.
 const MARK_STEP: u64 = 46;
 
-/// The tiles of the loads and batches of a history, whose keys are told in these words.
+/// The tiles of the loads and batches of a history. `keys` are the words for its keys.
 pub(crate) fn add_numbers(drawing: &mut Drawing, numbers: &HistoryNumbers, keys: &'static str) {
     add_count(drawing, "loads", "loads", numbers.loads.loads);
     add_count(drawing, "hits", "hits", numbers.loads.hits);
@@ -33,7 +33,7 @@ pub(crate) fn add_numbers(drawing: &mut Drawing, numbers: &HistoryNumbers, keys:
     add_tile(drawing, "mean", "mean batch", mean);
 }
 
-/// A mean: a whole number, and a fraction behind it where it isn't whole.
+/// A mean: a whole number, and a fraction if it isn't whole.
 fn mean_phrase(mean: Option<Mean>) -> Phrase {
     match mean {
         Some(mean) if mean.rest == 0 => Phrase::Numbered("", mean.whole, ""),
@@ -47,7 +47,7 @@ pub(crate) fn add_count(drawing: &mut Drawing, name: &str, words: &'static str, 
     add_tile(drawing, name, words, Phrase::Numbered("", count, ""));
 }
 
-/// A tile beside the others: a number, the name by which a program finds it in the picture, and what it is, in words.
+/// Adds a tile: a number, the name by which a program finds it in the picture, and words for what it is.
 fn add_tile(drawing: &mut Drawing, name: &str, words: &'static str, figure: Phrase) {
     let (place, y) = (drawing.tiles, drawing.height);
     drawing.tiles = place.saturating_add(1);
@@ -66,14 +66,14 @@ fn add_tile(drawing: &mut Drawing, name: &str, words: &'static str, figure: Phra
     sheet.push("\n");
 }
 
-/// Ends the head: what the marks mean, below the tiles.
+/// Ends the head: below the tiles, says what the marks mean.
 pub(crate) fn end_head(drawing: &mut Drawing) {
     let y = drawing.height.saturating_add(TILE_HEIGHT + ROOM);
     drawing.add_height(TILE_HEIGHT + ROOM + ROOM + ROOM);
     push_marks(&mut drawing.sheet, y, &MARKS);
 }
 
-/// What the marks mean, in one line at a height.
+/// What the marks mean, in one line at this height.
 fn push_marks(sheet: &mut Sheet, y: u64, marks: &[Mark]) {
     let mut x = MARGIN;
     let foot = y.saturating_add(12);

@@ -10,10 +10,20 @@ use crate::phrase::Phrase;
 use dl_history::History;
 use std::alloc::{AllocError, Global};
 
-/// The picture of a history, as SVG, whose first callers are so many plans, and the others workers. Each plan has a lane with a
-/// column for each of its rounds, primes and clears; below them are the batches, in the order in which they ended, and the
-/// workers. A column of more than 200 keys is summed up. The text is linear in the plans, the events and their keys. The error
-/// is a failed allocation.
+/// Draws a history, as SVG. Its first callers are `plans` plans, and the others are workers. Each plan has a lane, with
+/// a column for each of its rounds, primes and clears. Below are the batches, in the order in which they ended, and the
+/// workers. A column of more than 200 keys shows counts. The text is linear in the plans, the events and their keys.
+///
+/// # Errors
+/// `AllocError` if memory runs out.
+///
+/// # Examples
+/// The picture of a report, from `crates/dl_plans`:
+///
+/// ```rust
+/// let plans = report.rounds().len().min(MOST_PLANS) as u32;
+/// history_picture(alloc, report.history(), plans)
+/// ```
 pub fn history_picture(alloc: Global, history: &History, plans: u32) -> Result<String, AllocError> {
     let numbers = history_numbers(history)?;
     let cells = cell_marks(alloc, history)?;

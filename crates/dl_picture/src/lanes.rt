@@ -10,7 +10,7 @@ use dl_desk::FetchKey;
 use dl_history::{Call, EntryKind, Event, Events, History, Reply};
 use std::alloc::AllocError;
 
-/// The event of an entry that is a call.
+/// The event of an entry, if the entry is a call.
 fn event_of(events: &Events, entry: EntryKind) -> Option<&Event> {
     match entry {
         EntryKind::Call { at } => events.get(at as usize),
@@ -38,7 +38,7 @@ pub(crate) fn add_calls(
     }
 }
 
-/// The column of a call, which is of the round of a number if it loads, and none of a dispatch or of the end of a batch.
+/// The column of a call: that of round `round` if it loads, and none if it is a dispatch or ends a batch.
 fn add_call(drawing: &mut Drawing, cells: &[Mark], event: &Event, round: u64) {
     if let Some(heading) = call_name(&event.call, round) {
         let lines = call_lines(cells, keys_of(&event.call), &event.reply);
@@ -51,7 +51,7 @@ fn add_call(drawing: &mut Drawing, cells: &[Mark], event: &Event, round: u64) {
     }
 }
 
-/// What stands above a call.
+/// The words above a call.
 fn call_name(call: &Call, round: u64) -> Option<Phrase> {
     match call {
         Call::LoadMany(_) => Some(Phrase::Numbered("round ", round, "")),
@@ -92,7 +92,7 @@ fn keys_of(call: &Call) -> &[FetchKey] {
 
 // ---- batches and workers
 
-/// The batches of a history, in the order in which they ended. The first callers are so many plans.
+/// The batches of a history, in the order in which they ended. The first callers are `plans` plans.
 pub(crate) fn add_batches(drawing: &mut Drawing, history: &History, plans: u32) {
     let (events, batches) = (history.events(), history.batches());
     for at in 0..events.len() {
@@ -117,7 +117,7 @@ fn ended_by(call: &Call) -> Option<Ended> {
     Some(Ended { batch, mark })
 }
 
-/// The column of a batch of these keys, beside whose name stands who made the call that ended it.
+/// The column of a batch with these keys. To the right of its name is who ended it.
 fn end_column<'a>(ended: Ended, side: Phrase, call: &'a Call, keys: &'a [FetchKey]) -> Column<'a> {
     let mark = ended.mark;
     let (state, lines) = match call {
@@ -143,7 +143,7 @@ fn caller_name(plans: u32, caller: u32) -> Phrase {
     }
 }
 
-/// The workers that ended batches: of each, which ones in order. The first callers are so many plans.
+/// The workers that ended batches, and which batches each of them ended, in order. The first callers are `plans` plans.
 pub(crate) fn add_workers(drawing: &mut Drawing, history: &History, plans: u32) {
     let events = history.events();
     for caller in plans..callers(events) {
@@ -183,7 +183,7 @@ fn add_worker(drawing: &mut Drawing, events: &Events, entries: &[EntryKind], hea
     }
 }
 
-/// The batches that entries end. The error is a failed allocation.
+/// The batches that entries end. Fails if memory runs out.
 fn push_ended(
     ended: &mut Vec<Ended>,
     events: &Events,

@@ -1,8 +1,11 @@
-//! Pictures of what requests did, as SVG: the rounds of plans, their batches and their hits; and the numbers of a history.
+//! Pictures of what requests did, as SVG: the rounds of plans, their batches and their hits; and the numbers of a
+//! history.
 //!
-//! [`history_picture`] draws what serving plans left, and [`script_picture`] what the calls of a script are answered. A picture
-//! has its numbers at its head; [`history_numbers`] and [`plan_numbers`] give those of any history. The label of a loop is its name
-//! in `proofs/`.
+//! [`history_picture`] draws what serving plans left, and [`script_picture`] draws the calls of a script with their
+//! answers. At the head of a picture are its numbers; [`history_numbers`] and [`plan_numbers`] give you those of any
+//! history.
+//!
+//! The label of a loop is its name in `proofs/`.
 #![tactic(auto)]
 
 mod batches;

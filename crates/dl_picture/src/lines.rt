@@ -6,7 +6,7 @@ use crate::sheet::Sheet;
 use dl_desk::{FetchKey, LoadReply, Outcome};
 use std::alloc::{AllocError, Global};
 
-/// What a line says beside its mark.
+/// What a line says next to its mark.
 #[derive(Clone, Copy)]
 pub(crate) enum Label<'a> {
     /// A key.
@@ -16,7 +16,7 @@ pub(crate) enum Label<'a> {
 }
 
 impl Label<'_> {
-    /// Its text. The error is that memory ran out.
+    /// Its text. Fails if memory runs out.
     pub(crate) fn text(self, alloc: Global) -> Result<String, AllocError> {
         let mut sheet = Sheet::new(alloc);
         match self {
@@ -31,7 +31,7 @@ impl Label<'_> {
     }
 }
 
-/// A line of a column: a mark, what it is of, and the batch that a fresh load's key was put into.
+/// A line of a column: a mark, what it is for, and the batch that a fresh load's key went into.
 #[derive(Clone, Copy)]
 pub(crate) struct Line<'a> {
     pub(crate) mark: Mark,
@@ -39,18 +39,18 @@ pub(crate) struct Line<'a> {
     pub(crate) batch: Option<u32>,
 }
 
-/// A batch that ended, and the mark of how it did.
+/// A batch that ended, and the mark of its end.
 #[derive(Clone, Copy)]
 pub(crate) struct Ended {
     pub(crate) batch: u32,
     pub(crate) mark: Mark,
 }
 
-/// The lines of a column. Each is made when it is drawn. They reach no history, all of which would be part of each proof that
-/// reads them.
+/// The lines of a column. Each comes into being when it is drawn. They don't reach the history, since all of it would
+/// then be part of each proof about them.
 #[derive(Clone, Copy)]
 pub(crate) enum Lines<'a> {
-    /// A line for each load, by its key and its reply, and by the marks of the cells where they are known.
+    /// A line for each load, by its key and its reply, and by the marks of the cells if they are known.
     Loads {
         cells: &'a [Mark],
         keys: &'a [FetchKey],
@@ -61,14 +61,14 @@ pub(crate) enum Lines<'a> {
         keys: &'a [FetchKey],
         mark: Mark,
     },
-    /// A line for each key of a batch that was settled, by its outcome.
+    /// A line for each key of a settled batch, by its outcome.
     Settled {
         keys: &'a [FetchKey],
         outcomes: &'a [Outcome],
     },
     /// A line for each batch that a caller ended.
     Ended(&'a [Ended]),
-    /// One line: why a call is refused.
+    /// One line: why the call was refused.
     Refused(&'static str),
 }
 
@@ -103,7 +103,7 @@ impl<'a> Line<'a> {
         }
     }
 
-    /// The line of a batch that ended, if there is one.
+    /// The line of an ended batch, if there is one.
     fn of_end(ended: Option<&Ended>) -> Option<Line<'a>> {
         let Ended { batch, mark } = ended?;
         let words = Phrase::Numbered("batch ", *batch as u64, "");

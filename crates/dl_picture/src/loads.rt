@@ -14,16 +14,16 @@ use std::alloc::AllocError;
 /// How many loads there are, and how many of them are hits.
 #[derive(Clone, Copy)]
 pub struct LoadNumbers {
-    /// The loads asked for. Without a loader each of them is a fetch of its own.
+    /// The loads that callers asked for. Without a loader, each of them is a fetch.
     pub loads: u64,
-    /// Those of a key that was held: they fetched nothing.
+    /// The loads of a key that was held: they fetched nothing.
     pub hits: u64,
 }
 
-/// The loads and hits of a caller's events, and of all events where no caller is named.
+/// The loads and hits of a caller's events, or of all events if you name no caller.
 ///
 /// # Errors
-/// `AllocError` where there are more than a number counts, which no memory holds.
+/// `AllocError` if there are more than a number can count, which no memory holds.
 pub(crate) fn load_numbers(events: &Events, caller: Option<u32>) -> Result<LoadNumbers, AllocError>
     ensures { IfOk result (AreLoadNumbers (load_replies (events_by caller events.now))) }
 {
@@ -37,7 +37,7 @@ pub(crate) fn load_numbers(events: &Events, caller: Option<u32>) -> Result<LoadN
 /// The loads of the answers, and how many of them are hits.
 ///
 /// # Errors
-/// `AllocError` where there are more than a number counts, which no memory holds.
+/// `AllocError` if there are more than a number can count, which no memory holds.
 pub(crate) fn answer_numbers(
     answers: &[Result<Reply, DeskFault>],
 ) -> Result<LoadNumbers, AllocError>
@@ -80,7 +80,7 @@ impl LoadNumbers {
         }
     }
 
-    /// The numbers with the loads of one call more, if it isn't refused.
+    /// The numbers with the loads of one call more, unless it was refused.
     fn with_answer(self, answer: &Result<Reply, DeskFault>) -> Result<LoadNumbers, AllocError>
         ensures { IfOk result (λ more. (before : List LoadReply) → AreLoadNumbers before self → AreLoadNumbers (before ++ answer_replies answer.now) more) }
     {
@@ -130,7 +130,7 @@ impl LoadNumbers {
     }
 }
 
-/// Whether the event is the caller's, where one is named.
+/// Whether the event is the caller's, or you name no caller.
 fn is_by(caller: Option<u32>, event: &Event) -> bool
     ensures { result ≡ is_by caller event.now }
 {
@@ -158,7 +158,7 @@ fn is_round(call: &Call) -> bool
     matches!(call, Call::LoadMany(_))
 }
 
-/// The sum of two counts. The error is that no number holds it.
+/// The sum of two counts. Fails if no number holds it.
 pub(crate) fn sum(count: u64, more: u64) -> Result<u64, AllocError>
     ensures { IfOk result (λ sum. sum ≡ count + more) }
 {

@@ -2,30 +2,30 @@
 
 use dl_desk::Outcome;
 
-/// What became of a key in a call, or that a batch was settled.
+/// What became of a key in a call, or that a batch is settled.
 #[derive(Clone, Copy, PartialEq, Eq)]
 pub(crate) enum Mark {
     /// Its load began a cell, and its batch gave it a value.
     Fresh,
-    /// It was held since a load.
+    /// It was held, by a load.
     Hit,
-    /// It was held since a prime, or was primed.
+    /// It was held, by a prime, or this call primed it.
     Primed,
     /// Its outcome is an error of its own.
     KeyError,
     /// Its batch failed.
     Failed,
-    /// It was cleared.
+    /// The call cleared it.
     Cleared,
     /// A prime found it held, and changed nothing.
     Kept,
-    /// Its call was refused.
+    /// The call was refused.
     Refused,
-    /// The batch was settled.
+    /// The batch is settled.
     Settled,
 }
 
-/// All marks, in the order in which they are explained.
+/// All marks, in the order in which the head explains them.
 pub(crate) static MARKS: [Mark; 9] = [
     Mark::Fresh,
     Mark::Hit,
@@ -39,8 +39,8 @@ pub(crate) static MARKS: [Mark; 9] = [
 ];
 
 impl Mark {
-    /// That of a load by the marks of cells: that of its own cell if it tells more than that the cell was given a value, and else
-    /// whether the load began the cell or found it.
+    /// The mark of a load, by the marks of cells: that of its own cell if it says more than that the cell got a value;
+    /// else whether the load began the cell or found it.
     pub(crate) fn of_load(cells: &[Mark], cell: u32, plain: Mark) -> Mark {
         match cells.get(cell as usize) {
             Some(Mark::Fresh) | None => plain,
@@ -48,7 +48,7 @@ impl Mark {
         }
     }
 
-    /// That of a cell which was begun with this mark, by the outcome that it was given.
+    /// The mark of a cell that began with this mark, by the outcome that it got.
     pub(crate) fn of_cell(self, outcome: Option<&Outcome>) -> Mark {
         match outcome {
             Some(Outcome::KeyError(_)) => Mark::KeyError,
@@ -72,7 +72,7 @@ impl Mark {
         }
     }
 
-    /// The class of its badge, by which it has its colour.
+    /// The class of its badge, which gives it its colour.
     pub(crate) fn class(self) -> &'static str {
         match self {
             Mark::Fresh => "fresh",
@@ -87,7 +87,7 @@ impl Mark {
         }
     }
 
-    /// What it says, in words.
+    /// What it means, in words.
     pub(crate) fn meaning(self) -> &'static str {
         match self {
             Mark::KeyError => "error of its key",

@@ -16,9 +16,9 @@ use std::alloc::AllocError;
 /// The numbers of a history.
 #[derive(Clone, Copy)]
 pub struct HistoryNumbers {
-    /// Of all its loads.
+    /// The numbers of all its loads.
     pub loads: LoadNumbers,
-    /// Of all its batches.
+    /// The numbers of all its batches.
     pub batches: BatchNumbers,
 }
 
@@ -27,14 +27,14 @@ pub struct HistoryNumbers {
 pub struct PlanNumbers {
     /// How many rounds it took.
     pub rounds: usize,
-    /// Of its own loads.
+    /// The numbers of its own loads.
     pub loads: LoadNumbers,
 }
 
-/// The numbers of a history.
+/// Counts the loads and batches of a history.
 ///
 /// # Errors
-/// `AllocError` where there are more than a number counts, which no memory holds.
+/// `AllocError` if there are more than a number can count, which no memory holds.
 pub fn history_numbers(history: &History) -> Result<HistoryNumbers, AllocError>
     ensures { IfOk result (AreHistoryNumbers history.now.events) }
 {
@@ -44,10 +44,10 @@ pub fn history_numbers(history: &History) -> Result<HistoryNumbers, AllocError>
     })
 }
 
-/// The numbers of a plan, by the number of its caller.
+/// Counts the rounds and loads of a plan, by the number of its caller.
 ///
 /// # Errors
-/// `AllocError` where there are more than a number counts, which no memory holds.
+/// `AllocError` if there are more than a number can count, which no memory holds.
 pub fn plan_numbers(history: &History, plan: u32) -> Result<PlanNumbers, AllocError>
     ensures { IfOk result (ArePlanNumbers history.now.events plan) }
 {
@@ -58,7 +58,7 @@ pub fn plan_numbers(history: &History, plan: u32) -> Result<PlanNumbers, AllocEr
 }
 
 impl HistoryNumbers {
-    /// How many fetches there would have been without a loader: one for each load.
+    /// How many fetches there are without a loader: one for each load.
     pub fn fetches_alone(&self) -> u64
         ensures { (events : List Event) → AreHistoryNumbers events self.now → result ≡ fetches_alone events }
     {
@@ -66,10 +66,10 @@ impl HistoryNumbers {
     }
 }
 
-/// The numbers of a script's run, whose batches need not be sent.
+/// The numbers of a script's run, which may not have sent all its batches.
 ///
 /// # Errors
-/// `AllocError` where there are more than a number counts, which no memory holds.
+/// `AllocError` if there are more than a number can count, which no memory holds.
 pub(crate) fn script_numbers(run: &ScriptRun) -> Result<HistoryNumbers, AllocError>
     ensures { IfOk result (λ numbers. (script : Script) → IsRunOf script run.now → AreScriptNumbers script numbers) }
 {

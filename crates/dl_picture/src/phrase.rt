@@ -7,14 +7,14 @@ use crate::batches::Mean;
 pub(crate) enum Phrase {
     /// Words alone.
     Words(&'static str),
-    /// Words before a number, the number, and words behind it.
+    /// Words before a number, the number, and words after it.
     Numbered(&'static str, u64, &'static str),
     /// A whole number and a fraction.
     Mean(Mean),
 }
 
 impl Phrase {
-    /// A count with its noun, for one or for several.
+    /// A count with its noun, for one or for more.
     pub(crate) fn count(count: usize, one: &'static str, several: &'static str) -> Phrase {
         let noun = if count == 1 { one } else { several };
         Phrase::Numbered("", count as u64, noun)

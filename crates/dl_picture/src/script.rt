@@ -12,9 +12,12 @@ use dl_documents::{Script, ScriptRun};
 use std::alloc::{AllocError, Global};
 use std::hash::RandomState;
 
-/// The picture of a script, as SVG: its calls in a row, each with what it is answered, and the batches under them. A column of
-/// more than 200 keys is summed up. The desk that answers the calls hashes keys by `hashing`, of which nothing is seen. The
-/// error is a failed allocation.
+/// Draws a script, as SVG: its calls in a row, each with its answer, and the batches below them. A column of more than
+/// 200 keys shows counts. `hashing` hashes the keys of the desk that answers the calls, and nothing that you see
+/// depends on it.
+///
+/// # Errors
+/// `AllocError` if memory runs out.
 pub fn script_picture(
     alloc: Global,
     hashing: RandomState,
@@ -46,7 +49,7 @@ fn add_run(drawing: &mut Drawing, calls: &[DeskCall], run: &ScriptRun, numbers: 
 
 // ---- calls
 
-/// A column for each call, which has its number, with what it is answered.
+/// A column for each call, with its number and its answer.
 fn add_calls(drawing: &mut Drawing, calls: &[DeskCall], answers: &[Result<Reply, DeskFault>]) {
     for number in 0..calls.len() {
         if let Some(call) = calls.get(number) {
@@ -75,7 +78,7 @@ fn name_of(call: &DeskCall) -> &'static str {
     }
 }
 
-/// What stands beside the name of a call: the batch that it ends, or how many it sends.
+/// What is to the right of the name of a call: the batch that it ends, or how many it sends.
 fn side_of(call: &DeskCall, answer: &Result<Reply, DeskFault>) -> Phrase {
     match call {
         DeskCall::Settle(batch) | DeskCall::Fail(batch) => {
@@ -88,7 +91,7 @@ fn side_of(call: &DeskCall, answer: &Result<Reply, DeskFault>) -> Phrase {
     }
 }
 
-/// A line for each key of a call, with what became of it, or why the call is refused.
+/// A line for each key of a call, with what became of it, or why the call was refused.
 fn call_lines<'a>(call: &'a DeskCall, answer: &'a Result<Reply, DeskFault>) -> Lines<'a> {
     let keys = keys_of(call);
     match answer {
@@ -129,7 +132,7 @@ fn keys_of(call: &DeskCall) -> &[FetchKey] {
     }
 }
 
-/// Why a call is refused, by its name.
+/// Why a call was refused, by its name.
 fn fault_name(fault: DeskFault) -> &'static str {
     match fault {
         DeskFault::NoBatch => "NoBatch",

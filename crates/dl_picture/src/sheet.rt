@@ -1,21 +1,21 @@
-//! Sheets: texts that are being written.
+//! Sheets: texts to write on.
 
 use crate::phrase::Phrase;
 use crate::xml;
 use std::alloc::{AllocError, Global};
 use std::fmt::Write;
 
-/// A text that is being written. Where memory runs out, no more than a part of what is pushed stands in it, and `finish` tells.
+/// A text to write on. If memory runs out, it has only a part of what you push, and [`finish`](Sheet::finish) fails.
 #[derive(Drop)]
 pub struct Sheet {
-    /// By which texts are made that go onto it.
+    /// Makes the texts that go onto it.
     pub alloc: Global,
     text: String,
     is_whole: bool,
 }
 
 impl Sheet {
-    /// A sheet with no text.
+    /// An empty sheet.
     pub fn new(alloc: Global) -> Sheet {
         Sheet {
             alloc,
@@ -31,19 +31,19 @@ impl Sheet {
         }
     }
 
-    /// Appends a text as it stands.
+    /// Appends a text as it is.
     pub fn push(&mut self, text: &str) {
         let pushed = self.text.push_str(text);
         self.note(pushed);
     }
 
-    /// Appends a text as it stands and then a number.
+    /// Appends a text as it is, and then a number.
     pub fn push_number(&mut self, front: &str, number: u64) {
         let pushed = write!(self.text, "{front}{number}");
         self.note(pushed);
     }
 
-    /// Appends a form, in which each `#` stands for the next of the numbers.
+    /// Appends a form, with the next of the numbers in place of each `#`.
     pub(crate) fn push_form(&mut self, form: &str, numbers: &[u64]) {
         let mut numbers = numbers.iter();
         for c in form.chars() {
@@ -82,21 +82,21 @@ impl Sheet {
         self.note(pushed);
     }
 
-    /// Appends the front of a `text` element in a class of the style, whose foot stands at x and y.
+    /// Appends the beginning of a `text` element in a class of the style, with its foot at x and y.
     pub(crate) fn begin_text(&mut self, class: &str, x: u64, y: u64) {
         self.push("<text class='");
         self.push(class);
         self.push_form("' x='#' y='#'>", &[x, y]);
     }
 
-    /// Appends a phrase as a `text` element in a class of the style, whose foot stands at x and y.
+    /// Appends a phrase as a `text` element in a class of the style, with its foot at x and y.
     pub(crate) fn push_words(&mut self, class: &str, x: u64, y: u64, words: Phrase) {
         self.begin_text(class, x, y);
         self.push_phrase(words);
         self.push("</text>");
     }
 
-    /// Appends what stands on another sheet.
+    /// Appends the text of another sheet.
     pub(crate) fn push_sheet(&mut self, other: &Sheet) {
         self.push(other.text.as_str());
         if !other.is_whole {
@@ -104,7 +104,7 @@ impl Sheet {
         }
     }
 
-    /// The text. The error is that memory ran out.
+    /// The text. Fails if memory ran out.
     pub fn finish(self) -> Result<String, AllocError> {
         let Sheet { text, is_whole, .. } = self;
         if is_whole { Ok(text) } else { Err(AllocError) }

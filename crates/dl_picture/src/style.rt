@@ -1,4 +1,4 @@
-//! How a picture looks: its colours, by light and by dark, are those that most who are colour-blind tell apart (Okabe and Ito).
+//! How a picture looks. Most people who are colour-blind can distinguish its colours, light and dark (Okabe and Ito).
 
 /// The style of every picture.
 pub(crate) static STYLE: &str = "<style>

@@ -5,8 +5,8 @@ ghost use Rattle.dl_picture.specs.Xml.{escaped, written};
 
 use std::alloc::AllocError;
 
-/// Appends a text. What marks XML up is written as a reference, and so is white space that XML would change; for a character
-/// that XML 1.0 forbids stands U+FFFD.
+/// Appends a text. It writes a reference for a character that marks XML up, and for white space that XML would change,
+/// and U+FFFD for a character that XML 1.0 forbids.
 pub(crate) fn push_text(out: &mut String, text: &str) -> Result<(), AllocError>
     ensures { OnOk result (string_bytes out.new ≡ string_bytes out.old ++ escaped text.now) }
 {

@@ -1,4 +1,4 @@
--- What a plan file answers after it was migrated.
+-- What a plan file answers before and after you migrate it.
 use Rattle.std.specs.Prelude.{◌≡◌, None}
 use Rattle.serde_json.specs.Data.{Data}
 use Rattle.dl_documents.specs.Document.{SpellsPlans}
@@ -15,13 +15,13 @@ use Rattle.dl_plans.specs.declared.settings.Options.{Options}
 abbrev pub PrimesNone : PlanFile → Type 0
 PrimesNone file = Every (λ plan. Every PrimesNoKey plan.steps.items) file.plans.items
 
--- it is a report of the file, served as the options say, and no batch failed
+-- a report of the file, served as the options say, in which no batch failed
 pub record IsUnfailedReport (options : Options) (file : PlanFile) (r : Report) : Type 0 where
   pub headline : Headline (file_service options file) file.plans.items r
   pub unfailed : NoneFailed r.history.events
 
--- A plan file of version 1 that primes no key, and the file that its tree is after migrating, have the same answers in all reports
--- in which no batch failed.
+-- A plan file of version 1 that primes no key, and the file that its tree is after migrating, have the same answers in
+-- all reports in which no batch failed.
 abbrev pub MigratedAnswersAreEqual : Type 0
 MigratedAnswersAreEqual = (d : Data) (first second : PlanFile) → SpellsPlans d first → first.table_limits ≡ None → SpellsPlans (migrated d) second
     → PrimesNone first → (options others : Options) (r s : Report) → IsUnfailedReport options first r → IsUnfailedReport others second s

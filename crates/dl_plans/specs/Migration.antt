@@ -5,8 +5,8 @@ use Rattle.dl_migration.specs.Migration.{IsOther}
 use Rattle.dl_plans.specs.declared.fault.RunError.{RunError}
 use Rattle.dl_plans.specs.declared.fault.RunError.TheVariants.{Read, Refused, Run, Write, OutOfMemory, NotVersion1}
 
--- where the error says that a document is refused, the refusal is the first that applies to it; where it says that it isn't of version
--- 1, it is a script or a plan file of version 2; nothing is served
+-- if the error says that a document is refused, the refusal is the first that applies to it; if it says that the
+-- document isn't of version 1, this is a script or a plan file of version 2; no plans are served
 abbrev pub IsNotMigrated : List ℕ → RunError → Type 0
 IsNotMigrated bytes Read = Unit {0}
 IsNotMigrated bytes (Refused fault) = IsLeast (Applies bytes) fault

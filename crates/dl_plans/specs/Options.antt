@@ -11,7 +11,7 @@ use Rattle.dl_plans.specs.declared.settings.Options.{Options}
 abbrev pub most_workers : ℕ
 most_workers = 16
 
--- `--workers N`, a number from 1 to the most, and 3 where it isn't given
+-- `--workers N`, a number from 1 to the most, or 3 if the words don't give it
 abbrev pub workers_rule : Rule
 workers_rule = record (new_rule (codes "workers")) {
   long = Some (codes "workers");
@@ -28,7 +28,7 @@ batches_rule = record (new_rule (codes "batches")) { long = Some (codes "batches
 abbrev pub picture_rule : Rule
 picture_rule = record (new_rule (codes "picture")) { long = Some (codes "picture"); value_names = 1 }
 
--- the words stand behind the program's name
+-- the words follow the program's name
 abbrev pub without_name : Shape → Shape
 without_name s = record s { no_binary_name = true }
 
@@ -36,11 +36,11 @@ without_name s = record s { no_binary_name = true }
 abbrev pub migrate_app : App
 migrate_app = new_app (codes "migrate")
 
--- what the command line has of how a document is answered
+-- the options for answering a document
 abbrev pub answering_app : App
 answering_app = with_rule (with_rule (on_top without_name (new_app (codes "plans"))) workers_rule) batches_rule
 
--- what it has beside its version
+-- the command line without its version
 abbrev pub plans_words_app : App
 plans_words_app = with_subcommand (with_rule answering_app picture_rule) migrate_app.top
 
@@ -51,7 +51,7 @@ with_version s = record s { has_version = true }
 abbrev pub plans_app : App
 plans_app = on_top with_version plans_words_app
 
--- the name of a subcommand that was used, beside what its own matches give
+-- the name of the subcommand in use, without what its own matches give
 abbrev pub name_of : Option (Text × List Row) → Option Text
 name_of = option_map (λ used. used.0)
 
@@ -66,7 +66,7 @@ pub record GivesNumber (rows : List Row) (id : Text) (n : ℕ) : Type 0 where
   pub row : one_of id rows ≡ Some text
   pub decimal : IsDecimal text n
 
--- the options that the matches give, and the subcommand that was used
+-- the options that the matches and the subcommand in use give
 pub record AreGiven (rows : List Row) (used : Option (Text × List Row)) (o : Options) : Type 0 where
   pub workers : GivesNumber rows (codes "workers") o.workers
   pub least : 1 ≤ o.workers

@@ -8,11 +8,11 @@ use Rattle.dl_desk.specs.declared.reply.LoadReply.{LoadReply}
 use Rattle.dl_desk.specs.declared.reply.LoadReply.TheVariants.{Hit, Fresh}
 use Rattle.dl_plans.specs.JsonText.{key_text}
 
--- a text and the line feed that ends it
+-- a text with the line feed that ends it
 abbrev pub text_line : List ℕ → List ℕ
 text_line text = text ++ 10 ∷ []
 
--- the line of a call that is answered with nothing
+-- the line of a call whose answer says nothing
 abbrev pub done_line : List ℕ
 done_line = text_line (codes "ok")
 
@@ -29,7 +29,7 @@ primed_line cell = text_line (codes "primed " ++ decimal cell)
 abbrev pub kept_line : List ℕ
 kept_line = text_line (codes "kept")
 
--- a key behind a space
+-- a space and a key
 abbrev pub next_key : Key → List ℕ
 next_key k = codes " " ++ key_text k
 

@@ -60,7 +60,7 @@ end_text None = []
 abbrev pub batch_line : ℕ → List Key → Option End → List ℕ
 batch_line b keys end = text_line (codes "batch " ++ decimal b ++ codes " " ++ keys_text keys ++ codes " " ++ end_text end)
 
--- the lines of so many batches of a history, from the first on
+-- the lines of this many batches of a history, from the first on
 abbrev pub batch_lines : List Atom → ℕ → List ℕ
 batch_lines history zero = []
 batch_lines history (suc n) = batch_lines history n ++ batch_line n (keys_of history n) (end_of history n)
@@ -76,7 +76,7 @@ rounds_text (rounds ∷ rest) history = text_line (codes "rounds " ++ decimal ro
 
 -- ---- reports
 
--- The text of a report: a line for each answer, in the order of plans and steps. Where batches are wanted and there is exactly one
--- plan, its rounds and all batches follow.
+-- The text of a report: a line for each answer, in the order of plans and steps. If you want batches and there is
+-- exactly one plan, its rounds and all batches follow.
 abbrev pub report_text : Report → Bool → List ℕ
 report_text r batches = answers_text 0 r.answers ++ (if batches && length r.answers == 1 then rounds_text r.rounds (atoms (past r.history.events)) else [])

@@ -1,4 +1,4 @@
--- What a run reads and writes, by what it serves, what it gives, and how it is refused.
+-- What a run reads and writes, what serves its plans, what it gives, and how it fails.
 use Rattle.std.specs.Prelude.{◌≡◌, ℕ, ◌≤◌, List, length, take, Option}
 use Rattle.std.specs.Io.KnownBytes.{Appends, Consumes}
 use Rattle.serde_json.specs.Data.{Data}
@@ -22,7 +22,7 @@ use Rattle.dl_plans.specs.declared.settings.Options.{Options}
 
 -- ---- what is read
 
--- the reader has lost bytes from the front of those that it had left, at most so many
+-- the reader has lost at most this many bytes from the front of those that it had
 pub record ReadsAtMost (most : ℕ) (old new : Option (List ℕ)) : Type 0 where
   pub lost : List ℕ
   pub few : length lost ≤ most
@@ -35,9 +35,9 @@ pub record IsDocument (bytes : List ℕ) (i : Input) : Type 0 where
   pub is_text : IsTextOf bytes tree
   pub spells : Spells tree i
 
--- ---- by what it serves
+-- ---- what serves the plans
 
--- the room of the queue between plans and workers
+-- how many jobs the queue between plans and workers holds
 abbrev pub queue_places : ℕ
 queue_places = 16
 
@@ -45,25 +45,25 @@ queue_places = 16
 abbrev pub setup_of : Options → PlanFile → Setup
 setup_of options file = record { limits = file.limits; tables = file.table_limits; workers = options.workers; queue = queue_places }
 
--- what the plans of a file are served by: its tables
+-- what serves the plans of a file: its tables answer
 abbrev pub file_service : Options → PlanFile → Service
 file_service options file = service_of (setup_of options file) (length file.plans.items) (answer_of file.tables)
 
 -- ---- what is written
 
--- the writer has gained a front of the text
+-- the writer has gained the beginning of the text
 pub record AppendsFront (old new : Option (List ℕ)) (text : List ℕ) : Type 0 where
   pub count : ℕ
   pub within : count ≤ length text
   pub written : Appends old new (take count text)
 
--- the writer has gained a text that is given for the bytes
+-- the writer has gained a text that the bytes give
 pub record Writes (IsGiven : List ℕ → List ℕ → Type 0) (old new : Option (List ℕ)) (bytes : List ℕ) : Type 0 where
   pub text : List ℕ
   pub given : IsGiven bytes text
   pub written : Appends old new text
 
--- the writer has gained a front of a text that is given for the bytes
+-- the writer has gained the beginning of a text that the bytes give
 pub record WritesFront (IsGiven : List ℕ → List ℕ → Type 0) (old new : Option (List ℕ)) (bytes : List ℕ) : Type 0 where
   pub text : List ℕ
   pub given : IsGiven bytes text
@@ -71,20 +71,20 @@ pub record WritesFront (IsGiven : List ℕ → List ℕ → Type 0) (old new : O
 
 -- ---- what it gives
 
--- The text that a document gives: that of a script, or that of a report that meets the headline for the tables, limits and
--- plans of the file.
+-- The text that a document gives: that of a script, or that of a report that has the headline for the tables, limits
+-- and plans of the file.
 abbrev pub Outputs : Options → Input → List ℕ → Type 0
 Outputs options (input.Script s) text = text ≡ script_text s
 Outputs options (input.Plans file) text = (r : Report) × Headline (file_service options file) file.plans.items r × (text ≡ report_text r options.batches)
 
--- the text is an output for the bytes: they are a document's, which gives it
+-- the text is what the bytes give: they are those of a document that gives it
 abbrev pub IsOutput : Options → List ℕ → List ℕ → Type 0
 IsOutput options bytes text = (i : Input) × IsDocument bytes i × Outputs options i text
 
 -- ---- refusals
 
--- where the error says that a document is refused, the refusal is the first that applies to it; where it says that plans aren't
--- served, they are those of the document, and `serve` refuses them so; each version is answered
+-- if the error says that a document is refused, the refusal is the first that applies to it; if it says that plans
+-- aren't served, they are those of the document, and `serve` refuses them so; both versions are answered
 abbrev pub IsRefused : Options → List ℕ → RunError → Type 0
 IsRefused options bytes Read = Unit {0}
 IsRefused options bytes (Refused fault) = IsLeast (Applies bytes) fault

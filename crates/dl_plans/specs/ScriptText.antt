@@ -1,4 +1,4 @@
--- The text that a script gives: the lines of what each of its calls is answered.
+-- The text that a script gives: for each of its calls, the lines of its answer.
 use Rattle.std.specs.Prelude.{ℕ, List, Result, Ok, Err, flat_map}
 use Rattle.dl_desk.specs.declared.event.Reply.{Reply}
 use Rattle.dl_desk.specs.declared.event.Reply.TheVariants.{Loaded, Many, Primed, Kept, Done, Sent}
@@ -16,7 +16,7 @@ reply_lines Kept = kept_line
 reply_lines Done = done_line
 reply_lines (Sent jobs) = sent_lines jobs
 
--- the lines of what a call is answered: those of its reply or of its refusal
+-- the lines of a call's answer: those of its reply or of its refusal
 abbrev pub call_lines : Result Reply DeskFault → List ℕ
 call_lines (Ok reply) = reply_lines reply
 call_lines (Err fault) = refused_line fault

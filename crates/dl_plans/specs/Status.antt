@@ -7,11 +7,11 @@ use Rattle.clap.specs.declared.error.kind.ErrorKind.TheVariants as kind
 use Rattle.dl_plans.specs.declared.fault.RunError.{RunError}
 use Rattle.dl_plans.specs.declared.fault.RunError.TheVariants.{Read, Refused, Run, Write, OutOfMemory, NotVersion1}
 
--- it answered the document, or printed the help that was asked for
+-- it answered the document, or printed the help
 abbrev pub status_ran : ℕ
 status_ran = 0
 
--- the document is refused, or isn't of the version that is asked for
+-- the document is refused, or doesn't have the version it must have
 abbrev pub status_refused : ℕ
 status_refused = 1
 

@@ -1,4 +1,4 @@
-//! Writing the lines of answers.
+//! Writes the lines of answers.
 
 ghost use Rattle.std.specs.Prelude.{◌≡◌, ◌++◌, IfOk, OnOk, codes, decimal, flat_map, string_bytes};
 ghost use Rattle.dl_plans.specs.ReplyLines.{text_line};
@@ -11,7 +11,7 @@ use dl_terms::{Answer, EvalFault};
 use std::alloc::{AllocError, Global};
 use std::fmt::Write;
 
-/// The lines of what the steps of a plan answer.
+/// Appends the lines of what the steps of a plan answer.
 pub(crate) fn push_answers(
     alloc: Global,
     out: &mut String,
@@ -26,7 +26,7 @@ pub(crate) fn push_answers(
     Ok(())
 }
 
-/// The line of what a step of a plan answers.
+/// Appends the line of what a step of a plan answers.
 fn push_answer(
     alloc: Global,
     out: &mut String,
@@ -45,7 +45,7 @@ fn push_answer(
     }
 }
 
-/// Why a term has no value, to the end of its line.
+/// Appends why a term has no value, to the end of its line.
 fn push_fault(alloc: Global, out: &mut String, fault: &EvalFault) -> Result<(), AllocError>
     ensures { OnOk result (string_bytes out.new ≡ string_bytes out.old ++ text_line (codes "fault " ++ fault_text fault.now)) }
 {

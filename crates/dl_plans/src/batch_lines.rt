@@ -1,4 +1,4 @@
-//! Writing the lines of batches.
+//! Writes the lines of batches.
 
 ghost use Rattle.std.specs.Prelude.{◌≡◌, ◌++◌, OnOk, Some, string_bytes};
 ghost use Rattle.dl_desk.specs.Events.{atoms};
@@ -10,7 +10,7 @@ use dl_history::{Batches, EndedBatch};
 use std::alloc::{AllocError, Global};
 use std::fmt::Write;
 
-/// The lines of all batches, in order. No memory holds those of more batches than a number counts.
+/// Appends the lines of all batches, in order. Fails if memory runs out, as it does before batches outnumber a `u32`.
 pub(crate) fn push_batches(
     alloc: Global,
     out: &mut String,
@@ -27,7 +27,7 @@ pub(crate) fn push_batches(
     Err(AllocError)
 }
 
-/// The line of a batch: its number, its keys, and how it ended.
+/// Appends the line of a batch: its number, its keys, and how it ended.
 fn push_batch(
     alloc: Global,
     out: &mut String,

@@ -10,11 +10,11 @@ use clap::{Arg, ArgAction, ArgMatches, Command, Error, value_parser};
 use std::alloc::{AllocError, Global};
 use std::convert::AsStr;
 
-/// The options that the words behind the program's name give: `[--workers N] [--batches] [--picture FILE] [migrate]`, with N
-/// from 1 to 16, and 3 where it is not given. Behind `migrate` stands no option.
+/// The options in the words behind the program's name: `[--workers N] [--batches] [--picture FILE] [migrate]`. N is 1
+/// to 16, and 3 if you don't give it. No option follows `migrate`.
 ///
 /// # Errors
-/// A request for help, with the help as its text, words of another form, and a failed allocation.
+/// The help, if the words ask for it; why the words are wrong, with the usage; or that memory ran out.
 pub fn options<'a, S: AsStr>(alloc: Global, words: &'a [S]) -> Result<Options, Error>
     ensures { let texts = map S.text words.entry.now in
         IfOk result (AreGiven (matches_of plans_app texts) (subcommand_of plans_app texts)) }
@@ -26,7 +26,7 @@ pub fn options<'a, S: AsStr>(alloc: Global, words: &'a [S]) -> Result<Options, E
     }
 }
 
-/// The options that the words give by the command line, if the number of workers is in range.
+/// The options that the words give by the command line, or `None` if the number of workers is out of range.
 fn read<'a, S: AsStr>(
     alloc: Global,
     command: &mut Command<'a>,
@@ -43,7 +43,7 @@ fn read<'a, S: AsStr>(
     }
 }
 
-/// The options of the matches, if the number of workers is in range.
+/// The options of the matches, or `None` if the number of workers is out of range.
 fn given(alloc: Global, matches: &ArgMatches) -> Result<Option<Options>, AllocError>
     ensures { IfOk result (λ options. IfSome options (AreGiven (rows_of (found_of matches.now)) (subcommand_rows_of matches.now))) }
 {
@@ -69,7 +69,7 @@ fn copied(alloc: Global, text: Option<&str>) -> Result<Option<String>, AllocErro
     }
 }
 
-/// The refusal of words of which one is no UTF-8, with the usage in its text.
+/// The error for words of which one isn't UTF-8, with the usage in its text.
 pub(crate) fn unreadable(alloc: Global) -> Error {
     let message = "invalid UTF-8 was detected in one or more arguments";
     match command(alloc) {
@@ -78,7 +78,7 @@ pub(crate) fn unreadable(alloc: Global) -> Error {
     }
 }
 
-/// The refusal of a number of workers that is out of range, with the usage in its text.
+/// The error for a number of workers that is out of range, with the usage in its text.
 fn out_of_range(command: &mut Command<'_>) -> Error {
     refused(command, ErrorKind::ValueValidation, "N is not 1 to 16")
 }
@@ -99,7 +99,7 @@ fn command<'a>(alloc: Global) -> Result<Command<'a>, AllocError>
     Ok(words.version("0.5.0"))
 }
 
-/// What the command line has beside its version.
+/// The command line without its version.
 fn plans_words<'a>(alloc: Global) -> Result<Command<'a>, AllocError>
     ensures { IfOk result (λ c. app_of c ≡ plans_words_app) }
 {
@@ -110,7 +110,7 @@ fn plans_words<'a>(alloc: Global) -> Result<Command<'a>, AllocError>
     answering.arg(picture(alloc))?.subcommand(migrate)
 }
 
-/// What it has of how a document is answered.
+/// The options for answering a document.
 fn answering_words<'a>(alloc: Global) -> Result<Command<'a>, AllocError>
     ensures { IfOk result (λ c. app_of c ≡ answering_app) }
 {

@@ -1,4 +1,4 @@
-//! Answering a document over a reader and a writer.
+//! Answers a document over a reader and a writer.
 
 ghost use Rattle.std.specs.Prelude.{◌≡◌, ◌≢◌, ◌⊎◌, ◌+◌, ℕ, List, IfOk, IfErr, IfSome, OnOk, string_bytes};
 ghost use Rattle.std.specs.Io.KnownBytes.{Keeps};
@@ -30,17 +30,29 @@ use std::rt::Files;
 use std::sync::Wait;
 use std::thread::Threads;
 
-/// Reads a document, and writes the text that it gives once all of it is made. At most one byte more is read than
-/// a document has. The plans of a plan file are served at once, each on a thread of its own, and as many workers as the
-/// options say fetch for them. Keys are hashed by `hashing`, of which nothing is seen. If the options name a file, the picture of
-/// what happened goes there first, as a whole or not at all.
+/// Reads a document, makes all of the text that it gives, and then writes it. It reads at most one byte more than a
+/// document may have. It serves the plans of a plan file at once, each on a thread of its own, with as many workers as
+/// the options say. If they name a file, the picture of what happened goes there first, as a whole or not at all.
+/// `hashing` hashes keys, and nothing that you see depends on it.
 ///
-/// It is for the end of a process: what was read and served is left to the system, and isn't taken apart.
+/// Call it at the end of a process: it leaves what it read and served to the system, and doesn't drop it.
 ///
 /// # Errors
-/// `Read` where the reader fails, `Refused` where what it holds is no document, `Run` where the plans of a plan file
-/// aren't served, `OutOfMemory` where an allocation failed, and `Write` where the picture's file or the writer fails. Only after
-/// `Write` something may be written: a front of the text, and nothing if it was the file.
+/// `Read` if the reader fails, `Refused` if what it has is not a document, `Run` if `serve` refuses the plans of a plan
+/// file, `OutOfMemory`, and `Write` if the picture's file or the writer fails. Only with `Write` may the writer have
+/// got something: the beginning of the text, or nothing if it was the file.
+///
+/// # Examples
+/// The program `plans` calls it, in `crates/plans`:
+///
+/// ```rust
+/// let (alloc, mut reader, mut writer) = (rt.alloc(), rt.reader(), io::writer(rt));
+/// if options.migrate {
+///     run_migrate(alloc, hashing, &mut reader, &mut writer)
+/// } else {
+///     run(rt, alloc, hashing, &mut reader, &mut writer, options)
+/// }
+/// ```
 pub fn run<R: Read, W: Write, T: Threads + Wait + Sync + Files + RandomSource>(
     rt: &T,
     alloc: Global,
@@ -62,14 +74,14 @@ pub fn run<R: Read, W: Write, T: Threads + Wait + Sync + Files + RandomSource>(
     write_all(writer, given.text.as_bytes())
 }
 
-/// What a document gives: its text, and its picture if one is wanted.
+/// What a document gives: its text, and its picture if the options ask for one.
 #[derive(Drop)]
 struct Given {
     text: String,
     picture: Option<String>,
 }
 
-/// Has the picture in its file, if one is wanted.
+/// Writes the picture to its file, if there is one.
 fn keep_picture<T: Files + RandomSource>(
     rt: &T,
     alloc: Global,
@@ -84,8 +96,8 @@ fn keep_picture<T: Files + RandomSource>(
     }
 }
 
-/// What a document gives. Its bytes are let go once they are read; what they say isn't taken apart, since the process ends, and its
-/// memory goes with it.
+/// What a document gives. This drops the bytes once it has read them. It doesn't drop what they say: the process ends,
+/// and its memory goes with it.
 fn output<T: Threads + Wait + Sync>(
     rt: &T,
     alloc: Global,
@@ -118,7 +130,7 @@ fn output<T: Threads + Wait + Sync>(
     }
 }
 
-/// What was made, unless memory ran out.
+/// The text and the picture, unless memory ran out.
 fn made(given: Result<Given, AllocError>) -> Result<Given, RunError>
     ensures ok { IfOk result (λ made. given ≡ Ok made) }
     ensures err { (options : Options) (bytes : List ℕ) → IfErr result (IsRefused options bytes) }
@@ -130,7 +142,7 @@ fn made(given: Result<Given, AllocError>) -> Result<Given, RunError>
     }
 }
 
-/// What a script gives. The error is a failed allocation.
+/// What a script gives. Fails if memory runs out.
 fn output_of_script(
     alloc: Global,
     hashing: RandomState,
@@ -147,7 +159,7 @@ fn output_of_script(
     Ok(Given { text, picture })
 }
 
-/// What a report gives. The error is a failed allocation.
+/// What a report gives. Fails if memory runs out.
 fn output_of_report(alloc: Global, report: &Report, options: &Options) -> Result<Given, AllocError>
     ensures { IfOk result (λ given. string_bytes given.text ≡ report_text report.now options.now.batches) }
 {
@@ -159,8 +171,8 @@ fn output_of_report(alloc: Global, report: &Report, options: &Options) -> Result
     Ok(Given { text, picture })
 }
 
-/// What serving the plans of a file over its tables leaves: at once, each on a thread of its own, within the limits of the file,
-/// by as many workers as the options say, over a queue of [`QUEUE_PLACES`]. The tables aren't taken apart.
+/// Serves the plans of a file over its tables, within the limits of the file, with as many workers as the options say
+/// and a queue of [`QUEUE_PLACES`]. It doesn't drop the tables.
 ///
 /// # Errors
 /// Those of [`serve`].

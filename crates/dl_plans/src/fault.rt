@@ -7,22 +7,22 @@ use thiserror::Error;
 /// How a run of the program fails.
 #[derive(Clone, Copy, Debug, PartialEq, Eq, Error)]
 pub enum RunError {
-    /// The reader failed. Nothing is written.
+    /// The reader failed. The run wrote nothing.
     #[error("failed: read")]
     Read,
-    /// What was read is no document. Nothing is written.
+    /// The reader has no document. The run wrote nothing.
     #[error("refused: {0}")]
     Refused(PlanFault),
-    /// The plans that were read aren't served. Nothing is written.
+    /// `serve` refuses the plans of the document. The run wrote nothing.
     #[error("failed: {}", name_of(.0))]
     Run(ScopeFault),
-    /// The writer failed, or took nothing. A front of the text is written.
+    /// The writer or the picture's file failed. The beginning of the text may be written.
     #[error("failed: write")]
     Write,
-    /// An allocation failed. Nothing is written.
+    /// Memory ran out. The run wrote nothing.
     #[error("failed: memory")]
     OutOfMemory,
-    /// What was read is to be migrated, and is a script or a plan file of version 2. Nothing is written.
+    /// There is nothing to migrate: a script, or a plan file of version 2. The run wrote nothing.
     #[error("refused: not version 1")]
     NotVersion1,
 }

@@ -1,4 +1,5 @@
-//! What the program is asked for, and how it ends, over a runtime. If standard error takes no line, the status says all.
+//! What a run of the program is to do, and how it ends, over a runtime. If standard error takes no line, the status
+//! says all.
 
 use crate::command::{options, unreadable};
 use crate::fault::RunError;
@@ -10,13 +11,12 @@ use std::random::RandomSource;
 use std::rt::Env;
 use std::{env, io};
 
-// ---- what is asked for
+// ---- what to do
 
-/// The options that the command line gives, and random numbers of this run, by which keys are hashed, since they come from
-/// strangers.
+/// The options of the command line, and random numbers of this run to hash keys by, since keys come from strangers.
 ///
 /// # Errors
-/// The status with which the program ends. A line on standard error says why.
+/// The status for the program to end with, once standard error says why in a line.
 pub fn asked<R: Env + RandomSource + Print + Eprint + AllocGlobal>(
     rt: &R,
 ) -> Result<(Options, RandomState), u8> {
@@ -30,7 +30,7 @@ pub fn asked<R: Env + RandomSource + Print + Eprint + AllocGlobal>(
     }
 }
 
-/// The options that the command line gives. The error is that of [`asked`].
+/// The options of the command line. Fails as [`asked`] does.
 fn given<R: Env + Print + Eprint + AllocGlobal>(rt: &R) -> Result<Options, u8> {
     match words(rt) {
         Ok(words) => given_by(rt, &words),
@@ -47,7 +47,7 @@ fn words<R: Env + AllocGlobal>(rt: &R) -> io::Result<Vec<String>> {
     Ok(words)
 }
 
-/// Says why the words can't be read: an allocation failed, or one is no UTF-8.
+/// Says why the words can't be read: memory ran out, or one isn't UTF-8.
 fn tell_unread<R: Print + Eprint + AllocGlobal>(rt: &R, error: &io::Error) {
     let _ = match error.kind() {
         io::ErrorKind::OutOfMemory => eprintln!(rt; "{}", RunError::OutOfMemory),
@@ -55,7 +55,7 @@ fn tell_unread<R: Print + Eprint + AllocGlobal>(rt: &R, error: &io::Error) {
     };
 }
 
-/// The options that words give. The error is that of [`asked`].
+/// The options that these words give. Fails as [`asked`] does.
 fn given_by<R: Print + Eprint + AllocGlobal>(rt: &R, words: &[String]) -> Result<Options, u8> {
     match options(rt.alloc(), words) {
         Ok(options) => Ok(options),
@@ -66,7 +66,7 @@ fn given_by<R: Print + Eprint + AllocGlobal>(rt: &R, words: &[String]) -> Result
     }
 }
 
-/// Says why words give no options: an allocation failed; or clap says that they are refused, or gives the help asked for.
+/// Says why the words give no options: memory ran out, or clap refuses them, or they ask for help, which it prints.
 fn tell_no_options<R: Print + Eprint>(rt: &R, error: &clap::Error) {
     let _ = match error.kind() {
         ErrorKind::OutOfMemory => eprintln!(rt; "{}", RunError::OutOfMemory),
@@ -76,7 +76,7 @@ fn tell_no_options<R: Print + Eprint>(rt: &R, error: &clap::Error) {
 
 // ---- how it ends
 
-/// The status of a run. Where it failed, a line on standard error says why.
+/// The status of a run. If the run failed, says why in a line on standard error.
 pub fn told<R: Eprint>(rt: &R, ran: &Result<(), RunError>) -> u8 {
     match ran {
         Ok(()) => RAN,

@@ -9,14 +9,14 @@ use dl_desk::FetchKey;
 use serde_json::Value;
 use std::alloc::{AllocError, Global};
 
-/// A key, the list of its two texts.
+/// A key as JSON, the list of its two texts.
 pub(crate) fn key_text(alloc: Global, key: &FetchKey) -> Result<String, AllocError>
     ensures { IfOk result (λ text. string_bytes text ≡ key_text key.now) }
 {
     key_value(alloc, key)?.to_string(alloc)
 }
 
-/// A list of keys.
+/// A list of keys as JSON.
 pub(crate) fn keys_text(alloc: Global, keys: &[FetchKey]) -> Result<String, AllocError>
     ensures { IfOk result (λ text. string_bytes text ≡ keys_text keys.now) }
 {

@@ -1,5 +1,7 @@
-//! What the program `plans` is made of: its command line, what a document gives, over a reader and a writer ([`run`]), the texts of scripts and
-//! reports, the file of a picture, migration, and the lines and statuses of failures. The label of a loop is its name in `proofs/`.
+//! The parts of the program `plans`: its command line; what a document gives, over a reader and a writer ([`run`]); the
+//! texts of scripts and reports; the file of a picture; migration; and the lines and statuses of failures.
+//!
+//! The label of a loop is its name in `proofs/`.
 #![tactic(auto)]
 
 mod answer_lines;
@@ -32,5 +34,5 @@ pub use script_text::run_script;
 pub use settings::Options;
 pub use streams::write_all;
 
-/// For how many jobs the queue between plans and workers has room, where the program serves a plan file.
+/// How many jobs the queue between plans and workers holds, if the program serves a plan file.
 pub const QUEUE_PLACES: u32 = 16;

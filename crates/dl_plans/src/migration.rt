@@ -1,4 +1,4 @@
-//! Migrating a plan file over a reader and a writer.
+//! Migrates a plan file over a reader and a writer.
 
 ghost use Rattle.std.specs.Prelude.{◌≡◌, ◌≢◌, ◌+◌, IfOk, IfErr, IfSome, OnOk, string_bytes};
 ghost use Rattle.std.specs.Io.KnownBytes.{Keeps};
@@ -14,13 +14,13 @@ use std::alloc::Global;
 use std::hash::RandomState;
 use std::io::{Read, Write};
 
-/// Reads a plan file of version 1, and writes it as [`migrate`] gives it, as version 2, once all of the text is made. It reads
-/// by [`read_all`] and writes by [`write_all`]. Tables are hashed by `hashing`, of which nothing is seen.
+/// Reads a plan file of version 1, makes all of its text as version 2, as [`migrate`] gives it, and then writes it. It
+/// reads by [`read_all`] and writes by [`write_all`]. `hashing` hashes tables, and nothing that you see depends on it.
 ///
 /// # Errors
-/// `Read` where the reader fails, `Refused` where what it holds is no document, `NotVersion1` where it is a script or a plan file
-/// of version 2, `OutOfMemory` where an allocation failed, and `Write` where the writer fails. Only after `Write` something
-/// may be written: a front of the text.
+/// `Read` if the reader fails, `Refused` if what it has is not a document, `NotVersion1` if it is a script or a plan
+/// file of version 2, `OutOfMemory`, and `Write` if the writer fails. Only with `Write` may the writer have got
+/// something: the beginning of the text.
 pub fn run_migrate<R: Read, W: Write>(
     alloc: Global,
     hashing: RandomState,

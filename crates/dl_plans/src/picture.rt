@@ -13,18 +13,17 @@ use std::io::{ErrorKind, Write};
 use std::random::RandomSource;
 use std::rt::Files;
 
-/// The picture of what serving plans left. The error is a failed allocation.
+/// The picture of what serving plans left. Fails if memory runs out.
 pub(crate) fn report_picture(alloc: Global, report: &Report) -> Result<String, AllocError> {
     let plans = report.rounds().len().min(MOST_PLANS) as u32;
     history_picture(alloc, report.history(), plans)
 }
 
-/// Writes a picture into a file, as a whole or not at all: into a new file in the same folder, which then takes the name, also that of an
-/// older file.
+/// Writes a picture to a file, as a whole or not at all: to a new file in the same folder, which then takes the name,
+/// even from an older file.
 ///
 /// # Errors
-/// `Write` if the file can't be written, or a folder, a link or a device has its name, and `OutOfMemory` if an
-/// allocation failed.
+/// `Write` if the file can't be written, or if a folder, a link or a device has its name; `OutOfMemory`.
 pub(crate) fn write_picture<R: Files + RandomSource>(
     rt: &R,
     alloc: Global,
@@ -51,7 +50,7 @@ fn is_free<R: Files>(rt: &R, file: &str) -> bool {
     }
 }
 
-/// A name in the folder of a file that nothing has: that of the file, and a random number.
+/// A name in the folder of the file that is new: the file's name, and a random number.
 fn part_name<R: RandomSource>(rt: &R, alloc: Global, file: &str) -> Result<String, RunError>
     ensures { IfErr result (λ e. (e ≡ RunError.Write) ⊎ (e ≡ RunError.OutOfMemory)) }
 {
@@ -66,7 +65,7 @@ fn part_name<R: RandomSource>(rt: &R, alloc: Global, file: &str) -> Result<Strin
     }
 }
 
-/// Writes all of a picture into the new file and gives that its name, or removes it.
+/// Writes the picture to the new file and gives that its name, or removes it.
 fn fill<R: Files>(
     rt: &R,
     mut new: R::File,
@@ -82,7 +81,7 @@ fn fill<R: Files>(
     {
         return Ok(());
     }
-    // If it can't be removed either, it stays.
+    // If this fails too, the file stays.
     let _ = fs::remove_file(rt, part);
     Err(RunError::Write)
 }

@@ -1,4 +1,4 @@
-//! Writing the lines of replies and refusals.
+//! Writes the lines of replies and refusals.
 
 ghost use Rattle.std.specs.Prelude.{◌≡◌, ◌≢◌, ◌++◌, OnOk, string_bytes};
 ghost use Rattle.dl_plans.specs.ReplyLines.{load_line, many_lines, job_line, sent_lines, refused_line};
@@ -9,7 +9,7 @@ use dl_desk::{DeskFault, Job, LoadReply, Reply};
 use std::alloc::{AllocError, Global};
 use std::fmt::Write;
 
-/// The lines of a reply.
+/// Appends the lines of a reply.
 pub(crate) fn push_reply(alloc: Global, out: &mut String, reply: &Reply) -> Result<(), AllocError>
     ensures { OnOk result (string_bytes out.new ≡ string_bytes out.old ++ reply_lines reply.now) }
 {
@@ -23,7 +23,7 @@ pub(crate) fn push_reply(alloc: Global, out: &mut String, reply: &Reply) -> Resu
     }
 }
 
-/// The line of a reply to a load.
+/// Appends the line of a reply to a load.
 fn push_load(out: &mut String, reply: LoadReply) -> Result<(), AllocError>
     ensures { OnOk result (string_bytes out.new ≡ string_bytes out.old ++ load_line reply) }
 {
@@ -33,7 +33,7 @@ fn push_load(out: &mut String, reply: LoadReply) -> Result<(), AllocError>
     }
 }
 
-/// The lines of the replies to a loadMany.
+/// Appends the lines of the replies to a loadMany.
 fn push_many(out: &mut String, replies: &[LoadReply]) -> Result<(), AllocError>
     ensures { OnOk result (string_bytes out.new ≡ string_bytes out.old ++ many_lines replies.now) }
 {
@@ -44,7 +44,7 @@ fn push_many(out: &mut String, replies: &[LoadReply]) -> Result<(), AllocError>
     Ok(())
 }
 
-/// The lines of the jobs that a dispatch sent.
+/// Appends the lines of the jobs that a dispatch sent.
 fn push_sent(alloc: Global, out: &mut String, jobs: &[Job]) -> Result<(), AllocError>
     ensures { OnOk result (string_bytes out.new ≡ string_bytes out.old ++ sent_lines jobs.now) }
 {
@@ -55,7 +55,7 @@ fn push_sent(alloc: Global, out: &mut String, jobs: &[Job]) -> Result<(), AllocE
     Ok(())
 }
 
-/// The line of a refusal. A failed allocation has none, and is the error itself.
+/// Appends the line of a refusal. For out of memory there is no line: the call fails as well.
 pub(crate) fn push_refusal(out: &mut String, fault: DeskFault) -> Result<(), AllocError>
     ensures line { OnOk result (string_bytes out.new ≡ string_bytes out.old ++ refused_line fault) }
     ensures memory { OnOk result (fault ≢ DeskFault.OutOfMemory) }
@@ -69,7 +69,7 @@ pub(crate) fn push_refusal(out: &mut String, fault: DeskFault) -> Result<(), All
     }
 }
 
-/// The line of a job: its batch and its keys.
+/// Appends the line of a job: its batch and its keys.
 fn push_job(alloc: Global, out: &mut String, job: &Job) -> Result<(), AllocError>
     ensures { OnOk result (string_bytes out.new ≡ string_bytes out.old ++ job_line job.now) }
 {

@@ -1,4 +1,4 @@
-//! The text of a report.
+//! Writes the text of a report.
 
 ghost use Rattle.std.specs.Prelude.{◌≡◌, ◌++◌, IfOk, OnOk, string_bytes};
 ghost use Rattle.dl_desk.specs.Events.{atoms};
@@ -11,8 +11,11 @@ use dl_scope::Report;
 use std::alloc::{AllocError, Global};
 use std::fmt::Write;
 
-/// The text of a report: a line for each answer, in the order of plans and steps. Where `batches` are wanted and there is
-/// exactly one plan, its rounds and all batches follow. The error is a failed allocation.
+/// The text of a report: a line for each answer, in the order of plans and steps. If you want `batches` and there is
+/// exactly one plan, its rounds and all batches follow.
+///
+/// # Errors
+/// `AllocError` if memory runs out.
 pub fn report_text(alloc: Global, report: &Report, batches: bool) -> Result<String, AllocError>
     ensures { IfOk result (λ text. string_bytes text ≡ report_text report.now batches) }
 {
@@ -26,7 +29,7 @@ pub fn report_text(alloc: Global, report: &Report, batches: bool) -> Result<Stri
     Ok(out)
 }
 
-/// The line of the rounds of the first plan, and those of all batches.
+/// Appends the line of the rounds of the first plan, and those of all batches.
 fn push_rounds(alloc: Global, out: &mut String, report: &Report) -> Result<(), AllocError>
     ensures { OnOk result (string_bytes out.new ≡ string_bytes out.old ++ rounds_text report.now.rounds (atoms (past report.now.history.events))) }
 {

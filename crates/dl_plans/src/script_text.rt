@@ -1,4 +1,4 @@
-//! The text of what a script's calls are answered.
+//! Writes what a script gives.
 
 ghost use Rattle.std.specs.Prelude.{◌≡◌, ◌++◌, IfOk, OnOk, string_bytes};
 ghost use Rattle.dl_plans.specs.ScriptText.{script_text, call_lines};
@@ -9,9 +9,11 @@ use dl_documents::Script;
 use std::alloc::{AllocError, Global};
 use std::hash::RandomState;
 
-/// The text that a script gives: one desk answers its calls in order, each by the lines of its
-/// reply or of its refusal. The desk hashes keys by `hashing`, of which nothing is seen. The error is
-/// a failed allocation.
+/// The text that a script gives: one desk answers its calls in order, each by the lines of its reply or of its refusal.
+/// `hashing` hashes the desk's keys, and nothing that you see depends on it.
+///
+/// # Errors
+/// `AllocError` if memory runs out.
 pub fn run_script(
     alloc: Global,
     hashing: RandomState,
@@ -27,7 +29,7 @@ pub fn run_script(
     Ok(out)
 }
 
-/// The lines of what a call is answered.
+/// Appends the lines for a call.
 fn push_call(
     alloc: Global,
     out: &mut String,

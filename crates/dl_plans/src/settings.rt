@@ -3,12 +3,12 @@
 /// What the command line sets.
 #[derive(Debug, Drop, PartialEq, Eq)]
 pub struct Options {
-    /// How many workers fetch for a plan file, 1 to 16.
+    /// How many workers a plan file gets: 1 to 16.
     pub workers: u32,
-    /// Whether the rounds and batches of a plan file with exactly one plan are printed.
+    /// Whether to print the rounds and batches of a plan file that has exactly one plan.
     pub batches: bool,
-    /// The file of the picture, if one is wanted.
+    /// The file of the picture, if the command line asks for one.
     pub picture: Option<String>,
-    /// Whether a plan file of version 1 is written as version 2, and not answered.
+    /// Whether to write a plan file of version 1 as version 2, and not to answer it.
     pub migrate: bool,
 }

@@ -9,21 +9,21 @@ use crate::fault::RunError;
 use clap::error::ErrorKind;
 use std::io;
 
-/// The status of a run, and of a request for help.
+/// The status of a run that succeeds, and of a request for help.
 pub(crate) const RAN: u8 = 0;
 
-/// The status of a document that is refused, or that isn't of the version that is asked for.
+/// The status for a document that is refused, or that doesn't have the version it must have.
 const REFUSED: u8 = 1;
 
-/// The status of a command line that is refused.
+/// The status for a command line that is refused.
 const USAGE: u8 = 2;
 
 /// The status of any other failure.
 pub(crate) const FAILED: u8 = 3;
 
 impl RunError {
-    /// The status with which a run that fails so ends the program: 1 where the document is refused or isn't of version 1 and
-    /// is to be migrated, and else 3.
+    /// The status that the program ends with after such a run: 1 if the document is refused, or must be of version 1 to
+    /// migrate and isn't; else 3.
     pub fn status(&self) -> u8
         ensures { result ≡ run_status self.now }
     {
@@ -34,7 +34,7 @@ impl RunError {
     }
 }
 
-/// The status of words that give no options: 0 for a request for help, 3 for a failed allocation, and else 2.
+/// The status for words that give no options: 0 if they ask for help, 3 if memory ran out, and else 2.
 pub(crate) fn command_status(error: &clap::Error) -> u8
     ensures { result ≡ command_status (kind_of error.now) }
 {
@@ -45,7 +45,7 @@ pub(crate) fn command_status(error: &clap::Error) -> u8
     }
 }
 
-/// The status of a command line that can't be read: 3 for a failed allocation, and else 2.
+/// The status for a command line that can't be read: 3 if memory ran out, and else 2.
 pub(crate) fn words_status(error: &io::Error) -> u8
     ensures { result ≡ words_status (error_kind error.now) }
 {

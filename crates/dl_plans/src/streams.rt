@@ -1,4 +1,4 @@
-//! Reading a document's bytes, and writing all of a text.
+//! Reads a document's bytes, and writes all of a text.
 
 ghost use Rattle.std.specs.Prelude.{◌≡◌, ◌⊎◌, ◌+◌, IfOk, IfErr, IfSome, OnOk, take};
 ghost use Rattle.std.specs.Io.KnownBytes.{Appends};
@@ -10,17 +10,17 @@ use dl_documents::MOST_BYTES;
 use std::alloc::Global;
 use std::io::{Read, Write};
 
-/// The most bytes that are read: one more than a document has.
+/// How many bytes to read at most: one more than a document may have.
 const MOST_READ: usize = MOST_BYTES + 1;
 
-/// How many bytes are asked for at a time.
+/// How many bytes to ask for at a time.
 const BUFFER_BYTES: usize = 4096;
 
-/// The bytes that the reader has, up to one more than a document's. A read is repeated until it
-/// gives nothing.
+/// The bytes that the reader has, at most one more than a document may have. It repeats the read until that gives
+/// nothing.
 ///
 /// # Errors
-/// `Read` at a read that fails, also an interrupted one, and `OutOfMemory` where an allocation failed.
+/// `Read` if a read fails, also if it is interrupted, and `OutOfMemory`.
 pub(crate) fn read_all<R: Read>(alloc: Global, reader: &mut R) -> Result<Vec<u8>, RunError>
     ensures bytes { IfOk result (λ v. IfSome (R.remaining reader.old) (λ bytes. v.items ≡ take (most_bytes + 1) bytes)) }
     ensures reads { ReadsAtMost (most_bytes + 1) (R.remaining reader.old) (R.remaining reader.new) }
@@ -44,8 +44,8 @@ pub(crate) fn read_all<R: Read>(alloc: Global, reader: &mut R) -> Result<Vec<u8>
 /// Writes the text and flushes.
 ///
 /// # Errors
-/// `Write` at a write that fails, also an interrupted one, or takes nothing, and at a flush that
-/// fails. What was written is then a front of the text.
+/// `Write` if a write fails, is interrupted or takes nothing, or if the flush fails. The writer may then have got the
+/// beginning of the text.
 pub fn write_all<W: Write>(writer: &mut W, text: &[u8]) -> Result<(), RunError>
     ensures ok { OnOk result (Appends (W.contents writer.old) (W.contents writer.new) text.now) }
     ensures err { IfErr result (λ e. e ≡ RunError.Write) }

@@ -25,7 +25,7 @@ evaluated (Eval term) = Some (term_view term)
 abbrev pub evaluations : Plan → List (Option Tree)
 evaluations plan = map evaluated plan.steps.items
 
--- it is a report of the plans, served by the tables in one way or another; no batch failed, and no plan primes a key
+-- a report of the plans, which some setup served by the tables; no batch failed, and no plan primes a key
 pub record RestsOnTables (tables : Tables) (plans : List Plan) (r : Report) : Type 0 where
   pub setup : Setup
   pub headline : Headline (service_of setup (length plans) (answer_of tables)) plans r

@@ -1,4 +1,4 @@
--- When plans are refused.
+-- Why plans aren't served.
 use Rattle.std.specs.Prelude.{◌≡◌, ℕ, ◌+◌, ◌<◌, ◌≤◌, ◌⊎◌, List, length, Option, Some, slice_get}
 use Rattle.dl_history.specs.Agreement.{Account}
 use Rattle.dl_history.specs.Flags.{KnownFlags}
@@ -26,18 +26,18 @@ use Rattle.dl_scope.specs.declared.setup.Setup.{Setup}
 abbrev pub most_workers : ℕ
 most_workers = 16
 
--- a number of fetch workers
+-- a number of fetch workers that you can have
 pub record AreWorkers (n : ℕ) : Type 0 where
   pub least : 1 ≤ n
   pub most : n ≤ most_workers
 
--- numbers of plans and of workers, and a setup whose queue has a capacity
+-- the setup can serve this many plans: this number, that of workers and the queue's capacity are in range
 pub record MayServe (setup : Setup) (plans : ℕ) : Type 0 where
   pub plans_are : ArePlans plans
   pub workers_are : AreWorkers setup.workers
   pub capacity : queue.IsCapacity setup.queue
 
--- the fault says no more than that the loader was stopped
+-- the fault says only that the loader was stopped
 abbrev pub IsStop : RunFault → Type 0
 IsStop fault = (fault ≡ run.Stopped) ⊎ (fault ≡ run.Call call.Stopped)
 
@@ -64,32 +64,33 @@ pub record WereStopped (faults : List (Option RunFault)) (ends : List WorkerEnd)
   pub none_own : (n : ℕ) (fault : RunFault) → Met faults n fault → IsStop fault
   pub some : AnyMet faults ⊎ AnyGaveUp ends
 
--- a fault that an evaluation of the caller may meet, whatever is known of its loader's flags
+-- a fault that an evaluation of the caller may meet, whatever it knows of its loader's flags
 abbrev pub MayMeet : Service → ℕ → RunFault → Type 0
 MayMeet service caller fault = (flags : KnownFlags) × IsRunFault service caller flags fault
 
--- so many plans and workers ended so, each plan with a fault that a caller's evaluations may meet, if with any
+-- this many plans and workers have these ends, and if a plan met a fault, then one that an evaluation of its caller may
+-- meet
 pub record AreEnds (service : Service) (plans workers : ℕ) (faults : List (Option RunFault)) (ends : List WorkerEnd) : Type 0 where
   pub each_plan : length faults ≡ plans
   pub each_worker : length ends ≡ workers
   pub may_be : (n : ℕ) (fault : RunFault) → Met faults n fault → MayMeet service n fault
 
--- there are such ends, of which this holds
+-- there are such ends, and P holds of them
 abbrev pub EndedSo : Service → ℕ → ℕ → (List (Option RunFault) → List WorkerEnd → Type 0) → Type 0
 EndedSo service plans workers P = (faults : List (Option RunFault)) × (ends : List WorkerEnd) × AreEnds service plans workers faults ends × P faults ends
 
 -- ---- refusals
 
--- a loader of the service is refused its close for this
+-- some loader of the service refuses its close for this
 abbrev pub RefusesItsClose : Service → CloseFault → Type 0
 RefusesItsClose service fault = (b : Book) × (accounts : List Account) × Keeps service b × RefusesClose service.callers b accounts fault
 
--- the batch is the least that was given up of a report with all else of the headline
+-- some report has all else of the headline, and this is the least of the batches that were given up
 abbrev pub LeastGivenUp : Service → List Plan → ℕ → Type 0
 LeastGivenUp service plans batch = (batches : List ℕ) × (r : Report) × HeadlineBut batches service plans r × IsLeastOf (Some batch) batches
 
--- The fault is the first that the plans and the setup have. Later ones come only where these have none. A plan that is
--- named is the least that met a fault of its own, and the loader was stopped only where none did.
+-- The fault is the first that the plans and the setup have. Later ones come only if these have none. A plan in a fault
+-- is the least that met a fault of its own, and `Stopped` comes only if none did.
 abbrev pub RefusedAs : Service → Setup → List Plan → ScopeFault → Type 0
 RefusedAs service setup plans NoPlans = length plans ≡ 0
 RefusedAs service setup plans TooManyPlans = most_plans < length plans

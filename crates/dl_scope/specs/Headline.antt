@@ -26,7 +26,7 @@ Ends b (Clear k) = ⊥
 Ends b ClearAll = ⊥
 Ends b Dispatch = ⊥
 
--- the entry is one of a call that ends a batch
+-- the entry is of a call that ends a batch
 abbrev pub TellsEnd : Entry → Type 0
 TellsEnd (Called t) = (b : ℕ) × Ends b t.event.call
 TellsEnd (Saw r) = ⊥
@@ -35,21 +35,22 @@ TellsEnd (Saw r) = ⊥
 abbrev pub EndOnce : List Event → Type 0
 EndOnce events = (b j k : ℕ) (e f : Event) → slice_get events j ≡ Some e → slice_get events k ≡ Some f → Ends b e.call → Ends b f.call → j ≡ k
 
--- how many of the events are calls of the callers from a number on
+-- how many of the events are calls of the callers from number n on
 abbrev pub calls_after : ℕ → List Event → ℕ
 calls_after n events = count_by (λ e. nat_le n e.caller) events
 
--- Whatever the schedule, workers and batch limit, a report holds one history in which every load, loadMany, prime and clear
--- has the reply of a DataLoader of one thread at its point, each caller's calls stand once in its order, every outcome that was
--- read is the one that the history gives its load, and every batch is answered once by the source, but for these, which were
--- given up. In the headline there are none of them.
+-- Whatever the schedule, workers and batch limit, a report holds one history. In it every load, loadMany, prime and
+-- clear has the reply of a single-threaded DataLoader at its point; each caller's calls are there once, in its order;
+-- every outcome that a caller read is the one that the history gives its load; and the source answers every batch once,
+-- except for these, which were given up. The headline has none of them.
 pub record HeadlineBut (batches : List ℕ) (service : Service) (plans : List Plan) (r : Report) : Type 0 where
-  -- each event has the reply of a data loader of one thread after those before it, and each end of a batch is lawful
+  -- each event has the reply of a single-threaded data loader after those before it, and each end of a batch is lawful
   pub legal : IsLegal service r.history.events
   -- each caller has exactly one account, and nobody else has one
   pub count : length r.history.accounts ≡ service.callers
   pub each : HasEach service.callers r.history.accounts
-  -- a caller's calls stand once in its order, after what it had read before; each outcome read is the one of the history
+  -- a caller's calls are there once, in its order, after what it had read before; each outcome it read is the one of
+  -- the history
   pub agree : Every (Agrees r.history.events) r.history.accounts
   -- each plan's caller made the calls of its steps and no others, and the report has their answers and rounds
   pub answers_each : length r.answers ≡ length plans
@@ -59,13 +60,13 @@ pub record HeadlineBut (batches : List ℕ) (service : Service) (plans : List Pl
       → Follows n plan.steps.items (entries_of n r.history.accounts) answers rounds
   -- each worker ended batches, and did nothing else
   pub work : (n : ℕ) → length plans ≤ n → n < service.callers → Every TellsEnd (entries_of n r.history.accounts)
-  -- every batch has exactly one end, by what the source answers to its keys where it wasn't given up
+  -- every batch has exactly one end: what the source answers to its keys, unless it was given up
   pub ended : AllEnded r.history.events
   pub once : EndOnce r.history.events
   pub fetched : given_up r.history.events ≡ batches
-  -- the jobs that were sent are those that dispatches handed out, but for those whose batches failed as unsent
+  -- as many jobs were sent as dispatches handed out, less those whose batches failed as unsent
   pub sent : r.tally.sent + length (unsent r.history.events) ≡ length (dispatched r.history.events)
-  -- the jobs that were taken are those whose batches the workers ended, and the others were left
+  -- as many jobs were taken as the workers ended batches, and the others were left
   pub taken : r.tally.taken ≡ calls_after (length plans) r.history.events
   pub counted : r.tally.sent ≡ r.tally.taken + r.tally.left
 

@@ -1,4 +1,5 @@
--- What terms answer by the tables alone, which is the same for every number of workers, every limit, and whatever plans stand beside.
+-- What terms answer by the tables alone: the same for every number of workers, for all limits, and whatever other plans
+-- are served.
 use Rattle.std.specs.Prelude.{◌≡◌, ℕ, List, length, map, Some, slice_get}
 use Rattle.dl_values.specs.Key.{Key}
 use Rattle.dl_values.specs.declared.outcome.BatchAnswer.TheVariants as answered
@@ -24,7 +25,7 @@ use Rattle.dl_terms.specs.declared.plan.Step.{Step}
 use Rattle.dl_terms.specs.declared.plan.Step.TheVariants.{Prime, Clear, ClearAll, Eval}
 use Rattle.dl_haxl.specs.declared.step_answers.StepAnswer.{StepAnswer}
 
--- what each answer of the source has for a key, whatever keys were asked with it
+-- if the source answers, it gives each key the key's own outcome, whatever other keys it gets with it
 abbrev pub AnswersOwn : Service → (Key → Outcome) → Type 0
 AnswersOwn service own = (keys : List Key) (outcomes : List Outcome) → service.answer keys ≡ answered.Each outcomes → outcomes ≡ map own keys
 
@@ -62,11 +63,11 @@ NoneFailed events = Every (λ (e : Event). IsNoFail e.call) events
 abbrev pub AreOwn : (Key → Outcome) → Pairs → Type 0
 AreOwn own pairs = Every (λ p. p.1 ≡ own p.0) pairs
 
--- the term gives the answer where keys have their own outcomes
+-- the term gives the answer if the keys have their own outcomes
 abbrev pub IsOwn : (Key → Outcome) → Tree → Answer → Type 0
 IsOwn own t a = (pairs : Pairs) × AreOwn own pairs × gives t pairs a
 
--- a key's own outcome in the tables: its row, its error, or why nothing is listed
+-- a key's own outcome in the tables: its row, its error, or why they list nothing
 abbrev pub listed : Tables → Key → Outcome
 listed tables k = outcome_of (found tables k)
 
@@ -82,7 +83,7 @@ abbrev pub AnswersByTables : Tables → Plan → StepAnswer → Type 0
 AnswersByTables tables plan given = (term : Term) × (slice_get plan.steps.items given.step ≡ Some (Eval term))
     × IsOwn (listed tables) (term_view term) given.answer
 
--- Where no batch failed and no plan primes a key, each answer of a report is what its term gives by the tables alone.
+-- If no batch failed and no plan primes a key, each answer of a report is what its term gives by the tables alone.
 abbrev pub AnswersAreOwn : Type 0
 AnswersAreOwn = (tables : Tables) (setup : Setup) (plans : List Plan) (r : Report)
     → Headline (service_of setup (length plans) (answer_of tables)) plans r → NoneFailed r.history.events

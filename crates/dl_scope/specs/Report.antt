@@ -4,7 +4,8 @@ use Rattle.dl_history.specs.ClosedHistory.{History}
 use Rattle.dl_queue.specs.declared.queue.Tally.{Tally}
 use Rattle.dl_haxl.specs.declared.step_answers.StepAnswer.{StepAnswer}
 
--- for each plan the answers of its terms and the number of its rounds, and of all plans the history and the tally of the jobs
+-- for each plan the answers of its terms and the number of its rounds, and for all plans the history and the tally of
+-- the jobs
 pub record Report : Type 0 where
   pub answers : List (List StepAnswer)
   pub rounds : List ℕ

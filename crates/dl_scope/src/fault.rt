@@ -9,38 +9,38 @@ use dl_workers::QueueFault;
 use std::alloc::AllocError;
 use thiserror::Error;
 
-/// Why [`serve`](crate::serve) gives no report, the first cause that applies. `OutOfMemory` has no place in that order: it
-/// comes wherever an allocation failed or a thread was refused.
+/// Why [`serve`](crate::serve) gives no report: the first cause that applies, in this order. `OutOfMemory` has no place
+/// in the order: it comes wherever memory runs out or the system refuses a thread.
 #[derive(Clone, Copy, Debug, PartialEq, Eq, Error)]
 pub enum ScopeFault {
     /// There is no plan.
-    #[error("there is no plan")]
+    #[error("there is no plan: serve 1 to 16")]
     NoPlans,
     /// There are more than [`MOST_PLANS`](dl_terms::MOST_PLANS) plans.
-    #[error("there are too many plans")]
+    #[error("there are more than 16 plans")]
     TooManyPlans,
     /// The number of workers isn't 1 to [`MOST_WORKERS`](crate::MOST_WORKERS).
-    #[error("the number of workers is out of range")]
+    #[error("the number of workers must be 1 to 16")]
     BadWorkers,
-    /// The loader can't be started.
+    /// Memory ran out at the start of the loader.
     #[error("{0}")]
     Start(StartFault),
-    /// The queue can't be made.
+    /// The capacity of the queue isn't 1 to 1,024, or memory ran out for the queue.
     #[error("{0}")]
     Queue(QueueFault),
-    /// A plan met a fault, other than that the loader was stopped. It is the first plan that did.
+    /// This plan is the first that met a fault other than that the loader was stopped.
     #[error("plan {plan}: {fault}")]
     Run { plan: u32, fault: RunFault },
-    /// A plan or a worker stopped the loader, since a cell refused its outcome or a batch couldn't be ended.
+    /// No plan met such a fault, but one found the loader stopped, or a worker stopped it.
     #[error("the loader is stopped")]
     Stopped,
-    /// The loader can't be closed.
+    /// The loader refused its close.
     #[error("{0}")]
     Close(CloseFault),
-    /// A batch failed without an answer of the source. It is the least such batch.
+    /// This batch is the least that failed without an answer of the source.
     #[error("batch {batch} was not fetched")]
     Unfetched { batch: u32 },
-    /// An allocation failed, or a thread was refused.
+    /// Memory ran out, or the system refused a thread.
     #[error("out of memory")]
     OutOfMemory,
 }

@@ -1,10 +1,11 @@
-//! Plans that are served at once, by one shared loader and fetch workers.
+//! Serves plans at once, by one shared loader and fetch workers.
 //!
-//! [`serve`] starts a thread for each plan and for each worker. Each plan takes its steps in order; the keys that its terms
-//! wait for are loaded by the shared loader, and the workers fetch the batches. The [`Report`] has the answers and the
-//! history, and its contract says what they are evidence of, whatever the schedule was.
+//! [`serve`] starts a thread for each plan and for each worker. Each plan takes its steps in order. The shared loader
+//! loads the keys that its terms wait for, and the workers fetch the batches. You get a [`Report`] of the answers and
+//! the history, and the contract of `serve` says what they are evidence of, whatever the schedule was.
 //!
-//! A report's `drop` is written out, since other crates own reports: it is proved once, and called wherever one is let go.
+//! The `drop` of a report is written out, since other crates own reports: so it has one proof, for each place that
+//! drops one.
 #![tactic(auto)]
 
 mod fault;

@@ -8,8 +8,20 @@ use dl_loader::History;
 use dl_workers::Tally;
 use std::marker::Model;
 
-/// What serving plans leaves: the answers of their terms, how many rounds of loads they took, the history that all loads,
-/// ends and reads are told by, and what went through the queue. It names no loader.
+/// What [`serve`](crate::serve) leaves: the answers of the plans' terms, how many rounds of loads they took, the
+/// history, which has every load, every end of a batch and every read, and the tally of the queue. The loader is closed
+/// by then, and the type of a report doesn't name it.
+///
+/// # Examples
+/// Prints what each request answers, from `crates/example_two_requests`:
+///
+/// ```rust
+/// for (request, answers) in report.answers().iter().enumerate() {
+///     for given in answers {
+///         println!(rt; "{request} {:?}", given.answer)?;
+///     }
+/// }
+/// ```
 pub struct Report {
     answers: Vec<Vec<StepAnswer>>,
     rounds: Vec<u64>,
@@ -46,7 +58,6 @@ impl Model for Report {
 }
 
 impl Report {
-    /// A report of these, which [`serve`](crate::serve) makes last.
     pub(crate) fn of(
         answers: Vec<Vec<StepAnswer>>,
         rounds: Vec<u64>,
@@ -77,15 +88,15 @@ impl Report {
         self.rounds.as_slice()
     }
 
-    /// The history of the loader. Plan n is its caller n, and the workers are the callers after the plans. It takes no
-    /// memory.
+    /// The history of the loader. Plan n is its caller n, and the workers are the callers after the plans. The call
+    /// takes no memory.
     pub fn history(&self) -> &History
         ensures { result.now ≡ self.now.history }
     {
         &self.history
     }
 
-    /// How many jobs were sent, taken and left.
+    /// How many jobs the plans sent, how many the workers took, and how many nobody took.
     pub fn tally(&self) -> Tally
         ensures { result ≡ self.now.tally }
     {

@@ -1,4 +1,4 @@
-//! Whether each plan took its steps and each worker worked to the end, and which fault is told where not.
+//! Whether each plan took its steps and each worker worked to the end, and the fault if not.
 
 ghost use Rattle.std.specs.Prelude.{◌≡◌, ◌≤◌, ◌⊎◌, All, Err, IfErr, IfOk, MatchBool, MatchOption, OnOk, length, map};
 ghost use Rattle.dl_terms.specs.Plans.{most_plans};
@@ -15,10 +15,10 @@ use dl_loader::{CallFault, LoaderName};
 use dl_workers::WorkerEnd;
 use std::alloc::Global;
 
-/// Puts together what the threads gave back, where each plan took its steps and each worker worked to the end.
+/// Puts together what the threads gave back, if each plan took its steps and each worker worked to the end.
 ///
 /// # Errors
-/// Those of `check`; else `OutOfMemory`.
+/// Those of [`check`]; else `OutOfMemory`.
 pub(crate) fn results_of<L: LoaderName>(
     alloc: Global,
     runs: Runs<L>,
@@ -36,11 +36,11 @@ pub(crate) fn results_of<L: LoaderName>(
     Ok(all)
 }
 
-/// Looks whether each plan took its steps and each worker worked to the end.
+/// Checks that each plan took its steps and each worker worked to the end.
 ///
 /// # Errors
-/// `Run` for the first plan that met a fault, other than that the loader was stopped; `Stopped` where no plan met such a
-/// fault, and a plan or a worker found or made the loader stopped.
+/// `Run` for the first plan that met a fault other than that the loader was stopped. `Stopped` if no plan met such a
+/// fault, but one found the loader stopped, or a worker gave up.
 fn check<L: LoaderName>(plans: &[PlanRun<L>], workers: &[WorkerRun<L>]) -> Result<(), ScopeFault>
     requires few { length plans.now ≤ most_plans }
     ensures taken { OnOk result (All WasTaken plans.now) }

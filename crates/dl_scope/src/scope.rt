@@ -1,4 +1,4 @@
-//! Serving plans.
+//! Serves plans.
 
 ghost use Rattle.std.specs.Prelude.{◌≡◌, ◌+◌, [], ℕ, List, IfErr, IfOk, OnOk, Some, length, map};
 ghost use Rattle.dl_desk.specs.Service.{Answers, Service};
@@ -36,14 +36,15 @@ use std::marker::Brand;
 use std::sync::Wait;
 use std::thread::Threads;
 
-/// The most fetch workers.
+/// The most fetch workers that you can have.
 pub const MOST_WORKERS: u32 = 16;
 
-/// Serves plans at once, by one shared loader over the source: a thread for each plan, and so many fetch workers. Plan n is
-/// caller n of the loader, and the workers are the callers after the plans. The gate is told of each step of a worker. Keys
-/// are hashed by `hashing`, of which nothing is seen.
+/// Serves plans at once, over one source and by one shared loader: a thread for each plan, and as many fetch workers as
+/// the setup says. You hand in a finished list of plans, at most [`MOST_PLANS`], and get the report once all threads
+/// have ended. Plan n is caller n of the loader, and the workers are the callers after the plans. The gate hears of
+/// each step of a worker. `hashing` hashes keys, and nothing that you see depends on it.
 ///
-/// A plan that meets a fault stops the loader, and so does a worker that can't end a batch; the others end then too.
+/// A plan that meets a fault stops the loader, and so does a worker that can't end a batch. Then the others end too.
 ///
 /// # Errors
 /// The first cause of [`ScopeFault`] that applies, in its order.
@@ -87,7 +88,7 @@ pub fn serve<S: Source + Sync, G: Gate + Sync, R: Threads + Wait + Sync>(
     serve_at::<Brand, S, G, R>(rt, &resources, &setup, opening, plans)
 }
 
-/// How many callers so many plans and workers are.
+/// How many callers the plans and the workers are together.
 ///
 /// # Errors
 /// `NoPlans`, `TooManyPlans` or `BadWorkers`, the first that applies.
@@ -110,7 +111,7 @@ fn callers_of(plans: usize, workers: u32) -> Result<u32, ScopeFault>
     Ok(plans as u32 + workers)
 }
 
-/// The opening of a loader by the limits of the setup.
+/// What opens a loader over the source, by the limits of the setup.
 fn opening<'s, S: Source>(
     alloc: Global,
     hashing: RandomState,
@@ -132,7 +133,7 @@ fn opening<'s, S: Source>(
     }
 }
 
-/// Serves plans by the loader of an opening, which `L` stands for.
+/// Serves plans by the loader of an opening. `L` names this loader.
 fn serve_at<
     L: LoaderName + Send + Sync,
     S: Source + Sync,
@@ -168,7 +169,7 @@ fn serve_at<
     }
 }
 
-/// The report, where each batch was answered by the source.
+/// The report, if the source answered each batch. Else the least batch that it didn't answer.
 fn report(
     answers: Vec<Vec<StepAnswer>>,
     rounds: Vec<u64>,
@@ -185,7 +186,7 @@ fn report(
     Ok(Report::of(answers, rounds, history, tally))
 }
 
-/// Serves plans by a loader with these passes, which are new.
+/// Serves plans by a loader whose passes are all new.
 fn serve_by<
     L: LoaderName + Send + Sync,
     S: Source + Sync,

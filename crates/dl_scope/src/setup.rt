@@ -1,16 +1,17 @@
-//! How plans are served.
+//! How to serve plans.
 
 use dl_desk::{Limits, TableLimits};
 
-/// How plans are served.
+/// How [`serve`](crate::serve) serves plans.
 #[derive(Drop)]
 pub struct Setup {
     /// The limits of the loader.
     pub limits: Limits,
-    /// The tables' own limits, where each batch is of one table. Without them batches may mix tables.
+    /// If you give these, each batch has keys of one table, and a table may have a limit of its own. Else batches may
+    /// mix tables.
     pub tables: Option<TableLimits>,
-    /// The number of fetch workers: 1 to [`MOST_WORKERS`](crate::MOST_WORKERS).
+    /// How many fetch workers there are: 1 to [`MOST_WORKERS`](crate::MOST_WORKERS).
     pub workers: u32,
-    /// For how many jobs the queue between plans and workers has room: 1 to 1,024.
+    /// How many jobs the queue between plans and workers holds: 1 to 1,024.
     pub queue: u32,
 }

@@ -1,8 +1,8 @@
 //! The threads of a server: one for each worker and each plan, all at once.
 //!
-//! [`deal`](task_lists::deal) deals passes and seats out to the threads, a [`PlanTask`] or a [`WorkerTask`] for each. A thread gives back
-//! a [`PlanRun`] or a [`WorkerRun`](runs::WorkerRun), and [`ThreadResults`](thread_results::ThreadResults) puts these together, whose
-//! seats end the queue.
+//! [`deal`](task_lists::deal) deals passes and seats out to the threads: a [`PlanTask`] or a [`WorkerTask`] for each. A
+//! thread gives back a [`PlanRun`] or a [`WorkerRun`](runs::WorkerRun).
+//! [`ThreadResults`](thread_results::ThreadResults) puts these together, and ends the queue by their seats.
 
 ghost use Rattle.std.specs.Prelude.{◌≡◌, [], All, IfOk};
 ghost use Rattle.std.specs.List.{AllZip};
@@ -31,11 +31,11 @@ use std::sync::Wait;
 use std::thread;
 use std::thread::{Scope, Threads};
 
-/// Runs each worker and each plan on a thread of its own, all at once, and joins them. The queue is shut by the server's
-/// own sender once the plans have ended or a thread was refused, so no worker is left waiting.
+/// Runs each worker and each plan on a thread of its own, all at once, and joins them. The server's own sender shuts
+/// the queue once the plans have ended or the system refuses a thread, so no worker is left waiting.
 ///
 /// # Errors
-/// An allocation failed, or a thread was refused. Each thread that was started has ended.
+/// `AllocError` if memory runs out or the system refuses a thread. Each thread that started has ended by then.
 pub(crate) fn run_all<
     L: LoaderName + Send + Sync,
     S: Source + Sync,
@@ -104,7 +104,7 @@ fn run_workers<
     with_worker(rest, child.join(rt))
 }
 
-/// Shuts the queue where a thread was refused.
+/// Shuts the queue, since the system refused a thread.
 fn refused(rt: &impl Wait, queue: &JobQueue, mut own: Sender) -> AllocError
     requires own { IsSenderOf queue.now own }
 {
@@ -112,7 +112,7 @@ fn refused(rt: &impl Wait, queue: &JobQueue, mut own: Sender) -> AllocError
     AllocError
 }
 
-/// Runs the plans, where each worker was started, and shuts the queue.
+/// Runs the plans, once each worker has started, and shuts the queue.
 fn run_plans_alone<
     's,
     E,

@@ -1,4 +1,4 @@
-//! The program `plans`: it answers the document that stands on standard input. All that it is made of is `dl_plans`.
+//! The program `plans`: it answers the document on standard input. Its parts are in `dl_plans`.
 #![tactic(auto)]
 
 use dl_plans::{Options, RunError, asked, run, run_migrate, told};
@@ -18,7 +18,7 @@ fn main(rt: HostRuntime) -> ExitCode {
     ExitCode::from(status)
 }
 
-/// Writes what the options ask for to standard output: the document that stands on standard input as version 2, or what it gives.
+/// Writes what the options ask for to standard output: the document on standard input as version 2, or what it gives.
 fn written<R: Input + Print + AllocGlobal + Threads + Wait + Sync + Files + RandomSource>(
     rt: &R,
     hashing: RandomState,

@@ -14,7 +14,7 @@ use std::snapshot::Snapshot;
 use std::sync::Wait;
 use std::thread::{Promise, PromisedHandle, Scope};
 
-/// Takes the steps of a plan. Where one meets a fault, the loader is stopped.
+/// Takes the steps of a plan. If one meets a fault, stops the loader.
 fn run_plan<L: LoaderName, S, G, R: Wait>(
     rt: &R,
     server: &Server<'_, L, S, G>,
@@ -51,7 +51,7 @@ fn run_plan<L: LoaderName, S, G, R: Wait>(
     }
 }
 
-/// What is known of what a plan's thread gives back.
+/// What the server knows of what a plan's thread gives back.
 #[derive(Drop)]
 pub(crate) struct PlanPromise<'a, L: LoaderName> {
     pub(crate) queue: &'a JobQueue,
@@ -62,7 +62,7 @@ impl<'a, L: LoaderName> Promise<PlanRun<L>> for PlanPromise<'a, L> {
     ghost kept_by = { λ p r. IsPlanRun p.queue.now L.service p.task.value r };
 }
 
-/// Starts the thread of a plan. The answer is `None` where the thread was refused.
+/// Starts the thread of a plan. Returns `None` if the system refuses the thread.
 pub(crate) fn start_plan<
     's,
     E,

@@ -21,7 +21,7 @@ pub(crate) struct PlanRun<L: LoaderName> {
 }
 
 impl<L: LoaderName> PlanRun<L> {
-    /// Adds what the thread of a plan gave back.
+    /// Adds this to what the other threads gave back.
     pub(crate) fn add_to(self, all: &mut ThreadResults<L>) -> Result<(), AllocError>
         requires taken { WasTaken self }
         ensures passes { OnOk result (all.new.passes.items ≡ all.old.passes.items ++ self.pass ∷ []) }
@@ -56,7 +56,7 @@ pub(crate) struct WorkerRun<L: LoaderName> {
 }
 
 impl<L: LoaderName> WorkerRun<L> {
-    /// Adds what the thread of a worker gave back.
+    /// Adds this to what the other threads gave back.
     pub(crate) fn add_to(self, all: &mut ThreadResults<L>) -> Result<(), AllocError>
         ensures passes { OnOk result (all.new.passes.items ≡ all.old.passes.items ++ self.pass ∷ []) }
         ensures senders { OnOk result (all.new.senders.items ≡ all.old.senders.items) }
@@ -89,7 +89,7 @@ pub(crate) struct Runs<L: LoaderName> {
 /// Adds what a worker gave back to what the others did.
 ///
 /// # Errors
-/// That of the others; else a failed allocation.
+/// That of the others, or `AllocError` if memory runs out.
 pub(crate) fn with_worker<L: LoaderName>(
     rest: Result<Runs<L>, AllocError>,
     run: WorkerRun<L>,
@@ -106,7 +106,7 @@ pub(crate) fn with_worker<L: LoaderName>(
 /// Adds what a plan's thread gave back to what the others did.
 ///
 /// # Errors
-/// That of the others; else a failed allocation.
+/// That of the others, or `AllocError` if memory runs out.
 pub(crate) fn with_plan<L: LoaderName>(
     rest: Result<Vec<PlanRun<L>>, AllocError>,
     run: PlanRun<L>,

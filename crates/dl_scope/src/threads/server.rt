@@ -5,26 +5,24 @@ use dl_workers::JobQueue;
 use std::alloc::Global;
 use std::hash::RandomState;
 
-/// What plans are served with.
+/// What it takes to serve plans.
 #[derive(Drop)]
 pub(crate) struct Resources<'a, S, G> {
-    /// From where memory is taken.
     pub(crate) alloc: Global,
-    /// By what keys are hashed.
+    /// Hashes keys.
     pub(crate) hashing: RandomState,
-    /// From what workers fetch.
+    /// Answers what workers fetch.
     pub(crate) source: &'a S,
-    /// What is told of each step of a worker.
+    /// Hears of each step of a worker.
     pub(crate) gate: &'a G,
 }
 
 /// What the threads of a server share.
 #[derive(Drop)]
 pub(crate) struct Server<'a, L: LoaderName, S, G> {
-    /// What the plans are served with.
     pub(crate) resources: &'a Resources<'a, S, G>,
-    /// The loader, of which each thread has a pass.
+    /// The loader. Each thread has a pass of it.
     pub(crate) loader: &'a Loader<L>,
-    /// The queue, at which each thread has a seat.
+    /// The queue. Each thread has a seat at it.
     pub(crate) queue: &'a JobQueue,
 }

@@ -1,4 +1,4 @@
-//! How passes and seats are dealt out to threads.
+//! Deals out passes and seats to threads.
 
 ghost use Rattle.std.specs.Prelude.{◌≡◌, ◌≤◌, ◌+◌, ◌++◌, [], All, IfOk, length, map};
 ghost use Rattle.dl_queue.specs.Seats.{AreSeatsOf, sent_jobs, taken_jobs};
@@ -11,7 +11,7 @@ use dl_terms::Plan;
 use dl_workers::{Sender, Taker};
 use std::alloc::{AllocError, Global};
 
-/// What all threads are given, in the order of their callers, and the server's own sender.
+/// What all threads get, in the order of their callers, and the server's own sender.
 #[derive(Drop)]
 pub(crate) struct Tasks<L: LoaderName> {
     /// Those of the plans.
@@ -22,7 +22,7 @@ pub(crate) struct Tasks<L: LoaderName> {
     pub(crate) own: Sender,
 }
 
-/// Deals out these passes and seats, of which one sender is the server's own. The error is a failed allocation.
+/// Deals out these passes and seats. One sender stays the server's own. Fails if memory runs out.
 pub(crate) fn deal<L: LoaderName, S, G>(
     server: &Server<'_, L, S, G>,
     mut passes: Vec<Pass<L>>,
@@ -50,7 +50,7 @@ pub(crate) fn deal<L: LoaderName, S, G>(
     })
 }
 
-/// For each plan, in order, its pass and its sender. The error is a failed allocation.
+/// For each plan, in order, its pass and its sender. Fails if memory runs out.
 fn plan_tasks<L: LoaderName>(
     alloc: Global,
     mut passes: Vec<Pass<L>>,
@@ -77,7 +77,7 @@ fn plan_tasks<L: LoaderName>(
     Ok(tasks)
 }
 
-/// For each worker, in order, its pass and its taker; the passes of the workers stand last. The error is a failed allocation.
+/// For each worker, in order, its pass and its taker. The passes of the workers come last. Fails if memory runs out.
 fn worker_tasks<L: LoaderName>(
     alloc: Global,
     passes: &mut Vec<Pass<L>>,

@@ -1,4 +1,4 @@
-//! What each thread of a server is given, and what that of a worker does with it.
+//! What each thread of a server gets, and what a worker's thread does with it.
 
 ghost use Rattle.dl_desk.specs.Service.{Answers};
 ghost use Rattle.dl_queue.specs.Seats.{IsTakerOf};
@@ -12,18 +12,18 @@ use dl_terms::Plan;
 use dl_workers::{Gate, Sender, Taker, work};
 use std::sync::Wait;
 
-/// What a plan's thread is given.
+/// What a plan's thread gets.
 #[derive(Drop)]
 pub(crate) struct PlanTask<L: LoaderName> {
     /// The pass of the plan's caller.
     pub(crate) pass: Pass<L>,
     /// Its seat at the queue.
     pub(crate) sender: Sender,
-    /// The plan, whose steps the thread takes.
+    /// The plan. The thread takes its steps.
     pub(crate) plan: Plan,
 }
 
-/// What a worker's thread is given.
+/// What a worker's thread gets.
 #[derive(Drop)]
 pub(crate) struct WorkerTask<L: LoaderName> {
     /// The pass of the worker's caller.

@@ -1,4 +1,4 @@
-//! How what the threads give back is put together.
+//! Puts together what the threads give back.
 
 ghost use Rattle.std.specs.Prelude.{◌≡◌, ◌+◌, ◌++◌, [], All, IfOk, OnOk, map};
 ghost use Rattle.dl_queue.specs.Balance.{Balances};
@@ -12,7 +12,7 @@ use dl_workers::{JobQueue, Sender, Taker, Tally};
 use std::alloc::{AllocError, Global};
 use std::sync::Wait;
 
-/// What the threads gave back: passes in the order of their callers, seats, and for each plan what its steps gave.
+/// What the threads gave back: passes in the order of their callers, seats, and what the steps of each plan gave.
 #[derive(Drop)]
 pub(crate) struct ThreadResults<L: LoaderName> {
     /// The passes, those of the plans first.
@@ -41,7 +41,7 @@ pub(crate) struct ServedPlans<L: LoaderName> {
 }
 
 impl<L: LoaderName> ThreadResults<L> {
-    /// Puts together what all threads gave back, where each plan took its steps. The error is a failed allocation.
+    /// Puts together what all threads gave back, if each plan took its steps. Fails if memory runs out.
     pub(crate) fn of(alloc: Global, runs: Runs<L>) -> Result<ThreadResults<L>, AllocError>
         requires taken { All WasTaken runs.plans.items }
         ensures { IfOk result (AreResults runs) }
@@ -57,7 +57,7 @@ impl<L: LoaderName> ThreadResults<L> {
         Ok(all)
     }
 
-    /// Ends the queue, to which all seats are given back.
+    /// Ends the queue, and gives all seats back to it.
     pub(crate) fn finish(self, rt: &impl Wait, queue: JobQueue) -> ServedPlans<L>
         requires { AreSeatsOf queue self.senders.items self.takers.items }
         ensures passes { result.passes ≡ self.passes }
@@ -82,7 +82,7 @@ impl<L: LoaderName> ThreadResults<L> {
         }
     }
 
-    /// Adds what all threads gave back to nothing.
+    /// Fills an empty result with what all threads gave back.
     fn add(&mut self, runs: Runs<L>) -> Result<(), AllocError>
         requires taken { All WasTaken runs.plans.items }
         requires none { IsNoResult self.old }

@@ -15,12 +15,12 @@ use std::snapshot::Snapshot;
 use std::sync::Wait;
 use std::thread::{Promise, PromisedHandle, Scope};
 
-/// What is known of what a worker's thread gives back.
+/// What the server knows of what a worker's thread gives back.
 #[derive(Drop)]
 pub(crate) struct WorkerPromise<'a, L: LoaderName> {
-    /// The queue, at which the worker has its seat.
+    /// The queue at which the worker has its seat.
     pub(crate) queue: &'a JobQueue,
-    /// What the thread was given.
+    /// What the thread got.
     pub(crate) task: Snapshot<WorkerTask<L>>,
 }
 
@@ -28,7 +28,7 @@ impl<'a, L: LoaderName> Promise<WorkerRun<L>> for WorkerPromise<'a, L> {
     ghost kept_by = { λ p r. IsWorkerRun p.queue.now L.service p.task.value r };
 }
 
-/// Starts the thread of a worker. The answer is `None` where the thread was refused.
+/// Starts the thread of a worker. Returns `None` if the system refuses the thread.
 pub(crate) fn start_worker<
     's,
     E,
