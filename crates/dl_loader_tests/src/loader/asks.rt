@@ -32,19 +32,19 @@ impl<'a, L: LoaderName, S: Source, R: Abort + Eprint + Wait> Scene<'a, L, S, R> 
                 self.ask(pass, Ask::Prime(&user(rt, alloc, first), outcome), by_law)
             }
             "clear" => self.ask(pass, Ask::Clear(&user(rt, alloc, first)), by_law),
-            "clearAll" => self.ask(pass, Ask::ClearAll, by_law),
-            "dispatch" => self.ask(pass, Ask::Dispatch, by_law),
+            "clearAll" => self.ask_owned(pass, Ask::ClearAll, by_law),
+            "dispatch" => self.ask_owned(pass, Ask::Dispatch, by_law),
             "settle" => {
                 let fetched = self.fetch(self.job(first, others));
-                self.ask(pass, Ask::Settle(fetched), by_law)
+                self.ask_owned(pass, Ask::Settle(fetched), by_law)
             }
             "fail" => {
                 let job = self.job(first, others);
-                self.ask(pass, Ask::Fail(job, GiveUp::Memory), by_law)
+                self.ask_owned(pass, Ask::Fail(job, GiveUp::Memory), by_law)
             }
             "unsent" => {
                 let job = self.job(first, others);
-                self.ask(pass, Ask::Fail(job, GiveUp::Unsent), by_law)
+                self.ask_owned(pass, Ask::Fail(job, GiveUp::Unsent), by_law)
             }
             _ => panic!(rt; "no call {name}"),
         };
@@ -68,6 +68,18 @@ impl<'a, L: LoaderName, S: Source, R: Abort + Eprint + Wait> Scene<'a, L, S, R> 
         ensures { Answers (S.answer (source_of result)) L.service }
     {
         fetch_job(self.alloc, self.source, job).expect(self.rt, "no memory")
+    }
+
+    /// As `ask`, of a call that borrows nothing but the source.
+    fn ask_owned(
+        &self,
+        pass: &mut Pass<L>,
+        ask: Ask<'a, S>,
+        by_law: bool,
+    ) -> Result<String, CallFault>
+        requires { IfSome (source_asked ask) (λ source. Answers (S.answer source) L.service) }
+    {
+        self.ask(pass, ask, by_law)
     }
 
     /// Makes a call, by the law of one event or by its own name.
