@@ -5,6 +5,7 @@ use crate::value::{BatchAnswer, Key, Outcome, Source};
 use std::sync::{Arc, Condvar, Mutex, MutexGuard, OnceLock};
 
 /// A call with its arguments.
+#[derive(Debug)]
 pub enum Call {
     Load(Key),
     LoadMany(Vec<Key>),
@@ -17,6 +18,7 @@ pub enum Call {
 }
 
 /// The reply to a call.
+#[derive(Debug)]
 pub enum Reply {
     Loaded(LoadReply),
     Many(Vec<LoadReply>),
@@ -27,6 +29,7 @@ pub enum Reply {
 }
 
 /// A call, by whom, and its reply.
+#[derive(Debug)]
 pub struct Event {
     pub caller: u32,
     pub call: Call,
@@ -267,8 +270,19 @@ pub struct History {
 }
 
 impl History {
-    /// The outcome of a cell, where it has one.
-    pub fn outcome(&self, cell: usize) -> Option<&Outcome> {
-        Some(&self.cells.get(cell)?.get()?.outcome)
+    /// How many keys each batch has, and how it ended.
+    pub fn batches(&self) -> impl Iterator<Item = (usize, Option<End>)> + '_ {
+        self.batches.iter().map(|batch| (batch.keys.len(), batch.end))
+    }
+
+    /// How many outcomes a caller read.
+    pub fn count_seen(&self, caller: usize) -> usize {
+        self.entries[caller].iter().filter(|entry| matches!(entry, Entry::Saw { .. })).count()
+    }
+
+    /// All that it shows: the events, what each caller did, and the outcomes.
+    pub fn told(&self) -> String {
+        let outcomes = self.cells.iter().map(|cell| cell.get().map(|ending| &ending.outcome));
+        format!("{:#?}\n{:?}\n{:?}", self.events, self.entries, outcomes.collect::<Vec<_>>())
     }
 }
