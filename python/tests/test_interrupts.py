@@ -7,6 +7,7 @@ import unittest
 import warnings
 
 from thrushscreen import DataLoader, _options, data_loader
+from interrupt import Interrupt, tracing
 from test_nothing_hangs import run_on, soon, turns
 
 # The lines that are interrupted.
@@ -20,34 +21,6 @@ def wrapping(loop, coroutine, **options):
         return await coroutine
 
     return asyncio.Task(wrapped(), loop=loop, **options)
-
-
-class Interrupt:
-    """Interrupts the loader's lines at the given place, counted from 1."""
-
-    def __init__(self, place):
-        self.left = place
-        self.where = None
-
-    def trace(self, frame, event, _):
-        if frame.f_code.co_filename not in LINES:
-            return None
-        self.left -= 1
-        if self.left == 0:
-            self.where = f"{frame.f_code.co_name}, {event} at line {frame.f_lineno}"
-            raise KeyboardInterrupt
-        return self.trace
-
-
-@contextlib.contextmanager
-def tracing(interrupt):
-    # Python 3.11.2 lets go of a trace function that raises while it calls it.
-    before, trace = sys.gettrace(), interrupt.trace
-    sys.settrace(trace)
-    try:
-        yield
-    finally:
-        sys.settrace(before)
 
 
 class Factories(unittest.TestCase):
@@ -202,7 +175,7 @@ class Interrupted(unittest.TestCase):
 
     def check(self, place, options):
         loop, main, loads, loaders, primed = self.scenario(options)
-        interrupt = Interrupt(place)
+        interrupt = Interrupt(place, LINES)
         try:
             with contextlib.suppress(KeyboardInterrupt), tracing(interrupt):
                 loop.run_until_complete(main())

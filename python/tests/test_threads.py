@@ -10,6 +10,7 @@ import weakref
 
 from thrushscreen import _options, threads
 from thrushscreen.threads import DataLoader, Later, run
+from interrupt import Interrupt, tracing
 
 # The lines that are interrupted.
 LINES = {threads.__file__, _options.__file__}
@@ -478,23 +479,6 @@ class Requests(unittest.TestCase):
         self.assertIsNone(seen[0]())
 
 
-class Interrupt:
-    """Interrupts the lines at the given place, counted from 1."""
-
-    def __init__(self, place):
-        self.left = place
-        self.where = None
-
-    def trace(self, frame, event, _):
-        if frame.f_code.co_filename not in LINES:
-            return None
-        self.left -= 1
-        if self.left == 0:
-            self.where = f"{frame.f_code.co_name}, {event} at line {frame.f_lineno}"
-            raise KeyboardInterrupt
-        return self.trace
-
-
 class Interrupted(unittest.TestCase):
     """An interrupt at each line in turn, as it comes in a notebook: the thread's loaders answer after it."""
 
@@ -521,15 +505,9 @@ class Interrupted(unittest.TestCase):
 
     def check(self, place, options):
         loaders, loads = [], []
-        interrupt = Interrupt(place)
-        before = sys.gettrace()
-        sys.settrace(interrupt.trace)
-        try:
+        interrupt = Interrupt(place, LINES)
+        with contextlib.suppress(KeyboardInterrupt), tracing(interrupt):
             self.scenario(options, loaders, loads)
-        except KeyboardInterrupt:
-            pass
-        finally:
-            sys.settrace(before)
         for _ in range(3):
             # What was interrupted goes on, if it can.
             with contextlib.suppress(RuntimeError):
