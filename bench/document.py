@@ -4,7 +4,15 @@
     bench/document.py script | hostile-script | harmless-script N
     bench/document.py ordinary | plans | nested | steps | rows | each | long-keys K [--unserved]
 
-A plan file that is printed with --unserved has room for one call. So it is read whole, and served hardly at all.
+A plan file that is printed with --unserved has room for one call. So it is read whole, and served hardly at all. Its kinds:
+
+    ordinary    half rows of four members, half steps of four plans, each an `all` of a load and of the name of a friend
+    plans       the same with the same steps in 16 plans
+    nested      half rows of values 100 deep, half steps of terms 32 high
+    steps       no more than a thousand bytes of rows, and 16 plans of steps that clear a key, at most 4,096
+    rows        short rows, but for a thousand bytes of steps that load them
+    each        a quarter short rows, and steps of an `each` over 1,024 ids that are in it
+    long-keys   half rows of ids of 256 bytes, half steps that load them
 """
 
 import sys
