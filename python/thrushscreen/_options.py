@@ -77,16 +77,17 @@ class Options(Desk[K, V, A, F]):
         name: str | None = None,
         max_cells: int | None = None,
     ) -> None:
-        """A loader with this batch function, or with that of a subclass.
+        """A loader with this batch function, or with that of a subclass. Once you have made it, a new value of its limits, ``batch``,
+        ``cache``, ``cache_map`` or ``get_cache_key`` has no effect.
 
-        :param batch: whether several keys are fetched at once.
+        :param batch: whether one call of your function fetches several keys.
         :param max_batch_size: the most keys of a batch.
-        :param cache: whether a key is remembered. Else each load is fetched.
-        :param get_cache_key: makes of a key the one by which it is remembered.
-        :param cache_map: remembers the futures of keys in the loader's place. It belongs to one loader.
-        :param batch_schedule_fn: is given a function that sends what is collected, and has it called when it likes.
-        :param name: for reports.
-        :param max_cells: the most cells that are begun.
+        :param cache: whether a second load of a key is a hit. Without it each load is fetched.
+        :param get_cache_key: makes of a key the hashable by which the loader remembers it.
+        :param cache_map: a mapping that remembers the futures of keys in the loader's place. It belongs to one loader.
+        :param batch_schedule_fn: your function of one argument, ``send``. Call ``send()``, now or later, to send what is collected.
+        :param name: a name, which ``repr`` shows.
+        :param max_cells: the most cells that the loader begins.
         """
         if batch_load_fn is not None:
             self.batch_load_fn = batch_load_fn

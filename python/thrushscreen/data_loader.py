@@ -36,14 +36,24 @@ _senders: WeakKeyDictionary[asyncio.AbstractEventLoop, _Senders] = WeakKeyDictio
 class DataLoader(Options[K, V, Awaitable[Sequence[Union[V, BaseException]]], "asyncio.Future[V]"]):
     """Loads keys in batches, and each key once.
 
-    The batch function is given the keys of a batch, in the order of their loads, and answers a value for each, in the same order.
-    An exception in a value's place is the error of that key alone: it stays, like a value. An exception that the function raises
-    is the error of each key of the batch: these are forgotten, so that a later load fetches them again.
+    The batch function gets the keys of a batch, in the order of their loads, and gives a value for each, in the same order. An
+    exception in a value's place is the error of that key alone, and the loader keeps it like a value. If the function raises, each
+    key of the batch has that error, and the loader forgets them, so that a later load fetches them again.
 
-    A load that waits has a future of its own: cancelling it touches no other. A loader belongs to the event loop of its first load.
+    Each load has a future of its own: if you cancel it, you cancel no other. A loader belongs to the event loop of its first load.
     Each load that isn't a hit begins a *cell*, the place of its outcome, and so does each prime that holds a value. A loader begins
-    ``max_cells`` cells at most: make one for each request, or call ``clear_all`` between jobs. It counts anew if it holds no key and waits
-    for no batch.
+    at most ``max_cells`` cells: make one for each request, or call ``clear_all`` between jobs. It counts from 0 again when it holds no
+    key and waits for no batch.
+
+    A call of ``load``, ``load_many`` or ``prime`` raises at once if your ``cache_map`` or your ``batch_schedule_fn`` does:
+
+    - A ``load`` leaves the key unfetched and uncounted, but has used one of ``max_cells`` and one place in the batch. A ``prime`` has
+      used one of ``max_cells``.
+    - A ``load_many`` with a ``cache_map``, or in a subclass with its own ``load``, leaves the loads before the one that raised begun.
+      Any other begins none; if ``batch_schedule_fn`` raised, each new key has used a cell and a place.
+    - Loads that your ``batch_schedule_fn`` makes before it raises end with what it raises, if they weren't sent.
+
+    Your ``cache_map`` must either store or raise: after an assignment that does both, later loads of that key wait for ever.
     """
 
     # `load(key)`, `held(key)`, `clear(key)` and `clear_all()` are the desk's.
@@ -59,7 +69,7 @@ class DataLoader(Options[K, V, Awaitable[Sequence[Union[V, BaseException]]], "as
     def load_many(self, keys: Iterable[K], *, return_exceptions: bool = True) -> asyncio.Future[Any]:
         """Loads the keys: a future of the value or the exception of each, in order.
 
-        :param return_exceptions: where it is false, the future has the first exception for its own.
+        :param return_exceptions: if it is false, the future has the first exception for its own.
         """
         futures: Iterable[Awaitable[V]]
         if type(self).load is Desk.load and self.cache_map is None:
@@ -105,7 +115,7 @@ class DataLoader(Options[K, V, Awaitable[Sequence[Union[V, BaseException]]], "as
         waited for while it brings loads, and for a few turns more."""
         loop = self._loop
         if not isinstance(ready, deque):
-            # A loop that isn't asyncio's own doesn't tell what it has ready.
+            # A loop that isn't asyncio's own doesn't say what it has ready.
             await _NEXT_TURN
             return
         senders = _senders.setdefault(loop, _Senders())

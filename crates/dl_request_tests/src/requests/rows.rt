@@ -119,7 +119,7 @@ static CROWDS: [Row; 4] = [
     Row {
         about: "many plans at a queue of one place",
         workers: &[4],
-        times: 200,
+        times: 1_000,
         ..MANY
     },
     Row {
