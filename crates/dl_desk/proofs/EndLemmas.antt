@@ -6,7 +6,7 @@ use Rattle.std.proofs.lemmas.Bool.{eqb-true, eqb-false, eq-eqb, ne_eqb, and_from
 use Rattle.dl_values.specs.Key.{Key, key_eq}
 use Rattle.dl_values.specs.Limits.{Rules}
 use Rattle.dl_desk.specs.History.{Atom, Settle, Fail, Begun, begins, cells, is_number, members, Latest, later, latest_at, latest, forgets, cell_kept, held}
-use Rattle.dl_desk.specs.History.{begun, end_of, MayEnd, IsAnswered, IsLegal}
+use Rattle.dl_desk.specs.History.{begun, end_of, MayEnd, IsAnswered, AllAnswered}
 use Rattle.dl_desk.specs.declared.reply.End.{End}
 use Rattle.dl_desk.specs.declared.reply.End.TheVariants.{Settled, Failed}
 use Rattle.dl_desk.specs.BatchBook.{Batch, BatchBook, batch_at, StandsFor, MayEndIn}
@@ -42,7 +42,7 @@ below_step rules a before b (Some g) answered is rest = rw is (by (is_number b g
         (let e = (fresh_cell rules before a g answered is).cell_is in omega arith)
     by false = below_more (cells before) (members before b) rest
 
-pub members-below : (rules : Rules) (history : List Atom) → IsLegal rules history → (b : ℕ) → Below (cells history) (members history b)
+pub members-below : (rules : Rules) (history : List Atom) → AllAnswered rules history → (b : ℕ) → Below (cells history) (members history b)
 members-below rules [] legal b = tt
 members-below rules (a ∷ before) legal b = below_step rules a before b (begins a) legal.0 refl (members-below rules before legal.1 b)
 
@@ -105,7 +105,7 @@ own_begun a before b k g is low same = rw is (by (is_number b g.batch))
         (and_from (key_eq k g.key) (nat_eq g.cell g.cell) (key_eq-sym k g.key ∙ same) (eq-eqb g.cell g.cell refl))
     by false = has_pair-high (members before b) k g.cell low
 
-own_step : (rules : Rules) (a : Atom) (before : List Atom) (b : ℕ) (k : Key) (o : Option Begun) → IsAnswered rules before a → IsLegal rules before
+own_step : (rules : Rules) (a : Atom) (before : List Atom) (b : ℕ) (k : Key) (o : Option Begun) → IsAnswered rules before a → AllAnswered rules before
     → begins a ≡ o → Own before b k (latest before k) → Own (a ∷ before) b k (latest_at k o (later a (latest before k)))
 own_step rules a before b k None answered legal is own = own_later a before b k (latest before k) (rw is refl) own
 own_step rules a before b k (Some g) answered legal is own = by (key_eq g.key k) refl
@@ -120,7 +120,7 @@ own_step rules a before b k (Some g) answered legal is own = by (key_eq g.key k)
     by false other = own_other a before b k g (latest before k) is other own
 
 -- in a legal history the latest cell of a key is a member's of the batch that it was begun in, and of no other
-pub own : (rules : Rules) (history : List Atom) → IsLegal rules history → (b : ℕ) (k : Key) → Own history b k (latest history k)
+pub own : (rules : Rules) (history : List Atom) → AllAnswered rules history → (b : ℕ) (k : Key) → Own history b k (latest history k)
 own rules [] legal b k = tt
 own rules (a ∷ before) legal b k = own_step rules a before b k (begins a) legal.0 legal.1 refl (own rules before legal.1 b k)
 
@@ -138,7 +138,7 @@ fail_step before b k (Some l) own = by (is_number b l.batch) (list_any (forgets 
     by false true p = refl
     by false false p = rw p refl
 
-pub held-fail : (rules : Rules) (history : List Atom) → IsLegal rules history → (b : ℕ) (k : Key)
+pub held-fail : (rules : Rules) (history : List Atom) → AllAnswered rules history → (b : ℕ) (k : Key)
     → held (Fail b ∷ history) k ≡ without (members history b) k (held history k)
 held-fail rules history legal b k = fail_step history b k (latest history k) (own rules history legal b k)
 
@@ -191,7 +191,7 @@ stands_settled old new history b stands may is =
     let low : b < begun history = rw stands.count at may.is_begun in
     let P : BatchBook → Type 0 = λ book. StandsFor book (Settle b ∷ history) in
     subst P (sym is) (record {
-      legal = (may_end old history b stands may, stands.legal);
+      answered = (may_end old history b stands may, stands.answered);
       memo = λ k. stands.memo k ∙ sym (held-same (Settle b) history k refl (λ batch. refl));
       cells = stands.cells;
       sent = stands.sent;
@@ -206,8 +206,8 @@ stands_failed old forgot new history b stands may f is =
     let low : b < begun history = rw stands.count at may.is_begun in
     let P : BatchBook → Type 0 = λ book. StandsFor book (Fail b ∷ history) in
     subst P (sym is) (record {
-      legal = let R : Rules → Type 0 = λ r. IsLegal r (Fail b ∷ history) in subst R (sym f.rules) (may_end old history b stands may, stands.legal);
-      memo = λ k. f.memo k ∙ (rw (members_at-are old history stands b low, stands.memo k) (sym (held-fail old.rules history stands.legal b k)));
+      answered = let R : Rules → Type 0 = λ r. AllAnswered r (Fail b ∷ history) in subst R (sym f.rules) (may_end old history b stands may, stands.answered);
+      memo = λ k. f.memo k ∙ (rw (members_at-are old history stands b low, stands.memo k) (sym (held-fail old.rules history stands.answered b k)));
       cells = f.cells ∙ stands.cells;
       sent = f.sent ∙ stands.sent;
       count = rw (f.batches, length-set_end) stands.count;

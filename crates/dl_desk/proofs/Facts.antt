@@ -1,13 +1,13 @@
--- What holds of every legal history.
+-- What holds of every history that is answered as its atoms say.
 use Rattle.std.proofs.Common.{◌≡◌, ◌∙◌, sym, subst, ℕ, zero, suc, ◌+◌, ◌<◌, ◌≤◌, Bool, true, false, ◌||◌, cond, List, [], ◌∷◌, Option, Some, None, nat_eq}
 use Rattle.std.proofs.Common.{nat_lt, refl, arith}
 use Rattle.std.proofs.lemmas.Bool.{or_parts, ltb-true, ltb-false, eqb-true}
 use Rattle.std.proofs.lemmas.Bool.Decides.{nat_tests}
 use Rattle.dl_values.specs.Key.{Key}
 use Rattle.dl_values.specs.Limits.{Rules}
-use Rattle.dl_desk.specs.History.{Atom, Load, Prime, Clear, ClearAll, Dispatch, Settle, Fail, Begun, begins, cells, is_number, batch_of, is_named}
+use Rattle.dl_desk.specs.History.{Atom, Load, Prime, Dispatch, Settle, Fail, Begun, begins, cells, is_number, batch_of, is_named}
 use Rattle.dl_desk.specs.History.{count_batch, begun, add_member, members, held, sent, room, room_in, is_open, greatest, serves, load_reply_at}
-use Rattle.dl_desk.specs.History.{prime_reply_at, end_of, IsAnswered, IsLegal}
+use Rattle.dl_desk.specs.History.{prime_reply_at, end_of, IsAnswered, AllAnswered}
 use Rattle.dl_desk.specs.declared.reply.LoadReply.TheVariants.{Hit, Fresh}
 use Rattle.dl_desk.specs.declared.reply.DeskPrime.TheVariants.{Primed, Kept}
 use Rattle.dl_desk.specs.declared.reply.End.{End}
@@ -44,16 +44,10 @@ pub fresh_cell : (rules : Rules) (before : List Atom) (a : Atom) (g : Begun) →
 fresh_cell rules before (Load k (Fresh c b)) g answered is =
     let same : begun_at k c (Some b) ≡ g = cc in
     subst (IsFresh rules before) same (fresh_load rules before k c b (held before k) refl answered)
-fresh_cell rules before (Load k (Hit c)) g answered is = absurd (let bad : ◌≡◌ {A = Option Begun} None (Some g) = is in cc)
 fresh_cell rules before (Prime k (Primed c)) g answered is =
     let same : begun_at k c None ≡ g = cc in
     subst (IsFresh rules before) same (fresh_prime rules before k c (held before k) refl answered)
-fresh_cell rules before (Prime k Kept) g answered is = absurd (let bad : ◌≡◌ {A = Option Begun} None (Some g) = is in cc)
-fresh_cell rules before (Clear k) g answered is = absurd (let bad : ◌≡◌ {A = Option Begun} None (Some g) = is in cc)
-fresh_cell rules before ClearAll g answered is = absurd (let bad : ◌≡◌ {A = Option Begun} None (Some g) = is in cc)
-fresh_cell rules before (Dispatch js) g answered is = absurd (let bad : ◌≡◌ {A = Option Begun} None (Some g) = is in cc)
-fresh_cell rules before (Settle b) g answered is = absurd (let bad : ◌≡◌ {A = Option Begun} None (Some g) = is in cc)
-fresh_cell rules before (Fail b) g answered is = absurd (let bad : ◌≡◌ {A = Option Begun} None (Some g) = is in cc)
+fresh_cell rules before a g answered is = absurd (let bad : ◌≡◌ {A = Option Begun} None (Some g) = is in cc)
 
 -- ---- the batch of a fresh load
 
@@ -111,7 +105,7 @@ named_low rules before a answered (Some g) is n e =
     omega arith
 
 -- the batches that are named are those below the number of batches
-pub named : (rules : Rules) (history : List Atom) → IsLegal rules history → (b : ℕ) → is_named history b ≡ nat_lt b (begun history)
+pub named : (rules : Rules) (history : List Atom) → AllAnswered rules history → (b : ℕ) → is_named history b ≡ nat_lt b (begun history)
 named rules [] legal b = grind (arith, nat_tests)
 named rules (a ∷ before) legal b = named_step before b (batch_of (begins a)) (λ n e. named_low rules before a legal.0 (begins a) refl n e)
     (named rules before legal.1)
@@ -140,11 +134,8 @@ pub sent-le : (history : List Atom) → sent history ≤ begun history
 sent-le [] = omega arith
 sent-le (Load k r ∷ before) = let l = sent-le before in let m = count_batch-le (batch_of (begins (Load k r))) before (begun before) in omega arith
 sent-le (Prime k r ∷ before) = let l = sent-le before in let m = count_batch-le (batch_of (begins (Prime k r))) before (begun before) in omega arith
-sent-le (Clear k ∷ before) = sent-le before
-sent-le (ClearAll ∷ before) = sent-le before
 sent-le (Dispatch js ∷ before) = omega arith
-sent-le (Settle b ∷ before) = sent-le before
-sent-le (Fail b ∷ before) = sent-le before
+sent-le (a ∷ before) = sent-le before
 
 end_other : (b n : ℕ) (e : End) (rest : Option End) → (b ≡ n → ⊥) → rest ≡ None → cond (nat_eq b n) (Some e) rest ≡ None
 end_other b n e rest other none = by (nat_eq b n) refl
@@ -154,14 +145,11 @@ end_other b n e rest other none = by (nat_eq b n) refl
     by false is = none
 
 -- a batch that isn't sent has not ended
-pub end_of-unsent : (rules : Rules) (history : List Atom) → IsLegal rules history → (b : ℕ) → sent history ≤ b → end_of history b ≡ None
+pub end_of-unsent : (rules : Rules) (history : List Atom) → AllAnswered rules history → (b : ℕ) → sent history ≤ b → end_of history b ≡ None
 end_of-unsent rules [] legal b high = refl
-end_of-unsent rules (Load k r ∷ before) legal b high = end_of-unsent rules before legal.1 b high
-end_of-unsent rules (Prime k r ∷ before) legal b high = end_of-unsent rules before legal.1 b high
-end_of-unsent rules (Clear k ∷ before) legal b high = end_of-unsent rules before legal.1 b high
-end_of-unsent rules (ClearAll ∷ before) legal b high = end_of-unsent rules before legal.1 b high
 end_of-unsent rules (Dispatch js ∷ before) legal b high = end_of-unsent rules before legal.1 b (let l = sent-le before in omega arith)
 end_of-unsent rules (Settle n ∷ before) legal b high = end_other b n Settled (end_of before b) (λ e. let s = legal.0.is_sent in absurd (omega arith))
     (end_of-unsent rules before legal.1 b high)
 end_of-unsent rules (Fail n ∷ before) legal b high = end_other b n Failed (end_of before b) (λ e. let s = legal.0.is_sent in absurd (omega arith))
     (end_of-unsent rules before legal.1 b high)
+end_of-unsent rules (a ∷ before) legal b high = end_of-unsent rules before legal.1 b high

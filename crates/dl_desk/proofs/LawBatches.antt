@@ -15,7 +15,7 @@ use Rattle.dl_values.specs.Limits.{Limits, AreLimits, Rules, by_table, limit_by,
 use Rattle.dl_values.specs.TableLimits.{AreTableLimits}
 use Rattle.dl_desk.specs.Laws.{HaveLimits, AreOfOneTable, IsBatch, BatchesAreWithinLimits}
 use Rattle.dl_desk.specs.History.{Atom, Begun, begins, is_number, add_member, members, begun, is_named, sent, has_member, serves_by, serves, greatest}
-use Rattle.dl_desk.specs.History.{is_open, room_in, room, IsAnswered, IsLegal}
+use Rattle.dl_desk.specs.History.{is_open, room_in, room, IsAnswered, AllAnswered}
 use Rattle.dl_values.proofs.KeyLemmas.{key_eq-refl}
 use Rattle.dl_desk.proofs.Facts.{fresh_cell, named, members-unnamed}
 
@@ -135,7 +135,7 @@ room_cases rules history k =
 not_below : (b n : ℕ) → b ≡ n → nat_lt b n ≡ false
 not_below b n e = grind (arith, nat_tests)
 
-put_step : (rules : Rules) (history : List Atom) (k : Key) (c b : ℕ) → HaveLimits rules → IsLegal rules history → IsBatch rules (members history b)
+put_step : (rules : Rules) (history : List Atom) (k : Key) (c b : ℕ) → HaveLimits rules → AllAnswered rules history → IsBatch rules (members history b)
     → (b ≡ begun history) ⊎ IsRoom rules history k b → IsBatch rules (members history b ++ (k, c) ∷ [])
 put_step rules history k c b limits legal batch (inl new) =
     let unnamed : is_named history b ≡ false = named rules history legal b ∙ not_below b (begun history) new in
@@ -146,7 +146,7 @@ named_as : (b : ℕ) (o : Option ℕ) → is_number b o ≡ true → o ≡ Some 
 named_as b None e = absurd (let bad : false ≡ true = e in cc)
 named_as b (Some n) e = let same = eqb-true b n e in ap Some (sym same)
 
-atom_step : (rules : Rules) (history : List Atom) (a : Atom) (b : ℕ) (o : Option Begun) → HaveLimits rules → IsLegal rules history
+atom_step : (rules : Rules) (history : List Atom) (a : Atom) (b : ℕ) (o : Option Begun) → HaveLimits rules → AllAnswered rules history
     → IsAnswered rules history a → begins a ≡ o → IsBatch rules (members history b) → IsBatch rules (add_member b o (members history b))
 atom_step rules history a b None limits legal answered is batch = batch
 atom_step rules history a b (Some g) limits legal answered is batch = by (is_number b g.batch) refl

@@ -13,7 +13,7 @@ use Rattle.dl_desk.specs.History.{Atom, Begun, begins, count_cell, cells, end_of
 use Rattle.dl_desk.specs.History as atom
 use Rattle.dl_desk.specs.declared.event.Event.{Event}
 use Rattle.dl_desk.specs.declared.event.Call.{Call}
-use Rattle.dl_desk.specs.declared.event.Call.TheVariants.{Load, LoadMany, Prime, Clear, ClearAll, Dispatch, Settle, Fail}
+use Rattle.dl_desk.specs.declared.event.Call.TheVariants.{Settle, Fail}
 use Rattle.dl_desk.specs.declared.event.Reply.{Reply}
 use Rattle.dl_desk.specs.declared.reply.End.{End}
 use Rattle.dl_desk.specs.declared.reply.End.TheVariants.{Settled, Failed}
@@ -44,7 +44,7 @@ batch_kept rules history a c (Some g) answered is low =
     rw other refl
 
 -- so it does where others follow
-pub cell_batch-append : (rules : Rules) (added history : List Atom) (c : ℕ) → atom.IsLegal rules (added ++ history) → c < cells history
+pub cell_batch-append : (rules : Rules) (added history : List Atom) (c : ℕ) → atom.AllAnswered rules (added ++ history) → c < cells history
     → cell_batch (added ++ history) c ≡ cell_batch history c
 cell_batch-append rules [] history c legal low = refl
 cell_batch-append rules (a ∷ added) history c legal low =
@@ -71,7 +71,7 @@ batch_low rules history a c b (Some g) answered is low e = by (nat_eq c g.cell) 
     by true same f = let eq : c ≡ g.cell = eqb-true c g.cell same in let n = next in omega arith
     by false other f = let l : c < cells history = low f in omega arith
 
-pub cell_batch-low : (rules : Rules) (history : List Atom) (c b : ℕ) → atom.IsLegal rules history → cell_batch history c ≡ Some b → c < cells history
+pub cell_batch-low : (rules : Rules) (history : List Atom) (c b : ℕ) → atom.AllAnswered rules history → cell_batch history c ≡ Some b → c < cells history
 cell_batch-low rules [] c b legal e = absurd (let bad : ◌≡◌ {A = Option ℕ} None (Some b) = e in cc)
 cell_batch-low rules (a ∷ before) c b legal e = batch_low rules before a c b (begins a) legal.0 refl (cell_batch-low rules before c b legal.1) e
 
@@ -115,27 +115,18 @@ end_split b n e rest none = by (nat_eq b n) refl none
     by false is f = (is, f)
 
 atom_unended : (a : Atom) (history : List Atom) (b : ℕ) → end_of (a ∷ history) b ≡ None → end_of history b ≡ None
-atom_unended (atom.Load k r) history b none = none
-atom_unended (atom.Prime k r) history b none = none
-atom_unended (atom.Clear k) history b none = none
-atom_unended atom.ClearAll history b none = none
-atom_unended (atom.Dispatch js) history b none = none
 atom_unended (atom.Settle n) history b none = (end_split b n Settled (end_of history b) none).1
 atom_unended (atom.Fail n) history b none = (end_split b n Failed (end_of history b) none).1
+atom_unended a history b none = none
 
 append_unended : (added history : List Atom) (b : ℕ) → end_of (added ++ history) b ≡ None → end_of history b ≡ None
 append_unended [] history b none = none
 append_unended (a ∷ added) history b none = append_unended added history b (atom_unended a (added ++ history) b none)
 
 call_unended : (call : Call) (reply : Reply) (history : List Atom) (b : ℕ) → end_of (call_atoms call reply ++ history) b ≡ None → ends_batch b call ≡ false
-call_unended (Load k) reply history b none = refl
-call_unended (LoadMany ks) reply history b none = refl
-call_unended (Prime k o) reply history b none = refl
-call_unended (Clear k) reply history b none = refl
-call_unended ClearAll reply history b none = refl
-call_unended Dispatch reply history b none = refl
 call_unended (Settle n os) reply history b none = (end_split b n Settled (end_of history b) none).0
 call_unended (Fail n fault) reply history b none = (end_split b n Failed (end_of history b) none).0
+call_unended call reply history b none = refl
 
 -- where no atom ends the batch, no event does
 pub last-unended : (past : List Event) (b : ℕ) → end_of (atoms past) b ≡ None → last_of (ends b) past ≡ None

@@ -5,11 +5,11 @@ use Rattle.std.proofs.lemmas.Bool.{or_parts}
 use Rattle.dl_values.specs.Key.{Key, key_eq}
 use Rattle.dl_values.specs.Limits.{Rules}
 use Rattle.dl_desk.specs.Laws.{FreshLoadsAreApart}
-use Rattle.dl_desk.specs.History.{Atom, Load, Begun, begins, Latest, later, latest, latest_at, forgets, held, IsAnswered, IsLegal}
+use Rattle.dl_desk.specs.History.{Atom, Load, Begun, begins, Latest, later, latest, latest_at, forgets, held, IsAnswered, AllAnswered}
 use Rattle.dl_desk.specs.declared.reply.LoadReply.TheVariants.{Fresh}
 use Rattle.dl_values.proofs.KeyLemmas.{key_eq-refl, key_eq-same}
 use Rattle.dl_desk.proofs.Facts.{fresh_cell}
-use Rattle.dl_desk.proofs.LawFacts.{legal_before}
+use Rattle.dl_desk.proofs.LawFacts.{answered_before}
 
 -- the fresh load of the key, and the atoms after it
 abbrev since : ℕ → ℕ → List Atom → Latest
@@ -37,7 +37,7 @@ still_step rules key cell batch between history a (Some g) answered is at holds 
         absurd (cc)
     by false e = rw at refl
 
-still : (rules : Rules) (key : Key) (cell batch : ℕ) (between before : List Atom) → IsLegal rules (between ++ Load key (Fresh cell batch) ∷ before)
+still : (rules : Rules) (key : Key) (cell batch : ℕ) (between before : List Atom) → AllAnswered rules (between ++ Load key (Fresh cell batch) ∷ before)
     → list_any (forgets key (Some batch)) between ≡ false
     → latest (between ++ Load key (Fresh cell batch) ∷ before) key ≡ Some (since cell batch between)
 still rules key cell batch [] before legal none = rw (key_eq-refl key) refl
@@ -55,7 +55,7 @@ fresh_unheld rules history key cell batch answered = (fresh_cell rules history (
 
 -- so a later fresh load finds that something forgot it
 apart : (rules : Rules) (key : Key) (cell batch later_cell later_batch : ℕ) (between before : List Atom)
-    → IsLegal rules (Load key (Fresh later_cell later_batch) ∷ (between ++ Load key (Fresh cell batch) ∷ before)) → (t : Bool)
+    → AllAnswered rules (Load key (Fresh later_cell later_batch) ∷ (between ++ Load key (Fresh cell batch) ∷ before)) → (t : Bool)
     → list_any (forgets key (Some batch)) between ≡ t → t ≡ true
 apart rules key cell batch later_cell later_batch between before legal true none = refl
 apart rules key cell batch later_cell later_batch between before legal false none =
@@ -66,5 +66,5 @@ apart rules key cell batch later_cell later_batch between before legal false non
 
 pub fresh_loads_are_apart : FreshLoadsAreApart
 fresh_loads_are_apart rules key cell batch later_cell later_batch later between before legal =
-    let part = legal_before rules later (Load key (Fresh later_cell later_batch) ∷ (between ++ Load key (Fresh cell batch) ∷ before)) legal in
+    let part = answered_before rules later (Load key (Fresh later_cell later_batch) ∷ (between ++ Load key (Fresh cell batch) ∷ before)) legal in
     apart rules key cell batch later_cell later_batch between before part (list_any (forgets key (Some batch)) between) refl

@@ -13,7 +13,7 @@ use Rattle.dl_desk.specs.History.{Atom, Begun, begins, cells, is_number, add_mem
 use Rattle.dl_desk.specs.Events.{call_atoms, atoms, cell_batch, Placed, ending, batch_cells, outcome_given, outcome}
 use Rattle.dl_desk.specs.declared.event.Event.{Event}
 use Rattle.dl_desk.specs.declared.event.Call.{Call}
-use Rattle.dl_desk.specs.declared.event.Call.TheVariants.{Load, LoadMany, Prime, Clear, ClearAll, Dispatch, Settle, Fail}
+use Rattle.dl_desk.specs.declared.event.Call.TheVariants.{Settle}
 use Rattle.dl_values.specs.declared.outcome.Outcome.{Outcome}
 use Rattle.dl_desk.proofs.LawEnds.{cells-append, batch_stays, ended-low, ending_stays}
 use Rattle.dl_desk.proofs.PastAtoms.{legal_before}
@@ -89,15 +89,9 @@ each_stays later before c found os (Some b) is =
 
 given_stays : (s : Service) (later before : List Event) (c : ℕ) (found : Outcome) → IsLegal s (later ++ before) → c < cells (atoms before)
     → (call : Call) → outcome_given (atoms before) c call ≡ Some found → outcome_given (atoms (later ++ before)) c call ≡ Some found
-given_stays s later before c found legal low (Load k) is = is
-given_stays s later before c found legal low (LoadMany ks) is = is
-given_stays s later before c found legal low (Prime k o) is = is
-given_stays s later before c found legal low (Clear k) is = is
-given_stays s later before c found legal low ClearAll is = is
-given_stays s later before c found legal low Dispatch is = is
 given_stays s later before c found legal low (Settle b os) is = rw (batch_past s later before c legal low)
     (each_stays later before c found os (cell_batch (atoms before) c) is)
-given_stays s later before c found legal low (Fail b fault) is = is
+given_stays s later before c found legal low call is = is
 
 -- ---- the law
 

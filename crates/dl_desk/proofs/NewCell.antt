@@ -4,7 +4,7 @@ use Rattle.std.proofs.Common.{nat_eq, refl, arith}
 use Rattle.std.proofs.lemmas.Bool.{ltb-true, ltb-false, eqb-true, eqb-false}
 use Rattle.dl_values.specs.Key.{Key}
 use Rattle.dl_values.specs.Limits.{Rules}
-use Rattle.dl_desk.specs.History.{Atom, Begun, begins, is_named, begun, members, sent, end_of, forgets, IsAnswered, IsLegal}
+use Rattle.dl_desk.specs.History.{Atom, Begun, begins, is_named, begun, members, sent, end_of, forgets, IsAnswered, AllAnswered}
 use Rattle.dl_desk.specs.declared.reply.End.{End}
 use Rattle.dl_desk.specs.BatchBook.{Batch, BatchBook, batch_at, StandsFor}
 use Rattle.dl_desk.specs.Inside.Preparation.{put_member, put_in, Begins}
@@ -27,7 +27,7 @@ batch_with ms e = record { members = ms; end = e }
 abbrev Lists : List Batch → List Atom → Type 0
 Lists xs history = (b : ℕ) → b < begun history → slice_get xs b ≡ Some (batch_at history b)
 
-module _ (rules : Rules) (a : Atom) (before : List Atom) (legal : IsLegal rules before) (xs : List Batch) (count : length xs ≡ begun before)
+module _ (rules : Rules) (a : Atom) (before : List Atom) (legal : AllAnswered rules before) (xs : List Batch) (count : length xs ≡ begun before)
     (lists : Lists xs before) (k : Key) (c : ℕ) where
   -- the batches that a history with one more member has, in an open batch
   put_open : (n b : ℕ) (ms : List (Key × ℕ)) (e : Option End) → n < begun before → ms ≡ cond (nat_eq b n) (members before b ++ (k, c) ∷ []) (members before b)
@@ -67,7 +67,7 @@ module _ (rules : Rules) (a : Atom) (before : List Atom) (legal : IsLegal rules 
 
 -- How many batches there are then, and what they are: the cell is in the batch that has room for the
 -- key, or in none.
-batches_after : (rules : Rules) (a : Atom) (before : List Atom) (g : Begun) → IsLegal rules before → IsFresh rules before g → IsBeginning a before g
+batches_after : (rules : Rules) (a : Atom) (before : List Atom) (g : Begun) → AllAnswered rules before → IsFresh rules before g → IsBeginning a before g
     → (xs : List Batch) → length xs ≡ begun before → Lists xs before
     → (o : Option ℕ) → g.batch ≡ o → (length (put_in xs o (g.key, g.cell)) ≡ begun (a ∷ before)) × Lists (put_in xs o (g.key, g.cell)) (a ∷ before)
 batches_after rules a before g legal fresh is xs count lists None o_is = (
@@ -100,7 +100,7 @@ batches_after rules a before g legal fresh is xs count lists (Some n) o_is = by 
 pub stands_begun : (old new : BatchBook) (a : Atom) (before : List Atom) (g : Begun) → StandsFor old before → IsAnswered old.rules before a
     → IsBeginning a before g → Begins old g.key g.batch new → StandsFor new (a ∷ before)
 stands_begun old new a before g stands answered is put = record {
-  legal = let P : Rules → Type 0 = λ r. IsLegal r (a ∷ before) in subst P (sym put.rules) (answered, stands.legal);
+  answered = let P : Rules → Type 0 = λ r. AllAnswered r (a ∷ before) in subst P (sym put.rules) (answered, stands.answered);
   memo = λ q. put.memo q ∙ (rw (next, stands.memo q) (sym (held-begun a before q g is.begins_it (is.keeps q))));
   cells = put.cells ∙ (rw (stands.cells, is.begins_it) refl);
   sent = put.sent ∙ (stands.sent ∙ sym is.sends_none);
@@ -115,4 +115,4 @@ stands_begun old new a before g stands answered is put = record {
     next = stands.cells ∙ sym fresh.cell_is
 
     all : (length (put_in old.batches g.batch (g.key, g.cell)) ≡ begun (a ∷ before)) × Lists (put_in old.batches g.batch (g.key, g.cell)) (a ∷ before)
-    all = batches_after old.rules a before g stands.legal fresh is old.batches stands.count stands.batches g.batch refl
+    all = batches_after old.rules a before g stands.answered fresh is old.batches stands.count stands.batches g.batch refl

@@ -1,4 +1,4 @@
--- What one more event adds to the history that a past tells, and that the history of a legal past is legal.
+-- What one more event adds to the history that a past tells, and that the history of a legal past is answered.
 use Rattle.std.proofs.Common.{◌≡◌, ◌∙◌, sym, ap, subst, ℕ, true, false, List, [], ◌∷◌, ◌++◌, map, reverse, Option, Some, None, refl, append_assoc}
 use Rattle.std.specs.List.{zip}
 use Rattle.std.proofs.lemmas.Bool.{eqb-true}
@@ -8,7 +8,7 @@ use Rattle.dl_values.specs.Limits.{Rules}
 use Rattle.dl_values.specs.declared.outcome.Outcome.{Outcome}
 use Rattle.dl_values.specs.declared.outcome.BatchAnswer.{BatchAnswer}
 use Rattle.dl_desk.specs.Service.{Service}
-use Rattle.dl_desk.specs.Laws.{PastsTellLegalHistories}
+use Rattle.dl_desk.specs.Laws.{LegalPastsAreAnswered}
 use Rattle.dl_desk.specs.Calls.{primed}
 use Rattle.dl_desk.specs.Legal.{reply_to, call_of, MayBeMade, IsNext, IsLegal}
 use Rattle.dl_desk.specs.Events.{loads, call_atoms, atoms, begins_primed, primes, ends_batch, ends}
@@ -20,7 +20,7 @@ use Rattle.dl_desk.specs.declared.reply.DeskPrime.{DeskPrime}
 use Rattle.dl_desk.specs.declared.reply.DeskPrime.TheVariants as prime
 use Rattle.dl_desk.specs.declared.event.Event.{Event}
 use Rattle.dl_desk.specs.declared.event.Call.{Call}
-use Rattle.dl_desk.specs.declared.event.Call.TheVariants.{Load, LoadMany, Prime, Clear, ClearAll, Dispatch, Settle, Fail}
+use Rattle.dl_desk.specs.declared.event.Call.TheVariants.{Load, LoadMany, Prime, Dispatch, Settle, Fail}
 
 -- ---- the atoms of a call
 
@@ -31,7 +31,7 @@ loads-cons k ks r rs history =
     let rest : List Atom = map (λ (p : Key × LoadReply). atom.Load p.0 p.1) (zip ks rs) in
     ap (λ (xs : List Atom). xs ++ history) (reverse_onto rest (atom.Load k r) []) ∙ append_assoc (reverse rest) (atom.Load k r ∷ []) history
 
--- a legal loadMany leaves the history with its loads
+-- an answered loadMany leaves the history with its loads
 pub loads_made : (rules : Rules) (history : List Atom) (ks : List Key) → loads ks (load_replies rules history ks) ++ history ≡ loaded rules history ks
 loads_made rules history [] = refl
 loads_made rules history (k ∷ ks) =
@@ -43,41 +43,35 @@ prime_atoms k o (prime.Primed c) = refl
 prime_atoms k o prime.Kept = refl
 
 call_after : (rules : Rules) (history : List Atom) (call : Call) → call_atoms call (reply_to rules history call) ++ history ≡ after rules history (call_of call)
-call_after rules history (Load k) = refl
 call_after rules history (LoadMany ks) = loads_made rules history ks
 call_after rules history (Prime k o) = ap (λ (xs : List Atom). xs ++ history) (prime_atoms k o (prime_reply history k))
-call_after rules history (Clear k) = refl
-call_after rules history ClearAll = refl
-call_after rules history Dispatch = refl
-call_after rules history (Settle b os) = refl
-call_after rules history (Fail b fault) = refl
+call_after rules history call = refl
 
 -- a next event leaves the history that a desk's call leaves
 pub atoms_next : (s : Service) (before : List Event) (e : Event) → IsNext s before e → atoms (e ∷ before) ≡ after s.rules (atoms before) (call_of e.call)
 atoms_next s before e next = rw next.reply (call_after s.rules (atoms before) e.call)
 
--- ---- legal histories
+-- ---- histories that are answered
 
-loaded_legal : (rules : Rules) (history : List Atom) (ks : List Key) → atom.IsLegal rules history → atom.IsLegal rules (loaded rules history ks)
-loaded_legal rules history [] legal = legal
-loaded_legal rules history (k ∷ ks) legal = loaded_legal rules (atom.Load k (load_reply rules history k) ∷ history) ks (refl, legal)
+loaded_answered : (rules : Rules) (history : List Atom) (ks : List Key) → atom.AllAnswered rules history → atom.AllAnswered rules (loaded rules history ks)
+loaded_answered rules history [] legal = legal
+loaded_answered rules history (k ∷ ks) legal = loaded_answered rules (atom.Load k (load_reply rules history k) ∷ history) ks (refl, legal)
 
-after_legal : (answer : List Key → BatchAnswer) (rules : Rules) (history : List Atom) (call : Call) → MayBeMade answer history call → atom.IsLegal rules history
-    → atom.IsLegal rules (after rules history (call_of call))
-after_legal answer rules history (Load k) may legal = (refl, legal)
-after_legal answer rules history (LoadMany ks) may legal = loaded_legal rules history ks legal
-after_legal answer rules history (Prime k o) may legal = (refl, legal)
-after_legal answer rules history (Clear k) may legal = (tt, legal)
-after_legal answer rules history ClearAll may legal = (tt, legal)
-after_legal answer rules history Dispatch may legal = (refl, legal)
-after_legal answer rules history (Settle b os) may legal = (may.0, legal)
-after_legal answer rules history (Fail b fault) may legal = (may.0, legal)
+after_answered : (answer : List Key → BatchAnswer) (rules : Rules) (history : List Atom) (call : Call) → MayBeMade answer history call → atom.AllAnswered rules history
+    → atom.AllAnswered rules (after rules history (call_of call))
+after_answered answer rules history (Load k) may legal = (refl, legal)
+after_answered answer rules history (LoadMany ks) may legal = loaded_answered rules history ks legal
+after_answered answer rules history (Prime k o) may legal = (refl, legal)
+after_answered answer rules history Dispatch may legal = (refl, legal)
+after_answered answer rules history (Settle b os) may legal = (may.0, legal)
+after_answered answer rules history (Fail b fault) may legal = (may.0, legal)
+after_answered answer rules history call may legal = (tt, legal)
 
--- the history that a legal past tells is legal
-pub legal_atoms : PastsTellLegalHistories
+-- the history that a legal past tells is answered
+pub legal_atoms : LegalPastsAreAnswered
 legal_atoms s [] legal = tt
 legal_atoms s (e ∷ before) legal =
-    rw (atoms_next s before e legal.0) (after_legal s.answer s.rules (atoms before) e.call legal.0.made (legal_atoms s before legal.1))
+    rw (atoms_next s before e legal.0) (after_answered s.answer s.rules (atoms before) e.call legal.0.made (legal_atoms s before legal.1))
 
 -- what stands before other events of a legal past is legal
 pub legal_before : (s : Service) (later before : List Event) → IsLegal s (later ++ before) → IsLegal s before
@@ -101,14 +95,8 @@ prime_primes history k o c None now =
 
 call_primes : (rules : Rules) (history : List Atom) (call : Call) (c : ℕ) → begins_primed c (reply_to rules history call) ≡ true
     → PrimesCell history (call_atoms call (reply_to rules history call)) c
-call_primes rules history (Load k) c now = absurd (let bad : false ≡ true = now in cc)
-call_primes rules history (LoadMany ks) c now = absurd (let bad : false ≡ true = now in cc)
 call_primes rules history (Prime k o) c now = prime_primes history k o c (held history k) now
-call_primes rules history (Clear k) c now = absurd (let bad : false ≡ true = now in cc)
-call_primes rules history ClearAll c now = absurd (let bad : false ≡ true = now in cc)
-call_primes rules history Dispatch c now = absurd (let bad : false ≡ true = now in cc)
-call_primes rules history (Settle b os) c now = absurd (let bad : false ≡ true = now in cc)
-call_primes rules history (Fail b fault) c now = absurd (let bad : false ≡ true = now in cc)
+call_primes rules history call c now = absurd (let bad : false ≡ true = now in cc)
 
 -- a next event that primes a cell is such a prime
 pub event_primes : (s : Service) (before : List Event) (e : Event) (c : ℕ) → IsNext s before e → primes c e ≡ true
@@ -121,14 +109,9 @@ event_primes s before e c next now =
 
 call_may_end : (answer : List Key → BatchAnswer) (history : List Atom) (call : Call) (b : ℕ) → MayBeMade answer history call → ends_batch b call ≡ true
     → MayEnd history b
-call_may_end answer history (Load k) b may now = absurd (let bad : false ≡ true = now in cc)
-call_may_end answer history (LoadMany ks) b may now = absurd (let bad : false ≡ true = now in cc)
-call_may_end answer history (Prime k o) b may now = absurd (let bad : false ≡ true = now in cc)
-call_may_end answer history (Clear k) b may now = absurd (let bad : false ≡ true = now in cc)
-call_may_end answer history ClearAll b may now = absurd (let bad : false ≡ true = now in cc)
-call_may_end answer history Dispatch b may now = absurd (let bad : false ≡ true = now in cc)
 call_may_end answer history (Settle n os) b may now = subst (MayEnd history) (sym (eqb-true b n now)) may.0
 call_may_end answer history (Fail n fault) b may now = subst (MayEnd history) (sym (eqb-true b n now)) may.0
+call_may_end answer history call b may now = absurd (let bad : false ≡ true = now in cc)
 
 -- the batch that a next event ends is one that may end
 pub ends_may_end : (s : Service) (before : List Event) (e : Event) (b : ℕ) → IsNext s before e → ends b e ≡ true → MayEnd (atoms before) b

@@ -43,7 +43,7 @@ put_reply old new history k (Fresh cell batch) stands put = rw (put.1, put.2) (f
 pub put_stands : (old new : BatchBook) (history : List Atom) (k : Key) (reply : LoadReply) → StandsFor old history → Puts old k reply new
     → StandsFor new (Load k reply ∷ history)
 put_stands old new history k (Hit cell) stands put = rw put.1 (record {
-  legal = (hit_reply old history k cell stands put.0, stands.legal);
+  answered = (hit_reply old history k cell stands put.0, stands.answered);
   memo = λ q. stands.memo q ∙ sym (held-same (Load k (Hit cell)) history q refl (λ batch. refl));
   cells = stands.cells;
   sent = stands.sent;
@@ -73,7 +73,7 @@ pub stands_cleared : (old new : BatchBook) (memo : List (Key × ℕ)) (history :
     → ((q : Key) → lookup (key_eq q) memo ≡ cond (key_eq k q) None (lookup (key_eq q) old.memo))
     → StandsFor (record new { memo = memo }) (Clear k ∷ history)
 stands_cleared old new memo history k same stands cleared = rw same (record {
-  legal = (tt, stands.legal);
+  answered = (tt, stands.answered);
   memo = λ q. cleared q ∙ (rw (stands.memo q) (sym (held-cleared history k q)));
   cells = stands.cells;
   sent = stands.sent;

@@ -3,7 +3,7 @@ use Rattle.std.specs.Prelude.{◌≡◌, ℕ, ◌<◌, Bool, List, length, Optio
 use Rattle.std.specs.Map.{lookup}
 use Rattle.dl_values.specs.Key.{Key, key_eq}
 use Rattle.dl_values.specs.Limits.{Rules}
-use Rattle.dl_desk.specs.History.{Atom, IsLegal, held, cells, begun, sent, members, end_of}
+use Rattle.dl_desk.specs.History.{Atom, AllAnswered, held, cells, begun, sent, members, end_of}
 use Rattle.dl_desk.specs.declared.reply.End.{End}
 use Rattle.dl_desk.specs.declared.reply.End.TheVariants as end
 use Rattle.dl_desk.specs.declared.reply.BatchState.{BatchState}
@@ -27,9 +27,9 @@ pub record BatchBook : Type 0 where
 abbrev pub batch_at : List Atom → ℕ → Batch
 batch_at history b = record { members = members history b; end = end_of history b }
 
--- The book is the one that the history leaves, and the history is legal.
+-- The book is the one that the history leaves, and each atom of the history is answered as the atoms before it say.
 pub record StandsFor (book : BatchBook) (history : List Atom) : Type 0 where
-  pub legal : IsLegal book.rules history
+  pub answered : AllAnswered book.rules history
   pub memo : (k : Key) → lookup (key_eq k) book.memo ≡ held history k
   pub cells : book.cells ≡ cells history
   pub sent : book.sent ≡ sent history

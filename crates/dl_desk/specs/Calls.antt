@@ -27,11 +27,8 @@ abbrev pub reply_to : Rules → List Atom → DeskCall → Reply
 reply_to rules history (Load k) = Loaded (load_reply rules history k)
 reply_to rules history (LoadMany ks) = Many (load_replies rules history ks)
 reply_to rules history (Prime k) = primed (prime_reply history k)
-reply_to rules history (Clear k) = Done
-reply_to rules history ClearAll = Done
 reply_to rules history Dispatch = Sent (jobs history)
-reply_to rules history (Settle b) = Done
-reply_to rules history (Fail b) = Done
+reply_to rules history call = Done
 
 -- ---- refusals
 
@@ -54,11 +51,9 @@ abbrev pub refusal : Rules → List Atom → DeskCall → Option DeskFault
 refusal rules history (Load k) = full rules history (k ∷ [])
 refusal rules history (LoadMany ks) = full rules history ks
 refusal rules history (Prime k) = full rules history (k ∷ [])
-refusal rules history (Clear k) = None
-refusal rules history ClearAll = None
-refusal rules history Dispatch = None
 refusal rules history (Settle b) = unfit history b
 refusal rules history (Fail b) = unfit history b
+refusal rules history call = None
 
 -- the fault of a refused call: its cause, or that memory ran out
 abbrev pub IsRefusal : Rules → List Atom → DeskCall → DeskFault → Type 0

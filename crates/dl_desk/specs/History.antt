@@ -39,14 +39,8 @@ pub record Begun : Type 0 where
 -- a fresh load and a prime begin a cell
 abbrev pub begins : Atom → Option Begun
 begins (Load k (Fresh c b)) = Some (record { key = k; cell = c; batch = Some b })
-begins (Load k (Hit c)) = None
 begins (Prime k (Primed c)) = Some (record { key = k; cell = c; batch = None })
-begins (Prime k Kept) = None
-begins (Clear k) = None
-begins ClearAll = None
-begins (Dispatch js) = None
-begins (Settle b) = None
-begins (Fail b) = None
+begins a = None
 
 abbrev pub count_cell : Option Begun → ℕ → ℕ
 count_cell None n = n
@@ -112,13 +106,10 @@ latest (a ∷ before) k = latest_at k (begins a) (later a (latest before k))
 -- Whether an atom makes the memo forget a key, whose cell is of the batch: a clear of the key, a
 -- clearAll, or the fail of that very batch.
 abbrev pub forgets : Key → Option ℕ → Atom → Bool
-forgets k batch (Load j r) = false
-forgets k batch (Prime j r) = false
 forgets k batch (Clear j) = key_eq j k
 forgets k batch ClearAll = true
-forgets k batch (Dispatch js) = false
-forgets k batch (Settle b) = false
 forgets k batch (Fail b) = is_number b batch
+forgets k batch a = false
 
 abbrev pub cell_kept : Key → Option Latest → Option ℕ
 cell_kept k None = None
@@ -135,12 +126,7 @@ held history k = cell_kept k (latest history k)
 abbrev pub sent : List Atom → ℕ
 sent [] = 0
 sent (Dispatch js ∷ before) = begun before
-sent (Load k r ∷ before) = sent before
-sent (Prime k r ∷ before) = sent before
-sent (Clear k ∷ before) = sent before
-sent (ClearAll ∷ before) = sent before
-sent (Settle b ∷ before) = sent before
-sent (Fail b ∷ before) = sent before
+sent (a ∷ before) = sent before
 
 -- whether a list of members has one of the key
 abbrev pub has_member : List (Key × ℕ) → Key → Bool
@@ -207,18 +193,14 @@ jobs_from history b (suc n) = jobs_from history b n ++ job history (b + n) ∷ [
 abbrev pub jobs : List Atom → List Job
 jobs history = jobs_from history (sent history) (begun history - sent history)
 
--- ---- legal histories
+-- ---- histories that are answered
 
 -- how a batch ended, if it did
 abbrev pub end_of : List Atom → ℕ → Option End
 end_of [] b = None
-end_of (Load j r ∷ before) b = end_of before b
-end_of (Prime j r ∷ before) b = end_of before b
-end_of (Clear j ∷ before) b = end_of before b
-end_of (ClearAll ∷ before) b = end_of before b
-end_of (Dispatch js ∷ before) b = end_of before b
 end_of (Settle n ∷ before) b = if nat_eq b n then Some Settled else end_of before b
 end_of (Fail n ∷ before) b = if nat_eq b n then Some Failed else end_of before b
+end_of (a ∷ before) b = end_of before b
 
 -- a batch may end if it is sent and has not ended
 pub record MayEnd (history : List Atom) (b : ℕ) : Type 0 where
@@ -229,16 +211,15 @@ pub record MayEnd (history : List Atom) (b : ℕ) : Type 0 where
 abbrev pub IsAnswered : Rules → List Atom → Atom → Type 0
 IsAnswered rules before (Load k r) = r ≡ load_reply rules before k
 IsAnswered rules before (Prime k r) = r ≡ prime_reply before k
-IsAnswered rules before (Clear k) = Unit {0}
-IsAnswered rules before ClearAll = Unit {0}
 IsAnswered rules before (Dispatch js) = js ≡ jobs before
 IsAnswered rules before (Settle b) = MayEnd before b
 IsAnswered rules before (Fail b) = MayEnd before b
+IsAnswered rules before a = Unit {0}
 
 -- each atom of the history is answered as the atoms before it say
-abbrev pub IsLegal : Rules → List Atom → Type 0
-IsLegal rules [] = Unit {0}
-IsLegal rules (a ∷ before) = IsAnswered rules before a × IsLegal rules before
+abbrev pub AllAnswered : Rules → List Atom → Type 0
+AllAnswered rules [] = Unit {0}
+AllAnswered rules (a ∷ before) = IsAnswered rules before a × AllAnswered rules before
 
 -- ---- calls on several keys
 

@@ -1,11 +1,11 @@
--- What holds of every legal history, whatever its calls.
+-- What holds of every history that is answered as a data loader of one thread answers, whatever its calls.
 use Rattle.std.specs.Prelude.{◌≡◌, ◌≢◌, ℕ, ◌≤◌, true, List, ◌∷◌, ◌++◌, length, Option, Some, None, All, AllPairs}
 use Rattle.std.specs.List.{list_any}
 use Rattle.dl_values.specs.Key.{Key}
 use Rattle.dl_values.specs.Limits.{Limits, Rules, by_table, limit_of}
-use Rattle.dl_desk.specs.History.{Atom, Load, IsLegal, members, forgets}
+use Rattle.dl_desk.specs.History.{Atom, Load, AllAnswered, members, forgets}
 use Rattle.dl_desk.specs.Events.{atoms, ended, outcome}
-use Rattle.dl_desk.specs.Legal as event
+use Rattle.dl_desk.specs.Legal.{IsLegal}
 use Rattle.dl_desk.specs.Service.{Service}
 use Rattle.dl_desk.specs.declared.event.Event.{Event}
 use Rattle.dl_desk.specs.declared.reply.LoadReply.TheVariants.{Fresh}
@@ -17,7 +17,7 @@ use Rattle.dl_values.specs.declared.outcome.Outcome.{Outcome}
 -- first one's batch. So a key is fetched once between clears, unless its whole batch failed (DataLoader: the memo).
 abbrev pub FreshLoadsAreApart : Type 0
 FreshLoadsAreApart = (rules : Rules) (key : Key) (cell batch later_cell later_batch : ℕ) (later between before : List Atom)
-    → IsLegal rules (later ++ Load key (Fresh later_cell later_batch) ∷ (between ++ Load key (Fresh cell batch) ∷ before))
+    → AllAnswered rules (later ++ Load key (Fresh later_cell later_batch) ∷ (between ++ Load key (Fresh cell batch) ∷ before))
     → list_any (forgets key (Some batch)) between ≡ true
 
 -- each batch may have a member
@@ -37,26 +37,26 @@ pub record IsBatch (rules : Rules) (ms : List (Key × ℕ)) : Type 0 where
 
 -- a batch has distinct keys, no more than its limit, and of one table if tables have limits
 abbrev pub BatchesAreWithinLimits : Type 0
-BatchesAreWithinLimits = (rules : Rules) → HaveLimits rules → (history : List Atom) → IsLegal rules history → (batch : ℕ)
+BatchesAreWithinLimits = (rules : Rules) → HaveLimits rules → (history : List Atom) → AllAnswered rules history → (batch : ℕ)
     → IsBatch rules (members history batch)
 
 -- if each batch is of one table, a batch has distinct keys, all of one table, and no more than the limit of that table
 abbrev pub BatchesByTableAreWithinLimits : Limits → List (List ℕ × ℕ) → Type 0
-BatchesByTableAreWithinLimits limits tables = (history : List Atom) → IsLegal (by_table limits tables) history → (batch : ℕ)
+BatchesByTableAreWithinLimits limits tables = (history : List Atom) → AllAnswered (by_table limits tables) history → (batch : ℕ)
     → IsBatch (by_table limits tables) (members history batch)
 
 -- ---- pasts
 
--- The history of a legal past is legal, so the laws above hold of it too.
-abbrev pub PastsTellLegalHistories : Type 0
-PastsTellLegalHistories = (service : Service) (past : List Event) → event.IsLegal service past → IsLegal service.rules (atoms past)
+-- Each atom of a legal past is answered, so the laws above hold of it too.
+abbrev pub LegalPastsAreAnswered : Type 0
+LegalPastsAreAnswered = (service : Service) (past : List Event) → IsLegal service past → AllAnswered service.rules (atoms past)
 
 -- a cell that has ended keeps the place of its end in every longer past
 abbrev pub EndsStay : Type 0
-EndsStay = (service : Service) (later before : List Event) (cell place : ℕ) → event.IsLegal service (later ++ before) → ended before cell ≡ Some place
+EndsStay = (service : Service) (later before : List Event) (cell place : ℕ) → IsLegal service (later ++ before) → ended before cell ≡ Some place
     → ended (later ++ before) cell ≡ Some place
 
 -- and it keeps the outcome that it got
 abbrev pub OutcomesStay : Type 0
-OutcomesStay = (service : Service) (later before : List Event) (cell : ℕ) (given : Outcome) → event.IsLegal service (later ++ before)
+OutcomesStay = (service : Service) (later before : List Event) (cell : ℕ) (given : Outcome) → IsLegal service (later ++ before)
     → outcome before cell ≡ Some given → outcome (later ++ before) cell ≡ Some given

@@ -1,7 +1,7 @@
-//! Laws of the definitions, which hold for every legal history. Each function does nothing: its contract is the law,
-//! for your proof.
+//! Laws of the definitions, which hold for every history whose calls are answered as these say. Each function does
+//! nothing: its contract is the law, for your proof.
 
-ghost use Rattle.dl_desk.specs.Laws.{FreshLoadsAreApart, BatchesAreWithinLimits, BatchesByTableAreWithinLimits, PastsTellLegalHistories, EndsStay, OutcomesStay};
+ghost use Rattle.dl_desk.specs.Laws.{FreshLoadsAreApart, BatchesAreWithinLimits, BatchesByTableAreWithinLimits, LegalPastsAreAnswered, EndsStay, OutcomesStay};
 
 use dl_values::{Limits, TableLimits};
 
@@ -26,9 +26,10 @@ pub fn batches_by_table_are_within_limits(limits: &Limits, tables: &TableLimits)
     tables.keeps();
 }
 
-/// A legal past of several callers' events gives you a legal history of calls, so the laws above hold of it too.
-pub fn pasts_tell_legal_histories()
-    ensures { PastsTellLegalHistories }
+/// Each call of a legal past of several callers' events is answered as the calls before it say, so the laws above hold
+/// of it too.
+pub fn legal_pasts_are_answered()
+    ensures { LegalPastsAreAnswered }
 {}
 
 /// A cell that has ended keeps the place of its end, whatever you call later.

@@ -16,7 +16,7 @@ use Rattle.dl_desk.specs.Legal as desk
 use Rattle.dl_desk.specs.Service.{Service, AnswersEach}
 use Rattle.dl_desk.specs.declared.event.Event.{Event}
 use Rattle.dl_desk.specs.declared.event.Call.{Call}
-use Rattle.dl_desk.specs.declared.event.Call.TheVariants.{Load, LoadMany, Prime, Clear, ClearAll, Dispatch, Settle, Fail}
+use Rattle.dl_desk.specs.declared.event.Call.TheVariants.{Load, LoadMany, Prime, Settle, Fail}
 use Rattle.dl_desk.specs.declared.reply.End.{End}
 use Rattle.dl_desk.specs.declared.reply.End.TheVariants.{Settled, Failed}
 use Rattle.dl_desk.proofs.Facts.{named}
@@ -75,11 +75,7 @@ call_begins : (rules : Rules) (history : List Atom) (call : Call) (c : ℕ) → 
 call_begins rules history (Load k) c high low = inl (loads_begin rules history (k ∷ []) c high low)
 call_begins rules history (LoadMany ks) c high low = inl (loads_begin rules history ks c high low)
 call_begins rules history (Prime k o) c high low = inr (prime_begins history k c (held history k) high low)
-call_begins rules history (Clear k) c high low = absurd (omega arith)
-call_begins rules history ClearAll c high low = absurd (omega arith)
-call_begins rules history Dispatch c high low = absurd (omega arith)
-call_begins rules history (Settle b os) c high low = absurd (omega arith)
-call_begins rules history (Fail b fault) c high low = absurd (omega arith)
+call_begins rules history call c high low = absurd (omega arith)
 
 -- a cell that was begun has a batch, or a prime began it
 abbrev IsBegun : List Event → ℕ → Type 0
@@ -136,7 +132,7 @@ batch_named [] c b is = absurd (let bad : ◌≡◌ {A = Option ℕ} None (Some 
 batch_named (a ∷ before) c b is = named_at before c b (begins a) (batch_named before c b) is
 
 -- so it is one of those that were begun
-batch_begun : (rules : Rules) (history : List Atom) (c b : ℕ) → atom.IsLegal rules history → cell_batch history c ≡ Some b → b < begun history
+batch_begun : (rules : Rules) (history : List Atom) (c b : ℕ) → atom.AllAnswered rules history → cell_batch history c ≡ Some b → b < begun history
 batch_begun rules history c b legal is = ltb-true b (begun history) (sym (named rules history legal b) ∙ batch_named history c b is)
 
 -- ---- the end of a batch
@@ -150,14 +146,10 @@ loads_unending rules history (k ∷ ks) b = loads_unending rules (atom.Load k (l
 
 call_unending : (rules : Rules) (history : List Atom) (call : Call) (b : ℕ) → ends_batch b call ≡ false
     → end_of (after rules history (call_of call)) b ≡ end_of history b
-call_unending rules history (Load k) b none = refl
 call_unending rules history (LoadMany ks) b none = loads_unending rules history ks b
-call_unending rules history (Prime k o) b none = refl
-call_unending rules history (Clear k) b none = refl
-call_unending rules history ClearAll b none = refl
-call_unending rules history Dispatch b none = refl
 call_unending rules history (Settle n os) b none = end_other b n Settled (end_of history b) none
 call_unending rules history (Fail n fault) b none = end_other b n Failed (end_of history b) none
+call_unending rules history call b none = refl
 
 -- a batch that has ended was ended by an event
 last_ended : (s : Service) (past : List Event) (b : ℕ) → desk.IsLegal s past → IsSome (end_of (atoms past) b)

@@ -5,8 +5,8 @@ use Rattle.std.proofs.lemmas.Bool.{and_parts, eqb-true, eq-eqb, ne_eqb, leb-true
 use Rattle.std.proofs.lemmas.Option.{slice_get_within}
 use Rattle.dl_values.specs.Key.{Key}
 use Rattle.dl_values.specs.Limits.{Rules, limit_of}
-use Rattle.dl_desk.specs.History.{Atom, Load, Prime, Clear, ClearAll, Dispatch, Settle, Fail, Begun, begins, cells, is_number, add_member, members, sent, begun}
-use Rattle.dl_desk.specs.History.{has_member, greatest, serves, is_open, room_in, room, IsAnswered, IsLegal}
+use Rattle.dl_desk.specs.History.{Atom, Dispatch, Begun, begins, cells, is_number, add_member, members, sent, begun}
+use Rattle.dl_desk.specs.History.{has_member, greatest, serves, is_open, room_in, room, IsAnswered, AllAnswered}
 use Rattle.dl_desk.specs.Events.{batch_at, cell_batch}
 use Rattle.dl_desk.proofs.Facts.{fresh_cell, sent-le}
 use Rattle.dl_desk.proofs.EndLemmas.{Below, members-below}
@@ -91,11 +91,11 @@ below_at n (x ∷ ms) zero m below got =
 below_at n (x ∷ ms) (suc i) m below got = below_at n ms i m below.1 got
 
 -- the cell of a member was begun
-pub member_low : (rules : Rules) (history : List Atom) (b i : ℕ) (m : Key × ℕ) → IsLegal rules history → slice_get (members history b) i ≡ Some m
+pub member_low : (rules : Rules) (history : List Atom) (b i : ℕ) (m : Key × ℕ) → AllAnswered rules history → slice_get (members history b) i ≡ Some m
     → m.1 < cells history
 member_low rules history b i m legal got = below_at (cells history) (members history b) i m (members-below rules history legal b) got
 
-member_cell_step : (rules : Rules) (history : List Atom) (a : Atom) (b i : ℕ) (m : Key × ℕ) (o : Option Begun) → IsLegal rules history
+member_cell_step : (rules : Rules) (history : List Atom) (a : Atom) (b i : ℕ) (m : Key × ℕ) (o : Option Begun) → AllAnswered rules history
     → IsAnswered rules history a → begins a ≡ o → (slice_get (members history b) i ≡ Some m → cell_batch history m.1 ≡ Some b)
     → slice_get (add_member b o (members history b)) i ≡ Some m → batch_at m.1 o (cell_batch history m.1) ≡ Some b
 member_cell_step rules history a b i m None legal answered is rest got = rest got
@@ -122,7 +122,7 @@ member_cell_step rules history a b i m (Some g) legal answered is rest got = by 
     by false other f = old f
 
 -- the cell of a member has the batch
-pub member_cell : (rules : Rules) (history : List Atom) (b i : ℕ) (m : Key × ℕ) → IsLegal rules history → slice_get (members history b) i ≡ Some m
+pub member_cell : (rules : Rules) (history : List Atom) (b i : ℕ) (m : Key × ℕ) → AllAnswered rules history → slice_get (members history b) i ≡ Some m
     → cell_batch history m.1 ≡ Some b
 member_cell rules [] b i m legal got = absurd (let bad : ◌≡◌ {A = Option (Key × ℕ)} None (Some m) = got in cc)
 member_cell rules (a ∷ before) b i m legal got =
@@ -147,7 +147,7 @@ rising_push ms x rising below i j m n low first second = by (get-snoc ms x m i f
     by (inr f) (inl s) = let p = f.0 in let q = s.0 in absurd (omega arith)
     by (inr f) (inr s) = let p = f.0 in let q = s.0 in absurd (omega arith)
 
-rising_step : (rules : Rules) (history : List Atom) (a : Atom) (b : ℕ) (o : Option Begun) → IsLegal rules history → IsAnswered rules history a → begins a ≡ o
+rising_step : (rules : Rules) (history : List Atom) (a : Atom) (b : ℕ) (o : Option Begun) → AllAnswered rules history → IsAnswered rules history a → begins a ≡ o
     → Rising (members history b) → Rising (add_member b o (members history b))
 rising_step rules history a b None legal answered is rising = rising
 rising_step rules history a b (Some g) legal answered is rising = by (is_number b g.batch)
@@ -161,12 +161,12 @@ rising_step rules history a b (Some g) legal answered is rising = by (is_number 
     by false = rising
 
 -- the cells of a batch's members rise
-pub members-rise : (rules : Rules) (history : List Atom) (b : ℕ) → IsLegal rules history → Rising (members history b)
+pub members-rise : (rules : Rules) (history : List Atom) (b : ℕ) → AllAnswered rules history → Rising (members history b)
 members-rise rules [] b legal = λ i j m n low first second. absurd (let bad : ◌≡◌ {A = Option (Key × ℕ)} None (Some m) = first in cc)
 members-rise rules (a ∷ before) b legal = rising_step rules before a b (begins a) legal.1 legal.0 refl (members-rise rules before b legal.1)
 
 -- so no two members have one cell
-pub members-apart : (rules : Rules) (history : List Atom) (b i j : ℕ) (m n : Key × ℕ) → IsLegal rules history → slice_get (members history b) i ≡ Some m
+pub members-apart : (rules : Rules) (history : List Atom) (b i j : ℕ) (m n : Key × ℕ) → AllAnswered rules history → slice_get (members history b) i ≡ Some m
     → slice_get (members history b) j ≡ Some n → m.1 ≡ n.1 → i ≡ j
 members-apart rules history b i j m n legal first second same = by (cases_order i j)
   where
@@ -207,13 +207,8 @@ members_stay_step rules history a b (Some g) answered is low = by (is_number b g
     by false other = refl
 
 sent_more : (a : Atom) (history : List Atom) → sent history ≤ sent (a ∷ history)
-sent_more (Load k r) history = omega arith
-sent_more (Prime k r) history = omega arith
-sent_more (Clear k) history = omega arith
-sent_more ClearAll history = omega arith
 sent_more (Dispatch js) history = sent-le history
-sent_more (Settle b) history = omega arith
-sent_more (Fail b) history = omega arith
+sent_more a history = omega arith
 
 -- a longer history has no fewer batches that are sent
 sent-append : (added history : List Atom) → sent history ≤ sent (added ++ history)
@@ -224,7 +219,7 @@ sent-append (a ∷ added) history =
     omega arith
 
 -- a batch that is sent gets no more members
-pub members_stay : (rules : Rules) (added history : List Atom) (b : ℕ) → IsLegal rules (added ++ history) → b < sent history
+pub members_stay : (rules : Rules) (added history : List Atom) (b : ℕ) → AllAnswered rules (added ++ history) → b < sent history
     → members (added ++ history) b ≡ members history b
 members_stay rules [] history b legal low = refl
 members_stay rules (a ∷ added) history b legal low =
@@ -242,7 +237,7 @@ unsent_step rules history a c n (Some g) answered is low rest b f = by (nat_eq c
     by false old = rest b old
 
 -- a cell whose batch isn't sent, if it has one, has no sent one in a longer history
-pub still_unsent : (rules : Rules) (added history : List Atom) (c : ℕ) → IsLegal rules (added ++ history)
+pub still_unsent : (rules : Rules) (added history : List Atom) (c : ℕ) → AllAnswered rules (added ++ history)
     → ((b : ℕ) → cell_batch history c ≡ Some b → sent history ≤ b) → (b : ℕ) → cell_batch (added ++ history) c ≡ Some b → sent history ≤ b
 still_unsent rules [] history c legal rest = rest
 still_unsent rules (a ∷ added) history c legal rest =

@@ -5,7 +5,7 @@ use Rattle.std.specs.List.{list_any}
 use Rattle.dl_values.specs.Key.{Key, key_eq}
 use Rattle.dl_values.specs.Limits.{Rules}
 use Rattle.dl_desk.specs.History.{Atom, Begun, begins, cells, count_cell, Latest, later, latest_at, latest, forgets, cell_kept, held, load_reply, load_replies}
-use Rattle.dl_desk.specs.History.{loaded, IsAnswered, IsLegal as AreLegal}
+use Rattle.dl_desk.specs.History.{loaded, IsAnswered, AllAnswered}
 use Rattle.dl_desk.specs.History as atom
 use Rattle.dl_desk.specs.Events.{call_atoms, atoms}
 use Rattle.dl_desk.specs.Calls.{after}
@@ -24,7 +24,7 @@ use Rattle.dl_desk.proofs.PastAtoms.{legal_atoms}
 use Rattle.dl_history.proofs.ListLemmas.{take-get}
 use Rattle.dl_history.proofs.Pasts.{atoms_next, legal_front, legal_place}
 use Rattle.std.proofs.lemmas.List.{reverse-append, take-append-drop}
-use Rattle.dl_desk.specs.declared.event.Call.TheVariants.{Load, LoadMany, Prime, Clear, ClearAll, Dispatch, Settle, Fail}
+use Rattle.dl_desk.specs.declared.event.Call.TheVariants.{Load, LoadMany, Prime}
 use Rattle.dl_history.proofs.ListLemmas.{every_map}
 
 -- ---- the cell that is held
@@ -53,12 +53,12 @@ latest_step rules a before k l (Some g) rest answered is low got = by (key_eq g.
         let cell : x.cell ≡ l.cell = let inner : record { cell = x.cell; batch = x.batch; after = a ∷ x.after } ≡ l = cc in ap (λ (y : Latest). y.cell) inner in
         omega arith
 
-latest_low : (rules : Rules) (history : List Atom) → AreLegal rules history → (k : Key) (l : Latest) → latest history k ≡ Some l → l.cell < cells history
+latest_low : (rules : Rules) (history : List Atom) → AllAnswered rules history → (k : Key) (l : Latest) → latest history k ≡ Some l → l.cell < cells history
 latest_low rules [] legal k l got = absurd (let bad : ◌≡◌ {A = Option Latest} None (Some l) = got in cc)
 latest_low rules (a ∷ before) legal k l got = latest_step rules a before k l (begins a) (latest before k) legal.0 refl (latest_low rules before legal.1 k) got
 
 -- a cell that is held was begun
-pub held_low : (rules : Rules) (history : List Atom) → AreLegal rules history → (k : Key) (c : ℕ) → held history k ≡ Some c → c < cells history
+pub held_low : (rules : Rules) (history : List Atom) → AllAnswered rules history → (k : Key) (c : ℕ) → held history k ≡ Some c → c < cells history
 held_low rules history legal k c got = by (latest history k) (latest_low rules history legal k) got
   where
     kept : (l : Latest) (t : Bool) → l.cell < cells history → cond t None (Some l.cell) ≡ Some c → c < cells history
@@ -72,7 +72,7 @@ held_low rules history legal k c got = by (latest history k) (latest_low rules h
 -- ---- the cells of replies
 
 -- the cell with which a load is answered was begun, with the load
-pub reply_low : (rules : Rules) (history : List Atom) → AreLegal rules history → (k : Key) (r : LoadReply) → r ≡ load_reply rules history k
+pub reply_low : (rules : Rules) (history : List Atom) → AllAnswered rules history → (k : Key) (r : LoadReply) → r ≡ load_reply rules history k
     → cell_of_load r < cells (atom.Load k r ∷ history)
 reply_low rules history legal k r is = by (held history k) refl
   where
@@ -96,7 +96,7 @@ cells_loaded rules history (k ∷ ks) =
     by (Fresh c b) = omega arith
 
 -- and so were those of a loadMany
-pub replies_low : (rules : Rules) (history : List Atom) → AreLegal rules history → (ks : List Key)
+pub replies_low : (rules : Rules) (history : List Atom) → AllAnswered rules history → (ks : List Key)
     → Every (λ r. cell_of_load r < cells (loaded rules history ks)) (load_replies rules history ks)
 replies_low rules history legal [] = tt
 replies_low rules history legal (k ∷ ks) =
@@ -129,11 +129,7 @@ answered_now s es e (Prime k o) legal next is = by (held (atoms (past es)) k) re
         → AllBelow (cells (after s.rules (atoms (past es)) (call_of (Prime k o)))) (answered (reply_to s.rules (atoms (past es)) (Prime k o)))
     by None none = rw none (omega arith, tt)
     by (Some c) some = rw some tt
-answered_now s es e (Clear k) legal next is = tt
-answered_now s es e ClearAll legal next is = tt
-answered_now s es e Dispatch legal next is = tt
-answered_now s es e (Settle b os) legal next is = tt
-answered_now s es e (Fail b fault) legal next is = tt
+answered_now s es e call legal next is = tt
 
 answered_next : (s : Service) (es : List Event) (e : Event) → IsLegal s es → IsNext s (past es) e → AllBelow (cells (atoms (past (es ++ e ∷ [])))) (answered e.reply)
 answered_next s es e legal next = rw (atoms_next s es e next, next.reply) (answered_now s es e e.call legal next refl)

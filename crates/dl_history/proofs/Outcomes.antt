@@ -13,7 +13,7 @@ use Rattle.dl_desk.specs.declared.reply.DeskPrime.TheVariants as prime
 use Rattle.dl_desk.specs.declared.event.Event.{Event}
 use Rattle.dl_desk.specs.declared.event.Ending.{Ending}
 use Rattle.dl_desk.specs.declared.event.Call.{Call}
-use Rattle.dl_desk.specs.declared.event.Call.TheVariants.{Load, LoadMany, Prime, Clear, ClearAll, Dispatch, Settle, Fail}
+use Rattle.dl_desk.specs.declared.event.Call.TheVariants.{Prime, Settle, Fail}
 use Rattle.dl_desk.specs.Service.{Service, AnswersEach}
 use Rattle.dl_desk.specs.Calls.{primed}
 use Rattle.dl_desk.specs.Legal.{reply_to, IsNext}
@@ -81,15 +81,11 @@ ends_or_spares_fail s es e c b fault legal next is = by (has_cell (members (atom
 
 ends_or_spares_call : (s : Service) (es : List Event) (e : Event) (c : ℕ) → AnswersEach s.answer → IsLegal s es → IsNext s (past es) e → (call : Call) → e.call ≡ call
     → EndsOrSpares es e c
-ends_or_spares_call s es e c each legal next (Load k) is = inr (none_spares (atoms (past es)) e c (call_ends_none s es e (Load k) next is (λ d. refl) (λ b. refl)))
-ends_or_spares_call s es e c each legal next (LoadMany ks) is = inr (none_spares (atoms (past es)) e c (call_ends_none s es e (LoadMany ks) next is (λ d. refl) (λ b. refl)))
 ends_or_spares_call s es e c each legal next (Prime k o) is =
     ends_or_spares_prime s es e c k o legal next is (prime_reply (atoms (past es)) k) (next.reply ∙ ap (reply_to s.rules (atoms (past es))) is)
-ends_or_spares_call s es e c each legal next (Clear k) is = inr (none_spares (atoms (past es)) e c (call_ends_none s es e (Clear k) next is (λ d. refl) (λ b. refl)))
-ends_or_spares_call s es e c each legal next ClearAll is = inr (none_spares (atoms (past es)) e c (call_ends_none s es e ClearAll next is (λ d. refl) (λ b. refl)))
-ends_or_spares_call s es e c each legal next Dispatch is = inr (none_spares (atoms (past es)) e c (call_ends_none s es e Dispatch next is (λ d. refl) (λ b. refl)))
 ends_or_spares_call s es e c each legal next (Settle b os) is = ends_or_spares_settle s es e c b os each legal next is
 ends_or_spares_call s es e c each legal next (Fail b fault) is = ends_or_spares_fail s es e c b fault legal next is
+ends_or_spares_call s es e c each legal next call is = inr (none_spares (atoms (past es)) e c (call_ends_none s es e call next is (λ d. refl) (λ b. refl)))
 
 -- where the source answers each key, a next event ends a cell, which then shows that, or spares it
 pub ends_or_spares : (s : Service) (es : List Event) (e : Event) (c : ℕ) → AnswersEach s.answer → IsLegal s es → IsNext s (past es) e → EndsOrSpares es e c

@@ -12,7 +12,7 @@ use Rattle.dl_desk.specs.Legal.{IsNext, IsLegal}
 use Rattle.dl_desk.specs.Service.{Service}
 use Rattle.dl_desk.specs.declared.event.Event.{Event}
 use Rattle.dl_desk.specs.declared.event.Call.{Call}
-use Rattle.dl_desk.specs.declared.event.Call.TheVariants.{Load, LoadMany, Prime, Clear, ClearAll, Dispatch, Settle, Fail}
+use Rattle.dl_desk.specs.declared.event.Call.TheVariants.{Settle}
 use Rattle.dl_desk.proofs.Facts.{end_of-unsent}
 use Rattle.dl_desk.proofs.LawEnds.{batch_stays, cell_batch-low, primed-low, ended-low, last-unended}
 use Rattle.dl_desk.proofs.PastAtoms.{legal_atoms, event_primes, ends_may_end}
@@ -141,13 +141,6 @@ ending_spared s e before c legal spares = by (cases_lt c (cells (atoms before)))
 
 given_spared : (s : Service) (e : Event) (before : List Event) (c : ℕ) (p : Placed) → IsLegal s (e ∷ before) → ending before c ≡ Some p → (call : Call)
     → outcome_given (atoms (e ∷ before)) c call ≡ outcome_given (atoms before) c call
-given_spared s e before c p legal is (Load k) = refl
-given_spared s e before c p legal is (LoadMany ks) = refl
-given_spared s e before c p legal is (Prime k o) = refl
-given_spared s e before c p legal is (Clear k) = refl
-given_spared s e before c p legal is ClearAll = refl
-given_spared s e before c p legal is Dispatch = refl
-given_spared s e before c p legal is (Fail n fault) = refl
 given_spared s e before c p legal is (Settle n os) =
     rw (batch_stays s e before c legal (ended-low s before c p legal.1 is)) (by (cell_batch (atoms before) c) refl)
   where
@@ -156,6 +149,7 @@ given_spared s e before c p legal is (Settle n os) =
     by None at = refl
     by (Some b) at = ap (λ (ms : List (Key × ℕ)). lookup (nat_eq c) (zip (map (λ (m : Key × ℕ). m.1) ms) os))
         (members_stay s.rules (call_atoms e.call e.reply) (atoms before) b (legal_atoms s (e ∷ before) legal) (ended_sent s before c b p legal.1 is at))
+given_spared s e before c p legal is call = refl
 
 -- and so does what it gave to the cell
 pub outcome_spared : (s : Service) (e : Event) (before : List Event) (c : ℕ) → IsLegal s (e ∷ before) → Spares (atoms before) e c

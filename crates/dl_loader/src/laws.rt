@@ -15,8 +15,8 @@ use crate::event_call::{
 };
 use crate::loader::Loader;
 pub use dl_desk::laws::{
-    batches_are_within_limits, ends_stay, fresh_loads_are_apart, outcomes_stay,
-    pasts_tell_legal_histories,
+    batches_are_within_limits, ends_stay, fresh_loads_are_apart, legal_pasts_are_answered,
+    outcomes_stay,
 };
 pub use dl_history::laws::{events_are_calls, histories_begin_empty, looks_agree};
 use dl_history::{CallFault, CellRows, LoaderName, Pass, Reply};

@@ -4,7 +4,7 @@ use Rattle.std.proofs.Common.{length, get_or, take, refl, ap, sym, ◌∙◌}
 use Rattle.std.proofs.lemmas.List.{take_more}
 use Rattle.dl_desk.specs.History as desk
 use Rattle.dl_reference.specs.declared.atom.Atom.{Atom}
-use Rattle.dl_reference.specs.declared.atom.Atom.TheVariants.{Load, Prime, Clear, ClearAll, Dispatch, Settle, Fail}
+use Rattle.dl_reference.specs.declared.atom.Atom.TheVariants.{Dispatch}
 use Rattle.dl_reference.specs.declared.atom.Begun.{Begun}
 use Rattle.dl_reference.specs.Beginnings.{begun_of}
 use Rattle.std.specs.Option.{option_or}
@@ -39,13 +39,8 @@ none_named (Some b) a e never = absurd (never b refl)
 
 -- an atom that is no dispatch sends nothing
 pub sent_other : (a : Atom) (before : List desk.Atom) → ((js : List Job) → a ≡ Dispatch js → ⊥) → desk.sent (desk_atom a ∷ before) ≡ desk.sent before
-sent_other (Load k r) before never = refl
-sent_other (Prime k r) before never = refl
-sent_other (Clear k) before never = refl
-sent_other ClearAll before never = refl
 sent_other (Dispatch js) before never = absurd (never js refl)
-sent_other (Settle b) before never = refl
-sent_other (Fail b) before never = refl
+sent_other a before never = refl
 
 if-or : (t : Bool) (e : End) (rest : Option End) → (if t then Some e else rest) ≡ option_or (if t then Some e else None) rest
 if-or true e rest = refl
@@ -53,10 +48,6 @@ if-or false e rest = refl
 
 -- the newest end counts
 pub end_of-cons : (a : desk.Atom) (before : List desk.Atom) (b : ℕ) → desk.end_of (a ∷ before) b ≡ option_or (ended_by a b) (desk.end_of before b)
-end_of-cons (desk.Load k r) before b = refl
-end_of-cons (desk.Prime k r) before b = refl
-end_of-cons (desk.Clear k) before b = refl
-end_of-cons desk.ClearAll before b = refl
-end_of-cons (desk.Dispatch js) before b = refl
 end_of-cons (desk.Settle n) before b = if-or (nat_eq b n) Settled (desk.end_of before b)
 end_of-cons (desk.Fail n) before b = if-or (nat_eq b n) Failed (desk.end_of before b)
+end_of-cons a before b = refl

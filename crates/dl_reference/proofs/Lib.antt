@@ -1,3 +1,3 @@
 pub mod HistoryGrowth
 pub mod Latests
-pub mod LegalHistories
+pub mod AnsweredHistories

@@ -26,10 +26,6 @@ history_of atoms = history_onto [] atoms
 
 -- how an atom ends the batch, if it does
 abbrev pub ended_by : desk.Atom → ℕ → Option End
-ended_by (desk.Load k r) b = None
-ended_by (desk.Prime k r) b = None
-ended_by (desk.Clear k) b = None
-ended_by desk.ClearAll b = None
-ended_by (desk.Dispatch js) b = None
 ended_by (desk.Settle n) b = if nat_eq b n then Some Settled else None
 ended_by (desk.Fail n) b = if nat_eq b n then Some Failed else None
+ended_by a b = None

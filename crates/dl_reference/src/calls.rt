@@ -4,7 +4,7 @@
 ghost use Rattle.std.specs.Prelude.{◌≡◌, ◌∷◌, IfOk, OnOk};
 ghost use Rattle.std.specs.List.{list_any};
 ghost use Rattle.dl_values.specs.Key.{key_eq};
-ghost use Rattle.dl_desk.specs.History.{IsLegal, loaded, load_replies};
+ghost use Rattle.dl_desk.specs.History.{AllAnswered, loaded, load_replies};
 ghost use Rattle.dl_desk.specs.Calls as desk;
 ghost use Rattle.dl_reference.specs.History.{desk_atom, history_of};
 ghost use Rattle.dl_reference.specs.Rules.{rules_of};
@@ -156,8 +156,9 @@ fn accept(
     }
 }
 
-/// The answer to a call: why the loader rejects it, or its reply, and then the call joins the history. A legal history
-/// stays legal. If memory runs out, the call fails, and the history is of no use after that.
+/// The answer to a call: why the loader rejects it, or its reply, and then the call joins the history. If each call of
+/// the history was answered so before, it still is. If memory runs out, the call fails, and the history is of no use
+/// after that.
 pub fn answer(
     alloc: Global,
     rules: &Rules,
@@ -166,7 +167,7 @@ pub fn answer(
 ) -> Result<Result<Reply, DeskFault>, AllocError>
     ensures answer { IfOk result (λ told. told ≡ desk.answer (rules_of rules.now) (history_of history.old.items) call.now) }
     ensures history { OnOk result (history_of history.new.items ≡ desk.next (rules_of rules.now) (history_of history.old.items) call.now) }
-    ensures legal { OnOk result (IsLegal (rules_of rules.now) (history_of history.old.items) → IsLegal (rules_of rules.now) (history_of history.new.items)) }
+    ensures answered { OnOk result (AllAnswered (rules_of rules.now) (history_of history.old.items) → AllAnswered (rules_of rules.now) (history_of history.new.items)) }
 {
     match refusal(rules, history.as_slice(), call) {
         Some(fault) => Ok(Err(fault)),

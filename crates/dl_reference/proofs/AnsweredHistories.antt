@@ -1,9 +1,9 @@
--- The history that a call leaves is legal.
+-- Each call of the history that a call leaves is answered.
 use Rattle.std.proofs.Common.{◌≡◌, refl, sym, subst, ℕ, Bool, true, false, cond, List, [], ◌∷◌, Option, Some, None, is_some, nat_le, arith}
 use Rattle.std.proofs.lemmas.Bool.Decides.{nat_tests}
 use Rattle.dl_values.specs.Key.{Key}
 use Rattle.dl_values.specs.Limits.{Rules}
-use Rattle.dl_desk.specs.History.{Atom, Load, begun, sent, end_of, MayEnd, load_reply, IsLegal, loaded}
+use Rattle.dl_desk.specs.History.{Atom, Load, begun, sent, end_of, MayEnd, load_reply, AllAnswered, loaded}
 use Rattle.dl_desk.specs.Calls.{unfit, refusal, after}
 use Rattle.dl_desk.specs.declared.call.DeskCall.{DeskCall}
 use Rattle.dl_desk.specs.declared.call.DeskCall.TheVariants as asked
@@ -11,9 +11,9 @@ use Rattle.dl_desk.specs.declared.reply.End.{End}
 use Rattle.dl_desk.specs.declared.fault.DeskFault.{DeskFault}
 use Rattle.dl_desk.specs.declared.fault.DeskFault.TheVariants.{NoBatch, NotSent, SettledBefore}
 
-loaded_legal : (rules : Rules) (history : List Atom) (ks : List Key) → IsLegal rules history → IsLegal rules (loaded rules history ks)
-loaded_legal rules history [] legal = legal
-loaded_legal rules history (k ∷ ks) legal = loaded_legal rules (Load k (load_reply rules history k) ∷ history) ks (refl, legal)
+loaded_answered : (rules : Rules) (history : List Atom) (ks : List Key) → AllAnswered rules history → AllAnswered rules (loaded rules history ks)
+loaded_answered rules history [] legal = legal
+loaded_answered rules history (k ∷ ks) legal = loaded_answered rules (Load k (load_reply rules history k) ∷ history) ks (refl, legal)
 
 -- an end that isn't refused is one that may be
 may_end : (history : List Atom) (b : ℕ) → unfit history b ≡ None → MayEnd history b
@@ -26,18 +26,17 @@ may_end history b fit = by (nat_le (begun history) b) (nat_le (sent history) b) 
     by false false low (Some x) is e = absurd (let bad : ◌≡◌ {A = Option DeskFault} (Some SettledBefore) None = e in cc)
     by false false low None is e = record { is_sent = grind (arith, nat_tests); no_end = is }
 
-after_legal : (rules : Rules) (history : List Atom) (call : DeskCall) → refusal rules history call ≡ None → IsLegal rules history
-    → IsLegal rules (after rules history call)
-after_legal rules history (asked.Load k) fit legal = (refl, legal)
-after_legal rules history (asked.LoadMany ks) fit legal = loaded_legal rules history ks legal
-after_legal rules history (asked.Prime k) fit legal = (refl, legal)
-after_legal rules history (asked.Clear k) fit legal = (tt, legal)
-after_legal rules history asked.ClearAll fit legal = (tt, legal)
-after_legal rules history asked.Dispatch fit legal = (refl, legal)
-after_legal rules history (asked.Settle b) fit legal = (may_end history b fit, legal)
-after_legal rules history (asked.Fail b) fit legal = (may_end history b fit, legal)
+after_answered : (rules : Rules) (history : List Atom) (call : DeskCall) → refusal rules history call ≡ None → AllAnswered rules history
+    → AllAnswered rules (after rules history call)
+after_answered rules history (asked.Load k) fit legal = (refl, legal)
+after_answered rules history (asked.LoadMany ks) fit legal = loaded_answered rules history ks legal
+after_answered rules history (asked.Prime k) fit legal = (refl, legal)
+after_answered rules history asked.Dispatch fit legal = (refl, legal)
+after_answered rules history (asked.Settle b) fit legal = (may_end history b fit, legal)
+after_answered rules history (asked.Fail b) fit legal = (may_end history b fit, legal)
+after_answered rules history call fit legal = (tt, legal)
 
 -- the history that an accepted call leaves
-pub legal_after : (rules : Rules) (history : List Atom) (call : DeskCall) → refusal rules history call ≡ None → (longer : List Atom)
-    → longer ≡ after rules history call → IsLegal rules history → IsLegal rules longer
-legal_after rules history call fit longer is legal = subst (IsLegal rules) (sym is) (after_legal rules history call fit legal)
+pub answered_after : (rules : Rules) (history : List Atom) (call : DeskCall) → refusal rules history call ≡ None → (longer : List Atom)
+    → longer ≡ after rules history call → AllAnswered rules history → AllAnswered rules longer
+answered_after rules history call fit longer is legal = subst (AllAnswered rules) (sym is) (after_answered rules history call fit legal)
