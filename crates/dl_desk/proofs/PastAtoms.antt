@@ -3,10 +3,10 @@ use Rattle.std.proofs.Common.{◌≡◌, ◌∙◌, sym, ap, subst, ℕ, true, f
 use Rattle.std.specs.List.{zip}
 use Rattle.std.proofs.lemmas.Bool.{eqb-true}
 use Rattle.std.proofs.lemmas.Grind.{reverse_onto}
+use Rattle.dl_values.specs.Answering.{Answering}
 use Rattle.dl_values.specs.Key.{Key}
 use Rattle.dl_values.specs.Limits.{Rules}
 use Rattle.dl_values.specs.declared.outcome.Outcome.{Outcome}
-use Rattle.dl_values.specs.declared.outcome.BatchAnswer.{BatchAnswer}
 use Rattle.dl_desk.specs.Service.{Service}
 use Rattle.dl_desk.specs.Laws.{PastsTellLegalHistories}
 use Rattle.dl_desk.specs.Calls.{primed}
@@ -62,7 +62,7 @@ loaded_legal : (rules : Rules) (history : List Atom) (ks : List Key) → atom.Is
 loaded_legal rules history [] legal = legal
 loaded_legal rules history (k ∷ ks) legal = loaded_legal rules (atom.Load k (load_reply rules history k) ∷ history) ks (refl, legal)
 
-after_legal : (answer : List Key → BatchAnswer) (rules : Rules) (history : List Atom) (call : Call) → MayBeMade answer history call → atom.IsLegal rules history
+after_legal : (answer : Answering) (rules : Rules) (history : List Atom) (call : Call) → MayBeMade answer history call → atom.IsLegal rules history
     → atom.IsLegal rules (after rules history (call_of call))
 after_legal answer rules history (Load k) may legal = (refl, legal)
 after_legal answer rules history (LoadMany ks) may legal = loaded_legal rules history ks legal
@@ -119,7 +119,7 @@ event_primes s before e c next now =
 
 -- ---- the end of a batch
 
-call_may_end : (answer : List Key → BatchAnswer) (history : List Atom) (call : Call) (b : ℕ) → MayBeMade answer history call → ends_batch b call ≡ true
+call_may_end : (answer : Answering) (history : List Atom) (call : Call) (b : ℕ) → MayBeMade answer history call → ends_batch b call ≡ true
     → MayEnd history b
 call_may_end answer history (Load k) b may now = absurd (let bad : false ≡ true = now in cc)
 call_may_end answer history (LoadMany ks) b may now = absurd (let bad : false ≡ true = now in cc)
