@@ -1,10 +1,10 @@
 -- What a source answers that answers every key alike.
 use Rattle.std.specs.Prelude.{List, map}
 use Rattle.std.proofs.lemmas.List.{length-map}
+use Rattle.dl_values.specs.Answering.{IsFor}
 use Rattle.dl_values.specs.Key.{Key}
 use Rattle.dl_values.specs.declared.outcome.Outcome.{Outcome}
 use Rattle.dl_values.specs.declared.outcome.Outcome.TheVariants.{Value}
-use Rattle.dl_source.specs.Source.{IsFor}
 use Rattle.dl_values.specs.declared.outcome.BatchAnswer.{BatchAnswer}
 use Rattle.dl_values.specs.declared.outcome.BatchAnswer.TheVariants.{Each}
 use Rattle.dl_bench.specs.declared.alike.Alike.{Alike}

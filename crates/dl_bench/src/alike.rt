@@ -31,9 +31,10 @@ impl Alike {
 }
 
 impl Source for Alike {
+    ghost use Rattle.dl_values.specs.Answering.{function};
     ghost use Rattle.dl_bench.specs.Alike.{answer_alike, answer_fits};
 
-    ghost answer = { answer_alike };
+    ghost answer = { function answer_alike };
 
     ghost fits = { answer_fits };
 

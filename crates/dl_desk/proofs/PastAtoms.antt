@@ -3,10 +3,10 @@ use Rattle.std.proofs.Common.{◌≡◌, ◌∙◌, sym, ap, subst, ℕ, true, f
 use Rattle.std.specs.List.{zip}
 use Rattle.std.proofs.lemmas.Bool.{eqb-true}
 use Rattle.std.proofs.lemmas.Grind.{reverse_onto}
+use Rattle.dl_values.specs.Answering.{Answering}
 use Rattle.dl_values.specs.Key.{Key}
 use Rattle.dl_values.specs.Limits.{Rules}
 use Rattle.dl_values.specs.declared.outcome.Outcome.{Outcome}
-use Rattle.dl_values.specs.declared.outcome.BatchAnswer.{BatchAnswer}
 use Rattle.dl_desk.specs.Service.{Service}
 use Rattle.dl_desk.specs.Laws.{LegalPastsAreAnswered}
 use Rattle.dl_desk.specs.Calls.{primed}
@@ -57,7 +57,7 @@ loaded_answered : (rules : Rules) (history : List Atom) (ks : List Key) → atom
 loaded_answered rules history [] legal = legal
 loaded_answered rules history (k ∷ ks) legal = loaded_answered rules (atom.Load k (load_reply rules history k) ∷ history) ks (refl, legal)
 
-after_answered : (answer : List Key → BatchAnswer) (rules : Rules) (history : List Atom) (call : Call) → MayBeMade answer history call → atom.AllAnswered rules history
+after_answered : (answer : Answering) (rules : Rules) (history : List Atom) (call : Call) → MayBeMade answer history call → atom.AllAnswered rules history
     → atom.AllAnswered rules (after rules history (call_of call))
 after_answered answer rules history (Load k) may legal = (refl, legal)
 after_answered answer rules history (LoadMany ks) may legal = loaded_answered rules history ks legal
@@ -107,7 +107,7 @@ event_primes s before e c next now =
 
 -- ---- the end of a batch
 
-call_may_end : (answer : List Key → BatchAnswer) (history : List Atom) (call : Call) (b : ℕ) → MayBeMade answer history call → ends_batch b call ≡ true
+call_may_end : (answer : Answering) (history : List Atom) (call : Call) (b : ℕ) → MayBeMade answer history call → ends_batch b call ≡ true
     → MayEnd history b
 call_may_end answer history (Settle n os) b may now = subst (MayEnd history) (sym (eqb-true b n now)) may.0
 call_may_end answer history (Fail n fault) b may now = subst (MayEnd history) (sym (eqb-true b n now)) may.0

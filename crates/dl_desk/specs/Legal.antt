@@ -1,11 +1,11 @@
 -- When a past is legal: each event is a call that may be made, with the reply that the definitions of a data loader of
 -- one thread give there.
 use Rattle.std.specs.Prelude.{◌≡◌, ℕ, ◌<◌, List, [], ◌∷◌, map}
+use Rattle.dl_values.specs.Answering.{Answering, MayAnswer}
 use Rattle.dl_values.specs.Key.{Key}
 use Rattle.dl_values.specs.Limits.{Rules}
 use Rattle.dl_values.specs.declared.outcome.BatchFault.{BatchFault}
 use Rattle.dl_values.specs.declared.outcome.BatchFault.TheVariants.{Source, Memory, Unsent}
-use Rattle.dl_values.specs.declared.outcome.BatchAnswer.{BatchAnswer}
 use Rattle.dl_values.specs.declared.outcome.BatchAnswer.TheVariants as answered
 use Rattle.dl_desk.specs.Service.{Service}
 use Rattle.dl_desk.specs.History.{Atom, MayEnd, members}
@@ -41,16 +41,16 @@ reply_to rules history call = desk.reply_to rules history (call_of call)
 abbrev pub keys_of : List Atom → ℕ → List Key
 keys_of history b = map (λ m. m.0) (members history b)
 
--- a batch fails with the text of the source's break for its keys, or because its caller gives it up
-abbrev pub IsFault : (List Key → BatchAnswer) → List Key → BatchFault → Type 0
-IsFault answer keys (Source text) = answer keys ≡ answered.Break text
+-- a batch fails with the text of a break that the source may answer to its keys, or because its caller gives it up
+abbrev pub IsFault : Answering → List Key → BatchFault → Type 0
+IsFault answer keys (Source text) = MayAnswer answer keys (answered.Break text)
 IsFault answer keys Memory = Unit {0}
 IsFault answer keys Unsent = Unit {0}
 
--- A call may be made after a history: an end is of a batch that is sent and has not ended, a settle brings the outcomes
--- that the source answers to the batch's keys, and a fail has such a fault.
-abbrev pub MayBeMade : (List Key → BatchAnswer) → List Atom → Call → Type 0
-MayBeMade answer history (Settle b os) = MayEnd history b × (answer (keys_of history b) ≡ answered.Each os)
+-- A call may be made after a history: an end is of a batch that is sent and has not ended, a settle brings outcomes
+-- that the source may answer to the batch's keys, and a fail has such a fault.
+abbrev pub MayBeMade : Answering → List Atom → Call → Type 0
+MayBeMade answer history (Settle b os) = MayEnd history b × MayAnswer answer (keys_of history b) (answered.Each os)
 MayBeMade answer history (Fail b fault) = MayEnd history b × IsFault answer (keys_of history b) fault
 MayBeMade answer history call = Unit {0}
 

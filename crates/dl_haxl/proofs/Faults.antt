@@ -6,7 +6,7 @@ use Rattle.dl_desk.specs.Service.{Service}
 use Rattle.dl_loader.specs.Pass.{Trace}
 use Rattle.dl_history.specs.declared.fault.CallFault.{CallFault}
 use Rattle.dl_loader.specs.EventEffect.{KnowsStop}
-use Rattle.dl_loader.specs.JobEnd.{WasNotEnded, end_answered, end_unanswered}
+use Rattle.dl_loader.specs.JobEnd.{WasNotEnded, end_unanswered}
 use Rattle.dl_haxl.specs.RunFaults.{IsRunFault, SomeCallRefused}
 use Rattle.dl_haxl.specs.declared.fault.RunFault.{RunFault}
 
@@ -18,5 +18,5 @@ fault_of_same s now old flags fault same why = subst (λ n. IsRunFault s n flags
 -- an end of a job that was refused
 pub not_ended : (s : Service) (p : Trace) (flags : KnownFlags) (job : Job) (fault : CallFault) → WasNotEnded s p job fault → KnowsStop flags fault
     → SomeCallRefused s p.caller flags fault
-not_ended s p flags job fault (inl refused) knows = (p, end_answered s job, Some job, refl, refused, knows)
+not_ended s p flags job fault (inl (call, is, refused)) knows = (p, call, Some job, refl, refused, knows)
 not_ended s p flags job fault (inr refused) knows = (p, end_unanswered job, Some job, refl, refused, knows)

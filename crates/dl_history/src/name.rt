@@ -13,7 +13,7 @@ pub trait LoaderName: Ledger {
     // The row that the history lies in, the row that the outcomes of cells lie in, and the flags.
     ghost cells: { CellNames };
 
-    // What the loader serves by: how it makes batches, its callers, and the one function of its source.
+    // What the loader serves by: how it makes batches, its callers, and what its source may answer.
     ghost service: { Service };
 }
 

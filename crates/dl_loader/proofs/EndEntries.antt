@@ -11,16 +11,16 @@ use Rattle.dl_loader.specs.Additions.{call_entry, Adds}
 use Rattle.dl_loader.specs.Asks.{end_by}
 use Rattle.dl_loader.specs.Pass.{Trace}
 use Rattle.dl_loader.proofs.AdditionLemmas.{made_adds}
-use Rattle.dl_loader.specs.JobEnd.{AreEndsOf, IsEndOf, WasEnded, WereEnded, end_answered, end_unanswered}
+use Rattle.dl_loader.specs.JobEnd.{AreEndsOf, IsEndOf, WasEnded, WereEnded, IsEndAnswered, end_unanswered}
 use Rattle.dl_loader.specs.Dispatches.{dispatched, dispatched_by, events_told, unsent, unsent_by}
 
 -- the end of a job is one entry
 pub end_adds : (s : Service) (old new : Trace) (job : Job) → WasEnded s old job new
     → Adds old new (λ lines. (l : Entry) × (lines ≡ l ∷ []) × IsEndOf s old.caller job l)
-end_adds s old new job (inl made) =
-    let added = made_adds s old new (end_answered s job) Done made in
-    let l : Entry = call_entry old.caller added.0 (end_answered s job) Done in
-    (added.1, l ∷ [], added.2, (l, refl, (added.0, end_answered s job, inl refl, refl)))
+end_adds s old new job (inl (call, is, made)) =
+    let added = made_adds s old new call Done made in
+    let l : Entry = call_entry old.caller added.0 call Done in
+    (added.1, l ∷ [], added.2, (l, refl, (added.0, call, inl is, refl)))
 end_adds s old new job (inr made) =
     let added = made_adds s old new (end_unanswered job) Done made in
     let l : Entry = call_entry old.caller added.0 (end_unanswered job) Done in
@@ -55,12 +55,12 @@ answered_ends : (b : ℕ) (answer : BatchAnswer) → dispatched_by (end_by b ans
 answered_ends b (Each os) = refl
 answered_ends b (Break text) = refl
 
-end_sent : (s : Service) (job : Job) (call : Call) → (call ≡ end_answered s job) ⊎ (call ≡ end_unanswered job) → unsent_by call ≡ []
-end_sent s job call (inl is) = ap unsent_by is ∙ answered_sent job.batch (s.answer job.keys)
+end_sent : (s : Service) (job : Job) (call : Call) → IsEndAnswered s job call ⊎ (call ≡ end_unanswered job) → unsent_by call ≡ []
+end_sent s job call (inl is) = ap unsent_by is.2 ∙ answered_sent job.batch is.0
 end_sent s job call (inr is) = ap unsent_by is
 
-end_ends : (s : Service) (job : Job) (call : Call) → (call ≡ end_answered s job) ⊎ (call ≡ end_unanswered job) → dispatched_by call Done ≡ []
-end_ends s job call (inl is) = ap (λ c. dispatched_by c Done) is ∙ answered_ends job.batch (s.answer job.keys)
+end_ends : (s : Service) (job : Job) (call : Call) → IsEndAnswered s job call ⊎ (call ≡ end_unanswered job) → dispatched_by call Done ≡ []
+end_ends s job call (inl is) = ap (λ c. dispatched_by c Done) is.2 ∙ answered_ends job.batch is.0
 end_ends s job call (inr is) = ap (λ c. dispatched_by c Done) is
 
 pub tell_ends : (s : Service) (caller : ℕ) (jobs : List Job) (lines : List Entry) → AreEndsOf s caller jobs lines → TellEnds jobs lines

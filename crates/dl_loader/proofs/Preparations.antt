@@ -1,6 +1,7 @@
 -- Calls that are prepared: a prime, and the end of a batch by what its source answered.
 use Rattle.std.proofs.Common.{◌≡◌, ◌∙◌, sym, ap, ℕ, List, length, None, refl, subst, zero, suc, ◌<◌, Bool, true, false, cond, [], ◌∷◌, map, Option}
 use Rattle.std.proofs.Common.{Some, IsSome, slice_get, option_map, is_some, nat_le, Decides, arith}
+use Rattle.dl_values.specs.Answering.{Answering, IsFor, IsWithin, MayAnswer}
 use Rattle.dl_values.specs.Key.{Key, key_eq}
 use Rattle.dl_desk.specs.History.{Atom, prime_reply, cells, begun, sent, end_of, members, MayEnd}
 use Rattle.dl_desk.specs.Calls.{refusal, unfit}
@@ -26,7 +27,6 @@ use Rattle.dl_desk.specs.declared.reply.End.{End}
 use Rattle.dl_values.proofs.KeyLemmas.{key_eq-same, key_eq-refl}
 use Rattle.dl_values.specs.declared.outcome.BatchAnswer.TheVariants.{Each, Break}
 use Rattle.dl_values.specs.declared.job.Job.{Job}
-use Rattle.dl_source.specs.Source.{IsFor}
 use Rattle.dl_desk.specs.declared.event.Reply.TheVariants.{Done}
 use Rattle.dl_history.specs.declared.fault.CallFault.{CallFault}
 use Rattle.dl_history.specs.declared.fault.CallFault.TheVariants.{WrongKeys}
@@ -43,7 +43,7 @@ prime_each dues (prime.Primed c) same = same
 prime_each dues prime.Kept same = same
 
 -- a prime is prepared where the desk has accepted it and replies so
-pub prime_prepared : {desk : BatchBook} {call : Call} {at : ℕ} {dues : List Due} {brings : (List Key → BatchAnswer) → Type 0} (k : Key) (o : Outcome)
+pub prime_prepared : {desk : BatchBook} {call : Call} {at : ℕ} {dues : List Due} {brings : Answering → Type 0} (k : Key) (o : Outcome)
     (r : DeskPrime) → ((h : List Atom) → StandsFor desk h → r ≡ prime_reply h k) → ((h : List Atom) → StandsFor desk h → refusal desk.rules h (asked.Prime k) ≡ None)
     → call ≡ Prime k o → AreDue call at (cell_primed r) dues → IsPrepared desk (record { call = Prime k o; job = None; brings = brings })
     (record { at = at; reply = primed r; dues = dues })
@@ -109,8 +109,8 @@ pub answer_brings : (b : ℕ) (a : BatchAnswer) (ks : List Key) (cs : List ℕ) 
 answer_brings b (Each os) ks cs fits same = settle_brings b os cs (fits ∙ sym same)
 answer_brings b (Break text) ks cs fits same = λ i low. refl
 
--- a batch that may end may end by what the source answers to its keys
-made_by : (answer : List Key → BatchAnswer) (history : List Atom) (b : ℕ) (a : BatchAnswer) → MayEnd history b → answer (keys_of history b) ≡ a
+-- a batch that may end may end by what the source may answer to its keys
+made_by : (answer : Answering) (history : List Atom) (b : ℕ) (a : BatchAnswer) → MayEnd history b → MayAnswer answer (keys_of history b) a
     → MayBeMade answer history (end_by b a)
 made_by answer history b (Each os) may asked = (may, asked)
 made_by answer history b (Break text) may asked = (may, asked)
@@ -121,15 +121,11 @@ refusal_by : (rules : Rules) (b : ℕ) (a : BatchAnswer) (h : List Atom) → ref
 refusal_by rules b (Each os) h = refl
 refusal_by rules b (Break text) h = refl
 
--- what a source answers to the keys of a job is what the loader's source answers to them
-answered_so : {a : BatchAnswer} {ks : List Key} (answer source : List Key → BatchAnswer) (js : List Key) → a ≡ source js → source js ≡ answer js
-    → ks ≡ js → a ≡ answer ks
-answered_so answer source js asked same own = rw (asked, same, own) refl
-
--- so an end that is not refused is of a batch which may end, and for whose keys the loader's source answers the same
-answered_end : {a : BatchAnswer} (answer : List Key → BatchAnswer) (history : List Atom) (b : ℕ) (ks : List Key) → end_refusal history b ks ≡ None
-    → a ≡ answer ks → MayEnd history b × (answer (keys_of history b) ≡ a)
-answered_end answer history b ks none asked = (may_end history b ks none, ap answer (sym (own_keys history b ks none)) ∙ sym asked)
+-- an end that is not refused is of a batch which may end, and what may be answered to the job's keys may be answered to the batch's
+answered_end : (answer : Answering) (a : BatchAnswer) (history : List Atom) (b : ℕ) (ks : List Key) → end_refusal history b ks ≡ None
+    → MayAnswer answer ks a → MayEnd history b × MayAnswer answer (keys_of history b) a
+answered_end answer a history b ks none asked =
+    (may_end history b ks none, subst (λ (js : List Key). MayAnswer answer js a) (own_keys history b ks none) asked)
 
 -- ---- an end that is prepared
 
@@ -142,18 +138,17 @@ ended_by_answer h b (Each os) = refl
 ended_by_answer h b (Break text) = refl
 
 -- an end by what a source answered to the keys of a job is prepared where its batch may end and has these keys
-pub end_prepared : {desk : BatchBook} {a : BatchAnswer} {cs : List ℕ} {call : Call} {at : ℕ} {dues : List Due} (job : Job) (source : List Key → BatchAnswer)
-    → a ≡ source job.keys → ((h : List Atom) → StandsFor desk h → end_refusal h job.batch job.keys ≡ None)
+pub end_prepared : {desk : BatchBook} {cs : List ℕ} {call : Call} {at : ℕ} {dues : List Due} (a : BatchAnswer) (job : Job) (source : Answering)
+    → MayAnswer source job.keys a → ((h : List Atom) → StandsFor desk h → end_refusal h job.batch job.keys ≡ None)
     → ((h : List Atom) → StandsFor desk h → cs ≡ map (λ m. m.1) (members h job.batch)) → length cs ≡ length job.keys → call ≡ end_by job.batch a
     → AreDue call at cs dues → IsPrepared desk
-    (record { call = end_by job.batch a; job = Some job; brings = λ answer. (keys : List Key) → source keys ≡ answer keys })
+    (record { call = end_by job.batch a; job = Some job; brings = λ answer. IsWithin source answer })
     (record { at = at; reply = Done; dues = dues })
-end_prepared {desk} {a} {cs} {call} {at} {dues} job source asked accepted cells each is due = record {
+end_prepared {desk} {cs} {call} {at} {dues} a job source asked accepted cells each is due = record {
   accepted = λ h stands. rw (refusal_by desk.rules job.batch a h) (accepted h stands);
   replies = λ h stands. done_by desk.rules h job.batch a;
   may = λ answer answers h stands.
-      let none = accepted h stands in
-      let end = answered_end answer h job.batch job.keys none (answered_so answer source job.keys asked (answers job.keys) refl) in
+      let end = answered_end answer a h job.batch job.keys (accepted h stands) (answers job.keys a asked) in
       made_by answer h job.batch a end.0 end.1;
   gives = λ h stands. subst (λ (ns : List ℕ). AreDue (end_by job.batch a) at ns dues) (cells h stands ∙ sym (ended_by_answer h job.batch a)) (rw is at due);
   each = sym (length-map dues (λ (d : Due). d.cell)) ∙ (ap length due.cells_are ∙ each);

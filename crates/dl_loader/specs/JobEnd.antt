@@ -1,5 +1,7 @@
--- How a caller ends the batch of a job: by what the loader's source answers to the job's keys, or as one that failed since memory ran out.
+-- How a caller ends the batch of a job: by what the loader's source may answer to the job's keys, or as one that failed since memory ran out.
 use Rattle.std.specs.Prelude.{◌≡◌, ◌⊎◌, ℕ, List, [], ◌∷◌, take, Some, slice_get}
+use Rattle.dl_values.specs.Answering.{MayAnswer}
+use Rattle.dl_values.specs.declared.outcome.BatchAnswer.{BatchAnswer}
 use Rattle.dl_values.specs.declared.outcome.BatchFault.TheVariants.{Memory}
 use Rattle.dl_values.specs.declared.job.Job.{Job}
 use Rattle.dl_loader.specs.Additions.{call_entry}
@@ -13,9 +15,9 @@ use Rattle.dl_desk.specs.declared.event.Call.TheVariants.{Fail}
 use Rattle.dl_desk.specs.declared.event.Reply.TheVariants.{Done}
 use Rattle.dl_history.specs.declared.fault.CallFault.{CallFault}
 
--- the end of a job's batch by the source's answer to the job's keys
-abbrev pub end_answered : Service → Job → Call
-end_answered service job = end_by job.batch (service.answer job.keys)
+-- the call ends a job's batch by an answer that the source may give to the job's keys
+abbrev pub IsEndAnswered : Service → Job → Call → Type 0
+IsEndAnswered service job call = (a : BatchAnswer) × MayAnswer service.answer job.keys a × (call ≡ end_by job.batch a)
 
 -- its end if there is no memory for that
 abbrev pub end_unanswered : Job → Call
@@ -24,12 +26,12 @@ end_unanswered job = Fail job.batch Memory
 -- one call was made, one of these two
 abbrev pub WasEnded : Service → Trace → Job → Trace → Type 0
 WasEnded service old job new =
-    WasMade service old (end_answered service job) Done new ⊎ WasMade service old (end_unanswered job) Done new
+    ((call : Call) × IsEndAnswered service job call × WasMade service old call Done new) ⊎ WasMade service old (end_unanswered job) Done new
 
 -- one of the two was refused so
 abbrev pub WasNotEnded : Service → Trace → Job → CallFault → Type 0
 WasNotEnded service p job fault =
-    WasRefused service p (end_answered service job) (Some job) fault ⊎ WasRefused service p (end_unanswered job) (Some job) fault
+    ((call : Call) × IsEndAnswered service job call × WasRefused service p call (Some job) fault) ⊎ WasRefused service p (end_unanswered job) (Some job) fault
 
 -- such a call was made for each of the jobs, in order, and no other
 abbrev pub WereEnded : Service → Trace → List Job → Trace → Type 0
@@ -46,7 +48,7 @@ WereEndedBefore service old jobs new fault =
 -- the entry of the end of a job
 abbrev pub IsEndOf : Service → ℕ → Job → Entry → Type 0
 IsEndOf service caller job entry =
-    (at : ℕ) × (call : Call) × ((call ≡ end_answered service job) ⊎ (call ≡ end_unanswered job)) × (entry ≡ call_entry caller at call Done)
+    (at : ℕ) × (call : Call) × (IsEndAnswered service job call ⊎ (call ≡ end_unanswered job)) × (entry ≡ call_entry caller at call Done)
 
 -- one end of each job, in order, and nothing else
 abbrev pub AreEndsOf : Service → ℕ → List Job → List Entry → Type 0

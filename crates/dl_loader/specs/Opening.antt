@@ -1,9 +1,8 @@
 -- What you open a loader with.
 use Rattle.std.specs.Prelude.{◌≡◌, ℕ, ◌<◌, ◌≤◌, List}
 use Rattle.dl_cells.specs.Cells.{row_len}
-use Rattle.dl_values.specs.Key.{Key}
+use Rattle.dl_values.specs.Answering.{Answering, IsWithin}
 use Rattle.dl_values.specs.Limits.{Limits, Rules}
-use Rattle.dl_values.specs.declared.outcome.BatchAnswer.{BatchAnswer}
 use Rattle.dl_history.specs.CellNames.{CellNames}
 use Rattle.dl_desk.specs.Service.{Service, Answers, AnswersEach, service}
 use Rattle.dl_history.specs.declared.fault.StartFault.{StartFault}
@@ -48,16 +47,17 @@ RefusedAs callers TooManyCallers = most_callers < callers
 RefusedAs callers OutOfMemory = AreCallers callers
 
 -- what the loader of an opening serves by, if sources answer so
-abbrev pub service_of : {S : Type 0} → (S → List Key → BatchAnswer) → Opening S → Service
+abbrev pub service_of : {S : Type 0} → (S → Answering) → Opening S → Service
 service_of answer opening = service opening.rules opening.callers (answer opening.source)
 
--- The type names the loader of the opening: what the type says of it is what it serves by, the number of the ledger's
--- parts, its set-once cells, and the ledger.
-pub record Names {S : Type 0} (answer : S → List Key → BatchAnswer) (opening : Opening S) (own : Service) (parts : ℕ) (cells : CellNames)
+-- The type names the loader of the opening: what the type says of it is what it serves by (its source may answer what the
+-- opening's source may, and no more), the number of the ledger's parts, its set-once cells, and the ledger.
+pub record Names {S : Type 0} (answer : S → Answering) (opening : Opening S) (own : Service) (parts : ℕ) (cells : CellNames)
     (ledger : ℕ) : Type 0 where
   pub rules : opening.rules ≡ own.rules
   pub callers : opening.callers ≡ own.callers
   pub answers : Answers (answer opening.source) own
+  pub no_more : IsWithin own.answer (answer opening.source)
   pub parts_are : opening.callers ≡ parts
   pub cells_are : opening.cells ≡ cells
   pub ledger_is : opening.ledger ≡ ledger

@@ -1,9 +1,8 @@
 //! The event calls: what each prepares in the desk and then shows there.
 
-ghost use Rattle.std.specs.Prelude.{◌≡◌, List, Option, IfErr, IfOk, OnOk};
-ghost use Rattle.dl_values.specs.Key.{Key};
+ghost use Rattle.std.specs.Prelude.{◌≡◌, Option, IfErr, IfOk, OnOk};
+ghost use Rattle.dl_values.specs.Answering.{Answering};
 ghost use Rattle.dl_values.specs.declared.job.Job.{Job};
-ghost use Rattle.dl_values.specs.declared.outcome.BatchAnswer.{BatchAnswer};
 ghost use Rattle.dl_desk.specs.BatchBook as book;
 ghost use Rattle.dl_desk.specs.declared.event.Call.{Call};
 ghost use Rattle.dl_desk.specs.declared.event.Reply.{Reply};
@@ -47,8 +46,8 @@ pub(crate) trait EventCall {
     // The reply that the history tells.
     ghost told: { Self.Reply → Reply };
 
-    // What it brings is what a source with this function answers.
-    ghost brings: { Self → (List Key → BatchAnswer) → Type 0 } = { λ _ _. Unit {0} };
+    // What it brings may be answered by a source that answers so.
+    ghost brings: { Self → Answering → Type 0 } = { λ _ _. Unit {0} };
 
     // The desk is ready to show it.
     ghost ready: { Self → book.Desk → Type 0 };

@@ -1,5 +1,6 @@
 -- A plan file of version 1 and the migrated one have the same answers.
 use Rattle.std.proofs.Common.{◌≡◌, ◌∙◌, sym, ap, subst, refl, List, [], ◌∷◌, length, map, Option, Some, None}
+use Rattle.dl_values.specs.Answering.{by_function}
 use Rattle.dl_documents.specs.Steps.{StepTree, prime, clear, clear_all, eval, step_view, plan_view}
 use Rattle.dl_documents.proofs.OneReading.{SayTheSame, one_plan_file}
 use Rattle.dl_history.specs.Lists.{Every}
@@ -96,7 +97,7 @@ migrated_answers_are_equal equal d first second spelled version migrated_spelled
     (record { setup = setup_of options first; headline = of_first.headline; unfailed = of_first.unfailed; unprimed = none })
     (record {
       setup = setup_of others second;
-      headline = subst (λ (tables : Tables). Headline (service_of (setup_of others second) (length second.plans.items) (answer_of tables))
+      headline = subst (λ (tables : Tables). Headline (service_of (setup_of others second) (length second.plans.items) (by_function (answer_of tables)))
           second.plans.items s) (sym same.tables) of_second.headline;
       unfailed = of_second.unfailed;
       unprimed = plans_unprimed first.plans.items second.plans.items same.plans none;

@@ -2,6 +2,7 @@
 use Rattle.std.specs.Prelude.{◌≡◌, ℕ, ◌≤◌, List, length, take, Option}
 use Rattle.std.specs.Io.KnownBytes.{Appends, Consumes}
 use Rattle.serde_json.specs.Data.{Data}
+use Rattle.dl_values.specs.Answering.{by_function}
 use Rattle.dl_documents.specs.Document.{IsTextOf, Spells}
 use Rattle.dl_documents.specs.Faults.{Applies, IsLeast, most_bytes}
 use Rattle.dl_documents.specs.declared.input.Input.{Input}
@@ -47,7 +48,7 @@ setup_of options file = record { limits = file.limits; tables = file.table_limit
 
 -- what serves the plans of a file: its tables answer
 abbrev pub file_service : Options → PlanFile → Service
-file_service options file = service_of (setup_of options file) (length file.plans.items) (answer_of file.tables)
+file_service options file = service_of (setup_of options file) (length file.plans.items) (by_function (answer_of file.tables))
 
 -- ---- what is written
 

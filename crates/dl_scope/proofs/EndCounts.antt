@@ -6,7 +6,7 @@ use Rattle.std.proofs.lemmas.Bool.{cases_eq}
 use Rattle.std.proofs.lemmas.Bool.Decides.{nat_tests}
 use Rattle.dl_values.specs.Key.{Key}
 use Rattle.dl_values.specs.Limits.{Rules}
-use Rattle.dl_values.specs.declared.outcome.BatchAnswer.{BatchAnswer}
+use Rattle.dl_values.specs.Answering.{Answering}
 use Rattle.dl_desk.specs.History.{Atom, begun, sent, end_of}
 use Rattle.dl_desk.specs.History as atom
 use Rattle.dl_desk.specs.Events.{atoms}
@@ -86,7 +86,7 @@ sent_low : (b n : ℕ) → b < n → one_if (nat_lt b n) ≡ 1
 sent_low b n low = let yes : nat_lt b n ≡ true = grind (arith, nat_tests) in ap one_if yes
 
 -- a call that may be made ends one batch more, or none
-call_ends : (answer : List Key → BatchAnswer) (rules : Rules) (history : List Atom) (call : Call) (n : ℕ) → MayBeMade answer history call → sent history ≤ n
+call_ends : (answer : Answering) (rules : Rules) (history : List Atom) (call : Call) (n : ℕ) → MayBeMade answer history call → sent history ≤ n
     → ended_below history n + ends_one call ≡ ended_below (after rules history (call_of call)) n
 call_ends answer rules history (Load k) n may low = omega arith
 call_ends answer rules history (LoadMany ks) n may low =

@@ -8,7 +8,7 @@ use Rattle.dl_desk.specs.History.{Atom, end_of, load_reply, loaded}
 use Rattle.dl_desk.specs.History as atom
 use Rattle.dl_desk.specs.Events.{atoms}
 use Rattle.dl_desk.specs.Calls.{after}
-use Rattle.dl_values.specs.declared.outcome.BatchAnswer.{BatchAnswer}
+use Rattle.dl_values.specs.Answering.{Answering}
 use Rattle.dl_desk.specs.declared.reply.End.{End}
 use Rattle.dl_desk.specs.declared.reply.End.TheVariants.{Settled, Failed}
 use Rattle.dl_desk.specs.Legal.{call_of, MayBeMade, IsNext}
@@ -47,7 +47,7 @@ unended rules history (Settle n os) b none = no_such_end b n Settled (end_of his
 unended rules history (Fail n fault) b none = no_such_end b n Failed (end_of history b) none
 
 -- a batch that a call may end has no end
-no_end_yet : (answer : List Key → BatchAnswer) (history : List Atom) (call : Call) (b : ℕ) → MayBeMade answer history call → Ends b call
+no_end_yet : (answer : Answering) (history : List Atom) (call : Call) (b : ℕ) → MayBeMade answer history call → Ends b call
     → end_of history b ≡ None
 no_end_yet answer history (Load k) b may ends = absurd ends
 no_end_yet answer history (LoadMany ks) b may ends = absurd ends

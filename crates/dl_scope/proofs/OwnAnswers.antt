@@ -1,6 +1,7 @@
 -- Answers by the tables alone, from the headline.
 use Rattle.std.proofs.Common.{◌≡◌, ◌∙◌, ap, sym, subst, refl, ℕ, ◌<◌, Bool, true, false, cond, List, [], ◌∷◌, ◌++◌, length}
 use Rattle.std.proofs.Common.{Option, Some, None, slice_get, arith}
+use Rattle.dl_values.specs.Answering.{by_function}
 use Rattle.dl_values.specs.Key.{Key, key_eq}
 use Rattle.dl_values.specs.declared.outcome.Outcome.{Outcome}
 use Rattle.dl_values.proofs.KeyLemmas.{key_eq-same}
@@ -62,11 +63,11 @@ module _ (s : Service) (plans : List Plan) (r : Report) (h : Headline s plans r)
 
 pub answers_are_own : AnswersAreOwn
 answers_are_own tables setup plans r h unfailed unprimed n plan answers at given =
-    let s : Service = service_of setup (length plans) (answer_of tables) in
+    let s : Service = service_of setup (length plans) (by_function (answer_of tables)) in
     let low : n < length plans = some_low plans n plan at in
     let rounds = some_at r.rounds n (omega (arith, h.rounds_each, low)) in
     let follows = h.follow n plan answers rounds.0 at given rounds.1 in
-    let own = tables_own s tables (λ keys. refl) in
+    let own = tables_own s tables (λ keys a may. may) in
     let reads : OwnReads (listed tables) r.history.events =
     own_outcome s (listed tables) own r.history.events h.legal (none_primed s plans r h unprimed) unfailed in
     let agrees : Agrees r.history.events (account n (entries_of n r.history.accounts)) =

@@ -4,6 +4,7 @@ use Rattle.std.specs.Option.{option_and_then}
 use Rattle.std.specs.List.{zip}
 use Rattle.std.specs.Map.{lookup}
 use Rattle.std.proofs.lemmas.Bool.{eqb-true}
+use Rattle.dl_values.specs.Answering.{IsWithin, by_function}
 use Rattle.dl_values.specs.Key.{Key}
 use Rattle.dl_desk.specs.History.{members}
 use Rattle.dl_desk.specs.Events.{atoms, Placed, last_of, primes, ends, cell_batch, outcome_given}
@@ -104,9 +105,9 @@ own_outcome service own answers events legal unprimed unfailed at caller ks rs g
 -- ---- tables
 
 -- tables that answer have for each key what they list under it
-pub tables_own : (service : Service) (tables : Tables) → ((keys : List Key) → service.answer keys ≡ answer_of tables keys)
+pub tables_own : (service : Service) (tables : Tables) → IsWithin service.answer (by_function (answer_of tables))
     → AnswersOwn service (λ (k : Key). outcome_of (found tables k))
-tables_own service tables by_tables keys outcomes is = by (first_break tables keys) (sym (by_tables keys) ∙ is)
+tables_own service tables by_tables keys outcomes is = by (first_break tables keys) (by_tables keys (answered.Each outcomes) is)
   where
     by : (broken : Option (List ℕ)) → unless broken (outcomes_of tables keys) ≡ answered.Each outcomes
         → outcomes ≡ map (λ (k : Key). outcome_of (found tables k)) keys

@@ -1,5 +1,5 @@
 -- What a worker adds to its pass: ends of batches, and nothing else.
-use Rattle.std.proofs.Common.{◌≡◌, ◌∙◌, ap, sym, refl, ℕ, List, [], ◌∷◌, ◌++◌, append_assoc, append-nil, inl, inr}
+use Rattle.std.proofs.Common.{◌≡◌, ◌∙◌, ap, subst, sym, refl, ℕ, List, [], ◌∷◌, ◌++◌, append_assoc, append-nil, inl, inr}
 use Rattle.dl_values.specs.declared.outcome.BatchAnswer.{BatchAnswer}
 use Rattle.dl_values.specs.declared.outcome.BatchAnswer.TheVariants.{Each, Break}
 use Rattle.dl_values.specs.declared.job.Job.{Job}
@@ -13,7 +13,7 @@ use Rattle.dl_loader.specs.Asks.{end_by}
 use Rattle.dl_loader.specs.EventEffect.{WasMade}
 use Rattle.dl_loader.specs.Pass.{Trace}
 use Rattle.dl_loader.proofs.AdditionLemmas.{made_adds}
-use Rattle.dl_loader.specs.JobEnd.{WasEnded, WereEnded, end_answered, end_unanswered}
+use Rattle.dl_loader.specs.JobEnd.{WasEnded, WereEnded, end_unanswered}
 use Rattle.dl_workers.specs.WorkerResult.{Worked}
 use Rattle.dl_workers.specs.declared.worker.WorkerEnd.{WorkerEnd}
 use Rattle.dl_workers.specs.declared.worker.WorkerEnd.TheVariants as end
@@ -45,7 +45,7 @@ adds_then old now new (caller, lines, entries, ends) (caller2, more, entries2, e
 )
 
 ended_adds : (s : Service) (old new : Trace) (job : Job) → WasEnded s old job new → AddsEnds old new
-ended_adds s old new job (inl answered) = adds_one s old new (end_answered s job) job.batch (ends_by job.batch (s.answer job.keys)) answered
+ended_adds s old new job (inl (call, is, made)) = adds_one s old new call job.batch (subst (Ends job.batch) (sym is.2) (ends_by job.batch is.0)) made
 ended_adds s old new job (inr unanswered) = adds_one s old new (end_unanswered job) job.batch refl unanswered
 
 all_ended_add : (s : Service) (old new : Trace) (jobs : List Job) → WereEnded s old jobs new → AddsEnds old new

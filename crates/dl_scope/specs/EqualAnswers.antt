@@ -1,5 +1,6 @@
 -- When reports have the same answers.
 use Rattle.std.specs.Prelude.{◌≡◌, List, length, map, Option, Some, None}
+use Rattle.dl_values.specs.Answering.{by_function}
 use Rattle.dl_history.specs.Lists.{Every}
 use Rattle.dl_source.specs.Answer.{answer_of}
 use Rattle.dl_source.specs.Tables.{Tables}
@@ -28,7 +29,7 @@ evaluations plan = map evaluated plan.steps.items
 -- a report of the plans, which some setup served by the tables; no batch failed, and no plan primes a key
 pub record RestsOnTables (tables : Tables) (plans : List Plan) (r : Report) : Type 0 where
   pub setup : Setup
-  pub headline : Headline (service_of setup (length plans) (answer_of tables)) plans r
+  pub headline : Headline (service_of setup (length plans) (by_function (answer_of tables))) plans r
   pub unfailed : NoneFailed r.history.events
   pub unprimed : Every (λ plan. Every PrimesNoKey plan.steps.items) plans
 

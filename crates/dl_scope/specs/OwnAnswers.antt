@@ -1,6 +1,7 @@
 -- What terms answer by the tables alone: the same for every number of workers, for all limits, and whatever other plans
 -- are served.
 use Rattle.std.specs.Prelude.{◌≡◌, ℕ, List, length, map, Some, slice_get}
+use Rattle.dl_values.specs.Answering.{MayAnswer, by_function}
 use Rattle.dl_values.specs.Key.{Key}
 use Rattle.dl_values.specs.declared.outcome.BatchAnswer.TheVariants as answered
 use Rattle.dl_values.specs.declared.outcome.Outcome.{Outcome}
@@ -27,7 +28,7 @@ use Rattle.dl_haxl.specs.declared.step_answers.StepAnswer.{StepAnswer}
 
 -- if the source answers, it gives each key the key's own outcome, whatever other keys it gets with it
 abbrev pub AnswersOwn : Service → (Key → Outcome) → Type 0
-AnswersOwn service own = (keys : List Key) (outcomes : List Outcome) → service.answer keys ≡ answered.Each outcomes → outcomes ≡ map own keys
+AnswersOwn service own = (keys : List Key) (outcomes : List Outcome) → MayAnswer service.answer keys (answered.Each outcomes) → outcomes ≡ map own keys
 
 -- the call primes no key
 abbrev pub IsNoPrime : Call → Type 0
@@ -86,7 +87,7 @@ AnswersByTables tables plan given = (term : Term) × (slice_get plan.steps.items
 -- If no batch failed and no plan primes a key, each answer of a report is what its term gives by the tables alone.
 abbrev pub AnswersAreOwn : Type 0
 AnswersAreOwn = (tables : Tables) (setup : Setup) (plans : List Plan) (r : Report)
-    → Headline (service_of setup (length plans) (answer_of tables)) plans r → NoneFailed r.history.events
+    → Headline (service_of setup (length plans) (by_function (answer_of tables))) plans r → NoneFailed r.history.events
     → Every (λ plan. Every PrimesNoKey plan.steps.items) plans
     → (n : ℕ) (plan : Plan) (answers : List StepAnswer) → slice_get plans n ≡ Some plan → slice_get r.answers n ≡ Some answers
     → Every (AnswersByTables tables plan) answers

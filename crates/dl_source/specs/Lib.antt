@@ -1,4 +1,5 @@
 pub mod Source
+pub mod WeakestTest
 pub mod Tables
 pub mod NumberedTables
 pub mod Answer

@@ -1,10 +1,11 @@
 -- What every answer of a source keeps.
-use Rattle.std.specs.Prelude.{◌≡◌, List, length, ⊤}
+use Rattle.std.specs.Prelude.{List}
+use Rattle.std.proofs.Common.{subst}
+use Rattle.dl_values.specs.Answering.{Answering, by_function, by_test, Fits, IsFor, MayAnswer}
 use Rattle.dl_values.specs.Key.{Key}
 use Rattle.dl_values.specs.declared.outcome.BatchAnswer.{BatchAnswer}
-use Rattle.dl_values.specs.declared.outcome.BatchAnswer.TheVariants.{Each, Break}
 
--- an answer for these keys: it has as many outcomes as there are keys, or it breaks
-abbrev pub IsFor : List Key → BatchAnswer → Type 0
-IsFor keys (Each outcomes) = length outcomes ≡ length keys
-IsFor keys (Break text) = ⊤
+-- what a source may answer is an answer for the keys
+pub answer_is_for : (answering : Answering) → Fits answering → (keys : List Key) (a : BatchAnswer) → MayAnswer answering keys a → IsFor keys a
+answer_is_for (by_function answer) fits keys a is = subst (IsFor keys) is (fits keys)
+answer_is_for (by_test allows) fits keys a is = fits keys a is

@@ -1,6 +1,7 @@
 //! A job together with its source's answer.
 
 ghost use Rattle.std.specs.Prelude.{◌≡◌};
+ghost use Rattle.dl_values.specs.Answering.{MayAnswer, MayAnswer-prop};
 
 use crate::source::Source;
 use dl_values::{BatchAnswer, FetchKey, Job};
@@ -12,16 +13,16 @@ pub struct Fetched<'s, S: Source> {
     source: &'s S,
     job: Job,
     answer: BatchAnswer,
-    pub ghost answered: { answer ≡ S.answer source.now job.keys },
+    pub ghost answered: { MayAnswer (S.answer source.now) job.keys answer } by { MayAnswer-prop (S.answer source.now) job.keys answer },
 }
 
 impl<'s, S: Source> Fetched<'s, S> {
     ghost use Rattle.std.specs.Prelude.{◌≡◌};
-    ghost use Rattle.dl_source.specs.Source.{IsFor};
+    ghost use Rattle.dl_values.specs.Answering.{IsFor, MayAnswer};
     ghost use Rattle.dl_source.specs.Fetched.{source_of, job_of, answer_of};
 
     pub(crate) fn new(source: &'s S, job: Job, answer: BatchAnswer) -> Fetched<'s, S>
-        requires { answer ≡ S.answer source.now job.keys }
+        requires { MayAnswer (S.answer source.now) job.keys answer }
         ensures source { source_of result ≡ source.entry.now }
         ensures job { job_of result ≡ job }
     {
@@ -49,7 +50,7 @@ impl<'s, S: Source> Fetched<'s, S> {
     /// What the source answered: as many outcomes as there are keys, or a break.
     pub fn answer(&self) -> &BatchAnswer
         ensures answer { result.now ≡ answer_of self.now }
-        ensures own { result.now ≡ S.answer (source_of self.now) (job_of self.now).keys }
+        ensures own { MayAnswer (S.answer (source_of self.now)) (job_of self.now).keys result.now }
         ensures fits { IsFor (job_of self.now).keys result.now }
     {
         &self.answer
@@ -67,7 +68,7 @@ impl<'s, S: Source> Fetched<'s, S> {
     pub fn into_parts(self) -> (Job, BatchAnswer)
         ensures job { result.0 ≡ job_of self.entry }
         ensures answer { result.1 ≡ answer_of self.entry }
-        ensures own { result.1 ≡ S.answer (source_of self.entry) result.0.keys }
+        ensures own { MayAnswer (S.answer (source_of self.entry)) result.0.keys result.1 }
         ensures fits { IsFor result.0.keys result.1 }
     {
         let Fetched { job, answer, .. } = self;

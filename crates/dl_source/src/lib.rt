@@ -1,6 +1,7 @@
 //! Sources, which answer the keys of a batch, and tables that you read from JSON and use as a source.
 #![tactic(auto)]
 
+mod checked;
 mod fault;
 mod fetch;
 mod fetched;
@@ -12,6 +13,7 @@ mod table_reader;
 mod tables;
 mod tree;
 
+pub use checked::{Checked, Fetch};
 pub use dl_values::BatchAnswer;
 pub use fault::TableFault;
 pub use fetch::fetch_job;

@@ -1,27 +1,29 @@
 //! Sources, which answer the keys of a batch.
 
-ghost use Rattle.std.specs.Prelude.{◌≡◌, List, IfOk};
-ghost use Rattle.dl_values.specs.Key.{Key};
-ghost use Rattle.dl_values.specs.declared.outcome.BatchAnswer.{BatchAnswer};
-ghost use Rattle.dl_source.specs.Source.{IsFor};
+ghost use Rattle.std.specs.Prelude.{IfOk};
+ghost use Rattle.dl_values.specs.Answering.{Answering, Fits, MayAnswer};
 
 use dl_values::{BatchAnswer, FetchKey};
 use std::alloc::{AllocError, Global};
 
-/// Where outcomes come from. A source can't change its answer: the same keys always get the same answer.
+/// Where outcomes come from. For data of your own you write three things: `answer`, a definition of what the source may
+/// answer to any list of keys; `fits`, a proof that this has as many outcomes as there are keys, or breaks; and `fetch`,
+/// which gives such an answer.
 ///
-/// For data of your own you write three things: `answer`, a definition of what the source answers to any list of keys;
-/// `fits`, a proof that it has as many outcomes as there are keys, or breaks; and `fetch`, which computes it.
+/// Most sources answer by a `function`: the same keys always get the same answer. If yours may answer the same keys
+/// differently each time, as a database does that others write to, give a `test` of keys and answer instead. `fetch` then
+/// has to pass it, and the test is all that a proof knows of an answer.
 ///
 /// # Examples
-/// A source with an answer of its own, from `crates/example_own_source`. Its `specs/Domains.antt` has `answer_of` and
+/// A source with a function of its own, from `crates/example_own_source`. Its `specs/Domains.antt` has `answer_of` and
 /// `answer_fits`:
 ///
 /// ```rust
 /// impl Source for Domains {
+///     ghost use Rattle.dl_values.specs.Answering.{function};
 ///     ghost use Rattle.example_own_source.specs.Domains.{answer_of, answer_fits};
 ///
-///     ghost answer = { answer_of };
+///     ghost answer = { function answer_of };
 ///
 ///     ghost fits = { answer_fits };
 ///
@@ -36,8 +38,8 @@ use std::alloc::{AllocError, Global};
 /// }
 /// ```
 pub trait Source {
-    // The one function: what the source answers to a list of keys.
-    ghost answer: { Self → List Key → BatchAnswer };
+    // What the source may answer to a list of keys: what its one function gives, or what its test allows.
+    ghost answer: { Self → Answering };
 
     /// Answers these keys, in their order. If one key fails, say so in its outcome; if all of them fail together,
     /// answer `Break`.
@@ -45,8 +47,8 @@ pub trait Source {
     /// # Errors
     /// `AllocError` if memory runs out.
     fn fetch(&self, alloc: Global, keys: &[FetchKey]) -> Result<BatchAnswer, AllocError>
-        ensures { IfOk result (λ a. a ≡ answer self.now keys.now) };
+        ensures { IfOk result (MayAnswer (answer self.now) keys.now) };
 
     // Each answer has as many outcomes as there are keys, or breaks.
-    ghost fits: { (s : Self) (ks : List Key) → IsFor ks (answer s ks) };
+    ghost fits: { (s : Self) → Fits (answer s) };
 }

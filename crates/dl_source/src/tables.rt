@@ -342,10 +342,11 @@ impl Tables {
 }
 
 impl Source for Tables {
+    ghost use Rattle.dl_values.specs.Answering.{function};
     ghost use Rattle.dl_source.specs.Answer.{answer_of};
     ghost use Rattle.dl_source.specs.AnswerFits.{answer_fits};
 
-    ghost answer = { answer_of };
+    ghost answer = { function answer_of };
 
     ghost fits = { answer_fits };
 

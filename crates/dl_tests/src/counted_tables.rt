@@ -28,9 +28,10 @@ impl CountedTables {
 }
 
 impl Source for CountedTables {
+    ghost use Rattle.dl_values.specs.Answering.{function};
     ghost use Rattle.dl_tests.specs.CountedTables.{answer_counted, counted_fits};
 
-    ghost answer = { answer_counted };
+    ghost answer = { function answer_counted };
 
     ghost fits = { counted_fits };
 

@@ -18,9 +18,10 @@ impl NoRoom {
 }
 
 impl Source for NoRoom {
+    ghost use Rattle.dl_values.specs.Answering.{function};
     ghost use Rattle.dl_tests.specs.NoRoom.{answer_without_room, without_room_fits};
 
-    ghost answer = { answer_without_room };
+    ghost answer = { function answer_without_room };
 
     ghost fits = { without_room_fits };
 

@@ -4,5 +4,6 @@ pub mod KeyFaults
 pub mod KeyTexts
 pub mod Limits
 pub mod TableLimits
+pub mod Answering
 -- what values are made of
 pub mod Inside

@@ -3,12 +3,12 @@ use Rattle.std.specs.Prelude.{ℕ, List, Bool, length, map, nat_lt, ◌==◌, co
 use Rattle.std.specs.List.{position_or_len, after_first}
 use Rattle.std.proofs.lemmas.List.{length-map}
 use Rattle.serde_json.specs.Data.{object, member, no_members, string}
+use Rattle.dl_values.specs.Answering.{IsFor}
 use Rattle.dl_values.specs.Key.{Key}
 use Rattle.dl_values.specs.declared.outcome.Outcome.{Outcome}
 use Rattle.dl_values.specs.declared.outcome.Outcome.TheVariants.{Value, KeyError}
 use Rattle.dl_values.specs.declared.outcome.BatchAnswer.{BatchAnswer}
 use Rattle.dl_values.specs.declared.outcome.BatchAnswer.TheVariants.{Each}
-use Rattle.dl_source.specs.Source.{IsFor}
 use Rattle.example_own_source.specs.declared.Domains.{Domains}
 
 -- a dot, in ASCII

@@ -18,9 +18,10 @@ use std::hash::RandomState;
 struct Domains;
 
 impl Source for Domains {
+    ghost use Rattle.dl_values.specs.Answering.{function};
     ghost use Rattle.example_own_source.specs.Domains.{answer_of, answer_fits};
 
-    ghost answer = { answer_of };
+    ghost answer = { function answer_of };
 
     ghost fits = { answer_fits };
 

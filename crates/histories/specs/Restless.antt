@@ -1,8 +1,8 @@
 -- What tables answer that yield.
 use Rattle.std.specs.Prelude.{List}
+use Rattle.dl_values.specs.Answering.{IsFor}
 use Rattle.dl_values.specs.Key.{Key}
 use Rattle.dl_values.specs.declared.outcome.BatchAnswer.{BatchAnswer}
-use Rattle.dl_source.specs.Source.{IsFor}
 use Rattle.dl_source.specs.Answer.{answer_of}
 use Rattle.dl_source.specs.AnswerFits.{answer_fits}
 use Rattle.histories.specs.declared.restless.Restless.{Restless}

@@ -2,6 +2,7 @@
 
 ghost use Rattle.std.specs.Prelude.{◌≡◌};
 ghost use Rattle.dl_desk.specs.Service.{Answers};
+ghost use Rattle.dl_values.specs.Answering.{function};
 ghost use Rattle.dl_loader.specs.Opening.{Names};
 ghost use Rattle.histories.specs.Restless.{answer_restless};
 
@@ -51,7 +52,7 @@ fn use_loader<L: LoaderName + Send + Sync, R: Threads + Wait + Sync>(
     opening: Opening<'_, Restless>,
 ) -> Result<String>
     requires source { opening.source ≡ source.now }
-    requires names { Names answer_restless opening L.service L.parts L.cells L.name }
+    requires names { Names (function answer_restless) opening L.service L.parts L.cells L.name }
 {
     let (loader, mut passes) = Loader::<L>::start(alloc, opening)?;
     call_by_each(rt, alloc, source, &loader, passes.as_mut_slice());

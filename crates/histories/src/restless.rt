@@ -58,9 +58,10 @@ impl Drawn for Restless {
 }
 
 impl Source for Restless {
+    ghost use Rattle.dl_values.specs.Answering.{function};
     ghost use Rattle.histories.specs.Restless.{answer_restless, restless_fits};
 
-    ghost answer = { answer_restless };
+    ghost answer = { function answer_restless };
 
     ghost fits = { restless_fits };
 

@@ -1,8 +1,7 @@
 -- What is prepared for an event call before its event is stored.
 use Rattle.std.specs.Prelude.{◌≡◌, ℕ, ◌⊎◌, List, [], ◌∷◌, length, map, Option, Some, None}
-use Rattle.dl_values.specs.Key.{Key}
+use Rattle.dl_values.specs.Answering.{Answering}
 use Rattle.dl_values.specs.declared.job.Job.{Job}
-use Rattle.dl_values.specs.declared.outcome.BatchAnswer.{BatchAnswer}
 use Rattle.dl_desk.specs.History.{Atom, members, prime_reply}
 use Rattle.dl_desk.specs.Calls.{after}
 use Rattle.dl_desk.specs.declared.call.DeskCall.{DeskCall}
@@ -37,11 +36,11 @@ ended_count (Some job) reply = length job.keys
 ended_count None (Primed c) = 1
 ended_count None reply = 0
 
--- what is asked: a call, with the job that it ends, if any, and of which source what it brings is the answer
+-- what is asked: a call, with the job that it ends, if any, and which sources may answer what it brings
 pub record AskedCall : Type 1 where
   pub call : Call
   pub job : Option Job
-  pub brings : (List Key → BatchAnswer) → Type 0
+  pub brings : Answering → Type 0
 
 -- what is prepared for its event: the place, the reply, and the dues of the cells that it ends
 pub record PreparedEvent : Type 0 where
@@ -49,12 +48,12 @@ pub record PreparedEvent : Type 0 where
   pub reply : Reply
   pub dues : List Due
 
--- A desk has accepted the call, and will reply so. Where it brings what the loader's source answers, it may be made, and
+-- A desk has accepted the call, and will reply so. Where it brings what the loader's source may answer, it may be made, and
 -- these are the ends that it gives to its cells.
 pub record IsPrepared (desk : BatchBook) (asked : AskedCall) (event : PreparedEvent) : Type 0 where
   pub accepted : (h : List Atom) → StandsFor desk h → cause desk.rules h asked.call asked.job ≡ None
   pub replies : (h : List Atom) → StandsFor desk h → event.reply ≡ reply_to desk.rules h asked.call
-  pub may : (answer : List Key → BatchAnswer) → asked.brings answer → (h : List Atom) → StandsFor desk h → MayBeMade answer h asked.call
+  pub may : (answer : Answering) → asked.brings answer → (h : List Atom) → StandsFor desk h → MayBeMade answer h asked.call
   pub gives : (h : List Atom) → StandsFor desk h → AreDue asked.call event.at (cells_ended h asked.call) event.dues
   pub each : length event.dues ≡ ended_count asked.job event.reply
 

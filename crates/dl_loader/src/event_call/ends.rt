@@ -1,7 +1,7 @@
 //! The ends of batches.
 
 ghost use Rattle.std.specs.Prelude.{◌≡◌, [], IfErr, IfOk, List, None, OnOk, Some, length, map};
-ghost use Rattle.dl_values.specs.Key.{Key};
+ghost use Rattle.dl_values.specs.Answering.{IsWithin};
 ghost use Rattle.dl_desk.specs.BatchBook.{StandsFor, MayEndIn};
 ghost use Rattle.dl_desk.specs.History.{Atom, members};
 ghost use Rattle.dl_desk.specs.declared.event.Call.TheVariants as made;
@@ -33,7 +33,7 @@ impl<S: Source> EventCall for Settle<'_, '_, S> {
 
     ghost told = { λ _. reply.Done };
 
-    ghost brings = { λ c answer. (keys : List Key) → S.answer (source_of c.fetched.now) keys ≡ answer keys };
+    ghost brings = { λ c answer. IsWithin (S.answer (source_of c.fetched.now)) answer };
 
     ghost ready = { λ c desk. MayEndIn desk.book (job_of c.fetched.now).batch };
 

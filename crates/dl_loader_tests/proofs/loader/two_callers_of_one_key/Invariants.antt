@@ -1,10 +1,11 @@
+use Rattle.dl_values.specs.Answering.{function}
 use Rattle.dl_loader.specs.Opening.{service_of}
 use Rattle.dl_source.specs.Answer.{answer_of}
 use Rattle.dl_loader_tests.proofs.loader.two_callers_of_one_key.Given as goal
 
 -- the type names the loader after its opening
 abbrev pub ghosts-load_by_two-L-LoaderName : goal.ghosts-load_by_two-L-LoaderName
-ghosts-load_by_two-L-LoaderName g a = record { cells = a.opening.cells; service = service_of answer_of a.opening }
+ghosts-load_by_two-L-LoaderName g a = record { cells = a.opening.cells; service = service_of (function answer_of) a.opening }
 
 abbrev pub ghosts-load_by_two-L-Ledger : goal.ghosts-load_by_two-L-Ledger
 ghosts-load_by_two-L-Ledger g a = record { name = a.opening.ledger; parts = a.opening.callers }

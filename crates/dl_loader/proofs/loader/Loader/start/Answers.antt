@@ -10,5 +10,5 @@ invariant_of-loader g c =
       callers_are = callers ∙ names.callers;
       parts_are = sym names.parts_are ∙ names.callers;
       answers = source_answers (g.S.Source.answer c.args.opening.source) g.L.LoaderName.service.answer (g.met.S.Source.fits c.args.opening.source)
-          names.answers;
+          names.no_more;
     }

@@ -14,7 +14,7 @@ pub returns-clause-prepared : goal.returns-clause-prepared
 returns-clause-prepared g c =
     let fetched = c.args.self.now.fetched.now in
     rw c.answer-answer.ensures.answer at
-    (end_prepared (job_of fetched) (g.S.Source.answer (source_of fetched)) c.answer-answer.ensures.own
+    (end_prepared c.answer-answer.result.now (job_of fetched) (g.S.Source.answer (source_of fetched)) c.answer-answer.ensures.own
     (rw (c.batch-batch.ensures, c.keys.ensures) at c.in_ok-cells.ensures.accepted)
     (rw c.batch-batch.ensures at c.in_ok-cells.ensures.cells) (c.in_ok-cells.ensures.each ∙ ap length c.keys.ensures)
     (rw c.batch-batch.ensures at c.in_ok-call.ensures) c.in_ok-dues.ensures)
