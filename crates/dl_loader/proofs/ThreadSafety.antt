@@ -2,11 +2,13 @@
 use denote.RattleType.{RattleType}
 use denote.Param.SendFields.{declared_send, declared_sync, as_row_send, as_row_sync}
 use denote.Param.Send.{IsSend, IsSync, sendable}
-use Rattle.std.below.core.proofs.chan.Condvar.TheSendSync as changed
 use Rattle.std.specs.declared.sync.ledger.Ledger as ledger
 use Rattle.dl_history.specs.declared.name.LoaderName as name
-use Rattle.std.proofs.Crossing.{crosses as owners_cross}
+use Rattle.std.proofs.Crossing.{Vec-sync, crosses as owners_cross}
 use Rattle.std.specs.contracts.sync.Mutex as Mutex
+use Rattle.std.specs.contracts.alloc.Global as Heap
+use Rattle.std.specs.contracts.impls.GlobalAllocator.TheImpl.{ghosts}
+use Rattle.std.specs.contracts.vec.Vec as Vec
 use Rattle.dl_desk.specs.contracts.desk.Desk as Desk
 use Rattle.dl_history.specs.contracts.cell_rows.CellRows as CellRows
 use Rattle.dl_history.specs.contracts.flags.KnownFlags as KnownFlags
@@ -15,8 +17,10 @@ use Rattle.dl_loader.specs.contracts.book.Book as Book
 use Rattle.dl_loader.specs.contracts.book.Book.TheInside as book
 use Rattle.dl_loader.specs.contracts.loader.Loader as Loader
 use Rattle.dl_loader.specs.contracts.loader.Loader.TheInside as loader
+use Rattle.dl_loader.specs.contracts.waiter.Waiter as Waiter
 use Rattle.dl_desk.proofs.desk.Desk.TheSendSync as desk
 use Rattle.dl_history.proofs.flags.KnownFlags.TheSendSync as flags
+use Rattle.dl_loader.proofs.waiter.Waiter.TheSendSync as waiter
 use Rattle.dl_history.proofs.ThreadSafety.{Journal-send, CellRows-sync}
 
 module _ (T : RattleType) (n : name.Ghosts T.Denot) (l : ledger.Ghosts T.Denot) where
@@ -40,7 +44,10 @@ module _ (T : RattleType) (n : name.Ghosts T.Denot) (l : ledger.Ghosts T.Denot) 
     search (as_row_sync, sendable) depth 10,
     (
       as_row_sync (CellRows.the_field T n l) (CellRows-sync T n l),
-      (as_row_sync (Mutex.the_field (Book.the_row T n l)) lock_sync, (search (changed.the_sync, owners_cross, sendable) depth 20, tt)),
+      (
+        as_row_sync (Mutex.the_field (Book.the_row T n l)) lock_sync,
+        (as_row_sync (Vec.the_field Waiter.the_row Heap.the_row ghosts) (Vec-sync _ waiter.the_sync), tt),
+      ),
     ),
   )
 

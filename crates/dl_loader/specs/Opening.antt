@@ -62,9 +62,10 @@ pub record Names {S : Type 0} (answer : S → Answering) (opening : Opening S) (
   pub cells_are : opening.cells ≡ cells
   pub ledger_is : opening.ledger ≡ ledger
 
--- what holds of the fields of a loader: it has its number of callers, each with a part of the ledger, and its source
--- answers each key
-pub record IsLoader (callers parts : ℕ) (own : Service) : Type 0 where
+-- what holds of the fields of a loader: it has its number of callers, each with a place to wait and a part of the ledger,
+-- and its source answers each key
+pub record IsLoader (callers waiters parts : ℕ) (own : Service) : Type 0 where
   pub callers_are : callers ≡ own.callers
+  pub waiters_are : waiters ≡ own.callers
   pub parts_are : parts ≡ own.callers
   pub answers : AnswersEach own.answer

@@ -17,6 +17,7 @@ mod load_replies;
 mod loader;
 mod opening;
 mod reply;
+mod waiter;
 
 pub use ask::{Ask, GiveUp};
 pub use book::Book;

@@ -11,12 +11,13 @@ mod unshown;
 
 use crate::book::Book;
 use crate::opening::Opening;
+use crate::waiter::Waiter;
 use dl_history::{CellRows, LoaderName, Pass, StartFault, Stopped, Ticket};
 use dl_source::Source;
 use std::alloc::{AllocError, Global};
 use std::marker::Model;
 use std::sync::ledger::Share;
-use std::sync::{Condvar, Mutex, MutexGuard, Wait};
+use std::sync::{Mutex, MutexGuard, Wait};
 
 /// A loader that threads share by reference. Each of its callers makes its calls with a [`Pass`] of its own.
 ///
@@ -42,7 +43,8 @@ pub struct Loader<L: LoaderName> {
     callers: u32,
     pub(crate) rows: CellRows<L>,
     pub(crate) book: Mutex<Book<L>>,
-    pub(crate) changed: Condvar,
+    // By the number of the caller.
+    pub(crate) waiters: Vec<Waiter>,
 }
 
 impl<L: LoaderName> Drop for Loader<L> {
@@ -51,23 +53,24 @@ impl<L: LoaderName> Drop for Loader<L> {
             callers: _,
             rows,
             book,
-            changed,
+            waiters,
         } = self;
         drop(rows);
         drop(book);
-        drop(changed);
+        drop(waiters);
     }
 }
 
 impl<L: LoaderName> Model for Loader<L> {
     ghost use Rattle.dl_values.specs.Limits.{Limits};
+    ghost use Rattle.std.specs.Prelude.{vec_len};
     ghost use Rattle.dl_loader.specs.Opening.{IsLoader};
 
     ghost Value = { Limits };
 
     ghost view = { λ l. l.rows };
 
-    ghost invariant = { λ l. IsLoader l.callers L.parts L.service };
+    ghost invariant = { λ l. IsLoader l.callers (vec_len l.waiters) L.parts L.service };
 }
 
 impl<L: LoaderName> Loader<L> {
@@ -97,12 +100,14 @@ impl<L: LoaderName> Loader<L> {
         } = opening;
         let (calls, all) = blank.open::<L>();
         let passes = deal(alloc, callers, all)?;
+        let mut waiters = Vec::new(alloc);
+        waiters.resize_with(callers as usize, Waiter::new)?;
         let book = Book::new(alloc, hashing, limits, tables, calls);
         let loader = Loader {
             callers,
             rows: CellRows::new(limits, log, outcomes, flags),
             book: Mutex::new(book),
-            changed: Condvar::new(),
+            waiters,
         };
         Ok((loader, passes))
     }
@@ -120,13 +125,18 @@ impl<L: LoaderName> Loader<L> {
     /// Stops the loader: from then on it rejects every call, and every wait for a cell that has not ended.
     pub fn stop(&self, rt: &impl Wait) {
         self.book.lock(rt).stop(rt, &self.rows);
-        self.wake();
+        for waiter in &self.waiters {
+            waiter.wake();
+        }
     }
 
-    /// Wakes those that wait for a ticket: a batch has ended, or the loader is stopped. If someone has the book, they
-    /// go on once it is back.
+    /// Wakes those that wait for a cell which shows its outcome: a batch has ended. If someone has the book, they go on
+    /// once it is back.
     pub(crate) fn wake(&self) {
-        self.changed.notify_all();
+        let cells = self.rows.limits().max_cells();
+        for waiter in &self.waiters {
+            waiter.wake_if_shown(self.rows.outcomes(), cells);
+        }
     }
 
     /// Waits until the ticket shows its outcome, and adds that to the entries of the pass, unless it is there already.
@@ -176,6 +186,7 @@ impl<L: LoaderName> Loader<L> {
         ensures trace { pass.new.trace ≡ pass.old.trace }
         ensures stopped { OnErr result (pass.new.flags.stopped ≡ true) }
     {
+        let waiter = &self.waiters[pass.caller() as usize];
         let mut book = self.book.lock(rt);
         for _ in rt.forever() {
             if ticket.look().is_some() {
@@ -185,7 +196,7 @@ impl<L: LoaderName> Loader<L> {
                 pass.learn_stop(book.flags());
                 return Err(Stopped);
             }
-            book = self.changed.wait(rt, book);
+            book = waiter.wait(rt, ticket.cell(), book);
         }
         unreachable!()
     }

@@ -45,7 +45,7 @@ impl<L: LoaderName> Loader<L> {
             callers,
             rows,
             book,
-            changed,
+            waiters,
         } = self;
         let mut book = book.into_inner();
         match outlines(alloc, &rows, callers, &mut book, &mut passes) {
@@ -60,7 +60,7 @@ impl<L: LoaderName> Loader<L> {
                     callers,
                     rows,
                     book: Mutex::new(book),
-                    changed,
+                    waiters,
                 };
                 Err((fault, loader, passes))
             }
