@@ -14,7 +14,7 @@ use Rattle.dl_history.proofs.CellLists.{shows_same, open_waits}
 use Rattle.std.proofs.lemmas.List.{length-map, length_push}
 use Rattle.dl_values.specs.declared.outcome.Outcome.{Outcome}
 use Rattle.dl_desk.specs.declared.event.Call.{Call}
-use Rattle.dl_desk.specs.declared.event.Call.TheVariants.{Settle, Load, LoadMany, Prime, Clear, ClearAll, Dispatch, Fail}
+use Rattle.dl_desk.specs.declared.event.Call.TheVariants.{Settle, Prime, Fail}
 use Rattle.dl_desk.specs.declared.event.Event.{Event}
 use Rattle.dl_desk.specs.declared.event.Ending.{Ending}
 use Rattle.dl_loader.specs.Inside.Dues.{outcome_by, CanEnd}
@@ -145,14 +145,10 @@ pub gives_ends : {s : Service} {seen : LoaderState} {e : Event} → MayStand s s
 gives_ends {s} {seen} {e} g = by e.call refl
   where
     by : (call : Call) → e.call ≡ call → GivesEnds seen e
-    by (Load k) is = quiet g (rw is refl) (call_ends_none s seen.history e (Load k) g.next is (λ c. refl) (λ b. refl))
-    by (LoadMany ks) is = quiet g (rw is refl) (call_ends_none s seen.history e (LoadMany ks) g.next is (λ c. refl) (λ b. refl))
     by (Prime k o) is = by_prime (prime_reply (atoms (past seen.history)) k) g is refl (rw is at g.next.reply)
-    by (Clear k) is = quiet g (rw is refl) (call_ends_none s seen.history e (Clear k) g.next is (λ c. refl) (λ b. refl))
-    by ClearAll is = quiet g (rw is refl) (call_ends_none s seen.history e ClearAll g.next is (λ c. refl) (λ b. refl))
-    by Dispatch is = quiet g (rw is refl) (call_ends_none s seen.history e Dispatch g.next is (λ c. refl) (λ b. refl))
     by (Settle b os) is = by_settle g is
     by (Fail b fault) is = by_fail g is
+    by call is = quiet g (rw is refl) (call_ends_none s seen.history e call g.next is (λ c. refl) (λ b. refl))
 
 -- ---- the cells that an event ends, before it
 
@@ -195,11 +191,7 @@ cells_can {s} {seen} {e} {mids} g more = by e.call refl
     by (Prime k o) is = can_by_prime (prime_reply (atoms (past seen.history)) k) g is refl (rw is at g.next.reply) more
     by (Settle b os) is = can_by_members b (begun_in e.reply) g (rw is at g.next.made).0 (rw is refl) more
     by (Fail b fault) is = can_by_members b (begun_in e.reply) g (rw is at g.next.made).0 (rw is refl) more
-    by (Load k) is = can_none seen e (rw is refl)
-    by (LoadMany ks) is = can_none seen e (rw is refl)
-    by (Clear k) is = can_none seen e (rw is refl)
-    by ClearAll is = can_none seen e (rw is refl)
-    by Dispatch is = can_none seen e (rw is refl)
+    by call is = can_none seen e (rw is refl)
 
 members_few : (history : List Atom) (b : ℕ) → length (members history b) ≤ cells history
 members_few [] b = omega arith
@@ -243,8 +235,4 @@ cells_few {s} {seen} {e} g fit = by e.call refl
         few_prime seen e (prime_reply (atoms (past seen.history)) k) (primed_in seen e is refl) (rw is at g.next.reply) fit
     by (Settle b os) is = few_end b g.kept (rw is refl)
     by (Fail b fault) is = few_end b g.kept (rw is refl)
-    by (Load k) is = few_none seen e s.rules.limits.max_cells (rw is refl)
-    by (LoadMany ks) is = few_none seen e s.rules.limits.max_cells (rw is refl)
-    by (Clear k) is = few_none seen e s.rules.limits.max_cells (rw is refl)
-    by ClearAll is = few_none seen e s.rules.limits.max_cells (rw is refl)
-    by Dispatch is = few_none seen e s.rules.limits.max_cells (rw is refl)
+    by call is = few_none seen e s.rules.limits.max_cells (rw is refl)

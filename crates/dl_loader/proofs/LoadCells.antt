@@ -10,7 +10,7 @@ use Rattle.dl_desk.specs.declared.reply.LoadReply.{LoadReply}
 use Rattle.dl_desk.specs.declared.event.Event.{Event}
 use Rattle.dl_desk.specs.declared.event.Call.{Call}
 use Rattle.dl_desk.specs.declared.event.Reply.{Reply}
-use Rattle.dl_desk.specs.declared.event.Reply.TheVariants.{Many, Loaded, Primed, Done, Sent}
+use Rattle.dl_desk.specs.declared.event.Reply.TheVariants.{Many, Loaded}
 use Rattle.dl_loader.specs.Book.{Book, Keeps}
 use Rattle.dl_history.specs.Entries.{cell_of_load, Called, event_at, cells_of}
 use Rattle.dl_history.specs.History.{past}
@@ -28,7 +28,6 @@ use Rattle.dl_desk.specs.declared.event.Call.TheVariants as call
 use Rattle.dl_history.specs.History as history
 use Rattle.dl_desk.specs.Legal as desk
 use Rattle.dl_desk.proofs.PastAtoms.{legal_atoms}
-use Rattle.dl_desk.specs.declared.event.Reply.TheVariants as answered
 
 -- ---- as a book has them
 
@@ -68,11 +67,7 @@ all_begun {s} {b} {now} {p} {new} {c} {r} before kept made =
     by (call.Load k) is = loads_last s b now p new c r (k ∷ []) before kept made (rw is refl)
     by (call.LoadMany ks) is = loads_last s b now p new c r ks before kept made (rw is refl)
     by (call.Prime k o) is = primed (prime_reply (atoms (past b.history)) k)
-    by (call.Clear k) is = tt
-    by call.ClearAll is = tt
-    by call.Dispatch is = tt
-    by (call.Settle n os) is = tt
-    by (call.Fail n fault) is = tt
+    by d is = tt
 
 -- ---- as a pass has them
 
@@ -111,7 +106,4 @@ loads_answered {now} {ls} p at e is loads =
     by : (reply : Reply) → e.reply ≡ reply → Every (λ r. Among (cell_of_load r) (cells_of now.entries)) (loads_of reply)
     by (Loaded r) told = (one_answered p at e r is told, tt)
     by (Many rs) told = many_answered p at e is told refl
-    by (Primed c) told = tt
-    by answered.Kept told = tt
-    by Done told = tt
-    by (Sent js) told = tt
+    by reply told = tt

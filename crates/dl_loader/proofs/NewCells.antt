@@ -7,7 +7,6 @@ use Rattle.std.proofs.lemmas.List.Sums.{sum_by-append, sum_by-cons}
 use Rattle.dl_values.specs.Key.{Key}
 use Rattle.dl_values.specs.Limits.{Rules}
 use Rattle.dl_desk.specs.History.{Atom, begins, count_cell, cells, held, load_reply, load_replies, loaded, prime_reply, prime_reply_at}
-use Rattle.dl_desk.specs.History.{jobs}
 use Rattle.dl_desk.specs.BatchBook.{BatchBook, StandsFor}
 use Rattle.dl_desk.specs.Calls.{new_count, full, refusal, after}
 use Rattle.dl_desk.specs.declared.call.DeskCall.TheVariants as asked
@@ -20,7 +19,7 @@ use Rattle.dl_desk.proofs.Counts.{cells-loaded}
 use Rattle.dl_loader.specs.Inside.NewCells.{begun_by, cells_begun, begun_in}
 use Rattle.dl_desk.specs.declared.reply.DeskPrime.{DeskPrime}
 use Rattle.dl_desk.specs.declared.event.Call.{Call}
-use Rattle.dl_desk.specs.declared.event.Call.TheVariants.{Load, LoadMany, Prime, Clear, ClearAll, Dispatch, Settle, Fail}
+use Rattle.dl_desk.specs.declared.event.Call.TheVariants.{Load, LoadMany, Prime}
 use Rattle.dl_desk.specs.Calls.{primed}
 use Rattle.dl_desk.specs.Legal.{call_of, reply_to}
 use Rattle.dl_desk.specs.History as atom
@@ -149,11 +148,7 @@ begun_by_reply rules h (Load k) old new before now =
     omega arith
 begun_by_reply rules h (LoadMany ks) old new before now = loads_count rules h ks old new before now
 begun_by_reply rules h (Prime k o) old new before now = prime_begins k old new h (prime_reply h k) refl before now
-begun_by_reply rules h (Clear k) old new before now = let same = same_cells h (atom.Clear k) old new refl before now in omega arith
-begun_by_reply rules h ClearAll old new before now = let same = same_cells h atom.ClearAll old new refl before now in omega arith
-begun_by_reply rules h Dispatch old new before now = let same = same_cells h (atom.Dispatch (jobs h)) old new refl before now in omega arith
-begun_by_reply rules h (Settle b os) old new before now = let same = same_cells h (atom.Settle b) old new refl before now in omega arith
-begun_by_reply rules h (Fail b fault) old new before now = let same = same_cells h (atom.Fail b) old new refl before now in omega arith
+begun_by_reply rules h call old new before now = let were = before.cells in let are = now.cells in omega arith
 
 prime_fits : (rules : Rules) (h : List Atom) (k : Key) (old : BatchBook) (r : DeskPrime) → prime_reply h k ≡ r → StandsFor old h
     → desk.refusal rules h (asked.Prime k) ≡ None → old.cells ≤ rules.limits.max_cells → old.cells + begun_in (primed r) ≤ rules.limits.max_cells
@@ -169,8 +164,4 @@ reply_fits rules h (Load k) old before none fit =
     omega arith
 reply_fits rules h (LoadMany ks) old before none fit = loads_fit rules h ks old before none
 reply_fits rules h (Prime k o) old before none fit = prime_fits rules h k old (prime_reply h k) refl before none fit
-reply_fits rules h (Clear k) old before none fit = omega arith
-reply_fits rules h ClearAll old before none fit = omega arith
-reply_fits rules h Dispatch old before none fit = omega arith
-reply_fits rules h (Settle b os) old before none fit = omega arith
-reply_fits rules h (Fail b fault) old before none fit = omega arith
+reply_fits rules h call old before none fit = omega arith

@@ -1,7 +1,8 @@
--- Calls that are prepared: a prime, and the end of a batch by what its source answered.
+-- Calls that are prepared: a prime, and the end of a batch.
 use Rattle.std.proofs.Common.{◌≡◌, ◌∙◌, sym, ap, ℕ, List, length, None, refl, subst, zero, suc, ◌<◌, Bool, true, false, cond, [], ◌∷◌, map, Option}
-use Rattle.std.proofs.Common.{Some, IsSome, slice_get, option_map, is_some, nat_le, Decides, arith}
-use Rattle.dl_values.specs.Answering.{Answering, IsFor, IsWithin, MayAnswer}
+use Rattle.std.proofs.Common.{Some, IsSome, slice_get, option_map, is_some, nat_le, Decides, arith, Result, Ok, Err}
+use Rattle.std.specs.Borrow.{Bor}
+use Rattle.dl_values.specs.Answering.{Answering, IsFor, MayAnswer}
 use Rattle.dl_values.specs.Key.{Key, key_eq}
 use Rattle.dl_desk.specs.History.{Atom, prime_reply, cells, begun, sent, end_of, members, MayEnd}
 use Rattle.dl_desk.specs.Calls.{refusal, unfit}
@@ -15,9 +16,9 @@ use Rattle.dl_loader.specs.declared.dues.Due.{Due}
 use Rattle.dl_loader.specs.Inside.Dues.{AreDue, end_refusal, outcome_by}
 use Rattle.dl_loader.specs.Inside.Preparation.{IsPrepared, cell_primed, ended_count, cells_ended}
 use Rattle.std.proofs.lemmas.List.{length-map}
-use Rattle.dl_desk.specs.declared.event.Call.TheVariants.{Prime, Settle}
+use Rattle.dl_desk.specs.declared.event.Call.TheVariants.{Prime, Settle, Fail}
 use Rattle.dl_desk.specs.Calls.{primed}
-use Rattle.dl_desk.specs.Legal.{keys_of, call_of, reply_to, MayBeMade}
+use Rattle.dl_desk.specs.Legal.{keys_of, call_of, reply_to, IsFault, MayBeMade}
 use Rattle.std.specs.Option.{option_or}
 use Rattle.std.proofs.lemmas.Bool.{leb-false}
 use Rattle.std.proofs.lemmas.Slice.Eq.{slice_eq-Decides}
@@ -26,11 +27,13 @@ use Rattle.dl_desk.specs.declared.fault.DeskFault.{DeskFault}
 use Rattle.dl_desk.specs.declared.reply.End.{End}
 use Rattle.dl_values.proofs.KeyLemmas.{key_eq-same, key_eq-refl}
 use Rattle.dl_values.specs.declared.outcome.BatchAnswer.TheVariants.{Each, Break}
-use Rattle.dl_values.specs.declared.job.Job.{Job}
 use Rattle.dl_desk.specs.declared.event.Reply.TheVariants.{Done}
 use Rattle.dl_history.specs.declared.fault.CallFault.{CallFault}
 use Rattle.dl_history.specs.declared.fault.CallFault.TheVariants.{WrongKeys}
-use Rattle.dl_loader.specs.Asks.{end_by}
+use Rattle.dl_loader.specs.Asks.{end_by, fault_of}
+use Rattle.dl_loader.specs.Inside.EventCalls.{Brings, answer_len, call_ended, ended_len, job_ended}
+use Rattle.dl_loader.specs.declared.ask.GiveUp.{GiveUp}
+use Rattle.dl_loader.specs.declared.ask.GiveUp.TheVariants.{Memory, Unsent}
 use Rattle.dl_loader.specs.Refusals.{same_keys}
 use Rattle.dl_history.specs.Faults.{call_fault}
 use Rattle.dl_desk.specs.declared.reply.DeskPrime.TheVariants as prime
@@ -92,7 +95,7 @@ own_keys history b ks none =
     let both = none_both (unfit history b) (cond (same_keys ks (keys_of history b)) None (Some WrongKeys)) none in
     keys_same ks (keys_of history b) (same_at (same_keys ks (keys_of history b)) both.1)
 
--- ---- an end by what a source answered
+-- ---- what an end brings
 
 some_inside : {X : Type 0} (xs : List X) (i : ℕ) → i < length xs → IsSome (slice_get xs i)
 some_inside [] i low = absurd (omega arith)
@@ -104,10 +107,24 @@ settle_brings : (b : ℕ) (os : List Outcome) (cs : List ℕ) → length os ≡ 
 settle_brings b os cs same i low = some_inside os i (omega arith)
 
 -- an answer brings each cell of its keys an outcome
-pub answer_brings : (b : ℕ) (a : BatchAnswer) (ks : List Key) (cs : List ℕ) → IsFor ks a → length cs ≡ length ks → (i : ℕ) → i < length cs
+answer_brings : (b : ℕ) (a : BatchAnswer) (ks : List Key) (cs : List ℕ) → IsFor ks a → length cs ≡ length ks → (i : ℕ) → i < length cs
     → IsSome (outcome_by (end_by b a) i)
 answer_brings b (Each os) ks cs fits same = settle_brings b os cs (fits ∙ sym same)
 answer_brings b (Break text) ks cs fits same = λ i low. refl
+
+answer_fits : (ks : List Key) (a : BatchAnswer) → answer_len (length ks) a ≡ length ks → IsFor ks a
+answer_fits ks (Each os) same = same
+answer_fits ks (Break text) same = tt
+
+pub fits_answer : (ks : List Key) (a : BatchAnswer) → IsFor ks a → answer_len (length ks) a ≡ length ks
+fits_answer ks (Each os) fits = fits
+fits_answer ks (Break text) fits = refl
+
+-- so does a call that ends a batch
+pub end_brings : (b : ℕ) (ks : List Key) (e : Result (Bor BatchAnswer) GiveUp) (cs : List ℕ) → ended_len (length ks) e ≡ length ks → length cs ≡ length ks
+    → (i : ℕ) → i < length cs → IsSome (outcome_by (call_ended b e) i)
+end_brings b ks (Ok a) cs fits same = answer_brings b a.now ks cs (answer_fits ks a.now fits) same
+end_brings b ks (Err give_up) cs fits same = λ i low. refl
 
 -- a batch that may end may end by what the source may answer to its keys
 made_by : (answer : Answering) (history : List Atom) (b : ℕ) (a : BatchAnswer) → MayEnd history b → MayAnswer answer (keys_of history b) a
@@ -121,7 +138,7 @@ refusal_by : (rules : Rules) (b : ℕ) (a : BatchAnswer) (h : List Atom) → ref
 refusal_by rules b (Each os) h = refl
 refusal_by rules b (Break text) h = refl
 
--- an end that is not refused is of a batch which may end, and what may be answered to the job's keys may be answered to the batch's
+-- an end that is not refused is of a batch which may end, and what may be answered to these keys may be answered to the batch's
 answered_end : (answer : Answering) (a : BatchAnswer) (history : List Atom) (b : ℕ) (ks : List Key) → end_refusal history b ks ≡ None
     → MayAnswer answer ks a → MayEnd history b × MayAnswer answer (keys_of history b) a
 answered_end answer a history b ks none asked =
@@ -137,19 +154,27 @@ ended_by_answer : (h : List Atom) (b : ℕ) (a : BatchAnswer) → cells_ended h 
 ended_by_answer h b (Each os) = refl
 ended_by_answer h b (Break text) = refl
 
--- an end by what a source answered to the keys of a job is prepared where its batch may end and has these keys
-pub end_prepared : {desk : BatchBook} {cs : List ℕ} {call : Call} {at : ℕ} {dues : List Due} (a : BatchAnswer) (job : Job) (source : Answering)
-    → MayAnswer source job.keys a → ((h : List Atom) → StandsFor desk h → end_refusal h job.batch job.keys ≡ None)
-    → ((h : List Atom) → StandsFor desk h → cs ≡ map (λ m. m.1) (members h job.batch)) → length cs ≡ length job.keys → call ≡ end_by job.batch a
-    → AreDue call at cs dues → IsPrepared desk
-    (record { call = end_by job.batch a; job = Some job; brings = λ answer. IsWithin source answer })
+given_up : (answer : Answering) (ks : List Key) (give_up : GiveUp) → IsFault answer ks (fault_of give_up)
+given_up answer ks Memory = tt
+given_up answer ks Unsent = tt
+
+-- an end is prepared if its batch may end and has these keys
+pub end_prepared : {desk : BatchBook} {cs : List ℕ} {call : Call} {at : ℕ} {dues : List Due} (b : ℕ) (ks : List Key) (e : Result (Bor BatchAnswer) GiveUp)
+    → ((h : List Atom) → StandsFor desk h → end_refusal h b ks ≡ None)
+    → ((h : List Atom) → StandsFor desk h → cs ≡ map (λ m. m.1) (members h b)) → length cs ≡ length ks → call ≡ call_ended b e
+    → AreDue call at cs dues → IsPrepared desk (record { call = call_ended b e; job = Some (job_ended b ks); brings = Brings ks e })
     (record { at = at; reply = Done; dues = dues })
-end_prepared {desk} {cs} {call} {at} {dues} a job source asked accepted cells each is due = record {
-  accepted = λ h stands. rw (refusal_by desk.rules job.batch a h) (accepted h stands);
-  replies = λ h stands. done_by desk.rules h job.batch a;
-  may = λ answer answers h stands.
-      let end = answered_end answer a h job.batch job.keys (accepted h stands) (answers job.keys a asked) in
-      made_by answer h job.batch a end.0 end.1;
-  gives = λ h stands. subst (λ (ns : List ℕ). AreDue (end_by job.batch a) at ns dues) (cells h stands ∙ sym (ended_by_answer h job.batch a)) (rw is at due);
+end_prepared {desk} {cs} {call} {at} {dues} b ks (Ok a) accepted cells each is due = record {
+  accepted = λ h stands. rw (refusal_by desk.rules b a.now h) (accepted h stands);
+  replies = λ h stands. done_by desk.rules h b a.now;
+  may = λ answer brings h stands. let end = answered_end answer a.now h b ks (accepted h stands) brings in made_by answer h b a.now end.0 end.1;
+  gives = λ h stands. subst (λ (ns : List ℕ). AreDue (end_by b a.now) at ns dues) (cells h stands ∙ sym (ended_by_answer h b a.now)) (rw is at due);
+  each = sym (length-map dues (λ (d : Due). d.cell)) ∙ (ap length due.cells_are ∙ each);
+}
+end_prepared {desk} {cs} {call} {at} {dues} b ks (Err give_up) accepted cells each is due = record {
+  accepted = λ h stands. accepted h stands;
+  replies = λ h stands. refl;
+  may = λ answer brings h stands. (may_end h b ks (accepted h stands), given_up answer (keys_of h b) give_up);
+  gives = λ h stands. subst (λ (ns : List ℕ). AreDue (Fail b (fault_of give_up)) at ns dues) (cells h stands) (rw is at due);
   each = sym (length-map dues (λ (d : Due). d.cell)) ∙ (ap length due.cells_are ∙ each);
 }

@@ -38,22 +38,11 @@ module _ {S : Type 0} {G : Ghosts S} where
 
   -- the job that an ask ends
   abbrev pub job_asked : Ask S G → Option Job
-  job_asked (ask.Load k) = None
-  job_asked (ask.LoadMany ks) = None
-  job_asked (ask.Prime k o) = None
-  job_asked (ask.Clear k) = None
-  job_asked ask.ClearAll = None
-  job_asked ask.Dispatch = None
   job_asked (ask.Settle fetched) = Some (job_of fetched)
   job_asked (ask.Fail job give_up) = Some job
+  job_asked asked = None
 
   -- the source that gave the answer which an ask brings
   abbrev pub source_asked : Ask S G → Option S
-  source_asked (ask.Load k) = None
-  source_asked (ask.LoadMany ks) = None
-  source_asked (ask.Prime k o) = None
-  source_asked (ask.Clear k) = None
-  source_asked ask.ClearAll = None
-  source_asked ask.Dispatch = None
   source_asked (ask.Settle fetched) = Some (source_of fetched)
-  source_asked (ask.Fail job give_up) = None
+  source_asked asked = None

@@ -5,7 +5,7 @@ use Rattle.dl_desk.specs.declared.reply.LoadReply.{LoadReply}
 use Rattle.dl_desk.specs.declared.event.Event.{Event}
 use Rattle.dl_desk.specs.declared.event.Call.{Call}
 use Rattle.dl_desk.specs.declared.event.Reply.{Reply}
-use Rattle.dl_desk.specs.declared.event.Reply.TheVariants.{Loaded, Many, Primed, Kept, Done, Sent}
+use Rattle.dl_desk.specs.declared.event.Reply.TheVariants.{Loaded, Many}
 use Rattle.dl_history.specs.Pass.{Trace, with_call, with_tickets}
 use Rattle.dl_desk.specs.Service.{Service}
 use Rattle.dl_history.specs.Entries.{front_of}
@@ -23,10 +23,7 @@ event_of p call reply = record { caller = p.caller; call = call; reply = reply }
 abbrev pub loads_of : Reply → List LoadReply
 loads_of (Loaded r) = r ∷ []
 loads_of (Many rs) = rs
-loads_of (Primed c) = []
-loads_of Kept = []
-loads_of Done = []
-loads_of (Sent js) = []
+loads_of reply = []
 
 -- the trace after its event at a place, with its tickets
 abbrev pub with_event : Trace → ℕ → Call → Reply → Trace

@@ -1,6 +1,6 @@
 //! The event calls: what each prepares in the desk and then shows there.
 
-ghost use Rattle.std.specs.Prelude.{◌≡◌, Option, IfErr, IfOk, OnOk};
+ghost use Rattle.std.specs.Prelude.{◌≡◌, Option, None, IfErr, IfOk, OnOk};
 ghost use Rattle.dl_values.specs.Answering.{Answering};
 ghost use Rattle.dl_values.specs.declared.job.Job.{Job};
 ghost use Rattle.dl_desk.specs.BatchBook as book;
@@ -17,8 +17,8 @@ mod loads;
 use crate::dues::Due;
 use dl_desk::{Desk, LoadReply};
 use dl_history::{Call, CallFault, Reply};
-pub(crate) use ends::{Fail, Settle};
-pub(crate) use keys::{Clear, ClearAll, Dispatch, Prime};
+pub(crate) use ends::EndBatch;
+pub(crate) use keys::{Clear, Dispatch, Prime};
 pub(crate) use loads::{Load, LoadMany};
 use std::alloc::Global;
 
@@ -40,8 +40,8 @@ pub(crate) trait EventCall {
     // The call that the history tells.
     ghost call: { Self → Call };
 
-    // The job that it ends.
-    ghost job: { Self → Option Job };
+    // The job that it ends, if it ends one.
+    ghost job: { Self → Option Job } = { λ _. None };
 
     // The reply that the history tells.
     ghost told: { Self.Reply → Reply };

@@ -10,9 +10,7 @@ ghost use Rattle.dl_loader.specs.Refusals.{refusal, IsRefusal};
 
 use crate::ask::Ask;
 use crate::book::Book;
-use crate::event_call::{
-    Clear, ClearAll, Dispatch, EventCall, Fail, Load, LoadMany, Prime, Settle,
-};
+use crate::event_call::{Clear, Dispatch, EndBatch, EventCall, Load, LoadMany, Prime};
 use crate::loader::Loader;
 pub use dl_desk::laws::{
     batches_are_within_limits, ends_stay, fresh_loads_are_apart, legal_pasts_are_answered,
@@ -78,14 +76,11 @@ fn make<L: LoaderName, S: Source>(
         Ask::Load(key) => tell(alloc, rows, book, pass, &Load { key }),
         Ask::LoadMany(keys) => tell(alloc, rows, book, pass, &LoadMany { keys }),
         Ask::Prime(key, outcome) => tell(alloc, rows, book, pass, &Prime { key, outcome }),
-        Ask::Clear(key) => tell(alloc, rows, book, pass, &Clear { key }),
-        Ask::ClearAll => tell(alloc, rows, book, pass, &ClearAll),
+        Ask::Clear(key) => tell(alloc, rows, book, pass, &Clear::Key(key)),
+        Ask::ClearAll => tell(alloc, rows, book, pass, &Clear::All),
         Ask::Dispatch => tell(alloc, rows, book, pass, &Dispatch),
-        Ask::Settle(fetched) => tell(alloc, rows, book, pass, &Settle { fetched }),
-        Ask::Fail(job, give_up) => {
-            let give_up = *give_up;
-            tell(alloc, rows, book, pass, &Fail { job, give_up })
-        }
+        Ask::Settle(fetched) => tell(alloc, rows, book, pass, &EndBatch::settle(fetched)),
+        Ask::Fail(job, give_up) => tell(alloc, rows, book, pass, &EndBatch::fail(job, *give_up)),
     }
 }
 

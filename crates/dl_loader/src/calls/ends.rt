@@ -9,7 +9,7 @@ ghost use Rattle.dl_loader.specs.Asks.{end_by, fault_of};
 ghost use Rattle.dl_loader.specs.EventEffect.{KnowsStop, WasMade, WasRefused};
 
 use crate::ask::GiveUp;
-use crate::event_call::{Fail, Settle};
+use crate::event_call::EndBatch;
 use crate::loader::Loader;
 use crate::reply::Settled;
 use dl_desk::Job;
@@ -44,7 +44,7 @@ impl<L: LoaderName> Loader<L> {
         ensures back { IfErr result (λ e. e.1 ≡ fetched.entry) }
         ensures unchanged { OnErr result (pass.new.trace ≡ pass.old.trace) }
     {
-        match self.call(rt, alloc, pass, &Settle { fetched: &fetched }) {
+        match self.call(rt, alloc, pass, &EndBatch::settle(&fetched)) {
             Ok((_, settled)) => {
                 self.wake();
                 Ok(settled)
@@ -75,7 +75,7 @@ impl<L: LoaderName> Loader<L> {
         ensures back { IfErr result (λ e. e.1 ≡ job) }
         ensures unchanged { OnErr result (pass.new.trace ≡ pass.old.trace) }
     {
-        match self.call(rt, alloc, pass, &Fail { job: &job, give_up }) {
+        match self.call(rt, alloc, pass, &EndBatch::fail(&job, give_up)) {
             Ok((_, settled)) => {
                 self.wake();
                 Ok(settled)

@@ -7,7 +7,7 @@ ghost use Rattle.dl_desk.specs.declared.event.Reply.TheVariants as reply;
 ghost use Rattle.dl_loader.specs.EventReplies.{refused_by, reply_by};
 ghost use Rattle.dl_loader.specs.EventEffect.{KnowsStop, WasMade, WasRefused};
 
-use crate::event_call::{Clear, ClearAll, Dispatch, Prime};
+use crate::event_call::{Clear, Dispatch, Prime};
 use crate::loader::Loader;
 use crate::reply::{PrimeReply, Settled};
 use dl_desk::{DeskPrime, FetchKey, Job, Outcome};
@@ -61,7 +61,7 @@ impl<L: LoaderName> Loader<L> {
         ensures knows { IfErr result (KnowsStop pass.new.flags) }
         ensures unchanged { OnErr result (pass.new.trace ≡ pass.old.trace) }
     {
-        self.call(rt, alloc, pass, &Clear { key })?;
+        self.call(rt, alloc, pass, &Clear::Key(key))?;
         Ok(())
     }
 
@@ -81,7 +81,7 @@ impl<L: LoaderName> Loader<L> {
         ensures knows { IfErr result (KnowsStop pass.new.flags) }
         ensures unchanged { OnErr result (pass.new.trace ≡ pass.old.trace) }
     {
-        self.call(rt, alloc, pass, &ClearAll)?;
+        self.call(rt, alloc, pass, &Clear::All)?;
         Ok(())
     }
 

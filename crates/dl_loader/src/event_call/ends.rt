@@ -1,12 +1,13 @@
 //! The ends of batches.
 
 ghost use Rattle.std.specs.Prelude.{◌≡◌, [], IfErr, IfOk, List, None, OnOk, Some, length, map};
-ghost use Rattle.dl_values.specs.Answering.{IsWithin};
 ghost use Rattle.dl_desk.specs.BatchBook.{StandsFor, MayEndIn};
 ghost use Rattle.dl_desk.specs.History.{Atom, members};
+ghost use Rattle.dl_desk.specs.Service.{Answers, Service};
 ghost use Rattle.dl_desk.specs.declared.event.Call.TheVariants as made;
 ghost use Rattle.dl_desk.specs.declared.event.Reply.TheVariants as reply;
 ghost use Rattle.dl_loader.specs.Asks.{end_by, fault_of};
+ghost use Rattle.dl_loader.specs.Inside.EventCalls.{Brings, call_ended, end_made, ended_len, job_ended};
 ghost use Rattle.dl_loader.specs.Inside.Dues.{end_as, end_refusal};
 ghost use Rattle.dl_source.specs.Fetched.{answer_of, job_of, source_of};
 
@@ -18,30 +19,84 @@ use dl_history::{Call, CallFault, Reply, Shared};
 use dl_source::{BatchAnswer, Fetched, Source};
 use std::alloc::{AllocError, Global};
 
-/// The end of a batch by what the source answered to its keys.
+/// The end of a batch with these keys.
 #[derive(Drop)]
-pub(crate) struct Settle<'a, 's, S: Source> {
-    pub(crate) fetched: &'a Fetched<'s, S>,
+pub(crate) struct EndBatch<'a> {
+    batch: u32,
+    keys: &'a [FetchKey],
+    /// What the source answered to the keys, or why the caller gives the batch up.
+    answer: Result<&'a BatchAnswer, GiveUp>,
+    ghost fits: { ended_len (length keys.now) answer ≡ length keys.now },
 }
 
-impl<S: Source> EventCall for Settle<'_, '_, S> {
+impl<'a> EndBatch<'a> {
+    /// The end by what the source answered.
+    pub(crate) fn settle<S: Source>(fetched: &'a Fetched<'_, S>) -> EndBatch<'a>
+        ensures call { call_ended result.batch result.answer ≡ end_by (job_of fetched.now).batch (answer_of fetched.now) }
+        ensures job { job_ended result.batch result.keys.now ≡ job_of fetched.now }
+        ensures brings { (service : Service) → Answers (S.answer (source_of fetched.now)) service → Brings result.keys.now result.answer service.answer }
+    {
+        EndBatch {
+            batch: fetched.batch(),
+            keys: fetched.keys(),
+            answer: Ok(fetched.answer()),
+        }
+    }
+
+    /// The failure of a batch that its caller gives up.
+    pub(crate) fn fail(job: &'a Job, give_up: GiveUp) -> EndBatch<'a>
+        ensures call { call_ended result.batch result.answer ≡ made.Fail job.now.batch (fault_of give_up) }
+        ensures job { job_ended result.batch result.keys.now ≡ job.now }
+        ensures brings { (service : Service) → Brings result.keys.now result.answer service.answer }
+    {
+        EndBatch {
+            batch: job.batch,
+            keys: job.keys.as_slice(),
+            answer: Err(give_up),
+        }
+    }
+
+    /// The call of its event. Fails if memory runs out.
+    fn call(&self, alloc: Global) -> Result<Call, AllocError>
+        ensures { IfOk result (λ call. call ≡ call_ended self.now.batch self.now.answer) }
+    {
+        let batch = self.batch;
+        match self.answer {
+            Ok(answer) => end_call(alloc, batch, answer),
+            Err(give_up) => {
+                let fault = batch_fault(give_up);
+                Ok(Call::Fail { batch, fault })
+            }
+        }
+    }
+
+    /// How the desk ends the batch.
+    fn end(&self) -> End
+        ensures { result ≡ end_made self.now.answer }
+    {
+        match self.answer {
+            Ok(answer) => end_as(answer),
+            Err(_) => End::Failed,
+        }
+    }
+}
+
+impl EventCall for EndBatch<'_> {
     type Reply = ();
 
-    ghost call = { λ c. end_by (job_of c.fetched.now).batch (answer_of c.fetched.now) };
+    ghost call = { λ c. call_ended c.batch c.answer };
 
-    ghost job = { λ c. Some (job_of c.fetched.now) };
+    ghost job = { λ c. Some (job_ended c.batch c.keys.now) };
 
     ghost told = { λ _. reply.Done };
 
-    ghost brings = { λ c answer. IsWithin (S.answer (source_of c.fetched.now)) answer };
+    ghost brings = { λ c. Brings c.keys.now c.answer };
 
-    ghost ready = { λ c desk. MayEndIn desk.book (job_of c.fetched.now).batch };
+    ghost ready = { λ c desk. MayEndIn desk.book c.batch };
 
     fn prepare(&self, alloc: Global, at: u16, desk: &mut Desk) -> Result<Prepared<()>, CallFault> {
-        let batch = self.fetched.batch();
-        let answer = self.fetched.answer();
-        let cells = cells_of(desk, batch, self.fetched.keys())?;
-        let call = end_call(alloc, batch, answer)?;
+        let cells = cells_of(desk, self.batch, self.keys)?;
+        let call = self.call(alloc)?;
         let dues = dues(alloc, at, cells, &call)?;
         Ok(Prepared {
             call,
@@ -52,52 +107,7 @@ impl<S: Source> EventCall for Settle<'_, '_, S> {
     }
 
     fn show(&self, desk: &mut Desk) {
-        desk.end(self.fetched.batch(), end_as(self.fetched.answer()));
-    }
-
-    fn loads(_reply: &()) -> &[LoadReply] {
-        &[]
-    }
-
-    fn tell(_reply: ()) -> Reply {
-        Reply::Done
-    }
-}
-
-/// The failure of a batch that its caller gives up.
-#[derive(Drop)]
-pub(crate) struct Fail<'a> {
-    pub(crate) job: &'a Job,
-    pub(crate) give_up: GiveUp,
-}
-
-impl EventCall for Fail<'_> {
-    type Reply = ();
-
-    ghost call = { λ c. made.Fail c.job.now.batch (fault_of c.give_up) };
-
-    ghost job = { λ c. Some c.job.now };
-
-    ghost told = { λ _. reply.Done };
-
-    ghost ready = { λ c desk. MayEndIn desk.book c.job.now.batch };
-
-    fn prepare(&self, alloc: Global, at: u16, desk: &mut Desk) -> Result<Prepared<()>, CallFault> {
-        let batch = self.job.batch;
-        let cells = cells_of(desk, batch, self.job.keys.as_slice())?;
-        let fault = batch_fault(self.give_up);
-        let call = Call::Fail { batch, fault };
-        let dues = dues(alloc, at, cells, &call)?;
-        Ok(Prepared {
-            call,
-            reply: Reply::Done,
-            dues,
-            answer: (),
-        })
-    }
-
-    fn show(&self, desk: &mut Desk) {
-        desk.end(self.job.batch, End::Failed);
+        desk.end(self.batch, self.end());
     }
 
     fn loads(_reply: &()) -> &[LoadReply]

@@ -1,10 +1,11 @@
 //! The calls on keys, and the dispatch.
 
-ghost use Rattle.std.specs.Prelude.{◌≡◌, [], None};
+ghost use Rattle.std.specs.Prelude.{◌≡◌, [], IfOk};
 ghost use Rattle.dl_desk.specs.declared.call.DeskCall.TheVariants as asked;
 ghost use Rattle.dl_desk.specs.Calls.{primed};
 ghost use Rattle.dl_desk.specs.declared.event.Call.TheVariants as made;
 ghost use Rattle.dl_desk.specs.declared.event.Reply.TheVariants as reply;
+ghost use Rattle.dl_loader.specs.Inside.EventCalls.{clear_made};
 ghost use Rattle.dl_loader.specs.Inside.Preparation.{IsReady, cell_primed};
 ghost use Rattle.dl_loader.specs.EventEffect.{loads_of};
 
@@ -12,22 +13,21 @@ use crate::dues::dues;
 use crate::event_call::{EventCall, Prepared};
 use dl_desk::{Desk, DeskPrime, FetchKey, Job, LoadReply, Outcome};
 use dl_history::{Call, CallFault, Jobs, Reply, Shared};
-use std::alloc::Global;
+use std::alloc::{AllocError, Global};
 use std::marker::Model;
 use std::slice;
 
-/// The clear of a key: the memo forgets it, if it holds it.
+/// The clear of a key, or of all: the memo forgets what it holds.
 #[derive(Drop)]
-pub(crate) struct Clear<'a> {
-    pub(crate) key: &'a FetchKey,
+pub(crate) enum Clear<'a> {
+    Key(&'a FetchKey),
+    All,
 }
 
 impl EventCall for Clear<'_> {
     type Reply = ();
 
-    ghost call = { λ c. made.Clear c.key.now };
-
-    ghost job = { λ _. None };
+    ghost call = { clear_made };
 
     ghost told = { λ _. reply.Done };
 
@@ -40,7 +40,7 @@ impl EventCall for Clear<'_> {
         _desk: &mut Desk,
     ) -> Result<Prepared<()>, CallFault> {
         Ok(Prepared {
-            call: Call::Clear(self.key.try_copy()?),
+            call: clear_call(self)?,
             reply: Reply::Done,
             dues: Vec::new(alloc),
             answer: (),
@@ -48,7 +48,10 @@ impl EventCall for Clear<'_> {
     }
 
     fn show(&self, desk: &mut Desk) {
-        desk.clear(self.key);
+        match self {
+            Clear::Key(key) => desk.clear(key),
+            Clear::All => desk.clear_all(),
+        }
     }
 
     fn loads(_reply: &()) -> &[LoadReply]
@@ -64,45 +67,13 @@ impl EventCall for Clear<'_> {
     }
 }
 
-/// The clear of all keys.
-#[derive(Drop)]
-pub(crate) struct ClearAll;
-
-impl EventCall for ClearAll {
-    type Reply = ();
-
-    ghost call = { λ _. made.ClearAll };
-
-    ghost job = { λ _. None };
-
-    ghost told = { λ _. reply.Done };
-
-    ghost ready = { λ _ _. Unit {0} };
-
-    fn prepare(
-        &self,
-        alloc: Global,
-        _at: u16,
-        _desk: &mut Desk,
-    ) -> Result<Prepared<()>, CallFault> {
-        Ok(Prepared {
-            call: Call::ClearAll,
-            reply: Reply::Done,
-            dues: Vec::new(alloc),
-            answer: (),
-        })
-    }
-
-    fn show(&self, desk: &mut Desk) {
-        desk.clear_all();
-    }
-
-    fn loads(_reply: &()) -> &[LoadReply] {
-        &[]
-    }
-
-    fn tell(_reply: ()) -> Reply {
-        Reply::Done
+/// The call of a clear's event. Fails if a reference count would overflow.
+fn clear_call(clear: &Clear<'_>) -> Result<Call, AllocError>
+    ensures { IfOk result (λ call. call ≡ clear_made clear.now) }
+{
+    match clear {
+        Clear::Key(key) => Ok(Call::Clear(key.try_copy()?)),
+        Clear::All => Ok(Call::ClearAll),
     }
 }
 
@@ -117,8 +88,6 @@ impl EventCall for Prime<'_> {
     type Reply = DeskPrime;
 
     ghost call = { λ c. made.Prime c.key.now c.outcome.now };
-
-    ghost job = { λ _. None };
 
     ghost told = { primed };
 
@@ -204,8 +173,6 @@ impl EventCall for Dispatch {
     type Reply = SentJobs;
 
     ghost call = { λ _. made.Dispatch };
-
-    ghost job = { λ _. None };
 
     ghost told = { λ jobs. reply.Sent jobs };
 

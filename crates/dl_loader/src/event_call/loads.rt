@@ -1,6 +1,6 @@
 //! The loads of keys.
 
-ghost use Rattle.std.specs.Prelude.{◌≡◌, None, [], ◌∷◌};
+ghost use Rattle.std.specs.Prelude.{◌≡◌, [], ◌∷◌};
 ghost use Rattle.dl_desk.specs.declared.call.DeskCall.TheVariants as asked;
 ghost use Rattle.dl_desk.specs.declared.event.Call.TheVariants as made;
 ghost use Rattle.dl_desk.specs.declared.event.Reply.TheVariants as reply;
@@ -22,8 +22,6 @@ impl EventCall for Load<'_> {
     type Reply = LoadReply;
 
     ghost call = { λ c. made.Load c.key.now };
-
-    ghost job = { λ _. None };
 
     ghost told = { λ r. reply.Loaded r };
 
@@ -74,8 +72,6 @@ impl EventCall for LoadMany<'_> {
     type Reply = Shared<Replies>;
 
     ghost call = { λ c. made.LoadMany c.keys.now };
-
-    ghost job = { λ _. None };
 
     ghost told = { λ rs. reply.Many rs };
 
