@@ -16,7 +16,7 @@ use Rattle.dl_terms.specs.Tree.{Tree}
 use Rattle.dl_terms.specs.View.{term_view}
 use Rattle.dl_terms.specs.declared.answer.Answer.{Answer}
 use Rattle.dl_terms.specs.declared.plan.Step.{Step}
-use Rattle.dl_terms.specs.declared.plan.Step.TheVariants.{Prime, Clear, ClearAll, Eval}
+use Rattle.dl_terms.specs.declared.plan.Step.TheVariants.{Eval}
 use Rattle.dl_loader.specs.Dispatches.{events_told, dispatched, dispatched_by, unsent, unsent_by}
 use Rattle.dl_haxl.specs.PlanEntries.{Stretch, stretch, IsStep, AreSteps, FollowsAndSends}
 use Rattle.dl_haxl.specs.Rounds.{EvaluatesQueued, HandedOver, Round, Rounds}
@@ -131,10 +131,8 @@ module _ (caller : ℕ) where
       omega (arith, jobs, back, sent)
 
   step_counted : (number : ℕ) (step : Step) (s : Stretch) → IsStep caller number step s → EachSent s.lines s.sent
-  step_counted number (Prime key outcome) s (at, reply, is) = one_call s _ refl refl is
-  step_counted number (Clear key) s (at, reply, is) = one_call s _ refl refl is
-  step_counted number ClearAll s (at, reply, is) = one_call s _ refl refl is
   step_counted number (Eval term) s (a, answers, evaluates) = evaluates_counted (term_view term) s.lines a s.rounds s.sent evaluates
+  step_counted number step s (at, reply, is) = one_call s _ refl refl is
 
   steps_counted : (number : ℕ) (steps : List Step) (s : Stretch) → AreSteps caller number steps s → EachSent s.lines s.sent
   steps_counted number [] s is = subst (λ (x : Stretch). EachSent x.lines x.sent) (sym is) refl

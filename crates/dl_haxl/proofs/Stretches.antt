@@ -18,7 +18,7 @@ use Rattle.dl_terms.specs.TermAnswers.{Pairs, frontier}
 use Rattle.dl_terms.specs.Tree.{Tree}
 use Rattle.dl_terms.specs.View.{term_view}
 use Rattle.dl_haxl.specs.Rounds.{AddsAndSends, Rounds, HandedOver}
-use Rattle.dl_terms.specs.declared.plan.Step.TheVariants.{Prime, Clear, ClearAll, Eval}
+use Rattle.dl_terms.specs.declared.plan.Step.TheVariants.{Eval}
 use Rattle.dl_haxl.specs.PlanEntries.{Stretch, stretch, then, IsCall, IsStep, AreSteps, FollowsAndSends}
 use Rattle.dl_terms.specs.declared.plan.Step.{Step}
 use Rattle.dl_haxl.specs.declared.step_answers.StepAnswer.{StepAnswer}
@@ -112,11 +112,9 @@ module _ (JobsEnd : List Job → List Job → List Entry → Type 0) (caller : �
       omega (arith, first, some, long)
 
 step_called : (caller number : ℕ) (step : Step) (s : Stretch) → IsStep caller number step s → s.rounds ≤ length (calls_of s.lines)
-step_called caller number (Prime key outcome) s (at, reply, is) = let none : s.rounds ≡ 0 = ap (λ (x : Stretch). x.rounds) is in omega (arith, none)
-step_called caller number (Clear key) s (at, reply, is) = let none : s.rounds ≡ 0 = ap (λ (x : Stretch). x.rounds) is in omega (arith, none)
-step_called caller number ClearAll s (at, reply, is) = let none : s.rounds ≡ 0 = ap (λ (x : Stretch). x.rounds) is in omega (arith, none)
 step_called caller number (Eval term) s (a, answers, (known, rounds, ended, gives)) =
     rounds_called (HandedOver caller) caller (term_view term) s.rounds s.lines known s.sent rounds
+step_called caller number step s (at, reply, is) = let none : s.rounds ≡ 0 = ap (λ (x : Stretch). x.rounds) is in omega (arith, none)
 
 steps_called : (caller number : ℕ) (steps : List Step) (s : Stretch) → AreSteps caller number steps s → s.rounds ≤ length (calls_of s.lines)
 steps_called caller number [] s none = let zero : s.rounds ≡ 0 = ap (λ (x : Stretch). x.rounds) none in omega (arith, zero)

@@ -2,7 +2,7 @@
 use Rattle.std.specs.Prelude.{ℕ, List, [], ◌∷◌, flat_map}
 use Rattle.dl_values.specs.declared.outcome.BatchFault.TheVariants.{Memory, Unsent, Source}
 use Rattle.dl_desk.specs.declared.event.Call.{Call}
-use Rattle.dl_desk.specs.declared.event.Call.TheVariants.{Load, LoadMany, Prime, Clear, ClearAll, Dispatch, Settle, Fail}
+use Rattle.dl_desk.specs.declared.event.Call.TheVariants.{Fail}
 use Rattle.dl_desk.specs.declared.event.Event.{Event}
 
 -- the batch that the call fails without an answer of the source, if it does
@@ -10,13 +10,7 @@ abbrev pub given_up_by : Call → List ℕ
 given_up_by (Fail b Memory) = b ∷ []
 given_up_by (Fail b Unsent) = b ∷ []
 given_up_by (Fail b (Source text)) = []
-given_up_by (Settle b os) = []
-given_up_by (Load k) = []
-given_up_by (LoadMany ks) = []
-given_up_by (Prime k o) = []
-given_up_by (Clear k) = []
-given_up_by ClearAll = []
-given_up_by Dispatch = []
+given_up_by call = []
 
 -- the batches that failed without an answer of the source, in the order of their ends
 abbrev pub given_up : List Event → List ℕ
