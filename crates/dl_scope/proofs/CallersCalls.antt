@@ -75,11 +75,9 @@ module _ (P : ℕ → Call → Type 0) where
         subst (Every (OfCall n)) (sym split) (every_append (OfCall n) before last (rounds_hold t count before past earlier rounds) here)
 
     step_holds : (number : ℕ) (step : Step) (s : Stretch) → OfStep n step → IsStep n number step s → Every (OfCall n) s.lines
-    step_holds number (Prime key outcome) s one (at, reply, is) = subst (λ (x : Stretch). Every (OfCall n) x.lines) (sym is) (one, tt)
-    step_holds number (Clear key) s one (at, reply, is) = subst (λ (x : Stretch). Every (OfCall n) x.lines) (sym is) (one, tt)
-    step_holds number ClearAll s one (at, reply, is) = subst (λ (x : Stretch). Every (OfCall n) x.lines) (sym is) (one, tt)
     step_holds number (Eval term) s none (a, answers, (known, rounds, ended, gives)) =
         rounds_hold (term_view term) s.rounds s.lines known s.sent rounds
+    step_holds number step s one (at, reply, is) = subst (λ (x : Stretch). Every (OfCall n) x.lines) (sym is) (one, tt)
 
     steps_hold : (number : ℕ) (steps : List Step) (s : Stretch) → Every (OfStep n) steps → AreSteps n number steps s → Every (OfCall n) s.lines
     steps_hold number [] s none is = subst (λ (x : Stretch). Every (OfCall n) x.lines) (sym is) tt

@@ -6,11 +6,11 @@ use Rattle.dl_values.specs.declared.outcome.BatchFault.{BatchFault}
 use Rattle.dl_values.specs.declared.outcome.BatchFault.TheVariants.{Memory, Unsent, Source}
 use Rattle.dl_history.specs.Lists.{Every, total}
 use Rattle.dl_desk.specs.declared.event.Call.{Call}
-use Rattle.dl_desk.specs.declared.event.Call.TheVariants.{Load, LoadMany, Prime, Clear, ClearAll, Dispatch, Settle, Fail}
+use Rattle.dl_desk.specs.declared.event.Call.TheVariants.{Settle, Fail}
 use Rattle.dl_desk.specs.declared.event.Event.{Event}
 use Rattle.dl_history.proofs.ListLemmas.{every_from}
 use Rattle.dl_terms.specs.declared.plan.Step.{Step}
-use Rattle.dl_terms.specs.declared.plan.Step.TheVariants as step
+use Rattle.dl_terms.specs.declared.plan.Step.TheVariants.{Eval}
 use Rattle.dl_workers.specs.GiveUps.{given_up, given_up_by}
 use Rattle.dl_loader.specs.Dispatches.{unsent, unsent_by}
 use Rattle.dl_scope.specs.CarriedJobs.{EachIsCarried, JobsAreBatches}
@@ -35,14 +35,8 @@ fail_none b Unsent none = none
 fail_none b (Source text) none = refl
 
 call_none : (c : Call) → given_up_by c ≡ [] → unsent_by c ≡ []
-call_none (Load k) none = refl
-call_none (LoadMany ks) none = refl
-call_none (Prime k o) none = refl
-call_none (Clear k) none = refl
-call_none ClearAll none = refl
-call_none Dispatch none = refl
-call_none (Settle b os) none = refl
 call_none (Fail b fault) none = fail_none b fault none
+call_none c none = refl
 
 none_unsent : (es : List Event) → given_up es ≡ [] → unsent es ≡ []
 none_unsent [] none = refl
@@ -78,20 +72,13 @@ by_rounds plans n low = record {
 
 by_steps : (plans n : ℕ) → n < plans → (steps : List Step) → Every (OfStep (ByWorkers plans) n) steps
 by_steps plans n low [] = tt
-by_steps plans n low (step.Prime key outcome ∷ steps) = (λ none. of_plan plans n low, by_steps plans n low steps)
-by_steps plans n low (step.Clear key ∷ steps) = (λ none. of_plan plans n low, by_steps plans n low steps)
-by_steps plans n low (step.ClearAll ∷ steps) = (λ none. of_plan plans n low, by_steps plans n low steps)
-by_steps plans n low (step.Eval term ∷ steps) = (tt, by_steps plans n low steps)
+by_steps plans n low (Eval term ∷ steps) = (tt, by_steps plans n low steps)
+by_steps plans n low (step ∷ steps) = (λ none. of_plan plans n low, by_steps plans n low steps)
 
 by_ends : (plans n : ℕ) → plans ≤ n → (b : ℕ) (c : Call) → Ends b c → ByWorkers plans n c
 by_ends plans n high b (Settle m os) ends none = of_worker plans n high
 by_ends plans n high b (Fail m fault) ends none = of_worker plans n high
-by_ends plans n high b (Load k) ends none = absurd ends
-by_ends plans n high b (LoadMany ks) ends none = absurd ends
-by_ends plans n high b (Prime k o) ends none = absurd ends
-by_ends plans n high b (Clear k) ends none = absurd ends
-by_ends plans n high b ClearAll ends none = absurd ends
-by_ends plans n high b Dispatch ends none = absurd ends
+by_ends plans n high b c ends none = absurd ends
 
 total_each : (f g : Event → ℕ) (es : List Event) → Every (λ e. f e ≡ g e) es → total f es ≡ total g es
 total_each f g [] each = refl

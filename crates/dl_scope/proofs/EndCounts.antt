@@ -20,7 +20,7 @@ use Rattle.dl_history.specs.Lists.{one_if, total}
 use Rattle.dl_desk.specs.Service.{Service}
 use Rattle.dl_desk.specs.declared.event.Event.{Event}
 use Rattle.dl_desk.specs.declared.event.Call.{Call}
-use Rattle.dl_desk.specs.declared.event.Call.TheVariants.{Load, LoadMany, Prime, Clear, ClearAll, Dispatch, Settle, Fail}
+use Rattle.dl_desk.specs.declared.event.Call.TheVariants.{LoadMany, Settle, Fail}
 use Rattle.dl_history.proofs.ListLemmas.{total-append}
 use Rattle.dl_history.proofs.Pasts.{by_events, atoms_next}
 use Rattle.dl_scope.proofs.OneEnd.{loads_end_none}
@@ -30,12 +30,7 @@ use Rattle.dl_scope.proofs.SentCounts.{call_sends}
 abbrev pub ends_one : Call → ℕ
 ends_one (Settle b os) = 1
 ends_one (Fail b fault) = 1
-ends_one (Load k) = 0
-ends_one (LoadMany ks) = 0
-ends_one (Prime k o) = 0
-ends_one (Clear k) = 0
-ends_one ClearAll = 0
-ends_one Dispatch = 0
+ends_one call = 0
 
 -- how many of the first batches have ended
 abbrev ended_below : List Atom → ℕ → ℕ
@@ -88,18 +83,9 @@ sent_low b n low = let yes : nat_lt b n ≡ true = grind (arith, nat_tests) in a
 -- a call that may be made ends one batch more, or none
 call_ends : (answer : Answering) (rules : Rules) (history : List Atom) (call : Call) (n : ℕ) → MayBeMade answer history call → sent history ≤ n
     → ended_below history n + ends_one call ≡ ended_below (after rules history (call_of call)) n
-call_ends answer rules history (Load k) n may low = omega arith
 call_ends answer rules history (LoadMany ks) n may low =
     let same = same_below history (after rules history (call_of (LoadMany ks))) n (loads_end_none rules history ks) in
     omega (arith, same)
-call_ends answer rules history (Prime k o) n may low =
-    let same = same_below history (after rules history (call_of (Prime k o))) n (λ b. refl) in omega (arith, same)
-call_ends answer rules history (Clear k) n may low =
-    let same = same_below history (after rules history (call_of (Clear k))) n (λ b. refl) in omega (arith, same)
-call_ends answer rules history ClearAll n may low =
-    let same = same_below history (after rules history (call_of ClearAll)) n (λ b. refl) in omega (arith, same)
-call_ends answer rules history Dispatch n may low =
-    let same = same_below history (after rules history (call_of Dispatch)) n (λ b. refl) in omega (arith, same)
 call_ends answer rules history (Settle b os) n may low =
     let one = more_below history (atom.Settle b ∷ history) b Settled n may.0.no_end (λ k. refl) in
     let is_sent = may.0.is_sent in
@@ -110,6 +96,8 @@ call_ends answer rules history (Fail b fault) n may low =
     let is_sent = may.0.is_sent in
     let here = sent_low b n (omega (arith, is_sent, low)) in
     omega (arith, one, here)
+call_ends answer rules history call n may low =
+    let same = same_below history (after rules history (call_of call)) n (λ b. refl) in omega (arith, same)
 
 -- ---- a whole history
 

@@ -11,7 +11,7 @@ use Rattle.dl_terms.specs.View.{term_view}
 use Rattle.dl_terms.specs.declared.answer.Answer.{Answer}
 use Rattle.dl_terms.specs.declared.plan.Plan.{Plan}
 use Rattle.dl_terms.specs.declared.plan.Step.{Step}
-use Rattle.dl_terms.specs.declared.plan.Step.TheVariants.{Prime, Clear, ClearAll, Eval}
+use Rattle.dl_terms.specs.declared.plan.Step.TheVariants.{Eval}
 use Rattle.dl_haxl.specs.PlanEntries.{Stretch, stretch, step_answer, IsStep, AreSteps}
 use Rattle.dl_haxl.specs.declared.step_answers.StepAnswer.{StepAnswer}
 use Rattle.dl_scope.specs.EqualAnswers.{evaluated, evaluations, RestsOnTables, AnswersAreEqual}
@@ -35,10 +35,8 @@ places_from n [] = []
 places_from n (e ∷ es) = place_of n e ++ places_from (suc n) es
 
 step_numbered : (caller number : ℕ) (step : Step) (s : Stretch) → IsStep caller number step s → steps_of s.answers ≡ place_of number (evaluated step)
-step_numbered caller number (Prime key outcome) s (at, reply, is) = ap (λ (x : Stretch). steps_of x.answers) is
-step_numbered caller number (Clear key) s (at, reply, is) = ap (λ (x : Stretch). steps_of x.answers) is
-step_numbered caller number ClearAll s (at, reply, is) = ap (λ (x : Stretch). steps_of x.answers) is
 step_numbered caller number (Eval term) s (a, answers, evaluates) = ap (λ (as_given : List StepAnswer). steps_of as_given) answers
+step_numbered caller number step s (at, reply, is) = ap (λ (x : Stretch). steps_of x.answers) is
 
 steps_numbered : (caller number : ℕ) (steps : List Step) (s : Stretch) → AreSteps caller number steps s
     → steps_of s.answers ≡ places_from number (map evaluated steps)

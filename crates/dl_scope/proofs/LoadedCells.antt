@@ -4,7 +4,7 @@ use Rattle.std.specs.List.{list_any}
 use Rattle.std.proofs.lemmas.Bool.{eq-eqb}
 use Rattle.dl_values.specs.Key.{Key, key_eq}
 use Rattle.dl_values.specs.Limits.{Rules}
-use Rattle.dl_desk.specs.History.{Atom, Load, Prime, Clear, ClearAll, Dispatch, Settle, Fail, Begun, begins, is_number, add_member, members, cells, room}
+use Rattle.dl_desk.specs.History.{Atom, Load, Prime, Begun, begins, is_number, add_member, members, cells, room}
 use Rattle.dl_desk.specs.History.{Latest, later, latest_at, latest, forgets, cell_kept, held, load_reply_at, load_reply, load_replies, loaded}
 use Rattle.dl_desk.specs.declared.reply.LoadReply.{LoadReply}
 use Rattle.dl_desk.specs.declared.reply.LoadReply.TheVariants.{Hit, Fresh}
@@ -60,26 +60,16 @@ began_now a history g b is own = record {
 
 -- the atom primes no key
 abbrev pub PrimesNone : Atom → Type 0
-PrimesNone (Load k r) = Unit {0}
 PrimesNone (Prime k r) = ⊥
-PrimesNone (Clear k) = Unit {0}
-PrimesNone ClearAll = Unit {0}
-PrimesNone (Dispatch js) = Unit {0}
-PrimesNone (Settle b) = Unit {0}
-PrimesNone (Fail b) = Unit {0}
+PrimesNone a = Unit {0}
 
 -- so a cell that it begins has a batch
 batched : (a : Atom) (g : Begun) → PrimesNone a → begins a ≡ Some g → (b : ℕ) × (g.batch ≡ Some b)
 batched (Load k (Fresh c b)) g none is =
     let same : record { key = k; cell = c; batch = Some b } ≡ g = cc in
     (b, ap (λ (x : Begun). x.batch) (sym same))
-batched (Load k (Hit c)) g none is = absurd (let bad : ◌≡◌ {A = Option Begun} None (Some g) = is in cc)
 batched (Prime k r) g none is = absurd none
-batched (Clear k) g none is = absurd (let bad : ◌≡◌ {A = Option Begun} None (Some g) = is in cc)
-batched ClearAll g none is = absurd (let bad : ◌≡◌ {A = Option Begun} None (Some g) = is in cc)
-batched (Dispatch js) g none is = absurd (let bad : ◌≡◌ {A = Option Begun} None (Some g) = is in cc)
-batched (Settle b) g none is = absurd (let bad : ◌≡◌ {A = Option Begun} None (Some g) = is in cc)
-batched (Fail b) g none is = absurd (let bad : ◌≡◌ {A = Option Begun} None (Some g) = is in cc)
+batched a g none is = absurd (let bad : ◌≡◌ {A = Option Begun} None (Some g) = is in cc)
 
 later_step : (a : Atom) (before : List Atom) (k : Key) (l : Latest) (rest : Option Latest) → ((x : Latest) → rest ≡ Some x → LoadBegan before k x.cell)
     → later a rest ≡ Some l → LoadBegan (a ∷ before) k l.cell

@@ -14,9 +14,9 @@ use Rattle.dl_history.specs.Lists.{Every}
 use Rattle.dl_desk.specs.Service.{Service}
 use Rattle.dl_desk.specs.declared.event.Event.{Event}
 use Rattle.dl_desk.specs.declared.event.Call.{Call}
-use Rattle.dl_desk.specs.declared.event.Call.TheVariants.{Load, LoadMany, Prime, Clear, ClearAll, Dispatch, Settle, Fail}
+use Rattle.dl_desk.specs.declared.event.Call.TheVariants.{Load, LoadMany, Prime}
 use Rattle.dl_desk.specs.declared.event.Reply.{Reply}
-use Rattle.dl_desk.specs.declared.event.Reply.TheVariants.{Loaded, Many, Primed, Kept, Done, Sent}
+use Rattle.dl_desk.specs.declared.event.Reply.TheVariants.{Loaded, Many}
 use Rattle.dl_history.proofs.ListLemmas.{get-snoc}
 use Rattle.dl_history.proofs.Pasts.{past-snoc, by_events, atoms_next}
 use Rattle.dl_scope.specs.OwnAnswers.{IsNoPrime, NonePrimed}
@@ -35,14 +35,9 @@ loaded_unprimed rules history (k ∷ ks) none = loaded_unprimed rules (atom.Load
 
 after_unprimed : (rules : Rules) (history : List Atom) (call : Call) → IsNoPrime call → Every PrimesNone history
     → Every PrimesNone (after rules history (call_of call))
-after_unprimed rules history (Load k) now none = (tt, none)
 after_unprimed rules history (LoadMany ks) now none = loaded_unprimed rules history ks none
 after_unprimed rules history (Prime k o) now none = absurd now
-after_unprimed rules history (Clear k) now none = (tt, none)
-after_unprimed rules history ClearAll now none = (tt, none)
-after_unprimed rules history Dispatch now none = (tt, none)
-after_unprimed rules history (Settle b os) now none = (tt, none)
-after_unprimed rules history (Fail b fault) now none = (tt, none)
+after_unprimed rules history call now none = (tt, none)
 
 -- where no event primes a key, no atom does
 pub atoms_unprimed : (s : Service) (es : List Event) → IsLegal s es → NonePrimed es → Every PrimesNone (atoms (past es))
@@ -60,21 +55,13 @@ atoms_unprimed s es legal none = by_events s (λ (xs : List Event). NonePrimed x
 abbrev pub keys_loaded : Call → List Key
 keys_loaded (Load k) = k ∷ []
 keys_loaded (LoadMany ks) = ks
-keys_loaded (Prime k o) = []
-keys_loaded (Clear k) = []
-keys_loaded ClearAll = []
-keys_loaded Dispatch = []
-keys_loaded (Settle b os) = []
-keys_loaded (Fail b fault) = []
+keys_loaded call = []
 
 -- the replies to loads in the reply to a call, in order
 abbrev pub replies_in : Reply → List LoadReply
 replies_in (Loaded r) = r ∷ []
 replies_in (Many rs) = rs
-replies_in (Primed c) = []
-replies_in Kept = []
-replies_in Done = []
-replies_in (Sent js) = []
+replies_in reply = []
 
 no_key : (k : Key) → ◌≡◌ {A = Option Key} None (Some k) → ⊥
 no_key k got = cc
@@ -84,12 +71,7 @@ call_began : (rules : Rules) (history : List Atom) (call : Call) (i : ℕ) (k : 
     → LoadBegan (after rules history (call_of call)) k (cell_of_load r)
 call_began rules history (Load j) i k r none key reply = replies_began rules history (j ∷ []) i k r none key reply
 call_began rules history (LoadMany ks) i k r none key reply = replies_began rules history ks i k r none key reply
-call_began rules history (Prime j o) i k r none key reply = absurd (no_key k key)
-call_began rules history (Clear j) i k r none key reply = absurd (no_key k key)
-call_began rules history ClearAll i k r none key reply = absurd (no_key k key)
-call_began rules history Dispatch i k r none key reply = absurd (no_key k key)
-call_began rules history (Settle b os) i k r none key reply = absurd (no_key k key)
-call_began rules history (Fail b fault) i k r none key reply = absurd (no_key k key)
+call_began rules history call i k r none key reply = absurd (no_key k key)
 
 -- a fresh load of the key began each cell with which a load of it was replied
 abbrev LoadsBegan : List Event → Type 0

@@ -16,7 +16,7 @@ use Rattle.dl_history.specs.History.{past, IsLegal}
 use Rattle.dl_desk.specs.Service.{Service}
 use Rattle.dl_desk.specs.declared.event.Event.{Event}
 use Rattle.dl_desk.specs.declared.event.Call.{Call}
-use Rattle.dl_desk.specs.declared.event.Call.TheVariants.{Load, LoadMany, Prime, Clear, ClearAll, Dispatch, Settle, Fail}
+use Rattle.dl_desk.specs.declared.event.Call.TheVariants.{LoadMany, Settle, Fail}
 use Rattle.dl_history.proofs.ListLemmas.{get-snoc}
 use Rattle.dl_history.proofs.Pasts.{by_events, atoms_next}
 use Rattle.dl_scope.specs.Headline.{Ends, EndOnce}
@@ -37,26 +37,17 @@ loads_end_none rules history (k ∷ ks) b = loads_end_none rules (atom.Load k (l
 -- where a batch has no end after a call, it had none before, and the call ends another or none
 unended : (rules : Rules) (history : List Atom) (call : Call) (b : ℕ) → end_of (after rules history (call_of call)) b ≡ None
     → (Ends b call → ⊥) × (end_of history b ≡ None)
-unended rules history (Load k) b none = (λ no. no, none)
 unended rules history (LoadMany ks) b none = (λ no. no, sym (loads_end_none rules history ks b) ∙ none)
-unended rules history (Prime k o) b none = (λ no. no, none)
-unended rules history (Clear k) b none = (λ no. no, none)
-unended rules history ClearAll b none = (λ no. no, none)
-unended rules history Dispatch b none = (λ no. no, none)
 unended rules history (Settle n os) b none = no_such_end b n Settled (end_of history b) none
 unended rules history (Fail n fault) b none = no_such_end b n Failed (end_of history b) none
+unended rules history call b none = (λ no. no, none)
 
 -- a batch that a call may end has no end
 no_end_yet : (answer : Answering) (history : List Atom) (call : Call) (b : ℕ) → MayBeMade answer history call → Ends b call
     → end_of history b ≡ None
-no_end_yet answer history (Load k) b may ends = absurd ends
-no_end_yet answer history (LoadMany ks) b may ends = absurd ends
-no_end_yet answer history (Prime k o) b may ends = absurd ends
-no_end_yet answer history (Clear k) b may ends = absurd ends
-no_end_yet answer history ClearAll b may ends = absurd ends
-no_end_yet answer history Dispatch b may ends = absurd ends
 no_end_yet answer history (Settle n os) b may same = ap (end_of history) (sym same) ∙ may.0.no_end
 no_end_yet answer history (Fail n fault) b may same = ap (end_of history) (sym same) ∙ may.0.no_end
+no_end_yet answer history call b may ends = absurd ends
 
 -- ---- a whole history
 

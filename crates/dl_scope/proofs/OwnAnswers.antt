@@ -9,8 +9,7 @@ use Rattle.dl_history.specs.Agreement.{account, Agrees, entries_of}
 use Rattle.dl_history.specs.Lists.{Every}
 use Rattle.dl_desk.specs.Service.{Service}
 use Rattle.dl_desk.specs.declared.event.Call.{Call}
-use Rattle.dl_desk.specs.declared.event.Call.TheVariants.{Load, LoadMany, Dispatch, Settle, Fail}
-use Rattle.dl_desk.specs.declared.event.Call.TheVariants as call
+use Rattle.dl_desk.specs.declared.event.Call.TheVariants.{Settle, Fail}
 use Rattle.dl_desk.specs.declared.event.Event.{Event}
 use Rattle.dl_history.proofs.HistoryLemmas.{entries_agree}
 use Rattle.dl_history.proofs.ListLemmas.{every_at, every_from}
@@ -26,7 +25,7 @@ use Rattle.dl_scope.specs.OwnAnswers.{AnswersByTables, AnswersAreOwn, OwnAnswers
 use Rattle.dl_scope.specs.Report.{Report}
 use Rattle.dl_terms.specs.declared.plan.Plan.{Plan}
 use Rattle.dl_terms.specs.declared.plan.Step.{Step}
-use Rattle.dl_terms.specs.declared.plan.Step.TheVariants.{Prime, Clear, ClearAll, Eval}
+use Rattle.dl_terms.specs.declared.plan.Step.TheVariants.{Prime, Eval}
 use Rattle.dl_scope.proofs.CallersCalls.{OfStep, event_holds, some_at, some_low}
 use Rattle.dl_scope.proofs.OwnOutcomes.{own_outcome, tables_own}
 use Rattle.dl_scope.proofs.OwnReads.{OwnReads, steps_own}
@@ -34,21 +33,14 @@ use Rattle.dl_scope.proofs.OwnReads.{OwnReads, steps_own}
 -- ---- histories where no plan primes a key
 
 end_unprimed : (b : ℕ) (c : Call) → Ends b c → IsNoPrime c
-end_unprimed b (Load k) end = absurd end
-end_unprimed b (LoadMany ks) end = absurd end
-end_unprimed b (call.Prime k o) end = absurd end
-end_unprimed b (call.Clear k) end = absurd end
-end_unprimed b call.ClearAll end = absurd end
-end_unprimed b Dispatch end = absurd end
 end_unprimed b (Settle n os) end = tt
 end_unprimed b (Fail n fault) end = tt
+end_unprimed b c end = absurd end
 
 unprimed : (n : ℕ) (steps : List Step) → Every PrimesNoKey steps → Every (OfStep (λ m c. IsNoPrime c) n) steps
 unprimed n [] none = tt
 unprimed n (Prime key outcome ∷ steps) (one, none) = absurd one
-unprimed n (Clear key ∷ steps) (one, none) = (tt, unprimed n steps none)
-unprimed n (ClearAll ∷ steps) (one, none) = (tt, unprimed n steps none)
-unprimed n (Eval term ∷ steps) (one, none) = (tt, unprimed n steps none)
+unprimed n (step ∷ steps) (one, none) = (tt, unprimed n steps none)
 
 module _ (s : Service) (plans : List Plan) (r : Report) (h : Headline s plans r)
     (none : Every (λ (plan : Plan). Every PrimesNoKey plan.steps.items) plans) where

@@ -24,7 +24,7 @@ use Rattle.dl_haxl.specs.Rounds.{Round, Rounds, HandedOver}
 use Rattle.dl_haxl.specs.PlanEntries.{Stretch, stretch, step_answer, IsStep, AreSteps}
 use Rattle.dl_scope.specs.OwnAnswers.{AreOwn, IsOwn}
 use Rattle.dl_terms.specs.declared.plan.Step.{Step}
-use Rattle.dl_terms.specs.declared.plan.Step.TheVariants.{Prime, Clear, ClearAll, Eval}
+use Rattle.dl_terms.specs.declared.plan.Step.TheVariants.{Eval}
 use Rattle.dl_haxl.specs.declared.step_answers.StepAnswer.{StepAnswer}
 use Rattle.dl_scope.proofs.NoPrimes.{every_parts}
 
@@ -94,18 +94,13 @@ module _ (own : Key → Outcome) (events : List Event) (reads : OwnReads own eve
 
   step_own : (caller number : ℕ) (step : Step) (steps : List Step) (s : Stretch) → Every (Tells events) s.lines → IsStep caller number step s
       → (given : StepAnswer) → Among given s.answers → Answered number (step ∷ steps) given
-  step_own caller number (Prime key outcome) steps s told (at, reply, is) given among =
-      no_answer number (Prime key outcome ∷ steps) s (call_entry caller at (call.Prime key outcome) reply ∷ []) given is among
-  step_own caller number (Clear key) steps s told (at, reply, is) given among =
-      no_answer number (Clear key ∷ steps) s (call_entry caller at (call.Clear key) reply ∷ []) given is among
-  step_own caller number ClearAll steps s told (at, reply, is) given among =
-      no_answer number (ClearAll ∷ steps) s (call_entry caller at call.ClearAll reply ∷ []) given is among
   step_own caller number (Eval term) steps s told (a, answers, (known, rounds, ended, gives)) given among =
       let here : given ≡ step_answer number a = one_answer given (step_answer number a) (subst (Among given) answers among) in
       let pairs = rounds_own (HandedOver caller) caller (term_view term) s.rounds s.lines known s.sent told rounds in
       let step : given.step ≡ number = ap (λ (x : StepAnswer). x.step) here in
       let answer : a ≡ given.answer = sym (ap (λ (x : StepAnswer). x.answer) here) in
       (0, term, omega (arith, step), refl, subst (IsOwn own (term_view term)) answer (known, pairs, gives))
+  step_own caller number step steps s told (at, reply, is) given among = no_answer number (step ∷ steps) s _ given is among
 
   -- each answer is that of a term of the steps, by own outcomes
   pub steps_own : (caller number : ℕ) (steps : List Step) (s : Stretch) → Every (Tells events) s.lines → AreSteps caller number steps s

@@ -15,7 +15,7 @@ use Rattle.dl_history.specs.History.{past, IsLegal}
 use Rattle.dl_desk.specs.Service.{Service}
 use Rattle.dl_desk.specs.declared.event.Event.{Event}
 use Rattle.dl_desk.specs.declared.event.Call.{Call}
-use Rattle.dl_desk.specs.declared.event.Call.TheVariants.{Load, LoadMany, Prime, Clear, ClearAll, Dispatch, Settle, Fail}
+use Rattle.dl_desk.specs.declared.event.Call.TheVariants.{Settle, Fail}
 use Rattle.dl_history.proofs.CellBatches.{members_stay}
 use Rattle.dl_history.proofs.Pasts.{past-snoc, by_events}
 use Rattle.dl_scope.specs.OwnAnswers.{AnswersOwn, IsNoFail, NoneFailed}
@@ -29,17 +29,12 @@ own_settle own history b = Settle b (map own (keys_of history b))
 
 call_gives : (s : Service) (own : Key → Outcome) → AnswersOwn s own → (history : List Atom) (call : Call) (b : ℕ) → MayBeMade s.answer history call
     → IsNoFail call → ends_batch b call ≡ true → call ≡ own_settle own history b
-call_gives s own answers history (Load k) b may none now = absurd (let bad : false ≡ true = now in cc)
-call_gives s own answers history (LoadMany ks) b may none now = absurd (let bad : false ≡ true = now in cc)
-call_gives s own answers history (Prime k o) b may none now = absurd (let bad : false ≡ true = now in cc)
-call_gives s own answers history (Clear k) b may none now = absurd (let bad : false ≡ true = now in cc)
-call_gives s own answers history ClearAll b may none now = absurd (let bad : false ≡ true = now in cc)
-call_gives s own answers history Dispatch b may none now = absurd (let bad : false ≡ true = now in cc)
 call_gives s own answers history (Settle n os) b may none now =
     let same : b ≡ n = eqb-true b n now in
     let given : os ≡ map own (keys_of history n) = answers (keys_of history n) os may.1 in
     ap (λ (xs : List Outcome). Settle n xs) given ∙ ap (own_settle own history) (sym same)
 call_gives s own answers history (Fail n fault) b may none now = absurd none
+call_gives s own answers history call b may none now = absurd (let bad : false ≡ true = now in cc)
 
 -- ---- the end of a batch
 

@@ -17,7 +17,7 @@ use Rattle.dl_history.specs.Lists.{total}
 use Rattle.dl_desk.specs.Service.{Service}
 use Rattle.dl_desk.specs.declared.event.Event.{Event}
 use Rattle.dl_desk.specs.declared.event.Call.{Call}
-use Rattle.dl_desk.specs.declared.event.Call.TheVariants.{Load, LoadMany, Prime, Clear, ClearAll, Dispatch, Settle, Fail}
+use Rattle.dl_desk.specs.declared.event.Call.TheVariants.{LoadMany, Dispatch}
 use Rattle.dl_history.proofs.ListLemmas.{total-append}
 use Rattle.dl_history.proofs.Pasts.{by_events, atoms_next}
 use Rattle.dl_loader.specs.Dispatches.{dispatched, dispatched_by}
@@ -39,17 +39,12 @@ loads_send_none rules history (k ∷ ks) = loads_send_none rules (atom.Load k (l
 -- a call sends as many batches more as its reply has jobs
 pub call_sends : (rules : Rules) (history : List Atom) (call : Call)
     → sent history + length (dispatched_by call (reply_to rules history call)) ≡ sent (after rules history (call_of call))
-call_sends rules history (Load k) = omega arith
 call_sends rules history (LoadMany ks) = let same = loads_send_none rules history ks in omega (arith, same)
-call_sends rules history (Prime k o) = omega arith
-call_sends rules history (Clear k) = omega arith
-call_sends rules history ClearAll = omega arith
 call_sends rules history Dispatch =
     let long = jobs_long history (sent history) (begun history - sent history) in
     let low = sent-le history in
     omega (arith, long, low)
-call_sends rules history (Settle b os) = omega arith
-call_sends rules history (Fail b fault) = omega arith
+call_sends rules history call = omega arith
 
 -- ---- a whole history
 

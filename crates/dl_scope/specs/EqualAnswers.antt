@@ -8,7 +8,7 @@ use Rattle.dl_terms.specs.Tree.{Tree}
 use Rattle.dl_terms.specs.View.{term_view}
 use Rattle.dl_terms.specs.declared.plan.Plan.{Plan}
 use Rattle.dl_terms.specs.declared.plan.Step.{Step}
-use Rattle.dl_terms.specs.declared.plan.Step.TheVariants.{Prime, Clear, ClearAll, Eval}
+use Rattle.dl_terms.specs.declared.plan.Step.TheVariants.{Eval}
 use Rattle.dl_scope.specs.Setup.{service_of}
 use Rattle.dl_scope.specs.Headline.{Headline}
 use Rattle.dl_scope.specs.OwnAnswers.{NoneFailed, PrimesNoKey}
@@ -17,10 +17,8 @@ use Rattle.dl_scope.specs.declared.setup.Setup.{Setup}
 
 -- the tree of the term that the step evaluates, if it evaluates one
 abbrev pub evaluated : Step → Option Tree
-evaluated (Prime key outcome) = None
-evaluated (Clear key) = None
-evaluated ClearAll = None
 evaluated (Eval term) = Some (term_view term)
+evaluated step = None
 
 -- the terms of the plan, each at the place of its step
 abbrev pub evaluations : Plan → List (Option Tree)

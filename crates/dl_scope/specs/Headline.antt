@@ -6,7 +6,7 @@ use Rattle.dl_history.specs.History.{IsLegal, AllEnded}
 use Rattle.dl_history.specs.Lists.{Every}
 use Rattle.dl_desk.specs.Service.{Service}
 use Rattle.dl_desk.specs.declared.event.Call.{Call}
-use Rattle.dl_desk.specs.declared.event.Call.TheVariants.{Load, LoadMany, Prime, Clear, ClearAll, Dispatch, Settle, Fail}
+use Rattle.dl_desk.specs.declared.event.Call.TheVariants.{Settle, Fail}
 use Rattle.dl_desk.specs.declared.event.Event.{Event}
 use Rattle.dl_haxl.specs.PlanEntries.{Follows}
 use Rattle.dl_scope.specs.Report.{Report}
@@ -19,12 +19,7 @@ use Rattle.dl_haxl.specs.declared.step_answers.StepAnswer.{StepAnswer}
 abbrev pub Ends : ℕ → Call → Type 0
 Ends b (Settle n os) = n ≡ b
 Ends b (Fail n fault) = n ≡ b
-Ends b (Load k) = ⊥
-Ends b (LoadMany ks) = ⊥
-Ends b (Prime k o) = ⊥
-Ends b (Clear k) = ⊥
-Ends b ClearAll = ⊥
-Ends b Dispatch = ⊥
+Ends b call = ⊥
 
 -- the entry is of a call that ends a batch
 abbrev pub TellsEnd : Entry → Type 0

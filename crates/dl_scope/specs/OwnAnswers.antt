@@ -23,7 +23,7 @@ use Rattle.dl_scope.specs.Report.{Report}
 use Rattle.dl_terms.specs.declared.plan.Plan.{Plan}
 use Rattle.dl_scope.specs.declared.setup.Setup.{Setup}
 use Rattle.dl_terms.specs.declared.plan.Step.{Step}
-use Rattle.dl_terms.specs.declared.plan.Step.TheVariants.{Prime, Clear, ClearAll, Eval}
+use Rattle.dl_terms.specs.declared.plan.Step.TheVariants.{Prime, Eval}
 use Rattle.dl_haxl.specs.declared.step_answers.StepAnswer.{StepAnswer}
 
 -- if the source answers, it gives each key the key's own outcome, whatever other keys it gets with it
@@ -32,25 +32,13 @@ AnswersOwn service own = (keys : List Key) (outcomes : List Outcome) → MayAnsw
 
 -- the call primes no key
 abbrev pub IsNoPrime : Call → Type 0
-IsNoPrime (call.Load k) = Unit {0}
-IsNoPrime (call.LoadMany ks) = Unit {0}
 IsNoPrime (call.Prime k o) = ⊥
-IsNoPrime (call.Clear k) = Unit {0}
-IsNoPrime call.ClearAll = Unit {0}
-IsNoPrime call.Dispatch = Unit {0}
-IsNoPrime (call.Settle b os) = Unit {0}
-IsNoPrime (call.Fail b fault) = Unit {0}
+IsNoPrime c = Unit {0}
 
 -- the call fails no batch
 abbrev pub IsNoFail : Call → Type 0
-IsNoFail (call.Load k) = Unit {0}
-IsNoFail (call.LoadMany ks) = Unit {0}
-IsNoFail (call.Prime k o) = Unit {0}
-IsNoFail (call.Clear k) = Unit {0}
-IsNoFail call.ClearAll = Unit {0}
-IsNoFail call.Dispatch = Unit {0}
-IsNoFail (call.Settle b os) = Unit {0}
 IsNoFail (call.Fail b fault) = ⊥
+IsNoFail c = Unit {0}
 
 -- no event primes a key
 abbrev pub NonePrimed : List Event → Type 0
@@ -75,9 +63,7 @@ listed tables k = outcome_of (found tables k)
 -- the step primes no key
 abbrev pub PrimesNoKey : Step → Type 0
 PrimesNoKey (Prime key outcome) = ⊥
-PrimesNoKey (Clear key) = Unit {0}
-PrimesNoKey ClearAll = Unit {0}
-PrimesNoKey (Eval term) = Unit {0}
+PrimesNoKey step = Unit {0}
 
 -- the answer is that of a term of the plan, by the tables alone
 abbrev pub AnswersByTables : Tables → Plan → StepAnswer → Type 0
