@@ -5,6 +5,9 @@
 //! same names.
 #![tactic(auto)]
 
+// A type that several crates own has its `drop` written out. A derived one is proved once more in each crate that lets
+// such a value go.
+
 mod batch;
 mod call;
 mod desk;

@@ -49,26 +49,13 @@ pub(crate) struct BatchMeans {
 
 /// The tables' own limits, and the newest batch of each table. The book never takes back what it notes of a table: the
 /// table's latest batch shows whether the note counts.
+#[derive(Drop)]
 pub(crate) struct TableBook {
     limits: TableLimits,
     // By the places of tables. They are added when the first table is told of.
     newest: Vec<TableMap>,
     // The batches in which something may be prepared.
     touched: Vec<u32>,
-}
-
-// Written out: a derived drop is proved anew in each function that lets a book go.
-impl Drop for TableBook {
-    fn drop(self) {
-        let TableBook {
-            limits,
-            newest,
-            touched,
-        } = self;
-        drop(limits);
-        drop(newest);
-        drop(touched);
-    }
 }
 
 impl Model for TableBook {

@@ -11,16 +11,9 @@ use std::collections::BTreeMap;
 use std::marker::Model;
 
 /// Notes of the newest batches of some of the tables. Contracts see one for each table.
+#[derive(Drop)]
 pub(crate) struct TableMap {
     newest: BTreeMap<TableName, Newest>,
-}
-
-// Written out: a derived drop is proved anew in each function that lets a map go.
-impl Drop for TableMap {
-    fn drop(self) {
-        let TableMap { newest } = self;
-        drop(newest);
-    }
 }
 
 impl Model for TableMap {

@@ -26,6 +26,7 @@ pub(crate) struct TableName {
     key: FetchKey,
 }
 
+// Written out: `TableBook::join` lets a name go on each of its ways out.
 impl Drop for TableName {
     fn drop(self) {
         let TableName { number: _, key } = self;

@@ -12,27 +12,13 @@ use std::marker::{Model, PhantomData};
 
 /// The rows of one loader: a cell for each event that it may have, a cell for each outcome, and its flags. Contracts
 /// see the limits.
+#[derive(Drop)]
 pub struct CellRows<L: LoaderName> {
     limits: Limits,
     log: CellRow<Event>,
     outcomes: CellRow<Ending>,
     flags: Flags,
     of: PhantomData<L>,
-}
-
-impl<L: LoaderName> Drop for CellRows<L> {
-    fn drop(self) {
-        let CellRows {
-            limits: _,
-            log,
-            outcomes,
-            flags,
-            of: _,
-        } = self;
-        drop(log);
-        drop(outcomes);
-        drop(flags);
-    }
 }
 
 impl<L: LoaderName> Model for CellRows<L> {

@@ -22,21 +22,11 @@ pub enum EntryKind {
 }
 
 /// An event in the log, and its place there. Contracts see both.
+#[derive(Drop)]
 pub struct PlacedEvent<L: LoaderName> {
     at: u16,
     reader: Reader<Event>,
     of: PhantomData<L>,
-}
-
-impl<L: LoaderName> Drop for PlacedEvent<L> {
-    fn drop(self) {
-        let PlacedEvent {
-            at: _,
-            reader,
-            of: _,
-        } = self;
-        drop(reader);
-    }
 }
 
 impl<L: LoaderName> Model for PlacedEvent<L> {
@@ -169,15 +159,9 @@ impl<L: LoaderName> Read<L> {
 }
 
 /// An entry of a pass: a call of its caller, or an outcome that its caller has seen. [`kind`](Entry::kind) says which.
+#[derive(Drop)]
 pub struct Entry<L: LoaderName> {
     kind: Kind<L>,
-}
-
-impl<L: LoaderName> Drop for Entry<L> {
-    fn drop(self) {
-        let Entry { kind } = self;
-        drop(kind);
-    }
 }
 
 /// What an entry is.

@@ -29,22 +29,11 @@ impl Flags {
 
 /// What one holder knows of the flags of a loader: whether it is stopped, and whether a cell refused its outcome. It
 /// never forgets, and nobody knows of a flag that is down.
+#[derive(Drop)]
 pub struct KnownFlags<L: LoaderName> {
     stop: Option<Raised>,
     refusal: Option<Raised>,
     of: PhantomData<L>,
-}
-
-impl<L: LoaderName> Drop for KnownFlags<L> {
-    fn drop(self) {
-        let KnownFlags {
-            stop,
-            refusal,
-            of: _,
-        } = self;
-        drop(stop);
-        drop(refusal);
-    }
 }
 
 impl<L: LoaderName> Model for KnownFlags<L> {

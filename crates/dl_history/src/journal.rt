@@ -23,19 +23,11 @@ use std::sync::ledger::Share;
 
 /// The events of a loader in order, its cells, and the count of the events. Contracts see the history, the cells, and
 /// the room for more of both.
+#[derive(Drop)]
 pub struct Journal<L: LoaderName> {
     log: Vec<Reader<Event>>,
     states: Vec<CellState>,
     calls: ledger::Book<L>,
-}
-
-impl<L: LoaderName> Drop for Journal<L> {
-    fn drop(self) {
-        let Journal { log, states, calls } = self;
-        drop(log);
-        drop(states);
-        drop(calls);
-    }
 }
 
 impl<L: LoaderName> Model for Journal<L> {

@@ -8,6 +8,9 @@
 //! ledger, and no caller gets hold of these.
 #![tactic(auto)]
 
+// A type that several crates own has its `drop` written out. A derived one is proved once more in each crate that lets
+// such a value go.
+
 mod cell_rows;
 mod cell_state;
 mod cells;

@@ -11,16 +11,10 @@ use std::marker::Model;
 
 /// A caller, and what the entries of its pass are, in order. What they speak of is in the history, so an outline names
 /// no loader.
+#[derive(Drop)]
 pub struct Outline {
     caller: u32,
     entries: Vec<EntryKind>,
-}
-
-impl Drop for Outline {
-    fn drop(self) {
-        let Outline { caller: _, entries } = self;
-        drop(entries);
-    }
 }
 
 impl Model for Outline {

@@ -6,6 +6,9 @@
 //! has what its caller called and read.
 #![tactic(auto)]
 
+// A type that several crates own has its `drop` written out. A derived one is proved once more in each crate that lets
+// such a value go.
+
 mod ask;
 mod book;
 mod calls;
