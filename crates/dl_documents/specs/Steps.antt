@@ -88,10 +88,8 @@ most_steps = 256
 
 -- a step's term isn't too high
 abbrev pub IsLow : StepTree → Type 0
-IsLow (prime k o) = Unit {0}
-IsLow (clear k) = Unit {0}
-IsLow clear_all = Unit {0}
 IsLow (eval t) = height_of t ≤ most_height
+IsLow step = Unit {0}
 
 -- the steps of a plan are steps, their terms aren't too high, and there aren't too many
 pub record IsPlan (plan : List StepTree) : Type 0 where

@@ -208,7 +208,7 @@ fn is_high(step: &Step) -> bool
 {
     match step {
         Step::Eval(term) => term.height() > MOST_HEIGHT,
-        Step::Prime(..) | Step::Clear(_) | Step::ClearAll => false,
+        _ => false,
     }
 }
 

@@ -18,7 +18,7 @@ use Rattle.dl_documents.specs.Inside.Places.{IsFirst, IsFirstIn}
 use Rattle.dl_documents.specs.Inside.Trees.{tree_data}
 use Rattle.dl_documents.specs.Inside.OwnLimits.{AreAllLimits, IsRefusedNumber}
 use Rattle.dl_documents.specs.OwnLimits.{TableLimits}
-use Rattle.dl_documents.specs.Steps.{StepTree, prime, clear, clear_all, eval, step_tree, IsPlanStep, IsLow, most_height, most_steps}
+use Rattle.dl_documents.specs.Steps.{StepTree, eval, step_tree, IsPlanStep, IsLow, most_height, most_steps}
 use Rattle.dl_documents.specs.declared.fault.PlanFault.{PlanFault}
 use Rattle.dl_documents.specs.declared.fault.PlanFault.TheVariants.{Shape, TooDeep, TooManySteps, Table}
 use Rattle.dl_documents.specs.declared.head.Head.{Head}
@@ -85,20 +85,16 @@ pub record IsFirstBadStep (rows : List (List Data)) (f : PlanFault) : Type 0 whe
 -- ---- heights and numbers of steps
 
 abbrev pub is_high : StepTree → Bool
-is_high (prime k o) = false
-is_high (clear k) = false
-is_high clear_all = false
 is_high (eval t) = nat_lt most_height (height_of t)
+is_high step = false
 
 abbrev pub is_long : List StepTree → Bool
 is_long steps = nat_lt most_steps (length steps)
 
 -- a step whose term is too high
 abbrev pub IsHigh : StepTree → Type 0
-IsHigh (prime k o) = ⊥
-IsHigh (clear k) = ⊥
-IsHigh clear_all = ⊥
 IsHigh (eval t) = most_height < height_of t
+IsHigh step = ⊥
 
 -- no term of the plan is too high
 abbrev pub AreLow : List StepTree → Type 0
