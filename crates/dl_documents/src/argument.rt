@@ -80,7 +80,7 @@ pub(crate) fn keys(alloc: Global, tree: &Value<'_>) -> Result<Option<Keys>, Allo
         return Ok(None);
     };
     let mut keys = Vec::with_capacity(alloc, items.len())?;
-    'items: for item in items {
+    for item in items {
         let Some(key) = key(alloc, item)? else {
             return Ok(None);
         };

@@ -1,6 +1,4 @@
 //! Documents of the program `plans`: what their bytes say, or why they are refused. [`read_input`] reads one.
-//!
-//! The label of a loop is its name in `proofs/`.
 #![tactic(auto)]
 
 mod argument;

@@ -72,7 +72,7 @@ fn read_items(alloc: Global, reader: &mut Reader<'_>, depth: usize) -> Result<Ve
     ensures err { IfErr result (IsUnread (first_items depth reader.old)) }
 {
     let mut found = Vec::new(alloc);
-    'items: while !reader.take_end_array() {
+    while !reader.take_end_array() {
         let item = read_value(alloc, reader, depth)?;
         found.push(item)?;
     }
@@ -92,7 +92,7 @@ fn read_members(
     ensures err { IfErr result (IsUnread (first_members depth reader.old)) }
 {
     let mut found = Map::new(alloc);
-    'members: while let Some(name) = reader.next_key()? {
+    while let Some(name) = reader.next_key()? {
         let name = String::from_str(alloc, name)?;
         let member = read_value(alloc, reader, depth)?;
         drop(found.insert(name, member)?);

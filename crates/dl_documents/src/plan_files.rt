@@ -104,7 +104,7 @@ fn lists(alloc: Global, items: Vec<Value<'_>>) -> Result<Vec<Vec<Value<'_>>>, Pl
     ensures err { IfErr result (λ f. (f ≡ PlanFault.OutOfMemory) ⊎ ((f ≡ PlanFault.Top) × HasOther (map tree_data items.entry.items))) }
 {
     let mut lists = Vec::new(alloc);
-    'items: for item in items {
+    for item in items {
         let list = into_items(item).ok_or(PlanFault::Top)?;
         lists.push(list)?;
     }
@@ -122,7 +122,7 @@ fn plans(alloc: Global, lists: Vec<Vec<Value<'_>>>) -> Result<Vec<Plan>, PlanFau
     ensures err { IfErr result (λ f. (f ≡ PlanFault.OutOfMemory) ⊎ IsFirstBadStep (rows_view lists.entry.items) f) }
 {
     let mut plans = Vec::new(alloc);
-    'lists: for list in lists {
+    for list in lists {
         let plan = plan(alloc, plans.len(), list)?;
         plans.push(plan)?;
     }
@@ -135,7 +135,7 @@ fn plan(alloc: Global, number: usize, items: Vec<Value<'_>>) -> Result<Plan, Pla
     ensures err { IfErr result (λ f. (f ≡ PlanFault.OutOfMemory) ⊎ IsFirstBadIn number (map tree_data items.entry.items) f) }
 {
     let mut steps = Vec::with_capacity(alloc, items.len())?;
-    'items: for item in items {
+    for item in items {
         let step = read_step(alloc, item)?;
         let step = step.ok_or(PlanFault::Shape {
             plan: number,
@@ -187,7 +187,7 @@ fn misfit(plans: &[Plan]) -> Option<PlanFault>
 fn too_deep(plans: &[Plan]) -> Option<PlanFault>
     ensures { MatchOption result (AllByRecursion AreLow (map plan_view plans.now)) (IsFirstHigh (map plan_view plans.now)) }
 {
-    'plans: for (index, plan) in plans.iter().enumerate() {
+    for (index, plan) in plans.iter().enumerate() {
         if let Some(step) = first_high(plan) {
             return Some(PlanFault::TooDeep { plan: index, step });
         }

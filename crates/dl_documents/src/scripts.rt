@@ -57,7 +57,7 @@ fn calls(alloc: Global, items: Vec<Value<'_>>) -> Result<Vec<DeskCall>, PlanFaul
     ensures err { IfErr result (λ f. (f ≡ PlanFault.OutOfMemory) ⊎ IsFirstBadCall (map tree_data items.entry.items) f) }
 {
     let mut calls = Vec::with_capacity(alloc, items.len())?;
-    'items: for item in items {
+    for item in items {
         let call = call(alloc, item)?;
         let call = call.ok_or(PlanFault::BadCall { call: calls.len() })?;
         calls.push(call)?;

@@ -72,7 +72,7 @@ fn table_numbers(alloc: Global, tree: &Value<'_>) -> Result<Option<Vec<TableNumb
         return Ok(None);
     };
     let mut numbers = Vec::with_capacity(alloc, items.len())?;
-    'items: for item in items {
+    for item in items {
         let Some((table, number)) = table_number(item) else {
             return Ok(None);
         };

@@ -93,7 +93,7 @@ fn all(alloc: Global, argument: Value<'_>) -> Result<Option<Term>, AllocError>
         return Ok(None);
     };
     let mut parts = Vec::with_capacity(alloc, items.len())?;
-    'items: for item in items {
+    for item in items {
         let Some(part) = read_term(alloc, item)? else {
             return Ok(None);
         };

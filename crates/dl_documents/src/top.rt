@@ -71,7 +71,7 @@ fn begun_top<'a>(alloc: Global, reader: &mut Reader<'a>) -> Result<Top<'a>, Plan
         tables: None,
         members: Vec::new(alloc),
     };
-    'members: while let Some(name) = reader.next_key()? {
+    while let Some(name) = reader.next_key()? {
         read_member(alloc, name, reader, &mut top)?;
     }
     Ok(top)

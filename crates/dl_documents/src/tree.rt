@@ -31,7 +31,7 @@ pub(crate) fn has_fitting_numbers(tree: &Value<'_>) -> bool
 fn items_fit(items: &[Value<'_>]) -> bool
     ensures { result ≡ is_some (of_items (items_view items.now)) }
 {
-    'items: for item in items {
+    for item in items {
         if !has_fitting_numbers(item) {
             return false;
         }
@@ -43,7 +43,7 @@ fn items_fit(items: &[Value<'_>]) -> bool
 fn members_fit(members: &[(&str, Value<'_>)]) -> bool
     ensures { result ≡ is_some (of_members (members_view members.now) no_members) }
 {
-    'members: for member in members {
+    for member in members {
         if !has_fitting_numbers(&member.1) {
             return false;
         }
@@ -137,7 +137,7 @@ fn into_list(alloc: Global, items: Vec<Value<'_>>) -> Result<Vec<serde_json::Val
     ensures { IfOk result (λ v. owned.items_view v.items ≡ list_data items.entry.items) }
 {
     let mut list = Vec::with_capacity(alloc, items.len())?;
-    'items: for item in items {
+    for item in items {
         list.push(into_value(alloc, item)?)?;
     }
     Ok(list)
@@ -151,7 +151,7 @@ fn into_map(
     ensures { IfOk result (λ m. owned.members_view m.entries ≡ object_data members.entry.items) }
 {
     let mut map = Map::new(alloc);
-    'members: for member in members {
+    for member in members {
         let (name, value) = member;
         let name = String::from_str(alloc, name)?;
         let value = into_value(alloc, value)?;

@@ -18,28 +18,28 @@ returns-in_err-push c = IfOk-from_err _ _ c.from_residual-in_err-push.ensures.0
 pub returns-in_err-new : goal.returns-in_err-new
 returns-in_err-new c = IfOk-from_err _ _ c.from_residual-in_err-new.ensures.0
 
-pub items-init : goal.items-init
-items-init c = found_first c.in_ok-keys.keys.items _ c.in_ok-keys.ensures.items
+pub loop-item-init : goal.loop-item-init
+loop-item-init c = found_first c.in_ok-keys.keys.items _ c.in_ok-keys.ensures.items
 
-pub items-preserved : goal.items-preserved
-items-preserved c =
+pub loop-item-preserved : goal.loop-item-preserved
+loop-item-preserved c =
     found_more (λ v. key_in (tree_data v)) (λ vs. keys_listed (list_data vs))
-    (λ v vs. refl) c.items.keys.items c.push.new.self.items c.in-Some-2.key
-    c.in-Some.items.now c.items.item-index c.item-item.result
-    c.items.invariant c.items-test.true c.item-item.is (sym c.in-Some-2.is ∙ c.in_ok-key.ensures) c.in_ok-push.ensures.items
+    (λ v vs. refl) c.loop-item.keys.items c.push.new.self.items c.in-Some-2.key
+    c.in-Some.items.now c.loop-item.item-index c.item-item.result
+    c.loop-item.invariant c.loop-item-test.true c.item-item.is (sym c.in-Some-2.is ∙ c.in_ok-key.ensures) c.in_ok-push.ensures.items
 
 pub returns-in_default : goal.returns-in_default
 returns-in_default c = ap (option_and_then keys_listed) c.in_default.ensures
 
 pub returns-in_default-2 : goal.returns-in_default-2
 returns-in_default-2 c =
-    found_stops (λ v. key_in (tree_data v)) (λ vs. keys_listed (list_data vs)) (λ v vs. refl) c.items.keys.items
-    c.in-Some.items.now c.items.item-index c.item-item.result c.items.invariant c.items-test.true c.item-item.is
+    found_stops (λ v. key_in (tree_data v)) (λ vs. keys_listed (list_data vs)) (λ v vs. refl) c.loop-item.keys.items
+    c.in-Some.items.now c.loop-item.item-index c.item-item.result c.loop-item.invariant c.loop-item-test.true c.item-item.is
     (sym c.in_default-2.is ∙ c.in_ok-key.ensures)
     ∙ ap (option_and_then keys_listed) c.in-Some.ensures
 
 pub returns : goal.returns
 returns c =
     ap Some c.in_ok-new.ensures
-    ∙ (found_all (λ vs. keys_listed (list_data vs)) refl c.items.keys.items c.in-Some.items.now c.items.item-index
-    c.items.invariant c.items-test.false ∙ ap (option_and_then keys_listed) c.in-Some.ensures)
+    ∙ (found_all (λ vs. keys_listed (list_data vs)) refl c.loop-item.keys.items c.in-Some.items.now c.loop-item.item-index
+    c.loop-item.invariant c.loop-item-test.false ∙ ap (option_and_then keys_listed) c.in-Some.ensures)

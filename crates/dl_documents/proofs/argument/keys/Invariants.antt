@@ -4,5 +4,5 @@ use Rattle.dl_documents.specs.Inside.Trees.{list_data}
 use Rattle.dl_documents.specs.Reading.{keys_listed}
 use Rattle.dl_documents.proofs.argument.keys.Given as goal
 
-abbrev pub invariant-items : goal.invariant-items
-invariant-items l = option_map (λ ks. l.keys.items ++ ks) (keys_listed (list_data (drop l.item-index l.items))) ≡ keys_listed (list_data l.items)
+abbrev pub invariant-loop-item : goal.invariant-loop-item
+invariant-loop-item l = option_map (λ ks. l.keys.items ++ ks) (keys_listed (list_data (drop l.item-index l.items))) ≡ keys_listed (list_data l.items)

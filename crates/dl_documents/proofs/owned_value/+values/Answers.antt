@@ -152,7 +152,7 @@ begun_value-returns-in_ok-read_members-in-BeginObject-clause-ok t c =
 pub read_items-returns-in_err-item-clause-err : goal.read_items-returns-in_err-item-clause-err
 read_items-returns-in_err-item-clause-err t c =
     let p = value c.args.depth in
-    let l = c.items in
+    let l = c.loop-alloc in
     let going : (after_end_array l.reader ≡ None) × (c.take_end_array.new.self ≡ l.reader) = grind arith in
     let same : c.from_residual.result ≡ Err c.in_err-item.field-0.0 = search rules in
     rw same (elim c.in_err-item.ensures.err [
@@ -163,10 +163,10 @@ read_items-returns-in_err-item-clause-err t c =
       )
     ])
 
-pub read_items-items-preserved : goal.read_items-items-preserved
-read_items-items-preserved t c =
+pub read_items-loop-alloc-preserved : goal.read_items-loop-alloc-preserved
+read_items-loop-alloc-preserved t c =
     let p = value c.args.depth in
-    let l = c.items in
+    let l = c.loop-alloc in
     let n = l.invariant.turns in
     let going : (after_end_array l.reader ≡ None) × (c.take_end_array.new.self ≡ l.reader) = grind arith in
     let v = c.in_ok-item.item in
@@ -188,7 +188,7 @@ read_items-items-preserved t c =
 pub read_items-returns-clause-ok : goal.read_items-returns-clause-ok
 read_items-returns-clause-ok t c =
     let p = value c.args.depth in
-    let l = c.items in
+    let l = c.loop-alloc in
     let r = c.take_end_array.new.self in
     l.invariant.read ∙ ap (parse_map (items_after (items_view l.found.items))) (no_more_items p l.invariant.turns l.reader r l.invariant.enough (grind arith))
     ∙ ap (λ ds. Some (ds, r)) (after_all (items_view l.found.items))
@@ -198,7 +198,7 @@ read_items-returns-clause-ok t c =
 pub read_members-returns-in_err-name-clause-err : goal.read_members-returns-in_err-name-clause-err
 read_members-returns-in_err-name-clause-err t c =
     let p = value c.args.depth in
-    let l = c.members in
+    let l = c.loop-found in
     let none : read_key l.reader ≡ None = c.in_err-name.ensures.value in
     let bad = l.invariant.read ∙ no_key p (members_view l.found.entries) l.invariant.turns l.reader none in
     search rules
@@ -206,7 +206,7 @@ read_members-returns-in_err-name-clause-err t c =
 pub read_members-returns-in_err-member-clause-err : goal.read_members-returns-in_err-member-clause-err
 read_members-returns-in_err-member-clause-err t c =
     let p = value c.args.depth in
-    let l = c.members in
+    let l = c.loop-found in
     let s = c.next_key.new.self in
     let named : read_key l.reader ≡ Some (Some c.in-Some.name.now, s) = grind arith in
     let same : c.from_residual-in_err-member.result ≡ Err c.in_err-member.field-0.0 = search rules in
@@ -215,10 +215,10 @@ read_members-returns-in_err-member-clause-err t c =
       | inr bad ↦ inr (bad.0, l.invariant.read ∙ no_value p (members_view l.found.entries) l.invariant.turns c.in-Some.name.now l.reader s named bad.1)
     ])
 
-pub read_members-members-preserved : goal.read_members-members-preserved
-read_members-members-preserved t c =
+pub read_members-loop-found-preserved : goal.read_members-loop-found-preserved
+read_members-loop-found-preserved t c =
     let p = value c.args.depth in
-    let l = c.members in
+    let l = c.loop-found in
     let n = l.invariant.turns in
     let old = members_view l.found.entries in
     let k = c.in-Some.name.now in
@@ -244,6 +244,6 @@ read_members-members-preserved t c =
 
 pub read_members-returns-clause-ok : goal.read_members-returns-clause-ok
 read_members-returns-clause-ok t c =
-    let l = c.members in
+    let l = c.loop-found in
     l.invariant.read ∙ no_more_members (value c.args.depth) (members_view l.found.entries) l.invariant.turns l.reader c.next_key.new.self l.invariant.enough
     (grind arith)

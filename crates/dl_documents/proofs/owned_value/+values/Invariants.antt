@@ -19,8 +19,8 @@ decreases-read_items l = 3 * l.depth + 2
 abbrev pub decreases-read_members : goal.decreases-read_members
 decreases-read_members l = 3 * l.depth + 2
 
-abbrev pub invariant-read_items-items : goal.invariant-read_items-items
-invariant-read_items-items l = record {
+abbrev pub invariant-read_items-loop-alloc : goal.invariant-read_items-loop-alloc
+invariant-read_items-loop-alloc l = record {
   turns : ℕ;
   enough : length l.reader ≤ turns;
   read : converted of_items (items (value l.depth) (length l.initial.reader) l.initial.reader)
@@ -28,11 +28,11 @@ invariant-read_items-items l = record {
   within : length l.reader ≤ length l.initial.reader;
 }
 
-abbrev pub decreases-read_items-items : goal.decreases-read_items-items
-decreases-read_items-items l = length l.reader
+abbrev pub decreases-read_items-loop-alloc : goal.decreases-read_items-loop-alloc
+decreases-read_items-loop-alloc l = length l.reader
 
-abbrev pub invariant-read_members-members : goal.invariant-read_members-members
-invariant-read_members-members l = record {
+abbrev pub invariant-read_members-loop-found : goal.invariant-read_members-loop-found
+invariant-read_members-loop-found l = record {
   turns : ℕ;
   enough : length l.reader ≤ turns;
   read : converted (λ ms. of_members ms no_members) (members (value l.depth) (length l.initial.reader) l.initial.reader)
@@ -40,5 +40,5 @@ invariant-read_members-members l = record {
   within : length l.reader ≤ length l.initial.reader;
 }
 
-abbrev pub decreases-read_members-members : goal.decreases-read_members-members
-decreases-read_members-members l = length l.reader
+abbrev pub decreases-read_members-loop-found : goal.decreases-read_members-loop-found
+decreases-read_members-loop-found l = length l.reader

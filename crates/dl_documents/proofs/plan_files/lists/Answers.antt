@@ -9,16 +9,16 @@ use Rattle.dl_documents.proofs.plan_files.lists.Goals as goal
 
 pub returns-in_err-list-clause-err : goal.returns-in_err-list-clause-err
 returns-in_err-list-clause-err c =
-    let l = c.items in
+    let l = c.loop-item in
     let rest = into_iter_items c.next.new.self in
     let is : l.yielded ++ c.in-Some.item ∷ rest ≡ c.args.items.items = rw (← c.in-Some.ensures.steps.0) l.invariant.order in
     let bad : c.from_residual.result ≡ Err Top = search rules in
     let none : None ≡ as_array (tree_data c.in-Some.item) = search rules in
     rw bad (inr (refl, lists_stop l.yielded c.in-Some.item rest c.args.items.items is none))
 
-pub items-preserved : goal.items-preserved
-items-preserved c =
-    let l = c.items in
+pub loop-item-preserved : goal.loop-item-preserved
+loop-item-preserved c =
+    let l = c.loop-item in
     let steps : into_iter_items l.item-iterator ≡ c.in-Some.item ∷ into_iter_items c.next.new.self = c.in-Some.ensures.steps.0 in
     let found : Some (list_data c.in_ok-list.list.items) ≡ as_array (tree_data c.in-Some.item) = search rules in
     record {
@@ -33,7 +33,7 @@ items-preserved c =
 
 pub returns-clause-ok : goal.returns-clause-ok
 returns-clause-ok c =
-    let l = c.items in
+    let l = c.loop-item in
     let all = all_yielded l.yielded (into_iter_items l.item-iterator) c.args.items.items l.invariant.order
     (sym l.invariant.count ∙ c.in-None.ensures.steps.0) in
     let read : SpellLists c.args.items.items l.lists.items = rw all at l.invariant.so_far in

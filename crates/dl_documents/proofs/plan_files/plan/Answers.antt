@@ -8,17 +8,17 @@ use Rattle.dl_documents.proofs.plan_files.plan.Goals as goal
 
 pub returns-in_err-step-2-clause-err : goal.returns-in_err-step-2-clause-err
 returns-in_err-step-2-clause-err c =
-    let l = c.items in
+    let l = c.loop-item in
     let rest = into_iter_items c.next.new.self in
     let is : l.yielded ++ c.in-Some.item ∷ rest ≡ c.args.items.items = rw (← c.in-Some.ensures.steps.0) l.invariant.order in
-    let bad : c.from_residual-in_err-step-2.result ≡ Err (Shape c.args.number c.len-in-items.result) = search rules in
-    rw bad (inr (steps_stop c.args.number l.yielded c.in-Some.item rest c.args.items.items l.steps.items c.len-in-items.result is (search rules)
+    let bad : c.from_residual-in_err-step-2.result ≡ Err (Shape c.args.number c.len-in-loop-item.result) = search rules in
+    rw bad (inr (steps_stop c.args.number l.yielded c.in-Some.item rest c.args.items.items l.steps.items c.len-in-loop-item.result is (search rules)
     l.invariant.so_far
     (search rules)))
 
-pub items-preserved : goal.items-preserved
-items-preserved c =
-    let l = c.items in
+pub loop-item-preserved : goal.loop-item-preserved
+loop-item-preserved c =
+    let l = c.loop-item in
     let steps : into_iter_items l.item-iterator ≡ c.in-Some.item ∷ into_iter_items c.next.new.self = c.in-Some.ensures.steps.0 in
     let pushed : c.push.new.self.items ≡ l.steps.items ++ c.in_ok-step-2.step ∷ [] = search rules in
     record {
@@ -42,7 +42,7 @@ returns-in_err-push-clause-ok c = IfOk-from_err _ _ c.from_residual-in_err-push.
 
 pub returns-clause-ok : goal.returns-clause-ok
 returns-clause-ok c =
-    let l = c.items in
+    let l = c.loop-item in
     let all = all_yielded l.yielded (into_iter_items l.item-iterator) c.args.items.items l.invariant.order
     (sym l.invariant.count ∙ c.in-None.ensures.steps.0) in
     let read : SpellSteps c.args.items.items l.steps.items = rw all at l.invariant.so_far in

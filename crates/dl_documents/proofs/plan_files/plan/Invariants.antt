@@ -4,8 +4,8 @@ use Rattle.std.specs.Vec.Iter.{into_iter_items, into_iter_len}
 use Rattle.dl_documents.proofs.Readings.{SpellSteps}
 use Rattle.dl_documents.proofs.plan_files.plan.Given as goal
 
-abbrev pub invariant-items : goal.invariant-items
-invariant-items l = record {
+abbrev pub invariant-loop-item : goal.invariant-loop-item
+invariant-loop-item l = record {
   order : l.yielded ++ into_iter_items l.item-iterator ≡ l.fn.items.items;
   so_far : SpellSteps l.yielded l.steps.items;
   count : into_iter_len l.item-iterator ≡ length (into_iter_items l.item-iterator);

@@ -7,7 +7,7 @@ use Rattle.dl_documents.proofs.plan_files.plans.Goals as goal
 
 pub returns-in_err-plan-clause-err : goal.returns-in_err-plan-clause-err
 returns-in_err-plan-clause-err c =
-    let l = c.lists in
+    let l = c.loop-list in
     let rest = into_iter_items c.next.new.self in
     let is : l.yielded ++ c.in-Some.list ∷ rest ≡ c.args.lists.items = rw (← c.in-Some.ensures.steps.0) l.invariant.order in
     let same : c.from_residual.result ≡ Err c.in_err-plan.field-0.0 = search rules in
@@ -16,9 +16,9 @@ returns-in_err-plan-clause-err c =
       | inr bad ↦ inr (plans_stop l.yielded c.in-Some.list rest c.args.lists.items l.plans.items _ _ is (search rules) l.invariant.so_far bad)
     ])
 
-pub lists-preserved : goal.lists-preserved
-lists-preserved c =
-    let l = c.lists in
+pub loop-list-preserved : goal.loop-list-preserved
+loop-list-preserved c =
+    let l = c.loop-list in
     let steps : into_iter_items l.list-iterator ≡ c.in-Some.list ∷ into_iter_items c.next.new.self = c.in-Some.ensures.steps.0 in
     let pushed : c.push.new.self.items ≡ l.plans.items ++ c.in_ok-plan.plan ∷ [] = search rules in
     record {
@@ -39,7 +39,7 @@ returns-in_err-push-clause-ok c = IfOk-from_err _ _ c.from_residual-in_err-push.
 
 pub returns-clause-ok : goal.returns-clause-ok
 returns-clause-ok c =
-    let l = c.lists in
+    let l = c.loop-list in
     let all = all_yielded l.yielded (into_iter_items l.list-iterator) c.args.lists.items l.invariant.order
     (sym l.invariant.count ∙ c.in-None.ensures.steps.0) in
     let read : SpellPlans c.args.lists.items l.plans.items = rw all at l.invariant.so_far in

@@ -4,8 +4,8 @@ use Rattle.std.specs.Vec.Iter.{into_iter_items, into_iter_len}
 use Rattle.dl_documents.proofs.Readings.{SpellPlans}
 use Rattle.dl_documents.proofs.plan_files.plans.Given as goal
 
-abbrev pub invariant-lists : goal.invariant-lists
-invariant-lists l = record {
+abbrev pub invariant-loop-list : goal.invariant-loop-list
+invariant-loop-list l = record {
   order : l.yielded ++ into_iter_items l.list-iterator ≡ l.fn.lists.items;
   so_far : SpellPlans l.yielded l.plans.items;
   count : into_iter_len l.list-iterator ≡ length (into_iter_items l.list-iterator);

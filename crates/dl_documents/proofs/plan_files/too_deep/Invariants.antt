@@ -5,5 +5,5 @@ use Rattle.dl_documents.specs.Steps.{plan_view}
 use Rattle.dl_documents.specs.Inside.PlanFiles.{AreLow}
 use Rattle.dl_documents.proofs.plan_files.too_deep.Given as goal
 
-abbrev pub invariant-plans : goal.invariant-plans
-invariant-plans l = AllByRecursion AreLow (map plan_view (take l.index l.plans))
+abbrev pub invariant-loop-index : goal.invariant-loop-index
+invariant-loop-index l = AllByRecursion AreLow (map plan_view (take l.index l.plans))

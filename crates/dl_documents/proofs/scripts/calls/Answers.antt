@@ -8,15 +8,15 @@ use Rattle.dl_documents.proofs.scripts.calls.Goals as goal
 
 pub returns-in_err-call-2-clause-err : goal.returns-in_err-call-2-clause-err
 returns-in_err-call-2-clause-err c =
-    let l = c.items in
+    let l = c.loop-item in
     let rest = into_iter_items c.next.new.self in
     let is : l.yielded ++ c.in-Some.item ∷ rest ≡ c.args.items.items = rw (← c.in-Some.ensures.steps.0) l.invariant.order in
-    let bad : c.from_residual-in_err-call-2.result ≡ Err (BadCall c.len-in-items.result) = search rules in
-    rw bad (inr (calls_stop l.yielded c.in-Some.item rest c.args.items.items l.calls.items c.len-in-items.result is (search rules) l.invariant.so_far (search rules)))
+    let bad : c.from_residual-in_err-call-2.result ≡ Err (BadCall c.len-in-loop-item.result) = search rules in
+    rw bad (inr (calls_stop l.yielded c.in-Some.item rest c.args.items.items l.calls.items c.len-in-loop-item.result is (search rules) l.invariant.so_far (search rules)))
 
-pub items-preserved : goal.items-preserved
-items-preserved c =
-    let l = c.items in
+pub loop-item-preserved : goal.loop-item-preserved
+loop-item-preserved c =
+    let l = c.loop-item in
     let steps : into_iter_items l.item-iterator ≡ c.in-Some.item ∷ into_iter_items c.next.new.self = c.in-Some.ensures.steps.0 in
     let pushed : c.push.new.self.items ≡ l.calls.items ++ c.in_ok-call-2.call ∷ [] = search rules in
     record {
@@ -40,7 +40,7 @@ returns-in_err-push-clause-ok c = IfOk-from_err _ _ c.from_residual-in_err-push.
 
 pub returns-clause-ok : goal.returns-clause-ok
 returns-clause-ok c =
-    let l = c.items in
+    let l = c.loop-item in
     let all = all_yielded l.yielded (into_iter_items l.item-iterator) c.args.items.items l.invariant.order (sym l.invariant.count ∙ c.in-None.ensures.steps.0) in
     let read : SpellCalls c.args.items.items l.calls.items = rw all at l.invariant.so_far in
     record { trees = read.trees; calls = read.all }

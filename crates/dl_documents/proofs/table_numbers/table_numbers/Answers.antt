@@ -14,8 +14,8 @@ returns-in_err-table c = IfOk-from_err _ _ c.from_residual-in_err-table.ensures.
 pub returns-in_err-push : goal.returns-in_err-push
 returns-in_err-push c = IfOk-from_err _ _ c.from_residual-in_err-push.ensures.0
 
-pub items-init : goal.items-init
-items-init c = found_first c.in_ok-numbers.numbers.items _ c.in_ok-numbers.ensures.items
+pub loop-item-init : goal.loop-item-init
+loop-item-init c = found_first c.in_ok-numbers.numbers.items _ c.in_ok-numbers.ensures.items
 
 pub returns-in_default : goal.returns-in_default
 returns-in_default c = ap (option_and_then numbers_listed) c.in_default.ensures

@@ -123,8 +123,8 @@ each-returns t c =
     ∙ link_some each (tree_data c.args.argument) _ _ _ c.in_ok-part.field-0 c.in-Some-2.part c.in_ok-field.field c.in_ok-table.table
     c.in-Some.ensures c.in_ok-part.ensures c.in-Some-2.is c.in_ok-field.ensures c.in_ok-table.ensures
 
-pub all-items-init : goal.all-items-init
-all-items-init t c = record {
+pub all-loop-item-init : goal.all-loop-item-init
+all-loop-item-init t c = record {
   read = found_first (map term_view c.in_ok-parts.parts.items) _ (ap (map term_view) c.in_ok-parts.ensures.items);
   low = omega arith;
   count = search rules;
@@ -132,7 +132,7 @@ all-items-init t c = record {
 
 pub all-read_term-requires : goal.all-read_term-requires
 all-read_term-requires t c =
-    let l = c.items in
+    let l = c.loop-item in
     let v = c.in-Some-item.item in
     let rest = into_iter_items c.next.new.self in
     let steps : into_iter_items l.item-iterator ≡ v ∷ rest = c.in-Some-item.ensures.steps.0 in
@@ -143,9 +143,9 @@ all-read_term-requires t c =
     let low : items_depth (list_data (into_iter_items l.item-iterator)) ≤ items_depth (list_data c.in-Some.items.items) = rw given at l.invariant.low in
     (omega arith, tt)
 
-pub all-items-preserved : goal.all-items-preserved
-all-items-preserved t c =
-    let l = c.items in
+pub all-loop-item-preserved : goal.all-loop-item-preserved
+all-loop-item-preserved t c =
+    let l = c.loop-item in
     let v = c.in-Some-item.item in
     let rest = into_iter_items c.next.new.self in
     let steps : into_iter_items l.item-iterator ≡ v ∷ rest = c.in-Some-item.ensures.steps.0 in
@@ -170,7 +170,7 @@ all-returns-in_default t c = no_list _ (parts_in (tree_data c.args.argument)) c.
 
 pub all-returns-in_default-2 : goal.all-returns-in_default-2
 all-returns-in_default-2 t c =
-    let l = c.items in
+    let l = c.loop-item in
     let v = c.in-Some-item.item in
     let rest = into_iter_items c.next.new.self in
     let steps : into_iter_items l.item-iterator ≡ v ∷ rest = c.in-Some-item.ensures.steps.0 in
@@ -182,7 +182,7 @@ all-returns-in_default-2 t c =
 
 pub all-returns : goal.all-returns
 all-returns t c =
-    let l = c.items in
+    let l = c.loop-item in
     let given : into_iter_items c.into_iter-item-iterator.result ≡ c.in-Some.items.items = c.into_iter-item-iterator.ensures.into_iter_gives.0 in
     let list : Some (list_data c.in-Some.items.items) ≡ as_array (tree_data c.args.argument) = search rules in
     all_read _ c.in-Some.items.items l.parts (into_iter_items l.item-iterator) list (sym l.invariant.count ∙ c.in-None.ensures.steps.0)

@@ -28,8 +28,8 @@ decreases-all l = 4 * depth (tree_data l.argument) + 2
 abbrev pub decreases-read_part : goal.decreases-read_part
 decreases-read_part l = 4 * depth (tree_data l.tree) + 1
 
-abbrev pub invariant-all-items : goal.invariant-all-items
-invariant-all-items l = record {
+abbrev pub invariant-all-loop-item : goal.invariant-all-loop-item
+invariant-all-loop-item l = record {
   read : option_map (λ ts. map term_view l.parts.items ++ ts) (together (parts_of (list_data (into_iter_items l.item-iterator))))
       ≡ together (parts_of (list_data (into_iter_items l.initial.item-iterator)));
   low : items_depth (list_data (into_iter_items l.item-iterator)) ≤ items_depth (list_data (into_iter_items l.initial.item-iterator));

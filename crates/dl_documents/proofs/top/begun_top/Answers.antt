@@ -8,14 +8,14 @@ use Rattle.dl_documents.proofs.top.begun_top.Goals as goal
 
 pub returns-in_err-name-clause-err : goal.returns-in_err-name-clause-err
 returns-in_err-name-clause-err c =
-    let l = c.members in
+    let l = c.loop-top in
     let none : read_key l.reader ≡ None = c.in_err-name.ensures.value in
     let bad = l.invariant.read ∙ no_key (value 126) (top_members l.top) l.invariant.turns l.reader none in
     search rules
 
 pub returns-in_err-read_member-clause-err : goal.returns-in_err-read_member-clause-err
 returns-in_err-read_member-clause-err c =
-    let l = c.members in
+    let l = c.loop-top in
     let s = c.next_key.new.self in
     let named : read_key l.reader ≡ Some (Some c.in-Some.name.now, s) = grind arith in
     let same : c.from_residual-in_err-read_member.result ≡ Err c.in_err-read_member.field-0.0 = search rules in
@@ -24,10 +24,10 @@ returns-in_err-read_member-clause-err c =
       | inr bad ↦ inr (bad.0, l.invariant.read ∙ no_value (value 126) (top_members l.top) l.invariant.turns c.in-Some.name.now l.reader s named bad.1)
     ])
 
-pub members-preserved : goal.members-preserved
-members-preserved c =
+pub loop-top-preserved : goal.loop-top-preserved
+loop-top-preserved c =
     let p = value 126 in
-    let l = c.members in
+    let l = c.loop-top in
     let n = l.invariant.turns in
     let k = c.in-Some.name.now in
     let s = c.next_key.new.self in
@@ -47,5 +47,5 @@ members-preserved c =
 
 pub returns-clause-ok : goal.returns-clause-ok
 returns-clause-ok c =
-    let l = c.members in
+    let l = c.loop-top in
     l.invariant.read ∙ no_more_members (value 126) (top_members l.top) l.invariant.turns l.reader c.next_key.new.self l.invariant.enough (grind arith)

@@ -6,8 +6,8 @@ use Rattle.serde_json.specs.Read.{of_members, converted}
 use Rattle.dl_documents.specs.Inside.Top.{top_members, IsApart}
 use Rattle.dl_documents.proofs.top.begun_top.Given as goal
 
-abbrev pub invariant-members : goal.invariant-members
-invariant-members l = record {
+abbrev pub invariant-loop-top : goal.invariant-loop-top
+invariant-loop-top l = record {
   turns : ℕ;
   enough : length l.reader ≤ turns;
   read : converted (λ ms. of_members ms no_members) (members (value 126) (length l.fn.reader) l.fn.reader)
@@ -15,5 +15,5 @@ invariant-members l = record {
   apart : IsApart l.top;
 }
 
-abbrev pub decreases-members : goal.decreases-members
-decreases-members l = length l.reader
+abbrev pub decreases-loop-top : goal.decreases-loop-top
+decreases-loop-top l = length l.reader

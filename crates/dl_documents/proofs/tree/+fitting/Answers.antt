@@ -17,7 +17,7 @@ has_fitting_numbers-returns-in-Object t c =
 
 pub items_fit-returns-then-not-has_fitting_numbers : goal.items_fit-returns-then-not-has_fitting_numbers
 items_fit-returns-then-not-has_fitting_numbers t c =
-    let l = c.items in
+    let l = c.loop-item in
     let xs = c.args.items.now in
     let x = c.item-item.result in
     let here : drop l.item-index xs ≡ x ∷ drop (l.item-index + 1) xs = drop_more xs l.item-index x (omega arith)
@@ -26,9 +26,9 @@ items_fit-returns-then-not-has_fitting_numbers t c =
     let no : false ≡ is_some (of_json (value_view x)) = c.if-not-has_fitting_numbers.ensures in
     ap (λ b. b && is_some (of_items rest)) no ∙ sym (item_fits (value_view x) rest) ∙ sym (ap (λ ys. is_some (of_items (items_view ys))) here) ∙ l.invariant
 
-pub items_fit-items-preserved : goal.items_fit-items-preserved
-items_fit-items-preserved t c =
-    let l = c.items in
+pub items_fit-loop-item-preserved : goal.items_fit-loop-item-preserved
+items_fit-loop-item-preserved t c =
+    let l = c.loop-item in
     let xs = c.args.items.now in
     let x = c.item-item.result in
     let here : drop l.item-index xs ≡ x ∷ drop (l.item-index + 1) xs = drop_more xs l.item-index x (omega arith)
@@ -39,7 +39,7 @@ items_fit-items-preserved t c =
 
 pub members_fit-returns-then-not-has_fitting_numbers : goal.members_fit-returns-then-not-has_fitting_numbers
 members_fit-returns-then-not-has_fitting_numbers t c =
-    let l = c.members in
+    let l = c.loop-member in
     let xs = c.args.members.now in
     let x = c.member-item.result in
     let here : drop l.member-index xs ≡ x ∷ drop (l.member-index + 1) xs = drop_more xs l.member-index x (omega arith)
@@ -49,9 +49,9 @@ members_fit-returns-then-not-has_fitting_numbers t c =
     ap (λ b. b && is_some (of_members rest no_members)) no ∙ sym (member_fits x.0.now (value_view x.1) rest)
     ∙ sym (ap (λ ys. is_some (of_members (members_view ys) no_members)) here) ∙ l.invariant
 
-pub members_fit-members-preserved : goal.members_fit-members-preserved
-members_fit-members-preserved t c =
-    let l = c.members in
+pub members_fit-loop-member-preserved : goal.members_fit-loop-member-preserved
+members_fit-loop-member-preserved t c =
+    let l = c.loop-member in
     let xs = c.args.members.now in
     let x = c.member-item.result in
     let here : drop l.member-index xs ≡ x ∷ drop (l.member-index + 1) xs = drop_more xs l.member-index x (omega arith)

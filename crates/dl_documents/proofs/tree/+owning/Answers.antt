@@ -14,7 +14,7 @@ use Rattle.dl_documents.proofs.tree.+owning.Goals as goal
 
 pub into_map-into_value-requires : goal.into_map-into_value-requires
 into_map-into_value-requires t c =
-    let l = c.members in
+    let l = c.loop-member in
     let m = c.in-Some.member in
     let rest = into_iter_items c.next.new.self in
     let is : l.yielded ++ m ∷ rest ≡ c.args.members.items = rw (← c.in-Some.ensures.steps.0) l.invariant.order in
@@ -24,7 +24,7 @@ into_map-into_value-requires t c =
 
 pub into_list-into_value-requires : goal.into_list-into_value-requires
 into_list-into_value-requires t c =
-    let l = c.items in
+    let l = c.loop-item in
     let x = c.in-Some.item in
     let rest = into_iter_items c.next.new.self in
     let is : l.yielded ++ x ∷ rest ≡ c.args.items.items = rw (← c.in-Some.ensures.steps.0) l.invariant.order in
@@ -32,9 +32,9 @@ into_list-into_value-requires t c =
     rw (← is) (item_smaller l.yielded x rest) in
     search rules
 
-pub into_list-items-preserved : goal.into_list-items-preserved
-into_list-items-preserved t c =
-    let l = c.items in
+pub into_list-loop-item-preserved : goal.into_list-loop-item-preserved
+into_list-loop-item-preserved t c =
+    let l = c.loop-item in
     let steps : into_iter_items l.item-iterator ≡ c.in-Some.item ∷ into_iter_items c.next.new.self = c.in-Some.ensures.steps.0 in
     record {
       order = append_assoc l.yielded (c.in-Some.item ∷ []) _ ∙ rw (← steps) l.invariant.order;
@@ -49,14 +49,14 @@ into_list-items-preserved t c =
 
 pub into_list-returns : goal.into_list-returns
 into_list-returns t c =
-    let l = c.items in
+    let l = c.loop-item in
     let all = all_yielded l.yielded (into_iter_items l.item-iterator) c.args.items.items l.invariant.order
     (sym l.invariant.count ∙ c.in-None.ensures.steps.0) in
     l.invariant.so_far ∙ ap list_data all
 
-pub into_map-members-preserved : goal.into_map-members-preserved
-into_map-members-preserved t c =
-    let l = c.members in
+pub into_map-loop-member-preserved : goal.into_map-loop-member-preserved
+into_map-loop-member-preserved t c =
+    let l = c.loop-member in
     let m = c.in-Some.member in
     let steps : into_iter_items l.member-iterator ≡ m ∷ into_iter_items c.next.new.self = c.in-Some.ensures.steps.0 in
     let copied : string_bytes c.in_ok-name.name ≡ m.0.now = c.in_ok-name.ensures.ok in
@@ -74,7 +74,7 @@ into_map-members-preserved t c =
 
 pub into_map-returns : goal.into_map-returns
 into_map-returns t c =
-    let l = c.members in
+    let l = c.loop-member in
     let all = all_yielded l.yielded (into_iter_items l.member-iterator) c.args.members.items l.invariant.order
     (sym l.invariant.count ∙ c.in-None.ensures.steps.0) in
     l.invariant.so_far ∙ ap object_data all

@@ -16,15 +16,15 @@ decreases-into_list l = length (items_tokens (tree.items_view l.items.items))
 abbrev pub decreases-into_map : goal.decreases-into_map
 decreases-into_map l = length (members_tokens (tree.members_view l.members.items))
 
-abbrev pub invariant-into_list-items : goal.invariant-into_list-items
-invariant-into_list-items l = record {
+abbrev pub invariant-into_list-loop-item : goal.invariant-into_list-loop-item
+invariant-into_list-loop-item l = record {
   order : l.yielded ++ into_iter_items l.item-iterator ≡ l.fn.items.items;
   so_far : items_view l.list.items ≡ list_data l.yielded;
   count : into_iter_len l.item-iterator ≡ length (into_iter_items l.item-iterator);
 }
 
-abbrev pub invariant-into_map-members : goal.invariant-into_map-members
-invariant-into_map-members l = record {
+abbrev pub invariant-into_map-loop-member : goal.invariant-into_map-loop-member
+invariant-into_map-loop-member l = record {
   order : l.yielded ++ into_iter_items l.member-iterator ≡ l.fn.members.items;
   so_far : members_view l.map.entries ≡ object_data l.yielded;
   count : into_iter_len l.member-iterator ≡ length (into_iter_items l.member-iterator);
