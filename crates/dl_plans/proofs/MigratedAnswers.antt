@@ -1,7 +1,7 @@
 -- A plan file of version 1 and the migrated one have the same answers.
 use Rattle.std.proofs.Common.{◌≡◌, ◌∙◌, sym, ap, subst, refl, List, [], ◌∷◌, length, map, Option, Some, None}
 use Rattle.dl_values.specs.Answering.{by_function}
-use Rattle.dl_documents.specs.Steps.{StepTree, prime, clear, clear_all, eval, step_view, plan_view}
+use Rattle.dl_documents.specs.Steps.{StepTree, prime, eval, step_view, plan_view}
 use Rattle.dl_documents.proofs.OneReading.{SayTheSame, one_plan_file}
 use Rattle.dl_history.specs.Lists.{Every}
 use Rattle.dl_migration.specs.Migrated.{migrated}
@@ -16,41 +16,31 @@ use Rattle.dl_scope.specs.OwnAnswers.{PrimesNoKey}
 use Rattle.dl_terms.specs.Tree.{Tree}
 use Rattle.dl_terms.specs.declared.plan.Plan.{Plan}
 use Rattle.dl_terms.specs.declared.plan.Step.{Step}
-use Rattle.dl_terms.specs.declared.plan.Step.TheVariants.{Prime, Clear, ClearAll, Eval}
+use Rattle.dl_terms.specs.declared.plan.Step.TheVariants.{Prime, Eval}
 use Rattle.dl_plans.specs.Run.{setup_of}
 use Rattle.dl_plans.specs.MigratedAnswers.{MigratedAnswersAreEqual}
 
 -- ---- what the tree of a step tells
 
 abbrev tree_evaluated : StepTree → Option Tree
-tree_evaluated (prime k o) = None
-tree_evaluated (clear k) = None
-tree_evaluated clear_all = None
 tree_evaluated (eval t) = Some t
+tree_evaluated tree = None
 
 step_evaluated : (s : Step) → evaluated s ≡ tree_evaluated (step_view s)
-step_evaluated (Prime k o) = refl
-step_evaluated (Clear k) = refl
-step_evaluated ClearAll = refl
 step_evaluated (Eval t) = refl
+step_evaluated s = refl
 
 abbrev TreePrimesNoKey : StepTree → Type 0
 TreePrimesNoKey (prime k o) = ⊥
-TreePrimesNoKey (clear k) = Unit {0}
-TreePrimesNoKey clear_all = Unit {0}
-TreePrimesNoKey (eval t) = Unit {0}
+TreePrimesNoKey tree = Unit {0}
 
 tree_unprimed : (s : Step) → PrimesNoKey s → TreePrimesNoKey (step_view s)
 tree_unprimed (Prime k o) none = none
-tree_unprimed (Clear k) none = none
-tree_unprimed ClearAll none = none
-tree_unprimed (Eval t) none = none
+tree_unprimed s none = none
 
 step_unprimed : (s : Step) → TreePrimesNoKey (step_view s) → PrimesNoKey s
 step_unprimed (Prime k o) none = none
-step_unprimed (Clear k) none = none
-step_unprimed ClearAll none = none
-step_unprimed (Eval t) none = none
+step_unprimed s none = none
 
 -- ---- the trees of steps and of plans
 
