@@ -14,7 +14,7 @@ use Rattle.dl_values.specs.declared.outcome.Outcome.{Outcome}
 -- ---- histories
 
 -- Between two fresh loads of one key something forgets the key: a clear of it, a clear of all, or the failure of the
--- first one's batch. So a key is fetched once between clears, unless its whole batch failed (DataLoader: the memo).
+-- first one's batch. So between clears a key is put into one batch, unless that batch failed (DataLoader: the memo).
 abbrev pub FreshLoadsAreApart : Type 0
 FreshLoadsAreApart = (rules : Rules) (key : Key) (cell batch later_cell later_batch : ℕ) (later between before : List Atom)
     → AllAnswered rules (later ++ Load key (Fresh later_cell later_batch) ∷ (between ++ Load key (Fresh cell batch) ∷ before))

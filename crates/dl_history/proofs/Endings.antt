@@ -3,7 +3,7 @@ use Rattle.std.proofs.Common.{◌≡◌, ◌∙◌, sym, ap, ℕ, ◌<◌, ◌�
 use Rattle.std.proofs.lemmas.Bool.{eq-eqb, ne_eqb}
 use Rattle.std.proofs.lemmas.List.{length-reverse}
 use Rattle.dl_values.specs.Key.{Key}
-use Rattle.dl_desk.specs.History.{Atom, cells, members, held, prime_reply, MayEnd}
+use Rattle.dl_desk.specs.History.{Atom, cells, members, held, MayEnd}
 use Rattle.dl_desk.specs.History as atom
 use Rattle.dl_desk.specs.Events.{atoms, begins_primed, primes, ends_batch, ends, cell_batch, newest, ending, outcome_given}
 use Rattle.dl_desk.specs.Calls.{primed}

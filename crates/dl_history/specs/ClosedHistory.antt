@@ -73,7 +73,7 @@ place_of (kind.Saw cell at) = []
 
 -- ---- the fields of a history
 
--- the desk and the cells are those of the events, and the source answers each key
+-- the desk and the cells are those of the events, and an answer of the source has an outcome for each key, unless it breaks
 pub record AreHistoryFields (service : Service) (b : LoaderState) (h : History) : Type 0 where
   pub kept : IsLoaderState service b
   pub answers : AnswersEach service.answer

@@ -42,7 +42,7 @@ module _ {S : Type 0} {G : Ghosts S} where
   job_asked (ask.Fail job give_up) = Some job
   job_asked asked = None
 
-  -- the source that gave the answer which an ask brings
+  -- the source whose answer an ask brings
   abbrev pub source_asked : Ask S G → Option S
   source_asked (ask.Settle fetched) = Some (source_of fetched)
   source_asked asked = None

@@ -63,7 +63,7 @@ pub record Names {S : Type 0} (answer : S → Answering) (opening : Opening S) (
   pub ledger_is : opening.ledger ≡ ledger
 
 -- what holds of the fields of a loader: it has its number of callers, each with a place to wait and a part of the ledger,
--- and its source answers each key
+-- and an answer of its source has an outcome for each key, unless it breaks
 pub record IsLoader (callers waiters parts : ℕ) (own : Service) : Type 0 where
   pub callers_are : callers ≡ own.callers
   pub waiters_are : waiters ≡ own.callers

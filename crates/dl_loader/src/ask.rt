@@ -27,7 +27,7 @@ pub enum Ask<'a, S: Source> {
 /// Why you fail a batch that went out, without an answer.
 #[derive(Clone, Copy, Debug, PartialEq, Eq)]
 pub enum GiveUp {
-    /// Memory ran out before the batch had an answer.
+    /// Memory ran out: the batch has no answer, or its outcomes can't be kept.
     Memory,
     /// The batch never got to a worker.
     Unsent,

@@ -46,7 +46,7 @@ pub(crate) trait EventCall {
     // The reply that the history tells.
     ghost told: { Self.Reply → Reply };
 
-    // What it brings may be answered by a source that answers so.
+    // The answer that it brings, if it brings one, is allowed.
     ghost brings: { Self → Answering → Type 0 } = { λ _ _. Unit {0} };
 
     // The desk is ready to show it.

@@ -36,8 +36,8 @@ calls_after n events = count_by (λ e. nat_le n e.caller) events
 
 -- Whatever the schedule, workers and batch limit, a report holds one history. In it every load, loadMany, prime and
 -- clear has the reply of a single-threaded DataLoader at its point; each caller's calls are there once, in its order;
--- every outcome that a caller read is the one that the history gives its load; and the source answers every batch once,
--- except for these, which were given up. The headline has none of them.
+-- every outcome that a caller read is the one that the history gives its load; and every batch has one end, by an answer
+-- that the source may give to its keys, except for these, which were given up. The headline has none of them.
 pub record HeadlineBut (batches : List ℕ) (service : Service) (plans : List Plan) (r : Report) : Type 0 where
   -- each event has the reply of a single-threaded data loader after those before it, and each end of a batch is lawful
   pub legal : IsLegal service r.history.events
@@ -55,7 +55,7 @@ pub record HeadlineBut (batches : List ℕ) (service : Service) (plans : List Pl
       → Follows n plan.steps.items (entries_of n r.history.accounts) answers rounds
   -- each worker ended batches, and did nothing else
   pub work : (n : ℕ) → length plans ≤ n → n < service.callers → Every TellsEnd (entries_of n r.history.accounts)
-  -- every batch has exactly one end: what the source answers to its keys, unless it was given up
+  -- every batch has exactly one end: by an answer of the source (`legal` says which), unless it was given up
   pub ended : AllEnded r.history.events
   pub once : EndOnce r.history.events
   pub fetched : given_up r.history.events ≡ batches

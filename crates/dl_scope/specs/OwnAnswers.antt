@@ -26,7 +26,7 @@ use Rattle.dl_terms.specs.declared.plan.Step.{Step}
 use Rattle.dl_terms.specs.declared.plan.Step.TheVariants.{Prime, Eval}
 use Rattle.dl_haxl.specs.declared.step_answers.StepAnswer.{StepAnswer}
 
--- if the source answers, it gives each key the key's own outcome, whatever other keys it gets with it
+-- if the source doesn't break, it gives each key the key's own outcome, whatever other keys it gets with it
 abbrev pub AnswersOwn : Service → (Key → Outcome) → Type 0
 AnswersOwn service own = (keys : List Key) (outcomes : List Outcome) → MayAnswer service.answer keys (answered.Each outcomes) → outcomes ≡ map own keys
 
@@ -52,7 +52,7 @@ NoneFailed events = Every (λ (e : Event). IsNoFail e.call) events
 abbrev pub AreOwn : (Key → Outcome) → Pairs → Type 0
 AreOwn own pairs = Every (λ p. p.1 ≡ own p.0) pairs
 
--- the term gives the answer if the keys have their own outcomes
+-- the term gives the answer from some keys, each with its own outcome
 abbrev pub IsOwn : (Key → Outcome) → Tree → Answer → Type 0
 IsOwn own t a = (pairs : Pairs) × AreOwn own pairs × gives t pairs a
 
@@ -78,6 +78,6 @@ AnswersAreOwn = (tables : Tables) (setup : Setup) (plans : List Plan) (r : Repor
     → (n : ℕ) (plan : Plan) (answers : List StepAnswer) → slice_get plans n ≡ Some plan → slice_get r.answers n ≡ Some answers
     → Every (AnswersByTables tables plan) answers
 
--- by the tables alone a term has one answer
+-- by the tables alone a term has at most one answer
 abbrev pub OwnAnswersAreOne : Type 0
 OwnAnswersAreOne = (tables : Tables) (t : Tree) (a b : Answer) → IsOwn (listed tables) t a → IsOwn (listed tables) t b → a ≡ b

@@ -37,7 +37,7 @@ pub enum ScopeFault {
     /// The loader refused its close.
     #[error("{0}")]
     Close(CloseFault),
-    /// This batch is the least that failed without an answer of the source.
+    /// This batch is the least that was given up: memory ran out for it, or its job was not sent.
     #[error("batch {batch} was not fetched")]
     Unfetched { batch: u32 },
     /// Memory ran out, or the system refused a thread.

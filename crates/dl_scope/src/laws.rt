@@ -9,7 +9,7 @@ pub fn jobs_are_batches()
     ensures { JobsAreBatches }
 {}
 
-/// In a report, as many jobs were sent as there are batches, as many were taken, and none is left.
+/// In a report of `serve`, as many jobs were sent as there are batches, as many were taken, and none is left.
 pub fn each_is_carried()
     ensures { EachIsCarried }
 {}
@@ -19,7 +19,7 @@ pub fn answers_are_own()
     ensures { AnswersAreOwn }
 {}
 
-/// By the tables alone a term has one answer. So if no batch failed and no plan primes a key, the answer is the same
+/// By the tables alone a term has at most one answer. So if no batch failed and no plan primes a key, the answer is the same
 /// for every number of workers, for all limits, and whatever other plans you serve with it.
 pub fn own_answers_are_one()
     ensures { OwnAnswersAreOne }

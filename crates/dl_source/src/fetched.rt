@@ -7,7 +7,7 @@ use crate::source::Source;
 use dl_values::{BatchAnswer, FetchKey, Job};
 
 /// A job and what its source answered to the job's keys. Only [`fetch_job`](crate::fetch_job) makes one, so the answer
-/// is always the source's own.
+/// is one that the source may give.
 #[derive(Drop)]
 pub struct Fetched<'s, S: Source> {
     source: &'s S,

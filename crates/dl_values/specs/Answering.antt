@@ -11,20 +11,20 @@ pub data Answering : Type 0 where
   by_function : (List Key → BatchAnswer) → Answering
   by_test : (List Key → BatchAnswer → Bool) → Answering
 
--- each source by its function
+-- each source answers by a function of its own
 abbrev pub function : {S : Type 0} → (S → List Key → BatchAnswer) → S → Answering
 function answer source = by_function (answer source)
 
--- each source by its test
+-- each source answers as a test of its own allows
 abbrev pub test : {S : Type 0} → (S → List Key → BatchAnswer → Bool) → S → Answering
 test allows source = by_test (allows source)
 
--- it may answer these keys so
+-- this answer to these keys is allowed
 abbrev pub MayAnswer : Answering → List Key → BatchAnswer → Type 0
 MayAnswer (by_function answer) keys a = answer keys ≡ a
 MayAnswer (by_test allows) keys a = allows keys a ≡ true
 
--- whatever the first may answer, the second may
+-- whatever the first allows, the second allows
 abbrev pub IsWithin : Answering → Answering → Type 0
 IsWithin first second = (keys : List Key) (a : BatchAnswer) → MayAnswer first keys a → MayAnswer second keys a
 

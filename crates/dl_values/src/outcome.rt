@@ -33,7 +33,7 @@ impl Drop for Outcome {
 pub enum BatchFault {
     /// The source broke, with this text.
     Source(Message),
-    /// Memory ran out before the batch had an answer.
+    /// Memory ran out: the batch has no answer, or its outcomes couldn't be kept.
     Memory,
     /// The batch never got to a worker.
     Unsent,

@@ -1,4 +1,4 @@
-//! Batches that failed without an answer of the source.
+//! Batches that were given up: they failed because memory ran out or their jobs weren't sent.
 
 ghost use Rattle.std.specs.Prelude.{◌∷◌, ◌++◌, [], ℕ, List, Some, flat_map};
 ghost use Rattle.dl_loader.specs.CloseRefusals.{IsLeastOf};
@@ -7,8 +7,7 @@ ghost use Rattle.dl_workers.specs.GiveUps.{given_up, given_up_by};
 use dl_desk::BatchFault;
 use dl_loader::{Call, History};
 
-/// The least batch that failed without an answer of the source: because memory ran out, or because its job was not
-/// sent. Returns `None` if each batch that ended did so by an answer.
+/// The least batch that was given up, because memory ran out or its job was not sent. Returns `None` if none was.
 pub fn least_given_up(history: &History) -> Option<u32>
     ensures { IsLeastOf result (given_up history.now.events) }
 {

@@ -48,6 +48,6 @@ abbrev pub ended_len : ℕ → Result (Bor BatchAnswer) GiveUp → ℕ
 ended_len n (Ok a) = answer_len n a.now
 ended_len n (Err give_up) = n
 
--- an answer that it brings may be answered to the keys by a source that answers so
+-- the answer that it brings to the keys, if it brings one, is allowed
 abbrev pub Brings : List Key → Result (Bor BatchAnswer) GiveUp → Answering → Type 0
 Brings keys brought answer = IfOk brought (λ a. MayAnswer answer keys a.now)

@@ -1,4 +1,3 @@
-use Rattle.std.proofs.Common.{refl}
 use Rattle.std.proofs.lemmas.Result.{err_from_is_err_and}
 use Rattle.dl_haxl.proofs.Faults.{not_ended}
 use Rattle.dl_haxl.proofs.inline.Evaluator+L+OwnThread+S.end_shown.Goals as goal
