@@ -10,7 +10,6 @@ mod command;
 mod document;
 mod fault;
 mod invocation;
-mod json_text;
 pub mod laws;
 mod migration;
 mod picture;
