@@ -1,6 +1,5 @@
 mod BatchTexts
 pub mod Bytes
 mod CommandMatches
-mod KeyTexts
 mod MigratedAnswers
 pub mod Runs

@@ -28,6 +28,10 @@ batches_rule = record (new_rule (codes "batches")) { long = Some (codes "batches
 abbrev pub picture_rule : Rule
 picture_rule = record (new_rule (codes "picture")) { long = Some (codes "picture"); value_names = 1 }
 
+-- `--trace FILE`
+abbrev pub trace_rule : Rule
+trace_rule = record (new_rule (codes "trace")) { long = Some (codes "trace"); value_names = 1 }
+
 -- the words follow the program's name
 abbrev pub without_name : Shape → Shape
 without_name s = record s { no_binary_name = true }
@@ -42,7 +46,7 @@ answering_app = with_rule (with_rule (on_top without_name (new_app (codes "plans
 
 -- the command line without its version
 abbrev pub plans_words_app : App
-plans_words_app = with_subcommand (with_rule answering_app picture_rule) migrate_app.top
+plans_words_app = with_subcommand (with_rule (with_rule answering_app picture_rule) trace_rule) migrate_app.top
 
 abbrev pub with_version : Shape → Shape
 with_version s = record s { has_version = true }
@@ -74,4 +78,5 @@ pub record AreGiven (rows : List Row) (used : Option (Text × List Row)) (o : Op
   pub batches : one_of (codes "batches") rows ≡ Some (codes "true") → o.batches ≡ true
   pub no_batches : one_of (codes "batches") rows ≡ Some (codes "false") → o.batches ≡ false
   pub picture : option_map string_bytes o.picture ≡ first_of (codes "picture") rows
+  pub trace : option_map string_bytes o.trace ≡ first_of (codes "trace") rows
   pub migrate : IsTrue o.migrate ↔ (name_of used ≡ Some (codes "migrate"))

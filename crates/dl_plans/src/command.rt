@@ -2,7 +2,7 @@
 
 ghost use Rattle.std.specs.Prelude.{◌≡◌, IfOk, IfSome, map, option_map, false, string_bytes};
 ghost use Rattle.clap.specs.Words.{app_of, rule_of, found_of, matches_of, rows_of, subcommand_of, subcommand_rows_of};
-ghost use Rattle.dl_plans.specs.Options.{plans_app, plans_words_app, answering_app, workers_rule, batches_rule, picture_rule, AreGiven};
+ghost use Rattle.dl_plans.specs.Options.{plans_app, plans_words_app, answering_app, workers_rule, batches_rule, picture_rule, trace_rule, AreGiven};
 
 use crate::settings::Options;
 use clap::error::ErrorKind;
@@ -10,8 +10,8 @@ use clap::{Arg, ArgAction, ArgMatches, Command, Error, value_parser};
 use std::alloc::{AllocError, Global};
 use std::convert::AsStr;
 
-/// The options in the words behind the program's name: `[--workers N] [--batches] [--picture FILE] [migrate]`. N is 1
-/// to 16, and 3 if you don't give it. No option follows `migrate`.
+/// The options in the words behind the program's name: `[--workers N] [--batches] [--picture FILE] [--trace FILE]
+/// [migrate]`. N is 1 to 16, and 3 if you don't give it. No option follows `migrate`.
 ///
 /// # Errors
 /// The help, if the words ask for it; why the words are wrong, with the usage; or that memory ran out.
@@ -55,6 +55,7 @@ fn given(alloc: Global, matches: &ArgMatches) -> Result<Option<Options>, AllocEr
         workers,
         batches: matches.get_flag("batches"),
         picture: copied(alloc, matches.get_str("picture"))?,
+        trace: copied(alloc, matches.get_str("trace"))?,
         migrate: matches.subcommand_matches("migrate").is_some(),
     }))
 }
@@ -107,7 +108,10 @@ fn plans_words<'a>(alloc: Global) -> Result<Command<'a>, AllocError>
         .about("Writes a plan file of version 1 as one of version 2")
         .override_usage("plans migrate");
     let answering = answering_words(alloc)?;
-    answering.arg(picture(alloc))?.subcommand(migrate)
+    answering
+        .arg(picture(alloc))?
+        .arg(trace(alloc))?
+        .subcommand(migrate)
 }
 
 /// The options for answering a document.
@@ -154,4 +158,15 @@ fn picture<'a>(alloc: Global) -> Arg<'a>
         .long("picture")
         .value_name("FILE")
         .help("Draws what happened into a file too, as SVG")
+}
+
+/// `--trace FILE`.
+fn trace<'a>(alloc: Global) -> Arg<'a>
+    ensures rule { rule_of result ≡ trace_rule }
+    ensures local { result.global ≡ false }
+{
+    Arg::new(alloc, "trace")
+        .long("trace")
+        .value_name("FILE")
+        .help("Writes what happened into a file too, as a trace in JSON")
 }

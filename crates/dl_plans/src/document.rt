@@ -12,13 +12,14 @@ ghost use Rattle.dl_plans.specs.declared.settings.Options.{Options};
 
 use crate::QUEUE_PLACES;
 use crate::fault::RunError;
-use crate::picture::{report_picture, write_picture};
+use crate::picture::{report_picture, report_trace};
 use crate::report::report_text;
 use crate::script_text::run_script;
 use crate::settings::Options;
 use crate::streams::{read_all, write_all};
+use crate::whole_file::write_whole;
 use dl_documents::{Input, PlanFault, PlanFile, Script, read_input};
-use dl_picture::script_picture;
+use dl_picture::{script_picture, script_trace};
 use dl_scope::{Report, ScopeFault, Setup, serve};
 use dl_workers::NoGate;
 use std::alloc::{AllocError, Global};
@@ -32,15 +33,15 @@ use std::thread::Threads;
 
 /// Reads a document, makes all of the text that it gives, and then writes it. It reads at most one byte more than a
 /// document may have. It serves the plans of a plan file at once, each on a thread of its own, with as many workers as
-/// the options say. If they name a file, the picture of what happened goes there first, as a whole or not at all.
-/// `hashing` hashes keys, and nothing that you see depends on it.
+/// the options say. If they name files for them, the picture and the trace of what happened go there first, each as a
+/// whole or not at all. `hashing` hashes keys, and nothing that you see depends on it.
 ///
 /// Call it at the end of a process: it leaves what it read and served to the system, and doesn't drop it.
 ///
 /// # Errors
 /// `Read` if the reader fails, `Refused` if what it has is not a document, `Run` if `serve` refuses the plans of a plan
-/// file, `OutOfMemory`, and `Write` if the picture's file or the writer fails. Only with `Write` may the writer have
-/// got something: the beginning of the text, or nothing if it was the file.
+/// file, `OutOfMemory`, and `Write` if a file or the writer fails. Only with `Write` may the writer have got something:
+/// the beginning of the text, or nothing if it was a file.
 ///
 /// # Examples
 /// The program `plans` calls it, in `crates/plans`:
@@ -70,19 +71,20 @@ pub fn run<R: Read, W: Write, T: Threads + Wait + Sync + Files + RandomSource>(
 {
     let bytes = read_all(alloc, reader)?;
     let given = output(rt, alloc, hashing, bytes, &options)?;
-    keep_picture(rt, alloc, &options, &given)?;
+    keep_files(rt, alloc, &options, &given)?;
     write_all(writer, given.text.as_bytes())
 }
 
-/// What a document gives: its text, and its picture if the options ask for one.
+/// What a document gives: its text, and its picture and its trace if the options ask for them.
 #[derive(Drop)]
 struct Given {
     text: String,
     picture: Option<String>,
+    trace: Option<String>,
 }
 
-/// Writes the picture to its file, if there is one.
-fn keep_picture<T: Files + RandomSource>(
+/// Writes the picture and then the trace to their files, if there are any.
+fn keep_files<T: Files + RandomSource>(
     rt: &T,
     alloc: Global,
     options: &Options,
@@ -90,8 +92,21 @@ fn keep_picture<T: Files + RandomSource>(
 ) -> Result<(), RunError>
     ensures { IfErr result (λ e. (e ≡ RunError.Write) ⊎ (e ≡ RunError.OutOfMemory)) }
 {
-    match (&options.picture, &given.picture) {
-        (Some(file), Some(picture)) => write_picture(rt, alloc, file.as_str(), picture.as_str()),
+    keep(rt, alloc, &options.picture, &given.picture)?;
+    keep(rt, alloc, &options.trace, &given.trace)
+}
+
+/// Writes a text to its file, if there is one.
+fn keep<T: Files + RandomSource>(
+    rt: &T,
+    alloc: Global,
+    file: &Option<String>,
+    text: &Option<String>,
+) -> Result<(), RunError>
+    ensures { IfErr result (λ e. (e ≡ RunError.Write) ⊎ (e ≡ RunError.OutOfMemory)) }
+{
+    match (file, text) {
+        (Some(file), Some(text)) => write_whole(rt, alloc, file.as_str(), text.as_str()),
         _ => Ok(()),
     }
 }
@@ -130,7 +145,7 @@ fn output<T: Threads + Wait + Sync>(
     }
 }
 
-/// The text and the picture, unless memory ran out.
+/// What a document gives, unless memory ran out.
 fn made(given: Result<Given, AllocError>) -> Result<Given, RunError>
     ensures ok { IfOk result (λ made. given ≡ Ok made) }
     ensures err { (options : Options) (bytes : List ℕ) → IfErr result (IsRefused options bytes) }
@@ -155,8 +170,16 @@ fn output_of_script(
         Some(_) => Some(script_picture(alloc, hashing, script)?),
         None => None,
     };
+    let trace = match &options.trace {
+        Some(_) => Some(script_trace(alloc, hashing, script)?),
+        None => None,
+    };
     let text = run_script(alloc, hashing, script)?;
-    Ok(Given { text, picture })
+    Ok(Given {
+        text,
+        picture,
+        trace,
+    })
 }
 
 /// What a report gives. Fails if memory runs out.
@@ -167,8 +190,16 @@ fn output_of_report(alloc: Global, report: &Report, options: &Options) -> Result
         Some(_) => Some(report_picture(alloc, report)?),
         None => None,
     };
+    let trace = match &options.trace {
+        Some(_) => Some(report_trace(alloc, report)?),
+        None => None,
+    };
     let text = report_text(alloc, report, options.batches)?;
-    Ok(Given { text, picture })
+    Ok(Given {
+        text,
+        picture,
+        trace,
+    })
 }
 
 /// Serves the plans of a file over its tables, within the limits of the file, with as many workers as the options say

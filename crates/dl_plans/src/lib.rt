@@ -1,5 +1,5 @@
 //! The parts of the program `plans`: its command line; what a document gives, over a reader and a writer ([`run`]); the
-//! texts of scripts and reports; the file of a picture; migration; and the lines and statuses of failures.
+//! texts of scripts and reports; the files of pictures and traces; migration; and the lines and statuses of failures.
 //!
 //! The label of a loop is its name in `proofs/`.
 #![tactic(auto)]
@@ -10,7 +10,6 @@ mod command;
 mod document;
 mod fault;
 mod invocation;
-mod json_text;
 pub mod laws;
 mod migration;
 mod picture;
@@ -20,6 +19,7 @@ mod script_text;
 mod settings;
 mod status;
 mod streams;
+mod whole_file;
 
 pub use command::options;
 pub use dl_desk::DeskCall;

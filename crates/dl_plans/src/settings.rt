@@ -9,6 +9,8 @@ pub struct Options {
     pub batches: bool,
     /// The file of the picture, if the command line asks for one.
     pub picture: Option<String>,
+    /// The file of the trace, if the command line asks for one.
+    pub trace: Option<String>,
     /// Whether to write a plan file of version 1 as version 2, and not to answer it.
     pub migrate: bool,
 }

@@ -15,6 +15,7 @@ returns c =
       batches = λ e. c.get_flag.ensures.value (one_text-rows found (codes "batches") ∙ e);
       no_batches = λ e. c.get_flag.ensures.other (one_text-rows found (codes "batches") ∙ e);
       picture = c.in_ok-copied.ensures ∙ (c.get_str.ensures ∙ first_value-rows found (codes "picture"));
+      trace = c.in_ok-copied-2.ensures ∙ (c.get_str-2.ensures ∙ first_value-rows found (codes "trace"));
       migrate = (
         λ is. name_used c.args.matches.now ∙ c.subcommand_matches.ensures.found.0 (sym c.is_some.ensures ∙ is),
         λ named. c.is_some.ensures ∙ c.subcommand_matches.ensures.found.1 (sym (name_used c.args.matches.now) ∙ named),
