@@ -1,5 +1,5 @@
 -- Files in memory are never in doubt, and one that begins as SQLite's do holds a database.
-use Rattle.std.proofs.Common.{◌≡◌, ◌≢◌, ◌<◌, ◌≤◌, ◌×◌, ℕ, List, [], ◌∷◌, length, take, slice_index, Bool, true, false, IsTrue, refl, sym, ap, subst, ◌∙◌, inl, inr, arith, get_or-take, length-take, zero-add}
+use Rattle.std.proofs.Common.{◌≡◌, ◌≢◌, ◌<◌, ◌≤◌, ℕ, List, [], ◌∷◌, length, take, slice_index, Bool, true, false, IsTrue, refl, sym, ap, subst, ◌∙◌, inl, inr, arith, get_or-take, length-take, zero-add}
 use Rattle.std.proofs.lemmas.Bool.{and_from}
 use Rattle.std.proofs.lemmas.Grind.{same_number_lists}
 use Rattle.std.proofs.lemmas.Slice.Eq.{bytes_eq-Decides}
@@ -45,7 +45,7 @@ not_blank has_sums image some long begins blank =
       | inl empty ↦ omega arith
       | inr half ↦ elim half.1.0 [
         | inl short ↦ omega arith
-        | inr (inl zero) ↦ let never : 83 ≡ 0 = sym begins ∙ zero.1 in omega arith
+        | inr (inl zero) ↦ omega (arith, zero.1)
         | inr (inr other) ↦ other.1 (begins ∙ sym gate)
       ]
     ]
