@@ -1,5 +1,5 @@
 -- Files in memory are never in doubt, and one that begins as SQLite's do holds a database.
-use Rattle.std.proofs.Common.{◌≡◌, ◌≢◌, ◌<◌, ◌≤◌, ℕ, List, [], ◌∷◌, length, take, slice_index, Bool, true, false, IsTrue, refl, sym, ap, subst, ◌∙◌, inl, inr, arith, get_or-take, length-take, zero-add}
+use Rattle.std.proofs.Common.{◌≡◌, ◌<◌, ℕ, List, [], ◌∷◌, length, take, slice_index, Bool, true, false, IsTrue, refl, sym, ap, subst, ◌∙◌, inl, inr, arith, get_or-take, length-take, zero-add}
 use Rattle.std.proofs.lemmas.Bool.{and_from}
 use Rattle.std.proofs.lemmas.Grind.{same_number_lists}
 use Rattle.std.proofs.lemmas.Slice.Eq.{bytes_eq-Decides}
@@ -7,8 +7,7 @@ use Rattle.sqlite_disk.specs.declared.Disk.{Ghosts}
 use Rattle.sqlite_disk.specs.Disk.{Holds, Torn}
 use Rattle.sqlite_wal.specs.Recovery.{Image}
 use Rattle.sqlite_pool.specs.Pool.{files}
-use Rattle.sqlite_pool.specs.Stored.{sealed, used_size}
-use Rattle.sqlite_pool.specs.Header.{first_page}
+use Rattle.sqlite_pool.specs.Stored.{used_size}
 use Rattle.sqlite_pool.proofs.StateLemmas.{clean_is}
 use Rattle.sqlite_pool.proofs.ProbeLemmas.{first_byte}
 use Rattle.sqlite_store.specs.declared.store.FileStore.{FileStore}

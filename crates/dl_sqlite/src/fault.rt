@@ -60,7 +60,7 @@ pub enum DatabaseFault {
     #[error("a transaction is open: commit it first")]
     Uncommitted,
     /// This table has a trigger, or SQLite's part here can't read its definition or that of an index on it.
-    #[error("table {0}: it must have no trigger, and its definition and those of its indexes must be ones that can be read here")]
+    #[error("table {0}: it has a trigger, or its definition or an index on it has what can't be read here, as WITHOUT ROWID: read a plain copy")]
     Unread(String),
     /// The name of this table is empty, or too long for a key.
     #[error("table {0}: its name must have 1 to 64 bytes")]

@@ -93,8 +93,9 @@ fn read_both<R: Files>(rt: &R, alloc: Global, paths: &Paths) -> Result<Reading, 
 /// Rejects a rollback journal that waits to be played back. One that is empty, or begins with a zero, doesn't.
 fn check_journal<R: Files>(rt: &R, alloc: Global, path: &str) -> Result<(), DatabaseFault> {
     match bytes_at(rt, alloc, path)? {
-        Some(journal) if journal.first().is_some_and(|byte| *byte != 0) =>
-            Err(DatabaseFault::Journal(String::from_str(alloc, path)?)),
+        Some(journal) if journal.first().is_some_and(|byte| *byte != 0) => Err(
+            DatabaseFault::Journal(String::from_str(alloc, path)?),
+        ),
         _ => Ok(()),
     }
 }
@@ -114,20 +115,11 @@ fn read_agreed(
         return Err(DatabaseFault::Changed(String::from_str(alloc, path)?));
     }
     drop(second);
-    read_image(
-        alloc,
-        hashing,
-        first.file.as_slice(),
-        first.log.as_slice(),
-    )
+    read_image(alloc, hashing, first.file.as_slice(), first.log.as_slice())
 }
 
 /// The bytes of the file at this path, or `None` if there is nothing.
-fn bytes_at<R: Files>(
-    rt: &R,
-    alloc: Global,
-    path: &str,
-) -> Result<Option<Vec<u8>>, DatabaseFault> {
+fn bytes_at<R: Files>(rt: &R, alloc: Global, path: &str) -> Result<Option<Vec<u8>>, DatabaseFault> {
     match fs::symlink_metadata(rt, path) {
         Ok(found) if found.is_file() && found.nlink() <= 1 => {}
         Ok(_) => return Err(DatabaseFault::NotAFile(String::from_str(alloc, path)?)),

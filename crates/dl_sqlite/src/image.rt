@@ -2,7 +2,7 @@
 
 ghost use Rattle.std.specs.Prelude.{◌≡◌, IsTrue, IfOk};
 ghost use Rattle.sqlite_disk.specs.Memory.{memory_bytes, memory_is_usable};
-ghost use Rattle.sqlite.specs.Files.{file_state, IsOpened};
+ghost use Rattle.sqlite.specs.Files.{file_state};
 ghost use Rattle.dl_sqlite.specs.Image.{IsReadFrom, RecoversTo, begins_well, image_from};
 
 use crate::fault::DatabaseFault;
@@ -81,10 +81,12 @@ fn in_memory(alloc: Global, bytes: &[u8]) -> Result<Memory, DatabaseFault>
 /// Why SQLite's part here doesn't open these bytes: what the header of the file says, or else what kind of error it was.
 fn unopened(file: &[u8], log: &[u8], error: Error) -> DatabaseFault {
     match error {
-        Error::SqliteFailure(ErrorCode::NotADatabase) =>
-            header_fault(file, log).unwrap_or(DatabaseFault::Unsound),
-        Error::SqliteFailure(ErrorCode::DatabaseCorrupt) =>
-            header_fault(file, log).unwrap_or(DatabaseFault::Damaged),
+        Error::SqliteFailure(ErrorCode::NotADatabase) => header_fault(file, log).unwrap_or(
+            DatabaseFault::Unsound,
+        ),
+        Error::SqliteFailure(ErrorCode::DatabaseCorrupt) => header_fault(file, log).unwrap_or(
+            DatabaseFault::Damaged,
+        ),
         error => DatabaseFault::from(error),
     }
 }

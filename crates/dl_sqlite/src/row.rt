@@ -132,7 +132,7 @@ fn misfit(alloc: Global, table: &Table, row: &Row, at: usize, unfit: Unfit) -> D
         Unfit::Real => "a REAL",
         Unfit::Blob => "a BLOB",
         Unfit::NotUtf8 => "a TEXT that isn't UTF-8",
-        Unfit::NoKey => "a TEXT of another length",
+        Unfit::NoKey => "a TEXT of no bytes or of too many",
         Unfit::OutOfMemory => return DatabaseFault::OutOfMemory,
     };
     match placed(alloc, table, row, at, value) {

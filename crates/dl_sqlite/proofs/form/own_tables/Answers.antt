@@ -2,7 +2,7 @@ use Rattle.std.proofs.Common.{◌≡◌, ◌∷◌, ◌++◌, ◌+◌, [], true,
 use Rattle.std.specs.List.{AllByRecursion}
 use Rattle.dl_sqlite.specs.Form.{has_form, is_internal, own_tables}
 use Rattle.dl_sqlite.proofs.Steps.{next_of, none_after}
-use Rattle.dl_sqlite.proofs.Tables.{own_skipped, own_taken}
+use Rattle.dl_sqlite.proofs.Tables.{own_taken}
 use Rattle.dl_sqlite.proofs.form.own_tables.Goals as goal
 
 pub loop-table-preserved : goal.loop-table-preserved

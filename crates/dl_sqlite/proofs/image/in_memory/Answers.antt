@@ -1,4 +1,4 @@
-use Rattle.std.proofs.Common.{length, sym, subst}
+use Rattle.std.proofs.Common.{length, subst}
 use Rattle.sqlite_disk.specs.Disk.{Torn}
 use Rattle.dl_sqlite.proofs.Images.{written_alone}
 use Rattle.dl_sqlite.proofs.image.in_memory.Goals as goal

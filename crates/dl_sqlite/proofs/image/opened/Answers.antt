@@ -1,8 +1,7 @@
-use Rattle.std.proofs.Common.{◌≡◌, List, ℕ, true, refl, sym, ap, ap₂, subst, ◌∙◌}
-use Rattle.sqlite_wal.specs.Recovery.{Image}
+use Rattle.std.proofs.Common.{◌≡◌, true, refl, sym, ap, ap₂, subst, ◌∙◌}
 use Rattle.sqlite.specs.Effect.{Database}
 use Rattle.sqlite.specs.Files.{AreFoundIn, HoldsDatabase, file_state}
-use Rattle.dl_sqlite.specs.Image.{RecoversTo, begins_well, image_from}
+use Rattle.dl_sqlite.specs.Image.{begins_well, image_from}
 use Rattle.dl_sqlite.proofs.Images.{is_made, store_is_clean}
 use Rattle.dl_sqlite.proofs.image.opened.Goals as goal
 

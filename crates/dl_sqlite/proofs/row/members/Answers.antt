@@ -1,5 +1,5 @@
 use Rattle.std.proofs.Common.{◌≡◌, ◌≤◌, ◌∷◌, ◌+◌, drop, length, string_bytes, sym, ap, subst, ◌∙◌}
-use Rattle.serde_json.specs.Data.{put, no_members}
+use Rattle.serde_json.specs.Data.{put}
 use Rattle.serde_json.specs.View.{view, members_view}
 use Rattle.serde_json.proofs.Views.{members_view-insert_entry}
 use Rattle.sqlite_value.specs.Order.{column}

@@ -1,7 +1,7 @@
-use Rattle.std.proofs.Common.{◌≡◌, ◌∷◌, [], true, false, map, sym, ap, subst, ◌∙◌, arith}
+use Rattle.std.proofs.Common.{◌∷◌, [], true, map, sym, ap, subst, ◌∙◌, arith}
 use Rattle.std.proofs.lemmas.List.{map-append}
 use Rattle.serde_json.specs.View.{view}
-use Rattle.sqlite_trees.specs.View.{IsClean, Advances}
+use Rattle.sqlite_trees.specs.View.{Advances}
 use Rattle.dl_sqlite.proofs.Readings.{IsReading, begins, goes_on, ends}
 use Rattle.dl_sqlite.proofs.rows.entries.Goals as goal
 
