@@ -1,3 +1,4 @@
 pub mod Steps
 pub mod Tables
 pub mod Readings
+pub mod Images

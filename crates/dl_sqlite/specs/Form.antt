@@ -43,7 +43,7 @@ is_internal name = bytes_eq (take 7 name) (codes "sqlite_")
 abbrev pub own_tables : List Table → List Table
 own_tables tables = filter (λ t. not (is_internal t.name)) tables
 
--- The schema has no other tables than those of this form: none that SQLite's file holds and that can't be read.
+-- Each table of the schema but SQLite's own has this form, and nothing is kept unread: no table, no index and no trigger.
 pub record IsReadable (schema : Schema) : Type 0 where
   pub form : AllByRecursion (λ t. has_form t ≡ true) (own_tables schema.tables)
   pub known : AllByRecursion (λ v. v.foreign ≡ None) schema.views

@@ -1,3 +1,4 @@
 pub mod Form
 pub mod Rows
 pub mod Read
+pub mod Image

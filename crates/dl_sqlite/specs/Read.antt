@@ -1,5 +1,4 @@
 -- The tables that are read from a database.
-use Rattle.std.specs.Prelude.{◌≡◌}
 use Rattle.serde_json.specs.Data.{array}
 use Rattle.serde_json.specs.View.{items_of}
 use Rattle.sqlite.specs.Effect.{Database}

@@ -6,6 +6,7 @@ ghost use Rattle.dl_sqlite.specs.Form.{IsReadable, has_form, has_json_kind, is_i
 
 use crate::fault::DatabaseFault;
 use crate::row::name_of;
+use dl_values::TABLE_BYTES;
 use sqlite_schema::schema::{Column, Kind, Schema, Table, View};
 use std::alloc::Global;
 
@@ -24,7 +25,7 @@ fn own_tables(alloc: Global, tables: &[Table]) -> Result<Vec<Table>, DatabaseFau
     ensures form { OnOk result (AllByRecursion (λ t. has_form t ≡ true) (own_tables tables.now)) }
 {
     let mut own = Vec::new(alloc);
-    'tables: for table in tables {
+    for table in tables {
         if is_internal(table.name.as_slice()) {
             continue;
         }
@@ -41,11 +42,11 @@ fn is_internal(name: &[u8]) -> bool
     &name[..name.len().min(7)] == b"sqlite_".as_slice()
 }
 
-/// Rejects a schema with a table that can't be read.
+/// Rejects a schema with a table that SQLite's part here keeps unread. A view gives no table, and isn't rejected.
 fn check_views(alloc: Global, views: &[View]) -> Result<(), DatabaseFault>
     ensures { OnOk result (AllByRecursion (λ v. v.foreign ≡ None) views.now) }
 {
-    'views: for view in views {
+    for view in views {
         if let Some(table) = &view.foreign {
             return Err(DatabaseFault::Unread(name_of(alloc, table.as_slice())?));
         }
@@ -57,12 +58,16 @@ fn check_views(alloc: Global, views: &[View]) -> Result<(), DatabaseFault>
 fn check_table(alloc: Global, table: &Table) -> Result<(), DatabaseFault>
     ensures { OnOk result (has_form table.now ≡ true) }
 {
+    let name = table.name.as_slice();
+    if name.is_empty() || name.len() > TABLE_BYTES {
+        return Err(DatabaseFault::TableName(name_of(alloc, name)?));
+    }
     if !starts_with_id(table.columns.as_slice()) {
-        return Err(DatabaseFault::NoId(name_of(alloc, table.name.as_slice())?));
+        return Err(DatabaseFault::NoId(name_of(alloc, name)?));
     }
     match other_column(table.columns.as_slice()) {
         Some(column) => Err(DatabaseFault::Column {
-            table: name_of(alloc, table.name.as_slice())?,
+            table: name_of(alloc, name)?,
             column: name_of(alloc, column.name.as_slice())?,
             kind: kind_name(column),
         }),
@@ -83,7 +88,7 @@ fn starts_with_id(columns: &[Column]) -> bool
 fn other_column(columns: &[Column]) -> Option<&Column>
     ensures { IfNone result (list_all (λ c. has_json_kind c.kind) columns.now ≡ true) }
 {
-    'columns: for column in columns {
+    for column in columns {
         if !has_json_kind(column.kind) {
             return Some(column);
         }
@@ -103,7 +108,7 @@ fn has_json_kind(kind: Kind) -> bool
     matches!(kind, Kind::Text | Kind::Integer)
 }
 
-/// The type of a column, as SQL names it.
+/// The type of a column, as SQL names it. In a table that isn't STRICT, that is the type by which SQLite keeps its values.
 fn kind_name(column: &Column) -> &'static str {
     match column.kind {
         Kind::Integer => "INTEGER",
@@ -111,6 +116,6 @@ fn kind_name(column: &Column) -> &'static str {
         Kind::Text => "TEXT",
         Kind::Blob => "BLOB",
         Kind::Any if column.is_strict => "ANY",
-        Kind::Any => "BLOB",
+        Kind::Any => "BLOB or none",
     }
 }

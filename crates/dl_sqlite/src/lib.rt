@@ -5,10 +5,16 @@
 #![tactic(auto)]
 
 mod fault;
+mod file;
 mod form;
+mod header;
+mod ids;
+mod image;
 mod read;
 mod row;
 mod rows;
 
 pub use fault::DatabaseFault;
+pub use file::read_file;
+pub use image::read_image;
 pub use read::{read_memory, read_tables};

@@ -12,9 +12,10 @@ ghost use Rattle.dl_sqlite.specs.Rows.{AreWhole, table_json, tables_json};
 
 use crate::fault::DatabaseFault;
 use crate::form::readable_tables;
+use crate::ids::repeated_id;
 use crate::row::name_of;
 use crate::rows::entries;
-use dl_source::Tables;
+use dl_source::{TableFault, Tables};
 use serde_json::{Map, Value};
 use sqlite::{Alter, Connection, Error, ErrorCode, MemStore};
 use sqlite_schema::schema::Table;
@@ -37,28 +38,40 @@ pub fn read_memory(
     Ok(tables)
 }
 
-/// Reads all rows of a database, once. With the tables you get its store back. They are the rows that the database had, if its disk
-/// returned what was written to it.
+/// Reads all rows of a database, once. With the tables you get its store back, with the same rows. They are those that the database
+/// had, if its disk returned what was written to it.
 ///
 /// # Errors
-/// `Uncommitted` if a transaction is open. Else the first cause, by the tables of the schema in their order, and in each by its
-/// columns and then its rows: `Unread`, `NoId`, `Column` or `Row`; `Tables` if a table's name or an id is none for a key, or two rows
-/// have the same id; `Sqlite` if the store fails; and `OutOfMemory`.
+/// `Uncommitted` if a transaction is open. Else the first that applies, in this order:
+/// - `Unread` for a table that SQLite's part here can't read.
+/// - Then by the tables, in the order of the schema: `TableName`, `NoId`, or `Column` for the first column of another type.
+/// - Then again by the tables, in each by its rows in the order of their rowids, and in each row by its columns: `Row`.
+/// - `Twice` if two rows of a table have the same id.
+///
+/// Besides, at any step: `Name` for a name that isn't UTF-8, `Sqlite` if the store fails, and `OutOfMemory`. `Tables` is for another
+/// cause that a source has; we know of none.
 pub fn read_tables<S: Alter + Drop>(
     alloc: Global,
     hashing: RandomState,
     conn: Connection<S>,
 ) -> Result<(Tables, S), DatabaseFault>
-    ensures { IfOk result (λ read. IsClean (S.Store.view read.1) → AreRowsOf (state S.Store conn).now read.0) }
+    ensures rows { IfOk result (λ read. IsClean (S.Store.view read.1) → AreRowsOf (state S.Store conn).now read.0) }
+    ensures store { IfOk result (λ read. IsClean (S.Store.view read.1) → (S.Store.view read.1).trees ≡ (state S.Store conn).now.trees) }
 {
     if !conn.is_autocommit() {
         return Err(DatabaseFault::Uncommitted);
     }
     let own = readable_tables(alloc, conn.schema())?;
     let mut store = conn.into_store();
-    let listed = listed(alloc, &mut store, own.as_slice())?;
-    let tables = Tables::from_owned_value(alloc, hashing, Value::Array(listed))?;
-    Ok((tables, store))
+    let tables = listed(alloc, &mut store, own.as_slice())?;
+    match Tables::from_owned_value(alloc, hashing, Value::Array(tables)) {
+        Ok(tables) => Ok((tables, store)),
+        Err(TableFault::DuplicateKey) => {
+            let again = listed(alloc, &mut store, own.as_slice())?;
+            Err(repeated_id(alloc, again.as_slice()))
+        }
+        Err(fault) => Err(DatabaseFault::from(fault)),
+    }
 }
 
 /// The tables as a plan file lists them.
@@ -71,13 +84,14 @@ fn listed<S: Store>(
     ensures json { IfOk result (λ listed. IsClean (S.view store.new) → map view listed.items ≡ tables_json (S.view store.old).trees tables.now) }
     ensures whole { OnOk result (IsClean (S.view store.new) → AreWhole (S.view store.old).trees tables.now) }
     ensures sound { OnOk result (IsClean (S.view store.new) → IsTrue (S.view store.old).is_open) }
+    ensures same { OnOk result (IsClean (S.view store.new) → (S.view store.new).trees ≡ (S.view store.old).trees) }
     ensures clean { doubt (S.view store.old).is_clean ≤ doubt (S.view store.new).is_clean }
 {
     if store.is_broken() {
         return Err(DatabaseFault::Sqlite(Error::SqliteFailure(ErrorCode::Closed)));
     }
     let mut listed = Vec::with_capacity(alloc, tables.len())?;
-    'tables: for table in tables {
+    for table in tables {
         let rows = entries(alloc, store, table)?;
         listed.push(one_table(alloc, table, rows)?)?;
     }

@@ -8,6 +8,7 @@ ghost use Rattle.dl_source.specs.Spelling.{pair as paired};
 ghost use Rattle.dl_sqlite.specs.Rows.{HasJson, HaveJson, IsText, IsWhole, entry_json, json_of, text_of, value_at, with_columns};
 
 use crate::fault::DatabaseFault;
+use dl_values::ID_BYTES;
 use serde_json::{Map, Value};
 use sqlite_schema::schema::Table;
 use sqlite_value::row::Row;
@@ -22,6 +23,7 @@ enum Unfit {
     Real,
     Blob,
     NotUtf8,
+    NoKey,
     OutOfMemory,
 }
 
@@ -59,7 +61,7 @@ fn members(alloc: Global, table: &Table, row: &Row) -> Result<Map<String, Value>
     ensures whole { OnOk result (HaveJson table.now row.now 0 table.now.columns) }
 {
     let mut members = Map::new(alloc);
-    'columns: for (at, column) in table.columns.as_slice().iter().enumerate() {
+    for (at, column) in table.columns.as_slice().iter().enumerate() {
         let value = match json(alloc, row.get(table.place_of(at))) {
             Ok(value) => value,
             Err(unfit) => return Err(misfit(alloc, table, row, at, unfit)),
@@ -84,12 +86,13 @@ fn json(alloc: Global, value: ValueRef<'_>) -> Result<Value, Unfit>
     }
 }
 
-/// An id: a value that is a text.
+/// An id: a value that is a text, of a length that a key's id may have.
 fn id(alloc: Global, value: ValueRef<'_>) -> Result<String, Unfit>
     ensures text { IfOk result (λ s. string_bytes s ≡ text_of (owned value.entry)) }
     ensures is { OnOk result (IsText (owned value.entry)) }
 {
     match value {
+        ValueRef::Text(bytes) if bytes.is_empty() || bytes.len() > ID_BYTES => Err(Unfit::NoKey),
         ValueRef::Text(bytes) => text(alloc, bytes),
         ValueRef::Null => Err(Unfit::Null),
         ValueRef::Int(_) => Err(Unfit::Integer),
@@ -129,6 +132,7 @@ fn misfit(alloc: Global, table: &Table, row: &Row, at: usize, unfit: Unfit) -> D
         Unfit::Real => "a REAL",
         Unfit::Blob => "a BLOB",
         Unfit::NotUtf8 => "a TEXT that isn't UTF-8",
+        Unfit::NoKey => "a TEXT of no bytes or of too many",
         Unfit::OutOfMemory => return DatabaseFault::OutOfMemory,
     };
     match placed(alloc, table, row, at, value) {
@@ -152,10 +156,15 @@ fn placed(
         ValueRef::Int(number) => number,
         _ => 0,
     };
+    let wanted = match at {
+        0 => "a TEXT of 1 to 256 bytes in UTF-8",
+        _ => "a TEXT in UTF-8, an INTEGER or NULL",
+    };
     Ok(DatabaseFault::Row {
         table: name_of(alloc, table.name.as_slice())?,
         row,
         column: name_of(alloc, column)?,
         value,
+        wanted,
     })
 }

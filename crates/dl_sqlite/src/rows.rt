@@ -33,7 +33,7 @@ pub(crate) fn entries<S: Store>(
     let mut rows = Vec::new(alloc);
     let mut row = Row::new(alloc);
     store.seek(CURSOR, table.tree, &row, Direction::Forward)?;
-    'rows: for _ in 0..u64::MAX {
+    for _ in 0..u64::MAX {
         let found = store.next(CURSOR, &mut row)?;
         if !found {
             return Ok(rows);

@@ -1,12 +1,12 @@
-use Rattle.std.proofs.Common.{◌≡◌, ◌∷◌, ◌+◌, ◌&&◌, true, drop, sym, ap, ◌∙◌, arith}
+use Rattle.std.proofs.Common.{◌≡◌, ◌+◌, ◌&&◌, true, drop, sym, ap, ◌∙◌, arith}
 use Rattle.std.specs.List.{list_all}
 use Rattle.dl_sqlite.specs.Form.{has_json_kind}
 use Rattle.dl_sqlite.proofs.Steps.{next_of, none_after}
 use Rattle.dl_sqlite.proofs.form.other_column.Goals as goal
 
-pub columns-preserved : goal.columns-preserved
-columns-preserved c =
-    let l = c.columns in
+pub loop-column-preserved : goal.loop-column-preserved
+loop-column-preserved c =
+    let l = c.loop-column in
     let xs = c.args.columns.now in
     let x = c.column-item.result in
     let rest = list_all (λ c. has_json_kind c.kind) (drop (l.column-index + 1) xs) in
@@ -16,4 +16,4 @@ columns-preserved c =
 
 pub returns : goal.returns
 returns c =
-    sym c.columns.invariant ∙ ap (list_all (λ c. has_json_kind c.kind)) (none_after c.args.columns.now c.columns.column-index (omega arith))
+    sym c.loop-column.invariant ∙ ap (list_all (λ c. has_json_kind c.kind)) (none_after c.args.columns.now c.loop-column.column-index (omega arith))

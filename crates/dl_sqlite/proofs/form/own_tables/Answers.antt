@@ -2,16 +2,16 @@ use Rattle.std.proofs.Common.{◌≡◌, ◌∷◌, ◌++◌, ◌+◌, [], true,
 use Rattle.std.specs.List.{AllByRecursion}
 use Rattle.dl_sqlite.specs.Form.{has_form, is_internal, own_tables}
 use Rattle.dl_sqlite.proofs.Steps.{next_of, none_after}
-use Rattle.dl_sqlite.proofs.Tables.{own_skipped, own_taken}
+use Rattle.dl_sqlite.proofs.Tables.{own_taken}
 use Rattle.dl_sqlite.proofs.form.own_tables.Goals as goal
 
-pub tables-preserved : goal.tables-preserved
-tables-preserved c =
-    let l = c.tables in
+pub loop-table-preserved : goal.loop-table-preserved
+loop-table-preserved c =
+    let l = c.loop-table in
     let xs = c.args.tables.now in
     let x = c.table-item.result in
     let rest = own_tables (drop (l.table-index + 1) xs) in
-    let here = next_of xs l.table-index x c.tables-test.true c.table-item.is in
+    let here = next_of xs l.table-index x c.loop-table-test.true c.table-item.is in
     let kept : is_internal x.name ≡ false = ap is_internal (sym c.as_slice.ensures) ∙ sym c.is_internal.ensures ∙ c.if-is_internal.false in
     let own : own_tables (drop l.table-index xs) ≡ x ∷ rest = ap own_tables here ∙ own_taken x (drop (l.table-index + 1) xs) kept in
     record {
@@ -22,10 +22,10 @@ tables-preserved c =
 
 pub returns-clause-tables : goal.returns-clause-tables
 returns-clause-tables c =
-    let none = none_after c.args.tables.now c.tables.table-index (omega arith) in
-    sym (append-nil c.tables.own.items) ∙ ap (λ ts. c.tables.own.items ++ own_tables ts) (sym none) ∙ c.tables.invariant.tables
+    let none = none_after c.args.tables.now c.loop-table.table-index (omega arith) in
+    sym (append-nil c.loop-table.own.items) ∙ ap (λ ts. c.loop-table.own.items ++ own_tables ts) (sym none) ∙ c.loop-table.invariant.tables
 
 pub returns-clause-form : goal.returns-clause-form
 returns-clause-form c =
-    let none = none_after c.args.tables.now c.tables.table-index (omega arith) in
-    c.tables.invariant.form (subst (λ ts. AllByRecursion (λ t. has_form t ≡ true) (own_tables ts)) (sym none) tt)
+    let none = none_after c.args.tables.now c.loop-table.table-index (omega arith) in
+    c.loop-table.invariant.form (subst (λ ts. AllByRecursion (λ t. has_form t ≡ true) (own_tables ts)) (sym none) tt)

@@ -4,8 +4,8 @@ use Rattle.std.specs.List.{AllByRecursion}
 use Rattle.dl_sqlite.specs.Form.{has_form, own_tables}
 use Rattle.dl_sqlite.proofs.form.own_tables.Given as goal
 
-abbrev pub invariant-tables : goal.invariant-tables
-invariant-tables l = record {
+abbrev pub invariant-loop-table : goal.invariant-loop-table
+invariant-loop-table l = record {
   tables : l.own.items ++ own_tables (drop l.table-index l.tables) ≡ own_tables l.tables;
   form : AllByRecursion (λ t. has_form t ≡ true) (own_tables (drop l.table-index l.tables)) → AllByRecursion (λ t. has_form t ≡ true) (own_tables l.tables);
 }

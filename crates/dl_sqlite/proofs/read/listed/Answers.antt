@@ -10,15 +10,15 @@ use Rattle.dl_sqlite.proofs.Steps.{next_of, none_after}
 use Rattle.dl_sqlite.proofs.Tables.{has_columns, open_unless_broken}
 use Rattle.dl_sqlite.proofs.read.listed.Goals as goal
 
-pub tables-preserved : goal.tables-preserved
-tables-preserved g c =
-    let l = c.tables in
+pub loop-table-preserved : goal.loop-table-preserved
+loop-table-preserved g c =
+    let l = c.loop-table in
     let xs = c.args.tables.now in
     let t = c.table-item.result in
     let first = g.S.Store.view c.args.store.now in
     let was = g.S.Store.view l.store in
     let now = g.S.Store.view c.entries.new.store in
-    let here = next_of xs l.table-index t c.tables-test.true c.table-item.is in
+    let here = next_of xs l.table-index t c.loop-table-test.true c.table-item.is in
     let rest = tables_json first.trees (drop (l.table-index + 1) xs) in
     let pushed = ap (map view) c.in_ok-push.ensures.items ∙ map-append view l.listed.items (c.in_ok-one_table.field-0 ∷ []) in
     record {
@@ -40,24 +40,27 @@ tables-preserved g c =
 
 pub entries-requires : goal.entries-requires
 entries-requires g c =
-    let here = next_of c.args.tables.now c.tables.table-index c.table-item.result c.tables-test.true c.table-item.is in
-    has_columns c.table-item.result (subst (AllByRecursion (λ t. has_form t ≡ true)) here c.tables.invariant.form).0
+    let here = next_of c.args.tables.now c.loop-table.table-index c.table-item.result c.loop-table-test.true c.table-item.is in
+    has_columns c.table-item.result (subst (AllByRecursion (λ t. has_form t ≡ true)) here c.loop-table.invariant.form).0
 
 pub returns-clause-json : goal.returns-clause-json
 returns-clause-json g c clean =
     let first = g.S.Store.view c.args.store.now in
-    let none = none_after c.args.tables.now c.tables.table-index c.tables-test.false in
-    sym (append-nil (map view c.tables.listed.items)) ∙ ap (λ ts. map view c.tables.listed.items ++ tables_json first.trees ts) (sym none)
-    ∙ c.tables.invariant.json clean
+    let none = none_after c.args.tables.now c.loop-table.table-index c.loop-table-test.false in
+    sym (append-nil (map view c.loop-table.listed.items)) ∙ ap (λ ts. map view c.loop-table.listed.items ++ tables_json first.trees ts) (sym none)
+    ∙ c.loop-table.invariant.json clean
 
 pub returns-clause-whole : goal.returns-clause-whole
 returns-clause-whole g c clean =
     let first = g.S.Store.view c.args.store.now in
-    let none = none_after c.args.tables.now c.tables.table-index c.tables-test.false in
-    c.tables.invariant.whole clean (subst (AreWhole first.trees) (sym none) tt)
+    let none = none_after c.args.tables.now c.loop-table.table-index c.loop-table-test.false in
+    c.loop-table.invariant.whole clean (subst (AreWhole first.trees) (sym none) tt)
 
 pub returns-clause-sound : goal.returns-clause-sound
 returns-clause-sound g c clean =
     let first = g.S.Store.view c.args.store.now in
-    let early : IsClean first = omega (arith, c.tables.invariant.clean) in
+    let early : IsClean first = omega (arith, c.loop-table.invariant.clean) in
     open_unless_broken first.is_open first.is_broken (g.met.S.Store.broken_if_shut c.args.store.now) (sym (c.is_broken.ensures early) ∙ c.if-is_broken.false)
+
+pub returns-clause-same : goal.returns-clause-same
+returns-clause-same g c clean = c.loop-table.invariant.same clean

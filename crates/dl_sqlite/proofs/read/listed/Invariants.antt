@@ -7,8 +7,8 @@ use Rattle.dl_sqlite.specs.Form.{has_form}
 use Rattle.dl_sqlite.specs.Rows.{AreWhole, tables_json}
 use Rattle.dl_sqlite.proofs.read.listed.Given as goal
 
-abbrev pub invariant-tables : goal.invariant-tables
-invariant-tables g l =
+abbrev pub invariant-loop-table : goal.invariant-loop-table
+invariant-loop-table g l =
     let first = g.S.Store.view l.fn.store in
     let now = g.S.Store.view l.store in
     record {

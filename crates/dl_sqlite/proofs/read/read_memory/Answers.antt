@@ -3,4 +3,4 @@ use Rattle.std.proofs.Common.{true, refl}
 use Rattle.dl_sqlite.proofs.read.read_memory.Goals as goal
 
 pub returns : goal.returns
-returns c = c.in_ok-tables.ensures (no_doubt true refl)
+returns c = c.in_ok-tables.ensures.rows (no_doubt true refl)
