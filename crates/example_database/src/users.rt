@@ -1,0 +1,69 @@
+//! A source that queries a SQLite file.
+
+use dl_desk::{BatchAnswer, FetchKey, Json, Message, Outcome, Outcomes};
+use dl_source::Fetch;
+use serde_json::Value;
+use sqlite::{Connection, Error, ErrorCode, File, FileStore, params};
+use std::alloc::{AllocError, Global};
+
+/// The users of a database, by their ids. Each batch opens the file anew. A file has one user at a time, so let one worker fetch.
+#[derive(Drop)]
+pub(crate) struct Users<'a> {
+    rt: &'a HostRuntime,
+    path: &'a str,
+}
+
+impl<'a> Users<'a> {
+    /// The users of the database at this path.
+    pub(crate) fn at(rt: &'a HostRuntime, path: &'a str) -> Users<'a> {
+        Users { rt, path }
+    }
+}
+
+impl Fetch for Users<'_> {
+    /// The name of each user. If the database fails, the batch fails, with the text of the failure.
+    fn fetch(&self, alloc: Global, keys: &[FetchKey]) -> Result<BatchAnswer, AllocError> {
+        match names(self.rt, alloc, self.path, keys) {
+            Ok(outcomes) => Ok(BatchAnswer::Each(outcomes)),
+            Err(Error::SqliteFailure(ErrorCode::OutOfMemory)) => Err(AllocError),
+            Err(fault) => {
+                let text = fault.to_string(alloc)?;
+                Ok(BatchAnswer::Break(Message::new(alloc, text.as_str())?))
+            }
+        }
+    }
+}
+
+/// The outcome of each key, in order.
+fn names(
+    rt: &HostRuntime,
+    alloc: Global,
+    path: &str,
+    keys: &[FetchKey],
+) -> Result<Outcomes, Error> {
+    let mut conn = Connection::open(rt, path)?;
+    let mut outcomes = Vec::with_capacity(alloc, keys.len())?;
+    for key in keys {
+        outcomes.push(name(alloc, &mut conn, key.id())?)?;
+    }
+    Ok(Outcomes::new(outcomes))
+}
+
+/// The name of the user with this id, or that there is no such row.
+fn name(
+    alloc: Global,
+    conn: &mut Connection<FileStore<File>>,
+    id: &str,
+) -> Result<Outcome, Error> {
+    match conn.query_row("SELECT name FROM user WHERE id = ?1", params![id]) {
+        Ok(row) => {
+            let name = row.get::<String>(0)?;
+            Ok(Outcome::Value(Json::new(alloc, Value::String(name))?))
+        }
+        Err(Error::QueryReturnedNoRows) => {
+            let text = Message::new(alloc, "no row")?;
+            Ok(Outcome::KeyError(text))
+        }
+        Err(fault) => Err(fault),
+    }
+}
