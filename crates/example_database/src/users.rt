@@ -50,11 +50,7 @@ fn names(
 }
 
 /// The name of the user with this id, or that there is no such row.
-fn name(
-    alloc: Global,
-    conn: &mut Connection<FileStore<File>>,
-    id: &str,
-) -> Result<Outcome, Error> {
+fn name(alloc: Global, conn: &mut Connection<FileStore<File>>, id: &str) -> Result<Outcome, Error> {
     match conn.query_row("SELECT name FROM user WHERE id = ?1", params![id]) {
         Ok(row) => {
             let name = row.get::<String>(0)?;
