@@ -21,7 +21,7 @@ pub(crate) fn keys_text(alloc: Global, keys: &[FetchKey]) -> Result<String, Allo
     ensures { IfOk result (λ text. string_bytes text ≡ keys_text keys.now) }
 {
     let mut items = Vec::with_capacity(alloc, keys.len())?;
-    'keys: for key in keys {
+    for key in keys {
         items.push(key_value(alloc, key)?)?;
     }
     Value::Array(items).to_string(alloc)

@@ -10,6 +10,6 @@ use Rattle.dl_plans.proofs.json_text.keys_text.Goals as goal
 pub returns : goal.returns
 returns c =
     let keys = c.args.keys.now in
-    let all : map view c.keys.items.items ≡ map key_tree keys =
-    c.keys.invariant ∙ ap (map key_tree) (take_all c.keys.key-index keys (omega (arith, c.keys-test.false))) in
-    keys_written string_bytes keys _ c.to_string.result (view-Array c.keys.items ∙ ap (λ ds. array (items_of ds)) all) c.to_string.ensures.text
+    let all : map view c.loop-key.items.items ≡ map key_tree keys =
+    c.loop-key.invariant ∙ ap (map key_tree) (take_all c.loop-key.key-index keys (omega (arith, c.loop-key-test.false))) in
+    keys_written string_bytes keys _ c.to_string.result (view-Array c.loop-key.items ∙ ap (λ ds. array (items_of ds)) all) c.to_string.ensures.text

@@ -4,5 +4,5 @@ use Rattle.serde_json.specs.View.{view}
 use Rattle.dl_documents.specs.Script.{key_tree}
 use Rattle.dl_plans.proofs.json_text.keys_text.Given as goal
 
-abbrev pub invariant-keys : goal.invariant-keys
-invariant-keys l = map view l.items.items ≡ map key_tree (take l.key-index l.keys)
+abbrev pub invariant-loop-key : goal.invariant-loop-key
+invariant-loop-key l = map view l.items.items ≡ map key_tree (take l.key-index l.keys)
