@@ -1,6 +1,9 @@
 mod BatchTexts
 pub mod Bytes
 mod CommandMatches
+mod JoinedTables
 mod KeyTexts
 mod MigratedAnswers
 pub mod Runs
+mod TableNames
+pub mod ThreadSafety

@@ -1,7 +1,5 @@
 //! The parts of the program `plans`: its command line; what a document gives, over a reader and a writer ([`run`]); the
 //! texts of scripts and reports; the file of a picture; migration; and the lines and statuses of failures.
-//!
-//! The label of a loop is its name in `proofs/`.
 #![tactic(auto)]
 
 mod answer_lines;
@@ -10,6 +8,7 @@ mod command;
 mod document;
 mod fault;
 mod invocation;
+mod joined_tables;
 mod json_text;
 pub mod laws;
 mod migration;
@@ -20,6 +19,7 @@ mod script_text;
 mod settings;
 mod status;
 mod streams;
+mod table_names;
 
 pub use command::options;
 pub use dl_desk::DeskCall;
