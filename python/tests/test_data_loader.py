@@ -342,6 +342,18 @@ class Memo(unittest.IsolatedAsyncioTestCase):
         await loader.load_many(["a", "b"])
         self.assertEqual(batches, [["a", "b"], ["a"], ["a", "b"]])
 
+    async def test_a_key_that_is_cleared_and_loaded_again_is_in_another_batch(self):
+        for clear in (lambda loader: loader.clear("a"), lambda loader: loader.clear_all()):
+            batches = []
+            loader = loader_of(batches)
+            loads = [loader.load("a"), loader.load("b")]
+            clear(loader)
+            loads += [loader.load("a"), loader.load("a")]
+            clear(loader)
+            loads += [clear(loader).load("a"), loader.prime("c", 1).load("c")]
+            self.assertEqual(await asyncio.gather(*loads), ["a", "b", "a", "a", "a", 1])
+            self.assertEqual(batches, [["a", "b"], ["a"], ["a"]])
+
     async def test_held_tells_what_is_held_and_loads_nothing(self):
         batches = []
         loader = loader_of(batches)

@@ -54,6 +54,18 @@ class Loaded(unittest.IsolatedAsyncioTestCase):
                 clear(loader)
                 self.assertEqual(counted(fetch.values), 0)
 
+    async def test_no_key_stays_that_is_cleared_before_it_is_sent(self):
+        for clear in (lambda loader: loader.clear_all(), lambda loader: [loader.clear(key()) for key in keys]):
+            loader = DataLoader(Counted())
+            made = [Value() for _ in range(10)]
+            keys = [weakref.ref(key) for key in made]
+            loads = loader.load_many(made)
+            clear(loader)
+            del made
+            await loads
+            await turns(3)
+            self.assertEqual(counted(keys), 0)
+
     async def test_no_value_stays_that_is_cleared_while_it_is_loaded(self):
         fetch = Counted()
         loader = DataLoader(fetch)

@@ -6,4 +6,4 @@ from ._options import Counters
 from .data_loader import DataLoader
 
 __all__ = ["Counters", "DataLoader", "LoaderFull"]
-__version__ = "0.4.0"
+__version__ = "0.4.1"

@@ -77,6 +77,7 @@ typedef struct {
     PyObject *get_cache_key; /* a callable, or NULL */
     PyObject *cache_map;     /* a mapping that is the memo in the desk's place, or NULL */
     PyObject *keys;          /* a dict: what is known of each key, or NULL */
+    PyObject *cleared;       /* a dict: the same of keys that were cleared while they were collected, or NULL */
     uint64_t next_number;    /* none from this one on was given to a key */
     PyObject *task;          /* a task, or NULL */
     PyObject *task_batches;  /* the list of its batches that haven't ended, or NULL */
@@ -274,18 +275,51 @@ static PyObject *keys_of(Desk *self, bool is_new)
     return self->keys;
 }
 
+/* The dict of the keys that were cleared while they were collected, made if there is none. Until these are sent, the desk has to
+ * know them by the same numbers, so that no batch gets a key twice. A new reference. */
+static PyObject *cleared_of(Desk *self)
+{
+    if (self->cleared == NULL) {
+        self->cleared = PyDict_New();
+    }
+    Py_XINCREF(self->cleared);
+    return self->cleared;
+}
+
+/* What was known of such a key: a new reference, or NULL, also with an exception. */
+static Known *cleared_known(Desk *self, PyObject *cache_key)
+{
+    PyObject *cleared = self->cleared;
+    Known *known;
+
+    if (cleared == NULL) {
+        return NULL;
+    }
+    Py_INCREF(cleared);
+    known = (Known *)PyDict_GetItemWithError(cleared, cache_key);
+    Py_XINCREF(known);
+    Py_DECREF(cleared);
+    return known;
+}
+
 /* Begins to know a key, unless another call does so meanwhile: a key's `__hash__` and `__eq__` may load keys, and let other
  * threads run. A new reference. */
 static Known *new_known(Desk *self, PyObject *keys, PyObject *cache_key)
 {
-    Known *known = PyObject_New(Known, (PyTypeObject *)self->module->known_type), *kept;
+    Known *known = cleared_known(self, cache_key), *kept;
 
-    if (known == NULL) {
+    if (known == NULL && PyErr_Occurred()) {
         return NULL;
     }
-    known->number = self->next_number++;
-    known->place = NO_CELL;
-    known->done = NULL;
+    if (known == NULL) {
+        known = PyObject_New(Known, (PyTypeObject *)self->module->known_type);
+        if (known == NULL) {
+            return NULL;
+        }
+        known->number = self->next_number++;
+        known->place = NO_CELL;
+        known->done = NULL;
+    }
     kept = (Known *)PyObject_CallMethodObjArgs(keys, self->module->setdefault, cache_key, known, NULL);
     Py_DECREF(known);
     return kept;
@@ -553,6 +587,7 @@ static void renew(Desk *self, size_t count)
     self->first_batch += self->batch_count;
     self->batch_count = 0;
     Py_CLEAR(self->keys);
+    Py_CLEAR(self->cleared);
 }
 
 /* Makes room for so many cells more. */
@@ -1518,14 +1553,53 @@ static PyObject *desk_prime(Desk *self, PyObject *const *args, Py_ssize_t count)
 
 /* Clears. */
 
+static bool is_collected(const Desk *self, uint32_t place)
+{
+    return place != NO_CELL && self->cells[place].state == COLLECTED;
+}
+
+/* Keeps the number of a key until what is collected is sent. */
+static bool keep_number(Desk *self, PyObject *cache_key, Known *known)
+{
+    PyObject *cleared = cleared_of(self);
+    bool is_kept = cleared != NULL && PyDict_SetItem(cleared, cache_key, (PyObject *)known) == 0;
+
+    Py_XDECREF(cleared);
+    return is_kept;
+}
+
+/* The same of all keys, if any is collected. */
+static bool keep_numbers(Desk *self)
+{
+    uint32_t place = self->cell_count;
+    PyObject *keys, *cleared;
+    bool are_kept;
+
+    while (place > 0 && !is_collected(self, place - 1)) {
+        place--;
+    }
+    if (place == 0 || (keys = keys_of(self, false)) == NULL) {
+        return true;
+    }
+    cleared = cleared_of(self);
+    are_kept = cleared != NULL && PyDict_Update(cleared, keys) == 0;
+    Py_XDECREF(cleared);
+    Py_DECREF(keys);
+    return are_kept;
+}
+
 /* Has the desk forget a key that is known, and forgets it. */
 static PyObject *clear_known(Desk *self, PyObject *cache_key, Known *known)
 {
     KeyText text = key_text(known->number);
-    uint32_t code = dl_desk_clear(&self->desk, KEY(text));
+    uint32_t code;
     PyObject *keys;
     bool is_cleared;
 
+    if (is_collected(self, known->place) && !keep_number(self, cache_key, known)) {
+        return NULL;
+    }
+    code = dl_desk_clear(&self->desk, KEY(text));
     if (code != DL_DONE) {
         return raise_code(self, code);
     }
@@ -1581,7 +1655,7 @@ static PyObject *desk_clear_all(Desk *self, PyObject *Py_UNUSED(nothing))
 {
     uint32_t code;
 
-    if (!is_in_thread(self)) {
+    if (!is_in_thread(self) || !keep_numbers(self)) {
         return NULL;
     }
     code = dl_desk_clear_all(&self->desk);
@@ -1687,6 +1761,7 @@ static bool send(Desk *self, PyObject *batches)
     for (uint32_t batch = sent.first; batch < sent.first + sent.count; batch++) {
         note_sent(self, batch);
     }
+    Py_CLEAR(self->cleared);
     return true;
 }
 
@@ -1945,6 +2020,7 @@ static int desk_traverse(Desk *self, visitproc visit, void *arg)
     Py_VISIT(self->get_cache_key);
     Py_VISIT(self->cache_map);
     Py_VISIT(self->keys);
+    Py_VISIT(self->cleared);
     Py_VISIT(self->task);
     Py_VISIT(self->task_batches);
     Py_VISIT(self->tasks);
@@ -1977,6 +2053,7 @@ static int desk_forget(Desk *self)
     Py_CLEAR(self->get_cache_key);
     Py_CLEAR(self->cache_map);
     Py_CLEAR(self->keys);
+    Py_CLEAR(self->cleared);
     Py_CLEAR(self->task);
     Py_CLEAR(self->task_batches);
     Py_CLEAR(self->tasks);

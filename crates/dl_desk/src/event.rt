@@ -4,6 +4,7 @@ use crate::replies::{Jobs, Replies};
 use crate::reply::LoadReply;
 use crate::shared::Shared;
 use dl_values::{BatchFault, FetchKey, Keys, Outcome, Outcomes};
+use std::fmt;
 
 /// A call of a shared loader, with its arguments.
 #[derive(Debug, Drop)]
@@ -56,6 +57,41 @@ pub struct Event {
     pub caller: u32,
     pub call: Call,
     pub reply: Reply,
+}
+
+/// On one line, such as `caller 1 load user/u1: hit 0`.
+impl fmt::Display for Event {
+    fn fmt<W: fmt::Write>(&self, f: &mut fmt::Formatter<W>) -> fmt::Result {
+        write!(f, "caller {} {}: {}", self.caller, self.call, self.reply)
+    }
+}
+
+impl fmt::Display for Call {
+    fn fmt<W: fmt::Write>(&self, f: &mut fmt::Formatter<W>) -> fmt::Result {
+        match self {
+            Call::Load(key) => write!(f, "load {key}"),
+            Call::LoadMany(keys) => write!(f, "loadMany {keys}"),
+            Call::Prime(key, outcome) => write!(f, "prime {key} by {outcome}"),
+            Call::Clear(key) => write!(f, "clear {key}"),
+            Call::ClearAll => f.write_str("clearAll"),
+            Call::Dispatch => f.write_str("dispatch"),
+            Call::Settle { batch, outcomes } => write!(f, "settle batch {batch} by {outcomes}"),
+            Call::Fail { batch, fault } => write!(f, "fail batch {batch} by {fault}"),
+        }
+    }
+}
+
+impl fmt::Display for Reply {
+    fn fmt<W: fmt::Write>(&self, f: &mut fmt::Formatter<W>) -> fmt::Result {
+        match self {
+            Reply::Loaded(reply) => write!(f, "{reply}"),
+            Reply::Many(replies) => write!(f, "{replies}"),
+            Reply::Primed(cell) => write!(f, "primed {cell}"),
+            Reply::Kept => f.write_str("kept"),
+            Reply::Done => f.write_str("done"),
+            Reply::Sent(jobs) => write!(f, "sent {jobs}"),
+        }
+    }
 }
 
 // Most events are loads, of which only the key is let go.

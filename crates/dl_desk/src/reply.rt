@@ -1,6 +1,7 @@
 //! Replies of a desk.
 
 use dl_values::Job;
+use std::fmt;
 
 /// The reply to a load: the cell that will have the key's outcome.
 #[derive(Clone, Copy, Debug, PartialEq, Eq)]
@@ -9,6 +10,16 @@ pub enum LoadReply {
     Hit(u32),
     /// The memo didn't hold the key: a new cell, and the batch that will fetch it.
     Fresh { cell: u32, batch: u32 },
+}
+
+/// The cell, and of a new one the batch, such as `hit 0` or `fresh 1 in batch 0`.
+impl fmt::Display for LoadReply {
+    fn fmt<W: fmt::Write>(&self, f: &mut fmt::Formatter<W>) -> fmt::Result {
+        match self {
+            LoadReply::Hit(cell) => write!(f, "hit {cell}"),
+            LoadReply::Fresh { cell, batch } => write!(f, "fresh {cell} in batch {batch}"),
+        }
+    }
 }
 
 /// The reply to a prime.

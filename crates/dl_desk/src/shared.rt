@@ -4,13 +4,13 @@ ghost use Rattle.std.specs.Prelude.{◌≡◌, IfOk};
 ghost use Rattle.std.specs.Arc.{arc_value};
 
 use std::alloc::{AllocError, Global};
+use std::fmt;
 use std::marker::Model;
 use std::ops::Deref;
 use std::sync::Arc;
 
 /// A value in a block of its own, which several owners share, so that each of them stays small. A copy costs one atomic
 /// step. Contracts see the value.
-#[derive(Debug)]
 pub struct Shared<T> {
     value: Arc<T>,
 }
@@ -30,6 +30,18 @@ impl<T> Model for Shared<T> {
     ghost coded = { T.code };
 
     ghost view = { λ s. arc_value s.value };
+}
+
+impl<T: fmt::Debug> fmt::Debug for Shared<T> {
+    fn fmt<W: fmt::Write>(&self, f: &mut fmt::Formatter<W>) -> fmt::Result {
+        write!(f, "{:?}", *self.value)
+    }
+}
+
+impl<T: fmt::Display> fmt::Display for Shared<T> {
+    fn fmt<W: fmt::Write>(&self, f: &mut fmt::Formatter<W>) -> fmt::Result {
+        write!(f, "{}", *self.value)
+    }
 }
 
 impl<T> Deref for Shared<T> {

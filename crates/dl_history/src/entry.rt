@@ -10,6 +10,7 @@ use crate::journal::Journal;
 use crate::name::LoaderName;
 use dl_cells::{CellRow, Reader};
 use dl_desk::{Ending, Event};
+use std::fmt;
 use std::marker::{Model, PhantomData};
 
 /// What an entry of a pass is, by places of the history and numbers of cells.
@@ -19,6 +20,16 @@ pub enum EntryKind {
     Call { at: u32 },
     /// The outcome of a cell that the caller has seen, and the place of the event that gave it.
     Saw { cell: u32, at: u32 },
+}
+
+/// Such as `event 3`, or `cell 0 of event 5`.
+impl fmt::Display for EntryKind {
+    fn fmt<W: fmt::Write>(&self, f: &mut fmt::Formatter<W>) -> fmt::Result {
+        match self {
+            EntryKind::Call { at } => write!(f, "event {at}"),
+            EntryKind::Saw { cell, at } => write!(f, "cell {cell} of event {at}"),
+        }
+    }
 }
 
 /// An event in the log, and its place there. Contracts see both.
@@ -184,6 +195,13 @@ impl<L: LoaderName> Model for Entry<L> {
     ghost use Rattle.dl_history.specs.Inside.Entries.{entry_of};
 
     ghost view = { λ e. entry_of e.kind };
+}
+
+impl<L: LoaderName> fmt::Display for Entry<L> {
+    fn fmt<W: fmt::Write>(&self, f: &mut fmt::Formatter<W>) -> fmt::Result {
+        let kind = self.kind();
+        write!(f, "{kind}")
+    }
 }
 
 impl<L: LoaderName> Entry<L> {

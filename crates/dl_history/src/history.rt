@@ -24,6 +24,7 @@ use crate::outline::Outline;
 pub use batches::{Batches, EndedBatch};
 use dl_desk::{BatchState, Desk, End, Outcome};
 use std::alloc::{AllocError, Global};
+use std::fmt;
 use std::marker::Model;
 
 /// The history of a closed loader: its events in order, and what each caller knows of them.
@@ -37,7 +38,7 @@ use std::marker::Model;
 ///
 /// ```rust
 /// match loader.close(alloc, passes) {
-///     Ok(history) => println!(rt; "{} events", history.events().len())?,
+///     Ok(history) => print!(rt; "{history}")?,
 ///     Err((fault, _, _)) => return Err(fault.into()),
 /// }
 /// ```
@@ -79,6 +80,18 @@ impl Model for History {
 
     ghost invariant = { λ h. (service : Service)
         × AreHistoryFields service (loader_state h.events h.desk.book h.cells) (history_of h.events (accounts_at h.events h.outlines.items)) };
+}
+
+/// A line for each event: its place, its caller, the call and the reply, such as `3 caller 1 load user/u1: hit 0`.
+impl fmt::Display for History {
+    fn fmt<W: fmt::Write>(&self, f: &mut fmt::Formatter<W>) -> fmt::Result {
+        for at in 0..self.events.len() {
+            if let Some(event) = self.events.get(at) {
+                writeln!(f, "{at} {event}")?;
+            }
+        }
+        Ok(())
+    }
 }
 
 impl History {

@@ -47,7 +47,7 @@ pub(crate) struct GivenTicket {
 ///     load_and_print(rt, alloc, source, &loader, pass)?;
 /// }
 /// match loader.close(alloc, passes) {
-///     Ok(history) => println!(rt; "{} events", history.events().len())?,
+///     Ok(history) => print!(rt; "{history}")?,
 ///     Err((fault, _, _)) => return Err(fault.into()),
 /// }
 /// ```

@@ -1,2 +1,3 @@
 pub mod BatchCounts
 pub mod EventCounts
+mod KeyTexts

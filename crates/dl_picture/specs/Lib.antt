@@ -1,3 +1,4 @@
+pub mod JsonText
 pub mod Numbers
 pub mod Script
 pub mod Xml

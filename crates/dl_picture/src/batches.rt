@@ -36,7 +36,7 @@ pub(crate) fn batch_numbers(batches: &Batches<'_>) -> Result<BatchNumbers, Alloc
     ensures { IfOk result (AreBatchNumbers (atoms (past batches.now))) }
 {
     let mut numbers = BatchNumbers::of_none();
-    'batches: for number in 0..u32::MAX {
+    for number in 0..u32::MAX {
         match batches.get(number) {
             Some(batch) => numbers = numbers.with(batch.keys().len())?,
             None => return Ok(numbers),
@@ -53,7 +53,7 @@ pub(crate) fn desk_numbers(desk: &Desk) -> Result<BatchNumbers, AllocError>
     ensures { IfOk result (λ numbers. (history : List Atom) → StandsFor desk.now.book history → AreBatchNumbers history numbers) }
 {
     let mut numbers = BatchNumbers::of_none();
-    'batches: for number in 0..u32::MAX {
+    for number in 0..u32::MAX {
         match desk.batch(number) {
             Some(batch) => numbers = numbers.with(batch.keys().len())?,
             None => return Ok(numbers),

@@ -21,8 +21,7 @@ use std::alloc::{AllocError, Global};
 /// The picture of a report, from `crates/dl_plans`:
 ///
 /// ```rust
-/// let plans = report.rounds().len().min(MOST_PLANS) as u32;
-/// history_picture(alloc, report.history(), plans)
+/// history_picture(alloc, report.history(), plans_of(report))
 /// ```
 pub fn history_picture(alloc: Global, history: &History, plans: u32) -> Result<String, AllocError> {
     let numbers = history_numbers(history)?;

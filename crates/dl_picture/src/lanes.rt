@@ -82,7 +82,7 @@ fn call_lines<'a>(cells: &'a [Mark], keys: &'a [FetchKey], reply: &'a Reply) -> 
 }
 
 /// The keys that a call names.
-fn keys_of(call: &Call) -> &[FetchKey] {
+pub(crate) fn keys_of(call: &Call) -> &[FetchKey] {
     match call {
         Call::Load(key) | Call::Prime(key, _) | Call::Clear(key) => std::slice::from_ref(key),
         Call::LoadMany(keys) => keys.as_slice(),
@@ -108,7 +108,7 @@ pub(crate) fn add_batches(drawing: &mut Drawing, history: &History, plans: u32) 
 }
 
 /// The batch that a call ends, if it ends one.
-fn ended_by(call: &Call) -> Option<Ended> {
+pub(crate) fn ended_by(call: &Call) -> Option<Ended> {
     let (batch, mark) = match call {
         Call::Settle { batch, .. } => (*batch, Mark::Settled),
         Call::Fail { batch, .. } => (*batch, Mark::Failed),
@@ -135,7 +135,7 @@ fn end_column<'a>(ended: Ended, side: Phrase, call: &'a Call, keys: &'a [FetchKe
 }
 
 /// Who a caller is: the plans come first, and then the workers.
-fn caller_name(plans: u32, caller: u32) -> Phrase {
+pub(crate) fn caller_name(plans: u32, caller: u32) -> Phrase {
     if caller < plans {
         Phrase::Numbered("plan ", caller as u64, "")
     } else {
@@ -157,7 +157,7 @@ pub(crate) fn add_workers(drawing: &mut Drawing, history: &History, plans: u32) 
 }
 
 /// How many callers there are up to the last one that made a call.
-fn callers(events: &Events) -> u32 {
+pub(crate) fn callers(events: &Events) -> u32 {
     let mut callers: u32 = 0;
     for at in 0..events.len() {
         if let Some(event) = events.get(at) {

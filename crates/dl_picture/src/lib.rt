@@ -1,9 +1,9 @@
-//! Pictures of what requests did, as SVG: the rounds of plans, their batches and their hits; and the numbers of a
-//! history.
+//! Pictures of what requests did, as SVG: the rounds of plans, their batches and their hits; traces of it, as JSON; and
+//! the numbers of a history.
 //!
 //! [`history_picture`] draws what serving plans left, and [`script_picture`] draws the calls of a script with their
 //! answers. At the head of a picture are its numbers; [`history_numbers`] and [`plan_numbers`] give you those of any
-//! history.
+//! history. [`history_trace`] and [`script_trace`] write the same as traces.
 //!
 //! The label of a loop is its name in `proofs/`.
 #![tactic(auto)]
@@ -15,6 +15,7 @@ mod cut_text;
 mod drawing;
 mod head;
 mod history;
+mod json_text;
 mod lanes;
 mod lines;
 mod loads;
@@ -24,11 +25,15 @@ mod phrase;
 mod script;
 mod sheet;
 mod style;
+mod trace;
+mod trace_event;
 mod xml;
 
 pub use batches::{BatchNumbers, Mean};
 pub use history::history_picture;
+pub use json_text::{key_text, keys_text, quoted_text};
 pub use loads::LoadNumbers;
 pub use numbers::{HistoryNumbers, PlanNumbers, history_numbers, plan_numbers};
 pub use script::script_picture;
 pub use sheet::Sheet;
+pub use trace::{history_trace, script_trace};

@@ -28,7 +28,7 @@ pub(crate) fn load_numbers(events: &Events, caller: Option<u32>) -> Result<LoadN
     ensures { IfOk result (AreLoadNumbers (load_replies (events_by caller events.now))) }
 {
     let mut numbers = LoadNumbers { loads: 0, hits: 0 };
-    'events: for at in 0..events.len() {
+    for at in 0..events.len() {
         numbers = numbers.with_event(caller, events.get(at))?;
     }
     Ok(numbers)
@@ -44,7 +44,7 @@ pub(crate) fn answer_numbers(
     ensures { IfOk result (AreLoadNumbers (flat_map answer_replies answers.now)) }
 {
     let mut numbers = LoadNumbers { loads: 0, hits: 0 };
-    'answers: for answer in answers {
+    for answer in answers {
         numbers = numbers.with_answer(answer)?;
     }
     Ok(numbers)
@@ -55,7 +55,7 @@ pub(crate) fn rounds(events: &Events, caller: u32) -> usize
     ensures { result ≡ length (round_events caller events.now) }
 {
     let mut count = 0;
-    'events: for at in 0..events.len() {
+    for at in 0..events.len() {
         if begins_round(caller, events.get(at)) {
             count += 1;
         }
@@ -123,7 +123,7 @@ impl LoadNumbers {
         ensures { IfOk result (λ more. (before : List LoadReply) → AreLoadNumbers before self → AreLoadNumbers (before ++ replies.now) more) }
     {
         let mut numbers = self;
-        'replies: for reply in replies {
+        for reply in replies {
             numbers = numbers.with_load(*reply)?;
         }
         Ok(numbers)

@@ -9,6 +9,8 @@ pub(crate) enum Phrase {
     Words(&'static str),
     /// Words before a number, the number, and words after it.
     Numbered(&'static str, u64, &'static str),
+    /// A number, a space and words.
+    Named(u64, &'static str),
     /// A whole number and a fraction.
     Mean(Mean),
 }

@@ -55,7 +55,7 @@ fn add_calls(drawing: &mut Drawing, calls: &[DeskCall], answers: &[Result<Reply,
         if let Some(call) = calls.get(number) {
             if let Some(answer) = answers.get(number) {
                 drawing.add_column(&Column {
-                    heading: Phrase::Numbered("", number as u64, name_of(call)),
+                    heading: Phrase::Named(number as u64, name_of(call)),
                     side: side_of(call, answer),
                     lines: call_lines(call, answer),
                 });
@@ -65,16 +65,16 @@ fn add_calls(drawing: &mut Drawing, calls: &[DeskCall], answers: &[Result<Reply,
 }
 
 /// The name of a call, as a script has it.
-fn name_of(call: &DeskCall) -> &'static str {
+pub(crate) fn name_of(call: &DeskCall) -> &'static str {
     match call {
-        DeskCall::Load(_) => " load",
-        DeskCall::LoadMany(_) => " loadMany",
-        DeskCall::Prime(_) => " prime",
-        DeskCall::Clear(_) => " clear",
-        DeskCall::ClearAll => " clearAll",
-        DeskCall::Dispatch => " dispatch",
-        DeskCall::Settle(_) => " settle",
-        DeskCall::Fail(_) => " fail",
+        DeskCall::Load(_) => "load",
+        DeskCall::LoadMany(_) => "loadMany",
+        DeskCall::Prime(_) => "prime",
+        DeskCall::Clear(_) => "clear",
+        DeskCall::ClearAll => "clearAll",
+        DeskCall::Dispatch => "dispatch",
+        DeskCall::Settle(_) => "settle",
+        DeskCall::Fail(_) => "fail",
     }
 }
 
@@ -122,7 +122,7 @@ fn call_lines<'a>(call: &'a DeskCall, answer: &'a Result<Reply, DeskFault>) -> L
 }
 
 /// The keys that a call names.
-fn keys_of(call: &DeskCall) -> &[FetchKey] {
+pub(crate) fn keys_of(call: &DeskCall) -> &[FetchKey] {
     match call {
         DeskCall::Load(key) | DeskCall::Prime(key) | DeskCall::Clear(key) => {
             std::slice::from_ref(key)
@@ -133,7 +133,7 @@ fn keys_of(call: &DeskCall) -> &[FetchKey] {
 }
 
 /// Why a call was refused, by its name.
-fn fault_name(fault: DeskFault) -> &'static str {
+pub(crate) fn fault_name(fault: DeskFault) -> &'static str {
     match fault {
         DeskFault::NoBatch => "NoBatch",
         DeskFault::NotSent => "NotSent",

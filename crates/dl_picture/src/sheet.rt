@@ -1,7 +1,9 @@
 //! Sheets: texts to write on.
 
+use crate::json_text::{key_text, keys_text, quoted_text};
 use crate::phrase::Phrase;
 use crate::xml;
+use dl_desk::FetchKey;
 use std::alloc::{AllocError, Global};
 use std::fmt::Write;
 
@@ -43,6 +45,32 @@ impl Sheet {
         self.note(pushed);
     }
 
+    /// Appends a text that was made for it, or notes that memory ran out.
+    pub fn push_made(&mut self, made: Result<String, AllocError>) {
+        match made {
+            Ok(text) => self.push(text.as_str()),
+            Err(error) => self.note(Err(error)),
+        }
+    }
+
+    /// Appends a stranger's text as JSON, in quotation marks.
+    pub fn push_quoted(&mut self, text: &str) {
+        let quoted = quoted_text(self.alloc, text);
+        self.push_made(quoted);
+    }
+
+    /// Appends a key as JSON, the list of its two texts.
+    pub fn push_key(&mut self, key: &FetchKey) {
+        let text = key_text(self.alloc, key);
+        self.push_made(text);
+    }
+
+    /// Appends a list of keys as JSON.
+    pub fn push_keys(&mut self, keys: &[FetchKey]) {
+        let text = keys_text(self.alloc, keys);
+        self.push_made(text);
+    }
+
     /// Appends a form, with the next of the numbers in place of each `#`.
     pub(crate) fn push_form(&mut self, form: &str, numbers: &[u64]) {
         let mut numbers = numbers.iter();
@@ -65,6 +93,11 @@ impl Sheet {
             Phrase::Numbered(front, number, back) => {
                 self.push_number(front, number);
                 self.push(back);
+            }
+            Phrase::Named(number, words) => {
+                self.push_number("", number);
+                self.push(" ");
+                self.push(words);
             }
             Phrase::Mean(mean) => self.push_form("# #/#", &[mean.whole, mean.rest, mean.of]),
         }

@@ -10,7 +10,7 @@ use std::alloc::AllocError;
 pub(crate) fn push_text(out: &mut String, text: &str) -> Result<(), AllocError>
     ensures { OnOk result (string_bytes out.new ≡ string_bytes out.old ++ escaped text.now) }
 {
-    'chars: for c in text.chars() {
+    for c in text.chars() {
         push_char(out, c)?;
     }
     Ok(())

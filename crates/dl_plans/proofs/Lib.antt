@@ -2,7 +2,6 @@ mod BatchTexts
 pub mod Bytes
 mod CommandMatches
 mod JoinedTables
-mod KeyTexts
 mod MigratedAnswers
 pub mod Runs
 mod TableNames

@@ -1,4 +1,3 @@
-pub mod JsonText
 pub mod ReplyLines
 pub mod ScriptText
 pub mod ReportText

@@ -29,6 +29,10 @@ batches_rule = record (new_rule (codes "batches")) { long = Some (codes "batches
 abbrev pub picture_rule : Rule
 picture_rule = record (new_rule (codes "picture")) { long = Some (codes "picture"); value_names = 1 }
 
+-- `--trace FILE`
+abbrev pub trace_rule : Rule
+trace_rule = record (new_rule (codes "trace")) { long = Some (codes "trace"); value_names = 1 }
+
 -- `--database FILE`
 abbrev pub database_rule : Rule
 database_rule = record (new_rule (codes "database")) { long = Some (codes "database"); value_names = 1 }
@@ -45,9 +49,13 @@ migrate_app = new_app (codes "migrate")
 abbrev pub answering_app : App
 answering_app = with_rule (with_rule (on_top without_name (new_app (codes "plans"))) workers_rule) batches_rule
 
+-- the options for answering a document
+abbrev pub file_words_app : App
+file_words_app = with_rule (with_rule (with_rule answering_app picture_rule) trace_rule) database_rule
+
 -- the command line without its version
 abbrev pub plans_words_app : App
-plans_words_app = with_subcommand (with_rule (with_rule answering_app picture_rule) database_rule) migrate_app.top
+plans_words_app = with_subcommand file_words_app migrate_app.top
 
 abbrev pub with_version : Shape → Shape
 with_version s = record s { has_version = true }
@@ -79,6 +87,7 @@ pub record AreGiven (rows : List Row) (used : Option (Text × List Row)) (o : Op
   pub batches : one_of (codes "batches") rows ≡ Some (codes "true") → o.batches ≡ true
   pub no_batches : one_of (codes "batches") rows ≡ Some (codes "false") → o.batches ≡ false
   pub picture : option_map string_bytes o.picture ≡ first_of (codes "picture") rows
+  pub trace : option_map string_bytes o.trace ≡ first_of (codes "trace") rows
   pub database : option_map string_bytes file ≡ first_of (codes "database") rows
   pub unread : o.database ≡ None
   pub migrate : IsTrue o.migrate ↔ (name_of used ≡ Some (codes "migrate"))

@@ -6,7 +6,7 @@ use Rattle.dl_desk.specs.declared.fault.DeskFault.TheVariants.{NoBatch, NotSent,
 use Rattle.dl_values.specs.declared.job.Job.{Job}
 use Rattle.dl_desk.specs.declared.reply.LoadReply.{LoadReply}
 use Rattle.dl_desk.specs.declared.reply.LoadReply.TheVariants.{Hit, Fresh}
-use Rattle.dl_plans.specs.JsonText.{key_text}
+use Rattle.dl_picture.specs.JsonText.{key_text}
 
 -- a text with the line feed that ends it
 abbrev pub text_line : List ℕ → List ℕ

@@ -10,7 +10,7 @@ use Rattle.dl_desk.specs.declared.reply.End.{End}
 use Rattle.dl_desk.specs.declared.reply.End.TheVariants.{Settled, Failed}
 use Rattle.dl_desk.specs.Legal.{keys_of}
 use Rattle.dl_history.specs.History.{past}
-use Rattle.dl_plans.specs.JsonText.{key_text, keys_text, quoted_text}
+use Rattle.dl_picture.specs.JsonText.{key_text, keys_text, quoted_text}
 use Rattle.dl_plans.specs.ReplyLines.{text_line}
 use Rattle.dl_scope.specs.Report.{Report}
 use Rattle.dl_haxl.specs.declared.step_answers.StepAnswer.{StepAnswer}

@@ -4,8 +4,8 @@ ghost use Rattle.std.specs.Prelude.{◌≡◌, ◌++◌, IfOk, OnOk, codes, deci
 ghost use Rattle.dl_plans.specs.ReplyLines.{text_line};
 ghost use Rattle.dl_plans.specs.ReportText.{answer_line, batch_fault_text, fault_text};
 
-use crate::json_text::{key_text, quoted_text};
 use dl_desk::BatchFault;
+use dl_picture::{key_text, quoted_text};
 use dl_scope::StepAnswer;
 use dl_terms::{Answer, EvalFault};
 use std::alloc::{AllocError, Global};

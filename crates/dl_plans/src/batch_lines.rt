@@ -5,8 +5,8 @@ ghost use Rattle.dl_desk.specs.Events.{atoms};
 ghost use Rattle.dl_history.specs.History.{past};
 ghost use Rattle.dl_plans.specs.ReportText.{batch_line, batches_text, end_text};
 
-use crate::json_text::keys_text;
 use dl_history::{Batches, EndedBatch};
+use dl_picture::keys_text;
 use std::alloc::{AllocError, Global};
 use std::fmt::Write;
 

@@ -2,7 +2,8 @@
 
 ghost use Rattle.std.specs.Prelude.{◌≡◌, IfOk, IfSome, map, option_map, false, string_bytes};
 ghost use Rattle.clap.specs.Words.{app_of, rule_of, found_of, matches_of, rows_of, subcommand_of, subcommand_rows_of};
-ghost use Rattle.dl_plans.specs.Options.{plans_app, plans_words_app, answering_app, workers_rule, batches_rule, picture_rule, database_rule, AreGiven};
+ghost use Rattle.dl_plans.specs.Options.{plans_app, plans_words_app, file_words_app, answering_app, AreGiven};
+ghost use Rattle.dl_plans.specs.Options.{workers_rule, batches_rule, picture_rule, trace_rule, database_rule};
 
 use crate::settings::Options;
 use clap::error::ErrorKind;
@@ -10,9 +11,9 @@ use clap::{Arg, ArgAction, ArgMatches, Command, Error, value_parser};
 use std::alloc::{AllocError, Global};
 use std::convert::AsStr;
 
-/// The options in the words behind the program's name, `[--workers N] [--batches] [--picture FILE] [--database FILE]
-/// [migrate]`, and the file of the database. N is 1 to 16, and 3 if you don't give it. No option follows `migrate`. The
-/// options have no tables of a database yet.
+/// The options in the words behind the program's name, `[--workers N] [--batches] [--picture FILE] [--trace FILE]
+/// [--database FILE] [migrate]`, and the file of the database. N is 1 to 16, and 3 if you don't give it. No option follows
+/// `migrate`. The options have no tables of a database yet.
 ///
 /// # Errors
 /// The help, if the words ask for it; why the words are wrong, with the usage; or that memory ran out.
@@ -63,6 +64,7 @@ fn given(
         workers,
         batches: matches.get_flag("batches"),
         picture: copied(alloc, matches.get_str("picture"))?,
+        trace: copied(alloc, matches.get_str("trace"))?,
         database: None,
         migrate: matches.subcommand_matches("migrate").is_some(),
     };
@@ -116,11 +118,17 @@ fn plans_words<'a>(alloc: Global) -> Result<Command<'a>, AllocError>
     let migrate = Command::new(alloc, "migrate")
         .about("Writes a plan file of version 1 as one of version 2")
         .override_usage("plans migrate");
-    let answering = answering_words(alloc)?;
-    answering
+    file_words(alloc)?.subcommand(migrate)
+}
+
+/// The options for answering a document.
+fn file_words<'a>(alloc: Global) -> Result<Command<'a>, AllocError>
+    ensures { IfOk result (λ c. app_of c ≡ file_words_app) }
+{
+    answering_words(alloc)?
         .arg(picture(alloc))?
-        .arg(database(alloc))?
-        .subcommand(migrate)
+        .arg(trace(alloc))?
+        .arg(database(alloc))
 }
 
 /// The options for answering a document that name no file.
@@ -167,6 +175,17 @@ fn picture<'a>(alloc: Global) -> Arg<'a>
         .long("picture")
         .value_name("FILE")
         .help("Draws what happened into a file too, as SVG")
+}
+
+/// `--trace FILE`.
+fn trace<'a>(alloc: Global) -> Arg<'a>
+    ensures rule { rule_of result ≡ trace_rule }
+    ensures local { result.global ≡ false }
+{
+    Arg::new(alloc, "trace")
+        .long("trace")
+        .value_name("FILE")
+        .help("Writes what happened into a file too, as a trace in JSON")
 }
 
 /// `--database FILE`.

@@ -16,14 +16,15 @@ ghost use Rattle.dl_plans.specs.declared.settings.Options.{Options};
 use crate::QUEUE_PLACES;
 use crate::fault::RunError;
 use crate::joined_tables::JoinedTables;
-use crate::picture::{report_picture, write_picture};
+use crate::picture::{report_picture, report_trace};
 use crate::report::report_text;
 use crate::script_text::run_script;
 use crate::settings::Options;
 use crate::streams::{read_all, write_all};
 use crate::table_names::{Names, table_names};
+use crate::whole_file::write_whole;
 use dl_documents::{Input, PlanFault, PlanFile, Script, read_document, read_input};
-use dl_picture::script_picture;
+use dl_picture::{script_picture, script_trace};
 use dl_scope::{Report, ScopeFault, Setup, serve};
 use dl_source::Tables;
 use dl_workers::NoGate;
@@ -40,15 +41,15 @@ use std::thread::Threads;
 /// Reads a document, makes all of the text that it gives, and then writes it. It reads at most one byte more than a
 /// document may have. It serves the plans of a plan file at once, each on a thread of its own, with as many workers as
 /// the options say. The file's tables answer, and behind them those of a database, if the options have one. If they name
-/// a file for it, the picture of what happened goes there first, as a whole or not at all. `hashing` hashes keys, and
-/// nothing that you see depends on it.
+/// files for them, the picture and the trace of what happened go there first, each as a whole or not at all. `hashing`
+/// hashes keys, and nothing that you see depends on it.
 ///
 /// Call it at the end of a process: it leaves what it read and served to the system, and doesn't drop it.
 ///
 /// # Errors
 /// `Read` if the reader fails, `Refused` if what it has is not a document, `Run` if `serve` refuses the plans of a plan
-/// file, `OutOfMemory`, and `Write` if the picture's file or the writer fails. Only with `Write` may the writer have
-/// got something: the beginning of the text, or nothing if it was the file.
+/// file, `OutOfMemory`, and `Write` if a file or the writer fails. Only with `Write` may the writer have got something:
+/// the beginning of the text, or nothing if it was a file.
 ///
 /// # Examples
 /// The program `plans` calls it, in `crates/plans`:
@@ -78,20 +79,21 @@ pub fn run<R: Read, W: Write, T: Threads + Wait + Sync + Files + RandomSource>(
 {
     let bytes = read_all(alloc, reader)?;
     let given = output(rt, alloc, hashing, bytes, &options)?;
-    keep_picture(rt, alloc, &options, &given)?;
+    keep_files(rt, alloc, &options, &given)?;
     forget(options);
     write_all(writer, given.text.as_bytes())
 }
 
-/// What a document gives: its text, and its picture if the options ask for one.
+/// What a document gives: its text, and its picture and its trace if the options ask for them.
 #[derive(Drop)]
 struct Given {
     text: String,
     picture: Option<String>,
+    trace: Option<String>,
 }
 
-/// Writes the picture to its file, if there is one.
-fn keep_picture<T: Files + RandomSource>(
+/// Writes the picture and then the trace to their files, if there are any.
+fn keep_files<T: Files + RandomSource>(
     rt: &T,
     alloc: Global,
     options: &Options,
@@ -99,8 +101,21 @@ fn keep_picture<T: Files + RandomSource>(
 ) -> Result<(), RunError>
     ensures { IfErr result (λ e. (e ≡ RunError.Write) ⊎ (e ≡ RunError.OutOfMemory)) }
 {
-    match (&options.picture, &given.picture) {
-        (Some(file), Some(picture)) => write_picture(rt, alloc, file.as_str(), picture.as_str()),
+    keep(rt, alloc, &options.picture, &given.picture)?;
+    keep(rt, alloc, &options.trace, &given.trace)
+}
+
+/// Writes a text to its file, if there is one.
+fn keep<T: Files + RandomSource>(
+    rt: &T,
+    alloc: Global,
+    file: &Option<String>,
+    text: &Option<String>,
+) -> Result<(), RunError>
+    ensures { IfErr result (λ e. (e ≡ RunError.Write) ⊎ (e ≡ RunError.OutOfMemory)) }
+{
+    match (file, text) {
+        (Some(file), Some(text)) => write_whole(rt, alloc, file.as_str(), text.as_str()),
         _ => Ok(()),
     }
 }
@@ -186,7 +201,7 @@ fn answered<T: Threads + Wait + Sync>(
     }
 }
 
-/// The text and the picture, unless memory ran out.
+/// What a document gives, unless memory ran out.
 fn made(given: Result<Given, AllocError>) -> Result<Given, RunError>
     ensures ok { IfOk result (λ made. given ≡ Ok made) }
     ensures err { (options : Options) (bytes : List ℕ) → IfErr result (IsRefused options bytes) }
@@ -211,8 +226,16 @@ fn output_of_script(
         Some(_) => Some(script_picture(alloc, hashing, script)?),
         None => None,
     };
+    let trace = match &options.trace {
+        Some(_) => Some(script_trace(alloc, hashing, script)?),
+        None => None,
+    };
     let text = run_script(alloc, hashing, script)?;
-    Ok(Given { text, picture })
+    Ok(Given {
+        text,
+        picture,
+        trace,
+    })
 }
 
 /// What a report gives. Fails if memory runs out.
@@ -223,8 +246,16 @@ fn output_of_report(alloc: Global, report: &Report, options: &Options) -> Result
         Some(_) => Some(report_picture(alloc, report)?),
         None => None,
     };
+    let trace = match &options.trace {
+        Some(_) => Some(report_trace(alloc, report)?),
+        None => None,
+    };
     let text = report_text(alloc, report, options.batches)?;
-    Ok(Given { text, picture })
+    Ok(Given {
+        text,
+        picture,
+        trace,
+    })
 }
 
 /// Serves the plans of a file over its tables and those of the options' database, within the limits of the file, with as

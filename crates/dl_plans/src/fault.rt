@@ -16,7 +16,7 @@ pub enum RunError {
     /// `serve` refuses the plans of the document. The run wrote nothing.
     #[error("failed: {}", name_of(.0))]
     Run(ScopeFault),
-    /// The writer or the picture's file failed. The beginning of the text may be written.
+    /// The writer failed, or the file of the picture or of the trace. The beginning of the text may be written.
     #[error("failed: write")]
     Write,
     /// Memory ran out. The run wrote nothing.

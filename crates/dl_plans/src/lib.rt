@@ -1,5 +1,5 @@
 //! The parts of the program `plans`: its command line; what a document gives, over a reader and a writer ([`run`]); the
-//! texts of scripts and reports; the file of a picture; migration; and the lines and statuses of failures.
+//! texts of scripts and reports; the files of pictures and traces; migration; and the lines and statuses of failures.
 #![tactic(auto)]
 
 mod answer_lines;
@@ -9,7 +9,6 @@ mod document;
 mod fault;
 mod invocation;
 mod joined_tables;
-mod json_text;
 pub mod laws;
 mod migration;
 mod picture;
@@ -20,6 +19,7 @@ mod settings;
 mod status;
 mod streams;
 mod table_names;
+mod whole_file;
 
 pub use command::options;
 pub use dl_desk::DeskCall;

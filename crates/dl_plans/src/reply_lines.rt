@@ -4,8 +4,8 @@ ghost use Rattle.std.specs.Prelude.{◌≡◌, ◌≢◌, ◌++◌, OnOk, string
 ghost use Rattle.dl_plans.specs.ReplyLines.{load_line, many_lines, job_line, sent_lines, refused_line};
 ghost use Rattle.dl_plans.specs.ScriptText.{reply_lines};
 
-use crate::json_text::key_text;
 use dl_desk::{DeskFault, Job, LoadReply, Reply};
+use dl_picture::key_text;
 use std::alloc::{AllocError, Global};
 use std::fmt::Write;
 

@@ -13,6 +13,8 @@ pub struct Options {
     pub batches: bool,
     /// The file of the picture, if the command line asks for one.
     pub picture: Option<String>,
+    /// The file of the trace, if the command line asks for one.
+    pub trace: Option<String>,
     /// The tables of the database, if the command line names one. They answer a plan file too: a key whose table it
     /// doesn't have.
     pub database: Option<Tables>,
@@ -29,6 +31,7 @@ impl Options {
             workers,
             batches,
             picture,
+            trace,
             migrate,
             ..
         } = self;
@@ -36,6 +39,7 @@ impl Options {
             workers,
             batches,
             picture,
+            trace,
             database,
             migrate,
         }

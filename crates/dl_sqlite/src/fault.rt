@@ -34,7 +34,7 @@ pub enum DatabaseFault {
     #[error("{0}: it changed while it was read: try again when nobody writes to it")]
     Changed(String),
     /// The bytes begin as no database does.
-    #[error("it isn't a SQLite database: it must begin with the 16 bytes \"SQLite format 3\" and a zero")]
+    #[error("it isn't a SQLite database: it must begin with SQLite format 3 and a zero byte")]
     NotADatabase,
     /// The file has fewer bytes than its header says.
     #[error("the database is cut off: it has {found} bytes, and its header says {wanted}")]

@@ -29,12 +29,6 @@ use std::{fs, io};
 /// - `Journal` if there is a rollback journal that waits to be played back: without that, the rows may be those of half a change.
 /// - `Changed` if the two readings differ.
 /// - Else those of [`read_image`].
-///
-/// # Examples
-/// ```rust
-/// let tables = read_file(&rt, alloc, hashing, "shop.db")?;
-/// let report = serve(&rt, alloc, hashing, &tables, setup, plans, &NoGate)?;
-/// ```
 pub fn read_file<R: Files>(
     rt: &R,
     alloc: Global,

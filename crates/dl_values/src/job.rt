@@ -4,6 +4,7 @@ ghost use Rattle.std.specs.Prelude.{◌≡◌, IfOk};
 
 use crate::key::Keys;
 use std::alloc::AllocError;
+use std::fmt;
 
 /// A batch that went out: what a source has to fetch.
 #[derive(Debug)]
@@ -18,6 +19,12 @@ impl Drop for Job {
     fn drop(self) {
         let Job { batch: _, keys } = self;
         drop(keys);
+    }
+}
+
+impl fmt::Display for Job {
+    fn fmt<W: fmt::Write>(&self, f: &mut fmt::Formatter<W>) -> fmt::Result {
+        write!(f, "batch {} of {}", self.batch, self.keys)
     }
 }
 

@@ -13,6 +13,7 @@ ghost use Rattle.std.specs.Arc.{arc_value};
 
 use crate::fault::KeyFault;
 use crate::joined_text::JoinedText;
+use crate::list::show_items;
 use crate::short_text::{SHORT_BYTES, ShortText};
 use crate::text::Text;
 use std::alloc::{AllocError, Global};
@@ -173,6 +174,14 @@ impl Model for FetchKey {
     ghost view = { λ k. arc_value k.both };
 
     ghost invariant = { λ k. IsKey (arc_value k.both) };
+}
+
+/// The table, a slash and the id, such as `user/u1`, on one line: what doesn't print is escaped.
+impl fmt::Display for FetchKey {
+    fn fmt<W: fmt::Write>(&self, f: &mut fmt::Formatter<W>) -> fmt::Result {
+        let (table, id) = (self.table().escape_debug(), self.id().escape_debug());
+        write!(f, "{table}/{id}")
+    }
 }
 
 impl FetchKey {
@@ -371,7 +380,6 @@ impl Hash for FetchKey {
 
 /// A list of keys that several places share, such as the keys of a job. A copy costs one atomic step. Contracts see the
 /// list.
-#[derive(Debug)]
 pub struct Keys {
     keys: Arc<Vec<FetchKey>>,
 }
@@ -391,6 +399,18 @@ impl Model for Keys {
     ghost Value = { List Key };
 
     ghost view = { λ k. (arc_value k.keys).items };
+}
+
+impl fmt::Debug for Keys {
+    fn fmt<W: fmt::Write>(&self, f: &mut fmt::Formatter<W>) -> fmt::Result {
+        write!(f, "{:?}", self.as_slice())
+    }
+}
+
+impl fmt::Display for Keys {
+    fn fmt<W: fmt::Write>(&self, f: &mut fmt::Formatter<W>) -> fmt::Result {
+        show_items(self.as_slice(), f)
+    }
 }
 
 impl Keys {

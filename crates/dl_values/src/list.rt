@@ -4,10 +4,10 @@ ghost use Rattle.std.specs.Prelude.{◌≡◌, IfOk};
 
 use crate::job::Job;
 use std::alloc::{AllocError, Global};
+use std::fmt;
 use std::marker::Model;
 
 /// A `Vec` that you can only read. Contracts see it as the list of its items.
-#[derive(Debug)]
 pub struct List<T> {
     items: Vec<T>,
 }
@@ -44,6 +44,32 @@ impl<T> List<T> {
     {
         self.items.as_slice()
     }
+}
+
+impl<T: fmt::Debug> fmt::Debug for List<T> {
+    fn fmt<W: fmt::Write>(&self, f: &mut fmt::Formatter<W>) -> fmt::Result {
+        write!(f, "{:?}", self.items)
+    }
+}
+
+impl<T: fmt::Display> fmt::Display for List<T> {
+    fn fmt<W: fmt::Write>(&self, f: &mut fmt::Formatter<W>) -> fmt::Result {
+        show_items(self.as_slice(), f)
+    }
+}
+
+/// Writes the items in brackets, with commas between them.
+pub(crate) fn show_items<T: fmt::Display, W: fmt::Write>(
+    items: &[T],
+    f: &mut fmt::Formatter<W>,
+) -> fmt::Result {
+    f.write_str("[")?;
+    let mut before = "";
+    for item in items {
+        write!(f, "{before}{item}")?;
+        before = ", ";
+    }
+    f.write_str("]")
 }
 
 impl<T: Copy> List<T> {

@@ -4,11 +4,11 @@ ghost use Rattle.std.specs.Prelude.{◌≡◌, IfOk};
 
 use crate::text::Text;
 use std::alloc::{AllocError, Global};
+use std::fmt;
 use std::marker::Model;
 use std::sync::Arc;
 
 /// The text of an error, which several places share. A copy costs one atomic step. Contracts see its bytes.
-#[derive(Debug)]
 pub struct Message {
     text: Arc<Text>,
 }
@@ -27,6 +27,12 @@ impl Model for Message {
     ghost Value = { List ℕ };
 
     ghost view = { λ m. arc_value m.text };
+}
+
+impl fmt::Debug for Message {
+    fn fmt<W: fmt::Write>(&self, f: &mut fmt::Formatter<W>) -> fmt::Result {
+        write!(f, "{:?}", self.as_str())
+    }
 }
 
 impl Message {

@@ -6,6 +6,7 @@ use crate::json::Json;
 use crate::list::List;
 use crate::message::Message;
 use std::alloc::AllocError;
+use std::fmt;
 
 /// What the load of a key ends with.
 #[derive(Debug)]
@@ -44,6 +45,27 @@ impl Drop for BatchFault {
         match self {
             BatchFault::Source(text) => drop(text),
             BatchFault::Memory | BatchFault::Unsent => {}
+        }
+    }
+}
+
+/// A value as compact JSON, or why there is none.
+impl fmt::Display for Outcome {
+    fn fmt<W: fmt::Write>(&self, f: &mut fmt::Formatter<W>) -> fmt::Result {
+        match self {
+            Outcome::Value(value) => write!(f, "{}", value.value()),
+            Outcome::KeyError(text) => write!(f, "error {text:?}"),
+            Outcome::BatchFailed(fault) => write!(f, "failed: {fault}"),
+        }
+    }
+}
+
+impl fmt::Display for BatchFault {
+    fn fmt<W: fmt::Write>(&self, f: &mut fmt::Formatter<W>) -> fmt::Result {
+        match self {
+            BatchFault::Source(text) => write!(f, "{text:?}"),
+            BatchFault::Memory => f.write_str("out of memory"),
+            BatchFault::Unsent => f.write_str("unsent"),
         }
     }
 }

@@ -45,7 +45,7 @@ fn with_loader<L: LoaderName, S: Source, R: Wait + Print>(
         load_and_print(rt, alloc, source, &loader, pass)?;
     }
     match loader.close(alloc, passes) {
-        Ok(history) => println!(rt; "{} events", history.events().len())?,
+        Ok(history) => print!(rt; "{history}")?,
         Err((fault, _, _)) => return Err(fault.into()),
     }
     Ok(())

@@ -62,7 +62,7 @@ fn push_call(sheet: &mut Sheet, call: &Call) {
         Call::Load(key) => push_of_key(sheet, "\"load\",", key),
         Call::LoadMany(keys) => {
             sheet.push("\"loadMany\",");
-            push_keys(sheet, keys.as_slice());
+            sheet.push_keys(keys.as_slice());
         }
         Call::Prime(key, outcome) => {
             push_of_key(sheet, "\"prime\",", key);
@@ -159,16 +159,7 @@ fn push_sent(sheet: &mut Sheet, jobs: &[Job]) {
     for job in jobs {
         sheet.push_number(",[", u64::from(job.batch));
         sheet.push(",");
-        push_keys(sheet, job.keys.as_slice());
+        sheet.push_keys(job.keys.as_slice());
         sheet.push("]");
     }
-}
-
-fn push_keys(sheet: &mut Sheet, keys: &[FetchKey]) {
-    sheet.push("[");
-    for (number, key) in keys.iter().enumerate() {
-        sheet.part(number);
-        sheet.push_key(key);
-    }
-    sheet.push("]");
 }

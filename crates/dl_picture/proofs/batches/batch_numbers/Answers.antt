@@ -5,4 +5,4 @@ use Rattle.dl_picture.proofs.batches.batch_numbers.Goals as goal
 
 pub returns-in-None : goal.returns-in-None
 returns-in-None c =
-    all_batches (atoms (past c.args.batches.now)) c.batches.number c.batches.numbers c.batches.invariant.low c.in-None.ensures.none c.batches.invariant.sizes
+    all_batches (atoms (past c.args.batches.now)) c.loop-number.number c.loop-number.numbers c.loop-number.invariant.low c.in-None.ensures.none c.loop-number.invariant.sizes

@@ -3,5 +3,5 @@ use Rattle.dl_picture.proofs.batches.desk_numbers.Goals as goal
 
 pub returns-in-None : goal.returns-in-None
 returns-in-None c = λ history stands.
-    let held = c.batches.invariant history stands in
-    all_batches history c.batches.number c.batches.numbers held.0 (c.in-None.ensures.none history stands) held.1
+    let held = c.loop-number.invariant history stands in
+    all_batches history c.loop-number.number c.loop-number.numbers held.0 (c.in-None.ensures.none history stands) held.1

@@ -5,5 +5,5 @@ use Rattle.dl_desk.specs.History.{Atom, begun}
 use Rattle.dl_picture.specs.Numbers.{AreSizes, sizes_of}
 use Rattle.dl_picture.proofs.batches.desk_numbers.Given as goal
 
-abbrev pub invariant-batches : goal.invariant-batches
-invariant-batches l = (history : List Atom) → StandsFor l.desk.book history → (l.number ≤ begun history) × AreSizes (sizes_of history l.number) l.numbers
+abbrev pub invariant-loop-number : goal.invariant-loop-number
+invariant-loop-number l = (history : List Atom) → StandsFor l.desk.book history → (l.number ≤ begun history) × AreSizes (sizes_of history l.number) l.numbers

@@ -5,5 +5,5 @@ use Rattle.dl_picture.specs.Numbers.{AreLoadNumbers}
 use Rattle.dl_picture.specs.Script.{answer_replies}
 use Rattle.dl_picture.proofs.loads.answer_numbers.Given as goal
 
-abbrev pub invariant-answers : goal.invariant-answers
-invariant-answers l = AreLoadNumbers (flat_map answer_replies (take l.answer-index l.answers)) l.numbers
+abbrev pub invariant-loop-answer : goal.invariant-loop-answer
+invariant-loop-answer l = AreLoadNumbers (flat_map answer_replies (take l.answer-index l.answers)) l.numbers

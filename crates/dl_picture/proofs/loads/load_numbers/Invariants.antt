@@ -3,5 +3,5 @@ use Rattle.std.proofs.Common.{take}
 use Rattle.dl_picture.specs.Numbers.{AreLoadNumbers, events_by, load_replies}
 use Rattle.dl_picture.proofs.loads.load_numbers.Given as goal
 
-abbrev pub invariant-events : goal.invariant-events
-invariant-events l = AreLoadNumbers (load_replies (events_by l.caller (take l.at l.events))) l.numbers
+abbrev pub invariant-loop-at : goal.invariant-loop-at
+invariant-loop-at l = AreLoadNumbers (load_replies (events_by l.caller (take l.at l.events))) l.numbers

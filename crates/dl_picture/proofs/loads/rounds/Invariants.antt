@@ -3,8 +3,8 @@ use Rattle.std.proofs.Common.{◌≡◌, ◌≤◌, length, take}
 use Rattle.dl_picture.specs.Numbers.{round_events}
 use Rattle.dl_picture.proofs.loads.rounds.Given as goal
 
-abbrev pub invariant-events : goal.invariant-events
-invariant-events l = record {
+abbrev pub invariant-loop-at : goal.invariant-loop-at
+invariant-loop-at l = record {
   few : l.count ≤ l.at;
   counted : l.count ≡ length (round_events l.caller (take l.at l.events));
 }

@@ -3,13 +3,13 @@ use Rattle.std.proofs.lemmas.Str.{IsUtf8-past_char, chars_past_char}
 use Rattle.std.proofs.StrCases.{chars_of_empty}
 use Rattle.dl_picture.proofs.xml.push_text.Goals as goal
 
-pub chars-preserved : goal.chars-preserved
-chars-preserved c =
-    let held = c.chars.invariant in
+pub loop-c-preserved : goal.loop-c-preserved
+loop-c-preserved c =
+    let held = c.loop-c.invariant in
     let parts = c.in-Some.ensures.steps.0 in (
       IsUtf8-past_char _ _ c.in-Some.c held.0 parts,
       rw (c.in_ok-push_char.ensures, append_assoc) (rw (chars_past_char _ _ c.in-Some.c held.0 parts) at held.1),
     )
 
 pub returns : goal.returns
-returns c = sym (append-nil _) ∙ rw (chars_of_empty _ c.in-None.ensures.steps.0.0) at c.chars.invariant.1
+returns c = sym (append-nil _) ∙ rw (chars_of_empty _ c.in-None.ensures.steps.0.0) at c.loop-c.invariant.1

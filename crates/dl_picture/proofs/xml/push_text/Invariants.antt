@@ -5,6 +5,6 @@ use Rattle.std.specs.Str.Iter.{chars_rest}
 use Rattle.dl_picture.specs.Xml.{escaped, written}
 use Rattle.dl_picture.proofs.xml.push_text.Given as goal
 
-abbrev pub invariant-chars : goal.invariant-chars
-invariant-chars l = IsUtf8 (chars_rest l.c-iterator)
+abbrev pub invariant-loop-c : goal.invariant-loop-c
+invariant-loop-c l = IsUtf8 (chars_rest l.c-iterator)
     × (string_bytes l.out ++ flat_map written (chars (chars_rest l.c-iterator)) ≡ string_bytes l.fn.out ++ escaped l.fn.text)

@@ -15,6 +15,7 @@ returns c =
       batches = λ e. c.get_flag.ensures.value (one_text-rows found (codes "batches") ∙ e);
       no_batches = λ e. c.get_flag.ensures.other (one_text-rows found (codes "batches") ∙ e);
       picture = c.in_ok-copied.ensures ∙ (c.get_str-2.ensures ∙ first_value-rows found (codes "picture"));
+      trace = c.in_ok-copied-2.ensures ∙ (c.get_str-3.ensures ∙ first_value-rows found (codes "trace"));
       database = c.in_ok-database.ensures ∙ (c.get_str.ensures ∙ first_value-rows found (codes "database"));
       unread = refl;
       migrate = (

@@ -24,8 +24,8 @@ returns-clause-write g c = λ failed.
     (string_bytes c.in_ok-given.given.text) (g.W.Write.contents c.args.writer.now) (g.W.Write.contents c.write_all.new.writer)
     c.in_ok-bytes.ensures.bytes output (rw c.as_bytes.ensures.value at c.write_all.ensures.front)
 
-pub returns-in_err-keep_picture-clause-write : goal.returns-in_err-keep_picture-clause-write
-returns-in_err-keep_picture-clause-write g c = λ failed.
+pub returns-in_err-keep_files-clause-write : goal.returns-in_err-keep_files-clause-write
+returns-in_err-keep_files-clause-write g c = λ failed.
     let output : IsOutput c.args.options c.in_ok-bytes.bytes.items (string_bytes c.in_ok-given.given.text) = c.in_ok-given.ensures.ok in
     let held = g.W.Write.contents c.args.writer.now in
     run_writes_front (IsOutput c.args.options) (output_all c.args.options) (g.R.Read.remaining c.args.reader.now) c.in_ok-bytes.bytes.items

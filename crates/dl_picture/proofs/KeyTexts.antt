@@ -6,7 +6,7 @@ use Rattle.serde_json.specs.View.{items_of}
 use Rattle.serde_json.specs.Written.{compact_text, has_float, items_have_float}
 use Rattle.dl_values.specs.Key.{Key}
 use Rattle.dl_documents.specs.Script.{key_tree}
-use Rattle.dl_plans.specs.JsonText.{keys_text}
+use Rattle.dl_picture.specs.JsonText.{keys_text}
 
 -- the tree of a list of keys has no float
 keys_whole : (ks : List Key) → items_have_float (items_of (map key_tree ks)) ≡ false

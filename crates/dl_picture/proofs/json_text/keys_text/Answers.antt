@@ -4,8 +4,8 @@ use Rattle.serde_json.proofs.Views.{view-Array}
 use Rattle.serde_json.specs.Data.{array}
 use Rattle.serde_json.specs.View.{items_of, view}
 use Rattle.dl_documents.specs.Script.{key_tree}
-use Rattle.dl_plans.proofs.KeyTexts.{keys_written}
-use Rattle.dl_plans.proofs.json_text.keys_text.Goals as goal
+use Rattle.dl_picture.proofs.KeyTexts.{keys_written}
+use Rattle.dl_picture.proofs.json_text.keys_text.Goals as goal
 
 pub returns : goal.returns
 returns c =
