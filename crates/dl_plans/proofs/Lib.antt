@@ -1,5 +1,8 @@
 mod BatchTexts
 pub mod Bytes
 mod CommandMatches
+mod JoinedTables
 mod MigratedAnswers
 pub mod Runs
+mod TableNames
+pub mod ThreadSafety

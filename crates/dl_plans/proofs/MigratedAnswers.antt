@@ -17,6 +17,7 @@ use Rattle.dl_terms.specs.Tree.{Tree}
 use Rattle.dl_terms.specs.declared.plan.Plan.{Plan}
 use Rattle.dl_terms.specs.declared.plan.Step.{Step}
 use Rattle.dl_terms.specs.declared.plan.Step.TheVariants.{Prime, Eval}
+use Rattle.dl_plans.specs.JoinedTables.{joined}
 use Rattle.dl_plans.specs.Run.{setup_of}
 use Rattle.dl_plans.specs.MigratedAnswers.{MigratedAnswersAreEqual}
 
@@ -80,15 +81,17 @@ plans_unprimed plans others same none =
 -- ---- answers
 
 pub migrated_answers_are_equal : AnswersAreEqual → MigratedAnswersAreEqual
-migrated_answers_are_equal equal d first second spelled version migrated_spelled none options others r s of_first of_second =
+migrated_answers_are_equal equal d first second spelled version migrated_spelled none options others database r s of_first of_second =
     let same : SayTheSame (in_second_version first) second =
     one_plan_file (migrated d) (in_second_version first) second (migrated_is_the_same d first spelled version) migrated_spelled in
-    equal first.tables first.plans.items second.plans.items r s (plans_evaluated first.plans.items second.plans.items same.plans)
+    let tables : joined second.tables others.database ≡ joined first.tables options.database =
+    ap (λ (ts : Tables). joined ts others.database) (sym same.tables) ∙ ap (joined first.tables) (sym database) in
+    equal (joined first.tables options.database) first.plans.items second.plans.items r s (plans_evaluated first.plans.items second.plans.items same.plans)
     (record { setup = setup_of options first; headline = of_first.headline; unfailed = of_first.unfailed; unprimed = none })
     (record {
       setup = setup_of others second;
-      headline = subst (λ (tables : Tables). Headline (service_of (setup_of others second) (length second.plans.items) (by_function (answer_of tables)))
-          second.plans.items s) (sym same.tables) of_second.headline;
+      headline = subst (λ (ts : Tables). Headline (service_of (setup_of others second) (length second.plans.items) (by_function (answer_of ts)))
+          second.plans.items s) tables of_second.headline;
       unfailed = of_second.unfailed;
       unprimed = plans_unprimed first.plans.items second.plans.items same.plans none;
     })

@@ -2,6 +2,7 @@ pub mod ReplyLines
 pub mod ScriptText
 pub mod ReportText
 pub mod Options
+pub mod JoinedTables
 pub mod Run
 pub mod Migration
 pub mod MigratedAnswers

@@ -21,8 +21,8 @@ pub record IsUnfailedReport (options : Options) (file : PlanFile) (r : Report) :
   pub unfailed : NoneFailed r.history.events
 
 -- A plan file of version 1 that primes no key, and the file that its tree is after migrating, have the same answers in
--- all reports in which no batch failed.
+-- all reports in which no batch failed, over the same database or over none.
 abbrev pub MigratedAnswersAreEqual : Type 0
 MigratedAnswersAreEqual = (d : Data) (first second : PlanFile) → SpellsPlans d first → first.table_limits ≡ None → SpellsPlans (migrated d) second
-    → PrimesNone first → (options others : Options) (r s : Report) → IsUnfailedReport options first r → IsUnfailedReport others second s
-    → r.answers ≡ s.answers
+    → PrimesNone first → (options others : Options) → options.database ≡ others.database
+    → (r s : Report) → IsUnfailedReport options first r → IsUnfailedReport others second s → r.answers ≡ s.answers

@@ -1,5 +1,6 @@
 -- The command line of `plans`, and what its matches give.
-use Rattle.std.specs.Prelude.{◌≡◌, ◌≤◌, ◌↔◌, ℕ, ◌∷◌, [], List, true, false, IsTrue, pos, codes, Option, Some, option_map, string_bytes}
+use Rattle.std.specs.Prelude.{◌≡◌, ◌≤◌, ◌↔◌, ℕ, ◌∷◌, [], List, true, false, IsTrue, pos, codes, Option, Some, None, option_map, String, string_bytes}
+use Rattle.std.specs.declared.alloc.Global.{Global}
 use Rattle.std.specs.Str.Parse.{digits_value, without_leading_plus, IsNumeral}
 use Rattle.clap.specs.Words.{App, Shape, Row, Rule, Text, new_app, new_rule, first_of, one_of, with_rule, with_subcommand}
 use Rattle.clap.specs.Simple.{on_top}
@@ -32,6 +33,10 @@ picture_rule = record (new_rule (codes "picture")) { long = Some (codes "picture
 abbrev pub trace_rule : Rule
 trace_rule = record (new_rule (codes "trace")) { long = Some (codes "trace"); value_names = 1 }
 
+-- `--database FILE`
+abbrev pub database_rule : Rule
+database_rule = record (new_rule (codes "database")) { long = Some (codes "database"); value_names = 1 }
+
 -- the words follow the program's name
 abbrev pub without_name : Shape → Shape
 without_name s = record s { no_binary_name = true }
@@ -40,13 +45,17 @@ without_name s = record s { no_binary_name = true }
 abbrev pub migrate_app : App
 migrate_app = new_app (codes "migrate")
 
--- the options for answering a document
+-- the options for answering a document that name no file
 abbrev pub answering_app : App
 answering_app = with_rule (with_rule (on_top without_name (new_app (codes "plans"))) workers_rule) batches_rule
 
+-- the options for answering a document
+abbrev pub file_words_app : App
+file_words_app = with_rule (with_rule (with_rule answering_app picture_rule) trace_rule) database_rule
+
 -- the command line without its version
 abbrev pub plans_words_app : App
-plans_words_app = with_subcommand (with_rule (with_rule answering_app picture_rule) trace_rule) migrate_app.top
+plans_words_app = with_subcommand file_words_app migrate_app.top
 
 abbrev pub with_version : Shape → Shape
 with_version s = record s { has_version = true }
@@ -70,8 +79,8 @@ pub record GivesNumber (rows : List Row) (id : Text) (n : ℕ) : Type 0 where
   pub row : one_of id rows ≡ Some text
   pub decimal : IsDecimal text n
 
--- the options that the matches and the subcommand in use give
-pub record AreGiven (rows : List Row) (used : Option (Text × List Row)) (o : Options) : Type 0 where
+-- the options and the file of the database that the matches and the subcommand in use give
+pub record AreGiven (rows : List Row) (used : Option (Text × List Row)) (o : Options) (file : Option (String Global)) : Type 0 where
   pub workers : GivesNumber rows (codes "workers") o.workers
   pub least : 1 ≤ o.workers
   pub most : o.workers ≤ most_workers
@@ -79,4 +88,6 @@ pub record AreGiven (rows : List Row) (used : Option (Text × List Row)) (o : Op
   pub no_batches : one_of (codes "batches") rows ≡ Some (codes "false") → o.batches ≡ false
   pub picture : option_map string_bytes o.picture ≡ first_of (codes "picture") rows
   pub trace : option_map string_bytes o.trace ≡ first_of (codes "trace") rows
+  pub database : option_map string_bytes file ≡ first_of (codes "database") rows
+  pub unread : o.database ≡ None
   pub migrate : IsTrue o.migrate ↔ (name_of used ≡ Some (codes "migrate"))

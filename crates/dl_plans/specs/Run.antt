@@ -15,6 +15,7 @@ use Rattle.dl_scope.specs.Setup.{service_of}
 use Rattle.dl_scope.specs.declared.setup.Setup.{Setup}
 use Rattle.dl_scope.specs.Faults.{RefusedAs}
 use Rattle.dl_scope.specs.Headline.{Headline}
+use Rattle.dl_plans.specs.JoinedTables.{joined}
 use Rattle.dl_plans.specs.ScriptText.{script_text}
 use Rattle.dl_plans.specs.ReportText.{report_text}
 use Rattle.dl_plans.specs.declared.fault.RunError.{RunError}
@@ -46,9 +47,10 @@ queue_places = 16
 abbrev pub setup_of : Options → PlanFile → Setup
 setup_of options file = record { limits = file.limits; tables = file.table_limits; workers = options.workers; queue = queue_places }
 
--- what serves the plans of a file: its tables answer
+-- what serves the plans of a file: its tables answer, and behind them those of the database
 abbrev pub file_service : Options → PlanFile → Service
-file_service options file = service_of (setup_of options file) (length file.plans.items) (by_function (answer_of file.tables))
+file_service options file =
+    service_of (setup_of options file) (length file.plans.items) (by_function (answer_of (joined file.tables options.database)))
 
 -- ---- what is written
 
@@ -72,8 +74,8 @@ pub record WritesFront (IsGiven : List ℕ → List ℕ → Type 0) (old new : O
 
 -- ---- what it gives
 
--- The text that a document gives: that of a script, or that of a report that has the headline for the tables, limits
--- and plans of the file.
+-- The text that a document gives: that of a script, or that of a report that has the headline for the limits and plans
+-- of the file, for its tables and for those of the database.
 abbrev pub Outputs : Options → Input → List ℕ → Type 0
 Outputs options (input.Script s) text = text ≡ script_text s
 Outputs options (input.Plans file) text = (r : Report) × Headline (file_service options file) file.plans.items r × (text ≡ report_text r options.batches)

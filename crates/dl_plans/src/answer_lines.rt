@@ -20,7 +20,7 @@ pub(crate) fn push_answers(
 ) -> Result<(), AllocError>
     ensures { OnOk result (string_bytes out.new ≡ string_bytes out.old ++ flat_map (answer_line plan) answers.now) }
 {
-    'answers: for given in answers {
+    for given in answers {
         push_answer(alloc, out, plan, given)?;
     }
     Ok(())

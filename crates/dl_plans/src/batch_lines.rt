@@ -18,7 +18,7 @@ pub(crate) fn push_batches(
 ) -> Result<(), AllocError>
     ensures { OnOk result (string_bytes out.new ≡ string_bytes out.old ++ batches_text (atoms (past batches.now))) }
 {
-    'batches: for number in 0..u32::MAX {
+    for number in 0..u32::MAX {
         match batches.get(number) {
             Some(batch) => push_batch(alloc, out, number, &batch)?,
             None => return Ok(()),

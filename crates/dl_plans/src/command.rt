@@ -2,7 +2,8 @@
 
 ghost use Rattle.std.specs.Prelude.{◌≡◌, IfOk, IfSome, map, option_map, false, string_bytes};
 ghost use Rattle.clap.specs.Words.{app_of, rule_of, found_of, matches_of, rows_of, subcommand_of, subcommand_rows_of};
-ghost use Rattle.dl_plans.specs.Options.{plans_app, plans_words_app, answering_app, workers_rule, batches_rule, picture_rule, trace_rule, AreGiven};
+ghost use Rattle.dl_plans.specs.Options.{plans_app, plans_words_app, file_words_app, answering_app, AreGiven};
+ghost use Rattle.dl_plans.specs.Options.{workers_rule, batches_rule, picture_rule, trace_rule, database_rule};
 
 use crate::settings::Options;
 use clap::error::ErrorKind;
@@ -10,54 +11,64 @@ use clap::{Arg, ArgAction, ArgMatches, Command, Error, value_parser};
 use std::alloc::{AllocError, Global};
 use std::convert::AsStr;
 
-/// The options in the words behind the program's name: `[--workers N] [--batches] [--picture FILE] [--trace FILE]
-/// [migrate]`. N is 1 to 16, and 3 if you don't give it. No option follows `migrate`.
+/// The options in the words behind the program's name, `[--workers N] [--batches] [--picture FILE] [--trace FILE]
+/// [--database FILE] [migrate]`, and the file of the database. N is 1 to 16, and 3 if you don't give it. No option follows
+/// `migrate`. The options have no tables of a database yet.
 ///
 /// # Errors
 /// The help, if the words ask for it; why the words are wrong, with the usage; or that memory ran out.
-pub fn options<'a, S: AsStr>(alloc: Global, words: &'a [S]) -> Result<Options, Error>
+pub fn options<'a, S: AsStr>(
+    alloc: Global,
+    words: &'a [S],
+) -> Result<(Options, Option<String>), Error>
     ensures { let texts = map S.text words.entry.now in
-        IfOk result (AreGiven (matches_of plans_app texts) (subcommand_of plans_app texts)) }
+        IfOk result (λ g. AreGiven (matches_of plans_app texts) (subcommand_of plans_app texts) g.0 g.1) }
 {
     let mut command = command(alloc)?;
     match read(alloc, &mut command, words)? {
-        Some(options) => Ok(options),
+        Some(given) => Ok(given),
         None => Err(out_of_range(&mut command)),
     }
 }
 
-/// The options that the words give by the command line, or `None` if the number of workers is out of range.
+/// What the words give by the command line, or `None` if the number of workers is out of range.
 fn read<'a, S: AsStr>(
     alloc: Global,
     command: &mut Command<'a>,
     words: &'a [S],
-) -> Result<Option<Options>, Error>
+) -> Result<Option<(Options, Option<String>)>, Error>
     requires { app_of command.old ≡ plans_app }
     ensures { let texts = map S.text words.entry.now in
-        IfOk result (λ options. IfSome options (AreGiven (matches_of plans_app texts) (subcommand_of plans_app texts))) }
+        IfOk result (λ given. IfSome given (λ g. AreGiven (matches_of plans_app texts) (subcommand_of plans_app texts) g.0 g.1)) }
 {
     let matches = command.try_get_matches_from_mut(words)?;
     match given(alloc, &matches) {
-        Ok(options) => Ok(options),
+        Ok(given) => Ok(given),
         Err(error) => Err(Error::from(error)),
     }
 }
 
-/// The options of the matches, or `None` if the number of workers is out of range.
-fn given(alloc: Global, matches: &ArgMatches) -> Result<Option<Options>, AllocError>
-    ensures { IfOk result (λ options. IfSome options (AreGiven (rows_of (found_of matches.now)) (subcommand_rows_of matches.now))) }
+/// What the matches give, or `None` if the number of workers is out of range.
+fn given(
+    alloc: Global,
+    matches: &ArgMatches,
+) -> Result<Option<(Options, Option<String>)>, AllocError>
+    ensures { IfOk result (λ given. IfSome given (λ g. AreGiven (rows_of (found_of matches.now)) (subcommand_rows_of matches.now) g.0 g.1)) }
 {
     let workers = match matches.get_one::<u32>("workers") {
         Some(workers) if (1..=16).contains(&workers) => workers,
         _ => return Ok(None),
     };
-    Ok(Some(Options {
+    let database = copied(alloc, matches.get_str("database"))?;
+    let options = Options {
         workers,
         batches: matches.get_flag("batches"),
         picture: copied(alloc, matches.get_str("picture"))?,
         trace: copied(alloc, matches.get_str("trace"))?,
+        database: None,
         migrate: matches.subcommand_matches("migrate").is_some(),
-    }))
+    };
+    Ok(Some((options, database)))
 }
 
 /// A copy of a text, if there is one.
@@ -97,7 +108,7 @@ fn command<'a>(alloc: Global) -> Result<Command<'a>, AllocError>
     ensures { IfOk result (λ c. app_of c ≡ plans_app) }
 {
     let words = plans_words(alloc)?;
-    Ok(words.version("0.5.0"))
+    Ok(words.version("0.6.0"))
 }
 
 /// The command line without its version.
@@ -107,14 +118,20 @@ fn plans_words<'a>(alloc: Global) -> Result<Command<'a>, AllocError>
     let migrate = Command::new(alloc, "migrate")
         .about("Writes a plan file of version 1 as one of version 2")
         .override_usage("plans migrate");
-    let answering = answering_words(alloc)?;
-    answering
-        .arg(picture(alloc))?
-        .arg(trace(alloc))?
-        .subcommand(migrate)
+    file_words(alloc)?.subcommand(migrate)
 }
 
 /// The options for answering a document.
+fn file_words<'a>(alloc: Global) -> Result<Command<'a>, AllocError>
+    ensures { IfOk result (λ c. app_of c ≡ file_words_app) }
+{
+    answering_words(alloc)?
+        .arg(picture(alloc))?
+        .arg(trace(alloc))?
+        .arg(database(alloc))
+}
+
+/// The options for answering a document that name no file.
 fn answering_words<'a>(alloc: Global) -> Result<Command<'a>, AllocError>
     ensures { IfOk result (λ c. app_of c ≡ answering_app) }
 {
@@ -169,4 +186,15 @@ fn trace<'a>(alloc: Global) -> Arg<'a>
         .long("trace")
         .value_name("FILE")
         .help("Writes what happened into a file too, as a trace in JSON")
+}
+
+/// `--database FILE`.
+fn database<'a>(alloc: Global) -> Arg<'a>
+    ensures rule { rule_of result ≡ database_rule }
+    ensures local { result.global ≡ false }
+{
+    Arg::new(alloc, "database")
+        .long("database")
+        .value_name("FILE")
+        .help("Answers from the tables of a SQLite database too")
 }

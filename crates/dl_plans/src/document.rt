@@ -2,9 +2,12 @@
 
 ghost use Rattle.std.specs.Prelude.{◌≡◌, ◌≢◌, ◌⊎◌, ◌+◌, ℕ, List, IfOk, IfErr, IfSome, OnOk, string_bytes};
 ghost use Rattle.std.specs.Io.KnownBytes.{Keeps};
-ghost use Rattle.dl_documents.specs.Faults.{most_bytes};
+ghost use Rattle.serde_json.specs.Data.{Data};
+ghost use Rattle.dl_documents.specs.Document.{IsTextOf, Spells};
+ghost use Rattle.dl_documents.specs.Faults.{Applies, IsLeast, most_bytes};
+ghost use Rattle.dl_plans.specs.JoinedTables.{AreNames, HasNames};
 ghost use Rattle.dl_plans.specs.ReportText.{report_text};
-ghost use Rattle.dl_plans.specs.Run.{IsOutput, IsRefused, ReadsAtMost, Writes, WritesFront, file_service, setup_of};
+ghost use Rattle.dl_plans.specs.Run.{IsDocument, IsOutput, IsRefused, Outputs, ReadsAtMost, Writes, WritesFront, file_service, setup_of};
 ghost use Rattle.dl_scope.specs.Faults.{RefusedAs};
 ghost use Rattle.dl_scope.specs.Headline.{Headline};
 ghost use Rattle.dl_plans.specs.ScriptText.{script_text};
@@ -12,16 +15,20 @@ ghost use Rattle.dl_plans.specs.declared.settings.Options.{Options};
 
 use crate::QUEUE_PLACES;
 use crate::fault::RunError;
+use crate::joined_tables::JoinedTables;
 use crate::picture::{report_picture, report_trace};
 use crate::report::report_text;
 use crate::script_text::run_script;
 use crate::settings::Options;
 use crate::streams::{read_all, write_all};
+use crate::table_names::{Names, table_names};
 use crate::whole_file::write_whole;
-use dl_documents::{Input, PlanFault, PlanFile, Script, read_input};
+use dl_documents::{Input, PlanFault, PlanFile, Script, read_document, read_input};
 use dl_picture::{script_picture, script_trace};
 use dl_scope::{Report, ScopeFault, Setup, serve};
+use dl_source::Tables;
 use dl_workers::NoGate;
+use indexmap::IndexSet;
 use std::alloc::{AllocError, Global};
 use std::hash::RandomState;
 use std::io::{Read, Write};
@@ -33,8 +40,9 @@ use std::thread::Threads;
 
 /// Reads a document, makes all of the text that it gives, and then writes it. It reads at most one byte more than a
 /// document may have. It serves the plans of a plan file at once, each on a thread of its own, with as many workers as
-/// the options say. If they name files for them, the picture and the trace of what happened go there first, each as a
-/// whole or not at all. `hashing` hashes keys, and nothing that you see depends on it.
+/// the options say. The file's tables answer, and behind them those of a database, if the options have one. If they name
+/// files for them, the picture and the trace of what happened go there first, each as a whole or not at all. `hashing`
+/// hashes keys, and nothing that you see depends on it.
 ///
 /// Call it at the end of a process: it leaves what it read and served to the system, and doesn't drop it.
 ///
@@ -72,6 +80,7 @@ pub fn run<R: Read, W: Write, T: Threads + Wait + Sync + Files + RandomSource>(
     let bytes = read_all(alloc, reader)?;
     let given = output(rt, alloc, hashing, bytes, &options)?;
     keep_files(rt, alloc, &options, &given)?;
+    forget(options);
     write_all(writer, given.text.as_bytes())
 }
 
@@ -124,15 +133,64 @@ fn output<T: Threads + Wait + Sync>(
     ensures err { IfErr result (IsRefused options.now bytes.items) }
     ensures kept { IfErr result (λ e. e ≢ RunError.Write) }
 {
-    let read = read_input(alloc, hashing, &bytes);
+    let read = read(alloc, hashing, &bytes, &options.database);
     drop(bytes);
     match read {
-        Ok(Input::Script(script)) => {
+        Ok((input, names)) => answered(rt, alloc, hashing, input, &names, options),
+        Err(PlanFault::OutOfMemory) => Err(RunError::OutOfMemory),
+        Err(fault) => Err(RunError::Refused(fault)),
+    }
+}
+
+/// What the bytes of a document say, and with a database the names of a plan file's tables.
+///
+/// # Errors
+/// Those of [`read_input`].
+fn read(
+    alloc: Global,
+    hashing: RandomState,
+    bytes: &[u8],
+    database: &Option<Tables>,
+) -> Result<(Input, Names), PlanFault>
+    ensures ok { IfOk result (λ p. (d : Data) × IsTextOf bytes.now d × Spells d p.0) }
+    ensures names { IfOk result (λ p. IfSome database.now (λ _. HasNames p.0 p.1)) }
+    ensures passes { OnOk result ((f : PlanFault) → Applies bytes.now f → ⊥) }
+    ensures err { IfErr result (λ f. (f ≡ PlanFault.OutOfMemory) ⊎ IsLeast (Applies bytes.now) f) }
+{
+    match database {
+        None => {
+            let input = read_input(alloc, hashing, bytes)?;
+            Ok((input, IndexSet::with_hasher(alloc, hashing)))
+        }
+        Some(_) => {
+            let (document, input) = read_document(alloc, hashing, bytes)?;
+            let names = table_names(alloc, hashing, &document)?;
+            Ok((input, names))
+        }
+    }
+}
+
+/// What a document gives, by what it says and by the names of a plan file's tables.
+fn answered<T: Threads + Wait + Sync>(
+    rt: &T,
+    alloc: Global,
+    hashing: RandomState,
+    input: Input,
+    names: &Names,
+    options: &Options,
+) -> Result<Given, RunError>
+    requires { IfSome options.now.database (λ _. HasNames input names.now) }
+    ensures ok { IfOk result (λ given. Outputs options.now input (string_bytes given.text)) }
+    ensures err { (bytes : List ℕ) → IsDocument bytes input → IfErr result (IsRefused options.now bytes) }
+    ensures kept { IfErr result (λ e. e ≢ RunError.Write) }
+{
+    match input {
+        Input::Script(script) => {
             let given = output_of_script(alloc, hashing, &script, options);
             forget(script);
             made(given)
         }
-        Ok(Input::Plans(file)) => match served(rt, alloc, hashing, file, options) {
+        Input::Plans(file) => match served(rt, alloc, hashing, file, names, options) {
             Ok(report) => {
                 let given = output_of_report(alloc, &report, options);
                 forget(report);
@@ -140,8 +198,6 @@ fn output<T: Threads + Wait + Sync>(
             }
             Err(fault) => Err(RunError::Run(fault)),
         },
-        Err(PlanFault::OutOfMemory) => Err(RunError::OutOfMemory),
-        Err(fault) => Err(RunError::Refused(fault)),
     }
 }
 
@@ -202,8 +258,8 @@ fn output_of_report(alloc: Global, report: &Report, options: &Options) -> Result
     })
 }
 
-/// Serves the plans of a file over its tables, within the limits of the file, with as many workers as the options say
-/// and a queue of [`QUEUE_PLACES`]. It doesn't drop the tables.
+/// Serves the plans of a file over its tables and those of the options' database, within the limits of the file, with as
+/// many workers as the options say and a queue of [`QUEUE_PLACES`]. It doesn't drop the tables.
 ///
 /// # Errors
 /// Those of [`serve`].
@@ -212,8 +268,10 @@ fn served<T: Threads + Wait + Sync>(
     alloc: Global,
     hashing: RandomState,
     file: PlanFile,
+    names: &Names,
     options: &Options,
 ) -> Result<Report, ScopeFault>
+    requires { IfSome options.now.database (λ _. AreNames names.now file.tables) }
     ensures headline { IfOk result (Headline (file_service options.now file) file.plans.items) }
     ensures refused { IfErr result (RefusedAs (file_service options.now file) (setup_of options.now file) file.plans.items) }
 {
@@ -229,7 +287,8 @@ fn served<T: Threads + Wait + Sync>(
         workers: options.workers,
         queue: QUEUE_PLACES,
     };
-    let left = serve(rt, alloc, hashing, &tables, setup, plans, &NoGate);
+    let source = JoinedTables::new(&tables, names, &options.database);
+    let left = serve(rt, alloc, hashing, &source, setup, plans, &NoGate);
     forget(tables);
     left
 }

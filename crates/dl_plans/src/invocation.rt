@@ -1,28 +1,59 @@
 //! What a run of the program is to do, and how it ends, over a runtime. If standard error takes no line, the status
 //! says all.
 
+ghost use Rattle.std.specs.Prelude.{IfOk, IfSome};
+ghost use Rattle.dl_sqlite.specs.Image.{IsReadFromSome};
+
 use crate::command::{options, unreadable};
 use crate::fault::RunError;
 use crate::settings::Options;
 use crate::status::{FAILED, RAN, command_status, words_status};
 use clap::error::ErrorKind;
+use dl_source::Tables;
+use dl_sqlite::{DatabaseFault, read_file};
+use std::alloc::{AllocError, Global};
 use std::hash::RandomState;
 use std::random::RandomSource;
-use std::rt::Env;
+use std::rt::{Env, Files};
 use std::{env, io};
 
 // ---- what to do
 
-/// The options of the command line, and random numbers of this run to hash keys by, since keys come from strangers.
+/// The options of the command line, with the tables of the database that it names, and random numbers of this run to
+/// hash keys by, since keys come from strangers. If there is a document to migrate, no database is read.
 ///
 /// # Errors
 /// The status for the program to end with, once standard error says why in a line.
-pub fn asked<R: Env + RandomSource + Print + Eprint + AllocGlobal>(
+pub fn asked<R: Env + RandomSource + Print + Eprint + AllocGlobal + Files>(
     rt: &R,
-) -> Result<(Options, RandomState), u8> {
-    let options = given(rt)?;
+) -> Result<(Options, RandomState), u8>
+    ensures { IfOk result (λ asked. IfSome asked.0.database IsReadFromSome) }
+{
+    let (options, file) = given(rt)?;
+    let hashing = hashing(rt)?;
+    let database = database(rt, hashing, &options, &file)?;
+    Ok((options.with_database(database), hashing))
+}
+
+/// The tables of the database in this file, unless there is a document to migrate. Fails as [`asked`] does.
+fn database<R: Eprint + AllocGlobal + Files>(
+    rt: &R,
+    hashing: RandomState,
+    options: &Options,
+    file: &Option<String>,
+) -> Result<Option<Tables>, u8>
+    ensures { IfOk result (λ tables. IfSome tables IsReadFromSome) }
+{
+    match file {
+        Some(file) if !options.migrate => Ok(Some(tables(rt, hashing, file.as_str())?)),
+        _ => Ok(None),
+    }
+}
+
+/// Random numbers. Fails as [`asked`] does.
+fn hashing<R: RandomSource + Eprint>(rt: &R) -> Result<RandomState, u8> {
     match RandomState::new(rt) {
-        Ok(hashing) => Ok((options, hashing)),
+        Ok(hashing) => Ok(hashing),
         Err(_) => {
             let _ = eprintln!(rt; "failed: random numbers");
             Err(FAILED)
@@ -30,8 +61,47 @@ pub fn asked<R: Env + RandomSource + Print + Eprint + AllocGlobal>(
     }
 }
 
-/// The options of the command line. Fails as [`asked`] does.
-fn given<R: Env + Print + Eprint + AllocGlobal>(rt: &R) -> Result<Options, u8> {
+/// The tables of the database in this file. Fails as [`asked`] does.
+fn tables<R: Eprint + AllocGlobal + Files>(
+    rt: &R,
+    hashing: RandomState,
+    file: &str,
+) -> Result<Tables, u8>
+    ensures { IfOk result IsReadFromSome }
+{
+    match read_file(rt, rt.alloc(), hashing, file) {
+        Ok(tables) => Ok(tables),
+        Err(fault) => {
+            tell_unread_database(rt, &fault);
+            Err(FAILED)
+        }
+    }
+}
+
+/// Says why a database isn't read.
+fn tell_unread_database<R: Eprint + AllocGlobal>(rt: &R, fault: &DatabaseFault) {
+    let _ = match in_one_line(rt.alloc(), fault) {
+        Ok(text) => eprintln!(rt; "failed: database: {text}"),
+        Err(_) => eprintln!(rt; "{}", RunError::OutOfMemory),
+    };
+}
+
+/// The text of a fault. A name in it may have any characters: those that would end a line are spaces. Fails if memory
+/// runs out, or ran out before.
+fn in_one_line(alloc: Global, fault: &DatabaseFault) -> Result<String, AllocError> {
+    if let DatabaseFault::OutOfMemory = fault {
+        return Err(AllocError);
+    }
+    let text = format!(in alloc; "{fault}")?;
+    text.chars()
+        .map(|letter| if letter.is_control() { ' ' } else { letter })
+        .collect(alloc)
+}
+
+/// What the command line gives. Fails as [`asked`] does.
+fn given<R: Env + Print + Eprint + AllocGlobal>(
+    rt: &R,
+) -> Result<(Options, Option<String>), u8> {
     match words(rt) {
         Ok(words) => given_by(rt, &words),
         Err(error) => {
@@ -55,10 +125,13 @@ fn tell_unread<R: Print + Eprint + AllocGlobal>(rt: &R, error: &io::Error) {
     };
 }
 
-/// The options that these words give. Fails as [`asked`] does.
-fn given_by<R: Print + Eprint + AllocGlobal>(rt: &R, words: &[String]) -> Result<Options, u8> {
+/// What these words give. Fails as [`asked`] does.
+fn given_by<R: Print + Eprint + AllocGlobal>(
+    rt: &R,
+    words: &[String],
+) -> Result<(Options, Option<String>), u8> {
     match options(rt.alloc(), words) {
-        Ok(options) => Ok(options),
+        Ok(given) => Ok(given),
         Err(error) => {
             tell_no_options(rt, &error);
             Err(command_status(&error))

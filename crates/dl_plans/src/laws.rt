@@ -24,7 +24,7 @@ pub fn migrated_reads_the_same()
 {}
 
 /// If a plan file of version 1 primes no key, it and the migrated file have the same answers in all reports in which no
-/// batch failed, for all numbers of workers.
+/// batch failed, for all numbers of workers, over the same database or over none.
 pub fn migrated_answers_are_equal()
     ensures { MigratedAnswersAreEqual }
 {

@@ -1,7 +1,5 @@
 //! The parts of the program `plans`: its command line; what a document gives, over a reader and a writer ([`run`]); the
 //! texts of scripts and reports; the files of pictures and traces; migration; and the lines and statuses of failures.
-//!
-//! The label of a loop is its name in `proofs/`.
 #![tactic(auto)]
 
 mod answer_lines;
@@ -10,6 +8,7 @@ mod command;
 mod document;
 mod fault;
 mod invocation;
+mod joined_tables;
 pub mod laws;
 mod migration;
 mod picture;
@@ -19,6 +18,7 @@ mod script_text;
 mod settings;
 mod status;
 mod streams;
+mod table_names;
 mod whole_file;
 
 pub use command::options;

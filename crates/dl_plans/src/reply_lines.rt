@@ -38,7 +38,7 @@ fn push_many(out: &mut String, replies: &[LoadReply]) -> Result<(), AllocError>
     ensures { OnOk result (string_bytes out.new ≡ string_bytes out.old ++ many_lines replies.now) }
 {
     writeln!(out, "many {}", replies.len())?;
-    'replies: for reply in replies {
+    for reply in replies {
         push_load(out, *reply)?;
     }
     Ok(())
@@ -49,7 +49,7 @@ fn push_sent(alloc: Global, out: &mut String, jobs: &[Job]) -> Result<(), AllocE
     ensures { OnOk result (string_bytes out.new ≡ string_bytes out.old ++ sent_lines jobs.now) }
 {
     writeln!(out, "sent {}", jobs.len())?;
-    'jobs: for job in jobs {
+    for job in jobs {
         push_job(alloc, out, job)?;
     }
     Ok(())
@@ -74,7 +74,7 @@ fn push_job(alloc: Global, out: &mut String, job: &Job) -> Result<(), AllocError
     ensures { OnOk result (string_bytes out.new ≡ string_bytes out.old ++ job_line job.now) }
 {
     write!(out, "job {}", job.batch)?;
-    'keys: for key in job.keys.as_slice() {
+    for key in job.keys.as_slice() {
         let text = key_text(alloc, key)?;
         write!(out, " {text}")?;
     }

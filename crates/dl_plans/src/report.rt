@@ -20,7 +20,7 @@ pub fn report_text(alloc: Global, report: &Report, batches: bool) -> Result<Stri
     ensures { IfOk result (λ text. string_bytes text ≡ report_text report.now batches) }
 {
     let mut out = String::new(alloc);
-    'plans: for (plan, answers) in report.answers().iter().enumerate() {
+    for (plan, answers) in report.answers().iter().enumerate() {
         push_answers(alloc, &mut out, plan, answers)?;
     }
     if batches && report.answers().len() == 1 {

@@ -23,7 +23,7 @@ pub fn run_script(
 {
     let run = script.play(alloc, hashing)?;
     let mut out = String::new(alloc);
-    'answers: for answer in &run.answers {
+    for answer in &run.answers {
         push_call(alloc, &mut out, answer)?;
     }
     Ok(out)

@@ -1,7 +1,11 @@
 //! The settings of a run.
 
+ghost use Rattle.std.specs.Prelude.{◌≡◌};
+
+use dl_source::Tables;
+
 /// What the command line sets.
-#[derive(Debug, Drop, PartialEq, Eq)]
+#[derive(Drop)]
 pub struct Options {
     /// How many workers a plan file gets: 1 to 16.
     pub workers: u32,
@@ -11,6 +15,33 @@ pub struct Options {
     pub picture: Option<String>,
     /// The file of the trace, if the command line asks for one.
     pub trace: Option<String>,
+    /// The tables of the database, if the command line names one. They answer a plan file too: a key whose table it
+    /// doesn't have.
+    pub database: Option<Tables>,
     /// Whether to write a plan file of version 1 as version 2, and not to answer it.
     pub migrate: bool,
+}
+
+impl Options {
+    /// The same, with the tables of this database, or of none.
+    pub(crate) fn with_database(self, database: Option<Tables>) -> Options
+        ensures { result ≡ record self { database = database } }
+    {
+        let Options {
+            workers,
+            batches,
+            picture,
+            trace,
+            migrate,
+            ..
+        } = self;
+        Options {
+            workers,
+            batches,
+            picture,
+            trace,
+            database,
+            migrate,
+        }
+    }
 }

@@ -28,7 +28,7 @@ pub(crate) fn read_all<R: Read>(alloc: Global, reader: &mut R) -> Result<Vec<u8>
 {
     let mut bytes = Vec::new(alloc);
     let mut buffer = [0; BUFFER_BYTES];
-    'reads: while bytes.len() < MOST_READ {
+    while bytes.len() < MOST_READ {
         let room = BUFFER_BYTES.min(MOST_READ - bytes.len());
         match reader.read(&mut buffer[..room]) {
             Ok(0) => return Ok(bytes),
@@ -52,7 +52,7 @@ pub fn write_all<W: Write>(writer: &mut W, text: &[u8]) -> Result<(), RunError>
     ensures front { AppendsFront (W.contents writer.old) (W.contents writer.new) text.now }
 {
     let mut at = 0;
-    'writes: while at < text.len() {
+    while at < text.len() {
         match writer.write(&text[at..]) {
             Ok(0) | Err(_) => return Err(RunError::Write),
             Ok(count) => at += count,

@@ -1,4 +1,4 @@
-use Rattle.std.proofs.Common.{rules, ◌∙◌, sym, codes}
+use Rattle.std.proofs.Common.{rules, ◌∙◌, sym, refl, codes}
 use Rattle.clap.proofs.WalkLemmas.{first_value-rows, one_text-rows}
 use Rattle.clap.specs.Words.{found_of}
 use Rattle.dl_plans.proofs.CommandMatches.{number_given, name_used}
@@ -14,8 +14,10 @@ returns c =
       most = search rules;
       batches = λ e. c.get_flag.ensures.value (one_text-rows found (codes "batches") ∙ e);
       no_batches = λ e. c.get_flag.ensures.other (one_text-rows found (codes "batches") ∙ e);
-      picture = c.in_ok-copied.ensures ∙ (c.get_str.ensures ∙ first_value-rows found (codes "picture"));
-      trace = c.in_ok-copied-2.ensures ∙ (c.get_str-2.ensures ∙ first_value-rows found (codes "trace"));
+      picture = c.in_ok-copied.ensures ∙ (c.get_str-2.ensures ∙ first_value-rows found (codes "picture"));
+      trace = c.in_ok-copied-2.ensures ∙ (c.get_str-3.ensures ∙ first_value-rows found (codes "trace"));
+      database = c.in_ok-database.ensures ∙ (c.get_str.ensures ∙ first_value-rows found (codes "database"));
+      unread = refl;
       migrate = (
         λ is. name_used c.args.matches.now ∙ c.subcommand_matches.ensures.found.0 (sym c.is_some.ensures ∙ is),
         λ named. c.is_some.ensures ∙ c.subcommand_matches.ensures.found.1 (sym (name_used c.args.matches.now) ∙ named),

@@ -3,6 +3,6 @@ use Rattle.std.proofs.Common.{◌≡◌, ◌++◌, codes, decimal, flat_map, len
 use Rattle.dl_plans.specs.ReplyLines.{text_line, load_line}
 use Rattle.dl_plans.proofs.reply_lines.push_many.Given as goal
 
-abbrev pub invariant-replies : goal.invariant-replies
-invariant-replies l = string_bytes l.out ≡ string_bytes l.fn.out ++ (text_line (codes "many " ++ decimal (length l.replies)) ++ flat_map load_line
+abbrev pub invariant-loop-reply : goal.invariant-loop-reply
+invariant-loop-reply l = string_bytes l.out ≡ string_bytes l.fn.out ++ (text_line (codes "many " ++ decimal (length l.replies)) ++ flat_map load_line
     (take l.reply-index l.replies))

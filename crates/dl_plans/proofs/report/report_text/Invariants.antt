@@ -3,5 +3,5 @@ use Rattle.std.proofs.Common.{◌≡◌, ◌++◌, drop, map, string_bytes}
 use Rattle.dl_plans.specs.ReportText.{answers_text}
 use Rattle.dl_plans.proofs.report.report_text.Given as goal
 
-abbrev pub invariant-plans : goal.invariant-plans
-invariant-plans l = string_bytes l.out ++ answers_text l.plan (map (λ a. a.items) (drop l.plan l.answers-items)) ≡ answers_text 0 l.fn.report.answers
+abbrev pub invariant-loop-plan : goal.invariant-loop-plan
+invariant-loop-plan l = string_bytes l.out ++ answers_text l.plan (map (λ a. a.items) (drop l.plan l.answers-items)) ≡ answers_text 0 l.fn.report.answers

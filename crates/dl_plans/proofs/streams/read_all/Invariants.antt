@@ -4,12 +4,12 @@ use Rattle.std.specs.Io.KnownBytes.{Consumes}
 use Rattle.dl_plans.specs.declared.streams.TheConstants.{MOST_READ, BUFFER_BYTES}
 use Rattle.dl_plans.proofs.streams.read_all.Given as goal
 
-abbrev pub invariant-reads : goal.invariant-reads
-invariant-reads g l = record {
+abbrev pub invariant-loop-buffer : goal.invariant-loop-buffer
+invariant-loop-buffer g l = record {
   most : vec_len l.bytes ≤ MOST_READ;
   consumed : Consumes (g.R.Read.remaining l.initial.reader) (g.R.Read.remaining l.reader) l.bytes.items;
   buffer : length l.buffer ≡ BUFFER_BYTES;
 }
 
-abbrev pub decreases-reads : goal.decreases-reads
-decreases-reads g l = MOST_READ - vec_len l.bytes
+abbrev pub decreases-loop-buffer : goal.decreases-loop-buffer
+decreases-loop-buffer g l = MOST_READ - vec_len l.bytes

@@ -3,10 +3,10 @@ use Rattle.std.proofs.lemmas.List.{take_rest}
 use Rattle.dl_plans.proofs.Bytes.{wrote_more}
 use Rattle.dl_plans.proofs.streams.write_all.Goals as goal
 
-pub writes-preserved : goal.writes-preserved
-writes-preserved g c = record {
+pub loop-at-preserved : goal.loop-at-preserved
+loop-at-preserved g c = record {
   within = search rules;
-  written = wrote_more (g.W.Write.contents c.args.writer.now) (g.W.Write.contents c.writes.writer) (g.W.Write.contents c.write.new.self) c.args.text.now
-      (take (length c.args.text.now - c.writes.at) (drop c.writes.at c.args.text.now)) c.writes.at c.in-Ok.count (take_rest c.args.text.now c.writes.at)
-      c.writes.invariant.written c.in-Ok.ensures.bytes;
+  written = wrote_more (g.W.Write.contents c.args.writer.now) (g.W.Write.contents c.loop-at.writer) (g.W.Write.contents c.write.new.self) c.args.text.now
+      (take (length c.args.text.now - c.loop-at.at) (drop c.loop-at.at c.args.text.now)) c.loop-at.at c.in-Ok.count (take_rest c.args.text.now c.loop-at.at)
+      c.loop-at.invariant.written c.in-Ok.ensures.bytes;
 }
