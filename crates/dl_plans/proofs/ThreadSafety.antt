@@ -18,12 +18,12 @@ Tables-sync = search (Json-sync, message.the_sync, owners_cross, maps_cross, sen
 module _ (a : NamedLft) where
   inside_sync : IsSync (inside.the_row a)
   inside_sync = declared_sync (inside.the_type a) (
-      as_row_sync (shr_ref_field a Tables.the_row tt) (shr_sync _ _ _ Tables-sync),
-      (
-        search (as_row_sync, owners_cross, maps_cross, sendable) depth 30 fits 20000,
-        (search (as_row_sync, Tables-sync, owners_cross, maps_cross, sendable) depth 30 fits 20000, tt),
-      ),
-    )
+    as_row_sync (shr_ref_field a Tables.the_row tt) (shr_sync _ _ _ Tables-sync),
+    (
+      search (as_row_sync, owners_cross, maps_cross, sendable) depth 30 fits 20000,
+      (search (as_row_sync, Tables-sync, owners_cross, maps_cross, sendable) depth 30 fits 20000, tt),
+    ),
+  )
 
   pub JoinedTables-sync : IsSync (JoinedTables.the_row a)
   JoinedTables-sync = search (inside_sync, sendable) depth 10

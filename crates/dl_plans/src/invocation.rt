@@ -99,9 +99,7 @@ fn in_one_line(alloc: Global, fault: &DatabaseFault) -> Result<String, AllocErro
 }
 
 /// What the command line gives. Fails as [`asked`] does.
-fn given<R: Env + Print + Eprint + AllocGlobal>(
-    rt: &R,
-) -> Result<(Options, Option<String>), u8> {
+fn given<R: Env + Print + Eprint + AllocGlobal>(rt: &R) -> Result<(Options, Option<String>), u8> {
     match words(rt) {
         Ok(words) => given_by(rt, &words),
         Err(error) => {

@@ -15,7 +15,7 @@ pub returns-clause-headline : goal.returns-clause-headline
 returns-clause-headline g c =
     let plans = c.args.file.plans.items in
     subst (λ (tables : Tables). IfOk c.serve-left.result (Headline
-        (service_of (setup_of c.args.options.now c.args.file) (length plans) (by_function (answer_of tables))) plans))
+    (service_of (setup_of c.args.options.now c.args.file) (length plans) (by_function (answer_of tables))) plans))
     c.new-source.ensures c.serve-left.ensures.headline
 
 pub returns-clause-refused : goal.returns-clause-refused
