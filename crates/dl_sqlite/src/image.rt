@@ -1,6 +1,6 @@
 //! Reads a database from its bytes.
 
-ghost use Rattle.std.specs.Prelude.{◌≡◌, IsTrue, IfOk};
+ghost use Rattle.std.specs.Prelude.{◌≡◌, ◌≢◌, IsTrue, IfOk, IfErr};
 ghost use Rattle.sqlite_disk.specs.Memory.{memory_bytes, memory_is_usable};
 ghost use Rattle.sqlite.specs.Files.{file_state};
 ghost use Rattle.dl_sqlite.specs.Image.{IsReadFrom, RecoversTo, begins_well, image_from};
@@ -14,6 +14,9 @@ use sqlite_disk::{Disk, Memory};
 use std::alloc::Global;
 use std::hash::RandomState;
 
+/// How SQLite's part here says that a disk failed.
+const DISK_FAILED: Error = Error::SqliteFailure(ErrorCode::SystemIoFailure);
+
 /// Reads all rows of the database that these bytes are, once: those of a database's file, and those of its log, which is the file with
 /// the same name and `-wal` behind it. If there is none, pass no bytes. A commit that is in the log counts, as it does for SQLite.
 ///
@@ -21,8 +24,24 @@ use std::hash::RandomState;
 ///
 /// # Errors
 /// `NotADatabase`, `CutOff`, `Setting`, `Damaged` or `Unsound` if the bytes are no database that can be read here; else those of
-/// [`read_tables`].
+/// [`read_tables`], of which `Sqlite` never says that a disk failed.
 pub fn read_image(
+    alloc: Global,
+    hashing: RandomState,
+    file: &[u8],
+    log: &[u8],
+) -> Result<Tables, DatabaseFault>
+    ensures rows { IfOk result (IsReadFrom file.now log.now) }
+    ensures no_disk { IfErr result (λ fault. fault ≢ DatabaseFault.Sqlite DISK_FAILED) }
+{
+    match read_copy(alloc, hashing, file, log) {
+        Ok(tables) => Ok(tables),
+        Err(fault) => Err(without_disk(fault)),
+    }
+}
+
+/// Reads all rows of the database that a copy of these bytes is.
+fn read_copy(
     alloc: Global,
     hashing: RandomState,
     file: &[u8],
@@ -33,6 +52,18 @@ pub fn read_image(
     let conn = opened(alloc, file, log)?;
     let (tables, _store) = read_tables(alloc, hashing, conn)?;
     Ok(tables)
+}
+
+/// A fault of files in memory. They fail only if memory runs out, which SQLite's part here takes for a disk's failure.
+fn without_disk(fault: DatabaseFault) -> DatabaseFault
+    ensures { result ≢ DatabaseFault.Sqlite DISK_FAILED }
+{
+    match fault {
+        DatabaseFault::Sqlite(Error::SqliteFailure(ErrorCode::SystemIoFailure)) => {
+            DatabaseFault::OutOfMemory
+        }
+        fault => fault,
+    }
 }
 
 /// A connection to a copy of the database that these bytes are.
