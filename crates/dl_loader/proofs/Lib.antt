@@ -18,3 +18,4 @@ pub mod ThreadSafety
 pub mod Closures
 pub mod JobEnds
 pub mod EndEntries
+mod SerialLemmas

@@ -36,7 +36,7 @@ tickets_more first i rs d r ts us t low is before more number reply = record {
 -- ---- tickets that a pass gave
 
 -- what a load's ticket is in its pass
-abbrev new_ticket : LoadReply → GivenTicket
+abbrev pub new_ticket : LoadReply → GivenTicket
 new_ticket r = given (cell_of_load r) false
 
 -- the tickets of a pass with those of loads

@@ -19,4 +19,5 @@ pub mod EventEffect
 pub mod CloseRefusals
 pub mod JobEnd
 pub mod Dispatches
+pub mod SerialLoader
 pub mod Inside

@@ -1,6 +1,8 @@
 //! The book of a loader, which lies behind its lock.
 
-ghost use Rattle.std.specs.Prelude.{◌≡◌, ◌<◌, ◌≤◌, [], false, true, IfErr, None, OnOk, Some, length};
+ghost use Rattle.std.specs.Prelude.{◌≡◌, ◌<◌, ◌≤◌, [], false, true, IfErr, IfNone, IfSome, List, None, OnOk, Some, length};
+ghost use Rattle.dl_desk.specs.BatchBook.{StandsFor, batch_view};
+ghost use Rattle.dl_desk.specs.History.{Atom, begun};
 ghost use Rattle.dl_values.specs.Limits.{rules_by};
 ghost use Rattle.dl_loader.specs.Book.{Keeps, book};
 ghost use Rattle.dl_history.specs.Entries.{cell_of_load, front_of};
@@ -10,7 +12,7 @@ ghost use Rattle.dl_loader.specs.Refusals.{unready};
 mod close;
 mod record;
 
-use dl_desk::{Desk, Limits, LoadReply, TableLimits};
+use dl_desk::{BatchView, Desk, Limits, LoadReply, TableLimits};
 use dl_history::{CallFault, CellRows, Journal, KnownFlags, LoaderName, Pass, Ticket, load_cell};
 use std::alloc::Global;
 use std::hash::RandomState;
@@ -107,6 +109,15 @@ impl<L: LoaderName> Book<L> {
     {
         let reader = self.journal.reader(load_cell(reply));
         Ticket::new(rows.outcomes(), number, reply, reader)
+    }
+
+    /// The batch of this number, or `None` if there isn't one yet.
+    pub(crate) fn batch(&self, batch: u32) -> Option<BatchView<'_>>
+        ensures none { IfNone result ((history : List Atom) → StandsFor self.now.desk history → begun history ≤ batch) }
+        ensures some { IfSome result (λ view. (history : List Atom) → StandsFor self.now.desk history
+            → (batch < begun history) × (view ≡ batch_view history batch)) }
+    {
+        self.desk.batch(batch)
     }
 
     /// Stops the loader: no pass makes an event from then on.

@@ -6,7 +6,7 @@ ghost use Rattle.dl_loader.specs.Inside.Preparation.{ended_count};
 ghost use Rattle.dl_history.specs.Pass.{with_tickets};
 
 mod ends;
-mod keys;
+pub(crate) mod keys;
 mod loads;
 
 use crate::event_call::EventCall;

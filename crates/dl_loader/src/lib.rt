@@ -4,6 +4,8 @@
 //! You make an [`Opening`], start the loader by [`Loader::start`], make calls with a [`Pass`] for each caller, and
 //! close the loader to get its [`History`]. Each call is one event of the history, and happens under the lock. A pass
 //! has what its caller called and read.
+//!
+//! If you make the calls of all callers yourself, one at a time, start a [`SerialLoader`] instead, which has no lock.
 #![tactic(auto)]
 
 // A type that several crates own has its `drop` written out. A derived one is proved once more in each crate that lets
@@ -20,6 +22,7 @@ mod load_replies;
 mod loader;
 mod opening;
 mod reply;
+mod serial_loader;
 mod waiter;
 
 pub use ask::{Ask, GiveUp};
@@ -32,3 +35,4 @@ pub use job_end::{end_job, end_jobs};
 pub use loader::Loader;
 pub use opening::{MOST_CALLERS, Opening};
 pub use reply::{PrimeReply, Settled};
+pub use serial_loader::SerialLoader;

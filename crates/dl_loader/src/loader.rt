@@ -6,7 +6,7 @@ ghost use Rattle.dl_history.specs.Entries.{cell_of_load, ending_known};
 ghost use Rattle.dl_loader.specs.Opening.{Names};
 ghost use Rattle.dl_history.specs.Pass.{GaveTicket, new_traces, with_saw};
 
-mod close;
+pub(crate) mod close;
 mod unshown;
 
 use crate::book::Book;
@@ -203,7 +203,7 @@ impl<L: LoaderName> Loader<L> {
 }
 
 /// A pass for each caller, each with one part of the ledger.
-fn deal<L: LoaderName>(
+pub(crate) fn deal<L: LoaderName>(
     alloc: Global,
     callers: u32,
     mut all: Share<L>,

@@ -108,7 +108,7 @@ impl<L: LoaderName> Loader<L> {
 }
 
 /// What a prime answers, by the desk's reply and by how the cell took its outcome.
-fn prime_reply(prime: DeskPrime, ended: Settled) -> PrimeReply
+pub(crate) fn prime_reply(prime: DeskPrime, ended: Settled) -> PrimeReply
     ensures told { reply_by result ≡ primed prime }
     ensures refused { refused_by result ≤ ended.refused }
 {

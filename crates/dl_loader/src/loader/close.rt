@@ -69,7 +69,7 @@ impl<L: LoaderName> Loader<L> {
 }
 
 /// The outlines of the passes, in order, if the loader may close with them.
-fn outlines<L: LoaderName>(
+pub(crate) fn outlines<L: LoaderName>(
     alloc: Global,
     rows: &CellRows<L>,
     callers: u32,
