@@ -54,5 +54,6 @@ always:
 
 # Makes in dist/ what others install without the toolchain.
 release: build
-	mkdir -p crates/dl_c/out && cd crates/dl_c && { $(rt) lib >out/log 2>&1 || { tail -n12 out/log >&2; false; }; } && cd ../.. && ./release
+	for crate in dl_c dl_loader_c; do (mkdir -p crates/$$crate/out && cd crates/$$crate && { $(rt) lib >out/log 2>&1 || { tail -n12 out/log >&2; false; }; }) \
+		|| exit; done && ./release
 .PHONY: build always release

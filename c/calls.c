@@ -1,12 +1,11 @@
 /* A C program that makes each call of dl_desk.h and checks its answers, which are those of the data loader's documentation. It
  * prints each check that fails, and how many passed. */
+#include "checks.h"
 #include "dl_desk.h"
 
 #include <malloc.h>
 #include <stdio.h>
 #include <string.h>
-
-#define AT(type, member, place) _Static_assert(offsetof(type, member) == (place), "the place of " #member)
 
 _Static_assert(sizeof(dl_desk) == 16, "a handle");
 AT(dl_desk, is_open, 0);
@@ -36,34 +35,6 @@ _Static_assert(sizeof(dl_table_limit) == 8, "a table and its limit");
 AT(dl_table_limit, name_len, 0);
 AT(dl_table_limit, limit, 4);
 _Static_assert(DL_TABLE_BYTES == 64 && DL_ID_BYTES == 256 && DL_LARGEST_LIMIT == 65536, "limits");
-
-static unsigned passed, failed;
-
-static void check(bool holds, const char *what, int line)
-{
-    if (holds) {
-        passed++;
-    } else {
-        failed++;
-        printf("calls.c:%d: %s\n", line, what);
-    }
-}
-
-#define CHECK(holds) check((holds), #holds, __LINE__)
-
-/* A key of two literals. */
-#define KEY(table, id) (const uint8_t *)table, sizeof(table) - 1, (const uint8_t *)id, sizeof(id) - 1
-#define USER(id) KEY("user", id)
-
-static bool is(dl_loaded answer, uint32_t code, uint32_t cell, uint32_t batch)
-{
-    return answer.code == code && answer.cell == cell && answer.batch == batch;
-}
-
-static bool sent(dl_dispatched answer, uint32_t first, size_t count)
-{
-    return answer.code == DL_DONE && answer.first == first && answer.count == count;
-}
 
 #define SEED_LOW UINT64_C(0x0123456789abcdef)
 #define SEED_HIGH UINT64_C(0xfedcba9876543210)
@@ -134,7 +105,7 @@ static bool has(const dl_desk *desk, uint64_t number)
     return false;
 }
 
-/* No answer tells by what a desk hashes, so this looks into its memory. */
+/* No answer says by what a desk hashes, so this looks into its memory. */
 static void a_desk_keeps_both_halves_of_its_seed(void)
 {
     dl_desk desk = {0};
@@ -197,7 +168,7 @@ static void tables_with_a_fault_are_refused(void)
         {"\xff", {{1, 1}}, 1, DL_BAD_TEXT},
         /* A name is cut within a character. */
         {"\xc3\xa9", {{1, 1}, {1, 1}}, 2, DL_BAD_TEXT},
-        /* The first name that can't be read tells. */
+        /* The code is that of the first name that can't be read. */
         {"\xff", {{1, 1}, {1, 1}}, 2, DL_BAD_TEXT},
         {"s\xff", {{1, 1}, {2, 1}}, 2, DL_BAD_LENGTHS},
         {"", {{0, 1}}, 1, DL_EMPTY_TABLE},
@@ -390,7 +361,7 @@ static void several_keys_are_loaded_as_one(void)
     CHECK(dl_desk_load_many(&desk, (const uint8_t *)"userauser", 9, lengths, 2, answers, 2) == DL_BAD_KEY);
     lengths[1].id = UINT32_MAX;
     CHECK(dl_desk_load_many(&desk, texts, 22, lengths, 2, answers, 2) == DL_BAD_LENGTHS);
-    /* The first key that can't be read tells. */
+    /* The code is that of the first key that can't be read. */
     lengths[0].id = 0;
     CHECK(dl_desk_load_many(&desk, texts, 22, lengths, 2, answers, 2) == DL_BAD_KEY);
     CHECK(answers[0].code == 0x2a2a2a2a);

@@ -1,0 +1,397 @@
+/* The lock around the calls of dl_serial.h, and the words of the cells.
+ *
+ * DL_HELGRIND has helgrind know what the states of the cells order, since it knows no atomic operations. DL_NO_LOCK leaves out the
+ * lock, for a test that helgrind finds that. */
+#define _POSIX_C_SOURCE 200809L
+#include "dl_loader.h"
+
+#include <pthread.h>
+#include <stdatomic.h>
+#include <stdlib.h>
+
+#ifdef DL_HELGRIND
+#include <valgrind/helgrind.h>
+#else
+#define VALGRIND_HG_DISABLE_CHECKING(start, length) ((void)0)
+#define ANNOTATE_HAPPENS_BEFORE(place) ((void)0)
+#define ANNOTATE_HAPPENS_AFTER(place) ((void)0)
+#endif
+
+/* Threads that wait for cell n wait at condition n modulo this, so that an end wakes few others. */
+enum { CONDITIONS = 64 };
+
+/* A cell: its word is written once, under the lock and before its state, and is read after that. */
+typedef struct {
+    _Atomic uint32_t state;
+    uint64_t word;
+} cell;
+
+struct dl_loader {
+    pthread_mutex_t lock;
+    pthread_cond_t ended[CONDITIONS];
+    dl_serial serial; /* under the lock */
+    bool is_over;     /* under the lock: stopped or closed, so that no empty cell gets a word */
+    uint32_t cell_count;
+    cell *cells;
+};
+
+static void enter(dl_loader *loader)
+{
+#ifndef DL_NO_LOCK
+    pthread_mutex_lock(&loader->lock);
+#else
+    (void)loader;
+#endif
+}
+
+static void leave(dl_loader *loader)
+{
+#ifndef DL_NO_LOCK
+    pthread_mutex_unlock(&loader->lock);
+#else
+    (void)loader;
+#endif
+}
+
+/* ---- open and free */
+
+/* Makes so many conditions, of the clock that deadlines are of. How many were made. */
+static unsigned make_conditions(pthread_cond_t *conditions)
+{
+    pthread_condattr_t attributes;
+    unsigned made = 0;
+
+    if (pthread_condattr_init(&attributes) != 0) {
+        return 0;
+    }
+    if (pthread_condattr_setclock(&attributes, CLOCK_MONOTONIC) == 0) {
+        while (made < CONDITIONS && pthread_cond_init(&conditions[made], &attributes) == 0) {
+            made++;
+        }
+    }
+    pthread_condattr_destroy(&attributes);
+    return made;
+}
+
+static void destroy_conditions(pthread_cond_t *conditions, unsigned made)
+{
+    while (made > 0) {
+        pthread_cond_destroy(&conditions[--made]);
+    }
+}
+
+/* Makes the cells of a loader, the lock and the conditions: all of them or none. */
+static bool make_parts(dl_loader *loader, uint32_t cell_count)
+{
+    unsigned made;
+
+    loader->cells = calloc(cell_count, sizeof *loader->cells);
+    if (loader->cells == NULL) {
+        return false;
+    }
+    made = make_conditions(loader->ended);
+    if (made < CONDITIONS || pthread_mutex_init(&loader->lock, NULL) != 0) {
+        destroy_conditions(loader->ended, made);
+        free(loader->cells);
+        return false;
+    }
+    loader->cell_count = cell_count;
+    for (uint32_t i = 0; i < cell_count; i++) {
+        VALGRIND_HG_DISABLE_CHECKING(&loader->cells[i].state, sizeof loader->cells[i].state);
+    }
+    return true;
+}
+
+/* A loader with this handle, or DL_OUT_OF_MEMORY with the handle freed. */
+static uint32_t make_loader(dl_loader **place, dl_serial serial, uint32_t cell_count)
+{
+    dl_loader *loader = calloc(1, sizeof *loader);
+
+    if (loader == NULL || !make_parts(loader, cell_count)) {
+        dl_serial_free(&serial);
+        free(loader);
+        return DL_OUT_OF_MEMORY;
+    }
+    loader->serial = serial;
+    *place = loader;
+    return DL_DONE;
+}
+
+uint32_t dl_loader_open(dl_loader **loader, const dl_serial_opening *opening)
+{
+    dl_serial serial = {0};
+    uint32_t code = dl_serial_open(&serial, opening);
+
+    return code == DL_DONE ? make_loader(loader, serial, opening->max_cells) : code;
+}
+
+uint32_t dl_loader_open_by_table(dl_loader **loader, const dl_serial_opening *opening, const uint8_t *names, size_t names_len,
+                                 const dl_table_limit *tables, size_t tables_len)
+{
+    dl_serial serial = {0};
+    uint32_t code = dl_serial_open_by_table(&serial, opening, names, names_len, tables, tables_len);
+
+    return code == DL_DONE ? make_loader(loader, serial, opening->max_cells) : code;
+}
+
+void dl_loader_free(dl_loader *loader)
+{
+    if (loader == NULL) {
+        return;
+    }
+    dl_serial_free(&loader->serial);
+    destroy_conditions(loader->ended, CONDITIONS);
+    pthread_mutex_destroy(&loader->lock);
+    free(loader->cells);
+    free(loader);
+}
+
+/* ---- calls of callers */
+
+dl_ticket dl_loader_load(dl_loader *loader, uint32_t caller, DL_KEY)
+{
+    enter(loader);
+    dl_ticket answer = dl_serial_load(&loader->serial, caller, table, table_len, id, id_len);
+    leave(loader);
+    return answer;
+}
+
+uint32_t dl_loader_load_many(dl_loader *loader, uint32_t caller, const uint8_t *texts, size_t texts_len,
+                             const dl_key_lengths *lengths, size_t lengths_len, dl_ticket *answers, size_t answers_len)
+{
+    enter(loader);
+    uint32_t code = dl_serial_load_many(&loader->serial, caller, texts, texts_len, lengths, lengths_len, answers, answers_len);
+    leave(loader);
+    return code;
+}
+
+uint32_t dl_loader_clear(dl_loader *loader, uint32_t caller, DL_KEY)
+{
+    enter(loader);
+    uint32_t code = dl_serial_clear(&loader->serial, caller, table, table_len, id, id_len);
+    leave(loader);
+    return code;
+}
+
+uint32_t dl_loader_clear_all(dl_loader *loader, uint32_t caller)
+{
+    enter(loader);
+    uint32_t code = dl_serial_clear_all(&loader->serial, caller);
+    leave(loader);
+    return code;
+}
+
+dl_dispatched dl_loader_dispatch(dl_loader *loader, uint32_t caller)
+{
+    enter(loader);
+    dl_dispatched answer = dl_serial_dispatch(&loader->serial, caller);
+    leave(loader);
+    return answer;
+}
+
+/* ---- ends, which show cells */
+
+/* Gives a cell its word, under the lock. */
+static void show(dl_loader *loader, uint32_t number, dl_shown shown)
+{
+    cell *shows = &loader->cells[number];
+
+    shows->word = shown.word;
+    ANNOTATE_HAPPENS_BEFORE(shows);
+    atomic_store_explicit(&shows->state, shown.state, memory_order_release);
+}
+
+/* Gives each member of a batch its word, or the one word if there is but one for all, and wakes who waits for them. Under the lock. */
+static void show_batch(dl_loader *loader, uint32_t batch, uint32_t state, const uint64_t *words, bool is_one)
+{
+    dl_key_texts texts;
+    uint64_t touched = 0;
+    dl_loaded member;
+
+    for (uint32_t index = 0; (member = dl_serial_member(&loader->serial, batch, index, &texts)).code == DL_HIT; index++) {
+        show(loader, member.cell, (dl_shown){state, words[is_one ? 0 : index]});
+        touched |= UINT64_C(1) << member.cell % CONDITIONS;
+    }
+    for (unsigned condition = 0; condition < CONDITIONS; condition++) {
+        if (touched >> condition & 1) {
+            pthread_cond_broadcast(&loader->ended[condition]);
+        }
+    }
+}
+
+/* DL_DONE if a batch has so many members. Under the lock. */
+static uint32_t count_code(dl_loader *loader, uint32_t batch, size_t count)
+{
+    dl_key_texts texts;
+    dl_loaded last = {.code = DL_NO_MEMBER}, past;
+
+    if (count > UINT32_MAX) {
+        return DL_BAD_LENGTHS;
+    }
+    past = dl_serial_member(&loader->serial, batch, (uint32_t)count, &texts);
+    if (count > 0) {
+        last = dl_serial_member(&loader->serial, batch, (uint32_t)count - 1, &texts);
+    }
+    if (past.code == DL_CLOSED || past.code == DL_NO_BATCH) {
+        return past.code;
+    }
+    return last.code == DL_HIT && past.code == DL_NO_MEMBER ? DL_DONE : DL_BAD_LENGTHS;
+}
+
+uint32_t dl_loader_settle(dl_loader *loader, uint32_t caller, uint32_t batch, const uint64_t *words, size_t words_len)
+{
+    enter(loader);
+    uint32_t code = count_code(loader, batch, words_len);
+    if (code == DL_DONE) {
+        code = dl_serial_settle(&loader->serial, caller, batch);
+    }
+    if (code == DL_DONE) {
+        show_batch(loader, batch, DL_SETTLED, words, false);
+    }
+    leave(loader);
+    return code;
+}
+
+uint32_t dl_loader_fail(dl_loader *loader, uint32_t caller, uint32_t batch, uint64_t word)
+{
+    enter(loader);
+    uint32_t code = dl_serial_fail(&loader->serial, caller, batch);
+    if (code == DL_DONE) {
+        show_batch(loader, batch, DL_FAILED, &word, true);
+    }
+    leave(loader);
+    return code;
+}
+
+/* No thread waits for a cell that a prime begins: a load that finds it is made later. */
+dl_loaded dl_loader_prime(dl_loader *loader, uint32_t caller, DL_KEY, uint64_t word)
+{
+    enter(loader);
+    dl_loaded answer = dl_serial_prime(&loader->serial, caller, table, table_len, id, id_len);
+    if (answer.code == DL_FRESH) {
+        show(loader, answer.cell, (dl_shown){DL_SETTLED, word});
+    }
+    leave(loader);
+    return answer;
+}
+
+/* ---- what is no event */
+
+dl_loaded dl_loader_member(dl_loader *loader, uint32_t batch, uint32_t index, dl_key_texts *texts)
+{
+    enter(loader);
+    dl_loaded answer = dl_serial_member(&loader->serial, batch, index, texts);
+    leave(loader);
+    return answer;
+}
+
+dl_shown dl_loader_look(const dl_loader *loader, uint32_t number)
+{
+    dl_shown shown = {DL_EMPTY, 0};
+
+    if (number < loader->cell_count) {
+        const cell *shows = &loader->cells[number];
+        shown.state = atomic_load_explicit(&shows->state, memory_order_acquire);
+        if (shown.state != DL_EMPTY) {
+            ANNOTATE_HAPPENS_AFTER(shows);
+            shown.word = shows->word;
+        }
+    }
+    return shown;
+}
+
+/* Waits for a cell that was empty, with a deadline or without. */
+static dl_shown wait_for(dl_loader *loader, uint32_t number, const struct timespec *deadline)
+{
+    pthread_cond_t *ended = &loader->ended[number % CONDITIONS];
+    dl_shown shown;
+    int fault = 0;
+
+    pthread_mutex_lock(&loader->lock);
+    while ((shown = dl_loader_look(loader, number)).state == DL_EMPTY && !loader->is_over && fault == 0) {
+        fault = deadline == NULL ? pthread_cond_wait(ended, &loader->lock) : pthread_cond_timedwait(ended, &loader->lock, deadline);
+    }
+    if (shown.state == DL_EMPTY && loader->is_over) {
+        shown.state = DL_ABANDONED;
+    }
+    pthread_mutex_unlock(&loader->lock);
+    return shown;
+}
+
+dl_shown dl_loader_wait(dl_loader *loader, uint32_t cell)
+{
+    return dl_loader_wait_until(loader, cell, NULL);
+}
+
+dl_shown dl_loader_wait_until(dl_loader *loader, uint32_t cell, const struct timespec *deadline)
+{
+    dl_shown shown = dl_loader_look(loader, cell);
+
+    if (cell >= loader->cell_count) {
+        shown.state = DL_ABANDONED;
+    }
+    return shown.state == DL_EMPTY ? wait_for(loader, cell, deadline) : shown;
+}
+
+uint32_t dl_loader_saw(dl_loader *loader, uint32_t caller, size_t ticket)
+{
+    enter(loader);
+    uint32_t code = dl_serial_saw(&loader->serial, caller, ticket);
+    leave(loader);
+    return code;
+}
+
+/* Ends all waits if a call was made after which no empty cell gets a word. Under the lock. */
+static void end_waits(dl_loader *loader, uint32_t code)
+{
+    if (code == DL_DONE) {
+        loader->is_over = true;
+        for (unsigned condition = 0; condition < CONDITIONS; condition++) {
+            pthread_cond_broadcast(&loader->ended[condition]);
+        }
+    }
+}
+
+uint32_t dl_loader_stop(dl_loader *loader)
+{
+    enter(loader);
+    uint32_t code = dl_serial_stop(&loader->serial);
+    end_waits(loader, code);
+    leave(loader);
+    return code;
+}
+
+uint32_t dl_loader_close(dl_loader *loader)
+{
+    enter(loader);
+    uint32_t code = dl_serial_close(&loader->serial);
+    end_waits(loader, code);
+    leave(loader);
+    return code;
+}
+
+/* ---- the history */
+
+dl_event dl_loader_event(dl_loader *loader, uint32_t at)
+{
+    enter(loader);
+    dl_event answer = dl_serial_event(&loader->serial, at);
+    leave(loader);
+    return answer;
+}
+
+dl_loaded dl_loader_event_key(dl_loader *loader, uint32_t at, size_t index, dl_key_texts *texts)
+{
+    enter(loader);
+    dl_loaded answer = dl_serial_event_key(&loader->serial, at, index, texts);
+    leave(loader);
+    return answer;
+}
+
+dl_entry dl_loader_entry(dl_loader *loader, uint32_t caller, size_t index)
+{
+    enter(loader);
+    dl_entry answer = dl_serial_entry(&loader->serial, caller, index);
+    leave(loader);
+    return answer;
+}

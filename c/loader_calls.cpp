@@ -1,0 +1,146 @@
+/* A C++ program that makes the calls of dl_loader.hpp. It prints each check that fails, and how many passed. */
+#include "dl_loader.hpp"
+
+#include <cstdio>
+#include <thread>
+
+static unsigned passed, failed;
+
+static void check(bool holds, const char *what, int line) {
+    ++(holds ? passed : failed);
+    if (!holds) std::printf("loader_calls.cpp:%d: %s\n", line, what);
+}
+
+#define CHECK(holds) check((holds), #holds, __LINE__)
+
+static dl_serial_opening opening(std::uint32_t callers) {
+    return {2, 64, 256, callers, 1, 2};
+}
+
+/// The code by which a call is refused, or DL_DONE.
+template <class Call> static std::uint32_t refusal(Call call) {
+    try {
+        call();
+    } catch (const dl::refused &fault) {
+        return fault.code;
+    }
+    return DL_DONE;
+}
+
+static bool shows(dl_shown shown, std::uint32_t state, std::uint64_t word) {
+    return shown.state == state && shown.word == word;
+}
+
+static void each_call_answers() {
+    dl::loader loader(opening(1));
+    CHECK(loader.load(0, {"user", "ada"}).code == DL_FRESH);
+    dl_ticket again = loader.load(0, {"user", "ada"});
+    CHECK(again.code == DL_HIT && again.cell == 0 && again.ticket == 1);
+    CHECK(loader.load(0, {"user", "bob"}).cell == 1);
+    CHECK(loader.prime(0, {"order", "7"}, 70) && !loader.prime(0, {"order", "7"}, 71));
+    CHECK(shows(loader.look(2), DL_SETTLED, 70) && shows(loader.look(0), DL_EMPTY, 0));
+    CHECK(!loader.saw(0, 0));
+    auto jobs = loader.dispatch(0);
+    CHECK(jobs.left() == 1);
+    auto job = jobs.next();
+    CHECK(job && !jobs.next() && job->batch() == 0);
+    auto members = job->members();
+    CHECK(members.size() == 2 && members[1].table == "user" && members[1].id == "bob" && members[1].cell == 1);
+    CHECK(refusal([&] { job->settle({}); }) == DL_BAD_LENGTHS);
+    job->settle({5, 6});
+    CHECK(shows(loader.wait(0), DL_SETTLED, 5) && loader.saw(0, 0));
+    loader.clear(0, {"user", "ada"});
+    CHECK(loader.load(0, {"user", "ada"}).cell == 3);
+    loader.clear_all(0);
+    CHECK(loader.load(0, {"order", "7"}).cell == 4);
+    CHECK(refusal([&] { loader.close(); }) == DL_UNSETTLED);
+    for (auto rest = loader.dispatch(0); auto next = rest.next();) next->fail(9);
+    CHECK(shows(loader.look(3), DL_FAILED, 9));
+    loader.close();
+    CHECK(dl_loader_event(loader.get(), 0).code == DL_DONE);
+    CHECK(refusal([&] { loader.stop(); }) == DL_CLOSED);
+}
+
+static void what_is_refused_is_thrown() {
+    CHECK(refusal([] { dl::loader loader(opening(0)); }) == DL_BAD_CALLERS);
+    dl::loader loader(opening(1));
+    CHECK(refusal([&] { loader.load(0, {"", "ada"}); }) == DL_BAD_KEY);
+    CHECK(refusal([&] { loader.load(0, {{}, {}}); }) == DL_BAD_KEY);
+    CHECK(refusal([&] { loader.prime(1, {"user", "ada"}, 1); }) == DL_NO_CALLER);
+    CHECK(refusal([&] { loader.saw(0, 0); }) == DL_NO_TICKET);
+    loader.stop();
+    CHECK(refusal([&] { loader.dispatch(0); }) == DL_STOPPED);
+    CHECK(refusal([&] { loader.clear_all(0); }) == DL_STOPPED);
+}
+
+static void a_job_that_goes_fails() {
+    dl::loader loader(opening(1));
+    for (const char *id : {"a", "b", "c", "d", "e"}) loader.load(0, {"user", id});
+    {
+        auto jobs = loader.dispatch(0);
+        auto first = jobs.next();
+        auto moved = std::move(*first);
+        first.reset();
+        CHECK(shows(loader.look(0), DL_EMPTY, 0));
+        auto moved_jobs = std::move(jobs);
+        CHECK(jobs.left() == 0 && moved_jobs.left() == 2);
+    }
+    for (std::uint32_t cell = 0; cell < 5; cell++) CHECK(shows(loader.wait(cell), DL_FAILED, 0));
+    loader.close();
+}
+
+static void a_loader_is_moved() {
+    dl::loader first(opening(1));
+    first.load(0, {"user", "a"});
+    dl::loader second(std::move(first));
+    CHECK(first.get() == nullptr && second.load(0, {"user", "a"}).code == DL_HIT);
+    dl::loader third(opening(1));
+    third = std::move(second);
+    CHECK(third.load(0, {"user", "a"}).code == DL_HIT);
+}
+
+static void a_wait_has_a_deadline() {
+    using namespace std::chrono_literals;
+    dl::loader loader(opening(1));
+    loader.load(0, {"user", "a"});
+    CHECK(shows(loader.wait_for(0, 0ns), DL_EMPTY, 0) && shows(loader.wait_for(0, 20ms), DL_EMPTY, 0));
+    CHECK(shows(loader.wait_until(0, std::chrono::steady_clock::now() - 1h), DL_EMPTY, 0));
+    std::thread waits([&] { CHECK(shows(loader.wait_for(0, 1h), DL_SETTLED, 3)); });
+    loader.dispatch(0).next()->settle({3});
+    waits.join();
+}
+
+static void threads_share_a_loader() {
+    enum { THREADS = 4, KEYS = 20 };
+    dl::loader loader(opening(THREADS));
+    std::vector<std::thread> threads;
+    std::vector<unsigned> wrong(THREADS);
+    for (std::uint32_t caller = 0; caller < THREADS; caller++) {
+        threads.emplace_back([&, caller] {
+            for (std::uint64_t key = 0; key < KEYS; key++) {
+                dl_ticket ticket = loader.load(caller, {"user", std::to_string(key)});
+                for (auto jobs = loader.dispatch(caller); auto job = jobs.next();) {
+                    std::vector<std::uint64_t> words;
+                    for (auto &member : job->members()) words.push_back(std::stoull(member.id));
+                    job->settle(words);
+                }
+                wrong[caller] += !shows(loader.wait(ticket.cell), DL_SETTLED, key) || !loader.saw(caller, ticket.ticket);
+            }
+        });
+    }
+    for (auto &thread : threads) thread.join();
+    for (unsigned count : wrong) CHECK(count == 0);
+    CHECK(loader.look(KEYS - 1).state == DL_SETTLED && loader.look(KEYS).state == DL_EMPTY);
+    loader.close();
+}
+
+int main() {
+    each_call_answers();
+    what_is_refused_is_thrown();
+    a_job_that_goes_fails();
+    a_loader_is_moved();
+    a_wait_has_a_deadline();
+    threads_share_a_loader();
+    std::printf("%u passed, %u failed\n", passed, failed);
+    return failed == 0 ? 0 : 1;
+}
