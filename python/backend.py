@@ -1,5 +1,5 @@
-"""Builds the wheel with the C compiler and Python alone, over the library that `rt lib` proves and builds, or over the one that a source
-distribution carries. One wheel is for each Python from 3.10 on: the extension keeps to what all of them have (the limited API)."""
+"""Builds the wheel with the C compiler and Python alone, over the libraries that `rt lib` proves and builds, or over those that a source
+distribution carries. One wheel is for each Python from 3.10 on: the extensions keep to what all of them have (the limited API)."""
 
 import base64
 import hashlib
@@ -17,59 +17,63 @@ import zipfile
 
 HERE = pathlib.Path(__file__).resolve().parent
 PACKAGE = HERE / "thrushscreen"
-CRATE = HERE.parent / "crates" / "dl_c"
-# A source distribution has the header here, and the archives.
+CRATES = HERE.parent / "crates"
+# A source distribution has the headers here, the lock of the loader that threads share, and the archives.
 CARRIED = HERE / "c"
+# The extensions: each one's crate, what names its archives in the environment, and its other sources.
+EXTENSIONS = {"_desk": ("dl_c", "DL_DESK_ARCHIVES", []), "_shared": ("dl_loader_c", "DL_LOADER_ARCHIVES", ["dl_loader.c"])}
 VERSION = re.search(r'^__version__ = "(.+)"', (PACKAGE / "__init__.py").read_text(), re.MULTILINE)[1]
 
 METADATA = f"""\
 Metadata-Version: 2.1
 Name: thrushscreen
 Version: {VERSION}
-Summary: A data loader for asyncio, and one for threads, over a proved library
+Summary: A data loader for asyncio, one for a thread, and one that threads share, over a proved library
 Requires-Python: >=3.10
 """
 
 
-def archives():
-    """The archives of the desk and of its heap: those that DL_DESK_ARCHIVES names, those that are carried, or what `rt` builds."""
-    if "DL_DESK_ARCHIVES" in os.environ:
-        return shlex.split(os.environ["DL_DESK_ARCHIVES"])
+def archives(crate, variable):
+    """The archives of a library and of its heap: those that the variable names, those that are carried, or what `rt` builds."""
+    if variable in os.environ:
+        return shlex.split(os.environ[variable])
     if CARRIED.exists():
         if sysconfig.get_platform() != "linux-x86_64":
             sys.exit("thrushscreen: the library that comes with this source is for Linux on x86_64 alone")
-        return [CARRIED / "libdl_c.a", CARRIED / "liblibc_c.a"]
+        return [CARRIED / f"lib{crate}.a", CARRIED / "liblibc_c.a"]
     if shutil.which("rt") is None:
         sys.exit("thrushscreen: there is no rt on the path, the toolchain's command that proves and builds the library")
-    subprocess.run(["rt", "lib"], cwd=CRATE, check=True)
+    subprocess.run(["rt", "lib"], cwd=CRATES / crate, check=True)
     page = subprocess.run(["rt", "doc"], check=True, capture_output=True, text=True).stdout.strip()
-    return [CRATE / "out" / "libdl_c.a", pathlib.Path(page).parent / "c" / "liblibc_c.a"]
+    return [CRATES / crate / "out" / f"lib{crate}.a", pathlib.Path(page).parent / "c" / "liblibc_c.a"]
 
 
-def extension():
-    """The bytes of the extension, which shows nothing but its module."""
-    header = CARRIED if CARRIED.exists() else HERE.parent / "c"
+def extension(name):
+    """The bytes of an extension, which shows nothing but its module."""
+    crate, variable, others = EXTENSIONS[name]
+    sources = CARRIED if CARRIED.exists() else HERE.parent / "c"
     with tempfile.TemporaryDirectory() as folder:
-        built = pathlib.Path(folder, "_desk.so")
-        command = [*shlex.split(os.environ.get("CC", "cc")), "-shared", "-fPIC", "-O3", "-Wall", "-Wextra", "-fvisibility=hidden"]
-        command += [*shlex.split(os.environ.get("CFLAGS", "")), f"-I{sysconfig.get_path('include')}", f"-I{header}"]
-        subprocess.run([*command, "-o", built, PACKAGE / "_desk.c", *archives(), "-Wl,--exclude-libs,ALL"], check=True)
+        built = pathlib.Path(folder, f"{name}.so")
+        command = [*shlex.split(os.environ.get("CC", "cc")), "-shared", "-fPIC", "-O3", "-Wall", "-Wextra", "-fvisibility=hidden", "-pthread"]
+        command += [*shlex.split(os.environ.get("CFLAGS", "")), f"-I{sysconfig.get_path('include')}", f"-I{sources}"]
+        command += ["-o", built, PACKAGE / f"{name}.c", *(sources / other for other in others), *archives(crate, variable)]
+        subprocess.run([*command, "-Wl,--exclude-libs,ALL"], check=True)
         return built.read_bytes()
 
 
 def build_wheel(wheel_directory, config_settings=None, metadata_directory=None):
     """What pip calls."""
-    return write_wheel(wheel_directory, re.sub("[-.]", "_", sysconfig.get_platform()), extension(), {})
+    return write_wheel(wheel_directory, re.sub("[-.]", "_", sysconfig.get_platform()), {name: extension(name) for name in EXTENSIONS}, {})
 
 
 def write_wheel(folder, platform, built, papers):
-    """Writes the wheel of an extension that was built for that platform, with further files of its dist-info, and answers its name."""
+    """Writes the wheel of extensions that were built for that platform, with further files of its dist-info, and answers its name."""
     tag = f"cp310-abi3-{platform}"
     info = f"thrushscreen-{VERSION}.dist-info"
     wheel = f"Wheel-Version: 1.0\nGenerator: thrushscreen ({VERSION})\nRoot-Is-Purelib: false\nTag: {tag}\n"
     sources = [file for file in sorted(PACKAGE.iterdir()) if file.suffix in (".py", ".pyi", ".typed")]
     files = {f"thrushscreen/{file.name}": file.read_bytes() for file in sources}
-    files["thrushscreen/_desk.abi3.so"] = built
+    files.update({f"thrushscreen/{name}.abi3.so": content for name, content in built.items()})
     files.update({f"{info}/{name}": content for name, content in papers.items()})
     files[f"{info}/METADATA"] = METADATA.encode()
     files[f"{info}/WHEEL"] = wheel.encode()

@@ -15,14 +15,14 @@ class Examples(unittest.TestCase):
         self.assertEqual((ran.stdout, ran.returncode), (output, 0), ran.stderr)
 
     def test_the_servers(self):
-        for server in ("server", "threads_server"):
+        for server in ("server", "threads_server", "pool_server"):
             with self.subTest(server=server):
                 self.check([TOP / "examples" / f"{server}.py"], (TOP / "examples" / f"{server}.out").read_text())
 
     def test_the_programs_of_the_page(self):
         page = (TOP / "python/README.md").read_text()
         programs = re.findall(r"^```python\n(.*?)```\n\n```text\n(.*?)```", page, re.DOTALL | re.MULTILINE)
-        self.assertEqual(len(programs), 2)
+        self.assertEqual(len(programs), 3)
         for program, output in programs:
             self.check(["-c", program], output)
 

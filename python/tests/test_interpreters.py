@@ -11,6 +11,7 @@ sys.path[:] = {path!r}
 import asyncio
 import gc
 import thrushscreen
+from thrushscreen.shared import ThreadedDataLoader
 
 async def fetch(keys):
     await asyncio.sleep(0)
@@ -22,6 +23,7 @@ async def main():
     assert await asyncio.gather(loader.load(1), loader.load((2, 3)), loader.load("none"), return_exceptions=True)
     loader.prime("a", loader.load(4))
     assert await loader.load("a") == "4"
+    assert ThreadedDataLoader(list, delay=0).load(1) == 1
     try:
         await loader.load_many(range(20))
     except thrushscreen.LoaderFull:

@@ -11,7 +11,7 @@ import tempfile
 import unittest
 
 import thrushscreen
-from thrushscreen import _desk, threads
+from thrushscreen import _desk, _shared, shared, threads
 
 TESTS = pathlib.Path(__file__).resolve().parent
 PACKAGE = pathlib.Path(thrushscreen.__file__).resolve().parent
@@ -33,6 +33,11 @@ WRONG = {
     "length: threads.Later[str] = threads.DataLoader[int, str](fetch_here).load(1).then(len)": "arg-type",
     "title: int = threads.run(page(1))": "assignment",
     "await threads.DataLoader[int, str](fetch_here).load(1)": "misc",
+    "ThreadedDataLoader[int, str](fetch)": "arg-type",
+    'ThreadedDataLoader[int, str](fetch_here).load("1")': "arg-type",
+    "shown: int = ThreadedDataLoader[int, str](fetch_here).load(1)": "assignment",
+    "later: Future[int] = ThreadedDataLoader[int, str](fetch_here).submit(1)": "assignment",
+    'ThreadedDataLoader[int, str](fetch_here, delay="soon")': "arg-type",
 }
 
 
@@ -51,9 +56,15 @@ class Names(unittest.TestCase):
                 | {"batch", "max_batch_size", "cache", "cache_map", "get_cache_key", "batch_schedule_fn", "name", "max_cells"},
             )
         self.assertEqual(names_of(threads.Later), {"done", "result", "exception", "then", "add_done_callback"})
+        self.assertEqual(sorted(shared.__all__), ["Answer", "Entry", "Event", "History", "ThreadedDataLoader"])
+        self.assertEqual(
+            names_of(shared.ThreadedDataLoader),
+            {"load", "submit", "load_many", "prime", "clear", "clear_all", "dispatch", "calling", "close"}
+            | {"batch", "max_batch_size", "cache", "get_cache_key", "name", "max_cells", "max_calls", "delay", "executor"},
+        )
 
     def test_options_have_the_names_of_the_ports(self):
-        for kind in (thrushscreen.DataLoader, threads.DataLoader):
+        for kind in (thrushscreen.DataLoader, threads.DataLoader, shared.ThreadedDataLoader):
             options = list(inspect.signature(kind).parameters)
             self.assertEqual(options[:4], ["batch_load_fn", "batch", "max_batch_size", "cache"])
             self.assertIn("get_cache_key", options)
@@ -73,16 +84,18 @@ class Names(unittest.TestCase):
 
 class Files(unittest.TestCase):
     def test_types_are_installed(self):
-        for file in ("py.typed", "_desk.pyi"):
+        for file in ("py.typed", "_desk.pyi", "_shared.pyi"):
             self.assertTrue((PACKAGE / file).exists(), file)
 
-    def test_the_extension_shows_its_module_alone(self):
-        told = subprocess.run(["nm", "-D", "--defined-only", _desk.__file__], check=True, capture_output=True, text=True).stdout
-        self.assertEqual([line.split()[-1] for line in told.splitlines()], ["PyInit__desk"])
+    def test_each_extension_shows_its_module_alone(self):
+        for name, extension in (("_desk", _desk), ("_shared", _shared)):
+            told = subprocess.run(["nm", "-D", "--defined-only", extension.__file__], check=True, capture_output=True, text=True).stdout
+            self.assertEqual([line.split()[-1] for line in told.splitlines()], [f"PyInit_{name}"])
 
-    def test_the_extension_is_for_each_python(self):
+    def test_the_extensions_are_for_each_python(self):
         """`./test` installs the wheel that the first Python has built with each of them."""
-        self.assertEqual(pathlib.Path(_desk.__file__).name, "_desk.abi3.so")
+        for extension in (_desk, _shared):
+            self.assertTrue(extension.__file__.endswith(".abi3.so"), extension.__file__)
         self.assertRegex(importlib.metadata.distribution("thrushscreen").read_text("WHEEL"), "(?m)^Tag: cp310-abi3-linux_")
 
     def test_each_file_is_recorded(self):
@@ -107,10 +120,10 @@ if os.path.realpath(sys.executable).startswith("/usr/bin/"):
             ran = self.check(TESTS / "typed.py")
             self.assertEqual((ran.stdout, ran.returncode), ("", 0), ran.stderr)
 
-        def test_the_stub_is_of_what_is_there(self):
+        def test_the_stubs_are_of_what_is_there(self):
             with tempfile.TemporaryDirectory() as cache:
                 environment = {**os.environ, "MYPYPATH": str(PACKAGE.parent), "MYPY_CACHE_DIR": cache}
-                command = [sys.executable, "-m", "mypy.stubtest", "--concise", "thrushscreen._desk"]
+                command = [sys.executable, "-m", "mypy.stubtest", "--concise", "thrushscreen._desk", "thrushscreen._shared"]
                 ran = subprocess.run(command, capture_output=True, text=True, env=environment, cwd=cache)
             self.assertEqual((ran.stdout, ran.returncode), ("", 0), ran.stderr)
 

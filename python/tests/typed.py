@@ -4,9 +4,11 @@ from __future__ import annotations
 
 import asyncio
 from collections.abc import Callable, Generator
+from concurrent.futures import Future, ThreadPoolExecutor
 from typing import Any
 
 from thrushscreen import Counters, DataLoader, LoaderFull, threads
+from thrushscreen.shared import Event, History, ThreadedDataLoader
 
 
 async def fetch(keys: list[int]) -> list[str | BaseException]:
@@ -81,3 +83,24 @@ def in_a_thread() -> None:
     error: BaseException | None = lengths.exception()
     counters: Counters = loader.counters
     print(value, chained.result(), several, raised, held, title, error, counters, chained.done(), threads.run(lengths) + 1)
+
+
+class SharedUsers(ThreadedDataLoader[int, str]):
+    max_batch_size = 100
+
+    def batch_load_fn(self, keys: list[int]) -> list[str]:
+        return [str(key) for key in keys]
+
+
+def among_threads() -> None:
+    with ThreadPoolExecutor() as executor:
+        loader = ThreadedDataLoader(fetch_here, max_batch_size=10, get_cache_key=by_text, delay=0.01, executor=executor)
+        users = SharedUsers(name="users").prime(1, "one").prime(2, KeyError(2)).clear(1).clear_all()
+        with loader.calling():
+            future: Future[str] = loader.submit(1)
+            value: str = loader.load(1, timeout=1)
+        several: list[str | BaseException] = users.load_many([1, 2])
+        raised: list[str] = users.load_many(range(3), return_exceptions=False, timeout=1)
+    history: History = loader.close()
+    events: list[Event] = history.events
+    print(value, future.result(), several, raised, events[0].answers, history.entries)

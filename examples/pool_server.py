@@ -1,0 +1,113 @@
+#!/usr/bin/env python3
+"""A WSGI application over an SQLite file that answers a request by several resolvers, each on a thread of its own. They share loaders.
+
+Without arguments it answers a request, and prints how many SQL statements that took with loaders and without. With `--port PORT` it
+serves until it is stopped.
+"""
+
+import argparse
+import contextlib
+import json
+import os
+import tempfile
+import threading
+from concurrent.futures import ThreadPoolExecutor
+from wsgiref.util import setup_testing_defaults
+
+from blog import Database, fill
+from threads_server import serve
+from thrushscreen.shared import ThreadedDataLoader
+
+# How many resolvers a request has, and how often each waits: so often a batch of its own may be sent at most.
+RESOLVERS, WAITS = 4, 3
+
+
+class NoLoader(ThreadedDataLoader):
+    """Asks for each key by itself, and as often as it is loaded, as a server without loaders does."""
+
+    batch = False
+    cache = False
+
+
+class Request:
+    """What the resolvers of one request share. Each has a connection of its own, which a batch function takes that runs in its thread."""
+
+    def __init__(self, path, kind):
+        self.path, self.mine, self.statements = path, threading.local(), []
+        self.user = kind(lambda ids: self.mine.database.row_by("user", ids))
+        self.comments_of = kind(lambda ids: self.mine.database.rows_by("comment", "post", ids))
+
+    @contextlib.contextmanager
+    def resolving(self):
+        """While a thread is inside, it is a resolver of this request."""
+        self.mine.database = Database(self.path)
+        try:
+            with self.user.calling(), self.comments_of.calling():
+                yield self.mine.database
+        finally:
+            self.statements.append(self.mine.database.statements)
+            self.mine.database.close()
+
+
+def resolve(request, posts):
+    """Some posts with their authors, and with the authors of their comments."""
+    with request.resolving():
+        authors = request.user.load_many([post["author"] for post in posts], return_exceptions=False)
+        comments = request.comments_of.load_many([post["id"] for post in posts], return_exceptions=False)
+        names = {user["id"]: user["name"] for user in request.user.load_many([each["author"] for some in comments for each in some])}
+        return [
+            {"title": post["title"], "author": author["name"], "comments": [names[each["author"]] for each in some]}
+            for post, author, some in zip(posts, authors, comments)
+        ]
+
+
+class Application:
+    """What WSGI calls for each request, and how many statements all took."""
+
+    def __init__(self, path, kind=ThreadedDataLoader):
+        self.path, self.kind, self.statements = path, kind, 0
+        self.lock = threading.Lock()
+
+    def __call__(self, environ, start_response):
+        request = Request(self.path, self.kind)
+        with request.resolving() as database:
+            posts = database.rows("SELECT * FROM post ORDER BY id")
+        with ThreadPoolExecutor(RESOLVERS) as pool:
+            parts = pool.map(lambda number: resolve(request, posts[number::RESOLVERS]), range(RESOLVERS))
+            body = json.dumps(sorted((post for part in parts for post in part), key=lambda post: post["title"])).encode()
+        with self.lock:
+            self.statements += sum(request.statements)
+        start_response("200 OK", [("Content-Type", "application/json"), ("Content-Length", str(len(body)))])
+        return [body]
+
+
+def answer(application):
+    """What an application answers."""
+    environ = {}
+    setup_testing_defaults(environ)
+    return application(environ, lambda status, headers: None)
+
+
+def compare(path):
+    few, many = Application(path), Application(path, NoLoader)
+    assert answer(few) == answer(many)
+    assert few.statements <= 1 + RESOLVERS * WAITS, few.statements
+    print(f"100 posts: at most {1 + RESOLVERS * WAITS} SQL statements with loaders, {many.statements} without")
+
+
+def main():
+    parser = argparse.ArgumentParser(description=__doc__.splitlines()[0])
+    parser.add_argument("--port", type=int)
+    port = parser.parse_args().port
+    with tempfile.TemporaryDirectory() as folder:
+        path = os.path.join(folder, "blog.sqlite")
+        fill(path)
+        if port is None:
+            compare(path)
+        else:
+            print(f"serving on http://127.0.0.1:{port}")
+            serve(Application(path), port).serve_forever()
+
+
+if __name__ == "__main__":
+    main()
