@@ -10,7 +10,10 @@
 mod answer;
 mod answer_value;
 mod asked;
+mod body;
 mod exploration;
+mod field;
+mod joining;
 pub mod laws;
 mod node;
 mod plan;

@@ -35,7 +35,7 @@ fn loaded(key: &FetchKey, outcome: &Outcome) -> Result<Answer, AllocError>
 }
 
 /// The load of a key: its answer, if the key has an outcome. Else the run wants the key.
-fn load(key: FetchKey, asked: &mut Asked<'_>) -> Result<Node, AllocError>
+pub(crate) fn load(key: FetchKey, asked: &mut Asked<'_>) -> Result<Node, AllocError>
     ensures stands { IfOk result (λ n. LoadsTarget (known_of asked.old) (Target.key key) (node_view n)) }
     ensures wanted { OnOk result (wanted_of asked.new
         ≡ insert_all key_eq (wanted_of asked.old) (load_waits (known_of asked.old) key)) }

@@ -2,7 +2,7 @@
 use Rattle.std.proofs.Common.{◌≡◌, length, ◌++◌}
 use Rattle.std.specs.Vec.Iter.{into_iter_items, into_iter_len}
 use Rattle.dl_terms.proofs.PartAnswers.{AreValues}
-use Rattle.dl_terms.proofs.exploration.answer_all.Given as goal
+use Rattle.dl_terms.proofs.joining.answer_all.Given as goal
 
 abbrev pub invariant-loop-part : goal.invariant-loop-part
 invariant-loop-part l = record {

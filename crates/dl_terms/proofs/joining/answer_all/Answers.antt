@@ -5,10 +5,10 @@ use Rattle.std.specs.Vec.Iter.{into_iter_items}
 use Rattle.std.proofs.lemmas.List.{append-nil, nil_from_length}
 use Rattle.dl_terms.specs.declared.answer.Answer.{Answer}
 use Rattle.dl_terms.specs.declared.answer.Answer.TheVariants.{Value, Fault}
-use Rattle.dl_terms.specs.TermAnswers.{gathered}
-use Rattle.dl_terms.specs.Node.{node_view, nodes_view, result_of, results_of}
+use Rattle.dl_terms.specs.TermAnswers.{joined}
+use Rattle.dl_terms.specs.Node.{joint_of, node_view, nodes_view, result_of, results_of}
 use Rattle.dl_terms.proofs.PartAnswers.{values_together, fault_together, ended_in, left_next, values_next}
-use Rattle.dl_terms.proofs.exploration.answer_all.Goals as goal
+use Rattle.dl_terms.proofs.joining.answer_all.Goals as goal
 
 pub loop-part-preserved : goal.loop-part-preserved
 loop-part-preserved c =
@@ -31,8 +31,8 @@ returns-in-Some-Fault c =
     let rest = into_iter_items c.next.new.self in
     let are : c.args.parts.items ≡ c.loop-part.yielded ++ (c.in-Some.part ∷ rest) = h.left ∙ ap (λ l. c.loop-part.yielded ++ l) c.in-Some.ensures.steps.0 in
     let is : result_of (node_view c.in-Some.part) ≡ Some (Fault c.in-Some-Fault.fault) = sym (rw c.in-Some-Fault.field-0-is at c.in-Some-Fault.ensures) in
-    subst (λ ns. option_map gathered (results_of (nodes_view ns)) ≡ Some (Fault c.in-Some-Fault.fault)) (sym are)
-    (fault_together c.loop-part.yielded c.loop-part.values.items c.in-Some.part rest c.in-Some-Fault.fault h.values is
+    subst (λ ns. option_map (joined (joint_of c.args.by.now)) (results_of (nodes_view ns)) ≡ Some (Fault c.in-Some-Fault.fault)) (sym are)
+    (fault_together (joint_of c.args.by.now) c.loop-part.yielded c.loop-part.values.items c.in-Some.part rest c.in-Some-Fault.fault h.values is
     (subst (λ ns. IsSome (results_of (nodes_view ns))) are c.requires))
 
 pub unreachable-requires : goal.unreachable-requires
@@ -50,6 +50,6 @@ returns c =
     let h = c.loop-part.invariant in
     let none : into_iter_items c.loop-part.part-iterator ≡ [] = nil_from_length _ (sym h.long ∙ c.in-None.ensures.steps.0) in
     let are : c.args.parts.items ≡ c.loop-part.yielded = h.left ∙ (ap (λ l. c.loop-part.yielded ++ l) none ∙ append-nil c.loop-part.yielded) in
-    ap (λ ns. option_map gathered (results_of (nodes_view ns))) are
-    ∙ (values_together c.loop-part.yielded c.loop-part.values.items h.values
-    ∙ ap (λ d. Some (Value d)) (sym c.list.ensures))
+    ap (λ ns. option_map (joined (joint_of c.args.by.now)) (results_of (nodes_view ns))) are
+    ∙ (values_together (joint_of c.args.by.now) c.loop-part.yielded c.loop-part.values.items h.values
+    ∙ ap (λ d. Some (Value d)) (sym c.in_ok-join_values.ensures))
