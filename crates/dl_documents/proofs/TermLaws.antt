@@ -9,7 +9,7 @@ use Rattle.dl_values.specs.Key.{IsKey, table_bytes}
 use Rattle.dl_source.proofs.Spelling.{array_of, string_of}
 use Rattle.dl_source.specs.Faults.{is_sized}
 use Rattle.dl_terms.proofs.Options.{from_map, from_and_then, from_both}
-use Rattle.dl_terms.specs.Tree.{Name, Tree, ended, load, pick, follow, each, all, Trees, no_trees, tree}
+use Rattle.dl_terms.specs.Tree.{Name, Tree, ended, load, pick, follow, each, all, over, the_item, named, Trees, no_trees, tree}
 use Rattle.dl_terms.specs.View.{trees_of}
 use Rattle.dl_terms.specs.declared.answer.Answer.TheVariants.{Value, Fault}
 use Rattle.dl_documents.proofs.Findings.{Spelled, sized, sized_again, kept, passed, from_zip, two_found, three_found}
@@ -188,6 +188,9 @@ mutual
   term_again (follow t field table) h = rw (sized_again table_bytes table h.1.some h.1.short, term_again t h.0) refl
   term_again (each t field table) h = rw (sized_again table_bytes table h.1.some h.1.short, term_again t h.0) refl
   term_again (all ts) h = rw (terms_again ts h) (ap (λ us. Some (all us)) (listed ts))
+  term_again (over t body) h = absurd h
+  term_again the_item h = absurd h
+  term_again (named names ts) h = absurd h
 
   terms_again : (ts : Trees) → AreTerms ts → together (parts_of (terms_tree ts)) ≡ Some (list_of ts)
   terms_again no_trees h = refl

@@ -1,9 +1,9 @@
 -- How terms are spelled in JSON: each has one tree.
-use Rattle.std.specs.Prelude.{◌≡◌, ◌≤◌, length, false, codes}
-use Rattle.serde_json.specs.Data.{Data, null, string, array, Items, no_items, item}
+use Rattle.std.specs.Prelude.{◌≡◌, ◌≤◌, List, [], ◌∷◌, length, true, false, codes}
+use Rattle.serde_json.specs.Data.{Data, null, boolean, string, array, object, Items, no_items, item, Members, no_members, member}
 use Rattle.serde_json.specs.Written.{has_float}
 use Rattle.dl_values.specs.Key.{IsKey, table_bytes}
-use Rattle.dl_terms.specs.Tree.{Name, Tree, ended, load, pick, follow, each, all, Trees, no_trees, tree}
+use Rattle.dl_terms.specs.Tree.{Name, Tree, ended, load, pick, follow, each, all, over, the_item, named, Trees, no_trees, tree}
 use Rattle.dl_terms.specs.declared.answer.Answer.{Answer}
 use Rattle.dl_terms.specs.declared.answer.Answer.TheVariants.{Value, Fault}
 use Rattle.dl_documents.specs.Script.{key_tree, one}
@@ -30,10 +30,18 @@ abbrev mutual
   term_tree (follow t field table) = one (codes "follow") (three (term_tree t) (string field) (string table))
   term_tree (each t field table) = one (codes "each") (three (term_tree t) (string field) (string table))
   term_tree (all ts) = one (codes "all") (array (terms_tree ts))
+  term_tree (over t body) = one (codes "over") (two (term_tree t) (term_tree body))
+  term_tree the_item = one (codes "item") (boolean true)
+  term_tree (named names ts) = one (codes "object") (object (members_tree names ts))
 
   pub terms_tree : Trees → Items
   terms_tree no_trees = no_items
   terms_tree (tree t ts) = item (term_tree t) (terms_tree ts)
+
+  pub members_tree : List Name → Trees → Members
+  members_tree names no_trees = no_members
+  members_tree [] (tree t ts) = no_members
+  members_tree (name ∷ names) (tree t ts) = member name (term_tree t) (members_tree names ts)
 
 -- ---- terms
 
@@ -50,7 +58,7 @@ abbrev pub IsValue : Answer → Type 0
 IsValue (Value d) = IsWhole d
 IsValue (Fault f) = ⊥
 
--- the values, keys and names of a term are what these must be
+-- The values, keys and names of a term are what these must be, and it has the forms of versions 1 and 2.
 abbrev mutual
   pub IsTerm : Tree → Type 0
   IsTerm (ended a) = IsValue a
@@ -59,6 +67,9 @@ abbrev mutual
   IsTerm (follow t field table) = IsTerm t × IsTableName table
   IsTerm (each t field table) = IsTerm t × IsTableName table
   IsTerm (all ts) = AreTerms ts
+  IsTerm (over t body) = ⊥
+  IsTerm the_item = ⊥
+  IsTerm (named names ts) = ⊥
 
   pub AreTerms : Trees → Type 0
   AreTerms no_trees = Unit {0}

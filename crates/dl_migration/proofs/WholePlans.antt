@@ -6,7 +6,7 @@ use Rattle.serde_json.specs.Data.{Data}
 use Rattle.serde_json.specs.View.{items_of}
 use Rattle.serde_json.specs.Written.{has_float, items_have_float}
 use Rattle.dl_values.specs.declared.outcome.Outcome.TheVariants as outcome
-use Rattle.dl_terms.specs.Tree.{Tree, ended, load, pick, follow, each, all, Trees, no_trees, tree}
+use Rattle.dl_terms.specs.Tree.{Tree, ended, load, pick, follow, each, all, over, the_item, named, Trees, no_trees, tree}
 use Rattle.dl_terms.specs.declared.answer.Answer.TheVariants as answer
 use Rattle.dl_documents.specs.Terms.{term_tree, terms_tree, IsTerm, AreTerms}
 use Rattle.dl_documents.specs.Steps.{StepTree, prime, clear, clear_all, eval, step_tree, plan_tree, plans_tree, IsPlanStep, IsPlan}
@@ -27,6 +27,9 @@ mutual
   whole_term (follow t field table) is = with_texts (has_float (term_tree t)) (whole_term t is.0)
   whole_term (each t field table) is = with_texts (has_float (term_tree t)) (whole_term t is.0)
   whole_term (all ts) is = alone (items_have_float (terms_tree ts)) (whole_terms ts is)
+  whole_term (over t body) is = absurd is
+  whole_term the_item is = absurd is
+  whole_term (named names ts) is = absurd is
 
   whole_terms : (ts : Trees) → AreTerms ts → items_have_float (terms_tree ts) ≡ false
   whole_terms no_trees are = refl

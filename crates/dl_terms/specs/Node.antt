@@ -9,7 +9,7 @@ use Rattle.dl_terms.specs.declared.node.Node.TheFolds.{fold-Node}
 use Rattle.dl_terms.specs.Tree.{Tree, ended, load, pick, follow, each, all, over, the_item, named, Trees, no_trees, tree}
 use Rattle.dl_terms.specs.View.{term_view, trees_of}
 use Rattle.dl_terms.specs.declared.node.Join.{Join}
-use Rattle.dl_terms.specs.declared.node.Join.TheVariants as join
+use Rattle.dl_terms.specs.declared.node.Join.TheVariants as way
 use Rattle.dl_terms.specs.TermAnswers.{both, Joint, listing, naming}
 
 -- a frame round a tree
@@ -25,8 +25,8 @@ framed [] t = t
 framed (f ∷ fs) t = in_frame f (framed fs t)
 
 abbrev pub joint_of : Join → Joint
-joint_of join.List = listing
-joint_of (join.Object names) = naming names.items
+joint_of way.List = listing
+joint_of (way.Object names) = naming names.items
 
 -- trees joined to one
 abbrev pub joined_tree : Joint → Trees → Tree

@@ -17,7 +17,7 @@ use crate::answer::{Answer, EvalFault};
 use crate::answer_value::AnswerValue;
 use crate::asked::Asked;
 use crate::field::{MOST_ITEMS, each, follow, pick_value};
-use crate::joining::join;
+use crate::joining::put_together;
 use crate::node::{Frame, Join, Node};
 use crate::target::load;
 use crate::term::{Term, copy_names, copy_of};
@@ -68,7 +68,7 @@ fn go_over(
                 return Ok(Node::Done(Answer::Fault(EvalFault::TooMany)));
             }
             let copies = enter_copies(alloc, body, items.as_slice(), asked)?;
-            join(alloc, copies, Join::List)
+            put_together(alloc, copies, Join::List)
         }
     }
 }
@@ -195,7 +195,7 @@ fn enter_parts(
     ensures pairs { OnOk result (pairs_of asked.new ≡ pairs_of asked.old) }
 {
     let nodes = enter_all(alloc, parts, item, asked)?;
-    join(alloc, nodes, by)
+    put_together(alloc, nodes, by)
 }
 
 #[cycle(entering)]

@@ -13,7 +13,7 @@ ghost use Rattle.dl_terms.specs.declared.answer.Answer.TheVariants as answer;
 use crate::answer::{Answer, EvalFault};
 use crate::answer_value::AnswerValue;
 use crate::asked::Asked;
-use crate::joining::join;
+use crate::joining::put_together;
 use crate::node::{Join, Node};
 use crate::target::{load_id, load_ids};
 use dl_values::{Json, Text};
@@ -100,7 +100,7 @@ fn load_list(
                 return Ok(Node::Done(Answer::Fault(EvalFault::TooMany)));
             }
             let nodes = load_ids(alloc, table, ids.as_slice(), asked)?;
-            join(alloc, nodes, Join::List)
+            put_together(alloc, nodes, Join::List)
         }
     }
 }

@@ -13,7 +13,7 @@ use crate::node::{Join, Node};
 use std::alloc::{AllocError, Global};
 
 /// What parts answer together after a round of each, if all have ended.
-pub(crate) fn join(alloc: Global, parts: Vec<Node>, by: Join) -> Result<Node, AllocError>
+pub(crate) fn put_together(alloc: Global, parts: Vec<Node>, by: Join) -> Result<Node, AllocError>
     ensures { IfOk result (λ n. JoinsOn (joint_of by) (nodes_view parts.items) (node_view n)) }
 {
     if have_ended(parts.as_slice()) {

@@ -132,7 +132,7 @@ fn highest(parts: &Vec<Term>) -> u32
 ///
 /// # Errors
 /// `AllocError` if memory runs out.
-#[cycle(copying)]
+#[cycle(term_copies)]
 pub(crate) fn copy_of(alloc: Global, term: &Term) -> Result<Term, AllocError>
     ensures { IfOk result (λ t. term_view t ≡ term_view term.now) }
 {
@@ -169,14 +169,14 @@ pub(crate) fn copy_of(alloc: Global, term: &Term) -> Result<Term, AllocError>
     }
 }
 
-#[cycle(copying)]
+#[cycle(term_copies)]
 fn boxed_copy(alloc: Global, term: &Term) -> Result<Box<Term>, AllocError>
     ensures { IfOk result (λ t. term_view t.value ≡ term_view term.now) }
 {
     Box::new(alloc, copy_of(alloc, term)?)
 }
 
-#[cycle(copying)]
+#[cycle(term_copies)]
 fn copies_of(alloc: Global, terms: &Vec<Term>) -> Result<Vec<Term>, AllocError>
     ensures { IfOk result (λ ts. terms_view ts.items ≡ terms_view terms.now.items) }
 {

@@ -45,10 +45,10 @@ returns-in_ok-nodes-in-Some-clause-stands c =
     let nodes = nodes_view c.in_ok-nodes-in-Some.nodes.items in
     let stand : LoadsEach p (item_targets table (items_view ids)) nodes =
     subst (λ vs. LoadsEach p (item_targets table (items_view vs)) nodes) c.as_slice.ensures.value c.in_ok-nodes-in-Some.ensures.stand in
-    subst (λ x. IfOk c.join.result (λ n. LoadsTargets p x (node_view n))) (sym is)
-    (if_ok c.join.result (λ n. JoinsOn listing nodes (node_view n)) (λ n. LoadsTargets p (Targets.keys (item_targets table (items_view ids))) (node_view n))
+    subst (λ x. IfOk c.put_together.result (λ n. LoadsTargets p x (node_view n))) (sym is)
+    (if_ok c.put_together.result (λ n. JoinsOn listing nodes (node_view n)) (λ n. LoadsTargets p (Targets.keys (item_targets table (items_view ids))) (node_view n))
     (λ n on. joins_on p listing (λ q. target_answers q (item_targets table (items_view ids))) (λ q. each_target_waits q (item_targets table (items_view ids))) nodes
-    (node_view n) stand on) c.join.ensures)
+    (node_view n) stand on) c.put_together.ensures)
 
 pub returns-in_ok-nodes-in-Some-clause-wanted : goal.returns-in_ok-nodes-in-Some-clause-wanted
 returns-in_ok-nodes-in-Some-clause-wanted c =
@@ -58,7 +58,7 @@ returns-in_ok-nodes-in-Some-clause-wanted c =
     let is : list_targets table (as_array (view c.args.ids.now)) ≡ Targets.keys (item_targets table (items_view ids)) =
     not_many table (as_array (view c.args.ids.now)) ids c.in-Some.ensures (omega (arith, c.len.ensures, c.in-Some.ids.now.ok.0, c.if-len-gt-MOST_ITEMS.false))
     in
-    on_ok c.join.result _
+    on_ok c.put_together.result _
     (c.in_ok-nodes-in-Some.ensures.wanted
     ∙ (ap (λ vs. insert_all key_eq (wanted_of c.args.asked.now) (each_target_waits p (item_targets table (items_view vs)))) c.as_slice.ensures.value
     ∙ ap (λ x. insert_all key_eq (wanted_of c.args.asked.now) (targets_waits p x)) (sym is)))

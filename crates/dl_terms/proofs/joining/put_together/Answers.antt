@@ -3,7 +3,7 @@ use Rattle.std.specs.List.{list_all}
 use Rattle.dl_terms.specs.Node.{joint_of, node_view, nodes_view, result_of, results_of}
 use Rattle.dl_terms.proofs.Views.{node_view-Parts}
 use Rattle.dl_terms.proofs.PartAnswers.{all_ended, joins_none}
-use Rattle.dl_terms.proofs.joining.join.Goals as goal
+use Rattle.dl_terms.proofs.joining.put_together.Goals as goal
 
 pub answer_all-requires : goal.answer_all-requires
 answer_all-requires c =
