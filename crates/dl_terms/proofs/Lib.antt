@@ -4,6 +4,7 @@ pub mod AnswersWithoutWaits
 mod RuleAnswers
 mod DepthBound
 mod Substitution
+mod WorkedExamples
 mod Views
 mod Frames
 mod TermViews
