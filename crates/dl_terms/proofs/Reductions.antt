@@ -100,6 +100,10 @@ module _ (p : Key → Option Outcome) where
       → StandAll p say lack vs → JoinsOn j vs u → Stands p (λ q. option_map (joined j) (say q)) lack u
   joins_on j say lack vs u s on = join_on j say lack vs u (results_of vs) refl s on
 
+  -- and what they wait for
+  pub parts_want : (j : Joint) (ts : Trees) (ks : List Key) → insert_all key_eq ks (all_wait p ts) ≡ insert_all key_eq ks (waits p (joined_tree j ts))
+  parts_want j ts ks = ap (insert_all key_eq ks) (sym (joined_waits j p ts))
+
   -- parts that a round has explored, joined
   pub parts_reduce : (j : Joint) (ts vs : Trees) (u : Tree) → ReduceAll p ts vs → JoinsOn j vs u → Reduces p (joined_tree j ts) u
   parts_reduce listing ts vs u s on = joins_on listing (λ q. answers q ts) (λ q. all_wait q ts) vs u s on

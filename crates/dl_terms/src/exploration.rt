@@ -118,7 +118,7 @@ fn explore_parts(
     ensures becomes { IfOk result (Becomes (known_of asked.old)
         (joined_tree (joint_of by.now) (nodes_view parts.old.items)) (joined_tree (joint_of by.now) (nodes_view parts.new.items))) }
     ensures wanted { OnOk result (wanted_of asked.new
-        ≡ insert_all key_eq (wanted_of asked.old) (all_wait (known_of asked.old) (nodes_view parts.old.items))) }
+        ≡ insert_all key_eq (wanted_of asked.old) (waits (known_of asked.old) (joined_tree (joint_of by.now) (nodes_view parts.old.items)))) }
     ensures pairs { OnOk result (pairs_of asked.new ≡ pairs_of asked.old) }
 {
     explore_all(alloc, parts, asked)?;

@@ -17,7 +17,7 @@ use Rattle.dl_terms.specs.Inside.Exploration.{Becomes}
 use Rattle.dl_terms.proofs.Views.{node_view-Chain, node_view-Done}
 use Rattle.dl_terms.proofs.PartAnswers.{all_ended, joins_none, joins_some}
 use Rattle.dl_terms.proofs.Frames.{means_framed, settles, still_means, part_waits, part_wants}
-use Rattle.dl_terms.proofs.Reductions.{chain_left, parts_reduce, nodes_reduce, result_is, zip_next, wanted_next}
+use Rattle.dl_terms.proofs.Reductions.{chain_left, parts_reduce, parts_want, nodes_reduce, result_is, zip_next, wanted_next}
 use Rattle.dl_terms.proofs.exploration.+exploring.Goals as goal
 
 pub explore_all-loop-place-preserved : goal.explore_all-loop-place-preserved
@@ -171,3 +171,13 @@ explore_parts-returns-clause-becomes t c =
     ap (λ (v : Vec Node Global). option_map (joined j) (results_of (nodes_view v.items))) (sym c.replace-parts.ensures.value) ∙ c.in_ok-answer_all.ensures in
     parts_reduce (known_of c.args.asked.now) j (nodes_view c.args.parts.now.items) parts _ c.in_ok-explore_all.ensures.reduce
     (joins_some j parts _ a together (node_view-Done a))
+
+pub explore_parts-returns-then-not-have_ended-clause-wanted : goal.explore_parts-returns-then-not-have_ended-clause-wanted
+explore_parts-returns-then-not-have_ended-clause-wanted t c =
+    c.in_ok-explore_all.ensures.wanted
+    ∙ parts_want (known_of c.args.asked.now) (joint_of c.args.by.now) (nodes_view c.args.parts.now.items) (wanted_of c.args.asked.now)
+
+pub explore_parts-returns-clause-wanted : goal.explore_parts-returns-clause-wanted
+explore_parts-returns-clause-wanted t c =
+    c.in_ok-explore_all.ensures.wanted
+    ∙ parts_want (known_of c.args.asked.now) (joint_of c.args.by.now) (nodes_view c.args.parts.now.items) (wanted_of c.args.asked.now)
