@@ -1,7 +1,7 @@
 -- What a round makes of the terms of a body, for an item.
 use Rattle.std.proofs.Common.{◌≡◌, ◌∙◌, ap, sym, refl, ℕ, suc, ◌+◌, ◌<◌, ◌≤◌, Bool, true, false, nat_lt, if◌then◌else◌, List, [], ◌∷◌, ◌++◌, length, Option}
 use Rattle.std.proofs.Common.{Some, None}
-use Rattle.std.specs.Prelude.{Box}
+use Rattle.std.specs.Prelude.{Box, Result, Ok, Err, IfOk, OnOk}
 use Rattle.std.specs.declared.alloc.Global.{Global}
 use Rattle.std.specs.Option.{option_map, option_and_then}
 use Rattle.std.specs.List.{AllZip}
@@ -33,6 +33,14 @@ use Rattle.dl_terms.specs.Rounds.{KnowsMore}
 use Rattle.dl_terms.specs.Inside.Exploration.{StandAll, AllStandAt, CopiesStand, IsSettled, JoinsOn, StandsAt, frame_waits}
 use Rattle.dl_terms.proofs.Frames.{no_answer}
 use Rattle.dl_terms.proofs.Reductions.{joins_on, stand_more}
+
+pub if_ok : {X E : Type 0} (r : Result X E) (P Q : X → Type 0) → ((x : X) → P x → Q x) → IfOk r P → IfOk r Q
+if_ok (Ok x) P Q f h = f x h
+if_ok (Err e) P Q f h = h
+
+pub on_ok : {X E : Type 0} (r : Result X E) (R S : Type 0) → (R → S) → OnOk r R → OnOk r S
+on_ok (Ok x) R S f h = f h
+on_ok (Err e) R S f h = h
 
 -- ---- a part in a frame
 
@@ -109,6 +117,15 @@ module _ (p : Key → Option Outcome) where
       (frame_waits p (Each field table) (answer_at p i t)) (eaches field table (answer_at p i t))
   frame_wants i (Over body) t ks = waits_then ks (waits_at p i t) (answer_at p i t)
       (λ a. copies_wait (λ d. waits_at p (Some d) (term_view body.value)) (listed a)) (frame_waits p (Over body) (answer_at p i t)) (overs body (answer_at p i t))
+
+  -- the keys that are wanted once a part and then its frame added theirs
+  pub part_wants : (i : Option Data) (f : Frame) (t part : Tree) (ks mid new : List Key) → mid ≡ insert_all key_eq ks (waits_at p i t)
+      → result_of part ≡ answer_at p i t → new ≡ insert_all key_eq mid (frame_waits p f (result_of part))
+      → new ≡ insert_all key_eq ks (waits_at p i (in_frame f t))
+  part_wants i f t part ks mid new wanted ends e =
+      e
+      ∙ (ap (λ m. insert_all key_eq m (frame_waits p f (result_of part))) wanted
+      ∙ (ap (λ x. insert_all key_eq (insert_all key_eq ks (waits_at p i t)) (frame_waits p f x)) ends ∙ sym (frame_wants i f t ks)))
 
   -- ---- parts of a body, together
 
