@@ -5,6 +5,7 @@ ghost use Rattle.serde_json.specs.Data.{array, object};
 ghost use Rattle.serde_json.specs.Find.{as_array, get};
 ghost use Rattle.serde_json.specs.View.{view, items_of, items_view, members_view};
 ghost use Rattle.serde_json.specs.Written.{has_float, items_have_float, members_have_float, compact_text};
+ghost use Rattle.dl_terms.specs.AnswerValue.{tree_of};
 ghost use Rattle.dl_terms.specs.Joined.{members_with, put_named};
 
 use dl_values::{Json, Text};
@@ -44,6 +45,21 @@ impl Drop for Shape {
         match self {
             Shape::Row(row) => drop(row),
             Shape::List(values) => drop(values),
+        }
+    }
+}
+
+impl Shape {
+    /// The items, if it is a list.
+    ///
+    /// # Errors
+    /// `AllocError` if memory runs out.
+    fn into_items(self, alloc: Global) -> Result<Option<Vec<AnswerValue>>, AllocError>
+        ensures { IfOk result (λ o. option_map (λ vs. items_of vs.items) o ≡ as_array (tree_of self)) }
+    {
+        match self {
+            Shape::Row(row) => row_items(alloc, &row),
+            Shape::List(values) => Ok(Some(values)),
         }
     }
 }
@@ -111,10 +127,7 @@ impl AnswerValue {
         ensures { IfOk result (λ o. option_map (λ vs. items_of vs.items) o ≡ as_array self) }
     {
         let AnswerValue { shape } = self;
-        match shape {
-            Shape::Row(row) => row_items(alloc, &row),
-            Shape::List(values) => Ok(Some(values)),
-        }
+        shape.into_items(alloc)
     }
 
     /// The member of this name, if the value is an object that has one. A list has none.

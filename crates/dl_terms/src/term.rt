@@ -173,7 +173,7 @@ pub(crate) fn copy_of(alloc: Global, term: &Term) -> Result<Term, AllocError>
 fn boxed_copy(alloc: Global, term: &Term) -> Result<Box<Term>, AllocError>
     ensures { IfOk result (λ t. term_view t.value ≡ term_view term.now) }
 {
-    Box::new(alloc, copy_of(alloc, term)?)
+    Ok(Box::new(alloc, copy_of(alloc, term)?)?)
 }
 
 #[cycle(term_copies)]
