@@ -5,7 +5,6 @@ ghost use Rattle.serde_json.specs.Data.{array, object};
 ghost use Rattle.serde_json.specs.Find.{as_array, get};
 ghost use Rattle.serde_json.specs.View.{view, items_of, items_view, members_view};
 ghost use Rattle.serde_json.specs.Written.{has_float, items_have_float, members_have_float, compact_text};
-ghost use Rattle.dl_terms.specs.AnswerValue.{tree_of};
 ghost use Rattle.dl_terms.specs.Joined.{members_with, put_named};
 
 use dl_values::{Json, Text};
@@ -50,6 +49,8 @@ impl Drop for Shape {
 }
 
 impl Shape {
+    ghost use Rattle.dl_terms.specs.AnswerValue.{tree_of};
+
     /// The items, if it is a list.
     ///
     /// # Errors
