@@ -8,7 +8,7 @@ use Rattle.std.proofs.lemmas.List.{map-append, drop_more, take_more}
 use Rattle.std.specs.Ordering.{nat_cmp, match_ordering}
 use Rattle.std.specs.Cmp.Lexicographic.{slice_cmp}
 use Rattle.std.proofs.lemmas.Bool.{or_parts}
-use Rattle.serde_json.specs.Data.{Data, null, boolean, number, string, array, object, Items, item, Members, no_members, member, put, depth}
+use Rattle.serde_json.specs.Data.{Data, null, boolean, number, string, array, object, Items, no_items, item, Members, no_members, member, put, depth}
 use Rattle.serde_json.specs.Find.{get, as_array}
 use Rattle.serde_json.specs.View.{view, items_of, items_view}
 use Rattle.serde_json.specs.Written.{has_float, items_have_float, members_have_float, comma_if, compact_text, items_text}
@@ -109,6 +109,11 @@ member_next names all vs more done v before after whole last was put_there =
       put_there ∙ (ap (put_named (slice_get names (length more)) v) (was ∙ ap (λ k. members_with (drop k names) (items_of done)) next)
           ∙ by_place names (length more) v (items_of done)),
     )
+
+-- no values make no members
+pub none_named : (names : List (List ℕ)) → no_members ≡ members_with names no_items
+none_named [] = refl
+none_named (n ∷ names) = refl
 
 or_false : (a b : Bool) → a ≡ false → b ≡ false → (a || b) ≡ false
 or_false a b e f = ap (λ x. x || b) e ∙ f
