@@ -52,6 +52,15 @@ unexplored-unexplored_all-requires t c =
     let high : height_of (framed c.loop-term.frames.items now) ≡ height_of (term_view c.args.term) = ap height_of c.loop-term.invariant in
     omega (arith, c.decreases)
 
+pub unexplored-unexplored_all-requires-in-Object : goal.unexplored-unexplored_all-requires-in-Object
+unexplored-unexplored_all-requires-in-Object t c =
+    let parts = terms_view c.in-Object.parts.items in
+    let now = term_view c.loop-term.term in
+    let here : height_of now ≡ height_of_all parts + 1 = ap height_of (ap term_view c.in-Object.is ∙ term_view-Object c.in-Object.names c.in-Object.parts) in
+    let low : height_of now ≤ height_of (framed c.loop-term.frames.items now) = framed_high c.loop-term.frames.items now in
+    let high : height_of (framed c.loop-term.frames.items now) ≡ height_of (term_view c.args.term) = ap height_of c.loop-term.invariant in
+    omega (arith, c.decreases)
+
 pub unexplored_all-unexplored-requires : goal.unexplored_all-unexplored-requires
 unexplored_all-unexplored-requires t c =
     let rest = into_iter_items c.next.new.self in
