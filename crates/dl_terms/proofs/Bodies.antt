@@ -42,6 +42,10 @@ pub on_ok : {X E : Type 0} (r : Result X E) (R S : Type 0) → (R → S) → OnO
 on_ok (Ok x) R S f h = f h
 on_ok (Err e) R S f h = h
 
+pub always_ok : {X E : Type 0} (r : Result X E) (S : Type 0) → S → OnOk r S
+always_ok (Ok x) S h = h
+always_ok (Err e) S h = tt
+
 -- ---- a part in a frame
 
 module _ (i : Option Data) (q : Key → Option Outcome) (t part : Tree) (same : answer q part ≡ answer_at q i t) where

@@ -43,20 +43,20 @@ known_right q (k ∷ ks) ls h = known_right q ks ls h.1
 
 -- ---- a key that is listed once for several is known at each place
 
-listed_step : (q : Key → Option Outcome) (k x : Key) (b : Bool) (xs : List Key) → key_eq k x ≡ b → IsSome (q k) → Known q (cond (not b) (x ∷ xs) xs)
+once_step : (q : Key → Option Outcome) (k x : Key) (b : Bool) (xs : List Key) → key_eq k x ≡ b → IsSome (q k) → Known q (cond (not b) (x ∷ xs) xs)
     → IsSome (q x) × Known q xs
-listed_step q k x true xs e known h = (subst (λ y. IsSome (q y)) (key_eq-same k x e) known, h)
-listed_step q k x false xs e known h = (h.0, h.1)
+once_step q k x true xs e known h = (subst (λ y. IsSome (q y)) (key_eq-same k x e) known, h)
+once_step q k x false xs e known h = (h.0, h.1)
 
-listed : (q : Key → Option Outcome) (k : Key) (xs : List Key) → IsSome (q k) → Known q (filter (λ x. not (key_eq k x)) xs) → Known q xs
-listed q k [] known h = tt
-listed q k (x ∷ xs) known h =
-    let step = listed_step q k x (key_eq k x) (filter (λ y. not (key_eq k y)) xs) refl known h in
-    (step.0, listed q k xs known step.1)
+known_once : (q : Key → Option Outcome) (k : Key) (xs : List Key) → IsSome (q k) → Known q (filter (λ x. not (key_eq k x)) xs) → Known q xs
+known_once q k [] known h = tt
+known_once q k (x ∷ xs) known h =
+    let step = once_step q k x (key_eq k x) (filter (λ y. not (key_eq k y)) xs) refl known h in
+    (step.0, known_once q k xs known step.1)
 
 firsts_known : (q : Key → Option Outcome) (ks : List Key) → Known q (firsts ks) → Known q ks
 firsts_known q [] h = tt
-firsts_known q (k ∷ ks) h = (h.0, firsts_known q ks (listed q k (firsts ks) h.0 h.1))
+firsts_known q (k ∷ ks) h = (h.0, firsts_known q ks (known_once q k (firsts ks) h.0 h.1))
 
 -- ---- a part waits for no other keys than the whole
 
@@ -187,14 +187,14 @@ last_rounds i s m (suc b) (suc r) q low (n, past, more, known) =
 -- ---- the copies of a body, once the list is there
 
 module _ (i : Option Data) (whole body : Tree) (n q : Key → Option Outcome) (r : ℕ) (h : Rises i whole n r q)
-    (each : (d : Data) → Rises (Some d) body n r q → (a : Answer) × (answer_at q (Some d) body ≡ Some a)) where
+    (gives : (d : Data) → Rises (Some d) body n r q → (a : Answer) × (answer_at q (Some d) body ≡ Some a)) where
   each_copy_has : (ds : Items)
       → ((x p : Key → Option Outcome) → KnowsMore n x → Known p (waits_at x i whole) → Known p (copy_waits (λ d. waits_at x (Some d) body) ds))
       → (ls : List Answer) × (copy_answers (λ d. answer_at q (Some d) body) ds ≡ Some ls)
   each_copy_has no_items fewer = ([], refl)
   each_copy_has (item d ds) fewer =
       has_both (answer_at q (Some d) body) (copy_answers (λ e. answer_at q (Some e) body) ds)
-      (each d (rises_of (Some d) i body whole n (λ x p more known. known_left p (waits_at x (Some d) body)
+      (gives d (rises_of (Some d) i body whole n (λ x p more known. known_left p (waits_at x (Some d) body)
       (copy_waits (λ e. waits_at x (Some e) body) ds) (fewer x p more known)) r q h))
       (each_copy_has ds (λ x p more known. known_right p (waits_at x (Some d) body) (copy_waits (λ e. waits_at x (Some e) body) ds)
       (fewer x p more known)))
@@ -209,9 +209,9 @@ module _ (i : Option Data) (whole body : Tree) (n q : Key → Option Outcome) (r
 over_has : (i : Option Data) (t body : Tree) (n q : Key → Option Outcome) (r : ℕ) → Rises i (over t body) n r q
     → ((d : Data) → Rises (Some d) body n r q → (a : Answer) × (answer_at q (Some d) body ≡ Some a)) → ((a : Answer) × (answer_at n i t ≡ Some a))
     → (b : Answer) × (answer_at q i (over t body) ≡ Some b)
-over_has i t body n q r h each (a, e) =
+over_has i t body n q r h gives (a, e) =
     let next = λ (x : Key → Option Outcome) (b : Answer). copies_wait (λ d. waits_at x (Some d) body) (listed b) in
-    let found = copies_have i (over t body) body n q r h each (listed a) (λ x p more known. subst (λ o. Known p (waits_after o (next x)))
+    let found = copies_have i (over t body) body n q r h gives (listed a) (λ x p more known. subst (λ o. Known p (waits_after o (next x)))
     (answer_at_kept n x more i t a e) (known_right p (waits_at x i t) (waits_after (answer_at x i t) (next x)) known)) in (
       found.0,
       ap (option_and_then (λ b. copies_answer (λ d. answer_at q (Some d) body) (listed b)))

@@ -1,5 +1,5 @@
 -- The trees of terms, form by form, and how high they are.
-use Rattle.std.proofs.Common.{◌≡◌, ◌∙◌, ap, refl, ◌+◌, ◌≤◌, List, [], ◌∷◌, ◌++◌, arith}
+use Rattle.std.proofs.Common.{◌≡◌, ◌∙◌, ap, refl, zero, suc, ◌+◌, ◌<◌, ◌≤◌, List, [], ◌∷◌, ◌++◌, length, get_or, arith}
 use Rattle.std.specs.Prelude.{ℕ, Vec, Box, max}
 use Rattle.std.specs.declared.alloc.Global.{Global}
 use Rattle.dl_terms.specs.declared.node.Frame.{Frame}
@@ -41,6 +41,15 @@ frame_next fs more f inner whole t pushed is so_far =
     ap (λ gs. framed gs inner) pushed ∙ (framed_last fs f inner ∙ (ap (framed fs) is ∙ so_far))
 
 -- ---- how high a part is
+
+pub item_high : (xs : List Term) (i : ℕ) (x : Term) → i < length xs → x ≡ get_or xs i x → height_of (term_view x) ≤ height_of_all (terms_view xs)
+item_high [] i x low is = absurd (omega arith)
+item_high (y ∷ ys) zero x low is =
+    let same : height_of (term_view x) ≡ height_of (term_view y) = ap (λ z. height_of (term_view z)) is in
+    omega arith
+item_high (y ∷ ys) (suc i) x low is =
+    let below : height_of (term_view x) ≤ height_of_all (terms_view ys) = item_high ys i x (omega arith) is in
+    omega arith
 
 -- how high the body of a frame is
 abbrev pub body_high : Frame → ℕ

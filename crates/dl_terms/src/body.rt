@@ -20,7 +20,7 @@ use crate::field::{MOST_ITEMS, each, follow, pick_value};
 use crate::joining::put_together;
 use crate::node::{Frame, Join, Node};
 use crate::target::load;
-use crate::term::{Term, copy_names, copy_of};
+use crate::term::{Term, boxed_copy, copy_names};
 use std::alloc::{AllocError, Global};
 
 /// What comes of a part's answer in a frame.
@@ -130,7 +130,7 @@ fn enter(
             enter_part(alloc, part, Frame::Each { field, table }, item, asked)
         }
         Term::Over { part, body } => {
-            let body = Box::new(alloc, copy_of(alloc, body)?)?;
+            let body = boxed_copy(alloc, body)?;
             enter_part(alloc, part, Frame::Over { body }, item, asked)
         }
         Term::All(parts) => enter_parts(alloc, parts, Join::List, item, asked),

@@ -128,12 +128,8 @@ fn highest(parts: &Vec<Term>) -> u32
     most
 }
 
-/// The same term, with memory of its own.
-///
-/// # Errors
-/// `AllocError` if memory runs out.
 #[cycle(term_copies)]
-pub(crate) fn copy_of(alloc: Global, term: &Term) -> Result<Term, AllocError>
+fn copy_of(alloc: Global, term: &Term) -> Result<Term, AllocError>
     ensures { IfOk result (λ t. term_view t ≡ term_view term.now) }
 {
     match term {
@@ -169,8 +165,12 @@ pub(crate) fn copy_of(alloc: Global, term: &Term) -> Result<Term, AllocError>
     }
 }
 
+/// The same term, with memory of its own.
+///
+/// # Errors
+/// `AllocError` if memory runs out.
 #[cycle(term_copies)]
-fn boxed_copy(alloc: Global, term: &Term) -> Result<Box<Term>, AllocError>
+pub(crate) fn boxed_copy(alloc: Global, term: &Term) -> Result<Box<Term>, AllocError>
     ensures { IfOk result (λ t. term_view t.value ≡ term_view term.now) }
 {
     Ok(Box::new(alloc, copy_of(alloc, term)?)?)

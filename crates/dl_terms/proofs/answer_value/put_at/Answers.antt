@@ -30,5 +30,5 @@ returns-clause-whole c =
     let name = c.in_ok-name.name in
     let value = c.in_ok-value.value in
     λ rest. ap (λ es. members_have_float (members_view es)) c.in_ok-insert.ensures.entries
-        ∙ (ap members_have_float (members_view-insert_entry c.args.members.now.entries name value)
-        ∙ put_whole (string_bytes name) (view value) old c.in_ok-value.ensures.whole rest)
+    ∙ (ap members_have_float (members_view-insert_entry c.args.members.now.entries name value)
+    ∙ put_whole (string_bytes name) (view value) old c.in_ok-value.ensures.whole rest)

@@ -33,16 +33,16 @@ invariant-enter_all-loop-part l = record {
 }
 
 abbrev pub decreases-enter : goal.decreases-enter
-decreases-enter l = 8 * height_of (term_view l.term)
+decreases-enter l = 8 * height_of (term_view l.term.now)
 
 abbrev pub decreases-enter_all : goal.decreases-enter_all
-decreases-enter_all l = 8 * height_of_all (terms_view l.parts.items) + 1
+decreases-enter_all l = 8 * height_of_all (terms_view l.parts.now.items) + 1
 
 abbrev pub decreases-enter_parts : goal.decreases-enter_parts
-decreases-enter_parts l = 8 * height_of_all (terms_view l.parts.items) + 2
+decreases-enter_parts l = 8 * height_of_all (terms_view l.parts.now.items) + 2
 
 abbrev pub decreases-enter_part : goal.decreases-enter_part
-decreases-enter_part l = 8 * max (height_of (term_view l.part)) (body_high l.frame) + 7
+decreases-enter_part l = 8 * max (height_of (term_view l.part.now)) (body_high l.frame) + 7
 
 abbrev pub decreases-go_in : goal.decreases-go_in
 decreases-go_in l = 8 * body_high l.frame + 5
@@ -51,7 +51,7 @@ abbrev pub decreases-go_on : goal.decreases-go_on
 decreases-go_on l = 8 * body_high l.frame + 4
 
 abbrev pub decreases-go_over : goal.decreases-go_over
-decreases-go_over l = 8 * height_of (term_view l.body) + 3
+decreases-go_over l = 8 * height_of (term_view l.body.now) + 3
 
 abbrev pub decreases-enter_copies : goal.decreases-enter_copies
-decreases-enter_copies l = 8 * height_of (term_view l.body) + 2
+decreases-enter_copies l = 8 * height_of (term_view l.body.now) + 2
