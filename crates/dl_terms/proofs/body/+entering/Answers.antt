@@ -1,9 +1,11 @@
-use Rattle.std.proofs.Common.{◌≡◌, ◌∙◌, ◌+◌, ◌≤◌, Some, ap, sym, subst, arith}
+use Rattle.std.proofs.Common.{◌≡◌, ◌∙◌, ◌+◌, ◌≤◌, Some, ap, sym, subst, refl, arith}
 use Rattle.std.specs.Prelude.{IfOk, max}
 use Rattle.std.specs.List.{AllZip}
+use Rattle.std.specs.Option.{option_map}
 use Rattle.std.proofs.lemmas.List.{take_all}
 use Rattle.std.proofs.lemmas.Result.{IfOk-from_err}
 use Rattle.indexmap.specs.IndexSet.{insert_all}
+use Rattle.serde_json.specs.Find.{as_array}
 use Rattle.serde_json.specs.View.{items_of}
 use Rattle.dl_values.specs.Key.{key_eq}
 use Rattle.dl_terms.specs.declared.answer.Answer.TheVariants.{Value, Fault}
@@ -125,21 +127,21 @@ pub enter-enter_part-requires : goal.enter-enter_part-requires
 enter-enter_part-requires t c =
     let part = c.in-Pick.part.value in
     let high : height_of (term_view c.args.term.now) ≡ height_of (term_view part) + 1 = ap height_of (ap term_view c.in-Pick.is ∙ term_view-Pick c.in-Pick.part c.in-Pick.field) in
-    let same : height_of (term_view c.deref.result.now) ≡ height_of (term_view part) = ap (λ x. height_of (term_view x)) c.deref.ensures.value in
+    let same : height_of (term_view c.deref.result.now) ≡ height_of (term_view part) = ap (λ x. height_of (term_view x)) c.deref.ensures in
     omega (arith, c.decreases)
 
 pub enter-enter_part-requires-in-Follow : goal.enter-enter_part-requires-in-Follow
 enter-enter_part-requires-in-Follow t c =
     let part = c.in-Follow.part.value in
     let high : height_of (term_view c.args.term.now) ≡ height_of (term_view part) + 1 = ap height_of (ap term_view c.in-Follow.is ∙ term_view-Follow c.in-Follow.part c.in-Follow.field c.in-Follow.table) in
-    let same : height_of (term_view c.deref-in-Follow.result.now) ≡ height_of (term_view part) = ap (λ x. height_of (term_view x)) c.deref-in-Follow.ensures.value in
+    let same : height_of (term_view c.deref-in-Follow.result.now) ≡ height_of (term_view part) = ap (λ x. height_of (term_view x)) c.deref-in-Follow.ensures in
     omega (arith, c.decreases)
 
 pub enter-enter_part-requires-in-Each : goal.enter-enter_part-requires-in-Each
 enter-enter_part-requires-in-Each t c =
     let part = c.in-Each.part.value in
     let high : height_of (term_view c.args.term.now) ≡ height_of (term_view part) + 1 = ap height_of (ap term_view c.in-Each.is ∙ term_view-Each c.in-Each.part c.in-Each.field c.in-Each.table) in
-    let same : height_of (term_view c.deref-in-Each.result.now) ≡ height_of (term_view part) = ap (λ x. height_of (term_view x)) c.deref-in-Each.ensures.value in
+    let same : height_of (term_view c.deref-in-Each.result.now) ≡ height_of (term_view part) = ap (λ x. height_of (term_view x)) c.deref-in-Each.ensures in
     omega (arith, c.decreases)
 
 pub enter-enter_part-requires-in-Over : goal.enter-enter_part-requires-in-Over
@@ -149,9 +151,9 @@ enter-enter_part-requires-in-Over t c =
     let high : height_of (term_view c.args.term.now) ≡ max (height_of (term_view part)) (height_of (term_view body)) + 1 =
     ap height_of (ap term_view c.in-Over.is ∙ term_view-Over c.in-Over.part c.in-Over.body) in
     let same : height_of (term_view c.deref-in-Over-2.result.now) ≡ height_of (term_view part) =
-    ap (λ x. height_of (term_view x)) c.deref-in-Over-2.ensures.value in
+    ap (λ x. height_of (term_view x)) c.deref-in-Over-2.ensures in
     let copied : height_of (term_view c.in_ok-body.body.value) ≡ height_of (term_view body) =
-    ap height_of (c.in_ok-body.ensures ∙ ap term_view c.deref-in-Over.ensures.value) in
+    ap height_of (c.in_ok-body.ensures ∙ ap term_view c.deref-in-Over.ensures) in
     omega (arith, c.decreases)
 
 pub enter-enter_parts-requires : goal.enter-enter_parts-requires
@@ -179,7 +181,7 @@ pub go_on-go_over-requires : goal.go_on-go_over-requires
 go_on-go_over-requires t c =
     let high : body_high c.args.frame ≡ height_of (term_view c.in-Over.body.value) = ap body_high c.in-Over.is in
     let same : height_of (term_view c.deref.result.now) ≡ height_of (term_view c.in-Over.body.value) =
-    ap (λ x. height_of (term_view x)) c.deref.ensures.value in
+    ap (λ x. height_of (term_view x)) c.deref.ensures in
     omega (arith, c.decreases)
 
 pub enter_part-go_in-requires : goal.enter_part-go_in-requires
@@ -243,13 +245,17 @@ enter_parts-returns-clause-stands t c =
 
 pub go_over-returns-then-len-gt-MOST_ITEMS-clause-reduces : goal.go_over-returns-then-len-gt-MOST_ITEMS-clause-reduces
 go_over-returns-then-len-gt-MOST_ITEMS-clause-reduces t c =
-    let is = over_many c.args.value c.in-Some.items.items c.in-Some.ensures
+    let found : Some (items_of c.in-Some.items.items) ≡ as_array c.args.value = ap (option_map (λ vs. items_of vs.items)) (sym c.in-Some.is)
+    ∙ c.in_ok-into_items.ensures in
+    let is = over_many c.args.value c.in-Some.items.items found
     (omega (arith, c.len.ensures, c.in-Some.items.ok.0, c.if-len-gt-MOST_ITEMS.true)) in
     over_fault (known_of c.args.asked.now) (term_view c.args.body.now) c.args.value TooMany _ is (node_view-Done (Fault TooMany))
 
 pub go_over-returns-then-len-gt-MOST_ITEMS-clause-wanted : goal.go_over-returns-then-len-gt-MOST_ITEMS-clause-wanted
 go_over-returns-then-len-gt-MOST_ITEMS-clause-wanted t c =
-    let is = over_many c.args.value c.in-Some.items.items c.in-Some.ensures
+    let found : Some (items_of c.in-Some.items.items) ≡ as_array c.args.value = ap (option_map (λ vs. items_of vs.items)) (sym c.in-Some.is)
+    ∙ c.in_ok-into_items.ensures in
+    let is = over_many c.args.value c.in-Some.items.items found
     (omega (arith, c.len.ensures, c.in-Some.items.ok.0, c.if-len-gt-MOST_ITEMS.true)) in
     let p = known_of c.args.asked.now in
     let body = term_view c.args.body.now in
@@ -257,11 +263,13 @@ go_over-returns-then-len-gt-MOST_ITEMS-clause-wanted t c =
 
 pub go_over-returns-in_ok-copies-in-Some-clause-reduces : goal.go_over-returns-in_ok-copies-in-Some-clause-reduces
 go_over-returns-in_ok-copies-in-Some-clause-reduces t c =
+    let found : Some (items_of c.in-Some.items.items) ≡ as_array c.args.value = ap (option_map (λ vs. items_of vs.items)) (sym c.in-Some.is)
+    ∙ c.in_ok-into_items.ensures in
     let p = known_of c.args.asked.now in
     let body = term_view c.args.body.now in
     let items = c.in-Some.items.items in
     let copies = nodes_view c.in_ok-copies-in-Some.copies.items in
-    let is = over_few c.args.value items c.in-Some.ensures (omega (arith, c.len.ensures, c.in-Some.items.ok.0, c.if-len-gt-MOST_ITEMS.false)) in
+    let is = over_few c.args.value items found (omega (arith, c.len.ensures, c.in-Some.items.ok.0, c.if-len-gt-MOST_ITEMS.false)) in
     let stand : CopiesStand p body (items_of items) copies =
     subst (λ ds. CopiesStand p body (items_of ds) copies) c.as_slice.ensures.value c.in_ok-copies-in-Some.ensures.stand in
     if_ok c.put_together.result (λ n. JoinsOn listing copies (node_view n)) (λ n. Reduces p (over (ended (Value c.args.value)) body) (node_view n))
@@ -269,11 +277,13 @@ go_over-returns-in_ok-copies-in-Some-clause-reduces t c =
 
 pub go_over-returns-in_ok-copies-in-Some-clause-wanted : goal.go_over-returns-in_ok-copies-in-Some-clause-wanted
 go_over-returns-in_ok-copies-in-Some-clause-wanted t c =
+    let found : Some (items_of c.in-Some.items.items) ≡ as_array c.args.value = ap (option_map (λ vs. items_of vs.items)) (sym c.in-Some.is)
+    ∙ c.in_ok-into_items.ensures in
     let p = known_of c.args.asked.now in
     let body = term_view c.args.body.now in
     let items = c.in-Some.items.items in
     let ks = wanted_of c.args.asked.now in
-    let is = over_few c.args.value items c.in-Some.ensures (omega (arith, c.len.ensures, c.in-Some.items.ok.0, c.if-len-gt-MOST_ITEMS.false)) in
+    let is = over_few c.args.value items found (omega (arith, c.len.ensures, c.in-Some.items.ok.0, c.if-len-gt-MOST_ITEMS.false)) in
     always_ok c.put_together.result _
     (c.in_ok-copies-in-Some.ensures.wanted
     ∙ (ap (λ ds. insert_all key_eq ks (copy_waits (λ d. waits_at p (Some d) body) (items_of ds))) c.as_slice.ensures.value
