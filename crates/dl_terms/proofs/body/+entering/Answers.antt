@@ -152,8 +152,8 @@ enter-enter_part-requires-in-Over t c =
     ap height_of (ap term_view c.in-Over.is ∙ term_view-Over c.in-Over.part c.in-Over.body) in
     let same : height_of (term_view c.deref-in-Over-2.result.now) ≡ height_of (term_view part) =
     ap (λ x. height_of (term_view x)) c.deref-in-Over-2.ensures in
-    let copied : height_of (term_view c.in_ok-body.body.value) ≡ height_of (term_view body) =
-    ap height_of (c.in_ok-body.ensures ∙ ap term_view c.deref-in-Over.ensures) in
+    let copied : height_of (term_view c.in_ok-body-in-Over.body.value) ≡ height_of (term_view body) =
+    ap height_of (c.in_ok-body-in-Over.ensures ∙ ap term_view c.deref-in-Over.ensures) in
     omega (arith, c.decreases)
 
 pub enter-enter_parts-requires : goal.enter-enter_parts-requires
