@@ -111,11 +111,17 @@ impl<R: Abort + Eprint> Terms<'_, R> {
     /// Hands in the outcomes of all wanted keys.
     fn learn_wanted<'l>(&self, asked: &mut Asked<'l>, outcomes: &'l [(FetchKey, Outcome)]) {
         for _ in 0..asked.wanted().len() {
-            let wanted = asked.wanted().first();
-            let found = outcomes.iter().find(|pair| Some(&pair.0) == wanted);
-            let (_, outcome) = found.expect(self.rt, "no such user");
+            let wanted = asked.wanted().first().expect(self.rt, "no key is wanted");
+            let outcome = self.outcome_of(wanted, outcomes);
+            assert!(self.rt; !asked.wanted().is_empty(), "no key is wanted");
             asked.learn(outcome).expect(self.rt, "no memory");
         }
+    }
+
+    fn outcome_of<'l>(&self, key: &FetchKey, outcomes: &'l [(FetchKey, Outcome)]) -> &'l Outcome {
+        let found = outcomes.iter().find(|pair| pair.0 == *key);
+        let (_, outcome) = found.expect(self.rt, "no such user");
+        outcome
     }
 
     fn assert_requests(&self) {
