@@ -7,7 +7,7 @@ use Rattle.std.specs.Option.{IfSome}
 use Rattle.std.specs.Result.{IfOk, OnOk}
 use Rattle.serde_json.specs.Data.{Data}
 use Rattle.dl_documents.specs.Document.{IsTextOf, Spells}
-use Rattle.dl_documents.specs.Faults.{Applies, IsBefore, IsLeast, number, most_bytes}
+use Rattle.dl_documents.specs.Faults.{AppliesTo, IsBefore, IsLeast, number, most_bytes}
 use Rattle.dl_documents.specs.declared.fault.PlanFault.{PlanFault}
 use Rattle.dl_documents.specs.declared.fault.PlanFault.TheVariants.{TooLarge, NotJson, Version, Top, BadCall, Shape, TooDeep, TooManySteps}
 use Rattle.dl_documents.specs.declared.fault.PlanFault.TheVariants.{Table, Limit, OutOfMemory}
@@ -16,7 +16,7 @@ use Rattle.dl_documents.specs.declared.input.Input.TheVariants as input
 use Rattle.dl_plans.specs.declared.settings.Options.{Options}
 use Rattle.dl_migration.specs.Migration.{IsMigrated, IsOther}
 use Rattle.dl_plans.specs.Migration.{IsNotMigrated}
-use Rattle.dl_plans.specs.Run.{AppendsFront, IsDocument, IsOutput, IsRefused, Writes, WritesFront}
+use Rattle.dl_plans.specs.Run.{AppendsFront, IsDocument, read_by, IsOutput, IsRefused, Writes, WritesFront}
 use Rattle.dl_plans.specs.declared.fault.RunError.{RunError}
 use Rattle.dl_plans.specs.declared.fault.RunError.TheVariants as error
 use Rattle.dl_plans.specs.declared.streams.TheConstants.{MOST_READ}
@@ -25,25 +25,25 @@ use Rattle.dl_plans.specs.declared.streams.TheConstants.{MOST_READ}
 all_read : (bytes : List ℕ) → length (take MOST_READ bytes) ≤ most_bytes → take MOST_READ bytes ≡ bytes
 all_read bytes h = take_all MOST_READ bytes (omega (arith, length-take {A = ℕ} MOST_READ bytes))
 
-pub document_all : (bytes : List ℕ) (i : Input) → IsDocument (take MOST_READ bytes) i → IsDocument bytes i
-document_all bytes i d = rw (all_read bytes d.small) at d
+pub document_all : (options : Options) (bytes : List ℕ) (i : Input) → IsDocument options (take MOST_READ bytes) i → IsDocument options bytes i
+document_all options bytes i d = rw (all_read bytes d.small) at d
 
 -- bytes to which no refusal applies are as few as a document has
-within : (bytes : List ℕ) → ((f : PlanFault) → Applies bytes f → ⊥) → length bytes ≤ most_bytes
-within bytes passes = elim (cases_lt most_bytes (length bytes)) [ inl many ↦ absurd (passes TooLarge many) | inr few ↦ few ]
+within : (reading : Data → Data) (bytes : List ℕ) → ((f : PlanFault) → AppliesTo reading bytes f → ⊥) → length bytes ≤ most_bytes
+within reading bytes passes = elim (cases_lt most_bytes (length bytes)) [ inl many ↦ absurd (passes TooLarge many) | inr few ↦ few ]
 
 pub migrated_all : (bytes text : List ℕ) → IsMigrated (take MOST_READ bytes) text → IsMigrated bytes text
-migrated_all bytes text m = rw (all_read bytes (within (take MOST_READ bytes) m.reads.passes)) at m
+migrated_all bytes text m = rw (all_read bytes (within (λ d. d) (take MOST_READ bytes) m.reads.passes)) at m
 
 other_all : (bytes : List ℕ) → IsOther (take MOST_READ bytes) → IsOther bytes
-other_all bytes o = rw (all_read bytes (within (take MOST_READ bytes) o.reads.passes)) at o
+other_all bytes o = rw (all_read bytes (within (λ d. d) (take MOST_READ bytes) o.reads.passes)) at o
 
 -- what is given for the first bytes is given for all
 abbrev pub IsForAll : (List ℕ → List ℕ → Type 0) → Type 0
 IsForAll IsGiven = (bytes text : List ℕ) → IsGiven (take MOST_READ bytes) text → IsGiven bytes text
 
 pub output_all : (options : Options) → IsForAll (IsOutput options)
-output_all options bytes text a = (a.0, document_all bytes a.0 a.1, a.2)
+output_all options bytes text a = (a.0, document_all options bytes a.0 a.1, a.2)
 
 pub run_writes : (IsGiven : List ℕ → List ℕ → Type 0) (all : IsForAll IsGiven) (held : Option (List ℕ)) (read text : List ℕ)
     (old new : Option (List ℕ)) → IfSome held (λ bytes. read ≡ take MOST_READ bytes) → IsGiven read text → Appends old new text
@@ -67,9 +67,10 @@ run_ok IsGiven all (Ok u) held read text old new is a h = run_writes IsGiven all
 run_ok IsGiven all (Err e) held read text old new is a h = tt
 
 -- what was read of bytes that no refusal applies to
-pub document_read : (bytes : List ℕ) (i : Input) → ((d : Data) × IsTextOf bytes d × Spells d i) → ((f : PlanFault) → Applies bytes f → ⊥) → IsDocument bytes i
-document_read bytes i p passes = record {
-  small = within bytes passes;
+pub document_read : (options : Options) (bytes : List ℕ) (i : Input) → ((d : Data) × IsTextOf bytes d × Spells (read_by options d) i)
+    → ((f : PlanFault) → AppliesTo (read_by options) bytes f → ⊥) → IsDocument options bytes i
+document_read options bytes i p passes = record {
+  small = within (read_by options) bytes passes;
   tree = p.0;
   is_text = p.1;
   spells = p.2;
@@ -107,37 +108,38 @@ not_before : (g : PlanFault) → IsBefore g TooLarge → ⊥
 not_before g (inl h) = let k = numbered g in omega arith
 not_before g (inr h) = elim h.1 [ inl e ↦ omega (arith, e) | inr e ↦ omega (arith, e.1) ]
 
-large_refused : (bytes : List ℕ) (f : PlanFault) → most_bytes < length bytes → (IsBefore TooLarge f → ⊥) → Applies (take MOST_READ bytes) f
-    → IsLeast (Applies bytes) f
-large_refused bytes TooLarge h first a = record { applies = h; first = λ g k before. not_before g before }
-large_refused bytes NotJson h first a = absurd (first (inl (omega arith)))
-large_refused bytes Version h first a = absurd (first (inl (omega arith)))
-large_refused bytes Top h first a = absurd (first (inl (omega arith)))
-large_refused bytes (BadCall n) h first a = absurd (first (inl (omega arith)))
-large_refused bytes (Shape n s) h first a = absurd (first (inl (omega arith)))
-large_refused bytes (TooDeep n s) h first a = absurd (first (inl (omega arith)))
-large_refused bytes (TooManySteps n) h first a = absurd (first (inl (omega arith)))
-large_refused bytes (Table f) h first a = absurd (first (inl (omega arith)))
-large_refused bytes (Limit l) h first a = absurd (first (inl (omega arith)))
-large_refused bytes OutOfMemory h first a = absurd a
+large_refused : (reading : Data → Data) (bytes : List ℕ) (f : PlanFault) → most_bytes < length bytes → (IsBefore TooLarge f → ⊥) → AppliesTo reading (take MOST_READ bytes) f
+    → IsLeast (AppliesTo reading bytes) f
+large_refused reading bytes TooLarge h first a = record { applies = h; first = λ g k before. not_before g before }
+large_refused reading bytes NotJson h first a = absurd (first (inl (omega arith)))
+large_refused reading bytes Version h first a = absurd (first (inl (omega arith)))
+large_refused reading bytes Top h first a = absurd (first (inl (omega arith)))
+large_refused reading bytes (BadCall n) h first a = absurd (first (inl (omega arith)))
+large_refused reading bytes (Shape n s) h first a = absurd (first (inl (omega arith)))
+large_refused reading bytes (TooDeep n s) h first a = absurd (first (inl (omega arith)))
+large_refused reading bytes (TooManySteps n) h first a = absurd (first (inl (omega arith)))
+large_refused reading bytes (Table f) h first a = absurd (first (inl (omega arith)))
+large_refused reading bytes (Limit l) h first a = absurd (first (inl (omega arith)))
+large_refused reading bytes OutOfMemory h first a = absurd a
 
-refused_by : (bytes : List ℕ) (f : PlanFault) → (length bytes ≤ most_bytes) ⊎ (most_bytes < length bytes) → IsLeast (Applies (take MOST_READ bytes)) f
-    → IsLeast (Applies bytes) f
-refused_by bytes f (inl few) least = rw (take_all MOST_READ bytes (omega arith)) at least
-refused_by bytes f (inr many) least =
+refused_by : (reading : Data → Data) (bytes : List ℕ) (f : PlanFault) → (length bytes ≤ most_bytes) ⊎ (most_bytes < length bytes) → IsLeast (AppliesTo reading (take MOST_READ bytes)) f
+    → IsLeast (AppliesTo reading bytes) f
+refused_by reading bytes f (inl few) least = rw (take_all MOST_READ bytes (omega arith)) at least
+refused_by reading bytes f (inr many) least =
     let large : most_bytes < length (take MOST_READ bytes) = omega (arith, length-take {A = ℕ} MOST_READ bytes) in
-    large_refused bytes f many (least.first TooLarge large) least.applies
+    large_refused reading bytes f many (least.first TooLarge large) least.applies
 
 either_size : (n : ℕ) → (n ≤ most_bytes) ⊎ (most_bytes < n)
 either_size n = elim (cases_lt most_bytes n) [ inl many ↦ inr many | inr few ↦ inl few ]
 
 -- the first refusal of the first bytes is that of all
-pub least_all : (bytes : List ℕ) (f : PlanFault) → IsLeast (Applies (take MOST_READ bytes)) f → IsLeast (Applies bytes) f
-least_all bytes f least = refused_by bytes f (either_size (length bytes)) least
+pub least_all : (reading : Data → Data) (bytes : List ℕ) (f : PlanFault) → IsLeast (AppliesTo reading (take MOST_READ bytes)) f
+    → IsLeast (AppliesTo reading bytes) f
+least_all reading bytes f least = refused_by reading bytes f (either_size (length bytes)) least
 
 pub not_migrated_all : (bytes : List ℕ) (e : RunError) → IsNotMigrated (take MOST_READ bytes) e → IsNotMigrated bytes e
 not_migrated_all bytes error.Read h = h
-not_migrated_all bytes (error.Refused f) h = least_all bytes f h
+not_migrated_all bytes (error.Refused f) h = least_all (λ d. d) bytes f h
 not_migrated_all bytes (error.Run f) h = h
 not_migrated_all bytes error.Write h = h
 not_migrated_all bytes error.OutOfMemory h = h
@@ -154,8 +156,8 @@ run_refused Says all (Some bytes) read e is h = all bytes e (rw is at h)
 
 pub refused_all : (options : Options) → IsSaidOfAll (IsRefused options)
 refused_all options bytes error.Read h = h
-refused_all options bytes (error.Refused f) h = least_all bytes f h
-refused_all options bytes (error.Run f) h = (h.0, document_all bytes (input.Plans h.0) h.1, h.2)
+refused_all options bytes (error.Refused f) h = least_all (read_by options) bytes f h
+refused_all options bytes (error.Run f) h = (h.0, document_all options bytes (input.Plans h.0) h.1, h.2)
 refused_all options bytes error.Write h = h
 refused_all options bytes error.OutOfMemory h = h
 refused_all options bytes error.NotVersion1 h = h

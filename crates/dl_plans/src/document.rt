@@ -1,10 +1,11 @@
 //! Answers a document over a reader and a writer.
 
-ghost use Rattle.std.specs.Prelude.{◌≡◌, ◌≢◌, ◌⊎◌, ◌+◌, ℕ, List, IfOk, IfErr, IfSome, OnOk, string_bytes};
+ghost use Rattle.std.specs.Prelude.{◌≡◌, ◌≢◌, ◌⊎◌, ◌+◌, ℕ, List, IfOk, IfErr, IfSome, OnOk, is_some, string_bytes};
 ghost use Rattle.std.specs.Io.KnownBytes.{Keeps};
 ghost use Rattle.serde_json.specs.Data.{Data};
 ghost use Rattle.dl_documents.specs.Document.{IsTextOf, Spells};
-ghost use Rattle.dl_documents.specs.Faults.{Applies, IsLeast, most_bytes};
+ghost use Rattle.dl_documents.specs.Faults.{AppliesTo, IsLeast, most_bytes};
+ghost use Rattle.dl_documents.specs.OverDatabase.{read_as};
 ghost use Rattle.dl_plans.specs.JoinedTables.{AreNames, HasNames};
 ghost use Rattle.dl_plans.specs.ReportText.{report_text};
 ghost use Rattle.dl_plans.specs.Run.{IsDocument, IsOutput, IsRefused, Outputs, ReadsAtMost, Writes, WritesFront, file_service, setup_of};
@@ -23,7 +24,7 @@ use crate::settings::Options;
 use crate::streams::{read_all, write_all};
 use crate::table_names::{Names, table_names};
 use crate::whole_file::write_whole;
-use dl_documents::{Input, PlanFault, PlanFile, Script, read_document, read_input};
+use dl_documents::{Input, PlanFault, PlanFile, Script, read_input, read_over_database};
 use dl_picture::{script_picture, script_trace};
 use dl_scope::{Report, ScopeFault, Setup, serve};
 use dl_source::Tables;
@@ -40,9 +41,9 @@ use std::thread::Threads;
 
 /// Reads a document, makes all of the text that it gives, and then writes it. It reads at most one byte more than a
 /// document may have. It serves the plans of a plan file at once, each on a thread of its own, with as many workers as
-/// the options say. The file's tables answer, and behind them those of a database, if the options have one. If they name
-/// files for them, the picture and the trace of what happened go there first, each as a whole or not at all. `hashing`
-/// hashes keys, and nothing that you see depends on it.
+/// the options say. The file's tables answer, and behind them those of a database, if the options have one: then a plan
+/// file of version 2 may lack the member `tables`. If the options name files for them, the picture and the trace of what
+/// happened go there first, each as a whole or not at all. `hashing` hashes keys, and nothing that you see depends on it.
 ///
 /// Call it at the end of a process: it leaves what it read and served to the system, and doesn't drop it.
 ///
@@ -145,17 +146,17 @@ fn output<T: Threads + Wait + Sync>(
 /// What the bytes of a document say, and with a database the names of a plan file's tables.
 ///
 /// # Errors
-/// Those of [`read_input`].
+/// Those of [`read_input`], or with a database those of [`read_over_database`].
 fn read(
     alloc: Global,
     hashing: RandomState,
     bytes: &[u8],
     database: &Option<Tables>,
 ) -> Result<(Input, Names), PlanFault>
-    ensures ok { IfOk result (λ p. (d : Data) × IsTextOf bytes.now d × Spells d p.0) }
+    ensures ok { IfOk result (λ p. (d : Data) × IsTextOf bytes.now d × Spells (read_as (is_some database.now) d) p.0) }
     ensures names { IfOk result (λ p. IfSome database.now (λ _. HasNames p.0 p.1)) }
-    ensures passes { OnOk result ((f : PlanFault) → Applies bytes.now f → ⊥) }
-    ensures err { IfErr result (λ f. (f ≡ PlanFault.OutOfMemory) ⊎ IsLeast (Applies bytes.now) f) }
+    ensures passes { OnOk result ((f : PlanFault) → AppliesTo (read_as (is_some database.now)) bytes.now f → ⊥) }
+    ensures err { IfErr result (λ f. (f ≡ PlanFault.OutOfMemory) ⊎ IsLeast (AppliesTo (read_as (is_some database.now)) bytes.now) f) }
 {
     match database {
         None => {
@@ -163,7 +164,7 @@ fn read(
             Ok((input, IndexSet::with_hasher(alloc, hashing)))
         }
         Some(_) => {
-            let (document, input) = read_document(alloc, hashing, bytes)?;
+            let (document, input) = read_over_database(alloc, hashing, bytes)?;
             let names = table_names(alloc, hashing, &document)?;
             Ok((input, names))
         }
@@ -181,7 +182,7 @@ fn answered<T: Threads + Wait + Sync>(
 ) -> Result<Given, RunError>
     requires { IfSome options.now.database (λ _. HasNames input names.now) }
     ensures ok { IfOk result (λ given. Outputs options.now input (string_bytes given.text)) }
-    ensures err { (bytes : List ℕ) → IsDocument bytes input → IfErr result (IsRefused options.now bytes) }
+    ensures err { (bytes : List ℕ) → IsDocument options.now bytes input → IfErr result (IsRefused options.now bytes) }
     ensures kept { IfErr result (λ e. e ≢ RunError.Write) }
 {
     match input {

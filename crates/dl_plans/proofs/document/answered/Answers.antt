@@ -22,4 +22,4 @@ pub returns-in-Ok-clause-err : goal.returns-in-Ok-clause-err
 returns-in-Ok-clause-err g c = λ bytes document. c.made-in-Ok.ensures.err c.args.options.now bytes
 
 pub returns-in-Err-clause-err : goal.returns-in-Err-clause-err
-returns-in-Err-clause-err g c = λ bytes document. (c.in-Plans.file, subst (IsDocument bytes) c.in-Plans.is document, c.in-Err.ensures.refused)
+returns-in-Err-clause-err g c = λ bytes document. (c.in-Plans.file, subst (IsDocument c.args.options.now bytes) c.in-Plans.is document, c.in-Err.ensures.refused)
