@@ -95,6 +95,8 @@ class Loader:
         self.source, self.limits = source, limits
         self.calls = 0
         self.loads = 0
+        # The loads that terms asked for, each as often as it is in its term: a round loads a key once.
+        self.asked = 0
         self.cells = []
         self.held = {}
         self.batches = []
@@ -180,13 +182,16 @@ class Evaluation:
     def __init__(self, loader, term):
         self.loader, self.term = loader, term
         self.known, self.wanted, self.rounds = {}, [], 0
+        # How many loads the last look at the term met.
+        self.met = 0
 
     def answer(self):
         """Loads what the term waits for, round by round, until it has an answer."""
         while True:
-            self.wanted = []
+            self.wanted, self.met = [], 0
             answer = self.explore(self.term)
             if not self.wanted:
+                self.loader.asked += self.met
                 return answer
             self.known |= self.loader.load_many(self.wanted)
             self.rounds += 1
@@ -222,6 +227,7 @@ class Evaluation:
         return Answer(True, "NotAKey")
 
     def look(self, key):
+        self.met += 1
         outcome = self.known.get(key)
         if outcome is None:
             if key not in self.wanted:

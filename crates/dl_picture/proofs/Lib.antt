@@ -1,3 +1,5 @@
+pub mod Asking
 pub mod BatchCounts
 pub mod EventCounts
 mod KeyTexts
+pub mod TermLoads

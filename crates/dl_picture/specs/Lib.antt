@@ -1,4 +1,6 @@
+pub mod Asking
 pub mod JsonText
 pub mod Numbers
 pub mod Script
+pub mod TermLoads
 pub mod Xml

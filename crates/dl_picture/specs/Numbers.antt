@@ -50,10 +50,6 @@ pub record AreLoadNumbers (replies : List LoadReply) (n : LoadNumbers) : Type 0 
   pub loads : n.loads ≡ length replies
   pub hits : n.hits ≡ count_by is_hit replies
 
--- how many fetches there are without a loader: one for each load
-abbrev pub fetches_alone : List Event → ℕ
-fetches_alone events = length (load_replies events)
-
 -- ---- rounds
 
 -- whether the call begins a round: a round loads by one loadMany

@@ -1,5 +1,6 @@
 //! The picture of a history.
 
+use crate::asked::loads_asked;
 use crate::cells::cell_marks;
 use crate::drawing::Drawing;
 use crate::head::{add_count, add_numbers, end_head};
@@ -8,11 +9,14 @@ use crate::mark::Mark;
 use crate::numbers::{HistoryNumbers, PlanNumbers, history_numbers, plan_numbers};
 use crate::phrase::Phrase;
 use dl_history::History;
+use dl_terms::{MOST_PLANS, Term};
 use std::alloc::{AllocError, Global};
+use std::hash::RandomState;
 
-/// Draws a history, as SVG. Its first callers are `plans` plans, and the others are workers. Each plan has a lane, with
-/// a column for each of its rounds, primes and clears. Below are the batches, in the order in which they ended, and the
-/// workers. A column of more than 200 keys shows counts. The text is linear in the plans, the events and their keys.
+/// Draws what serving plans left, as SVG. You give the terms of each plan, as [`terms_of`](crate::terms_of) gives them.
+/// The first callers of the history are these plans, and the others are workers. Each plan has a lane, with a column for each of its rounds, primes and clears. Below are the batches, in the order in
+/// which they ended, and the workers. A column of more than 200 keys shows counts. The text is linear in the plans, the
+/// events and their keys. `hashing` hashes keys, and nothing that you see depends on it.
 ///
 /// # Errors
 /// `AllocError` if memory runs out.
@@ -21,22 +25,28 @@ use std::alloc::{AllocError, Global};
 /// The picture of a report, from `crates/dl_plans`:
 ///
 /// ```rust
-/// history_picture(alloc, report.history(), plans_of(report))
+/// history_picture(alloc, hashing, report.history(), terms)
 /// ```
-pub fn history_picture(alloc: Global, history: &History, plans: u32) -> Result<String, AllocError> {
+pub fn history_picture(
+    alloc: Global,
+    hashing: RandomState,
+    history: &History,
+    plans: &[Vec<Term>],
+) -> Result<String, AllocError> {
     let numbers = history_numbers(history)?;
+    let alone = loads_asked(alloc, hashing, history, plans)?;
     let cells = cell_marks(alloc, history)?;
     let mut drawing = Drawing::new(alloc);
-    add_head(&mut drawing, &numbers);
+    add_head(&mut drawing, &numbers, alone);
+    let plans = plans.len().min(MOST_PLANS) as u32;
     add_history(&mut drawing, history, cells.as_slice(), plans);
     drawing.finish()
 }
 
-/// The head of a history's picture.
-fn add_head(drawing: &mut Drawing, numbers: &HistoryNumbers) {
+/// The head of a history's picture. Without a loader there are `alone` fetches.
+fn add_head(drawing: &mut Drawing, numbers: &HistoryNumbers, alone: u64) {
     drawing.add_words("title", Phrase::Words("What the requests did"));
     add_numbers(drawing, numbers, "keys fetched");
-    let alone = numbers.fetches_alone();
     add_count(drawing, "alone", "fetches, no loader", alone);
     end_head(drawing);
 }

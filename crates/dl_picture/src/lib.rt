@@ -8,6 +8,8 @@
 //! The label of a loop is its name in `proofs/`.
 #![tactic(auto)]
 
+mod asked;
+mod asking;
 mod batches;
 mod cells;
 mod column;
@@ -16,6 +18,7 @@ mod drawing;
 mod head;
 mod history;
 mod json_text;
+mod knowledge;
 mod lanes;
 mod lines;
 mod loads;
@@ -25,10 +28,12 @@ mod phrase;
 mod script;
 mod sheet;
 mod style;
+mod terms;
 mod trace;
 mod trace_event;
 mod xml;
 
+pub use asked::loads_asked;
 pub use batches::{BatchNumbers, Mean};
 pub use history::history_picture;
 pub use json_text::{key_text, keys_text, quoted_text};
@@ -36,4 +41,5 @@ pub use loads::LoadNumbers;
 pub use numbers::{HistoryNumbers, PlanNumbers, history_numbers, plan_numbers};
 pub use script::script_picture;
 pub use sheet::Sheet;
+pub use terms::terms_of;
 pub use trace::{history_trace, script_trace};

@@ -14,7 +14,7 @@ use std::alloc::AllocError;
 /// How many loads there are, and how many of them are hits.
 #[derive(Clone, Copy)]
 pub struct LoadNumbers {
-    /// The loads that callers asked for. Without a loader, each of them is a fetch.
+    /// The loads that callers made. A round loads each of its keys once.
     pub loads: u64,
     /// The loads of a key that was held: they fetched nothing.
     pub hits: u64,
@@ -152,7 +152,7 @@ fn begins_round(caller: u32, event: Option<&Event>) -> bool
 }
 
 /// Whether the call begins a round.
-fn is_round(call: &Call) -> bool
+pub(crate) fn is_round(call: &Call) -> bool
     ensures { result ≡ is_round call.now }
 {
     matches!(call, Call::LoadMany(_))

@@ -1,9 +1,8 @@
 //! The numbers of a picture.
 
-ghost use Rattle.std.specs.Prelude.{◌≡◌, ℕ, List, IfOk};
-ghost use Rattle.dl_desk.specs.declared.event.Event.{Event};
+ghost use Rattle.std.specs.Prelude.{IfOk};
 ghost use Rattle.dl_documents.specs.declared.input.Script.{Script};
-ghost use Rattle.dl_picture.specs.Numbers.{AreHistoryNumbers, ArePlanNumbers, fetches_alone};
+ghost use Rattle.dl_picture.specs.Numbers.{AreHistoryNumbers, ArePlanNumbers};
 ghost use Rattle.dl_documents.specs.ScriptRun.{IsRunOf};
 ghost use Rattle.dl_picture.specs.Script.{AreScriptNumbers};
 
@@ -55,15 +54,6 @@ pub fn plan_numbers(history: &History, plan: u32) -> Result<PlanNumbers, AllocEr
         rounds: rounds(history.events(), plan),
         loads: load_numbers(history.events(), Some(plan))?,
     })
-}
-
-impl HistoryNumbers {
-    /// How many fetches there are without a loader: one for each load.
-    pub fn fetches_alone(&self) -> u64
-        ensures { (events : List Event) → AreHistoryNumbers events self.now → result ≡ fetches_alone events }
-    {
-        self.loads.loads
-    }
 }
 
 /// The numbers of a script's run, which may not have sent all its batches.

@@ -16,7 +16,7 @@ ghost use Rattle.dl_plans.specs.declared.settings.Options.{Options};
 use crate::QUEUE_PLACES;
 use crate::fault::RunError;
 use crate::joined_tables::JoinedTables;
-use crate::picture::{report_picture, report_trace};
+use crate::picture::{drawn_terms, report_picture, report_trace};
 use crate::report::report_text;
 use crate::script_text::run_script;
 use crate::settings::Options;
@@ -27,6 +27,7 @@ use dl_documents::{Input, PlanFault, PlanFile, Script, read_document, read_input
 use dl_picture::{script_picture, script_trace};
 use dl_scope::{Report, ScopeFault, Setup, serve};
 use dl_source::Tables;
+use dl_terms::Term;
 use dl_workers::NoGate;
 use indexmap::IndexSet;
 use std::alloc::{AllocError, Global};
@@ -190,14 +191,19 @@ fn answered<T: Threads + Wait + Sync>(
             forget(script);
             made(given)
         }
-        Input::Plans(file) => match served(rt, alloc, hashing, file, names, options) {
-            Ok(report) => {
-                let given = output_of_report(alloc, &report, options);
-                forget(report);
-                made(given)
+        Input::Plans(file) => {
+            let Ok(terms) = drawn_terms(alloc, file.plans.as_slice(), options) else {
+                return Err(RunError::OutOfMemory);
+            };
+            match served(rt, alloc, hashing, file, names, options) {
+                Ok(report) => {
+                    let given = output_of_report(alloc, hashing, &report, &terms, options);
+                    forget((report, terms));
+                    made(given)
+                }
+                Err(fault) => Err(RunError::Run(fault)),
             }
-            Err(fault) => Err(RunError::Run(fault)),
-        },
+        }
     }
 }
 
@@ -238,12 +244,19 @@ fn output_of_script(
     })
 }
 
-/// What a report gives. Fails if memory runs out.
-fn output_of_report(alloc: Global, report: &Report, options: &Options) -> Result<Given, AllocError>
+/// What a report gives. With terms it has a picture, of what serving the plans with these terms left. Fails if memory
+/// runs out.
+fn output_of_report(
+    alloc: Global,
+    hashing: RandomState,
+    report: &Report,
+    terms: &Option<Vec<Vec<Term>>>,
+    options: &Options,
+) -> Result<Given, AllocError>
     ensures { IfOk result (λ given. string_bytes given.text ≡ report_text report.now options.now.batches) }
 {
-    let picture = match &options.picture {
-        Some(_) => Some(report_picture(alloc, report)?),
+    let picture = match terms {
+        Some(terms) => Some(report_picture(alloc, hashing, report, terms.as_slice())?),
         None => None,
     };
     let trace = match &options.trace {

@@ -1,12 +1,37 @@
 //! The picture and the trace of a report.
 
-use dl_picture::{history_picture, history_trace};
-use dl_scope::{MOST_PLANS, Report};
-use std::alloc::{AllocError, Global};
+ghost use Rattle.std.specs.Prelude.{◌≡◌, IfOk, IfSome, map};
+ghost use Rattle.dl_picture.specs.TermLoads.{plan_terms, trees_of_terms};
 
-/// The picture of what serving plans left. Fails if memory runs out.
-pub(crate) fn report_picture(alloc: Global, report: &Report) -> Result<String, AllocError> {
-    history_picture(alloc, report.history(), plans_of(report))
+use crate::settings::Options;
+use dl_picture::{history_picture, history_trace, terms_of};
+use dl_scope::{MOST_PLANS, Report};
+use dl_terms::{Plan, Term};
+use std::alloc::{AllocError, Global};
+use std::hash::RandomState;
+
+/// The terms of each plan, if the options ask for a picture. Fails if memory runs out.
+pub(crate) fn drawn_terms(
+    alloc: Global,
+    plans: &[Plan],
+    options: &Options,
+) -> Result<Option<Vec<Vec<Term>>>, AllocError>
+    ensures { IfOk result (λ drawn. IfSome drawn (λ terms. trees_of_terms terms.items ≡ map plan_terms plans.now)) }
+{
+    match &options.picture {
+        Some(_) => Ok(Some(terms_of(alloc, plans)?)),
+        None => Ok(None),
+    }
+}
+
+/// The picture of what serving the plans with these terms left. Fails if memory runs out.
+pub(crate) fn report_picture(
+    alloc: Global,
+    hashing: RandomState,
+    report: &Report,
+    terms: &[Vec<Term>],
+) -> Result<String, AllocError> {
+    history_picture(alloc, hashing, report.history(), terms)
 }
 
 /// The trace of what serving plans left. Fails if memory runs out.

@@ -1,0 +1,105 @@
+-- Loads of terms, counted one after another.
+use Rattle.std.proofs.Common.{◌≡◌, ◌∙◌, ap, sym, subst, refl, cc, cond, ℕ, zero, suc, ◌+◌, ◌<◌, ◌≤◌, Bool, true, false, not, List, [], ◌∷◌, ◌++◌, length, map, drop, take}
+use Rattle.std.proofs.Common.{get_or, Option, Some, None, arith, add-one}
+use Rattle.std.specs.Prelude.{is_some, if◌then◌else◌, slice_get, Vec}
+use Rattle.std.specs.declared.alloc.Global.{Global}
+use Rattle.std.proofs.lemmas.List.{drop_more}
+use Rattle.indexmap.specs.IndexMap.{insert_entry}
+use Rattle.dl_values.specs.Key.{Key, key_eq}
+use Rattle.dl_desk.specs.declared.event.Event.{Event}
+use Rattle.dl_desk.specs.declared.reply.LoadReply.{LoadReply}
+use Rattle.dl_history.specs.Entries.{cell_of_load}
+use Rattle.dl_terms.specs.TermAnswers.{answer}
+use Rattle.dl_terms.specs.Tree.{Tree}
+use Rattle.dl_terms.specs.View.{term_view}
+use Rattle.dl_terms.specs.declared.term.Term.{Term}
+use Rattle.dl_picture.specs.Numbers.{round_events}
+use Rattle.dl_picture.specs.TermLoads.{Cells, known_by, loads_from, loads_in, rounds_after, term_loads, terms_loads, trees_of_terms, with_call, with_loads}
+
+-- the first of what is left
+pub left_is : {X : Type 0} (xs : List X) (i : ℕ) (x : X) → i < length xs → x ≡ get_or xs i x → drop i xs ≡ x ∷ drop (i + 1) xs
+left_is xs i x lt is = drop_more xs i x lt ∙ ap (λ z. z ∷ drop (i + 1) xs) (sym is)
+
+module _ (events : List Event) where
+  -- ---- a term
+
+  -- the term has its answer, and leaves the rounds from this one on
+  pub has_answer : (t : Tree) (cells : Cells) (rounds : List Event) (n : ℕ) → n ≡ term_loads (known_by events cells) t
+      → is_some (answer (known_by events cells) t) ≡ true → (n ≡ loads_in events t cells rounds) × (rounds ≡ rounds_after events t cells rounds)
+  has_answer t cells [] n counts ends = (counts, refl)
+  has_answer t cells (round ∷ rounds) n counts ends = (
+    counts ∙ sym (ap (λ b. if b then term_loads (known_by events cells) t else loads_in events t (with_call cells round.call round.reply) rounds) ends),
+    sym (ap (λ b. if b then round ∷ rounds else rounds_after events t (with_call cells round.call round.reply) rounds) ends),
+  )
+
+  -- the term waits, and reads a round
+  pub reads_round : (t : Tree) (cells more : Cells) (round : Event) (rounds : List Event) → is_some (answer (known_by events cells) t) ≡ false
+      → more ≡ with_call cells round.call round.reply
+      → (loads_in events t cells (round ∷ rounds) ≡ loads_in events t more rounds) × (rounds_after events t cells (round ∷ rounds) ≡ rounds_after events t more rounds)
+  reads_round t cells more round rounds waits read = (
+    ap (λ b. if b then term_loads (known_by events cells) t else loads_in events t (with_call cells round.call round.reply) rounds) waits
+        ∙ ap (λ c. loads_in events t c rounds) (sym read),
+    ap (λ b. if b then round ∷ rounds else rounds_after events t (with_call cells round.call round.reply) rounds) waits
+        ∙ ap (λ c. rounds_after events t c rounds) (sym read),
+  )
+
+  -- ---- terms
+
+  pub terms_next : (xs : List Term) (i : ℕ) (x : Term) → i < length xs → x ≡ get_or xs i x → (rounds after : List Event) (so_far more sums total : ℕ)
+      → so_far + terms_loads events (map term_view (drop i xs)) rounds ≡ total → more ≡ loads_in events (term_view x) [] rounds
+      → after ≡ rounds_after events (term_view x) [] rounds → sums ≡ so_far + more
+      → sums + terms_loads events (map term_view (drop (i + 1) xs)) after ≡ total
+  terms_next xs i x lt is rounds after so_far more sums total held own left adds =
+      let rest = map term_view (drop (i + 1) xs) in
+      let step : terms_loads events (map term_view (drop i xs)) rounds
+          ≡ loads_in events (term_view x) [] rounds + terms_loads events rest (rounds_after events (term_view x) [] rounds) =
+      ap (λ ts. terms_loads events (map term_view ts) rounds) (left_is xs i x lt is) in
+      let same : terms_loads events rest after ≡ terms_loads events rest (rounds_after events (term_view x) [] rounds) = ap (terms_loads events rest) left in
+      omega (arith, step, same, held, own, adds)
+
+  -- ---- plans
+
+  pub plans_next : (xs : List (Vec Term Global)) (i : ℕ) (x : Vec Term Global) → i < length xs → x ≡ get_or xs i x → (caller after so_far more sums total : ℕ)
+      → so_far + loads_from events caller (trees_of_terms (drop i xs)) ≡ total
+      → more ≡ terms_loads events (map term_view x.items) (round_events caller events) → sums ≡ so_far + more → after ≡ caller + 1
+      → sums + loads_from events after (trees_of_terms (drop (i + 1) xs)) ≡ total
+  plans_next xs i x lt is caller after so_far more sums total held own adds next =
+      let rest = trees_of_terms (drop (i + 1) xs) in
+      let step : loads_from events caller (trees_of_terms (drop i xs))
+          ≡ terms_loads events (map term_view x.items) (round_events caller events) + loads_from events (caller + 1) rest =
+      ap (λ ts. loads_from events caller (trees_of_terms ts)) (left_is xs i x lt is) in
+      let same : loads_from events after rest ≡ loads_from events (caller + 1) rest = ap (λ n. loads_from events n rest) next in
+      omega (arith, step, same, held, own, adds)
+
+-- ---- what a round reads
+
+same_in : {X : Type 0} (x y : X) → ◌≡◌ {A = Option X} (Some x) (Some y) → x ≡ y
+same_in x y e = cc
+
+left_at : {X : Type 0} (xs : List X) (n : ℕ) (x : X) → slice_get xs n ≡ Some x → drop n xs ≡ x ∷ drop (suc n) xs
+left_at {X} [] n x e = absurd (let bad : ◌≡◌ {A = Option X} None (Some x) = e in cc)
+left_at (y ∷ ys) zero x e = ap (λ z. z ∷ ys) (same_in y x e)
+left_at (y ∷ ys) (suc n) x e = left_at ys n x e
+
+none_left : {X : Type 0} (xs : List X) (n : ℕ) → slice_get xs n ≡ None → drop n xs ≡ []
+none_left [] zero e = refl
+none_left [] (suc n) e = refl
+none_left {X} (y ∷ ys) zero e = absurd (let bad : ◌≡◌ {A = Option X} (Some y) None = e in cc)
+none_left (y ∷ ys) (suc n) e = none_left ys n e
+
+pub loads_step : (cells more : Cells) (ks : List Key) (rs : List LoadReply) (i : ℕ) (k : Key) (r : LoadReply) → i < length ks → k ≡ get_or ks i k
+    → slice_get rs i ≡ Some r → more ≡ insert_entry key_eq cells k (cell_of_load r)
+    → with_loads cells (drop i ks) (drop i rs) ≡ with_loads more (drop (i + 1) ks) (drop (i + 1) rs)
+loads_step cells more ks rs i k r lt is some read =
+    let keys = drop (i + 1) ks in
+    ap (λ zs. with_loads cells zs (drop i rs)) (left_is ks i k lt is)
+    ∙ (ap (with_loads cells (k ∷ keys)) (left_at rs i r some ∙ ap (λ n. r ∷ drop n rs) (sym (add-one i)))
+    ∙ ap (λ c. with_loads c keys (drop (i + 1) rs)) (sym read))
+
+without_replies : (cells : Cells) (ks : List Key) → with_loads cells ks [] ≡ cells
+without_replies cells [] = refl
+without_replies cells (k ∷ ks) = refl
+
+-- without a reply nothing more is read
+pub loads_end : (cells : Cells) (ks : List Key) (rs : List LoadReply) (i : ℕ) → slice_get rs i ≡ None → with_loads cells (drop i ks) (drop i rs) ≡ cells
+loads_end cells ks rs i none = ap (with_loads cells (drop i ks)) (none_left rs i none) ∙ without_replies cells (drop i ks)
