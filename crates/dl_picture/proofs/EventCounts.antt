@@ -23,16 +23,16 @@ take_past {X} (x ∷ xs) zero is = absurd (let bad : ◌≡◌ {A = Option X} (S
 take_past (x ∷ xs) (suc i) is = ap (λ zs. x ∷ zs) (take_past xs i is)
 
 -- past the end nothing is taken
-take_none : {X : Type 0} (xs : List X) (i : ℕ) → slice_get xs i ≡ None → take (i + 1) xs ≡ take i xs
+pub take_none : {X : Type 0} (xs : List X) (i : ℕ) → slice_get xs i ≡ None → take (i + 1) xs ≡ take i xs
 take_none xs i is = ap (λ n. take n xs) (add-one i) ∙ take_past xs i is
 
-filter_yes : {X : Type 0} (p : X → Bool) (x : X) → p x ≡ true → filter p (x ∷ []) ≡ x ∷ []
+pub filter_yes : {X : Type 0} (p : X → Bool) (x : X) → p x ≡ true → filter p (x ∷ []) ≡ x ∷ []
 filter_yes p x holds = ap (λ b. cond b (x ∷ []) []) holds
 
-filter_no : {X : Type 0} (p : X → Bool) (x : X) → p x ≡ false → filter p (x ∷ []) ≡ []
+pub filter_no : {X : Type 0} (p : X → Bool) (x : X) → p x ≡ false → filter p (x ∷ []) ≡ []
 filter_no p x fails = ap (λ b. cond b (x ∷ []) []) fails
 
-filter_next : {X : Type 0} (p : X → Bool) (xs : List X) (i : ℕ) (x : X) → slice_get xs i ≡ Some x
+pub filter_next : {X : Type 0} (p : X → Bool) (xs : List X) (i : ℕ) (x : X) → slice_get xs i ≡ Some x
     → filter p (take (i + 1) xs) ≡ filter p (take i xs) ++ filter p (x ∷ [])
 filter_next p xs i x is = ap (filter p) (take_next xs i x is) ∙ filter-append p (take i xs) (x ∷ [])
 

@@ -1,5 +1,5 @@
-pub mod Asking
 pub mod BatchCounts
 pub mod EventCounts
 mod KeyTexts
+pub mod PartAnswers
 pub mod TermLoads

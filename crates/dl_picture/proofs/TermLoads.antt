@@ -1,6 +1,6 @@
 -- Loads of terms, counted one after another.
 use Rattle.std.proofs.Common.{◌≡◌, ◌∙◌, ap, sym, subst, refl, cc, cond, ℕ, zero, suc, ◌+◌, ◌<◌, ◌≤◌, Bool, true, false, not, List, [], ◌∷◌, ◌++◌, length, map, drop, take}
-use Rattle.std.proofs.Common.{get_or, Option, Some, None, arith, add-one}
+use Rattle.std.proofs.Common.{get_or, Option, Some, None, arith, add-one, append-nil, nat_eq, ◌&&◌}
 use Rattle.std.specs.Prelude.{is_some, if◌then◌else◌, slice_get, Vec}
 use Rattle.std.specs.declared.alloc.Global.{Global}
 use Rattle.std.proofs.lemmas.List.{drop_more}
@@ -13,7 +13,8 @@ use Rattle.dl_terms.specs.TermAnswers.{answer}
 use Rattle.dl_terms.specs.Tree.{Tree}
 use Rattle.dl_terms.specs.View.{term_view}
 use Rattle.dl_terms.specs.declared.term.Term.{Term}
-use Rattle.dl_picture.specs.Numbers.{round_events}
+use Rattle.dl_picture.proofs.EventCounts.{filter_next, filter_no, filter_yes, take_none}
+use Rattle.dl_picture.specs.Numbers.{is_round, round_events}
 use Rattle.dl_picture.specs.TermLoads.{Cells, known_by, loads_from, loads_in, rounds_after, term_loads, terms_loads, trees_of_terms, with_call, with_loads}
 
 -- the first of what is left
@@ -52,7 +53,7 @@ module _ (events : List Event) where
   terms_next xs i x lt is rounds after so_far more sums total held own left adds =
       let rest = map term_view (drop (i + 1) xs) in
       let step : terms_loads events (map term_view (drop i xs)) rounds
-          ≡ loads_in events (term_view x) [] rounds + terms_loads events rest (rounds_after events (term_view x) [] rounds) =
+      ≡ loads_in events (term_view x) [] rounds + terms_loads events rest (rounds_after events (term_view x) [] rounds) =
       ap (λ ts. terms_loads events (map term_view ts) rounds) (left_is xs i x lt is) in
       let same : terms_loads events rest after ≡ terms_loads events rest (rounds_after events (term_view x) [] rounds) = ap (terms_loads events rest) left in
       omega (arith, step, same, held, own, adds)
@@ -66,10 +67,36 @@ module _ (events : List Event) where
   plans_next xs i x lt is caller after so_far more sums total held own adds next =
       let rest = trees_of_terms (drop (i + 1) xs) in
       let step : loads_from events caller (trees_of_terms (drop i xs))
-          ≡ terms_loads events (map term_view x.items) (round_events caller events) + loads_from events (caller + 1) rest =
+      ≡ terms_loads events (map term_view x.items) (round_events caller events) + loads_from events (caller + 1) rest =
       ap (λ ts. loads_from events caller (trees_of_terms ts)) (left_is xs i x lt is) in
       let same : loads_from events after rest ≡ loads_from events (caller + 1) rest = ap (λ n. loads_from events n rest) next in
       omega (arith, step, same, held, own, adds)
+
+-- ---- the rounds of a caller
+
+-- one event more, which begins a round of the caller
+pub rounds_more : (caller : ℕ) (events : List Event) (at : ℕ) (e : Event) (before after : List Event) → slice_get events at ≡ Some e
+    → (nat_eq caller e.caller && is_round e.call) ≡ true → before ≡ round_events caller (take at events) → after ≡ before ++ e ∷ []
+    → after ≡ round_events caller (take (at + 1) events)
+rounds_more caller events at e before after is begins held pushed =
+    let p : Event → Bool = λ (x : Event). nat_eq caller x.caller && is_round x.call in
+    pushed
+    ∙ (ap (λ es. es ++ e ∷ []) held
+    ∙ (ap (λ es. round_events caller (take at events) ++ es) (sym (filter_yes p e begins)) ∙ sym (filter_next p events at e is)))
+
+-- one event more, which doesn't
+pub rounds_other : (caller : ℕ) (events : List Event) (at : ℕ) (e : Event) (before : List Event) → slice_get events at ≡ Some e
+    → (nat_eq caller e.caller && is_round e.call) ≡ false → before ≡ round_events caller (take at events) → before ≡ round_events caller (take (at + 1) events)
+rounds_other caller events at e before is other held =
+    let p : Event → Bool = λ (x : Event). nat_eq caller x.caller && is_round x.call in
+    held
+    ∙ (sym (append-nil (round_events caller (take at events)))
+    ∙ (ap (λ es. round_events caller (take at events) ++ es) (sym (filter_no p e other)) ∙ sym (filter_next p events at e is)))
+
+-- no event more
+pub rounds_end : (caller : ℕ) (events : List Event) (at : ℕ) (before : List Event) → slice_get events at ≡ None
+    → before ≡ round_events caller (take at events) → before ≡ round_events caller (take (at + 1) events)
+rounds_end caller events at before none held = held ∙ ap (round_events caller) (sym (take_none events at none))
 
 -- ---- what a round reads
 

@@ -1,10 +1,11 @@
 //! How many loads the terms of plans ask for, by the rounds in which they read.
 
-ghost use Rattle.std.specs.Prelude.{◌≡◌, ◌+◌, ◌≤◌, [], IfOk, OnOk, drop, is_some, length, map, not};
+ghost use Rattle.std.specs.Prelude.{◌≡◌, ◌+◌, ◌≤◌, ◌&&◌, ℕ, List, [], IfOk, OnOk, drop, is_some, length, map, nat_eq, not, option_copied, slice_get, take};
 ghost use Rattle.indexmap.specs.IndexMap.{insert_entry};
 ghost use Rattle.dl_values.specs.Key.{key_eq};
 ghost use Rattle.dl_history.specs.Entries.{cell_of_load};
-ghost use Rattle.dl_picture.specs.Numbers.{round_events};
+ghost use Rattle.dl_desk.specs.declared.event.Event.{Event};
+ghost use Rattle.dl_picture.specs.Numbers.{is_round, round_events};
 ghost use Rattle.dl_picture.specs.TermLoads.{known_by, loads_asked, loads_in, rounds_after, term_loads, terms_loads, trees_of_terms, with_call, with_loads};
 ghost use Rattle.dl_terms.specs.TermAnswers.{answer};
 ghost use Rattle.dl_terms.specs.View.{term_view};
@@ -80,13 +81,34 @@ fn rounds_of<'h>(
 {
     let mut rounds = Vec::new(alloc);
     for at in 0..events.len() {
-        if let Some(event) = events.get(at) {
-            if caller == event.caller && is_round(&event.call) {
-                rounds.push(event)?;
-            }
-        }
+        push_round(&mut rounds, caller, events.get(at))?;
     }
     Ok(rounds)
+}
+
+/// Appends the event, if there is one and it begins a round of the caller.
+fn push_round<'h>(
+    rounds: &mut Vec<&'h Event>,
+    caller: u32,
+    event: Option<&'h Event>,
+) -> Result<(), AllocError>
+    ensures { OnOk result ((events : List Event) (at : ℕ) → option_copied event.entry ≡ slice_get events at
+        → map (λ e. e.now) rounds.old.items ≡ round_events caller (take at events) → map (λ e. e.now) rounds.new.items ≡ round_events caller (take (at + 1) events)) }
+{
+    match event {
+        Some(event) if is_round_of(caller, event) => {
+            rounds.push(event)?;
+            Ok(())
+        }
+        _ => Ok(()),
+    }
+}
+
+/// Whether the event begins a round of the caller.
+fn is_round_of(caller: u32, event: &Event) -> bool
+    ensures { result ≡ (nat_eq caller event.now.caller && is_round event.now.call) }
+{
+    caller == event.caller && is_round(&event.call)
 }
 
 /// The loads that terms ask for, one after another, of which the first reads from the first of these rounds on.
@@ -165,11 +187,7 @@ fn read_round(cells: &mut Cells, round: &Event) -> Result<(), AllocError>
 }
 
 /// Reads loads: the cell of each key is that of its reply.
-fn read_loads(
-    cells: &mut Cells,
-    keys: &[FetchKey],
-    replies: &[LoadReply],
-) -> Result<(), AllocError>
+fn read_loads(cells: &mut Cells, keys: &[FetchKey], replies: &[LoadReply]) -> Result<(), AllocError>
     ensures { OnOk result (cells.new.entries ≡ with_loads cells.old.entries keys.now replies.now) }
 {
     for (place, key) in keys.iter().enumerate() {

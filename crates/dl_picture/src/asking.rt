@@ -1,8 +1,10 @@
 //! What a part of a term asked for, and what it answers.
 
-ghost use Rattle.std.specs.Prelude.{◌≡◌, ◌+◌, ◌||◌, IfOk, Option, Some, is_some, not, option_map};
+ghost use Rattle.std.specs.Prelude.{◌≡◌, ◌+◌, ◌||◌, ℕ, IfOk, Option, Some, is_some, not, option_map};
 ghost use Rattle.dl_values.specs.Key.{Key};
-ghost use Rattle.dl_picture.specs.Asking.{HasNoField, IsPart, IsPicked};
+ghost use Rattle.dl_picture.specs.Asking.{Asks, HasNoField, IsPart, IsPicked};
+ghost use Rattle.serde_json.specs.Find.{get};
+ghost use Rattle.serde_json.specs.View.{view};
 ghost use Rattle.dl_terms.specs.TermAnswers.{loaded, picked};
 ghost use Rattle.dl_terms.specs.declared.answer.Answer.{Answer};
 
@@ -34,6 +36,16 @@ pub(crate) struct Asking<'a> {
 }
 
 impl<'a> Asking<'a> {
+    /// The same of a pick of a field.
+    pub(crate) fn pick(self, field: &Text) -> Asking<'a>
+        ensures { (n : ℕ) (a : Option Answer) → Asks n a self.entry → Asks n (option_map (picked field.now) a) result }
+    {
+        Asking {
+            loads: self.loads,
+            part: Part::of_field(self.part.pick(field)),
+        }
+    }
+
     /// The same with the loads of what goes on from it, and what that answers. Fails if no number holds the loads.
     pub(crate) fn and_then(self, next: Asking<'a>) -> Result<Asking<'a>, AllocError>
         ensures { IfOk result (λ both. (both.loads ≡ self.entry.loads + next.entry.loads) × (both.part ≡ next.entry.part)) }
@@ -93,12 +105,19 @@ impl<'a> Part<'a> {
         match self {
             Part::Waits => Err(Part::Waits),
             Part::Bare => Err(Part::Bare),
-            Part::Row(value) => match value.get(field.as_str()) {
+            Part::Row(value) => match member(value, field) {
                 Some(found) => Ok(found),
                 None => Err(Part::Bare),
             },
         }
     }
+}
+
+/// The member of this name, if the value is an object that has one.
+fn member<'a>(value: &'a Value, name: &Text) -> Option<&'a Value>
+    ensures { option_map (λ v. view v.now) result ≡ get name.now (view value.now) }
+{
+    value.get(name.as_str())
 }
 
 /// Whether one of two holds.

@@ -1,12 +1,12 @@
 //! How many loads a term asks for, by the outcomes of the loads that were read.
 
-ghost use Rattle.std.specs.Prelude.{◌≡◌, IfOk, Option, option_copied, option_map};
+ghost use Rattle.std.specs.Prelude.{◌≡◌, ◌+◌, ℕ, IfOk, Option, option_and_then, option_copied, option_map};
 ghost use Rattle.serde_json.specs.Find.{as_array};
 ghost use Rattle.serde_json.specs.View.{items_view, view};
 ghost use Rattle.dl_picture.specs.Asking.{Asks, AsksAfter, AsksTarget, AsksTerm, IsPicked, known_of, target_of};
-ghost use Rattle.dl_picture.specs.TermLoads.{each_loads, target_loads, targets_loads};
+ghost use Rattle.dl_picture.specs.TermLoads.{each_loads, loads_after, target_loads, targets_loads};
 ghost use Rattle.dl_terms.specs.Tree.{all};
-ghost use Rattle.dl_terms.specs.TermAnswers.{gathered, item_targets, list_targets, target_answer, target_answers, target_in, targets_answer, targets_in, value_target, Target};
+ghost use Rattle.dl_terms.specs.TermAnswers.{gathered, item_targets, list_targets, picked, target_answer, target_answers, target_in, targets_answer, targets_in, value_target, Target};
 ghost use Rattle.dl_terms.specs.declared.answer.Answer.{Answer};
 ghost use Rattle.dl_terms.specs.View.{term_view, terms_view};
 
@@ -132,7 +132,7 @@ impl<'h> Knowledge<'h, '_> {
     }
 
     /// The load of the id in a field.
-    fn follow(&self, id: Picked<'h>, table: &Text) -> Result<Asking<'h>, AllocError>
+    fn load_field(&self, id: Picked<'h>, table: &Text) -> Result<Asking<'h>, AllocError>
         ensures { (a : Option Answer) → IsPicked a id.entry → IfOk result (AsksAfter a
             (λ b. target_loads (target_in table.now b)) (λ b. target_answer (known_of self.now) (target_in table.now b))) }
     {
@@ -143,7 +143,7 @@ impl<'h> Knowledge<'h, '_> {
     }
 
     /// The loads of the ids that a field lists.
-    fn each(&self, ids: Picked<'h>, table: &Text) -> Result<Asking<'h>, AllocError>
+    fn load_fields(&self, ids: Picked<'h>, table: &Text) -> Result<Asking<'h>, AllocError>
         ensures { (a : Option Answer) → IsPicked a ids.entry → IfOk result (AsksAfter a
             (λ b. targets_loads (targets_in table.now b)) (λ b. targets_answer (known_of self.now) (targets_in table.now b))) }
     {
@@ -151,6 +151,26 @@ impl<'h> Knowledge<'h, '_> {
             Ok(ids) => self.load_list(table, ids),
             Err(part) => Ok(Asking { loads: 0, part }),
         }
+    }
+
+    /// A part, and the load of the id in a field of it.
+    fn follow(&self, part: Asking<'h>, field: &Text, table: &Text) -> Result<Asking<'h>, AllocError>
+        ensures { (n : ℕ) (a : Option Answer) → Asks n a part.entry → IfOk result (Asks
+            (n + loads_after a (λ b. target_loads (target_in table.now (picked field.now b))))
+            (option_and_then (λ b. target_answer (known_of self.now) (target_in table.now (picked field.now b))) a)) }
+    {
+        let next = self.load_field(part.part.pick(field), table)?;
+        part.and_then(next)
+    }
+
+    /// A part, and the loads of the ids that a field of it lists.
+    fn each(&self, part: Asking<'h>, field: &Text, table: &Text) -> Result<Asking<'h>, AllocError>
+        ensures { (n : ℕ) (a : Option Answer) → Asks n a part.entry → IfOk result (Asks
+            (n + loads_after a (λ b. targets_loads (targets_in table.now (picked field.now b))))
+            (option_and_then (λ b. targets_answer (known_of self.now) (targets_in table.now (picked field.now b))) a)) }
+    {
+        let next = self.load_fields(part.part.pick(field), table)?;
+        part.and_then(next)
     }
 
     /// What a term asks for and answers.
@@ -164,21 +184,9 @@ impl<'h> Knowledge<'h, '_> {
                 part: Part::Row(value.value()),
             }),
             Term::Load(key) => Ok(self.load(key)),
-            Term::Pick { part, field } => {
-                let Asking { loads, part } = self.ask(part)?;
-                let part = Part::of_field(part.pick(field));
-                Ok(Asking { loads, part })
-            }
-            Term::Follow { part, field, table } => {
-                let asking = self.ask(part)?;
-                let next = self.follow(asking.part.pick(field), table)?;
-                asking.and_then(next)
-            }
-            Term::Each { part, field, table } => {
-                let asking = self.ask(part)?;
-                let next = self.each(asking.part.pick(field), table)?;
-                asking.and_then(next)
-            }
+            Term::Pick { part, field } => Ok(self.ask(part)?.pick(field)),
+            Term::Follow { part, field, table } => self.follow(self.ask(part)?, field, table),
+            Term::Each { part, field, table } => self.each(self.ask(part)?, field, table),
             Term::All(parts) => self.ask_all(parts.as_slice()),
         }
     }

@@ -1,7 +1,7 @@
 -- What parts of terms ask for and answer.
 use Rattle.std.proofs.Common.{◌≡◌, ◌∙◌, ap, sym, subst, refl, cc, ℕ, zero, ◌+◌, ◌<◌, ◌≤◌, Bool, true, false, not, ◌&&◌, ◌||◌, nat_lt, List, [], ◌∷◌, length, drop}
 use Rattle.std.proofs.Common.{get_or, Option, Some, None, arith, add-zero, add_assoc}
-use Rattle.std.specs.Prelude.{is_some, option_map, option_and_then, if◌then◌else◌}
+use Rattle.std.specs.Prelude.{is_some, option_map, option_and_then, if◌then◌else◌, Result, Ok, Err, IfOk}
 use Rattle.std.proofs.lemmas.List.{drop_all, drop_more}
 use Rattle.serde_json.specs.Data.{Data, array}
 use Rattle.serde_json.specs.Find.{get}
@@ -39,6 +39,9 @@ several_are_bare a e no = let f = some_of a e in (f.0, f.1, no f.0 f.1)
 
 pub waits_for : (a : Option Answer) → IsPart a part.Waits → is_some a ≡ false
 waits_for a is = ap is_some is
+
+pub row_ends : (a : Option Answer) (b : Answer) → a ≡ Some b → is_some a ≡ true
+row_ends a b is = ap is_some is
 
 pub bare_ends : (a : Option Answer) → IsPart a part.Bare → is_some a ≡ true
 bare_ends a is = ap is_some is.1
@@ -180,3 +183,7 @@ asked_both n m a one next both_are first second sums same = record {
   loads = sums ∙ (ap (λ k. k + next.loads) first ∙ ap (λ k. n + k) second.loads);
   part = subst (IsPart a) (sym same) second.part;
 }
+
+pub if_ok : {X E : Type 0} (r : Result X E) (P Q : X → Type 0) → ((x : X) → P x → Q x) → IfOk r P → IfOk r Q
+if_ok (Ok x) P Q f h = f x h
+if_ok (Err e) P Q f h = h
