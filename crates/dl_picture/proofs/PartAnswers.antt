@@ -1,11 +1,14 @@
 -- What parts of terms ask for and answer.
 use Rattle.std.proofs.Common.{◌≡◌, ◌∙◌, ap, sym, subst, refl, cc, ℕ, zero, ◌+◌, ◌<◌, ◌≤◌, Bool, true, false, not, ◌&&◌, ◌||◌, nat_lt, List, [], ◌∷◌, length, drop}
-use Rattle.std.proofs.Common.{get_or, Option, Some, None, arith, add-zero, add_assoc}
+use Rattle.std.proofs.Common.{get_or, Option, Some, None, arith, rules}
 use Rattle.std.specs.Prelude.{is_some, option_map, option_and_then, if◌then◌else◌, Result, Ok, Err, IfOk}
 use Rattle.std.proofs.lemmas.List.{drop_all, drop_more}
 use Rattle.serde_json.specs.Data.{Data, array}
 use Rattle.serde_json.specs.Find.{get}
-use Rattle.dl_terms.specs.Tree.{Name}
+use Rattle.dl_terms.specs.Tree.{Name, Tree, ended, load}
+use Rattle.dl_terms.specs.View.{term_view}
+use Rattle.dl_terms.specs.declared.term.Term.{the_lemmas}
+use Rattle.dl_terms.specs.declared.term.Term.TheVariants as form
 use Rattle.dl_values.specs.Key.{Key}
 use Rattle.dl_values.specs.declared.outcome.Outcome.{Outcome}
 use Rattle.dl_terms.specs.TermAnswers.{both, field_or, gather, gathered, ended_as, Gathered, picked, Target, Targets, targets_answer}
@@ -13,7 +16,7 @@ use Rattle.dl_terms.specs.declared.answer.Answer.{Answer}
 use Rattle.dl_terms.specs.declared.answer.Answer.TheVariants.{Value, Fault}
 use Rattle.dl_terms.specs.declared.answer.EvalFault.{EvalFault}
 use Rattle.dl_terms.specs.declared.answer.EvalFault.TheVariants as why
-use Rattle.dl_picture.specs.Asking.{Asks, AsksAfter, AsksTarget, HasNoField, IsNoValue, IsPart}
+use Rattle.dl_picture.specs.Asking.{Asks, AsksAfter, AsksTarget, AsksTerm, HasNoField, IsNoValue, IsPart}
 use Rattle.dl_picture.specs.TermLoads.{loads_after, targets_loads}
 use Rattle.dl_picture.specs.declared.asking.Asking.{Asking}
 use Rattle.dl_picture.specs.declared.asking.Part.{Part}
@@ -187,3 +190,14 @@ asked_both n m a one next both_are first second sums same = record {
 pub if_ok : {X E : Type 0} (r : Result X E) (P Q : X → Type 0) → ((x : X) → P x → Q x) → IfOk r P → IfOk r Q
 if_ok (Ok x) P Q f h = f x h
 if_ok (Err e) P Q f h = h
+
+-- ---- terms
+
+pub asks_as : (known : Key → Option Outcome) (u v : Tree) (asking : Asking) → u ≡ v → AsksTerm known v asking → AsksTerm known u asking
+asks_as known u v asking is asks = subst (λ t. AsksTerm known t asking) (sym is) asks
+
+pub term_view-Value : (d : Data) → term_view (form.Value d) ≡ ended (Value d)
+term_view-Value d = search (rules, the_lemmas)
+
+pub term_view-Load : (k : Key) → term_view (form.Load k) ≡ load k
+term_view-Load k = search (rules, the_lemmas)

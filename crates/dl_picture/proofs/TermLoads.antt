@@ -1,9 +1,10 @@
 -- Loads of terms, counted one after another.
 use Rattle.std.proofs.Common.{◌≡◌, ◌∙◌, ap, sym, subst, refl, cc, cond, ℕ, zero, suc, ◌+◌, ◌<◌, ◌≤◌, Bool, true, false, not, List, [], ◌∷◌, ◌++◌, length, map, drop, take}
 use Rattle.std.proofs.Common.{get_or, Option, Some, None, arith, add-one, append-nil, nat_eq, ◌&&◌}
-use Rattle.std.specs.Prelude.{is_some, if◌then◌else◌, slice_get, Vec}
+use Rattle.std.specs.Prelude.{flat_map, is_some, if◌then◌else◌, slice_get, Vec}
 use Rattle.std.specs.declared.alloc.Global.{Global}
-use Rattle.std.proofs.lemmas.List.{drop_more}
+use Rattle.std.proofs.lemmas.List.{drop_all, drop-map, drop_more, map-append, take_more}
+use Rattle.std.proofs.lemmas.List.Concat.{flat_map-append}
 use Rattle.indexmap.specs.IndexMap.{insert_entry}
 use Rattle.dl_values.specs.Key.{Key, key_eq}
 use Rattle.dl_desk.specs.declared.event.Event.{Event}
@@ -43,6 +44,35 @@ module _ (events : List Event) where
     ap (λ b. if b then round ∷ rounds else rounds_after events t (with_call cells round.call round.reply) rounds) waits
         ∙ ap (λ c. rounds_after events t c rounds) (sym read),
   )
+
+  -- ---- one step of a term over its rounds
+
+  module _ {X : Type 0} (f : X → Event) (xs : List X) (i : ℕ) (t : Tree) (cells : Cells) where
+    -- the term waits, and reads the round x
+    pub waits_on : (x : X) → i < length xs → x ≡ get_or xs i x → (more : Cells) → is_some (answer (known_by events cells) t) ≡ false
+        → more ≡ with_call cells (f x).call (f x).reply
+        → (loads_in events t cells (map f (drop i xs)) ≡ loads_in events t more (map f (drop (i + 1) xs)))
+        × (rounds_after events t cells (map f (drop i xs)) ≡ rounds_after events t more (map f (drop (i + 1) xs)))
+    waits_on x lt is more waits read =
+        let front : map f (drop i xs) ≡ f x ∷ map f (drop (i + 1) xs) = ap (map f) (left_is xs i x lt is) in
+        let step = reads_round t cells more (f x) (map f (drop (i + 1) xs)) waits read in
+        (ap (loads_in events t cells) front ∙ step.0, ap (rounds_after events t cells) front ∙ step.1)
+
+    -- the term has its answer before the round x
+    pub ends_at : (n : ℕ) → n ≡ term_loads (known_by events cells) t → is_some (answer (known_by events cells) t) ≡ true
+        → (n ≡ loads_in events t cells (map f (drop i xs))) × (drop i (map f xs) ≡ rounds_after events t cells (map f (drop i xs)))
+    ends_at n counts ends =
+        let step = has_answer t cells (map f (drop i xs)) n counts ends in
+        (step.0, drop-map f i xs ∙ step.1)
+
+    -- no round is left
+    pub ends_last : (n k : ℕ) → n ≡ term_loads (known_by events cells) t → length xs ≤ i → length xs ≤ k
+        → (n ≡ loads_in events t cells (map f (drop i xs))) × (drop k (map f xs) ≡ rounds_after events t cells (map f (drop i xs)))
+    ends_last n k counts past end =
+        let none : map f (drop i xs) ≡ [] = ap (map f) (drop_all i xs past) in (
+          counts ∙ ap (loads_in events t cells) (sym none),
+          drop-map f k xs ∙ (ap (map f) (drop_all k xs end) ∙ ap (rounds_after events t cells) (sym none)),
+        )
 
   -- ---- terms
 
@@ -130,3 +160,23 @@ without_replies cells (k ∷ ks) = refl
 -- without a reply nothing more is read
 pub loads_end : (cells : Cells) (ks : List Key) (rs : List LoadReply) (i : ℕ) → slice_get rs i ≡ None → with_loads cells (drop i ks) (drop i rs) ≡ cells
 loads_end cells ks rs i none = ap (with_loads cells (drop i ks)) (none_left rs i none) ∙ without_replies cells (drop i ks)
+
+-- ---- copies
+
+-- one item more, which f and g see alike
+pub map_next : {X Y Z : Type 0} (f : X → Z) (g : Y → Z) (xs : List X) (i : ℕ) (x : X) → i < length xs → x ≡ get_or xs i x → (ys more : List Y) (y : Y)
+    → more ≡ ys ++ y ∷ [] → map g ys ≡ map f (take i xs) → g y ≡ f x → map g more ≡ map f (take (i + 1) xs)
+map_next f g xs i x lt is ys more y pushed held own =
+    let front : map f (take (i + 1) xs) ≡ map f (take i xs) ++ f x ∷ [] =
+    ap (map f) (take_more xs i x lt ∙ ap (λ z. take i xs ++ z ∷ []) (sym is)) ∙ map-append f (take i xs) (x ∷ []) in
+    ap (map g) pushed
+    ∙ (map-append g ys (y ∷ []) ∙ (ap (λ zs. zs ++ g y ∷ []) held ∙ (ap (λ z. map f (take i xs) ++ z ∷ []) own ∙ sym front)))
+
+-- the items of one more
+pub flat_next : {X Z : Type 0} (f : X → List Z) (xs : List X) (i : ℕ) (x : X) → i < length xs → x ≡ get_or xs i x → (so_far more : List Z)
+    → so_far ≡ flat_map f (take i xs) → more ≡ so_far ++ f x → more ≡ flat_map f (take (i + 1) xs)
+flat_next f xs i x lt is so_far more held added =
+    let front : flat_map f (take (i + 1) xs) ≡ flat_map f (take i xs) ++ f x =
+    ap (flat_map f) (take_more xs i x lt ∙ ap (λ z. take i xs ++ z ∷ []) (sym is))
+    ∙ (flat_map-append f (take i xs) (x ∷ []) ∙ ap (λ zs. flat_map f (take i xs) ++ zs) (append-nil (f x))) in
+    added ∙ (ap (λ zs. zs ++ f x) held ∙ sym front)
