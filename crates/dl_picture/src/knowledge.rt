@@ -175,7 +175,7 @@ impl<'h> Knowledge<'h, '_> {
 
     /// What a term asks for and answers.
     #[cycle(asking)]
-    pub(crate) fn ask<'t: 'h>(&self, term: &'t Term) -> Result<Asking<'h>, AllocError>
+    pub(crate) fn ask(&self, term: &'h Term) -> Result<Asking<'h>, AllocError>
         ensures { IfOk result (AsksTerm (known_of self.now) (term_view term.now)) }
     {
         match term {
@@ -193,7 +193,7 @@ impl<'h> Knowledge<'h, '_> {
 
     /// What several terms ask for and answer together.
     #[cycle(asking)]
-    fn ask_all<'t: 'h>(&self, terms: &'t [Term]) -> Result<Asking<'h>, AllocError>
+    fn ask_all(&self, terms: &'h [Term]) -> Result<Asking<'h>, AllocError>
         ensures { IfOk result (AsksTerm (known_of self.now) (all (terms_view terms.now))) }
     {
         let mut loads: u64 = 0;
