@@ -1,17 +1,20 @@
 -- What parts of terms ask for and answer.
-use Rattle.std.proofs.Common.{◌≡◌, ◌∙◌, ap, sym, subst, refl, cc, ℕ, zero, ◌+◌, ◌<◌, ◌≤◌, Bool, true, false, not, ◌&&◌, ◌||◌, nat_lt, List, [], ◌∷◌, length, drop}
+use Rattle.std.proofs.Common.{◌≡◌, ◌∙◌, ap, sym, subst, refl, ℕ, zero, ◌+◌, ◌<◌, ◌≤◌, Bool, true, false, not, ◌&&◌, ◌||◌, nat_lt, List, [], ◌∷◌, length, drop}
 use Rattle.std.proofs.Common.{get_or, Option, Some, None, arith, rules}
-use Rattle.std.specs.Prelude.{is_some, option_map, option_and_then, if◌then◌else◌, Result, Ok, Err, IfOk}
+use Rattle.std.specs.Prelude.{is_some, option_map, option_and_then, if◌then◌else◌, Result, Ok, Err, IfOk, Vec, Box}
+use Rattle.std.specs.declared.alloc.Global.{Global}
 use Rattle.std.proofs.lemmas.List.{drop_all, drop_more}
 use Rattle.serde_json.specs.Data.{Data, array}
 use Rattle.serde_json.specs.Find.{get}
-use Rattle.dl_terms.specs.Tree.{Name, Tree, ended, load}
-use Rattle.dl_terms.specs.View.{term_view}
-use Rattle.dl_terms.specs.declared.term.Term.{the_lemmas}
+use Rattle.dl_terms.specs.Tree.{Name, Tree, ended, load, pick, follow, each, all}
+use Rattle.dl_terms.specs.View.{term_view, terms_view}
+use Rattle.dl_terms.specs.declared.term.Term.{Term, the_lemmas}
 use Rattle.dl_terms.specs.declared.term.Term.TheVariants as form
 use Rattle.dl_values.specs.Key.{Key}
+use Rattle.dl_values.specs.declared.outcome.BatchFault.{BatchFault}
 use Rattle.dl_values.specs.declared.outcome.Outcome.{Outcome}
-use Rattle.dl_terms.specs.TermAnswers.{both, field_or, gather, gathered, ended_as, Gathered, picked, Target, Targets, targets_answer}
+use Rattle.dl_values.specs.declared.outcome.Outcome.TheVariants as outcome
+use Rattle.dl_terms.specs.TermAnswers.{both, field_or, gather, gathered, ended_as, Gathered, loaded, picked, Target, Targets, targets_answer}
 use Rattle.dl_terms.specs.declared.answer.Answer.{Answer}
 use Rattle.dl_terms.specs.declared.answer.Answer.TheVariants.{Value, Fault}
 use Rattle.dl_terms.specs.declared.answer.EvalFault.{EvalFault}
@@ -38,7 +41,7 @@ pub several_wait : (a : Option Answer) → is_some a ≡ false → IsPart a part
 several_wait a e = none_of a e
 
 pub several_are_bare : (a : Option Answer) → is_some a ≡ true → ((b : Answer) → a ≡ Some b → HasNoField b) → IsPart a part.Bare
-several_are_bare a e no = let f = some_of a e in (f.0, f.1, no f.0 f.1)
+several_are_bare a e bare = let f = some_of a e in (f.0, f.1, bare f.0 f.1)
 
 pub waits_for : (a : Option Answer) → IsPart a part.Waits → is_some a ≡ false
 waits_for a is = ap is_some is
@@ -52,6 +55,12 @@ bare_ends a is = ap is_some is.1
 -- a fault has no field
 pub fault_bare : (f : EvalFault) → HasNoField (Fault f)
 fault_bare f field = (f, refl)
+
+pub key_error_bare : (key : Key) (o : Outcome) (text : List ℕ) → o ≡ outcome.KeyError text → IsPart (Some (loaded key o)) part.Bare
+key_error_bare key o text is = (loaded key o, refl, subst (λ x. HasNoField (loaded key x)) (sym is) (fault_bare (why.Key key text)))
+
+pub batch_failed_bare : (key : Key) (o : Outcome) (fault : BatchFault) → o ≡ outcome.BatchFailed fault → IsPart (Some (loaded key o)) part.Bare
+batch_failed_bare key o fault is = (loaded key o, refl, subst (λ x. HasNoField (loaded key x)) (sym is) (fault_bare (why.Batch key fault)))
 
 no_value : (a : Option Answer) (f : EvalFault) → a ≡ Some (Fault f) → IsNoValue a
 no_value a f is = subst IsNoValue (sym is) tt
@@ -201,3 +210,15 @@ term_view-Value d = search (rules, the_lemmas)
 
 pub term_view-Load : (k : Key) → term_view (form.Load k) ≡ load k
 term_view-Load k = search (rules, the_lemmas)
+
+pub term_view-Pick : (part : Box Term Global) (field : Name) → term_view (form.Pick part field) ≡ pick (term_view part.value) field
+term_view-Pick part field = search (rules, the_lemmas)
+
+pub term_view-Follow : (part : Box Term Global) (field table : Name) → term_view (form.Follow part field table) ≡ follow (term_view part.value) field table
+term_view-Follow part field table = search (rules, the_lemmas)
+
+pub term_view-Each : (part : Box Term Global) (field table : Name) → term_view (form.Each part field table) ≡ each (term_view part.value) field table
+term_view-Each part field table = search (rules, the_lemmas)
+
+pub term_view-All : (v : Vec Term Global) → term_view (form.All v) ≡ all (terms_view v.items)
+term_view-All v = search (rules, the_lemmas)

@@ -1,9 +1,9 @@
 -- Loads of terms, counted one after another.
-use Rattle.std.proofs.Common.{◌≡◌, ◌∙◌, ap, sym, subst, refl, cc, cond, ℕ, zero, suc, ◌+◌, ◌<◌, ◌≤◌, Bool, true, false, not, List, [], ◌∷◌, ◌++◌, length, map, drop, take}
+use Rattle.std.proofs.Common.{◌≡◌, ◌∙◌, ap, sym, subst, refl, cond, ℕ, zero, suc, ◌+◌, ◌<◌, ◌≤◌, Bool, true, false, not, List, [], ◌∷◌, ◌++◌, length, map, drop, take}
 use Rattle.std.proofs.Common.{get_or, Option, Some, None, arith, add-one, append-nil, nat_eq, ◌&&◌}
 use Rattle.std.specs.Prelude.{flat_map, is_some, if◌then◌else◌, slice_get, Vec}
 use Rattle.std.specs.declared.alloc.Global.{Global}
-use Rattle.std.proofs.lemmas.List.{drop_all, drop-map, drop_more, map-append, take_more}
+use Rattle.std.proofs.lemmas.List.{drop_all, drop-drop, drop-map, drop_more, map-append, take_more}
 use Rattle.std.proofs.lemmas.List.Concat.{flat_map-append}
 use Rattle.indexmap.specs.IndexMap.{insert_entry}
 use Rattle.dl_values.specs.Key.{Key, key_eq}
@@ -21,6 +21,10 @@ use Rattle.dl_picture.specs.TermLoads.{Cells, known_by, loads_from, loads_in, ro
 -- the first of what is left
 pub left_is : {X : Type 0} (xs : List X) (i : ℕ) (x : X) → i < length xs → x ≡ get_or xs i x → drop i xs ≡ x ∷ drop (i + 1) xs
 left_is xs i x lt is = drop_more xs i x lt ∙ ap (λ z. z ∷ drop (i + 1) xs) (sym is)
+
+-- what is left after m and n more
+pub passed_more : {X Y : Type 0} (f : X → Y) (xs : List X) (m n : ℕ) → map f (drop (m + n) xs) ≡ drop n (map f (drop m xs))
+passed_more f xs m n = ap (map f) (sym (drop-drop n m xs)) ∙ sym (drop-map f n (drop m xs))
 
 module _ (events : List Event) where
   -- ---- a term
@@ -130,36 +134,25 @@ rounds_end caller events at before none held = held ∙ ap (round_events caller)
 
 -- ---- what a round reads
 
-same_in : {X : Type 0} (x y : X) → ◌≡◌ {A = Option X} (Some x) (Some y) → x ≡ y
-same_in x y e = cc
-
-left_at : {X : Type 0} (xs : List X) (n : ℕ) (x : X) → slice_get xs n ≡ Some x → drop n xs ≡ x ∷ drop (suc n) xs
-left_at {X} [] n x e = absurd (let bad : ◌≡◌ {A = Option X} None (Some x) = e in cc)
-left_at (y ∷ ys) zero x e = ap (λ z. z ∷ ys) (same_in y x e)
-left_at (y ∷ ys) (suc n) x e = left_at ys n x e
-
-none_left : {X : Type 0} (xs : List X) (n : ℕ) → slice_get xs n ≡ None → drop n xs ≡ []
-none_left [] zero e = refl
-none_left [] (suc n) e = refl
-none_left {X} (y ∷ ys) zero e = absurd (let bad : ◌≡◌ {A = Option X} (Some y) None = e in cc)
-none_left (y ∷ ys) (suc n) e = none_left ys n e
-
 pub loads_step : (cells more : Cells) (ks : List Key) (rs : List LoadReply) (i : ℕ) (k : Key) (r : LoadReply) → i < length ks → k ≡ get_or ks i k
-    → slice_get rs i ≡ Some r → more ≡ insert_entry key_eq cells k (cell_of_load r)
+    → i < length rs → r ≡ get_or rs i r → more ≡ insert_entry key_eq cells k (cell_of_load r)
     → with_loads cells (drop i ks) (drop i rs) ≡ with_loads more (drop (i + 1) ks) (drop (i + 1) rs)
-loads_step cells more ks rs i k r lt is some read =
+loads_step cells more ks rs i k r lt is below got read =
     let keys = drop (i + 1) ks in
     ap (λ zs. with_loads cells zs (drop i rs)) (left_is ks i k lt is)
-    ∙ (ap (with_loads cells (k ∷ keys)) (left_at rs i r some ∙ ap (λ n. r ∷ drop n rs) (sym (add-one i)))
-    ∙ ap (λ c. with_loads c keys (drop (i + 1) rs)) (sym read))
+    ∙ (ap (with_loads cells (k ∷ keys)) (left_is rs i r below got) ∙ ap (λ c. with_loads c keys (drop (i + 1) rs)) (sym read))
 
 without_replies : (cells : Cells) (ks : List Key) → with_loads cells ks [] ≡ cells
 without_replies cells [] = refl
 without_replies cells (k ∷ ks) = refl
 
 -- without a reply nothing more is read
-pub loads_end : (cells : Cells) (ks : List Key) (rs : List LoadReply) (i : ℕ) → slice_get rs i ≡ None → with_loads cells (drop i ks) (drop i rs) ≡ cells
-loads_end cells ks rs i none = ap (with_loads cells (drop i ks)) (none_left rs i none) ∙ without_replies cells (drop i ks)
+pub loads_end : (cells : Cells) (ks : List Key) (rs : List LoadReply) (i : ℕ) → length rs ≤ i → with_loads cells (drop i ks) (drop i rs) ≡ cells
+loads_end cells ks rs i past = ap (with_loads cells (drop i ks)) (drop_all i rs past) ∙ without_replies cells (drop i ks)
+
+-- without a key too
+pub keys_end : (cells : Cells) (ks : List Key) (rs : List LoadReply) (i : ℕ) → length ks ≤ i → with_loads cells (drop i ks) (drop i rs) ≡ cells
+keys_end cells ks rs i past = ap (λ zs. with_loads cells zs (drop i rs)) (drop_all i ks past)
 
 -- ---- copies
 

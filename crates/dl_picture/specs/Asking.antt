@@ -39,8 +39,8 @@ IsPicked a (Ok v) = a ≡ Some (Value (view v.now))
 IsPicked a (Err p) = IsPart a p × IsNoValue a
 
 -- it asked for this many loads and answers this
-pub record Asks (loads : ℕ) (a : Option Answer) (asking : Asking) : Type 0 where
-  pub loads : asking.loads ≡ loads
+pub record Asks (n : ℕ) (a : Option Answer) (asking : Asking) : Type 0 where
+  pub loads : asking.loads ≡ n
   pub part : IsPart a asking.part
 
 -- after a part with this answer, it asked for the loads of what goes on from that, and answers so

@@ -1,6 +1,6 @@
 //! How many loads the terms of plans ask for, by the rounds in which they read.
 
-ghost use Rattle.std.specs.Prelude.{◌≡◌, ◌+◌, ◌≤◌, ◌&&◌, ℕ, List, [], IfOk, OnOk, drop, is_some, length, map, nat_eq, not, option_copied, slice_get, take};
+ghost use Rattle.std.specs.Prelude.{◌≡◌, ◌+◌, ◌≤◌, ◌&&◌, ℕ, List, [], IfOk, OnOk, drop, is_some, length, map, nat_eq, option_copied, slice_get, take};
 ghost use Rattle.indexmap.specs.IndexMap.{insert_entry};
 ghost use Rattle.dl_values.specs.Key.{key_eq};
 ghost use Rattle.dl_history.specs.Entries.{cell_of_load};
@@ -122,11 +122,12 @@ fn terms_loads(
     ensures { IfOk result (λ loads. loads ≡ terms_loads history.now.events (map term_view terms.now) (map (λ e. e.now) rounds.now)) }
 {
     let mut loads: u64 = 0;
-    let mut left = rounds;
+    let mut passed = 0;
     for term in terms {
+        let (_, left) = rounds.split_at(passed);
         let (more, read) = term_loads(alloc, hashing, history, term, left)?;
         loads = sum(loads, more)?;
-        left = &left[read..];
+        passed += read;
     }
     Ok(loads)
 }
@@ -145,17 +146,17 @@ fn term_loads(
 {
     let mut cells = IndexMap::with_hasher(alloc, hashing);
     for (place, round) in rounds.iter().enumerate() {
-        let (loads, waits) = loads_known(alloc, history, &cells, term)?;
-        if !waits {
+        let (loads, ends) = loads_known(alloc, history, &cells, term)?;
+        if ends {
             return Ok((loads, place));
         }
-        read_round(&mut cells, round)?;
+        read_round(&mut cells, *round)?;
     }
     let (loads, _) = loads_known(alloc, history, &cells, term)?;
     Ok((loads, rounds.len()))
 }
 
-/// The loads that a term asks for that has read these cells, and whether it waits for more.
+/// The loads that a term asks for that has read these cells, and whether it has its answer then.
 fn loads_known(
     alloc: Global,
     history: &History,
@@ -163,7 +164,7 @@ fn loads_known(
     term: &Term,
 ) -> Result<(u64, bool), AllocError>
     ensures loads { IfOk result (λ r. r.0 ≡ term_loads (known_by history.now.events cells.now.entries) (term_view term.now)) }
-    ensures waits { IfOk result (λ r. is_some (answer (known_by history.now.events cells.now.entries) (term_view term.now)) ≡ not r.1) }
+    ensures ends { IfOk result (λ r. is_some (answer (known_by history.now.events cells.now.entries) (term_view term.now)) ≡ r.1) }
 {
     let known = Knowledge {
         alloc,
@@ -171,7 +172,7 @@ fn loads_known(
         cells,
     };
     let asking = known.ask(term)?;
-    Ok((asking.loads, asking.part.waits()))
+    Ok((asking.loads, !asking.part.waits()))
 }
 
 /// Reads the loads of a round.

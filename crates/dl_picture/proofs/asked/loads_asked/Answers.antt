@@ -13,7 +13,7 @@ loop-terms-preserved c =
     plans_next events c.args.plans.now c.loop-terms.terms-index c.terms-item.result c.loop-terms-test.true c.terms-item.is caller _ c.loop-terms.loads _ _ _
     c.loop-terms.invariant
     (c.in_ok-more.ensures ∙ ap (λ ts. terms_loads events (map term_view ts) (round_events caller events)) c.as_slice.ensures.value)
-    c.in_ok-sum.ensures c.in_ok-next_caller.ensures
+    c.in_ok-loads.ensures c.in_ok-caller.ensures
 
 pub returns : goal.returns
 returns c =

@@ -1,4 +1,4 @@
-use Rattle.std.proofs.Common.{◌∙◌, ap, map, not, arith, sym}
+use Rattle.std.proofs.Common.{◌∙◌, sym}
 use Rattle.dl_terms.specs.View.{term_view}
 use Rattle.dl_picture.proofs.TermLoads.{ends_at, ends_last, waits_on}
 use Rattle.dl_picture.proofs.asked.term_loads.Goals as goal
@@ -6,8 +6,8 @@ use Rattle.dl_picture.proofs.asked.term_loads.Goals as goal
 pub loop-place-preserved : goal.loop-place-preserved
 loop-place-preserved c =
     let events = c.args.history.now.events in
-    let known = c.in_ok-loads_known.ensures in
+    let known = c.in_ok-loads.ensures in
     let h = c.loop-place.invariant in
-    let step = waits_on events (λ e. e.now) c.args.rounds.now c.loop-place.place (term_view c.args.term.now) c.loop-place.cells.entries c.loop-place-item.result
-    c.loop-place-test.true c.loop-place-item.is c.read_round.new.cells.entries (known.waits ∙ ap not c.if-waits.true) c.in_ok-read_round.ensures in
+    let step = waits_on events (λ e. e.now) c.args.rounds.now c.loop-place.place (term_view c.args.term.now) c.loop-place.cells.entries c.index-rounds-place.result
+    c.loop-place-test.true c.index-rounds-place.is c.read_round.new.cells.entries (known.ends ∙ c.if-ends.false) c.in_ok-read_round.ensures in
     record { loads = sym step.0 ∙ h.loads; left = sym step.1 ∙ h.left }

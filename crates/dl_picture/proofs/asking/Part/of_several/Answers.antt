@@ -3,7 +3,7 @@ use Rattle.dl_picture.proofs.PartAnswers.{several_are_bare, several_wait}
 use Rattle.dl_picture.proofs.asking.Part.of_several.Goals as goal
 
 pub returns-then-waits : goal.returns-then-waits
-returns-then-waits c = λ a ends no. several_wait a (ends ∙ ap not c.if-waits.true)
+returns-then-waits c = λ a ends bare. several_wait a (ends ∙ ap not c.if-waits.true)
 
 pub returns-else-waits : goal.returns-else-waits
-returns-else-waits c = λ a ends no. several_are_bare a (ends ∙ ap not c.if-waits.false) no
+returns-else-waits c = λ a ends bare. several_are_bare a (ends ∙ ap not c.if-waits.false) bare

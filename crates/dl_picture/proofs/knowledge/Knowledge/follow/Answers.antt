@@ -15,7 +15,7 @@ returns c = λ n a asks.
     let field = c.args.field.now in
     let loads : Answer → ℕ = λ b. target_loads (target_in table b) in
     let one = c.args.part in
-    let next = c.in_ok-next.field-0 in
+    let next = c.in_ok-next.next in
     let second = after_pick field a loads (λ b. target_answer known (target_in table b)) next (c.in_ok-next.ensures (option_map (picked field) a) (c.pick.ensures a asks.part)) in
     if_ok c.and_then.result (λ (x : Asking). (x.loads ≡ one.loads + next.loads) × (x.part ≡ next.part))
     (Asks (n + loads_after a (λ b. loads (picked field b))) (option_and_then (λ b. target_answer known (target_in table (picked field b))) a))

@@ -8,9 +8,9 @@ use Rattle.dl_picture.proofs.knowledge.Knowledge.load_id.Goals as goal
 
 pub returns-in-Some : goal.returns-in-Some
 returns-in-Some c =
-    subst (λ x. AsksTarget (known_of c.args.self.now) x c.load.result) (sym (ap target_of c.in-Some.is) ∙ c.in_ok-key_in.ensures) c.load.ensures
+    subst (λ x. AsksTarget (known_of c.args.self.now) x c.load.result) (sym (ap target_of c.in-Some.is) ∙ c.in_ok-key.ensures) c.load.ensures
 
 pub returns-in-None : goal.returns-in-None
 returns-in-None c =
     asked_none (known_of c.args.self.now) (value_target c.args.table.now (view c.args.id.now)) why.NotAKey _
-    (sym c.in_ok-key_in.ensures ∙ ap target_of c.in-None.is) refl refl
+    (sym c.in_ok-key.ensures ∙ ap target_of c.in-None.is) refl refl

@@ -24,8 +24,8 @@ returns-then-len-gt-MOST_ITEMS c =
     (too_many table list c.in-Some.ids.now.items c.in-Some.ensures (omega (arith, c.len.ensures, c.in-Some.ids.now.ok.0, c.if-len-gt-MOST_ITEMS.true)))
     refl refl
 
-pub returns-in-Some : goal.returns-in-Some
-returns-in-Some c =
+pub returns-else-len-gt-MOST_ITEMS : goal.returns-else-len-gt-MOST_ITEMS
+returns-else-len-gt-MOST_ITEMS c =
     let known = known_of c.args.self.now in
     let table = c.args.table.now in
     let list = as_array (view c.args.ids.now) in

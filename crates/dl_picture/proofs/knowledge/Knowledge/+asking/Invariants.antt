@@ -5,7 +5,7 @@ use Rattle.dl_terms.specs.TermAnswers.{answers}
 use Rattle.dl_terms.specs.View.{terms_view}
 use Rattle.dl_picture.specs.Asking.{known_of}
 use Rattle.dl_picture.specs.TermLoads.{all_loads}
-use Rattle.dl_picture.proofs.knowledge.+asking.Given as goal
+use Rattle.dl_picture.proofs.knowledge.Knowledge.+asking.Given as goal
 
 abbrev pub invariant-ask_all-loop-term : goal.invariant-ask_all-loop-term
 invariant-ask_all-loop-term l = record {

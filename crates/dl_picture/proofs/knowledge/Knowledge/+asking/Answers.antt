@@ -1,16 +1,15 @@
-use Rattle.std.proofs.Common.{◌∙◌, ap, subst, sym, refl, ◌+◌, arith}
+use Rattle.std.proofs.Common.{◌∙◌, ap, subst, sym, refl, ◌+◌, ◌≤◌, length, arith}
 use Rattle.std.specs.Prelude.{Some, IfOk, is_some, option_map}
 use Rattle.serde_json.specs.View.{view}
 use Rattle.dl_terms.specs.Tree.{all}
 use Rattle.dl_terms.specs.TermAnswers.{answer, answers, gathered}
 use Rattle.dl_terms.specs.View.{term_view, terms_view}
 use Rattle.dl_terms.specs.declared.answer.Answer.TheVariants.{Value}
-use Rattle.dl_terms.proofs.TermViews.{term_view-All, term_view-Each, term_view-Follow, term_view-Pick}
 use Rattle.dl_picture.specs.Asking.{AsksTerm, known_of}
 use Rattle.dl_picture.specs.TermLoads.{all_loads, term_loads}
 use Rattle.dl_picture.proofs.PartAnswers.{asks_as, both_ends, ends_done, ends_next, gathered_bare, gathered_some, loads_done, loads_next}
-use Rattle.dl_picture.proofs.PartAnswers.{term_view-Load, term_view-Value}
-use Rattle.dl_picture.proofs.knowledge.+asking.Goals as goal
+use Rattle.dl_picture.proofs.PartAnswers.{term_view-All, term_view-Each, term_view-Follow, term_view-Load, term_view-Pick, term_view-Value}
+use Rattle.dl_picture.proofs.knowledge.Knowledge.+asking.Goals as goal
 
 pub ask-returns-in-Value : goal.ask-returns-in-Value
 ask-returns-in-Value t c =
@@ -58,17 +57,17 @@ ask_all-loop-term-preserved t c =
     let h = c.loop-term.invariant in
     record {
       loads = loads_next terms i x c.loop-term-test.true c.term-item.is (λ ts. all_loads known (terms_view ts)) (term_loads known (term_view x)) (λ rest. refl)
-          c.loop-term.loads _ _ h.loads (c.in_ok-sum.ensures ∙ ap (λ n. c.loop-term.loads + n) c.in_ok-asking.ensures.loads);
+          c.loop-term.loads _ _ h.loads (c.in_ok-loads.ensures ∙ ap (λ n. c.loop-term.loads + n) c.in_ok-asking.ensures.loads);
       ends = ends_next terms i x c.loop-term-test.true c.term-item.is (λ ts. is_some (answers known (terms_view ts))) (is_some (answer known (term_view x)))
           (λ rest. both_ends (answer known (term_view x)) (answers known (terms_view rest)))
-          c.loop-term.waits c.waits.result _ _ h.ends (c.waits.ensures (answer known (term_view x)) c.in_ok-asking.ensures.part);
+          c.loop-term.waits c.waits.result _ h.ends (c.waits.ensures (answer known (term_view x)) c.in_ok-asking.ensures.part);
     }
 
 pub ask_all-returns : goal.ask_all-returns
 ask_all-returns t c =
     let known = known_of c.args.self.now in
     let terms = c.args.terms.now in
-    let past = omega (arith, c.loop-term-test.false) in
+    let past : length terms ≤ c.loop-term.term-index = omega (arith, c.loop-term-test.false) in
     let all_answers = answers known (terms_view terms) in
     let h = c.loop-term.invariant in
     record {
