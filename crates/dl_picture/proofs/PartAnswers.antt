@@ -127,19 +127,19 @@ module _ {A : Type 0} (xs : List A) (i : ℕ) (x : A) (lt : i < length xs) (is :
   front = drop_more xs i x lt ∙ ap (λ z. z ∷ drop (i + 1) xs) (sym is)
 
   -- what the rest asks for, after x has
-  pub loads_next : (all : List A → ℕ) (own : ℕ) → ((rest : List A) → all (x ∷ rest) ≡ own + all rest) → (so_far more total : ℕ)
-      → so_far + all (drop i xs) ≡ total → more ≡ so_far + own → more + all (drop (i + 1) xs) ≡ total
-  loads_next all own split so_far more total held is_more =
-      let step : all (drop i xs) ≡ own + all (drop (i + 1) xs) = ap all front ∙ split (drop (i + 1) xs) in
+  pub loads_next : (whole : List A → ℕ) (own : ℕ) → ((rest : List A) → whole (x ∷ rest) ≡ own + whole rest) → (so_far more total : ℕ)
+      → so_far + whole (drop i xs) ≡ total → more ≡ so_far + own → more + whole (drop (i + 1) xs) ≡ total
+  loads_next whole own split so_far more total held is_more =
+      let step : whole (drop i xs) ≡ own + whole (drop (i + 1) xs) = ap whole front ∙ split (drop (i + 1) xs) in
       omega (arith, step, held, is_more)
 
   -- whether all end, after it is known of x
-  pub ends_next : (all : List A → Bool) (own : Bool) → ((rest : List A) → all (x ∷ rest) ≡ (own && all rest)) → (waits waited total : Bool)
-      → (not waits && all (drop i xs)) ≡ total → own ≡ not waited → (not (waits || waited) && all (drop (i + 1) xs)) ≡ total
-  ends_next all own split waits waited total held ends =
-      let rest = all (drop (i + 1) xs) in
-      let step : all (drop i xs) ≡ (own && rest) = ap all front ∙ split (drop (i + 1) xs) in
-      let both_are : all (drop i xs) ≡ (not waited && rest) = step ∙ ap (λ b. b && rest) ends in
+  pub ends_next : (whole : List A → Bool) (own : Bool) → ((rest : List A) → whole (x ∷ rest) ≡ (own && whole rest)) → (waits waited total : Bool)
+      → (not waits && whole (drop i xs)) ≡ total → own ≡ not waited → (not (waits || waited) && whole (drop (i + 1) xs)) ≡ total
+  ends_next whole own split waits waited total held ends =
+      let rest = whole (drop (i + 1) xs) in
+      let step : whole (drop i xs) ≡ (own && rest) = ap whole front ∙ split (drop (i + 1) xs) in
+      let both_are : whole (drop i xs) ≡ (not waited && rest) = step ∙ ap (λ b. b && rest) ends in
       regroup waits waited rest ∙ (ap (λ b. not waits && b) (sym both_are) ∙ held)
     where
       regroup : (w v r : Bool) → (not (w || v) && r) ≡ (not w && (not v && r))
@@ -147,14 +147,14 @@ module _ {A : Type 0} (xs : List A) (i : ℕ) (x : A) (lt : i < length xs) (is :
       regroup false v r = refl
 
 -- all are done
-pub loads_done : {A : Type 0} (xs : List A) (i : ℕ) → length xs ≤ i → (all : List A → ℕ) → all [] ≡ 0 → (n total : ℕ) → n + all (drop i xs) ≡ total → n ≡ total
-loads_done xs i past all none n total held =
-    let left : all (drop i xs) ≡ 0 = ap all (drop_all i xs past) ∙ none in
+pub loads_done : {A : Type 0} (xs : List A) (i : ℕ) → length xs ≤ i → (whole : List A → ℕ) → whole [] ≡ 0 → (n total : ℕ) → n + whole (drop i xs) ≡ total → n ≡ total
+loads_done xs i past whole none n total held =
+    let left : whole (drop i xs) ≡ 0 = ap whole (drop_all i xs past) ∙ none in
     omega (arith, left, held)
 
-pub ends_done : {A : Type 0} (xs : List A) (i : ℕ) → length xs ≤ i → (all : List A → Bool) → all [] ≡ true → (waits total : Bool)
-    → (not waits && all (drop i xs)) ≡ total → total ≡ not waits
-ends_done xs i past all none waits total held = sym held ∙ (ap (λ b. not waits && b) (ap all (drop_all i xs past) ∙ none) ∙ and_true waits)
+pub ends_done : {A : Type 0} (xs : List A) (i : ℕ) → length xs ≤ i → (whole : List A → Bool) → whole [] ≡ true → (waits total : Bool)
+    → (not waits && whole (drop i xs)) ≡ total → total ≡ not waits
+ends_done xs i past whole none waits total held = sym held ∙ (ap (λ b. not waits && b) (ap whole (drop_all i xs past) ∙ none) ∙ and_true waits)
   where
     and_true : (w : Bool) → (not w && true) ≡ not w
     and_true true = refl

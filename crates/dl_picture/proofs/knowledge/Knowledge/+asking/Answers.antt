@@ -13,39 +13,39 @@ use Rattle.dl_picture.proofs.knowledge.Knowledge.+asking.Goals as goal
 
 pub ask-returns-in-Value : goal.ask-returns-in-Value
 ask-returns-in-Value t c =
-    asks_as (known_of c.args.self.now) _ _ _ (ap term_view c.in-Value.is ∙ term_view-Value c.in-Value.value.now)
+    asks_as (known_of c.args.self.now) _ _ _ (ap term_view c.in-Value.is ∙ term_view-Value c.in-Value.value)
     (record { loads = refl; part = ap (λ d. Some (Value d)) (sym c.value.ensures.tree) })
 
 pub ask-returns-in-Load : goal.ask-returns-in-Load
-ask-returns-in-Load t c = asks_as (known_of c.args.self.now) _ _ _ (ap term_view c.in-Load.is ∙ term_view-Load c.in-Load.key.now) c.load.ensures
+ask-returns-in-Load t c = asks_as (known_of c.args.self.now) _ _ _ (ap term_view c.in-Load.is ∙ term_view-Load c.in-Load.key) c.load.ensures
 
-pub ask-returns-in-Pick : goal.ask-returns-in-Pick
-ask-returns-in-Pick t c =
+pub ask-returns-in_ok-ask-in-Pick : goal.ask-returns-in_ok-ask-in-Pick
+ask-returns-in_ok-ask-in-Pick t c =
     let known = known_of c.args.self.now in
-    let part = term_view c.in-Pick.part.now.value in
-    asks_as known _ _ _ (ap term_view c.in-Pick.is ∙ term_view-Pick c.in-Pick.part.now c.in-Pick.field.now)
-    (c.pick.ensures (term_loads known part) (answer known part) c.in_ok-ask.ensures)
+    let part = term_view c.in-Pick.part.value in
+    asks_as known _ _ _ (ap term_view c.in-Pick.is ∙ term_view-Pick c.in-Pick.part c.in-Pick.field)
+    (c.pick.ensures (term_loads known part) (answer known part) c.in_ok-ask-in-Pick.ensures)
 
-pub ask-returns-in-Follow : goal.ask-returns-in-Follow
-ask-returns-in-Follow t c =
+pub ask-returns-in_ok-ask-in-Follow : goal.ask-returns-in_ok-ask-in-Follow
+ask-returns-in_ok-ask-in-Follow t c =
     let known = known_of c.args.self.now in
-    let part = term_view c.in-Follow.part.now.value in
+    let part = term_view c.in-Follow.part.value in
     subst (λ u. IfOk c.follow.result (AsksTerm known u))
-    (sym (ap term_view c.in-Follow.is ∙ term_view-Follow c.in-Follow.part.now c.in-Follow.field.now c.in-Follow.table.now))
-    (c.follow.ensures (term_loads known part) (answer known part) c.in_ok-ask-2.ensures)
+    (sym (ap term_view c.in-Follow.is ∙ term_view-Follow c.in-Follow.part c.in-Follow.field c.in-Follow.table))
+    (c.follow.ensures (term_loads known part) (answer known part) c.in_ok-ask-in-Follow.ensures)
 
-pub ask-returns-in-Each : goal.ask-returns-in-Each
-ask-returns-in-Each t c =
+pub ask-returns-in_ok-ask-in-Each : goal.ask-returns-in_ok-ask-in-Each
+ask-returns-in_ok-ask-in-Each t c =
     let known = known_of c.args.self.now in
-    let part = term_view c.in-Each.part.now.value in
+    let part = term_view c.in-Each.part.value in
     subst (λ u. IfOk c.each.result (AsksTerm known u))
-    (sym (ap term_view c.in-Each.is ∙ term_view-Each c.in-Each.part.now c.in-Each.field.now c.in-Each.table.now))
-    (c.each.ensures (term_loads known part) (answer known part) c.in_ok-ask-3.ensures)
+    (sym (ap term_view c.in-Each.is ∙ term_view-Each c.in-Each.part c.in-Each.field c.in-Each.table))
+    (c.each.ensures (term_loads known part) (answer known part) c.in_ok-ask-in-Each.ensures)
 
 pub ask-returns-in-All : goal.ask-returns-in-All
 ask-returns-in-All t c =
     let known = known_of c.args.self.now in
-    subst (λ u. IfOk c.ask_all.result (AsksTerm known u)) (sym (ap term_view c.in-All.is ∙ term_view-All c.in-All.parts.now))
+    subst (λ u. IfOk c.ask_all.result (AsksTerm known u)) (sym (ap term_view c.in-All.is ∙ term_view-All c.in-All.parts))
     (subst (λ ts. IfOk c.ask_all.result (AsksTerm known (all (terms_view ts)))) c.as_slice.ensures.value c.ask_all.ensures)
 
 pub ask_all-loop-term-preserved : goal.ask_all-loop-term-preserved

@@ -20,4 +20,4 @@ returns c = λ n a asks.
     if_ok c.and_then.result (λ (x : Asking). (x.loads ≡ one.loads + next.loads) × (x.part ≡ next.part))
     (Asks (n + loads_after a (λ b. loads (picked field b))) (option_and_then (λ b. target_answer known (target_in table (picked field b))) a))
     (λ x both. asked_both n (loads_after a (λ b. loads (picked field b))) (option_and_then (λ b. target_answer known (target_in table (picked field b))) a)
-    one next x asks second both.0 both.1) c.and_then.ensures
+    one next x asks.loads second both.0 both.1) c.and_then.ensures
