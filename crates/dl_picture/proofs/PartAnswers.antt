@@ -134,13 +134,13 @@ module _ {A : Type 0} (xs : List A) (i : ℕ) (x : A) (lt : i < length xs) (is :
       omega (arith, step, held, is_more)
 
   -- whether all end, after it is known of x
-  pub ends_next : (whole : List A → Bool) (own : Bool) → ((rest : List A) → whole (x ∷ rest) ≡ (own && whole rest)) → (waits waited total : Bool)
-      → (not waits && whole (drop i xs)) ≡ total → own ≡ not waited → (not (waits || waited) && whole (drop (i + 1) xs)) ≡ total
-  ends_next whole own split waits waited total held ends =
+  pub ends_next : (whole : List A → Bool) (own : Bool) → ((rest : List A) → whole (x ∷ rest) ≡ (own && whole rest)) → (waits waited more total : Bool)
+      → (not waits && whole (drop i xs)) ≡ total → own ≡ not waited → more ≡ (waits || waited) → (not more && whole (drop (i + 1) xs)) ≡ total
+  ends_next whole own split waits waited more total held ends joined =
       let rest = whole (drop (i + 1) xs) in
       let step : whole (drop i xs) ≡ (own && rest) = ap whole front ∙ split (drop (i + 1) xs) in
       let both_are : whole (drop i xs) ≡ (not waited && rest) = step ∙ ap (λ b. b && rest) ends in
-      regroup waits waited rest ∙ (ap (λ b. not waits && b) (sym both_are) ∙ held)
+      ap (λ b. not b && rest) joined ∙ (regroup waits waited rest ∙ (ap (λ b. not waits && b) (sym both_are) ∙ held))
     where
       regroup : (w v r : Bool) → (not (w || v) && r) ≡ (not w && (not v && r))
       regroup true v r = refl

@@ -24,7 +24,7 @@ ask-returns-in_ok-ask-in-Pick t c =
     let known = known_of c.args.self.now in
     let part = term_view c.in-Pick.part.value in
     asks_as known _ _ _ (ap term_view c.in-Pick.is ∙ term_view-Pick c.in-Pick.part c.in-Pick.field)
-    (c.pick.ensures (term_loads known part) (answer known part) c.in_ok-ask-in-Pick.ensures)
+    (c.pick.ensures (term_loads known part) (answer known part) (subst (λ x. AsksTerm known (term_view x) c.in_ok-ask-in-Pick.field-0) c.deref.ensures c.in_ok-ask-in-Pick.ensures))
 
 pub ask-returns-in_ok-ask-in-Follow : goal.ask-returns-in_ok-ask-in-Follow
 ask-returns-in_ok-ask-in-Follow t c =
@@ -32,7 +32,7 @@ ask-returns-in_ok-ask-in-Follow t c =
     let part = term_view c.in-Follow.part.value in
     subst (λ u. IfOk c.follow.result (AsksTerm known u))
     (sym (ap term_view c.in-Follow.is ∙ term_view-Follow c.in-Follow.part c.in-Follow.field c.in-Follow.table))
-    (c.follow.ensures (term_loads known part) (answer known part) c.in_ok-ask-in-Follow.ensures)
+    (c.follow.ensures (term_loads known part) (answer known part) (subst (λ x. AsksTerm known (term_view x) c.in_ok-ask-in-Follow.field-0) c.deref-in-Follow.ensures c.in_ok-ask-in-Follow.ensures))
 
 pub ask-returns-in_ok-ask-in-Each : goal.ask-returns-in_ok-ask-in-Each
 ask-returns-in_ok-ask-in-Each t c =
@@ -40,7 +40,7 @@ ask-returns-in_ok-ask-in-Each t c =
     let part = term_view c.in-Each.part.value in
     subst (λ u. IfOk c.each.result (AsksTerm known u))
     (sym (ap term_view c.in-Each.is ∙ term_view-Each c.in-Each.part c.in-Each.field c.in-Each.table))
-    (c.each.ensures (term_loads known part) (answer known part) c.in_ok-ask-in-Each.ensures)
+    (c.each.ensures (term_loads known part) (answer known part) (subst (λ x. AsksTerm known (term_view x) c.in_ok-ask-in-Each.field-0) c.deref-in-Each.ensures c.in_ok-ask-in-Each.ensures))
 
 pub ask-returns-in-All : goal.ask-returns-in-All
 ask-returns-in-All t c =
@@ -60,7 +60,7 @@ ask_all-loop-term-preserved t c =
           c.loop-term.loads _ _ h.loads (c.in_ok-loads.ensures ∙ ap (λ n. c.loop-term.loads + n) c.in_ok-asking.ensures.loads);
       ends = ends_next terms i x c.loop-term-test.true c.term-item.is (λ ts. is_some (answers known (terms_view ts))) (is_some (answer known (term_view x)))
           (λ rest. both_ends (answer known (term_view x)) (answers known (terms_view rest)))
-          c.loop-term.waits c.waits.result _ h.ends (c.waits.ensures (answer known (term_view x)) c.in_ok-asking.ensures.part);
+          c.loop-term.waits c.waits.result _ _ h.ends (c.waits.ensures (answer known (term_view x)) c.in_ok-asking.ensures.part) c.either-waits.ensures;
     }
 
 pub ask_all-returns : goal.ask_all-returns

@@ -21,7 +21,7 @@ loop-id-preserved c =
           c.loop-id.loads _ _ h.loads (c.in_ok-loads.ensures ∙ ap (λ n. c.loop-id.loads + n) c.in_ok-asking.ensures.loads);
       ends = ends_next ids i x c.loop-id-test.true c.id-item.is (λ vs. is_some (target_answers known (item_targets table (items_view vs))))
           (is_some (target_answer known target)) (λ rest. both_ends (target_answer known target) (target_answers known (item_targets table (items_view rest))))
-          c.loop-id.waits c.waits.result _ h.ends (c.waits.ensures (target_answer known target) c.in_ok-asking.ensures.part);
+          c.loop-id.waits c.waits.result _ _ h.ends (c.waits.ensures (target_answer known target) c.in_ok-asking.ensures.part) c.either-waits.ensures;
     }
 
 pub returns : goal.returns
