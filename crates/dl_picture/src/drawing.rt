@@ -1,6 +1,8 @@
 //! Drawings: elements of SVG from top to bottom, in rows of columns.
 
 use crate::column::{COLUMN_WIDTH, Column, push_column};
+use crate::head::push_mark;
+use crate::mark::{MARKS, Mark};
 use crate::phrase::Phrase;
 use crate::sheet::Sheet;
 use crate::style::STYLE;
@@ -30,8 +32,11 @@ pub(crate) struct Drawing {
     pub(crate) sheet: Sheet,
     pub(crate) height: u64,
     pub(crate) tiles: u64,
+    /// The height at which the head says what the marks mean.
+    pub(crate) legend: u64,
     columns: u64,
     tallest: u64,
+    occurring: Vec<Mark>,
 }
 
 impl Drawing {
@@ -41,8 +46,10 @@ impl Drawing {
             sheet: Sheet::new(alloc),
             height: MARGIN,
             tiles: 0,
+            legend: 0,
             columns: 0,
             tallest: 0,
+            occurring: Vec::new(alloc),
         }
     }
 
@@ -76,6 +83,40 @@ impl Drawing {
         self.columns = self.columns.saturating_add(1);
         self.tallest = self.tallest.max(height);
         push_column(&mut self.sheet, x, y, height, column);
+        self.note_marks(column);
+    }
+
+    /// Notes which marks occur in a column.
+    fn note_marks(&mut self, column: &Column<'_>) {
+        for place in 0..column.lines.count() {
+            if let Some(line) = column.lines.line(place) {
+                self.note_mark(line.badges.mark);
+                if let Some(mark) = line.badges.cell {
+                    self.note_mark(mark);
+                }
+            }
+        }
+    }
+
+    /// Notes that a mark occurs.
+    fn note_mark(&mut self, mark: Mark) {
+        if !self.occurring.contains(&mark) {
+            if self.occurring.push(mark).is_err() {
+                self.sheet.note(Err(AllocError));
+            }
+        }
+    }
+
+    /// What the marks mean that occur, in their order.
+    fn legend_sheet(&self) -> Sheet {
+        let mut sheet = Sheet::new(self.sheet.alloc);
+        let mut x = MARGIN;
+        for mark in &MARKS {
+            if self.occurring.contains(mark) {
+                x = push_mark(&mut sheet, x, self.legend, *mark);
+            }
+        }
+        sheet
     }
 
     /// Ends the open row, if there is one.
@@ -94,13 +135,14 @@ impl Drawing {
         self.end_row();
         let height = self.height.saturating_add(MARGIN);
         let mut document = Sheet::new(self.sheet.alloc);
-        push_document(&mut document, height, &self.sheet);
+        let legend = self.legend_sheet();
+        push_document(&mut document, height, &legend, &self.sheet);
         document.finish()
     }
 }
 
-/// Appends a document of these elements, which have this height together.
-fn push_document(sheet: &mut Sheet, height: u64, elements: &Sheet) {
+/// Appends a document of a legend and these elements, which have this height together.
+fn push_document(sheet: &mut Sheet, height: u64, legend: &Sheet, elements: &Sheet) {
     sheet.push_form(
         "<svg xmlns='http://www.w3.org/2000/svg' width='#' height='#' viewBox='0 0 # #'>\n",
         &[WIDTH, height, WIDTH, height],
@@ -110,6 +152,7 @@ fn push_document(sheet: &mut Sheet, height: u64, elements: &Sheet) {
         "<rect class='ground' width='#' height='#'/>\n",
         &[WIDTH, height],
     );
+    sheet.push_sheet(legend);
     sheet.push_sheet(elements);
     sheet.push("</svg>\n");
 }

@@ -1,9 +1,9 @@
 //! Lanes of a history: the calls of its plans, its batches, and its workers, each as columns.
 
-use crate::cells::replies_of;
+use crate::cells::{Fate, replies_of, why_failed};
 use crate::column::Column;
 use crate::drawing::Drawing;
-use crate::lines::{Ended, Lines};
+use crate::lines::{Ended, Lines, MOST_BATCHES};
 use crate::mark::Mark;
 use crate::phrase::Phrase;
 use dl_desk::FetchKey;
@@ -20,32 +20,48 @@ fn event_of(events: &Events, entry: EntryKind) -> Option<&Event> {
 
 // ---- plans
 
-/// The calls of a plan, by its entries: its rounds, and its primes and clears. The marks are those of the history's cells.
+/// The calls of a plan: its rounds, which load for these parts, and its primes and clears. The fates are those of the
+/// history's cells.
 pub(crate) fn add_calls(
     drawing: &mut Drawing,
-    events: &Events,
-    entries: &[EntryKind],
-    cells: &[Mark],
+    history: &History,
+    plan: u32,
+    cells: &[Fate],
+    parts: &[String],
 ) {
-    let mut rounds: u64 = 0;
-    for entry in entries {
-        if let Some(event) = event_of(events, *entry) {
+    let mut rounds: usize = 0;
+    for entry in history.entries(plan) {
+        if let Some(event) = event_of(history.events(), *entry) {
+            let mut part = None;
             if let Call::LoadMany(_) = &event.call {
+                part = parts.get(rounds);
                 rounds = rounds.saturating_add(1);
             }
-            add_call(drawing, cells, event, rounds);
+            add_call(drawing, cells, event, rounds as u64, part);
         }
     }
 }
 
-/// The column of a call: that of round `round` if it loads, and none if it is a dispatch or ends a batch.
-fn add_call(drawing: &mut Drawing, cells: &[Mark], event: &Event, round: u64) {
+/// The column of a call: that of round `round` if it loads, and none if it is a dispatch or ends a batch. `part` is what
+/// it loads for.
+fn add_call(
+    drawing: &mut Drawing,
+    cells: &[Fate],
+    event: &Event,
+    round: u64,
+    part: Option<&String>,
+) {
     if let Some(heading) = call_name(&event.call, round) {
         let lines = call_lines(cells, keys_of(&event.call), &event.reply);
         let side = Phrase::count(lines.count(), " key", " keys");
+        let note = match part {
+            Some(part) => Some(part.as_str()),
+            None => None,
+        };
         drawing.add_column(&Column {
             heading,
             side,
+            note,
             lines,
         });
     }
@@ -64,7 +80,7 @@ fn call_name(call: &Call, round: u64) -> Option<Phrase> {
 }
 
 /// A line for each key of a call.
-fn call_lines<'a>(cells: &'a [Mark], keys: &'a [FetchKey], reply: &'a Reply) -> Lines<'a> {
+fn call_lines<'a>(cells: &'a [Fate], keys: &'a [FetchKey], reply: &'a Reply) -> Lines<'a> {
     let mark = match reply {
         Reply::Loaded(_) | Reply::Many(_) => {
             let replies = replies_of(reply);
@@ -92,8 +108,38 @@ pub(crate) fn keys_of(call: &Call) -> &[FetchKey] {
 
 // ---- batches and workers
 
-/// The batches of a history, in the order in which they ended. The first callers are `plans` plans.
+/// The batches of a history, in the order in which they ended, or how many of them ended in which way if they are many.
+/// The first callers are `plans` plans.
 pub(crate) fn add_batches(drawing: &mut Drawing, history: &History, plans: u32) {
+    let mut ended = Vec::new(drawing.sheet.alloc);
+    let pushed = push_all_ended(&mut ended, history.events());
+    drawing.sheet.note(pushed);
+    if ended.len() > MOST_BATCHES {
+        drawing.add_column(&Column {
+            heading: Phrase::Words("all batches"),
+            side: Phrase::count(ended.len(), " batch", " batches"),
+            note: None,
+            lines: Lines::Ended(ended.as_slice()),
+        });
+    } else {
+        add_each_batch(drawing, history, plans);
+    }
+}
+
+/// The batches that events end. Fails if memory runs out.
+fn push_all_ended(ended: &mut Vec<Ended>, events: &Events) -> Result<(), AllocError> {
+    for at in 0..events.len() {
+        if let Some(event) = events.get(at) {
+            if let Some(batch) = ended_by(&event.call) {
+                ended.push(batch)?;
+            }
+        }
+    }
+    Ok(())
+}
+
+/// A column for each batch of a history.
+fn add_each_batch(drawing: &mut Drawing, history: &History, plans: u32) {
     let (events, batches) = (history.events(), history.batches());
     for at in 0..events.len() {
         if let Some(event) = events.get(at) {
@@ -120,16 +166,21 @@ pub(crate) fn ended_by(call: &Call) -> Option<Ended> {
 /// The column of a batch with these keys. To the right of its name is who ended it.
 fn end_column<'a>(ended: Ended, side: Phrase, call: &'a Call, keys: &'a [FetchKey]) -> Column<'a> {
     let mark = ended.mark;
-    let (state, lines) = match call {
+    let (state, note, lines) = match call {
         Call::Settle { outcomes, .. } => {
             let outcomes = outcomes.as_slice();
-            (" settled", Lines::Settled { keys, outcomes })
+            (" settled", None, Lines::Settled { keys, outcomes })
         }
-        _ => (" failed", Lines::Keys { keys, mark }),
+        Call::Fail { fault, .. } => {
+            let why = Some(why_failed(fault));
+            (" failed", why, Lines::Keys { keys, mark })
+        }
+        _ => ("", None, Lines::Keys { keys, mark }),
     };
     Column {
         heading: Phrase::Numbered("batch ", ended.batch as u64, state),
         side,
+        note,
         lines,
     }
 }
@@ -178,6 +229,7 @@ fn add_worker(drawing: &mut Drawing, events: &Events, entries: &[EntryKind], hea
         drawing.add_column(&Column {
             heading,
             side,
+            note: None,
             lines,
         });
     }

@@ -24,6 +24,7 @@ mod lines;
 mod loads;
 mod mark;
 mod numbers;
+mod parts;
 mod phrase;
 mod script;
 mod sheet;

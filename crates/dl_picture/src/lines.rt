@@ -1,10 +1,17 @@
 //! Lines of columns: what became of each key of a call or of a batch.
 
-use crate::mark::Mark;
+use crate::cells::{Fate, why_of};
+use crate::mark::{Badges, Mark};
 use crate::phrase::Phrase;
 use crate::sheet::Sheet;
 use dl_desk::{FetchKey, LoadReply, Outcome};
 use std::alloc::{AllocError, Global};
+
+/// A column with more lines of keys than this shows counts in their place.
+const MOST_KEYS: usize = 200;
+
+/// The same for lines of batches. With more batches than this there is one column for all of them.
+pub(crate) const MOST_BATCHES: usize = 60;
 
 /// What a line says next to its mark.
 #[derive(Clone, Copy)]
@@ -31,12 +38,14 @@ impl Label<'_> {
     }
 }
 
-/// A line of a column: a mark, what it is for, and the batch that a fresh load's key went into.
+/// A line of a column: its marks, what they are for, the batch that a fresh load's key went into, and the text of an
+/// error.
 #[derive(Clone, Copy)]
 pub(crate) struct Line<'a> {
-    pub(crate) mark: Mark,
+    pub(crate) badges: Badges,
     pub(crate) label: Label<'a>,
     pub(crate) batch: Option<u32>,
+    pub(crate) why: Option<&'a str>,
 }
 
 /// A batch that ended, and the mark of its end.
@@ -50,9 +59,9 @@ pub(crate) struct Ended {
 /// then be part of each proof about them.
 #[derive(Clone, Copy)]
 pub(crate) enum Lines<'a> {
-    /// A line for each load, by its key and its reply, and by the marks of the cells if they are known.
+    /// A line for each load, by its key and its reply, and by what became of the cells if that is known.
     Loads {
-        cells: &'a [Mark],
+        cells: &'a [Fate],
         keys: &'a [FetchKey],
         replies: &'a [LoadReply],
     },
@@ -74,40 +83,62 @@ pub(crate) enum Lines<'a> {
 
 impl<'a> Line<'a> {
     /// A line of the program's own words.
-    pub(crate) fn of_words(words: Phrase, mark: Mark) -> Line<'a> {
+    pub(crate) fn of_words(words: Phrase, badges: Badges) -> Line<'a> {
         Line {
-            mark,
+            badges,
             label: Label::Words(words),
             batch: None,
+            why: None,
         }
     }
 
-    /// The line of a key, if there is one.
-    fn of_key(key: Option<&'a FetchKey>, mark: Mark, batch: Option<u32>) -> Option<Line<'a>> {
-        let label = Label::Key(key?);
-        Some(Line { mark, label, batch })
-    }
-
-    /// The line of a load, if there is one.
-    fn of_load(
-        cells: &[Mark],
-        key: Option<&'a FetchKey>,
-        reply: Option<&LoadReply>,
-    ) -> Option<Line<'a>> {
-        match reply? {
-            LoadReply::Fresh { cell, batch } => {
-                let mark = Mark::of_load(cells, *cell, Mark::Fresh);
-                Line::of_key(key, mark, Some(*batch))
-            }
-            LoadReply::Hit(cell) => Line::of_key(key, Mark::of_load(cells, *cell, Mark::Hit), None),
+    /// The line of a key.
+    fn of_key(key: &'a FetchKey, mark: Mark) -> Line<'a> {
+        Line {
+            badges: Badges::of(mark),
+            label: Label::Key(key),
+            batch: None,
+            why: None,
         }
     }
 
-    /// The line of an ended batch, if there is one.
-    fn of_end(ended: Option<&Ended>) -> Option<Line<'a>> {
-        let Ended { batch, mark } = ended?;
-        let words = Phrase::Numbered("batch ", *batch as u64, "");
-        Some(Line::of_words(words, *mark))
+    /// The line of a load, by what became of its cell if that is known.
+    fn of_load(cells: &'a [Fate], key: &'a FetchKey, reply: LoadReply) -> Line<'a> {
+        let (mark, cell, batch) = match reply {
+            LoadReply::Fresh { cell, batch } => (Mark::Fresh, cell, Some(batch)),
+            LoadReply::Hit(cell) => (Mark::Hit, cell, None),
+        };
+        let fate = cells.get(cell as usize);
+        Line {
+            badges: Badges {
+                mark,
+                cell: fate.and_then(|fate| fate.mark()),
+            },
+            label: Label::Key(key),
+            batch,
+            why: fate.and_then(|fate| fate.why()),
+        }
+    }
+
+    /// The line of a key in a settled batch, by its outcome.
+    fn of_settled(key: &'a FetchKey, outcome: &'a Outcome) -> Line<'a> {
+        let mark = match outcome {
+            Outcome::Value(_) => Mark::Fresh,
+            Outcome::KeyError(_) => Mark::KeyError,
+            Outcome::BatchFailed(_) => Mark::Failed,
+        };
+        Line {
+            badges: Badges::of(mark),
+            label: Label::Key(key),
+            batch: None,
+            why: why_of(outcome),
+        }
+    }
+
+    /// The line of an ended batch.
+    fn of_end(ended: &Ended) -> Line<'a> {
+        let words = Phrase::Numbered("batch ", ended.batch as u64, "");
+        Line::of_words(words, Badges::of(ended.mark))
     }
 }
 
@@ -123,6 +154,22 @@ impl<'a> Lines<'a> {
         }
     }
 
+    /// Whether they are too many to draw each of them.
+    pub(crate) fn are_many(self) -> bool {
+        match self {
+            Lines::Ended(batches) => batches.len() > MOST_BATCHES,
+            _ => self.count() > MOST_KEYS,
+        }
+    }
+
+    /// The words for this many of them.
+    pub(crate) fn counted(self, count: usize) -> Phrase {
+        match self {
+            Lines::Ended(_) => Phrase::count(count, " batch", " batches"),
+            _ => Phrase::count(count, " key", " keys"),
+        }
+    }
+
     /// The line in a place, if there is one.
     pub(crate) fn line(self, place: usize) -> Option<Line<'a>> {
         match self {
@@ -130,23 +177,35 @@ impl<'a> Lines<'a> {
                 cells,
                 keys,
                 replies,
-            } => Line::of_load(cells, keys.get(place), replies.get(place)),
-            Lines::Keys { keys, mark } => Line::of_key(keys.get(place), mark, None),
-            Lines::Settled { keys, outcomes } => {
-                let mark = Mark::of_cell(Mark::Fresh, outcomes.get(place));
-                Line::of_key(keys.get(place), mark, None)
-            }
-            Lines::Ended(batches) => Line::of_end(batches.get(place)),
-            Lines::Refused(name) => Some(Line::of_words(Phrase::Words(name), Mark::Refused)),
+            } => match (keys.get(place), replies.get(place)) {
+                (Some(key), Some(reply)) => Some(Line::of_load(cells, key, *reply)),
+                _ => None,
+            },
+            Lines::Keys { keys, mark } => match keys.get(place) {
+                Some(key) => Some(Line::of_key(key, mark)),
+                None => None,
+            },
+            Lines::Settled { keys, outcomes } => match (keys.get(place), outcomes.get(place)) {
+                (Some(key), Some(outcome)) => Some(Line::of_settled(key, outcome)),
+                _ => None,
+            },
+            Lines::Ended(batches) => match batches.get(place) {
+                Some(ended) => Some(Line::of_end(ended)),
+                None => None,
+            },
+            Lines::Refused(name) => Some(Line::of_words(
+                Phrase::Words(name),
+                Badges::of(Mark::Refused),
+            )),
         }
     }
 
-    /// How many lines have a mark.
-    pub(crate) fn marked(self, mark: Mark) -> usize {
+    /// How many lines have these marks.
+    pub(crate) fn marked(self, badges: Badges) -> usize {
         let mut count: usize = 0;
         for place in 0..self.count() {
             if let Some(line) = self.line(place) {
-                if line.mark == mark {
+                if line.badges == badges {
                     count = count.saturating_add(1);
                 }
             }

@@ -57,6 +57,7 @@ fn add_calls(drawing: &mut Drawing, calls: &[DeskCall], answers: &[Result<Reply,
                 drawing.add_column(&Column {
                     heading: Phrase::Named(number as u64, name_of(call)),
                     side: side_of(call, answer),
+                    note: None,
                     lines: call_lines(call, answer),
                 });
             }
@@ -167,6 +168,7 @@ fn batch_column<'a>(number: u32, batch: &BatchView<'a>) -> Column<'a> {
     Column {
         heading: Phrase::Numbered("batch ", number as u64, state),
         side: Phrase::count(keys.len(), " key", " keys"),
+        note: None,
         lines: Lines::Keys { keys, mark },
     }
 }
