@@ -34,7 +34,7 @@ impl From<AllocError> for StartFault {
 }
 
 /// Why a loader rejects a call: the first of these causes that applies. A rejected call leaves the loader, its history
-/// and the pass as they were.
+/// and the pass as they were, except that after `Stopped` the pass knows that the loader is stopped.
 #[derive(Clone, Copy, Debug, PartialEq, Eq, Error)]
 pub enum CallFault {
     /// Somebody has stopped the loader.

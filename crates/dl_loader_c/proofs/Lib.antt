@@ -4,3 +4,4 @@ pub mod Cuts
 pub mod Rows
 pub mod Tickets
 pub mod Told
+pub mod JobNow

@@ -3,22 +3,20 @@ use Rattle.std.specs.Prelude.{◌≡◌, ℕ, ◌<◌, ◌⊎◌, List, None, So
 use Rattle.dl_values.specs.declared.job.Job.{Job}
 use Rattle.dl_values.specs.declared.outcome.BatchFault.TheVariants.{Unsent}
 use Rattle.dl_desk.specs.BatchBook.{StandsFor}
-use Rattle.dl_desk.specs.History.{Atom, begun, members, jobs_from}
+use Rattle.dl_desk.specs.History.{Atom, begun, members, job, jobs_from}
 use Rattle.dl_desk.specs.Events.{atoms}
 use Rattle.dl_desk.specs.Service.{Service}
 use Rattle.dl_desk.specs.declared.event.Call.{Call}
 use Rattle.dl_desk.specs.declared.event.Call.TheVariants.{Dispatch, Settle, Fail}
 use Rattle.dl_desk.specs.declared.event.Reply.TheVariants.{Done, Sent}
 use Rattle.dl_history.specs.History.{past}
-use Rattle.dl_history.specs.declared.fault.CallFault.{CallFault}
-use Rattle.dl_loader.specs.SerialLoader.{Serial, IsRefused}
+use Rattle.dl_loader.specs.SerialLoader.{Serial}
 use Rattle.dl_loader_c.specs.declared.codes.TheConstants.{DONE, HIT, NO_BATCH, OUT_OF_MEMORY}
 use Rattle.dl_loader_c.specs.declared.answers.Loaded.{Loaded}
 use Rattle.dl_loader_c.specs.declared.answers.Dispatched.{Dispatched}
 use Rattle.dl_loader_c.specs.declared.key_texts.KeyTexts.{KeyTexts}
 use Rattle.dl_loader_c.specs.Answers.{member_as, refused_as, sent_as, none_sent}
-use Rattle.dl_loader_c.specs.Calls.{IsCallFault, IsNoCaller, Makes}
-use Rattle.dl_loader_c.specs.Codes.{call_code}
+use Rattle.dl_loader_c.specs.Calls.{IsCallFault, Makes}
 use Rattle.dl_loader_c.specs.HostSource.{mark}
 use Rattle.dl_loader_c.specs.Keys.{Spells}
 
@@ -35,16 +33,18 @@ settled job = Settle job.batch (map (λ key. mark) job.keys)
 abbrev pub failed : Job → Call
 failed job = Fail job.batch Unsent
 
--- Why a batch isn't ended: there is no such caller, memory is short for its job, or the call with the job is refused.
-abbrev pub IsEndFault : Service → ℕ → ℕ → (Job → Call) → Serial → ℕ → Type 0
-IsEndFault service caller batch call s code = IsNoCaller caller s code ⊎ ((code ≡ OUT_OF_MEMORY)
-    ⊎ ((job : Job) × (job.batch ≡ batch)
-    × ((fault : CallFault) × (code ≡ call_code fault) × IsRefused service caller (call job) (Some job) s fault)))
+-- the job of a batch, by what the history has so far
+abbrev pub job_now : ℕ → Serial → Job
+job_now batch s = job (atoms (past s.book.history)) batch
 
--- the answer to an end of a batch, by a call
+-- why a batch isn't ended: memory is short for its job, or the call with the job isn't made
+abbrev pub IsEndFault : Service → ℕ → Call → Job → Serial → ℕ → Type 0
+IsEndFault service caller call job s code = (code ≡ OUT_OF_MEMORY) ⊎ IsCallFault service caller call (Some job) s code
+
+-- the answer to an end of a batch, by a call with its job
 pub record AnswersEnd (service : Service) (caller batch : ℕ) (call : Job → Call) (code : ℕ) (old new : Serial) : Type 0 where
-  pub made : code ≡ DONE → (job : Job) × (job.batch ≡ batch) × Makes service caller (call job) Done old new
-  pub refused : DONE < code → (new ≡ old) × IsEndFault service caller batch call old code
+  pub made : code ≡ DONE → Makes service caller (call (job_now batch old)) Done old new
+  pub refused : DONE < code → (new ≡ old) × IsEndFault service caller (call (job_now batch old)) (job_now batch old) old code
 
 -- the answer to a look-up of a batch's member by its index
 abbrev pub member_answer : List Atom → ℕ → ℕ → Loaded

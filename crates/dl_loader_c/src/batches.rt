@@ -2,7 +2,7 @@
 
 ghost use Rattle.std.specs.Prelude.{◌≡◌, IfOk};
 ghost use Rattle.dl_loader_c.specs.Answers.{none_sent, refused_as};
-ghost use Rattle.dl_loader_c.specs.Batches.{AnswersDispatch, AnswersEnd, AnswersMember, failed, settled};
+ghost use Rattle.dl_loader_c.specs.Batches.{AnswersDispatch, AnswersEnd, AnswersMember, failed, job_now, settled};
 ghost use Rattle.dl_loader_c.specs.Contents.{OnLoader};
 ghost use Rattle.dl_loader_c.specs.Handles.{OnClosed, OnOpen, Stays};
 ghost use Rattle.dl_loader_c.specs.HostSource.{by_marks};
@@ -257,17 +257,19 @@ fn fail_batch<L: LoaderName>(
 }
 
 /// The job of a batch, which has no keys if there is no such batch. Fails if memory runs out.
+#[tactic(auto, using(crate::proofs::JobNow::no_keys, crate::proofs::JobNow::all_keys))]
 fn job_of<L: LoaderName>(
     alloc: Global,
     loader: &SerialLoader<L>,
     batch: u32,
 ) -> Result<Job, AllocError>
-    ensures { IfOk result (λ job. job.batch ≡ batch) }
+    ensures { IfOk result (λ job. job ≡ job_now batch loader.now) }
 {
-    let keys = match loader.batch(batch) {
-        Some(view) => view.keys(),
-        None => &[],
+    loader.keeps();
+    let Some(view) = loader.batch(batch) else {
+        let keys = Keys::copy_of(alloc, &[])?;
+        return Ok(Job { batch, keys });
     };
-    let keys = Keys::copy_of(alloc, keys)?;
+    let keys = Keys::copy_of(alloc, view.keys())?;
     Ok(Job { batch, keys })
 }
