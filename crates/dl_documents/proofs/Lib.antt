@@ -5,6 +5,7 @@ pub mod TreeData
 pub mod TokenReading
 pub mod PutLaws
 pub mod TopMembers
+pub mod OverDatabase
 pub mod Findings
 pub mod KeyLaws
 pub mod CallLaws

@@ -3,7 +3,7 @@ use Rattle.std.proofs.Common.{◌≡◌, ◌⊎◌, inl, inr, ℕ, ◌≤◌, Li
 use Rattle.std.proofs.lemmas.Option.{same_Some}
 use Rattle.serde_json.specs.Data.{Data}
 use Rattle.dl_documents.specs.Document.{IsTextOf, Spells}
-use Rattle.dl_documents.specs.Faults.{Causes, CausesIn, Applies, IsLeast, most_bytes}
+use Rattle.dl_documents.specs.Faults.{Causes, CausesIn, AppliesTo, IsLeast, most_bytes}
 use Rattle.dl_documents.specs.Inside.Results.{RefusedFor}
 use Rattle.dl_documents.specs.declared.fault.PlanFault.{PlanFault}
 use Rattle.dl_documents.specs.declared.fault.PlanFault.TheVariants.{TooLarge, NotJson, OutOfMemory}
@@ -15,34 +15,35 @@ use Rattle.dl_documents.proofs.PlanSpelling.{plans_pass}
 one_tree : (bytes : List ℕ) (d e : Data) → IsTextOf bytes d → IsTextOf bytes e → d ≡ e
 one_tree bytes d e a b = same_Some d e (sym a.read ∙ b.read)
 
--- a cause in the tree applies to its bytes
-applies : (bytes : List ℕ) (d : Data) (f : PlanFault) → IsTextOf bytes d → Causes d f → Applies bytes f
-applies bytes d TooLarge text h = absurd h
-applies bytes d NotJson text h = absurd h
-applies bytes d OutOfMemory text h = absurd h
-applies bytes d f text h = record { tree = d; text = text; cause = h }
+module _ (reading : Data → Data) (bytes : List ℕ) (d : Data) where
+  -- a cause in the tree applies to its bytes
+  applies : (f : PlanFault) → IsTextOf bytes d → Causes (reading d) f → AppliesTo reading bytes f
+  applies TooLarge text h = absurd h
+  applies NotJson text h = absurd h
+  applies OutOfMemory text h = absurd h
+  applies f text h = record { tree = d; text = text; cause = h }
 
-cause : (bytes : List ℕ) (d : Data) (f : PlanFault) → IsTextOf bytes d → CausesIn bytes f → Causes d f
-cause bytes d f text h = rw (one_tree bytes d h.tree text h.text) h.cause
+  cause : (f : PlanFault) → IsTextOf bytes d → CausesIn reading bytes f → Causes (reading d) f
+  cause f text h = rw (one_tree bytes d h.tree text h.text) h.cause
 
--- what applies to the bytes of a tree that aren't too many is a cause in the tree
-cause_of : (bytes : List ℕ) (d : Data) (f : PlanFault) → length bytes ≤ most_bytes → IsTextOf bytes d → Applies bytes f → Causes d f
-cause_of bytes d TooLarge few text h = omega arith
-cause_of bytes d NotJson few text h = h d text
-cause_of bytes d OutOfMemory few text h = h
-cause_of bytes d f few text h = cause bytes d f text h
+  -- what applies to the bytes of a tree that aren't too many is a cause in the tree
+  cause_of : (f : PlanFault) → length bytes ≤ most_bytes → IsTextOf bytes d → AppliesTo reading bytes f → Causes (reading d) f
+  cause_of TooLarge few text h = omega arith
+  cause_of NotJson few text h = h d text
+  cause_of OutOfMemory few text h = h
+  cause_of f few text h = cause f text h
 
--- the first refusal of the tree is that of the bytes
-least_in : (bytes : List ℕ) (d : Data) (f : PlanFault) → length bytes ≤ most_bytes → IsTextOf bytes d → IsLeast (Causes d) f → IsLeast (Applies bytes) f
-least_in bytes d f few text least = record {
-  applies = applies bytes d f text least.applies;
-  first = λ g h before. least.first g (cause_of bytes d g few text h) before;
-}
+  -- the first refusal of the tree is that of the bytes
+  pub least_in : (f : PlanFault) → length bytes ≤ most_bytes → IsTextOf bytes d → IsLeast (Causes (reading d)) f → IsLeast (AppliesTo reading bytes) f
+  least_in f few text least = record {
+    applies = applies f text least.applies;
+    first = λ g h before. least.first g (cause_of g few text h) before;
+  }
 
-pub refused_in : (bytes : List ℕ) (d : Data) (f : PlanFault) → length bytes ≤ most_bytes → IsTextOf bytes d → RefusedFor d f
-    → (f ≡ OutOfMemory) ⊎ IsLeast (Applies bytes) f
-refused_in bytes d f few text (inl memory) = inl memory
-refused_in bytes d f few text (inr least) = inr (least_in bytes d f few text least)
+  pub refused_in : (f : PlanFault) → length bytes ≤ most_bytes → IsTextOf bytes d → RefusedFor (reading d) f
+      → (f ≡ OutOfMemory) ⊎ IsLeast (AppliesTo reading bytes) f
+  refused_in f few text (inl memory) = inl memory
+  refused_in f few text (inr least) = inr (least_in f few text least)
 
 -- ---- nothing is refused that was read
 
@@ -51,5 +52,6 @@ tree_passes d (input.Script s) spells f h = script_passes d s spells f h
 tree_passes d (input.Plans file) spells f h = plans_pass d file spells f h
 
 -- nothing applies to the bytes, not too many, of what was read
-pub passes : (bytes : List ℕ) (d : Data) (i : Input) → length bytes ≤ most_bytes → IsTextOf bytes d → Spells d i → (f : PlanFault) → Applies bytes f → ⊥
-passes bytes d i few text spells f h = tree_passes d i spells f (cause_of bytes d f few text h)
+pub passes : (reading : Data → Data) (bytes : List ℕ) (d : Data) (i : Input) → length bytes ≤ most_bytes → IsTextOf bytes d → Spells (reading d) i
+    → (f : PlanFault) → AppliesTo reading bytes f → ⊥
+passes reading bytes d i few text spells f h = tree_passes (reading d) i spells f (cause_of reading bytes d f few text h)

@@ -152,29 +152,33 @@ Causes d (Table f) = IsBadTable d f
 Causes d (Limit l) = IsBadNumber d l
 Causes d OutOfMemory = ⊥
 
--- a cause in the tree whose text the bytes are
-pub record CausesIn (bytes : List ℕ) (f : PlanFault) : Type 0 where
+-- a cause in what is read in place of the tree whose text the bytes are
+pub record CausesIn (reading : Data → Data) (bytes : List ℕ) (f : PlanFault) : Type 0 where
   pub tree : Data
   pub text : IsTextOf bytes tree
-  pub cause : Causes tree f
+  pub cause : Causes (reading tree) f
 
 -- the most bytes of a document
 abbrev pub most_bytes : ℕ
 most_bytes = 1048576
 
--- the refusal has a cause in the bytes
+-- the refusal has a cause in the bytes, if their tree is read so
+abbrev pub AppliesTo : (Data → Data) → List ℕ → PlanFault → Type 0
+AppliesTo reading bytes TooLarge = most_bytes < length bytes
+AppliesTo reading bytes NotJson = (d : Data) → IsTextOf bytes d → ⊥
+AppliesTo reading bytes fault.Version = CausesIn reading bytes fault.Version
+AppliesTo reading bytes Top = CausesIn reading bytes Top
+AppliesTo reading bytes (BadCall n) = CausesIn reading bytes (BadCall n)
+AppliesTo reading bytes (Shape n s) = CausesIn reading bytes (Shape n s)
+AppliesTo reading bytes (TooDeep n s) = CausesIn reading bytes (TooDeep n s)
+AppliesTo reading bytes (TooManySteps n) = CausesIn reading bytes (TooManySteps n)
+AppliesTo reading bytes (Table f) = CausesIn reading bytes (Table f)
+AppliesTo reading bytes (Limit l) = CausesIn reading bytes (Limit l)
+AppliesTo reading bytes OutOfMemory = ⊥
+
+-- the same, if their tree is read as it is
 abbrev pub Applies : List ℕ → PlanFault → Type 0
-Applies bytes TooLarge = most_bytes < length bytes
-Applies bytes NotJson = (d : Data) → IsTextOf bytes d → ⊥
-Applies bytes fault.Version = CausesIn bytes fault.Version
-Applies bytes Top = CausesIn bytes Top
-Applies bytes (BadCall n) = CausesIn bytes (BadCall n)
-Applies bytes (Shape n s) = CausesIn bytes (Shape n s)
-Applies bytes (TooDeep n s) = CausesIn bytes (TooDeep n s)
-Applies bytes (TooManySteps n) = CausesIn bytes (TooManySteps n)
-Applies bytes (Table f) = CausesIn bytes (Table f)
-Applies bytes (Limit l) = CausesIn bytes (Limit l)
-Applies bytes OutOfMemory = ⊥
+Applies = AppliesTo (λ d. d)
 
 -- ---- the order of refusals
 

@@ -6,6 +6,7 @@ pub mod TableNumbers
 pub mod OwnLimits
 pub mod Tables
 pub mod Document
+pub mod OverDatabase
 pub mod Faults
 pub mod Numbers
 pub mod Reading

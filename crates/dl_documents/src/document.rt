@@ -4,7 +4,8 @@ ghost use Rattle.std.specs.Prelude.{◌≡◌, ◌⊎◌, ◌≤◌, length, IfO
 ghost use Rattle.serde_json.specs.Data.{Data};
 ghost use Rattle.serde_json.specs.View.{view};
 ghost use Rattle.dl_documents.specs.Document.{IsTextOf, Spells};
-ghost use Rattle.dl_documents.specs.Faults.{Applies, IsLeast, most_bytes};
+ghost use Rattle.dl_documents.specs.Faults.{Applies, AppliesTo, IsLeast, most_bytes};
+ghost use Rattle.dl_documents.specs.OverDatabase.{over_database, read_as};
 ghost use Rattle.dl_documents.specs.Inside.Results.{RefusedFor};
 ghost use Rattle.dl_documents.specs.Inside.Top.{top_data, IsApart};
 
@@ -13,7 +14,7 @@ use crate::head::{is_script, read_head};
 use crate::input::Input;
 use crate::plan_files::plan_file;
 use crate::scripts::script;
-use crate::top::{Top, read_top};
+use crate::top::{Top, read_as, read_top};
 use json::Scratch;
 use std::alloc::Global;
 use std::hash::RandomState;
@@ -42,9 +43,7 @@ pub fn read_input(alloc: Global, hashing: RandomState, bytes: &[u8]) -> Result<I
     ensures passes { OnOk result ((f : PlanFault) → Applies bytes.now f → ⊥) }
     ensures err { IfErr result (λ f. (f ≡ PlanFault.OutOfMemory) ⊎ IsLeast (Applies bytes.now) f) }
 {
-    let mut scratch = Scratch::new(alloc);
-    let top = top(alloc, bytes, &mut scratch)?;
-    input(alloc, hashing, top)
+    read(alloc, hashing, bytes, false)
 }
 
 /// Reads a document as [`read_input`] does, and gives you its tree too.
@@ -61,11 +60,56 @@ pub fn read_document(
     ensures err { IfErr result (λ f. (f ≡ PlanFault.OutOfMemory) ⊎ IsLeast (Applies bytes.now) f) }
 {
     let input = read_input(alloc, hashing, bytes)?;
+    let document = tree(alloc, bytes)?;
+    Ok((document, input))
+}
+
+/// Reads a document as [`read_document`] does, if a database answers too: a plan file of version 2 may then lack the
+/// member `tables`, and has no tables if it does. The tree that you get is that of the bytes all the same.
+///
+/// # Errors
+/// Those of [`read_input`] for that: `Top` never says that such a file lacks tables.
+pub fn read_over_database(
+    alloc: Global,
+    hashing: RandomState,
+    bytes: &[u8],
+) -> Result<(serde_json::Value, Input), PlanFault>
+    ensures ok { IfOk result (λ p. IsTextOf bytes.now (view p.0) × Spells (over_database (view p.0)) p.1) }
+    ensures passes { OnOk result ((f : PlanFault) → AppliesTo over_database bytes.now f → ⊥) }
+    ensures err { IfErr result (λ f. (f ≡ PlanFault.OutOfMemory) ⊎ IsLeast (AppliesTo over_database bytes.now) f) }
+{
+    let input = read(alloc, hashing, bytes, true)?;
+    let document = tree(alloc, bytes)?;
+    Ok((document, input))
+}
+
+/// The tree of a document that was read from these bytes. Fails if memory runs out.
+fn tree(alloc: Global, bytes: &[u8]) -> Result<serde_json::Value, PlanFault>
+    requires { (d : Data) × IsTextOf bytes.now d }
+    ensures ok { IfOk result (λ tree. IsTextOf bytes.now (view tree)) }
+    ensures err { IfErr result (λ f. f ≡ PlanFault.OutOfMemory) }
+{
     match serde_json::Value::from_slice(alloc, bytes) {
-        Ok(document) => Ok((document, input)),
+        Ok(tree) => Ok(tree),
         Err(error) if error.is_memory() => Err(PlanFault::OutOfMemory),
         Err(_) => Err(PlanFault::NotJson),
     }
+}
+
+/// Reads a document that a database answers too, or that none does.
+fn read(
+    alloc: Global,
+    hashing: RandomState,
+    bytes: &[u8],
+    has_database: bool,
+) -> Result<Input, PlanFault>
+    ensures ok { IfOk result (λ i. (d : Data) × IsTextOf bytes.now d × Spells (read_as has_database d) i) }
+    ensures passes { OnOk result ((f : PlanFault) → AppliesTo (read_as has_database) bytes.now f → ⊥) }
+    ensures err { IfErr result (λ f. (f ≡ PlanFault.OutOfMemory) ⊎ IsLeast (AppliesTo (read_as has_database) bytes.now) f) }
+{
+    let mut scratch = Scratch::new(alloc);
+    let top = top(alloc, bytes, &mut scratch)?;
+    input(alloc, hashing, read_as(alloc, top, has_database))
 }
 
 /// The top of the document in these bytes.
@@ -74,6 +118,7 @@ fn top<'a>(alloc: Global, bytes: &'a [u8], scratch: &'a mut Scratch) -> Result<T
     ensures apart { IfOk result IsApart }
     ensures few { OnOk result (length bytes.now ≤ most_bytes) }
     ensures err { IfErr result (λ f. (f ≡ PlanFault.OutOfMemory) ⊎ IsLeast (Applies bytes.now) f) }
+    ensures over { IfErr result (λ f. (f ≡ PlanFault.OutOfMemory) ⊎ IsLeast (AppliesTo over_database bytes.now) f) }
 {
     if bytes.len() > MOST_BYTES {
         return Err(PlanFault::TooLarge);

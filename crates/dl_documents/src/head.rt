@@ -5,7 +5,8 @@ ghost use Rattle.std.specs.List.{list_all};
 ghost use Rattle.dl_documents.specs.Document.{IsOfVersion, IsOfNoVersion, version_number, has_only_known, is_known, is_script_member, is_script};
 ghost use Rattle.dl_documents.specs.Faults.{Causes, IsLeast};
 ghost use Rattle.dl_documents.specs.Inside.Results.{HasHead};
-ghost use Rattle.dl_documents.specs.Inside.Top.{top_data};
+ghost use Rattle.dl_documents.specs.OverDatabase.{lacks_tables};
+ghost use Rattle.dl_documents.specs.Inside.Top.{top_data, IsApart};
 
 use crate::fault::PlanFault;
 use crate::limits::{self, Numbers};
@@ -55,6 +56,14 @@ pub(crate) fn is_script(top: &Top<'_>) -> bool
     ensures { result ≡ is_script (top_data top.now) }
 {
     member(top, "script").is_some()
+}
+
+/// Whether the document is a plan file of version 2 without the member `tables`.
+pub(crate) fn lacks_tables(top: &Top<'_>) -> bool
+    requires { IsApart top.now }
+    ensures { result ≡ lacks_tables (top_data top.now) }
+{
+    top.tables.is_none() && !is_script(top) && has_number(top, 2)
 }
 
 /// The version of a document, if it has one.

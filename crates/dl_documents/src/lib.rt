@@ -22,7 +22,7 @@ mod top;
 mod tree;
 
 pub use dl_terms::MOST_PLANS;
-pub use document::{MOST_BYTES, read_document, read_input};
+pub use document::{MOST_BYTES, read_document, read_input, read_over_database};
 pub use fault::PlanFault;
 pub use input::{Calls, Input, PlanFile, Script};
 pub use plan_files::{MOST_HEIGHT, MOST_STEPS};

@@ -5,10 +5,12 @@ ghost use Rattle.serde_json.specs.Data.{Data, put};
 ghost use Rattle.serde_json.specs.Read.{read, max_depth};
 ghost use Rattle.dl_documents.specs.Inside.Results.{IsUnread};
 ghost use Rattle.dl_documents.specs.Inside.Tokens.{first_value, first_members};
-ghost use Rattle.dl_documents.specs.Inside.Top.{top_members, IsApart, IsTopOf};
+ghost use Rattle.dl_documents.specs.OverDatabase.{read_as};
+ghost use Rattle.dl_documents.specs.Inside.Top.{top_data, top_members, IsApart, IsTopOf};
 ghost use Rattle.dl_documents.specs.Inside.Trees.{tree_data};
 
 use crate::fault::PlanFault;
+use crate::head::lacks_tables;
 use crate::owned_value::{begun_value, read_value};
 use crate::tree::has_fitting_numbers;
 use json::{Error, Reader, Scratch, Token, Value};
@@ -109,4 +111,20 @@ fn read_borrowed<'a>(alloc: Global, reader: &mut Reader<'a>) -> Result<Value<'a>
         Ok(_) | Err(Error::Invalid) => Err(PlanFault::NotJson),
         Err(_) => Err(PlanFault::OutOfMemory),
     }
+}
+
+/// The top that counts in place of a document's. With a database, a plan file of version 2 that lacks tables has none.
+pub(crate) fn read_as(alloc: Global, top: Top<'_>, has_database: bool) -> Top<'_>
+    requires { IsApart top }
+    ensures data { top_data result ≡ read_as has_database (top_data top.entry) }
+    ensures apart { IsApart result }
+{
+    if has_database && lacks_tables(&top) {
+        let Top { members, .. } = top;
+        return Top {
+            tables: Some(serde_json::Value::Array(Vec::new(alloc))),
+            members,
+        };
+    }
+    top
 }

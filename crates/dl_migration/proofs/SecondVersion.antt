@@ -110,7 +110,7 @@ reads_again bytes text d (Plans file) reads first is_text few =
       record {
         text = is_text;
         spelled = second;
-        passes = passes text (migrated d) (Plans (in_second_version file)) few is_text second;
+        passes = passes (λ e. e) text (migrated d) (Plans (in_second_version file)) few is_text second;
       },
     )
 

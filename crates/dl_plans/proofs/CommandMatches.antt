@@ -1,11 +1,14 @@
 -- What the matches of a command line give.
-use Rattle.std.proofs.Common.{◌≡◌, ℕ, Option, Some, None, option_map, refl, sym, ◌∙◌}
+use Rattle.std.proofs.Common.{◌≡◌, ℕ, true, List, Option, Some, None, option_map, String, refl, sym, subst, ◌∙◌}
+use Rattle.std.specs.Option.{IfSome}
+use Rattle.std.specs.declared.alloc.Global.{Global}
 use Rattle.clap.proofs.WalkLemmas.{one_text-rows}
 use Rattle.clap.specs.Matches.{one_text, subcommand_name_of}
 use Rattle.clap.specs.declared.parser.matches.ArgMatches.{ArgMatches}
 use Rattle.clap.specs.declared.parser.matches.Found.{Found}
-use Rattle.clap.specs.Words.{Text, rows_of, subcommand_rows_of}
-use Rattle.dl_plans.specs.Options.{GivesNumber, IsDecimal, name_of}
+use Rattle.clap.specs.Words.{App, HasMatchesOf, Row, Text, found_of, is_simple, matches_of, rows_of, subcommand_of, subcommand_rows_of}
+use Rattle.dl_plans.specs.Options.{AreGiven, GivesNumber, IsDecimal, name_of}
+use Rattle.dl_plans.specs.declared.settings.Options.{Options}
 
 some_none : (v : ℕ) → Some v ≡ None → ⊥
 some_none v h = cc
@@ -23,6 +26,16 @@ number_given f id v none value = number_at f id v (one_text f id) refl none valu
 mapped_twice : {A B C : Type 0} (g : B → C) (f : A → B) (o : Option A) → option_map g (option_map f o) ≡ option_map (λ x. g (f x)) o
 mapped_twice g f None = refl
 mapped_twice g f (Some x) = refl
+
+-- what the matches give, the words give, by a command line that is simple
+pub given_by_words : (built meant : App) (words : List Text) (m : ArgMatches) (given : Option (Options × Option (String Global))) → built ≡ meant
+    → is_simple meant ≡ true → HasMatchesOf built words m
+    → IfSome given (λ g. AreGiven (rows_of (found_of m)) (subcommand_rows_of m) g.0 g.1)
+    → IfSome given (λ g. AreGiven (matches_of meant words) (subcommand_of meant words) g.0 g.1)
+given_by_words built meant words m given is simple has are =
+    let of_words = subst (λ (a : App). HasMatchesOf a words m) is has simple in
+    subst (λ (used : Option (Text × List Row)). IfSome given (λ g. AreGiven (matches_of meant words) used g.0 g.1)) of_words.1
+    (subst (λ (rows : List Row). IfSome given (λ g. AreGiven rows (subcommand_rows_of m) g.0 g.1)) of_words.0 are)
 
 -- the subcommand that was used has its name
 pub name_used : (m : ArgMatches) → name_of (subcommand_rows_of m) ≡ subcommand_name_of m

@@ -1,6 +1,6 @@
 -- The tables that answer a plan file: what they find, and what they answer key by key.
-use Rattle.std.proofs.Common.{◌≡◌, ℕ, ◌+◌, ◌<◌, List, [], ◌∷◌, ◌++◌, Bool, true, false, cond, ◌||◌, not, Option, Some, None, Result, Ok, Err}
-use Rattle.std.proofs.Common.{ap, sym, subst, refl, ◌∙◌, take, drop, length, get_or, bytes_eq, map, true≢false, append_assoc, String}
+use Rattle.std.proofs.Common.{◌≡◌, ℕ, ◌+◌, ◌<◌, List, [], ◌∷◌, ◌++◌, Bool, true, false, cond, ◌||◌, Option, Some, None, Result, Ok, Err}
+use Rattle.std.proofs.Common.{ap, sym, subst, refl, ◌∙◌, take, drop, length, get_or, bytes_eq, true≢false, append_assoc, String}
 use Rattle.std.specs.HashSet.{HashSet, contains_text}
 use Rattle.std.specs.List.{list_any}
 use Rattle.std.specs.Map.{lookup}

@@ -1,3 +1,4 @@
+mod AskedKeys
 mod BatchTexts
 pub mod Bytes
 mod CommandMatches

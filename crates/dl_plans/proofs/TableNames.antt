@@ -1,22 +1,25 @@
 -- The names of a plan file's tables.
-use Rattle.std.proofs.Common.{◌≡◌, ℕ, ◌+◌, ◌<◌, List, [], ◌∷◌, Bool, true, false, cond, ◌||◌, Option, Some, None, option_and_then}
+use Rattle.std.proofs.Common.{◌≡◌, ℕ, ◌+◌, ◌<◌, List, [], ◌∷◌, Bool, true, false, not, cond, ◌&&◌, ◌||◌, Option, Some, None, option_and_then, if◌then◌else◌}
 use Rattle.std.proofs.Common.{ap, sym, refl, ◌∙◌, drop, length, get_or, bytes_eq, String, codes}
 use Rattle.std.specs.HashSet.{HashSet, contains_text}
 use Rattle.std.specs.List.{list_any}
-use Rattle.std.specs.Option.{IfSome, option_map_or}
+use Rattle.std.specs.Option.{IfSome, is_none, option_map_or}
 use Rattle.std.specs.declared.alloc.Global.{Global}
 use Rattle.std.proofs.lemmas.List.{drop_more}
-use Rattle.serde_json.specs.Data.{Data, Items, no_items, item, string, array}
+use Rattle.serde_json.proofs.Views.{get_member-put}
+use Rattle.serde_json.specs.Data.{Data, Items, no_items, item, string, array, object}
 use Rattle.serde_json.specs.Find.{get, as_str, as_array}
 use Rattle.serde_json.specs.View.{view, items_view}
 use Rattle.serde_json.specs.declared.value.Value.{Value}
 use Rattle.dl_values.specs.TableLimits.{lists}
 use Rattle.dl_values.proofs.Repeats.{bytes_eq-comm}
-use Rattle.dl_source.specs.NumberedTables.{NumberedTable, table_of, tables_of}
+use Rattle.dl_source.specs.NumberedTables.{NumberedTable, tables_of}
 use Rattle.dl_source.specs.Spelling.{SpellsEach, SpellsTable, SpellsNumberedTable, is_table_member}
 use Rattle.dl_source.specs.Tables.{Tables}
 use Rattle.dl_source.specs.declared.table_number.TableNumber.{TableNumber}
-use Rattle.dl_documents.specs.Document.{Spells, SpellsPlans}
+use Rattle.dl_documents.proofs.Findings.{both_true}
+use Rattle.dl_documents.specs.Document.{Spells, SpellsPlans, is_script}
+use Rattle.dl_documents.specs.OverDatabase.{is_second, lacks_tables, over_database, with_no_tables}
 use Rattle.dl_documents.specs.OwnLimits.{TableLimits, version_by}
 use Rattle.dl_documents.specs.Tables.{SpellsNumbers}
 use Rattle.dl_documents.specs.declared.input.Input.{Input}
@@ -60,11 +63,38 @@ named_file d f spelled name =
     ap (λ (m : Option Data). option_map_or (any_named name) (option_and_then as_array m) false) tables.member
     ∙ named_tables f.table_limits tables.tree f.tables tables.given tables.spelled name
 
+-- ---- a document without tables
+
+is_none_of : {A : Type 0} (o : Option A) → is_none o ≡ true → o ≡ None
+is_none_of None h = refl
+is_none_of (Some x) h = cc
+
+-- a document without the member lists none
+lists_nothing : (name : List ℕ) (d : Data) → get (codes "tables") d ≡ None → lists_table name d ≡ false
+lists_nothing name d e = ap (λ (m : Option Data). option_map_or (any_named name) (option_and_then as_array m) false) e
+
+-- nor does one to which an empty list is added
+lists_no_more : (name : List ℕ) (d : Data) → get (codes "tables") d ≡ None → lists_table name (with_no_tables d) ≡ lists_table name d
+lists_no_more name (object ms) e =
+    ap (λ (m : Option Data). option_map_or (any_named name) (option_and_then as_array m) false) (get_member-put (codes "tables") (array no_items) ms)
+    ∙ sym (lists_nothing name (object ms) e)
+lists_no_more name d e = refl
+
+lists_if : (name : List ℕ) (d : Data) (lacks : Bool) → lacks_tables d ≡ lacks
+    → lists_table name (if lacks then with_no_tables d else d) ≡ lists_table name d
+lists_if name d false h = refl
+lists_if name d true h =
+    lists_no_more name d (is_none_of (get (codes "tables") d) (both_true (is_none (get (codes "tables") d)) (not (is_script d) && is_second d) h).0)
+
+lists_as : (name : List ℕ) (d : Data) → lists_table name (over_database d) ≡ lists_table name d
+lists_as name d = lists_if name d (lacks_tables d) refl
+
 module _ {S : Type 0} (names : HashSet (String Global) S) where
   -- the names that a document lists are those of its tables
-  pub names_of_tables : (d : Data) (i : Input) → Spells d i → ((name : List ℕ) → contains_text names name ≡ lists_table name d) → HasNames i names
+  pub names_of_tables : (d : Data) (i : Input) → Spells (over_database d) i → ((name : List ℕ) → contains_text names name ≡ lists_table name d)
+      → HasNames i names
   names_of_tables d (input.Script s) spelled are = tt
-  names_of_tables d (input.Plans f) spelled are = λ name. are name ∙ named_file d f spelled name
+  names_of_tables d (input.Plans f) spelled are = λ name. are name ∙ sym (lists_as name d) ∙ named_file (over_database d) f spelled name
 
 -- ---- names that are added
 

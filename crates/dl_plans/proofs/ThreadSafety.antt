@@ -1,5 +1,4 @@
 -- What of the tables that answer may be shared by threads.
-use denote.RattleType.{RattleType}
 use denote.Ref.{NamedLft}
 use denote.Struct.Field.{shr_ref_field}
 use denote.Param.SendFields.{declared_sync, as_row_sync}

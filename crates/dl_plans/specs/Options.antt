@@ -25,6 +25,10 @@ workers_rule = record (new_rule (codes "workers")) {
 abbrev pub batches_rule : Rule
 batches_rule = record (new_rule (codes "batches")) { long = Some (codes "batches"); action = Some SetTrue }
 
+-- `--statistics`, a flag
+abbrev pub statistics_rule : Rule
+statistics_rule = record (new_rule (codes "statistics")) { long = Some (codes "statistics"); action = Some SetTrue }
+
 -- `--picture FILE`
 abbrev pub picture_rule : Rule
 picture_rule = record (new_rule (codes "picture")) { long = Some (codes "picture"); value_names = 1 }
@@ -47,7 +51,7 @@ migrate_app = new_app (codes "migrate")
 
 -- the options for answering a document that name no file
 abbrev pub answering_app : App
-answering_app = with_rule (with_rule (on_top without_name (new_app (codes "plans"))) workers_rule) batches_rule
+answering_app = with_rule (with_rule (with_rule (on_top without_name (new_app (codes "plans"))) workers_rule) batches_rule) statistics_rule
 
 -- the options for answering a document
 abbrev pub file_words_app : App
@@ -86,6 +90,8 @@ pub record AreGiven (rows : List Row) (used : Option (Text × List Row)) (o : Op
   pub most : o.workers ≤ most_workers
   pub batches : one_of (codes "batches") rows ≡ Some (codes "true") → o.batches ≡ true
   pub no_batches : one_of (codes "batches") rows ≡ Some (codes "false") → o.batches ≡ false
+  pub statistics : one_of (codes "statistics") rows ≡ Some (codes "true") → o.statistics ≡ true
+  pub no_statistics : one_of (codes "statistics") rows ≡ Some (codes "false") → o.statistics ≡ false
   pub picture : option_map string_bytes o.picture ≡ first_of (codes "picture") rows
   pub trace : option_map string_bytes o.trace ≡ first_of (codes "trace") rows
   pub database : option_map string_bytes file ≡ first_of (codes "database") rows

@@ -1,10 +1,11 @@
 -- What a run reads and writes, what serves its plans, what it gives, and how it fails.
-use Rattle.std.specs.Prelude.{◌≡◌, ℕ, ◌≤◌, List, length, take, Option}
+use Rattle.std.specs.Prelude.{◌≡◌, ℕ, ◌≤◌, List, length, take, Option, is_some}
 use Rattle.std.specs.Io.KnownBytes.{Appends, Consumes}
 use Rattle.serde_json.specs.Data.{Data}
 use Rattle.dl_values.specs.Answering.{by_function}
 use Rattle.dl_documents.specs.Document.{IsTextOf, Spells}
-use Rattle.dl_documents.specs.Faults.{Applies, IsLeast, most_bytes}
+use Rattle.dl_documents.specs.Faults.{AppliesTo, IsLeast, most_bytes}
+use Rattle.dl_documents.specs.OverDatabase.{read_as}
 use Rattle.dl_documents.specs.declared.input.Input.{Input}
 use Rattle.dl_documents.specs.declared.input.Input.TheVariants as input
 use Rattle.dl_documents.specs.declared.input.PlanFile.{PlanFile}
@@ -30,12 +31,16 @@ pub record ReadsAtMost (most : ℕ) (old new : Option (List ℕ)) : Type 0 where
   pub few : length lost ≤ most
   pub consumed : Consumes old new lost
 
+-- the tree that counts in place of a document's, by whether the options have a database
+abbrev pub read_by : Options → Data → Data
+read_by options = read_as (is_some options.database)
+
 -- the bytes are those of a document, which says this
-pub record IsDocument (bytes : List ℕ) (i : Input) : Type 0 where
+pub record IsDocument (options : Options) (bytes : List ℕ) (i : Input) : Type 0 where
   pub small : length bytes ≤ most_bytes
   pub tree : Data
   pub is_text : IsTextOf bytes tree
-  pub spells : Spells tree i
+  pub spells : Spells (read_by options tree) i
 
 -- ---- what serves the plans
 
@@ -82,7 +87,7 @@ Outputs options (input.Plans file) text = (r : Report) × Headline (file_service
 
 -- the text is what the bytes give: they are those of a document that gives it
 abbrev pub IsOutput : Options → List ℕ → List ℕ → Type 0
-IsOutput options bytes text = (i : Input) × IsDocument bytes i × Outputs options i text
+IsOutput options bytes text = (i : Input) × IsDocument options bytes i × Outputs options i text
 
 -- ---- refusals
 
@@ -90,8 +95,8 @@ IsOutput options bytes text = (i : Input) × IsDocument bytes i × Outputs optio
 -- aren't served, they are those of the document, and `serve` refuses them so; both versions are answered
 abbrev pub IsRefused : Options → List ℕ → RunError → Type 0
 IsRefused options bytes Read = Unit {0}
-IsRefused options bytes (Refused fault) = IsLeast (Applies bytes) fault
-IsRefused options bytes (Run fault) = (file : PlanFile) × IsDocument bytes (input.Plans file)
+IsRefused options bytes (Refused fault) = IsLeast (AppliesTo (read_by options) bytes) fault
+IsRefused options bytes (Run fault) = (file : PlanFile) × IsDocument options bytes (input.Plans file)
     × RefusedAs (file_service options file) (setup_of options file) file.plans.items fault
 IsRefused options bytes Write = Unit {0}
 IsRefused options bytes OutOfMemory = Unit {0}

@@ -3,7 +3,7 @@
 ghost use Rattle.std.specs.Prelude.{◌≡◌, IfOk, IfSome, map, option_map, false, string_bytes};
 ghost use Rattle.clap.specs.Words.{app_of, rule_of, found_of, matches_of, rows_of, subcommand_of, subcommand_rows_of};
 ghost use Rattle.dl_plans.specs.Options.{plans_app, plans_words_app, file_words_app, answering_app, AreGiven};
-ghost use Rattle.dl_plans.specs.Options.{workers_rule, batches_rule, picture_rule, trace_rule, database_rule};
+ghost use Rattle.dl_plans.specs.Options.{workers_rule, batches_rule, statistics_rule, picture_rule, trace_rule, database_rule};
 
 use crate::settings::Options;
 use clap::error::ErrorKind;
@@ -11,8 +11,8 @@ use clap::{Arg, ArgAction, ArgMatches, Command, Error, value_parser};
 use std::alloc::{AllocError, Global};
 use std::convert::AsStr;
 
-/// The options in the words behind the program's name, `[--workers N] [--batches] [--picture FILE] [--trace FILE]
-/// [--database FILE] [migrate]`, and the file of the database. N is 1 to 16, and 3 if you don't give it. No option follows
+/// The options in the words behind the program's name, `[--workers N] [--batches] [--statistics] [--picture FILE]
+/// [--trace FILE] [--database FILE] [migrate]`, and the file of the database. N is 1 to 16, and 3 if you don't give it. No option follows
 /// `migrate`. The options have no tables of a database yet.
 ///
 /// # Errors
@@ -63,6 +63,7 @@ fn given(
     let options = Options {
         workers,
         batches: matches.get_flag("batches"),
+        statistics: matches.get_flag("statistics"),
         picture: copied(alloc, matches.get_str("picture"))?,
         trace: copied(alloc, matches.get_str("trace"))?,
         database: None,
@@ -139,7 +140,8 @@ fn answering_words<'a>(alloc: Global) -> Result<Command<'a>, AllocError>
         .about("Answers a document that stands on standard input")
         .no_binary_name(true)
         .arg(workers(alloc))?
-        .arg(batches(alloc))
+        .arg(batches(alloc))?
+        .arg(statistics(alloc))
 }
 
 /// `--workers N`.
@@ -164,6 +166,17 @@ fn batches<'a>(alloc: Global) -> Arg<'a>
         .long("batches")
         .action(ArgAction::SetTrue)
         .help("Prints the rounds and batches too, of a plan file with exactly one plan")
+}
+
+/// `--statistics`.
+fn statistics<'a>(alloc: Global) -> Arg<'a>
+    ensures rule { rule_of result ≡ statistics_rule }
+    ensures local { result.global ≡ false }
+{
+    Arg::new(alloc, "statistics")
+        .long("statistics")
+        .action(ArgAction::SetTrue)
+        .help("Says on standard error how often a plan file asked the database")
 }
 
 /// `--picture FILE`.

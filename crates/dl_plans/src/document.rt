@@ -1,16 +1,18 @@
 //! Answers a document over a reader and a writer.
 
-ghost use Rattle.std.specs.Prelude.{◌≡◌, ◌≢◌, ◌⊎◌, ◌+◌, ℕ, List, IfOk, IfErr, IfSome, OnOk, string_bytes};
+ghost use Rattle.std.specs.Prelude.{◌≡◌, ◌≢◌, ◌⊎◌, ◌+◌, ℕ, List, None, IfOk, IfErr, IfSome, OnOk, is_some, option_map, string_bytes};
 ghost use Rattle.std.specs.Io.KnownBytes.{Keeps};
 ghost use Rattle.serde_json.specs.Data.{Data};
 ghost use Rattle.dl_documents.specs.Document.{IsTextOf, Spells};
-ghost use Rattle.dl_documents.specs.Faults.{Applies, IsLeast, most_bytes};
+ghost use Rattle.dl_documents.specs.Faults.{AppliesTo, IsLeast, most_bytes};
+ghost use Rattle.dl_documents.specs.OverDatabase.{read_as};
 ghost use Rattle.dl_plans.specs.JoinedTables.{AreNames, HasNames};
 ghost use Rattle.dl_plans.specs.ReportText.{report_text};
 ghost use Rattle.dl_plans.specs.Run.{IsDocument, IsOutput, IsRefused, Outputs, ReadsAtMost, Writes, WritesFront, file_service, setup_of};
 ghost use Rattle.dl_scope.specs.Faults.{RefusedAs};
 ghost use Rattle.dl_scope.specs.Headline.{Headline};
 ghost use Rattle.dl_plans.specs.ScriptText.{script_text};
+ghost use Rattle.dl_plans.specs.Statistics.{statistics_text};
 ghost use Rattle.dl_plans.specs.declared.settings.Options.{Options};
 
 use crate::QUEUE_PLACES;
@@ -20,10 +22,11 @@ use crate::picture::{drawn_terms, report_picture, report_trace};
 use crate::report::report_text;
 use crate::script_text::run_script;
 use crate::settings::Options;
+use crate::statistics::statistics_line;
 use crate::streams::{read_all, write_all};
 use crate::table_names::{Names, table_names};
 use crate::whole_file::write_whole;
-use dl_documents::{Input, PlanFault, PlanFile, Script, read_document, read_input};
+use dl_documents::{Input, PlanFault, PlanFile, Script, read_input, read_over_database};
 use dl_picture::{script_picture, script_trace};
 use dl_scope::{Report, ScopeFault, Setup, serve};
 use dl_source::Tables;
@@ -41,9 +44,10 @@ use std::thread::Threads;
 
 /// Reads a document, makes all of the text that it gives, and then writes it. It reads at most one byte more than a
 /// document may have. It serves the plans of a plan file at once, each on a thread of its own, with as many workers as
-/// the options say. The file's tables answer, and behind them those of a database, if the options have one. If they name
-/// files for them, the picture and the trace of what happened go there first, each as a whole or not at all. `hashing`
-/// hashes keys, and nothing that you see depends on it.
+/// the options say. The file's tables answer, and behind them those of a database, if the options have one: then a plan
+/// file of version 2 may lack the member `tables`. If the options name files for them, the picture and the trace of what
+/// happened go there first, each as a whole or not at all. If they want statistics, a line on standard error goes last.
+/// `hashing` hashes keys, and nothing that you see depends on it.
 ///
 /// Call it at the end of a process: it leaves what it read and served to the system, and doesn't drop it.
 ///
@@ -63,7 +67,7 @@ use std::thread::Threads;
 ///     run(rt, alloc, hashing, &mut reader, &mut writer, options)
 /// }
 /// ```
-pub fn run<R: Read, W: Write, T: Threads + Wait + Sync + Files + RandomSource>(
+pub fn run<R: Read, W: Write, T: Threads + Wait + Sync + Files + RandomSource + Eprint>(
     rt: &T,
     alloc: Global,
     hashing: RandomState,
@@ -82,15 +86,25 @@ pub fn run<R: Read, W: Write, T: Threads + Wait + Sync + Files + RandomSource>(
     let given = output(rt, alloc, hashing, bytes, &options)?;
     keep_files(rt, alloc, &options, &given)?;
     forget(options);
-    write_all(writer, given.text.as_bytes())
+    let written = write_all(writer, given.text.as_bytes());
+    tell(rt, &written, &given.statistics);
+    written
 }
 
-/// What a document gives: its text, and its picture and its trace if the options ask for them.
+/// What a document gives: its text, and if the options ask for them its picture, its trace and the line of its statistics.
 #[derive(Drop)]
 struct Given {
     text: String,
     picture: Option<String>,
     trace: Option<String>,
+    statistics: Option<String>,
+}
+
+/// Says a line on standard error, if there is one and the text was written.
+fn tell<T: Eprint>(rt: &T, written: &Result<(), RunError>, line: &Option<String>) {
+    if let (Ok(()), Some(line)) = (written, line) {
+        let _ = eprintln!(rt; "{line}");
+    }
 }
 
 /// Writes the picture and then the trace to their files, if there are any.
@@ -146,17 +160,17 @@ fn output<T: Threads + Wait + Sync>(
 /// What the bytes of a document say, and with a database the names of a plan file's tables.
 ///
 /// # Errors
-/// Those of [`read_input`].
+/// Those of [`read_input`], or with a database those of [`read_over_database`].
 fn read(
     alloc: Global,
     hashing: RandomState,
     bytes: &[u8],
     database: &Option<Tables>,
 ) -> Result<(Input, Names), PlanFault>
-    ensures ok { IfOk result (λ p. (d : Data) × IsTextOf bytes.now d × Spells d p.0) }
+    ensures ok { IfOk result (λ p. (d : Data) × IsTextOf bytes.now d × Spells (read_as (is_some database.now) d) p.0) }
     ensures names { IfOk result (λ p. IfSome database.now (λ _. HasNames p.0 p.1)) }
-    ensures passes { OnOk result ((f : PlanFault) → Applies bytes.now f → ⊥) }
-    ensures err { IfErr result (λ f. (f ≡ PlanFault.OutOfMemory) ⊎ IsLeast (Applies bytes.now) f) }
+    ensures passes { OnOk result ((f : PlanFault) → AppliesTo (read_as (is_some database.now)) bytes.now f → ⊥) }
+    ensures err { IfErr result (λ f. (f ≡ PlanFault.OutOfMemory) ⊎ IsLeast (AppliesTo (read_as (is_some database.now)) bytes.now) f) }
 {
     match database {
         None => {
@@ -164,7 +178,7 @@ fn read(
             Ok((input, IndexSet::with_hasher(alloc, hashing)))
         }
         Some(_) => {
-            let (document, input) = read_document(alloc, hashing, bytes)?;
+            let (document, input) = read_over_database(alloc, hashing, bytes)?;
             let names = table_names(alloc, hashing, &document)?;
             Ok((input, names))
         }
@@ -182,7 +196,7 @@ fn answered<T: Threads + Wait + Sync>(
 ) -> Result<Given, RunError>
     requires { IfSome options.now.database (λ _. HasNames input names.now) }
     ensures ok { IfOk result (λ given. Outputs options.now input (string_bytes given.text)) }
-    ensures err { (bytes : List ℕ) → IsDocument bytes input → IfErr result (IsRefused options.now bytes) }
+    ensures err { (bytes : List ℕ) → IsDocument options.now bytes input → IfErr result (IsRefused options.now bytes) }
     ensures kept { IfErr result (λ e. e ≢ RunError.Write) }
 {
     match input {
@@ -195,7 +209,7 @@ fn answered<T: Threads + Wait + Sync>(
             let terms = drawn_terms(alloc, file.plans.as_slice(), options);
             match served(rt, alloc, hashing, file, names, options) {
                 Ok(report) => {
-                    let given = output_of_report(alloc, hashing, &report, &terms, options);
+                    let given = output_of_report(alloc, hashing, &report, &terms, names, options);
                     forget(report);
                     forget(terms);
                     made(given)
@@ -225,7 +239,8 @@ fn output_of_script(
     script: &Script,
     options: &Options,
 ) -> Result<Given, AllocError>
-    ensures { IfOk result (λ given. string_bytes given.text ≡ script_text script.now) }
+    ensures text { IfOk result (λ given. string_bytes given.text ≡ script_text script.now) }
+    ensures statistics { IfOk result (λ given. given.statistics ≡ None) }
 {
     let picture = match &options.picture {
         Some(_) => Some(script_picture(alloc, hashing, script)?),
@@ -240,19 +255,22 @@ fn output_of_script(
         text,
         picture,
         trace,
+        statistics: None,
     })
 }
 
-/// What a report gives. With terms it has a picture, of what serving the plans with these terms left. Fails if memory
-/// runs out, or did for the terms.
+/// What a report gives. With terms it has a picture, of what serving the plans with these terms left. The statistics go
+/// by the names of the plan file's tables. Fails if memory runs out, or did for the terms.
 fn output_of_report(
     alloc: Global,
     hashing: RandomState,
     report: &Report,
     terms: &Result<Option<Vec<Vec<Term>>>, AllocError>,
+    names: &Names,
     options: &Options,
 ) -> Result<Given, AllocError>
-    ensures { IfOk result (λ given. string_bytes given.text ≡ report_text report.now options.now.batches) }
+    ensures text { IfOk result (λ given. string_bytes given.text ≡ report_text report.now options.now.batches) }
+    ensures statistics { IfOk result (λ given. option_map string_bytes given.statistics ≡ statistics_text options.now names.now report.now.history.events) }
 {
     let picture = match terms {
         Ok(Some(terms)) => Some(report_picture(alloc, hashing, report, terms.as_slice())?),
@@ -263,11 +281,13 @@ fn output_of_report(
         Some(_) => Some(report_trace(alloc, report)?),
         None => None,
     };
+    let statistics = statistics_line(alloc, report.history(), names, options)?;
     let text = report_text(alloc, report, options.batches)?;
     Ok(Given {
         text,
         picture,
         trace,
+        statistics,
     })
 }
 

@@ -16,6 +16,7 @@ mod reply_lines;
 mod report;
 mod script_text;
 mod settings;
+mod statistics;
 mod status;
 mod streams;
 mod table_names;

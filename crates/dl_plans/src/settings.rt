@@ -11,6 +11,8 @@ pub struct Options {
     pub workers: u32,
     /// Whether to print the rounds and batches of a plan file that has exactly one plan.
     pub batches: bool,
+    /// Whether to say how often a plan file asked the database, if there is one.
+    pub statistics: bool,
     /// The file of the picture, if the command line asks for one.
     pub picture: Option<String>,
     /// The file of the trace, if the command line asks for one.
@@ -30,6 +32,7 @@ impl Options {
         let Options {
             workers,
             batches,
+            statistics,
             picture,
             trace,
             migrate,
@@ -38,6 +41,7 @@ impl Options {
         Options {
             workers,
             batches,
+            statistics,
             picture,
             trace,
             database,

@@ -56,7 +56,9 @@ fn read_copy(
 
 /// A fault of files in memory. They fail only if memory runs out, which SQLite's part here takes for a disk's failure.
 fn without_disk(fault: DatabaseFault) -> DatabaseFault
-    ensures { result ≢ DatabaseFault.Sqlite DISK_FAILED }
+    ensures no_disk { result ≢ DatabaseFault.Sqlite DISK_FAILED }
+    ensures disk { fault ≡ DatabaseFault.Sqlite DISK_FAILED → result ≡ DatabaseFault.OutOfMemory }
+    ensures others { fault ≢ DatabaseFault.Sqlite DISK_FAILED → result ≡ fault }
 {
     match fault {
         DatabaseFault::Sqlite(Error::SqliteFailure(ErrorCode::SystemIoFailure)) => {

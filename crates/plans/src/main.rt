@@ -19,7 +19,7 @@ fn main(rt: HostRuntime) -> ExitCode {
 }
 
 /// Writes what the options ask for to standard output: the document on standard input as version 2, or what it gives.
-fn written<R: Input + Print + AllocGlobal + Threads + Wait + Sync + Files + RandomSource>(
+fn written<R: Input + Print + Eprint + AllocGlobal + Threads + Wait + Sync + Files + RandomSource>(
     rt: &R,
     hashing: RandomState,
     options: Options,

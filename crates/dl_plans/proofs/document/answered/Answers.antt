@@ -6,7 +6,7 @@ use Rattle.dl_plans.proofs.document.answered.Goals as goal
 
 pub returns-in-Script-clause-ok : goal.returns-in-Script-clause-ok
 returns-in-Script-clause-ok g c =
-    made_of c.made.result c.output_of_script-given.result _ _ c.made.ensures.ok c.output_of_script-given.ensures
+    made_of c.made.result c.output_of_script-given.result _ _ c.made.ensures.ok c.output_of_script-given.ensures.text
     (λ given is. subst (λ (i : Input). Outputs c.args.options.now i (string_bytes given.text)) (sym c.in-Script.is) is)
 
 pub returns-in-Script-clause-err : goal.returns-in-Script-clause-err
@@ -14,7 +14,7 @@ returns-in-Script-clause-err g c = λ bytes document. c.made.ensures.err c.args.
 
 pub returns-in-Ok-clause-ok : goal.returns-in-Ok-clause-ok
 returns-in-Ok-clause-ok g c =
-    made_of c.made-in-Ok.result c.output_of_report-given.result _ _ c.made-in-Ok.ensures.ok c.output_of_report-given.ensures
+    made_of c.made-in-Ok.result c.output_of_report-given.result _ _ c.made-in-Ok.ensures.ok c.output_of_report-given.ensures.text
     (λ given is. subst (λ (i : Input). Outputs c.args.options.now i (string_bytes given.text)) (sym c.in-Plans.is)
     (c.in-Ok.report, c.in-Ok.ensures.headline, is))
 
@@ -22,4 +22,4 @@ pub returns-in-Ok-clause-err : goal.returns-in-Ok-clause-err
 returns-in-Ok-clause-err g c = λ bytes document. c.made-in-Ok.ensures.err c.args.options.now bytes
 
 pub returns-in-Err-clause-err : goal.returns-in-Err-clause-err
-returns-in-Err-clause-err g c = λ bytes document. (c.in-Plans.file, subst (IsDocument bytes) c.in-Plans.is document, c.in-Err.ensures.refused)
+returns-in-Err-clause-err g c = λ bytes document. (c.in-Plans.file, subst (IsDocument c.args.options.now bytes) c.in-Plans.is document, c.in-Err.ensures.refused)
