@@ -97,6 +97,8 @@ class Loader:
         self.loads = 0
         # The loads that terms asked for, each as often as it is in its term: a round loads a key once.
         self.asked = 0
+        # The step that loads, and the part of its term that does.
+        self.step, self.part = 0, None
         self.cells = []
         self.held = {}
         self.batches = []
@@ -182,17 +184,18 @@ class Evaluation:
     def __init__(self, loader, term):
         self.loader, self.term = loader, term
         self.known, self.wanted, self.rounds = {}, [], 0
-        # How many loads the last look at the term met.
-        self.met = 0
+        # Of the last look at the term: how many loads it met, and the leftmost part that waits.
+        self.met, self.part = 0, None
 
     def answer(self):
         """Loads what the term waits for, round by round, until it has an answer."""
         while True:
-            self.wanted, self.met = [], 0
+            self.wanted, self.met, self.part = [], 0, None
             answer = self.explore(self.term)
             if not self.wanted:
                 self.loader.asked += self.met
                 return answer
+            self.loader.part = self.part
             self.known |= self.loader.load_many(self.wanted)
             self.rounds += 1
 
@@ -202,7 +205,7 @@ class Evaluation:
         if form == "value":
             return Answer(False, argument)
         if form == "load":
-            return self.look(tuple(argument))
+            return self.look(tuple(argument), f"load {'/'.join(argument)}")
         if form == "all":
             return joined([self.explore(part) for part in argument])
         part = self.explore(argument[0])
@@ -214,22 +217,23 @@ class Evaluation:
         if form == "pick":
             return Answer(False, field)
         if form == "follow":
-            return self.load_id(argument[2], field)
+            return self.load_id(argument[2], field, f"follow {argument[1]}")
         if not isinstance(field, list):
             return Answer(True, "NotAList")
         if len(field) > ITEMS:
             return Answer(True, "TooMany")
-        return joined([self.load_id(argument[2], item) for item in field])
+        return joined([self.load_id(argument[2], item, f"each {argument[1]}") for item in field])
 
-    def load_id(self, table, key):
+    def load_id(self, table, key, part):
         if isinstance(key, str) and 1 <= len(key.encode()) <= ID_BYTES:
-            return self.look((table, key))
+            return self.look((table, key), part)
         return Answer(True, "NotAKey")
 
-    def look(self, key):
+    def look(self, key, part):
         self.met += 1
         outcome = self.known.get(key)
         if outcome is None:
+            self.part = self.part or part
             if key not in self.wanted:
                 self.wanted.append(key)
             return None
@@ -261,6 +265,7 @@ def answers_of(loader, plan):
         elif name == "clearAll":
             loader.clear_all()
         else:
+            loader.step = number
             evaluation = Evaluation(loader, argument)
             answers[number] = evaluation.answer()
             rounds += evaluation.rounds

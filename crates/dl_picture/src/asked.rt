@@ -20,7 +20,7 @@ use std::alloc::{AllocError, Global};
 use std::hash::RandomState;
 
 /// The cell of each key that a term has read.
-type Cells = IndexMap<FetchKey, u32, RandomState>;
+pub(crate) type Cells = IndexMap<FetchKey, u32, RandomState>;
 
 /// How many loads the terms of served plans ask for, each as often as it appears in its term: without a loader, each of
 /// them is a fetch. An `each` asks once for each of its ids, and a term that ends in a fault for what it met until then.
@@ -176,7 +176,7 @@ fn loads_known(
 }
 
 /// Reads the loads of a round.
-fn read_round(cells: &mut Cells, round: &Event) -> Result<(), AllocError>
+pub(crate) fn read_round(cells: &mut Cells, round: &Event) -> Result<(), AllocError>
     ensures { OnOk result (cells.new.entries ≡ with_call cells.old.entries round.now.call round.now.reply) }
 {
     match (&round.call, &round.reply) {

@@ -2,28 +2,30 @@
 
 use crate::cut_text::{CHARACTER, push_cut_text};
 use crate::lines::{Line, Lines};
-use crate::mark::{MARKS, Mark};
+use crate::mark::{Badges, CELL_MARKS, MARKS, Mark};
 use crate::phrase::Phrase;
 use crate::sheet::Sheet;
 
-/// A column with more lines than this shows counts in their place.
-const MOST_LINES: usize = 200;
-
 /// How wide a column is.
-pub(crate) const COLUMN_WIDTH: u64 = 224;
+pub(crate) const COLUMN_WIDTH: u64 = 214;
 
 /// How high a line of a column is, and how much room is above and below all its lines.
-const LINE_HEIGHT: u64 = 18;
+pub(crate) const LINE_HEIGHT: u64 = 18;
 
-const HEADING_HEIGHT: u64 = 26;
+pub(crate) const HEADING_HEIGHT: u64 = 26;
 
 const FOOT_HEIGHT: u64 = 6;
 
 /// How far below the top of a column the foot of its heading is.
 const HEADING_FOOT: u64 = 17;
 
-/// How wide a badge with a mark is.
+/// How wide a badge with a mark is, and how far from its left side the next one begins.
 const BADGE: u64 = 15;
+
+const BADGE_STEP: u64 = 18;
+
+/// How many characters a second badge takes.
+const BADGE_ROOM: u64 = 3;
 
 /// How far below its corner the foot of a line's letters is.
 const FOOT: u64 = 12;
@@ -32,15 +34,18 @@ const FOOT: u64 = 12;
 const PADDING: u64 = 10;
 
 /// How many characters a line has room for, and how many of them the number of a batch takes.
-const LINE_ROOM: u64 = 25;
+const LINE_ROOM: u64 = 24;
 
 const BATCH_ROOM: u64 = 7;
 
-/// A column: a heading, what is to the right of it, and lines.
+/// A column: a heading, what is to the right of it, what is said below it, and lines.
 #[derive(Clone, Copy)]
 pub(crate) struct Column<'a> {
     pub(crate) heading: Phrase,
     pub(crate) side: Phrase,
+    pub(crate) note: Option<&'a str>,
+    /// The batch that it is, if it is one.
+    pub(crate) batch: Option<u32>,
     pub(crate) lines: Lines<'a>,
 }
 
@@ -49,20 +54,34 @@ impl Column<'_> {
     pub(crate) fn height(&self) -> u64 {
         drawn_lines(self.lines, &MARKS)
             .saturating_mul(LINE_HEIGHT)
-            .saturating_add(HEADING_HEIGHT + FOOT_HEIGHT)
+            .saturating_add(self.top())
+            .saturating_add(FOOT_HEIGHT)
+    }
+
+    /// How far below its top the lines begin.
+    pub(crate) fn top(&self) -> u64 {
+        match self.note {
+            Some(_) => HEADING_HEIGHT + LINE_HEIGHT,
+            None => HEADING_HEIGHT,
+        }
     }
 }
 
 /// How many lines a column draws of these.
 fn drawn_lines(lines: Lines<'_>, marks: &[Mark]) -> u64 {
-    let count = lines.count();
-    if count <= MOST_LINES {
-        return count as u64;
+    if !lines.are_many() {
+        return lines.count() as u64;
     }
     let mut sums: u64 = 0;
     for mark in marks {
-        if lines.marked(*mark) > 0 {
-            sums = sums.saturating_add(1);
+        for cell in &CELL_MARKS {
+            let badges = Badges {
+                mark: *mark,
+                cell: *cell,
+            };
+            if lines.marked(badges) > 0 {
+                sums = sums.saturating_add(1);
+            }
         }
     }
     sums
@@ -74,8 +93,21 @@ pub(crate) fn push_column(sheet: &mut Sheet, x: u64, y: u64, height: u64, column
     sheet.push_words("head", PADDING, HEADING_FOOT, column.heading);
     sheet.push_words("side", COLUMN_WIDTH - PADDING, HEADING_FOOT, column.side);
     sheet.push("\n");
-    push_lines(sheet, column.lines);
+    if let Some(note) = column.note {
+        push_note(sheet, note);
+    }
+    push_lines(sheet, column.top(), column.lines);
     sheet.push("</svg>\n");
+}
+
+/// What is said below the heading of a column.
+fn push_note(sheet: &mut Sheet, note: &str) {
+    let place = [PADDING, HEADING_HEIGHT];
+    sheet.push_form("<g class='note' transform='translate(# #)'><title>", &place);
+    sheet.push_escaped(note);
+    sheet.push("</title>");
+    push_cut_text(sheet, 0, FOOT, note, LINE_ROOM + BADGE_ROOM);
+    sheet.push("</g>\n");
 }
 
 /// The beginning of a column of this height, with its corner at x and y, and its card.
@@ -87,12 +119,12 @@ fn push_card(sheet: &mut Sheet, x: u64, y: u64, height: u64) {
     );
 }
 
-/// The lines of a column, or their counts if they are too many.
-fn push_lines(sheet: &mut Sheet, lines: Lines<'_>) {
-    if lines.count() > MOST_LINES {
-        return push_sums(sheet, lines, &MARKS);
+/// The lines of a column from this height on, or their counts if they are too many.
+fn push_lines(sheet: &mut Sheet, top: u64, lines: Lines<'_>) {
+    if lines.are_many() {
+        return push_sums(sheet, top, lines, &MARKS);
     }
-    let mut y = HEADING_HEIGHT;
+    let mut y = top;
     for place in 0..lines.count() {
         if let Some(line) = lines.line(place) {
             push_line(sheet, y, &line);
@@ -101,15 +133,21 @@ fn push_lines(sheet: &mut Sheet, lines: Lines<'_>) {
     }
 }
 
-/// How many of the lines have each mark.
-fn push_sums(sheet: &mut Sheet, lines: Lines<'_>, marks: &[Mark]) {
-    let mut y = HEADING_HEIGHT;
+/// How many of the lines have each mark, from this height on.
+fn push_sums(sheet: &mut Sheet, top: u64, lines: Lines<'_>, marks: &[Mark]) {
+    let mut y = top;
     for mark in marks {
-        let count = lines.marked(*mark);
-        if count > 0 {
-            let words = Phrase::count(count, " key", " keys");
-            push_line(sheet, y, &Line::of_words(words, *mark));
-            y = y.saturating_add(LINE_HEIGHT);
+        for cell in &CELL_MARKS {
+            let badges = Badges {
+                mark: *mark,
+                cell: *cell,
+            };
+            let count = lines.marked(badges);
+            if count > 0 {
+                let words = lines.counted(count);
+                push_line(sheet, y, &Line::of_words(words, badges));
+                y = y.saturating_add(LINE_HEIGHT);
+            }
         }
     }
 }
@@ -119,8 +157,11 @@ fn push_line(sheet: &mut Sheet, y: u64, line: &Line<'_>) {
     match line.label.text(sheet.alloc) {
         Ok(label) => {
             push_title(sheet, y, line, label.as_str());
-            push_badge(sheet, 0, 0, line.mark);
-            push_label(sheet, line.batch, label.as_str());
+            push_badge(sheet, 0, 0, line.badges.mark);
+            if let Some(mark) = line.badges.cell {
+                push_badge(sheet, BADGE_STEP, 0, mark);
+            }
+            push_label(sheet, line, label.as_str());
         }
         Err(error) => sheet.note(Err(error)),
     }
@@ -131,28 +172,34 @@ fn push_title(sheet: &mut Sheet, y: u64, line: &Line<'_>, label: &str) {
     sheet.push_form("<g transform='translate(# #)'><title>", &[PADDING, y]);
     sheet.push_escaped(label);
     sheet.push(": ");
-    sheet.push(line.mark.meaning());
+    sheet.push(line.badges.mark.meaning());
+    if let Some(mark) = line.badges.cell {
+        sheet.push(", ");
+        sheet.push(mark.meaning());
+    }
     if let Some(batch) = line.batch {
         sheet.push_form(", batch #", &[batch as u64]);
+    }
+    if let Some(why) = line.why {
+        sheet.push(": ");
+        sheet.push_escaped(why);
     }
     sheet.push("</title>");
 }
 
-/// The words of a line behind its badge, and its end.
-fn push_label(sheet: &mut Sheet, batch: Option<u32>, label: &str) {
-    match batch {
+/// The words of a line behind its badges, and its end.
+fn push_label(sheet: &mut Sheet, line: &Line<'_>, label: &str) {
+    let (x, room) = match line.badges.cell {
+        Some(_) => (BADGE_STEP + BADGE + CHARACTER, LINE_ROOM - BADGE_ROOM),
+        None => (BADGE + CHARACTER, LINE_ROOM),
+    };
+    match line.batch {
         Some(batch) => {
-            push_cut_text(
-                sheet,
-                BADGE + CHARACTER,
-                FOOT,
-                label,
-                LINE_ROOM - BATCH_ROOM,
-            );
+            push_cut_text(sheet, x, FOOT, label, room.saturating_sub(BATCH_ROOM));
             let number = Phrase::Numbered("b", batch as u64, "");
             sheet.push_words("side", COLUMN_WIDTH - PADDING - PADDING, FOOT, number);
         }
-        None => push_cut_text(sheet, BADGE + CHARACTER, FOOT, label, LINE_ROOM),
+        None => push_cut_text(sheet, x, FOOT, label, room),
     }
     sheet.push("</g>\n");
 }

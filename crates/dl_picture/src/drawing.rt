@@ -1,37 +1,49 @@
 //! Drawings: elements of SVG from top to bottom, in rows of columns.
 
 use crate::column::{COLUMN_WIDTH, Column, push_column};
+use crate::head::push_mark;
+use crate::joins::Joins;
+use crate::mark::{MARKS, Mark};
 use crate::phrase::Phrase;
 use crate::sheet::Sheet;
 use crate::style::STYLE;
 use std::alloc::{AllocError, Global};
 
-/// How wide a drawing is, in pixels.
-const WIDTH: u64 = 1200;
+/// How wide a drawing is at least, in pixels.
+const LEAST_WIDTH: u64 = 1200;
 
 /// The room at each side of a drawing.
 pub(crate) const MARGIN: u64 = 20;
 
-/// How many columns a row has.
+/// How many columns a row has, if they follow no rounds.
 const COLUMNS: u64 = 5;
 
-/// The room between columns, and between rows.
-const GAP: u64 = 10;
+/// The room between columns, and between what is below one another.
+const GUTTER: u64 = 22;
+
+const GAP: u64 = 8;
 
 /// How far below the top of a line of words its foot is, and how high the line is.
 const WORDS_FOOT: u64 = 18;
 
 const WORDS_HEIGHT: u64 = 26;
 
-/// What is drawn so far: a sheet with elements of SVG, and how high they are together; how many tiles the head has; and
-/// how many columns the open row has, and how high the highest of them is.
+/// What is drawn so far: a sheet with elements of SVG, and how wide and high they are together; how many tiles the head
+/// has; and which place of the open row is filled, how high that is, and how high the highest of them is.
 #[derive(Drop)]
 pub(crate) struct Drawing {
     pub(crate) sheet: Sheet,
+    width: u64,
     pub(crate) height: u64,
     pub(crate) tiles: u64,
+    /// The height at which the head says what the marks mean.
+    pub(crate) legend: u64,
+    place: u64,
     columns: u64,
+    filled: u64,
     tallest: u64,
+    occurring: Vec<Mark>,
+    joins: Joins,
 }
 
 impl Drawing {
@@ -39,10 +51,16 @@ impl Drawing {
     pub(crate) fn new(alloc: Global) -> Drawing {
         Drawing {
             sheet: Sheet::new(alloc),
+            width: LEAST_WIDTH,
             height: MARGIN,
             tiles: 0,
+            legend: 0,
+            place: 0,
             columns: 0,
+            filled: 0,
             tallest: 0,
+            occurring: Vec::new(alloc),
+            joins: Joins::new(alloc),
         }
     }
 
@@ -66,27 +84,85 @@ impl Drawing {
         self.sheet.begin_text(class, MARGIN, foot);
     }
 
-    /// A column, in the open row, or in the next one if that is full.
+    /// A column in the next place of the open row, or in the next row if that is full.
     pub(crate) fn add_column(&mut self, column: &Column<'_>) {
         if self.columns >= COLUMNS {
             self.end_row();
         }
-        let before = self.columns.saturating_mul(COLUMN_WIDTH + GAP);
-        let (x, y, height) = (before.saturating_add(MARGIN), self.height, column.height());
-        self.columns = self.columns.saturating_add(1);
-        self.tallest = self.tallest.max(height);
-        push_column(&mut self.sheet, x, y, height, column);
+        let place = self.columns;
+        self.columns = place.saturating_add(1);
+        self.go_to(place);
+        self.add_below(column);
     }
 
-    /// Ends the open row, if there is one.
-    fn end_row(&mut self) {
-        if self.columns > 0 {
-            let tallest = self.tallest;
-            self.add_height(tallest);
-            self.add_height(GAP);
-            self.columns = 0;
-            self.tallest = 0;
+    /// Goes on to a place of the open row, unless the row has come as far.
+    pub(crate) fn go_to(&mut self, place: u64) {
+        if place > self.place {
+            self.place = place;
+            self.filled = 0;
         }
+    }
+
+    /// A column below what the place has.
+    pub(crate) fn add_below(&mut self, column: &Column<'_>) {
+        let before = self.place.saturating_mul(COLUMN_WIDTH + GUTTER);
+        let (x, y) = (
+            before.saturating_add(MARGIN),
+            self.height.saturating_add(self.filled),
+        );
+        let height = column.height();
+        self.filled = self.filled.saturating_add(height).saturating_add(GAP);
+        self.tallest = self.tallest.max(self.filled);
+        self.width = self.width.max(x.saturating_add(COLUMN_WIDTH + GUTTER));
+        push_column(&mut self.sheet, x, y, height, column);
+        let noted = self
+            .joins
+            .note_column(x.saturating_add(COLUMN_WIDTH), y, column);
+        self.sheet.note(noted);
+        self.note_marks(column);
+    }
+
+    /// Notes which marks occur in a column.
+    fn note_marks(&mut self, column: &Column<'_>) {
+        for place in 0..column.lines.count() {
+            if let Some(line) = column.lines.line(place) {
+                self.note_mark(line.badges.mark);
+                if let Some(mark) = line.badges.cell {
+                    self.note_mark(mark);
+                }
+            }
+        }
+    }
+
+    /// Notes that a mark occurs.
+    fn note_mark(&mut self, mark: Mark) {
+        if !self.occurring.contains(&mark) {
+            if self.occurring.push(mark).is_err() {
+                self.sheet.note(Err(AllocError));
+            }
+        }
+    }
+
+    /// What the marks mean that occur, in their order.
+    fn legend_sheet(&self) -> Sheet {
+        let mut sheet = Sheet::new(self.sheet.alloc);
+        let mut x = MARGIN;
+        for mark in &MARKS {
+            if self.occurring.contains(mark) {
+                x = push_mark(&mut sheet, x, self.legend, *mark);
+            }
+        }
+        sheet
+    }
+
+    /// Ends the open row, if it has columns.
+    fn end_row(&mut self) {
+        let tallest = self.tallest;
+        self.add_height(tallest);
+        self.place = 0;
+        self.columns = 0;
+        self.filled = 0;
+        self.tallest = 0;
     }
 
     /// The drawing as a document. Fails if memory ran out.
@@ -94,22 +170,25 @@ impl Drawing {
         self.end_row();
         let height = self.height.saturating_add(MARGIN);
         let mut document = Sheet::new(self.sheet.alloc);
-        push_document(&mut document, height, &self.sheet);
+        push_ground(&mut document, self.width, height);
+        let legend = self.legend_sheet();
+        document.push_sheet(&legend);
+        self.joins.push_to(&mut document);
+        document.push_sheet(&self.sheet);
+        document.push("</svg>\n");
         document.finish()
     }
 }
 
-/// Appends a document of these elements, which have this height together.
-fn push_document(sheet: &mut Sheet, height: u64, elements: &Sheet) {
+/// Appends the beginning of a document of this width and height, with its style and its ground.
+fn push_ground(sheet: &mut Sheet, width: u64, height: u64) {
     sheet.push_form(
         "<svg xmlns='http://www.w3.org/2000/svg' width='#' height='#' viewBox='0 0 # #'>\n",
-        &[WIDTH, height, WIDTH, height],
+        &[width, height, width, height],
     );
     sheet.push(STYLE);
     sheet.push_form(
         "<rect class='ground' width='#' height='#'/>\n",
-        &[WIDTH, height],
+        &[width, height],
     );
-    sheet.push_sheet(elements);
-    sheet.push("</svg>\n");
 }

@@ -4,7 +4,7 @@ use crate::batches::Mean;
 use crate::column::push_badge;
 use crate::cut_text::CHARACTER;
 use crate::drawing::{Drawing, MARGIN};
-use crate::mark::{MARKS, Mark};
+use crate::mark::Mark;
 use crate::numbers::HistoryNumbers;
 use crate::phrase::Phrase;
 use crate::sheet::Sheet;
@@ -66,23 +66,19 @@ fn add_tile(drawing: &mut Drawing, name: &str, words: &'static str, figure: Phra
     sheet.push("\n");
 }
 
-/// Ends the head: below the tiles, says what the marks mean.
+/// Ends the head: below the tiles, it has room for what the marks mean.
 pub(crate) fn end_head(drawing: &mut Drawing) {
-    let y = drawing.height.saturating_add(TILE_HEIGHT + ROOM);
+    drawing.legend = drawing.height.saturating_add(TILE_HEIGHT + ROOM);
     drawing.add_height(TILE_HEIGHT + ROOM + ROOM + ROOM);
-    push_marks(&mut drawing.sheet, y, &MARKS);
 }
 
-/// What the marks mean, in one line at this height.
-fn push_marks(sheet: &mut Sheet, y: u64, marks: &[Mark]) {
-    let mut x = MARGIN;
-    let foot = y.saturating_add(12);
-    for mark in marks {
-        let meaning = mark.meaning();
-        push_badge(sheet, x, y, *mark);
-        sheet.push_words("soft", x.saturating_add(22), foot, Phrase::Words(meaning));
-        sheet.push("\n");
-        let width = (meaning.len() as u64).saturating_mul(CHARACTER);
-        x = x.saturating_add(width).saturating_add(MARK_STEP);
-    }
+/// What a mark means, with its corner at x and y, and where the next one begins.
+pub(crate) fn push_mark(sheet: &mut Sheet, x: u64, y: u64, mark: Mark) -> u64 {
+    let meaning = mark.meaning();
+    push_badge(sheet, x, y, mark);
+    let (left, foot) = (x.saturating_add(22), y.saturating_add(12));
+    sheet.push_words("soft", left, foot, Phrase::Words(meaning));
+    sheet.push("\n");
+    let width = (meaning.len() as u64).saturating_mul(CHARACTER);
+    x.saturating_add(width).saturating_add(MARK_STEP)
 }

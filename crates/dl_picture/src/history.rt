@@ -1,22 +1,35 @@
 //! The picture of a history.
 
 use crate::asked::loads_asked;
-use crate::cells::cell_marks;
+use crate::cells::cell_fates;
 use crate::drawing::Drawing;
+use crate::folded::{fold_calls, rounds_a_column};
 use crate::head::{add_count, add_numbers, end_head};
-use crate::lanes::{add_batches, add_calls, add_workers};
-use crate::mark::Mark;
-use crate::numbers::{HistoryNumbers, PlanNumbers, history_numbers, plan_numbers};
+use crate::lanes::{
+    Scene, add_calls, add_workers, batch_ends, caller_name, callers, event_of, is_shown,
+};
+use crate::lines::MOST_BATCHES;
+use crate::loads::rounds;
+use crate::numbers::{HistoryNumbers, history_numbers, plan_numbers};
+use crate::parts::plan_parts;
 use crate::phrase::Phrase;
 use dl_history::History;
 use dl_terms::{MOST_PLANS, Term};
 use std::alloc::{AllocError, Global};
 use std::hash::RandomState;
 
+/// A picture with a longer lane than this, in rounds, shows counts.
+const MOST_ROUNDS: usize = 60;
+
+/// So does one that would have more bytes than this.
+pub(crate) const MOST_BYTES: usize = 900_000;
+
 /// Draws what serving plans left, as SVG. You give the terms of each plan, as [`terms_of`](crate::terms_of) gives them.
-/// The first callers of the history are these plans, and the others are workers. Each plan has a lane, with a column for each of its rounds, primes and clears. Below are the batches, in the order in
-/// which they ended, and the workers. A column of more than 200 keys shows counts. The text is linear in the plans, the
-/// events and their keys. `hashing` hashes keys, and nothing that you see depends on it.
+/// The first callers of the history are these plans, and the others are workers. Each plan has a lane, and its rounds
+/// are in it from left to right. A round says which step and which part of its term it loads for. Above it are the
+/// primes and clears before it, and below it the batches that it sent, which lines join to their keys. With more than 60
+/// batches, or as many rounds in a lane, a lane shows counts, so the text has less than a megabyte. `hashing` hashes
+/// keys, and nothing that you see depends on it.
 ///
 /// # Errors
 /// `AllocError` if memory runs out.
@@ -35,11 +48,66 @@ pub fn history_picture(
 ) -> Result<String, AllocError> {
     let numbers = history_numbers(history)?;
     let alone = loads_asked(alloc, hashing, history, plans)?;
-    let cells = cell_marks(alloc, history)?;
+    let cells = cell_fates(alloc, history)?;
+    let ends = batch_ends(alloc, history.events(), numbers.batches.batches)?;
+    let scene = Scene {
+        history,
+        cells: cells.as_slice(),
+        ends: ends.as_slice(),
+        plans: plans.len().min(MOST_PLANS) as u32,
+    };
+    if numbers.batches.batches <= MOST_BATCHES as u64 && longest(scene) <= MOST_ROUNDS {
+        let parts = plan_parts(alloc, hashing, history, plans)?;
+        let picture = whole_picture(alloc, scene, &numbers, alone, parts.as_slice())?;
+        if picture.len() <= MOST_BYTES {
+            return Ok(picture);
+        }
+    }
+    folded_picture(alloc, scene, &numbers, alone)
+}
+
+/// The picture with all keys. Without a loader there are `alone` fetches, and the rounds of plans load for these parts.
+fn whole_picture(
+    alloc: Global,
+    scene: Scene<'_>,
+    numbers: &HistoryNumbers,
+    alone: u64,
+    parts: &[Vec<String>],
+) -> Result<String, AllocError> {
     let mut drawing = Drawing::new(alloc);
-    add_head(&mut drawing, &numbers, alone);
-    let plans = plans.len().min(MOST_PLANS) as u32;
-    add_history(&mut drawing, history, cells.as_slice(), plans);
+    add_head(&mut drawing, numbers, alone);
+    for caller in 0..most_lanes(scene) {
+        if has_lane(scene, caller) {
+            add_lane_words(&mut drawing, scene, caller);
+            let own: &[String] = match parts.get(caller as usize) {
+                Some(parts) => parts.as_slice(),
+                None => &[],
+            };
+            add_calls(&mut drawing, scene, caller, own);
+        }
+    }
+    add_all_workers(&mut drawing, scene);
+    drawing.finish()
+}
+
+/// The picture with counts in its lanes.
+fn folded_picture(
+    alloc: Global,
+    scene: Scene<'_>,
+    numbers: &HistoryNumbers,
+    alone: u64,
+) -> Result<String, AllocError> {
+    let mut drawing = Drawing::new(alloc);
+    add_head(&mut drawing, numbers, alone);
+    let rounds_each = rounds_a_column(lanes(scene), longest(scene));
+    for caller in 0..most_lanes(scene) {
+        if has_lane(scene, caller) {
+            add_lane_words(&mut drawing, scene, caller);
+            let folded = fold_calls(&mut drawing, scene, caller, rounds_each);
+            drawing.sheet.note(folded);
+        }
+    }
+    add_all_workers(&mut drawing, scene);
     drawing.finish()
 }
 
@@ -51,28 +119,66 @@ fn add_head(drawing: &mut Drawing, numbers: &HistoryNumbers, alone: u64) {
     end_head(drawing);
 }
 
-/// The plans of a history, its batches and its workers.
-fn add_history(drawing: &mut Drawing, history: &History, cells: &[Mark], plans: u32) {
-    for plan in 0..plans {
-        match plan_numbers(history, plan) {
-            Ok(numbers) => add_plan_words(drawing, plan, &numbers),
-            Err(error) => drawing.sheet.note(Err(error)),
-        }
-        add_calls(drawing, history.events(), history.entries(plan), cells);
-    }
-    let batches = "batches, in the order in which they ended";
-    drawing.add_words("lane", Phrase::Words(batches));
-    add_batches(drawing, history, plans);
-    drawing.add_words("lane", Phrase::Words("workers"));
-    add_workers(drawing, history, plans);
+// ---- lanes
+
+/// How many callers may have lanes.
+fn most_lanes(scene: Scene<'_>) -> u32 {
+    callers(scene.history.events()).max(scene.plans)
 }
 
-/// The words above the lane of a plan.
-fn add_plan_words(drawing: &mut Drawing, plan: u32, numbers: &PlanNumbers) {
-    drawing.begin_words("lane");
-    let loads = numbers.loads;
-    drawing.sheet.push_form(
-        "plan #: rounds #, loads #, hits #</text>\n",
-        &[plan as u64, numbers.rounds as u64, loads.loads, loads.hits],
-    );
+/// How many callers have lanes.
+fn lanes(scene: Scene<'_>) -> u32 {
+    let mut lanes: u32 = 0;
+    for caller in 0..most_lanes(scene) {
+        if has_lane(scene, caller) {
+            lanes = lanes.saturating_add(1);
+        }
+    }
+    lanes
+}
+
+/// How many rounds the longest lane has.
+fn longest(scene: Scene<'_>) -> usize {
+    let mut most: usize = 0;
+    for caller in 0..most_lanes(scene) {
+        most = most.max(rounds(scene.history.events(), caller));
+    }
+    most
+}
+
+/// Whether a caller has a lane: it is a plan, or it loaded, primed, cleared or sent a batch.
+fn has_lane(scene: Scene<'_>, caller: u32) -> bool {
+    if caller < scene.plans {
+        return true;
+    }
+    for entry in scene.history.entries(caller) {
+        if let Some(event) = event_of(scene.history.events(), *entry) {
+            if is_shown(event) {
+                return true;
+            }
+        }
+    }
+    false
+}
+
+/// The words above the lane of a caller.
+fn add_lane_words(drawing: &mut Drawing, scene: Scene<'_>, caller: u32) {
+    match plan_numbers(scene.history, caller) {
+        Ok(numbers) => {
+            let loads = numbers.loads;
+            drawing.begin_words("lane");
+            drawing.sheet.push_phrase(caller_name(scene.plans, caller));
+            drawing.sheet.push_form(
+                ": rounds #, loads #, hits #</text>\n",
+                &[numbers.rounds as u64, loads.loads, loads.hits],
+            );
+        }
+        Err(error) => drawing.sheet.note(Err(error)),
+    }
+}
+
+/// The workers, and which batches they ended.
+fn add_all_workers(drawing: &mut Drawing, scene: Scene<'_>) {
+    drawing.add_words("lane", Phrase::Words("workers"));
+    add_workers(drawing, scene.history, scene.plans);
 }

@@ -12,6 +12,7 @@ ghost use Rattle.dl_terms.specs.View.{term_view, terms_view};
 
 use crate::asking::{Asking, Part, Picked, either};
 use crate::loads::sum;
+use crate::parts::Waiting;
 use dl_desk::{FetchKey, Outcome};
 use dl_history::History;
 use dl_terms::Term;
@@ -207,5 +208,49 @@ impl<'h> Knowledge<'h, '_> {
             loads,
             part: Part::of_several(waits),
         })
+    }
+
+    /// The term itself, if it waits.
+    fn waiting_itself(
+        &self,
+        term: &'h Term,
+        itself: Waiting<'h>,
+    ) -> Result<Option<Waiting<'h>>, AllocError> {
+        let asking = self.ask(term)?;
+        Ok(if asking.part.waits() {
+            Some(itself)
+        } else {
+            None
+        })
+    }
+
+    /// The leftmost part of a term that waits, if one does.
+    pub(crate) fn waiting(&self, term: &'h Term) -> Result<Option<Waiting<'h>>, AllocError> {
+        match term {
+            Term::Value(_) => Ok(None),
+            Term::Load(key) => Ok(match self.outcome(key) {
+                Some(_) => None,
+                None => Some(Waiting::Load(key)),
+            }),
+            Term::Pick { part, .. } => self.waiting(part),
+            Term::Follow { part, field, .. } => {
+                match self.waiting(part)? {
+                    Some(waiting) => Ok(Some(waiting)),
+                    None => self.waiting_itself(term, Waiting::Follow(field)),
+                }
+            }
+            Term::Each { part, field, .. } => match self.waiting(part)? {
+                Some(waiting) => Ok(Some(waiting)),
+                None => self.waiting_itself(term, Waiting::Each(field)),
+            },
+            Term::All(parts) => {
+                for part in parts {
+                    if let Some(waiting) = self.waiting(part)? {
+                        return Ok(Some(waiting));
+                    }
+                }
+                Ok(None)
+            }
+        }
     }
 }

@@ -1,60 +1,120 @@
-//! Lanes of a history: the calls of its plans, its batches, and its workers, each as columns.
+//! Lanes of a history: the calls of its callers with the batches that they sent, and its workers, each as columns.
 
-use crate::cells::replies_of;
+use crate::cells::{Fate, replies_of, why_failed};
 use crate::column::Column;
 use crate::drawing::Drawing;
 use crate::lines::{Ended, Lines};
+use crate::loads::is_round;
 use crate::mark::Mark;
 use crate::phrase::Phrase;
-use dl_desk::FetchKey;
+use dl_desk::{FetchKey, Job};
 use dl_history::{Call, EntryKind, Event, Events, History, Reply};
-use std::alloc::AllocError;
+use std::alloc::{AllocError, Global};
 
 /// The event of an entry, if the entry is a call.
-fn event_of(events: &Events, entry: EntryKind) -> Option<&Event> {
+pub(crate) fn event_of(events: &Events, entry: EntryKind) -> Option<&Event> {
     match entry {
         EntryKind::Call { at } => events.get(at as usize),
         EntryKind::Saw { .. } => None,
     }
 }
 
-// ---- plans
+/// What lanes are drawn of: a history, what became of its cells, the event that ended each batch, and how many of its
+/// callers are plans.
+#[derive(Clone, Copy)]
+pub(crate) struct Scene<'a> {
+    pub(crate) history: &'a History,
+    pub(crate) cells: &'a [Fate],
+    pub(crate) ends: &'a [Option<&'a Event>],
+    pub(crate) plans: u32,
+}
 
-/// The calls of a plan, by its entries: its rounds, and its primes and clears. The marks are those of the history's cells.
-pub(crate) fn add_calls(
-    drawing: &mut Drawing,
+/// The event that ended each batch of a history that has this many. Fails if memory runs out.
+pub(crate) fn batch_ends(
+    alloc: Global,
     events: &Events,
-    entries: &[EntryKind],
-    cells: &[Mark],
+    batches: u64,
+) -> Result<Vec<Option<&Event>>, AllocError> {
+    let mut ends = Vec::new(alloc);
+    for _ in 0..batches {
+        ends.push(None)?;
+    }
+    for at in 0..events.len() {
+        if let Some(event) = events.get(at) {
+            if let Some(ended) = ended_by(&event.call) {
+                if let Some(end) = ends.get_mut(ended.batch as usize) {
+                    *end = Some(event);
+                }
+            }
+        }
+    }
+    Ok(ends)
+}
+
+// ---- lanes
+
+/// The lane of a caller: each round is in its place, below the primes and clears since the round before and above the
+/// batches that it sent. Its rounds load for these parts of terms.
+pub(crate) fn add_calls<'a>(
+    drawing: &mut Drawing,
+    scene: Scene<'a>,
+    caller: u32,
+    parts: &'a [String],
 ) {
-    let mut rounds: u64 = 0;
-    for entry in entries {
-        if let Some(event) = event_of(events, *entry) {
-            if let Call::LoadMany(_) = &event.call {
+    let mut rounds: usize = 0;
+    for entry in scene.history.entries(caller) {
+        if let Some(event) = event_of(scene.history.events(), *entry) {
+            add_call(drawing, scene, event, rounds, parts);
+            add_sent(drawing, scene, &event.reply);
+            if is_round(&event.call) {
                 rounds = rounds.saturating_add(1);
             }
-            add_call(drawing, cells, event, rounds);
         }
     }
 }
 
-/// The column of a call: that of round `round` if it loads, and none if it is a dispatch or ends a batch.
-fn add_call(drawing: &mut Drawing, cells: &[Mark], event: &Event, round: u64) {
-    if let Some(heading) = call_name(&event.call, round) {
-        let lines = call_lines(cells, keys_of(&event.call), &event.reply);
-        let side = Phrase::count(lines.count(), " key", " keys");
-        drawing.add_column(&Column {
+/// The column of a call after this many rounds, or none if it is a dispatch or ends a batch.
+fn add_call<'a>(
+    drawing: &mut Drawing,
+    scene: Scene<'a>,
+    event: &'a Event,
+    rounds: usize,
+    parts: &'a [String],
+) {
+    if let Some(heading) = call_name(&event.call, rounds) {
+        let lines = call_lines(scene.cells, keys_of(&event.call), &event.reply);
+        let note = match &event.call {
+            Call::LoadMany(_) => parts.get(rounds),
+            _ => None,
+        };
+        drawing.go_to(rounds as u64);
+        drawing.add_below(&Column {
             heading,
-            side,
+            side: Phrase::count(lines.count(), " key", " keys"),
+            note: note.map(|part| part.as_str()),
+            batch: None,
             lines,
         });
     }
 }
 
-/// The words above a call.
-fn call_name(call: &Call, round: u64) -> Option<Phrase> {
+/// A column for each batch that a call sent.
+fn add_sent(drawing: &mut Drawing, scene: Scene<'_>, reply: &Reply) {
+    if let Reply::Sent(jobs) = reply {
+        for job in jobs.as_slice() {
+            add_batch(drawing, scene, job);
+        }
+    }
+}
+
+/// The words above a call after this many rounds.
+pub(crate) fn call_name(call: &Call, rounds: usize) -> Option<Phrase> {
     match call {
-        Call::LoadMany(_) => Some(Phrase::Numbered("round ", round, "")),
+        Call::LoadMany(_) => Some(Phrase::Numbered(
+            "round ",
+            (rounds as u64).saturating_add(1),
+            "",
+        )),
         Call::Load(_) => Some(Phrase::Words("load")),
         Call::Prime(_, _) => Some(Phrase::Words("prime")),
         Call::Clear(_) => Some(Phrase::Words("clear")),
@@ -63,8 +123,20 @@ fn call_name(call: &Call, round: u64) -> Option<Phrase> {
     }
 }
 
+/// Whether a lane shows something of an event.
+pub(crate) fn is_shown(event: &Event) -> bool {
+    match &event.reply {
+        Reply::Sent(jobs) => !jobs.as_slice().is_empty(),
+        _ => call_name(&event.call, 0).is_some(),
+    }
+}
+
 /// A line for each key of a call.
-fn call_lines<'a>(cells: &'a [Mark], keys: &'a [FetchKey], reply: &'a Reply) -> Lines<'a> {
+pub(crate) fn call_lines<'a>(
+    cells: &'a [Fate],
+    keys: &'a [FetchKey],
+    reply: &'a Reply,
+) -> Lines<'a> {
     let mark = match reply {
         Reply::Loaded(_) | Reply::Many(_) => {
             let replies = replies_of(reply);
@@ -92,21 +164,6 @@ pub(crate) fn keys_of(call: &Call) -> &[FetchKey] {
 
 // ---- batches and workers
 
-/// The batches of a history, in the order in which they ended. The first callers are `plans` plans.
-pub(crate) fn add_batches(drawing: &mut Drawing, history: &History, plans: u32) {
-    let (events, batches) = (history.events(), history.batches());
-    for at in 0..events.len() {
-        if let Some(event) = events.get(at) {
-            if let Some(ended) = ended_by(&event.call) {
-                if let Some(batch) = batches.get(ended.batch) {
-                    let side = caller_name(plans, event.caller);
-                    drawing.add_column(&end_column(ended, side, &event.call, batch.keys()));
-                }
-            }
-        }
-    }
-}
-
 /// The batch that a call ends, if it ends one.
 pub(crate) fn ended_by(call: &Call) -> Option<Ended> {
     let (batch, mark) = match call {
@@ -117,21 +174,48 @@ pub(crate) fn ended_by(call: &Call) -> Option<Ended> {
     Some(Ended { batch, mark })
 }
 
-/// The column of a batch with these keys. To the right of its name is who ended it.
-fn end_column<'a>(ended: Ended, side: Phrase, call: &'a Call, keys: &'a [FetchKey]) -> Column<'a> {
-    let mark = ended.mark;
-    let (state, lines) = match call {
-        Call::Settle { outcomes, .. } => {
-            let outcomes = outcomes.as_slice();
-            (" settled", Lines::Settled { keys, outcomes })
-        }
-        _ => (" failed", Lines::Keys { keys, mark }),
+/// The column of a batch that went out: how it ended, who ended it, and what became of its keys.
+fn add_batch(drawing: &mut Drawing, scene: Scene<'_>, job: &Job) {
+    let (keys, number) = (job.keys.as_slice(), job.batch);
+    let end = match scene.ends.get(number as usize) {
+        Some(Some(event)) => Some(*event),
+        _ => None,
     };
-    Column {
-        heading: Phrase::Numbered("batch ", ended.batch as u64, state),
+    let (state, note, lines) = end_of(end, keys);
+    let side = match end {
+        Some(event) => caller_name(scene.plans, event.caller),
+        None => Phrase::Words(""),
+    };
+    drawing.add_below(&Column {
+        heading: Phrase::Numbered("batch ", number as u64, state),
         side,
+        note,
+        batch: Some(number),
         lines,
+    });
+}
+
+/// How a batch with these keys ended by an event, why it failed, and a line for each key.
+fn end_of<'a>(
+    end: Option<&'a Event>,
+    keys: &'a [FetchKey],
+) -> (&'static str, Option<&'a str>, Lines<'a>) {
+    let mut mark = Mark::Waiting;
+    if let Some(event) = end {
+        match &event.call {
+            Call::Settle { outcomes, .. } => {
+                let outcomes = outcomes.as_slice();
+                return (" settled", None, Lines::Settled { keys, outcomes });
+            }
+            Call::Fail { fault, .. } => {
+                mark = Mark::Failed;
+                let why = Some(why_failed(fault));
+                return (" failed", why, Lines::Keys { keys, mark });
+            }
+            _ => {}
+        }
     }
+    (" sent", None, Lines::Keys { keys, mark })
 }
 
 /// Who a caller is: the plans come first, and then the workers.
@@ -178,6 +262,8 @@ fn add_worker(drawing: &mut Drawing, events: &Events, entries: &[EntryKind], hea
         drawing.add_column(&Column {
             heading,
             side,
+            note: None,
+            batch: None,
             lines,
         });
     }

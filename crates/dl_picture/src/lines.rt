@@ -1,10 +1,17 @@
 //! Lines of columns: what became of each key of a call or of a batch.
 
-use crate::mark::Mark;
+use crate::cells::{Fate, why_of};
+use crate::mark::{Badges, Mark};
 use crate::phrase::Phrase;
 use crate::sheet::Sheet;
 use dl_desk::{FetchKey, LoadReply, Outcome};
 use std::alloc::{AllocError, Global};
+
+/// A column with more lines of keys than this shows counts in their place.
+const MOST_KEYS: usize = 200;
+
+/// The same for lines of batches. A picture with more batches than this shows counts of all keys.
+pub(crate) const MOST_BATCHES: usize = 60;
 
 /// What a line says next to its mark.
 #[derive(Clone, Copy)]
@@ -31,12 +38,14 @@ impl Label<'_> {
     }
 }
 
-/// A line of a column: a mark, what it is for, and the batch that a fresh load's key went into.
+/// A line of a column: its marks, what they are for, the batch that a fresh load's key went into, and the text of an
+/// error.
 #[derive(Clone, Copy)]
 pub(crate) struct Line<'a> {
-    pub(crate) mark: Mark,
+    pub(crate) badges: Badges,
     pub(crate) label: Label<'a>,
     pub(crate) batch: Option<u32>,
+    pub(crate) why: Option<&'a str>,
 }
 
 /// A batch that ended, and the mark of its end.
@@ -46,13 +55,20 @@ pub(crate) struct Ended {
     pub(crate) mark: Mark,
 }
 
+/// How many keys have these marks, how many batches ended so, or how many calls were refused.
+#[derive(Clone, Copy)]
+pub(crate) struct Count {
+    pub(crate) badges: Badges,
+    pub(crate) count: usize,
+}
+
 /// The lines of a column. Each comes into being when it is drawn. They don't reach the history, since all of it would
 /// then be part of each proof about them.
 #[derive(Clone, Copy)]
 pub(crate) enum Lines<'a> {
-    /// A line for each load, by its key and its reply, and by the marks of the cells if they are known.
+    /// A line for each load, by its key and its reply, and by what became of the cells if that is known.
     Loads {
-        cells: &'a [Mark],
+        cells: &'a [Fate],
         keys: &'a [FetchKey],
         replies: &'a [LoadReply],
     },
@@ -70,44 +86,80 @@ pub(crate) enum Lines<'a> {
     Ended(&'a [Ended]),
     /// One line: why the call was refused.
     Refused(&'static str),
+    /// A line for each count.
+    Counts(&'a [Count]),
 }
 
 impl<'a> Line<'a> {
     /// A line of the program's own words.
-    pub(crate) fn of_words(words: Phrase, mark: Mark) -> Line<'a> {
+    pub(crate) fn of_words(words: Phrase, badges: Badges) -> Line<'a> {
         Line {
-            mark,
+            badges,
             label: Label::Words(words),
             batch: None,
+            why: None,
         }
     }
 
-    /// The line of a key, if there is one.
-    fn of_key(key: Option<&'a FetchKey>, mark: Mark, batch: Option<u32>) -> Option<Line<'a>> {
-        let label = Label::Key(key?);
-        Some(Line { mark, label, batch })
+    /// The line of a key.
+    fn of_key(key: &'a FetchKey, mark: Mark) -> Line<'a> {
+        Line {
+            badges: Badges::of(mark),
+            label: Label::Key(key),
+            batch: None,
+            why: None,
+        }
     }
 
-    /// The line of a load, if there is one.
-    fn of_load(
-        cells: &[Mark],
-        key: Option<&'a FetchKey>,
-        reply: Option<&LoadReply>,
-    ) -> Option<Line<'a>> {
-        match reply? {
-            LoadReply::Fresh { cell, batch } => {
-                let mark = Mark::of_load(cells, *cell, Mark::Fresh);
-                Line::of_key(key, mark, Some(*batch))
+    /// The line of a load, by what became of its cell if that is known.
+    fn of_load(cells: &'a [Fate], key: &'a FetchKey, reply: LoadReply) -> Line<'a> {
+        let (mark, cell, batch) = match reply {
+            LoadReply::Fresh { cell, batch } => (Mark::Fresh, cell, Some(batch)),
+            LoadReply::Hit(cell) => (Mark::Hit, cell, None),
+        };
+        let fate = cells.get(cell as usize);
+        Line {
+            badges: Badges {
+                mark,
+                cell: fate.and_then(|fate| fate.mark()),
+            },
+            label: Label::Key(key),
+            batch,
+            why: fate.and_then(|fate| fate.why()),
+        }
+    }
+
+    /// The line of a key in a settled batch, by its outcome.
+    fn of_settled(key: &'a FetchKey, outcome: &'a Outcome) -> Line<'a> {
+        let mark = match outcome {
+            Outcome::Value(_) => Mark::Settled,
+            Outcome::KeyError(_) => Mark::KeyError,
+            Outcome::BatchFailed(_) => Mark::Failed,
+        };
+        Line {
+            badges: Badges::of(mark),
+            label: Label::Key(key),
+            batch: None,
+            why: why_of(outcome),
+        }
+    }
+
+    /// The line of a count.
+    fn of_count(count: &Count) -> Line<'a> {
+        let words = match count.badges.mark {
+            Mark::Settled | Mark::Failed | Mark::Waiting => {
+                Phrase::count(count.count, " batch", " batches")
             }
-            LoadReply::Hit(cell) => Line::of_key(key, Mark::of_load(cells, *cell, Mark::Hit), None),
-        }
+            Mark::Refused => Phrase::count(count.count, " call", " calls"),
+            _ => Phrase::count(count.count, " key", " keys"),
+        };
+        Line::of_words(words, count.badges)
     }
 
-    /// The line of an ended batch, if there is one.
-    fn of_end(ended: Option<&Ended>) -> Option<Line<'a>> {
-        let Ended { batch, mark } = ended?;
-        let words = Phrase::Numbered("batch ", *batch as u64, "");
-        Some(Line::of_words(words, *mark))
+    /// The line of an ended batch.
+    fn of_end(ended: &Ended) -> Line<'a> {
+        let words = Phrase::Numbered("batch ", ended.batch as u64, "");
+        Line::of_words(words, Badges::of(ended.mark))
     }
 }
 
@@ -120,6 +172,23 @@ impl<'a> Lines<'a> {
             }
             Lines::Ended(batches) => batches.len(),
             Lines::Refused(_) => 1,
+            Lines::Counts(counts) => counts.len(),
+        }
+    }
+
+    /// Whether they are too many to draw each of them.
+    pub(crate) fn are_many(self) -> bool {
+        match self {
+            Lines::Ended(batches) => batches.len() > MOST_BATCHES,
+            _ => self.count() > MOST_KEYS,
+        }
+    }
+
+    /// The words for this many of them.
+    pub(crate) fn counted(self, count: usize) -> Phrase {
+        match self {
+            Lines::Ended(_) => Phrase::count(count, " batch", " batches"),
+            _ => Phrase::count(count, " key", " keys"),
         }
     }
 
@@ -130,23 +199,39 @@ impl<'a> Lines<'a> {
                 cells,
                 keys,
                 replies,
-            } => Line::of_load(cells, keys.get(place), replies.get(place)),
-            Lines::Keys { keys, mark } => Line::of_key(keys.get(place), mark, None),
-            Lines::Settled { keys, outcomes } => {
-                let mark = Mark::of_cell(Mark::Fresh, outcomes.get(place));
-                Line::of_key(keys.get(place), mark, None)
-            }
-            Lines::Ended(batches) => Line::of_end(batches.get(place)),
-            Lines::Refused(name) => Some(Line::of_words(Phrase::Words(name), Mark::Refused)),
+            } => match (keys.get(place), replies.get(place)) {
+                (Some(key), Some(reply)) => Some(Line::of_load(cells, key, *reply)),
+                _ => None,
+            },
+            Lines::Keys { keys, mark } => match keys.get(place) {
+                Some(key) => Some(Line::of_key(key, mark)),
+                None => None,
+            },
+            Lines::Settled { keys, outcomes } => match (keys.get(place), outcomes.get(place)) {
+                (Some(key), Some(outcome)) => Some(Line::of_settled(key, outcome)),
+                _ => None,
+            },
+            Lines::Ended(batches) => match batches.get(place) {
+                Some(ended) => Some(Line::of_end(ended)),
+                None => None,
+            },
+            Lines::Refused(name) => Some(Line::of_words(
+                Phrase::Words(name),
+                Badges::of(Mark::Refused),
+            )),
+            Lines::Counts(counts) => match counts.get(place) {
+                Some(count) => Some(Line::of_count(count)),
+                None => None,
+            },
         }
     }
 
-    /// How many lines have a mark.
-    pub(crate) fn marked(self, mark: Mark) -> usize {
+    /// How many lines have these marks.
+    pub(crate) fn marked(self, badges: Badges) -> usize {
         let mut count: usize = 0;
         for place in 0..self.count() {
             if let Some(line) = self.line(place) {
-                if line.mark == mark {
+                if line.badges == badges {
                     count = count.saturating_add(1);
                 }
             }

@@ -1,15 +1,13 @@
 //! Marks: what became of a key in a call, or how a batch ended.
 
-use dl_desk::Outcome;
-
 /// What became of a key in a call, or that a batch is settled.
 #[derive(Clone, Copy, PartialEq, Eq)]
 pub(crate) enum Mark {
-    /// Its load began a cell, and its batch gave it a value.
+    /// Its load began a cell.
     Fresh,
-    /// It was held, by a load.
+    /// Its load found it held.
     Hit,
-    /// It was held, by a prime, or this call primed it.
+    /// A prime began its cell.
     Primed,
     /// Its outcome is an error of its own.
     KeyError,
@@ -21,12 +19,14 @@ pub(crate) enum Mark {
     Kept,
     /// The call was refused.
     Refused,
-    /// The batch is settled.
+    /// The batch is settled, and the key has a value.
     Settled,
+    /// Its batch hasn't ended.
+    Waiting,
 }
 
 /// All marks, in the order in which the head explains them.
-pub(crate) static MARKS: [Mark; 9] = [
+pub(crate) static MARKS: [Mark; 10] = [
     Mark::Fresh,
     Mark::Hit,
     Mark::Primed,
@@ -36,27 +36,32 @@ pub(crate) static MARKS: [Mark; 9] = [
     Mark::Kept,
     Mark::Refused,
     Mark::Settled,
+    Mark::Waiting,
 ];
 
+/// The marks of a line: what its call did, and what became of the cell if that is more than that a load gave it a value.
+#[derive(Clone, Copy, PartialEq, Eq)]
+pub(crate) struct Badges {
+    pub(crate) mark: Mark,
+    pub(crate) cell: Option<Mark>,
+}
+
+/// The marks that a cell may have.
+pub(crate) static CELL_MARKS: [Option<Mark>; 4] = [
+    None,
+    Some(Mark::Primed),
+    Some(Mark::KeyError),
+    Some(Mark::Failed),
+];
+
+impl Badges {
+    /// A mark alone.
+    pub(crate) fn of(mark: Mark) -> Badges {
+        Badges { mark, cell: None }
+    }
+}
+
 impl Mark {
-    /// The mark of a load, by the marks of cells: that of its own cell if it says more than that the cell got a value;
-    /// else whether the load began the cell or found it.
-    pub(crate) fn of_load(cells: &[Mark], cell: u32, plain: Mark) -> Mark {
-        match cells.get(cell as usize) {
-            Some(Mark::Fresh) | None => plain,
-            Some(mark) => *mark,
-        }
-    }
-
-    /// The mark of a cell that began with this mark, by the outcome that it got.
-    pub(crate) fn of_cell(self, outcome: Option<&Outcome>) -> Mark {
-        match outcome {
-            Some(Outcome::KeyError(_)) => Mark::KeyError,
-            Some(Outcome::BatchFailed(_)) => Mark::Failed,
-            Some(Outcome::Value(_)) | None => self,
-        }
-    }
-
     /// The letter in its badge.
     pub(crate) fn letter(self) -> &'static str {
         match self {
@@ -69,6 +74,7 @@ impl Mark {
             Mark::Kept => "K",
             Mark::Refused => "R",
             Mark::Settled => "S",
+            Mark::Waiting => "W",
         }
     }
 
@@ -84,6 +90,7 @@ impl Mark {
             Mark::Kept => "kept",
             Mark::Refused => "refused",
             Mark::Settled => "settled",
+            Mark::Waiting => "waiting",
         }
     }
 

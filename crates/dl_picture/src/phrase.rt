@@ -11,6 +11,8 @@ pub(crate) enum Phrase {
     Numbered(&'static str, u64, &'static str),
     /// A number, a space and words.
     Named(u64, &'static str),
+    /// Words, a number, ` to ` and another number.
+    Range(&'static str, u64, u64),
     /// A whole number and a fraction.
     Mean(Mean),
 }

@@ -3,18 +3,20 @@
 use crate::column::Column;
 use crate::drawing::Drawing;
 use crate::head::{add_count, add_numbers, end_head};
-use crate::lines::Lines;
+use crate::history::MOST_BYTES;
+use crate::lines::{Lines, MOST_BATCHES};
 use crate::mark::Mark;
 use crate::numbers::{HistoryNumbers, script_numbers};
 use crate::phrase::Phrase;
+use crate::tally::Tally;
 use dl_desk::{BatchState, BatchView, Desk, DeskCall, DeskFault, FetchKey, Reply};
 use dl_documents::{Script, ScriptRun};
 use std::alloc::{AllocError, Global};
 use std::hash::RandomState;
 
-/// Draws a script, as SVG: its calls in a row, each with its answer, and the batches below them. A column of more than
-/// 200 keys shows counts. `hashing` hashes the keys of the desk that answers the calls, and nothing that you see
-/// depends on it.
+/// Draws a script, as SVG: its calls in a row, each with its answer, and the batches below them. With more than 60
+/// batches, or if the text would have a megabyte, it shows counts. `hashing` hashes the keys of the desk that answers the
+/// calls, and nothing that you see depends on it.
 ///
 /// # Errors
 /// `AllocError` if memory runs out.
@@ -24,39 +26,80 @@ pub fn script_picture(
     script: &Script,
 ) -> Result<String, AllocError> {
     let run = script.play(alloc, hashing)?;
-    run_picture(alloc, script.calls.as_slice(), &run)
+    let numbers = script_numbers(&run)?;
+    if numbers.batches.batches <= MOST_BATCHES as u64 {
+        let picture = run_picture(alloc, script.calls.as_slice(), &run, &numbers)?;
+        if picture.len() <= MOST_BYTES {
+            return Ok(picture);
+        }
+    }
+    folded_picture(alloc, script.calls.as_slice(), &run, &numbers)
 }
 
-/// The picture of what calls left.
-fn run_picture(alloc: Global, calls: &[DeskCall], run: &ScriptRun) -> Result<String, AllocError> {
-    let numbers = script_numbers(run)?;
+/// The picture of what calls left: a head with its numbers, the calls, and the batches.
+fn run_picture(
+    alloc: Global,
+    calls: &[DeskCall],
+    run: &ScriptRun,
+    numbers: &HistoryNumbers,
+) -> Result<String, AllocError> {
     let mut drawing = Drawing::new(alloc);
-    add_run(&mut drawing, calls, run, &numbers);
+    add_head(&mut drawing, run, numbers);
+    add_calls(&mut drawing, calls, run.answers.as_slice());
+    drawing.add_words("lane", Phrase::Words("batches"));
+    add_batches(&mut drawing, &run.desk);
     drawing.finish()
 }
 
-/// What calls left: a head with its numbers, the calls, and the batches.
-fn add_run(drawing: &mut Drawing, calls: &[DeskCall], run: &ScriptRun, numbers: &HistoryNumbers) {
+/// The same with counts of the calls' keys, and of the batches.
+fn folded_picture(
+    alloc: Global,
+    calls: &[DeskCall],
+    run: &ScriptRun,
+    numbers: &HistoryNumbers,
+) -> Result<String, AllocError> {
+    let mut tally = Tally::new(alloc);
+    for (call, answer) in calls.iter().zip(run.answers.as_slice()) {
+        tally.add_lines(call_lines(call, answer))?;
+    }
+    count_batches(&mut tally, &run.desk)?;
+    let mut drawing = Drawing::new(alloc);
+    add_head(&mut drawing, run, numbers);
+    drawing.add_column(&Column {
+        heading: Phrase::Words("all calls"),
+        side: Phrase::Words(""),
+        note: None,
+        batch: None,
+        lines: tally.lines(),
+    });
+    drawing.finish()
+}
+
+/// The head of a script's picture, and the words above its calls.
+fn add_head(drawing: &mut Drawing, run: &ScriptRun, numbers: &HistoryNumbers) {
     drawing.add_words("title", Phrase::Words("What the calls were answered"));
     add_count(drawing, "calls", "calls", run.answers.len() as u64);
     add_numbers(drawing, numbers, "keys in batches");
     end_head(drawing);
     drawing.add_words("lane", Phrase::Words("calls"));
-    add_calls(drawing, calls, run.answers.as_slice());
-    drawing.add_words("lane", Phrase::Words("batches"));
-    add_batches(drawing, &run.desk);
 }
 
 // ---- calls
 
 /// A column for each call, with its number and its answer.
-fn add_calls(drawing: &mut Drawing, calls: &[DeskCall], answers: &[Result<Reply, DeskFault>]) {
+fn add_calls<'a>(
+    drawing: &mut Drawing,
+    calls: &'a [DeskCall],
+    answers: &'a [Result<Reply, DeskFault>],
+) {
     for number in 0..calls.len() {
         if let Some(call) = calls.get(number) {
             if let Some(answer) = answers.get(number) {
                 drawing.add_column(&Column {
                     heading: Phrase::Named(number as u64, name_of(call)),
                     side: side_of(call, answer),
+                    note: None,
+                    batch: None,
                     lines: call_lines(call, answer),
                 });
             }
@@ -155,18 +198,36 @@ fn add_batches(drawing: &mut Drawing, desk: &Desk) {
     }
 }
 
+/// Counts the batches by how far they have come. Fails if memory runs out.
+fn count_batches(tally: &mut Tally, desk: &Desk) -> Result<(), AllocError> {
+    for number in 0..u32::MAX {
+        match desk.batch(number) {
+            Some(batch) => tally.add_batch(state_of(&batch).1)?,
+            None => return Ok(()),
+        }
+    }
+    Ok(())
+}
+
+/// How far a batch has come.
+fn state_of(batch: &BatchView<'_>) -> (&'static str, Mark) {
+    match batch.state() {
+        BatchState::Collecting => (" open", Mark::Waiting),
+        BatchState::Sent => (" sent", Mark::Waiting),
+        BatchState::Settled => (" settled", Mark::Settled),
+        BatchState::Failed => (" failed", Mark::Failed),
+    }
+}
+
 /// The column of a batch.
 fn batch_column<'a>(number: u32, batch: &BatchView<'a>) -> Column<'a> {
-    let (state, mark) = match batch.state() {
-        BatchState::Collecting => (" collecting", Mark::Fresh),
-        BatchState::Sent => (" sent", Mark::Fresh),
-        BatchState::Settled => (" settled", Mark::Fresh),
-        BatchState::Failed => (" failed", Mark::Failed),
-    };
+    let (state, mark) = state_of(batch);
     let keys = batch.keys();
     Column {
         heading: Phrase::Numbered("batch ", number as u64, state),
         side: Phrase::count(keys.len(), " key", " keys"),
+        note: None,
+        batch: Some(number),
         lines: Lines::Keys { keys, mark },
     }
 }

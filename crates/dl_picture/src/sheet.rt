@@ -99,6 +99,10 @@ impl Sheet {
                 self.push(" ");
                 self.push(words);
             }
+            Phrase::Range(front, first, last) => {
+                self.push(front);
+                self.push_form("# to #", &[first, last]);
+            }
             Phrase::Mean(mean) => self.push_form("# #/#", &[mean.whole, mean.rest, mean.of]),
         }
     }

@@ -21,12 +21,15 @@ text{font-family:ui-monospace,'DejaVu Sans Mono',Menlo,Consolas,monospace;font-s
 .kept{fill:#bbbbbb}
 .refused{fill:#999999}
 .settled{fill:#56b4e9}
+.waiting{fill:#dddddd}
+.join{fill:none;stroke:#8c959f}
 @media (prefers-color-scheme:dark){
 text{fill:#e6e9ed}
 .soft,.side{fill:#9aa5b1}
 .letter{fill:#000000}
 .ground{fill:#12161b}
 .card{fill:#1d232b;stroke:#3d4752}
+.join{stroke:#768390}
 }
 </style>
 ";

@@ -1,0 +1,57 @@
+//! Counts of lines by their marks.
+
+use crate::lines::{Count, Lines};
+use crate::mark::{Badges, Mark};
+use std::alloc::{AllocError, Global};
+
+/// How many keys have which marks, how many batches ended in which way, and how many calls were refused.
+#[derive(Drop)]
+pub(crate) struct Tally {
+    counts: Vec<Count>,
+}
+
+impl Tally {
+    /// Of nothing.
+    pub(crate) fn new(alloc: Global) -> Tally {
+        Tally {
+            counts: Vec::new(alloc),
+        }
+    }
+
+    /// Begins anew.
+    pub(crate) fn clear(&mut self) {
+        self.counts.clear();
+    }
+
+    /// Its counts, as lines.
+    pub(crate) fn lines(&self) -> Lines<'_> {
+        Lines::Counts(self.counts.as_slice())
+    }
+
+    /// Counts the lines of a call. Fails if memory runs out.
+    pub(crate) fn add_lines(&mut self, lines: Lines<'_>) -> Result<(), AllocError> {
+        for place in 0..lines.count() {
+            if let Some(line) = lines.line(place) {
+                self.add(line.badges)?;
+            }
+        }
+        Ok(())
+    }
+
+    /// Counts a batch that ended in this way. Fails if memory runs out.
+    pub(crate) fn add_batch(&mut self, mark: Mark) -> Result<(), AllocError> {
+        self.add(Badges::of(mark))
+    }
+
+    /// Counts one more.
+    fn add(&mut self, badges: Badges) -> Result<(), AllocError> {
+        for count in self.counts.iter_mut() {
+            if count.badges == badges {
+                count.count = count.count.saturating_add(1);
+                return Ok(());
+            }
+        }
+        self.counts.push(Count { badges, count: 1 })?;
+        Ok(())
+    }
+}
