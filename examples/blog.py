@@ -1,6 +1,9 @@
 """The SQLite file of a blog, which the servers of this folder answer from, and counts what it is asked."""
 
+import argparse
+import os
 import sqlite3
+import tempfile
 from collections import defaultdict
 
 
@@ -45,3 +48,17 @@ class Database:
 
     def close(self):
         self.connection.close()
+
+
+def answer_or_serve(about, compare, serve):
+    """What each server does with a file of its own: it answers some requests by itself, or serves on the port that its command line has."""
+    parser = argparse.ArgumentParser(description=about.splitlines()[0])
+    parser.add_argument("--port", type=int)
+    port = parser.parse_args().port
+    with tempfile.TemporaryDirectory() as folder:
+        path = os.path.join(folder, "blog.sqlite")
+        fill(path)
+        if port is None:
+            compare(path)
+        else:
+            serve(path, port)

@@ -5,17 +5,14 @@ Without arguments it answers a request, and prints how many SQL statements that 
 serves until it is stopped.
 """
 
-import argparse
 import contextlib
 import json
-import os
-import tempfile
 import threading
 from concurrent.futures import ThreadPoolExecutor
 from wsgiref.util import setup_testing_defaults
 
-from blog import Database, fill
-from threads_server import serve
+from blog import Database, answer_or_serve
+from threads_server import serve_on
 from thrushscreen.shared import ThreadedDataLoader
 
 # How many resolvers a request has, and how often each waits: so often a batch of its own may be sent at most.
@@ -95,19 +92,5 @@ def compare(path):
     print(f"100 posts: at most {1 + RESOLVERS * WAITS} SQL statements with loaders, {many.statements} without")
 
 
-def main():
-    parser = argparse.ArgumentParser(description=__doc__.splitlines()[0])
-    parser.add_argument("--port", type=int)
-    port = parser.parse_args().port
-    with tempfile.TemporaryDirectory() as folder:
-        path = os.path.join(folder, "blog.sqlite")
-        fill(path)
-        if port is None:
-            compare(path)
-        else:
-            print(f"serving on http://127.0.0.1:{port}")
-            serve(Application(path), port).serve_forever()
-
-
 if __name__ == "__main__":
-    main()
+    answer_or_serve(__doc__, compare, lambda path, port: serve_on(Application(path), port))

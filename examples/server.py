@@ -5,19 +5,16 @@ Without arguments it answers some queries by HTTP, and prints how many SQL state
 `--port PORT` it serves until it is stopped: POST a JSON object with the member "query".
 """
 
-import argparse
 import asyncio
 import json
-import os
 import sys
-import tempfile
 from dataclasses import dataclass
 
 sys.path.append("/usr/lib/python3/dist-packages")  # Debian's graphql-core, for a Python that isn't Debian's.
 
 from graphql import build_ast_schema, graphql, parse  # noqa: E402
 
-from blog import Database, fill  # noqa: E402
+from blog import Database, answer_or_serve  # noqa: E402
 from thrushscreen import DataLoader  # noqa: E402
 
 try:
@@ -172,15 +169,5 @@ async def serve_on(path, port):
     await server.serve_forever()
 
 
-def main():
-    parser = argparse.ArgumentParser(description=__doc__.splitlines()[0])
-    parser.add_argument("--port", type=int)
-    port = parser.parse_args().port
-    with tempfile.TemporaryDirectory() as folder:
-        path = os.path.join(folder, "blog.sqlite")
-        fill(path)
-        asyncio.run(compare(path) if port is None else serve_on(path, port))
-
-
 if __name__ == "__main__":
-    main()
+    answer_or_serve(__doc__, lambda path: asyncio.run(compare(path)), lambda path, port: asyncio.run(serve_on(path, port)))

@@ -6,17 +6,14 @@ Without arguments it answers some requests by HTTP, and prints how many SQL stat
 `--port PORT` it serves until it is stopped.
 """
 
-import argparse
 import json
-import os
-import tempfile
 import threading
 import urllib.request
 from concurrent.futures import ThreadPoolExecutor
 from socketserver import ThreadingMixIn
 from wsgiref.simple_server import WSGIRequestHandler, WSGIServer, make_server
 
-from blog import Database, fill
+from blog import Database, answer_or_serve
 from thrushscreen.threads import DataLoader, run
 
 
@@ -116,6 +113,12 @@ def serve(application, port):
     return make_server("127.0.0.1", port, application, Server, Quiet)
 
 
+def serve_on(application, port):
+    with serve(application, port) as server:
+        print(f"serving on http://127.0.0.1:{port}")
+        server.serve_forever()
+
+
 def count(path, pages, kind):
     """How many statements the pages take that are asked for at once, and what they are."""
     application = Application(path, kind)
@@ -141,19 +144,5 @@ def compare(path):
         print(f"{name}: {few} SQL statements with loaders, {many} without")
 
 
-def main():
-    parser = argparse.ArgumentParser(description=__doc__.splitlines()[0])
-    parser.add_argument("--port", type=int)
-    port = parser.parse_args().port
-    with tempfile.TemporaryDirectory() as folder:
-        path = os.path.join(folder, "blog.sqlite")
-        fill(path)
-        if port is None:
-            compare(path)
-        else:
-            print(f"serving on http://127.0.0.1:{port}")
-            serve(Application(path), port).serve_forever()
-
-
 if __name__ == "__main__":
-    main()
+    answer_or_serve(__doc__, compare, lambda path, port: serve_on(Application(path), port))

@@ -8,10 +8,10 @@ fn main(rt: HostRuntime) -> anyhow::Result<()> {
     let (alloc, hashing) = (rt.alloc(), RandomState::new(&rt)?);
     let mut desk = Desk::new(alloc, hashing, Limits::new(64, 1_024, 4_096)?);
     let user = FetchKey::new(alloc, "user", "u1")?;
-    println!(rt; "{:?}", desk.load(alloc, &user)?)?;
-    println!(rt; "{:?}", desk.load(alloc, &user)?)?;
+    println!(rt; "{}", desk.load(alloc, &user)?)?;
+    println!(rt; "{}", desk.load(alloc, &user)?)?;
     for job in &desk.dispatch(alloc)? {
-        println!(rt; "batch {} of {} keys", job.batch, job.keys.as_slice().len())?;
+        println!(rt; "{job}")?;
         desk.settle(job.batch)?;
     }
     Ok(())

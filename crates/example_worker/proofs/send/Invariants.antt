@@ -1,0 +1,6 @@
+-- The seat stays one of the queue.
+use Rattle.dl_queue.specs.Seats.{IsSenderOf}
+use Rattle.example_worker.proofs.send.Given as goal
+
+abbrev pub invariant-loop-job : goal.invariant-loop-job
+invariant-loop-job g l = IsSenderOf l.queue l.sender
