@@ -2,9 +2,10 @@
  * held against the definitions of a loader of one thread, which look back through the history and keep no state, and against what
  * each thread was answered and read.
  *
- *     loader_schedules [RUNS [SEED]]
+ *     loader_schedules [RUNS [SEED [tell]]]
  *
- * It prints what is wrong, with the seed of its run, and how many runs passed. */
+ * It prints what is wrong, with the seed of its run, and how many runs passed. With `tell` it prints each history too, as a line of JSON,
+ * for tests/hosts to hold against a loader of its own. */
 #define _POSIX_C_SOURCE 200809L
 #include "dl_loader.h"
 
@@ -513,13 +514,106 @@ static const char *audit_caller(const history *self, const caller *of)
     return calls == of->made_count && reads == of->read_count ? NULL : "a caller made more than the history has";
 }
 
+/* ---- a history that is none */
+
+/* Changes an event: its first answer's cell, or how many batches it has. */
+static void spoil(history *self, uint64_t drawn)
+{
+    atom *at = &self->atoms[drawn % (uint64_t)self->atom_count];
+    event *of = &self->events[at->event];
+
+    while (at > self->atoms && at[-1].event == at->event) {
+        at--;
+    }
+    if (at->key == NONE) {
+        of->event.batches++;
+    } else {
+        at->answer.cell++;
+        of->answer[0].cell++;
+    }
+}
+
+/* ---- the history, told */
+
+/* Prints of each event its caller, its call, the first of its batches, how many they are, and of each key its number, whether a cell
+ * begins, the cell and the batch. */
+static void tell_events(const history *self)
+{
+    for (int i = 0; i < self->event_count; i++) {
+        const event *of = &self->events[i];
+        printf("%s[%u,%u,%u,%zu,[", i > 0 ? "," : "", of->event.caller, of->event.call, of->event.batch, of->event.batches);
+        for (size_t k = 0; k < of->event.keys; k++) {
+            const dl_loaded *answer = &of->answer[k];
+            bool is_fresh = answer->code == DL_FRESH;
+            printf("%s[%u,%s,%u,%u]", k > 0 ? "," : "", of->key[k], is_fresh ? "true" : "false", answer->cell, answer->batch);
+        }
+        printf("]]");
+    }
+}
+
+/* Prints of each entry of a caller whether it is a call, the place of the event, the cell, and the word that the caller read. */
+static void tell_entries(const caller *of)
+{
+    size_t reads = 0;
+    dl_entry entry;
+
+    for (size_t i = 0; (entry = dl_loader_entry(of->loader, of->number, i)).code == DL_DONE; i++) {
+        bool is_call = entry.kind == DL_ENTRY_CALL;
+        uint64_t word = is_call ? 0 : of->reads[reads++].shown.word;
+        printf("%s[%s,%u,%u,%llu]", i > 0 ? "," : "", is_call ? "true" : "false", entry.at, entry.cell, (unsigned long long)word);
+    }
+}
+
+static void tell(const history *self, const caller *callers, bool is_spoiled)
+{
+    printf("{\"spoiled\":%s,\"events\":[", is_spoiled ? "true" : "false");
+    tell_events(self);
+    printf("],\"entries\":[");
+    for (uint32_t i = 0; i < THREADS; i++) {
+        printf("%s[", i > 0 ? "," : "");
+        tell_entries(&callers[i]);
+        printf("]");
+    }
+    printf("]}\n");
+}
+
 /* ---- a run */
 
 static history told;
 static caller callers[THREADS];
 
+/* What is wrong with a history, or with what the callers have of it. */
+static const char *audit(const history *self)
+{
+    const char *fault = audit_history(self);
+
+    for (uint32_t i = 0; i < THREADS && fault == NULL; i++) {
+        fault = audit_caller(self, &callers[i]);
+    }
+    return fault;
+}
+
+/* Holds the history that a closed loader gives against the definitions, and then a change of it, which has to be wrong. */
+static const char *audit_both(dl_loader *loader, uint64_t seed, bool tells)
+{
+    const char *fault = read_history(&told, loader);
+
+    fault = fault == NULL ? audit(&told) : fault;
+    if (fault != NULL) {
+        return fault;
+    }
+    if (tells) {
+        tell(&told, callers, false);
+    }
+    spoil(&told, seed);
+    if (tells) {
+        tell(&told, callers, true);
+    }
+    return audit(&told) == NULL ? "a change goes unseen" : NULL;
+}
+
 /* Runs the threads, and gives what is wrong. */
-static const char *run(uint64_t seed)
+static const char *run(uint64_t seed, bool tells)
 {
     dl_serial_opening opening = {MAX_BATCH, CELLS, MOST_EVENTS, THREADS, seed, ~seed};
     dl_loader *loader = NULL;
@@ -545,11 +639,7 @@ static const char *run(uint64_t seed)
         fault = fault == NULL ? callers[i].fault : fault;
     }
     fault = fault == NULL && dl_loader_close(loader) != DL_DONE ? "close" : fault;
-    fault = fault == NULL ? read_history(&told, loader) : fault;
-    fault = fault == NULL ? audit_history(&told) : fault;
-    for (uint32_t i = 0; i < THREADS && fault == NULL; i++) {
-        fault = audit_caller(&told, &callers[i]);
-    }
+    fault = fault == NULL ? audit_both(loader, seed, tells) : fault;
     dl_loader_free(loader);
     return fault;
 }
@@ -560,7 +650,7 @@ int main(int argc, char **argv)
     uint64_t seed = argc > 2 ? strtoull(argv[2], NULL, 10) : 1;
 
     for (unsigned long i = 0; i < runs; i++) {
-        const char *fault = run(seed + i);
+        const char *fault = run(seed + i, argc > 3);
         if (fault != NULL) {
             failed++;
             printf("seed %llu: %s\n", (unsigned long long)(seed + i), fault);

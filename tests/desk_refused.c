@@ -1,40 +1,14 @@
-/* A C program that makes the calls of dl_desk.h and refuses growths: of each call the first, then the second, and so on until it meets
- * no refusal. A call that is refused a growth answers DL_OUT_OF_MEMORY or its own answer. If it is made again it gives its own, and so
- * do all later calls. Link it with refuse.c. It first checks that this refuses each way to grow: a sweep can't see which refusals it
- * lacks. It prints each check that fails, and how many calls and ways passed. */
+/* A C program that makes the calls of dl_desk.h and refuses their growths, as refused_calls.h says. It first checks that refuse.c refuses
+ * each way to grow: a sweep can't see which refusals it lacks. It prints each check that fails, and how many calls and ways passed. */
 #include "dl_desk.h"
-#include "refuse.h"
 
-#include <stdio.h>
+#define HANDLE dl_desk
+#include "refused_calls.h"
+
 #include <stdlib.h>
-#include <string.h>
 
-typedef enum { OPEN, OPEN_BY_TABLE, LOAD, LOAD_MANY, PRIME, HELD, CLEAR, CLEAR_ALL, DISPATCH, MEMBER, KEY, SETTLE, FAIL, CLOSE } call_name;
-
-/* What a call answers: its code, two numbers, and what else it writes, as one sum. */
-typedef struct {
-    uint32_t code, first, second, sum;
-} answer;
-
-/* A call with the letters of its keys or the number of its batch, its own answer, and whether it may take memory. */
-typedef struct {
-    call_name name;
-    const char *ids;
-    uint32_t batch;
-    answer own;
-    bool grows;
-} call;
-
-static unsigned faults;
-static long refusals;
-
-static void check(bool holds, const char *what, size_t place, long growth)
-{
-    if (!holds) {
-        faults++;
-        printf("call %zu, growth %ld: %s\n", place, growth, what);
-    }
-}
+/* The calls. Those that make or look up something by a key or for a host, up to DISPATCH, grow. */
+enum { OPEN, OPEN_BY_TABLE, LOAD, LOAD_MANY, PRIME, HELD, CLEAR, DISPATCH, CLEAR_ALL, MEMBER, KEY, SETTLE, FAIL, CLOSE };
 
 static answer loaded(dl_loaded given)
 {
@@ -43,23 +17,17 @@ static answer loaded(dl_loaded given)
 
 static answer load_many(dl_desk *desk, const char *ids)
 {
-    enum { MOST = 16 };
-    size_t count = strlen(ids);
     uint8_t texts[5 * MOST] = {0};
     dl_key_lengths lengths[MOST] = {{0, 0}};
     dl_loaded answers[MOST] = {{0, 0, 0}};
     answer given = {0, 0, 0, 0};
+    size_t count = user_keys(ids, texts, lengths);
 
-    for (size_t i = 0; i < count; i++) {
-        memcpy(texts + 5 * i, "user", 4);
-        texts[5 * i + 4] = (uint8_t)ids[i];
-        lengths[i] = (dl_key_lengths){4, 1};
-    }
     given.code = dl_desk_load_many(desk, texts, 5 * count, lengths, count, answers, count);
     for (size_t i = 0; i < count; i++) {
         given.first += answers[i].cell;
         given.second += answers[i].batch;
-        given.sum += answers[i].code;
+        given.third += answers[i].code;
     }
     return given;
 }
@@ -73,7 +41,7 @@ static answer key_of(dl_desk *desk, uint32_t batch)
     given.code = dl_desk_key(desk, batch, 0, &texts);
     given.first = (uint32_t)texts.table_len;
     given.second = (uint32_t)texts.id_len;
-    given.sum = texts.id[0];
+    given.third = texts.id[0];
     return given;
 }
 
@@ -111,13 +79,13 @@ static answer make(dl_desk *desk, const call *call)
         sent = dl_desk_dispatch(desk);
         return (answer){sent.code, sent.first, (uint32_t)sent.count, 0};
     case MEMBER:
-        return loaded(dl_desk_member(desk, call->batch, 0));
+        return loaded(dl_desk_member(desk, call->number, 0));
     case KEY:
-        return key_of(desk, call->batch);
+        return key_of(desk, call->number);
     case SETTLE:
-        return (answer){dl_desk_settle(desk, call->batch), 0, 0, 0};
+        return (answer){dl_desk_settle(desk, call->number), 0, 0, 0};
     case FAIL:
-        return (answer){dl_desk_fail(desk, call->batch), 0, 0, 0};
+        return (answer){dl_desk_fail(desk, call->number), 0, 0, 0};
     case CLOSE:
         return (answer){dl_desk_close(desk), 0, 0, 0};
     }
@@ -163,38 +131,6 @@ static const call CALLS[] = {
     {CLOSE, "", 0, {DL_DONE, 0, 0, 0}, false},
 };
 
-enum { COUNT = sizeof CALLS / sizeof CALLS[0] };
-
-static bool is(answer given, answer own)
-{
-    return given.code == own.code && given.first == own.first && given.second == own.second && given.sum == own.sum;
-}
-
-/* Makes all calls, one of them with that growth refused. Whether it was refused. */
-static bool make_all(size_t place, long growth)
-{
-    static const answer refused = {DL_OUT_OF_MEMORY, 0, 0, 0};
-    dl_desk desk = {0};
-    answer given;
-    bool met = false;
-
-    for (size_t i = 0; i < COUNT; i++) {
-        if (i == place) {
-            refuse_growth(growth);
-            given = make(&desk, &CALLS[i]);
-            met = growths_refused() > 0;
-            refusals += met;
-            check(is(given, CALLS[i].own) || (met && is(given, refused)), "the answer", i, growth);
-            if (!met || is(given, CALLS[i].own)) {
-                continue;
-            }
-        }
-        given = make(&desk, &CALLS[i]);
-        check(is(given, CALLS[i].own), i == place ? "the answer of the call made again" : "a later answer", i, growth);
-    }
-    return met;
-}
-
 enum { MALLOC, CALLOC, REALLOC, WAYS };
 
 static void *grow(unsigned way, void *block)
@@ -236,26 +172,8 @@ static unsigned ways_unrefused(void)
 
 int main(void)
 {
-    bool grew[CLOSE + 1] = {false};
-    unsigned unrefused = ways_unrefused(), failed = 0;
+    enum { COUNT = sizeof CALLS / sizeof CALLS[0] };
+    unsigned unrefused = ways_unrefused();
 
-    for (size_t place = 0; place < COUNT; place++) {
-        unsigned before = faults;
-        long growth = 1;
-        while (make_all(place, growth)) {
-            growth++;
-        }
-        grew[CALLS[place].name] |= growth > 1;
-        check(growth == 1 || CALLS[place].grows, "it takes memory", place, growth);
-        failed += faults > before;
-    }
-    for (size_t place = 0; place < COUNT; place++) {
-        if (CALLS[place].grows && !grew[CALLS[place].name]) {
-            failed++;
-            printf("call %zu: no growth was refused\n", place);
-        }
-    }
-    failed += unrefused;
-    printf("%ld growths refused\n%u passed, %u failed\n", refusals, failed < COUNT ? COUNT + WAYS - failed : 0, failed);
-    return failed == 0 ? 0 : 1;
+    return sum_up(COUNT + WAYS, unrefused + refuse_each(CALLS, COUNT, DISPATCH));
 }

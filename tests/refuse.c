@@ -1,10 +1,11 @@
 /* Lies below a program (LD_PRELOAD, or linked with it) and refuses what it asks of the system.
  *
- * The environment says what: REFUSE_GROWTH, REFUSE_THREAD, REFUSE_RANDOM, REFUSE_READ, REFUSE_DISK or REFUSE_WRITE=n refuses the
- * n-th, counted from 1; with a + behind it, that one and all that follow; and with :e behind that, by the error e. By the error 0 a
- * write takes nothing. MOST_READ and MOST_WRITE let a read or a write take at most this many bytes. READ counts the reads of standard
- * input, DISK those of other files, and WRITE the writes to standard output. With REFUSE_IN, only the growths count that a library asks
- * for whose file has this in its name. YIELD=s lets threads yield or sleep for an instant at growths, as s draws it.
+ * The environment says what: REFUSE_GROWTH, REFUSE_THREAD, REFUSE_RANDOM, REFUSE_OPEN, REFUSE_READ, REFUSE_DISK or REFUSE_WRITE=n refuses
+ * the n-th, counted from 1; with a + behind it, that one and all that follow; and with :e behind that, by the error e. By the error 0 a
+ * write takes nothing. MOST_READ and MOST_WRITE let a read or a write take at most this many bytes. OPEN counts the files that are
+ * opened, READ the reads of standard input, DISK those of other files, and WRITE the writes to standard output. With REFUSE_IN, only the
+ * growths count that a library asks for whose file has this in its name. YIELD=s lets threads yield or sleep for an instant at growths,
+ * as s draws it.
  *
  * A test asks from inside, by growths of sizes that nothing else has (crates/dl_tests): GROWTHS + n bytes refuse the n-th growth from
  * then on, THREADS + n the n-th thread, and ENDS bytes end that, and are refused themselves if one was.
@@ -30,7 +31,7 @@
 /* The C library's own, which it keeps under these names too. */
 extern void *__libc_malloc(size_t), *__libc_realloc(void *, size_t), *__libc_calloc(size_t, size_t);
 
-typedef enum { GROWTH, THREAD, RANDOM, READ, DISK, WRITE, KINDS } kind;
+typedef enum { GROWTH, THREAD, RANDOM, OPEN, READ, DISK, WRITE, KINDS } kind;
 
 /* The sizes by which a test asks. */
 enum { GROWTHS = 5000011, THREADS = 5200011, ENDS = 5400013, MOST = 10000 };
@@ -71,8 +72,8 @@ static void read_rule(kind kind, const char *text)
 
 __attribute__((constructor)) static void read_environment(void)
 {
-    static const char *const names[KINDS] = {"REFUSE_GROWTH", "REFUSE_THREAD", "REFUSE_RANDOM", "REFUSE_READ", "REFUSE_DISK", "REFUSE_WRITE"};
-    static const int errors[KINDS] = {ENOMEM, EAGAIN, EIO, EIO, EIO, ENOSPC};
+    static const char *const names[KINDS] = {"REFUSE_GROWTH", "REFUSE_THREAD", "REFUSE_RANDOM", "REFUSE_OPEN", "REFUSE_READ", "REFUSE_DISK", "REFUSE_WRITE"};
+    static const int errors[KINDS] = {ENOMEM, EAGAIN, EIO, EACCES, EIO, EIO, ENOSPC};
     int told = (int)number_of("REFUSE_TOLD", 0);
 
     if (told != 0) {
@@ -214,6 +215,12 @@ int pthread_create(pthread_t *thread, const pthread_attr_t *attributes, void *(*
 int getentropy(void *bytes, size_t count)
 {
     return is_refused(RANDOM) || syscall(SYS_getrandom, bytes, count, 0) != (long)count ? -1 : 0;
+}
+
+/* With a mode or without one, which the system then doesn't look at. */
+int open(const char *path, int flags, unsigned mode)
+{
+    return is_refused(OPEN) ? -1 : (int)syscall(SYS_open, path, flags, mode);
 }
 
 ssize_t read(int file, void *bytes, size_t count)

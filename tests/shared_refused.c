@@ -1,39 +1,12 @@
-/* A C program that makes the calls of dl_loader.h and refuses growths: of each call the first, then the second, and so on until it
- * meets no refusal. A call that is refused a growth answers DL_OUT_OF_MEMORY or its own answer. If it is made again it gives its own,
- * and so do all later calls, and the history is the same. Link it with refuse.c. It prints each check that fails, and how many calls
- * passed. */
+/* A C program that makes the calls of dl_loader.h and refuses their growths, as refused_calls.h says; the history is the same each time.
+ * It prints each check that fails, and how many calls passed. */
 #include "dl_loader.h"
-#include "refuse.h"
 
-#include <stdio.h>
-#include <string.h>
+#define HANDLE dl_loader *
+#include "refused_calls.h"
 
-typedef enum { OPEN, OPEN_BY_TABLE, LOAD, LOAD_MANY, PRIME, CLEAR, CLEAR_ALL, DISPATCH, MEMBER, SETTLE, FAIL, LOOK, SAW, CLOSE, EVENT, FREE } call_name;
-
-/* What a call answers: its code, and three numbers. */
-typedef struct {
-    uint32_t code, first, second, third;
-} answer;
-
-/* A call with the letters of its keys or a number, its own answer, and whether it may take memory. */
-typedef struct {
-    call_name name;
-    const char *ids;
-    uint32_t number;
-    answer own;
-    bool grows;
-} call;
-
-static unsigned faults;
-static long refusals;
-
-static void check(bool holds, const char *what, size_t place, long growth)
-{
-    if (!holds) {
-        faults++;
-        printf("call %zu, growth %ld: %s\n", place, growth, what);
-    }
-}
+/* The calls. What makes a loader or a cell, up to PRIME, grows. */
+enum { OPEN, OPEN_BY_TABLE, LOAD, LOAD_MANY, PRIME, CLEAR, CLEAR_ALL, DISPATCH, MEMBER, SETTLE, FAIL, LOOK, SAW, CLOSE, EVENT, FREE };
 
 static const dl_serial_opening opening = {.max_batch = 2, .max_cells = 64, .max_calls = 64, .callers = 2, .seed_low = 1, .seed_high = 2};
 
@@ -47,18 +20,12 @@ static answer open_by_table(dl_loader **loader)
 /* The sums of the cells, the batches and the codes of several loads. */
 static answer load_many(dl_loader *loader, uint32_t caller, const char *ids)
 {
-    enum { MOST = 16 };
-    size_t count = strlen(ids);
     uint8_t texts[5 * MOST] = {0};
     dl_key_lengths lengths[MOST] = {{0, 0}};
     dl_ticket answers[MOST] = {{0, 0, 0, 0}};
     answer given = {0, 0, 0, 0};
+    size_t count = user_keys(ids, texts, lengths);
 
-    for (size_t i = 0; i < count; i++) {
-        memcpy(texts + 5 * i, "user", 4);
-        texts[5 * i + 4] = (uint8_t)ids[i];
-        lengths[i] = (dl_key_lengths){4, 1};
-    }
     given.code = dl_loader_load_many(loader, caller, texts, 5 * count, lengths, count, answers, count);
     for (size_t i = 0; i < count; i++) {
         given.first += answers[i].cell;
@@ -181,60 +148,9 @@ static const call CALLS[] = {
     {FREE, "", 0, {0, 0, 0, 0}, false},
 };
 
-enum { COUNT = sizeof CALLS / sizeof CALLS[0] };
-
-static bool is(answer given, answer own)
-{
-    return given.code == own.code && given.first == own.first && given.second == own.second && given.third == own.third;
-}
-
-/* Makes all calls, one of them with that growth refused. Whether it was refused. */
-static bool make_all(size_t place, long growth)
-{
-    static const answer refused = {DL_OUT_OF_MEMORY, 0, 0, 0};
-    dl_loader *loader = NULL;
-    answer given;
-    bool met = false;
-
-    for (size_t i = 0; i < COUNT; i++) {
-        if (i == place) {
-            refuse_growth(growth);
-            given = make(&loader, &CALLS[i]);
-            met = growths_refused() > 0;
-            refusals += met;
-            check(is(given, CALLS[i].own) || (met && is(given, refused)), "the answer", i, growth);
-            if (!met || is(given, CALLS[i].own)) {
-                continue;
-            }
-        }
-        given = make(&loader, &CALLS[i]);
-        check(is(given, CALLS[i].own), i == place ? "the answer of the call made again" : "a later answer", i, growth);
-    }
-    return met;
-}
-
 int main(void)
 {
-    bool grew[FREE + 1] = {false};
-    unsigned failed = 0;
+    enum { COUNT = sizeof CALLS / sizeof CALLS[0] };
 
-    for (size_t place = 0; place < COUNT; place++) {
-        unsigned before = faults;
-        long growth = 1;
-        while (make_all(place, growth)) {
-            growth++;
-        }
-        grew[CALLS[place].name] |= growth > 1;
-        check(growth == 1 || CALLS[place].grows, "it takes memory", place, growth);
-        failed += faults > before;
-    }
-    /* What makes a loader or a cell grows. */
-    for (call_name name = OPEN; name <= PRIME; name++) {
-        failed += !grew[name];
-        if (!grew[name]) {
-            printf("call %d: no growth was refused\n", name);
-        }
-    }
-    printf("%ld growths refused\n%u passed, %u failed\n", refusals, failed < COUNT ? COUNT - failed : 0, failed);
-    return failed == 0 ? 0 : 1;
+    return sum_up(COUNT, refuse_each(CALLS, COUNT, PRIME));
 }

@@ -1,10 +1,9 @@
-"""The class that threads share: what it answers, when it sends, whom it wakes, and whether its history is one of a loader of one thread."""
+"""The class that threads share: what it answers, when it sends, whom it wakes, and its history. tests/hosts draws histories of threads."""
 
 import concurrent.futures
 import contextlib
 import gc
 import math
-import random
 import subprocess
 import sys
 import threading
@@ -619,87 +618,6 @@ class Histories(unittest.TestCase):
             with self.assertRaisesRegex(RuntimeError, "closed"):
                 call()
         self.assertEqual(loads[0].result(), "b")
-
-    def test_the_history_of_threads_is_one_of_a_loader_of_one_thread(self):
-        for seed in range(20):
-            with self.subTest(seed=seed):
-                self.check(self.drawn(seed))
-
-    def drawn(self, seed):
-        """The history of a loader that threads share, which make calls that are drawn. Each value that they read is that of its key."""
-        threads, start = 6, threading.Barrier(6)
-
-        def batch_load_fn(keys):
-            if random.random() < 0.2:
-                raise Down
-            return keys
-
-        loader = ThreadedDataLoader(batch_load_fn, max_batch_size=3, delay=0.0005)
-
-        def request(number):
-            draws = random.Random(threads * seed + number)
-            start.wait(LONGEST)
-            with loader.calling() if number % 2 else contextlib.nullcontext():
-                for _ in range(40):
-                    call, key = draws.choice("lllllmmpcC"), draws.randrange(6)
-                    with contextlib.suppress(Down):
-                        if call == "l":
-                            self.assertEqual(loader.load(key, timeout=LONGEST), key)
-                        elif call == "m":
-                            given = loader.load_many([key, key + 1, key], timeout=LONGEST)
-                            self.assertTrue(all(one in (key, key + 1) or isinstance(one, Down) for one in given), given)
-                        else:
-                            {"p": lambda: loader.prime(key, key), "c": lambda: loader.clear(key), "C": loader.clear_all}[call]()
-
-        self.assertEqual(in_threads([lambda number=number: request(number) for number in range(threads)]), [None] * threads)
-        loader.dispatch()
-        return loader.close()
-
-    def check(self, history):
-        """Holds each reply against a loader of one thread, which has a map of what it holds."""
-        held, cells, batches, sent, ended = {}, 0, [], 0, {}
-        for event in history.events:
-            for key, is_fresh, cell, batch in event.answers:
-                if event.call == "clear":
-                    held.pop(key, None)
-                    continue
-                self.assertEqual(is_fresh, key not in held)
-                if not is_fresh:
-                    self.assertEqual(cell, held[key] if event.call != "prime" else None)
-                    continue
-                self.assertEqual(cell, cells)
-                held[key], cells = cell, cells + 1
-                if event.call != "prime":
-                    if len(batches) == sent or len(batches[-1]) == 3 or key in batches[-1]:
-                        batches.append({})
-                    self.assertEqual(batch, len(batches) - 1)
-                    batches[-1][key] = cell
-            if event.call == "clear_all":
-                held.clear()
-            elif event.call == "dispatch":
-                self.assertEqual(list(event.batches), list(range(sent, len(batches))))
-                sent = len(batches)
-            elif event.call in ("settle", "fail"):
-                (batch,) = event.batches
-                self.assertTrue(batch < sent and batch not in ended)
-                ended[batch] = event.call
-                if event.call == "fail":
-                    held = {key: cell for key, cell in held.items() if batches[batch].get(key) != cell}
-        self.assertEqual(len(ended), len(batches))
-        for caller, entries in enumerate(history.entries):
-            calls = [entry.at for entry in entries if entry.cell is None]
-            self.assertEqual(calls, [at for at, event in enumerate(history.events) if event.caller == caller])
-            self.entries_agree(history, entries)
-
-    def entries_agree(self, history, entries):
-        """Each call is later than the end of what its caller had read before."""
-        front = 0
-        for at, cell in entries:
-            if cell is None:
-                self.assertGreaterEqual(at, front)
-            else:
-                self.assertIn(history.events[at].call, ("settle", "fail", "prime"))
-                front = max(front, at + 1)
 
 
 if __name__ == "__main__":

@@ -10,9 +10,7 @@
 #define PY_SSIZE_T_CLEAN
 #include <Python.h>
 
-#include <stdlib.h>
-#include <string.h>
-
+#include "_keys.h"
 #include "dl_desk.h"
 
 /* What the extension has in each interpreter: references, and nothing else. */
@@ -200,31 +198,6 @@ static void raise_again(PyObject *error)
 }
 
 /* Keys. */
-
-/* A key as the desk knows it: the digits of a number. Python's dict says which keys are one. So nobody but the loader chooses the
- * desk's keys, and its hashes need no seed. */
-typedef struct {
-    size_t len;
-    uint8_t digits[20];
-} KeyText;
-
-/* The one table of a desk, and what a call of the desk takes of a key. */
-#define TABLE "k"
-#define KEY(text) (const uint8_t *)TABLE, sizeof TABLE - 1, (text).digits, (text).len
-
-static KeyText key_text(uint64_t number)
-{
-    KeyText text = {.len = 1};
-
-    for (uint64_t rest = number / 10; rest > 0; rest /= 10) {
-        text.len++;
-    }
-    for (size_t place = text.len; place > 0; place--) {
-        text.digits[place - 1] = (uint8_t)('0' + number % 10);
-        number /= 10;
-    }
-    return text;
-}
 
 static bool is_key(PyObject *key)
 {
@@ -1269,7 +1242,7 @@ static bool read_many(Desk *self, PyObject *keys, Many *many)
     size_t count = (size_t)PyTuple_Size(keys);
 
     many->known = PyMem_New(Known *, count + 1);
-    many->texts = PyMem_New(uint8_t, (count + 1) * (sizeof TABLE - 1 + sizeof((KeyText *)0)->digits));
+    many->texts = PyMem_New(uint8_t, (count + 1) * KEY_BYTES);
     many->lengths = PyMem_New(dl_key_lengths, count + 1);
     many->answers = PyMem_New(dl_loaded, count + 1);
     if (many->known == NULL || many->texts == NULL || many->lengths == NULL || many->answers == NULL) {
@@ -1278,15 +1251,10 @@ static bool read_many(Desk *self, PyObject *keys, Many *many)
     }
     for (; many->count < count; many->count++) {
         uint64_t number;
-        KeyText text;
         if (!loaded_key(self, PyTuple_GetItem(keys, (Py_ssize_t)many->count), &many->known[many->count], &number)) {
             return false;
         }
-        text = key_text(number);
-        memcpy(many->texts + many->texts_len, TABLE, sizeof TABLE - 1);
-        memcpy(many->texts + many->texts_len + sizeof TABLE - 1, text.digits, text.len);
-        many->texts_len += sizeof TABLE - 1 + text.len;
-        many->lengths[many->count] = (dl_key_lengths){sizeof TABLE - 1, (uint32_t)text.len};
+        many->lengths[many->count] = append_key(number, many->texts, &many->texts_len);
     }
     return true;
 }
@@ -2297,10 +2265,6 @@ static void module_free(void *module)
     module_clear(module);
 }
 
-/* From Python 3.12 on there is one more slot, by which an interpreter with a lock of its own takes the module: the desk shares
- * nothing. */
-enum { MULTIPLE_INTERPRETERS = 3, EACH_WITH_ITS_LOCK = 2 };
-
 static PyModuleDef_Slot module_slots[] = {
     {Py_mod_exec, module_exec},
     {0, NULL},
@@ -2315,8 +2279,6 @@ static struct PyModuleDef desk_module = {
 
 PyMODINIT_FUNC PyInit__desk(void)
 {
-    if (strtol(Py_GetVersion() + strlen("3."), NULL, 10) >= 12) {
-        module_slots[1] = (PyModuleDef_Slot){MULTIPLE_INTERPRETERS, (void *)EACH_WITH_ITS_LOCK};
-    }
+    take_own_locks(&module_slots[1]);
     return PyModuleDef_Init(&desk_module);
 }

@@ -10,9 +10,8 @@
 #include <Python.h>
 
 #include <stdatomic.h>
-#include <stdlib.h>
-#include <string.h>
 
+#include "_keys.h"
 #include "dl_loader.h"
 
 typedef struct {
@@ -85,27 +84,9 @@ static bool read_u32(PyObject *given, uint32_t *number)
     return true;
 }
 
-/* A key as the library knows it: the digits of a number. Nobody but the loader chooses it, so hashes need no seed. */
-typedef struct {
-    size_t len;
-    uint8_t digits[20];
-} KeyText;
-
-#define TABLE "k"
-#define KEY(text) (const uint8_t *)TABLE, sizeof TABLE - 1, (text).digits, (text).len
-
 static bool read_key(PyObject *given, KeyText *text)
 {
-    unsigned long long number = PyLong_AsUnsignedLongLong(given);
-
-    text->len = 1;
-    for (unsigned long long rest = number / 10; rest > 0; rest /= 10) {
-        text->len++;
-    }
-    for (size_t place = text->len; place > 0; place--) {
-        text->digits[place - 1] = (uint8_t)('0' + number % 10);
-        number /= 10;
-    }
+    *text = key_text(PyLong_AsUnsignedLongLong(given));
     return !PyErr_Occurred();
 }
 
@@ -181,7 +162,7 @@ static bool read_several(PyObject *list, Py_ssize_t count, Several *several)
 {
     size_t room = (size_t)count + 1;
 
-    several->texts = PyMem_Malloc(room * (sizeof TABLE - 1 + sizeof((KeyText *)0)->digits));
+    several->texts = PyMem_Malloc(room * KEY_BYTES);
     several->lengths = PyMem_Calloc(room, sizeof *several->lengths);
     several->answers = PyMem_Calloc(room, sizeof *several->answers);
     several->texts_len = 0;
@@ -190,15 +171,12 @@ static bool read_several(PyObject *list, Py_ssize_t count, Several *several)
         return false;
     }
     for (Py_ssize_t i = 0; i < count; i++) {
-        PyObject *number = PyList_GetItem(list, i);
-        KeyText key;
-        if (number == NULL || !read_key(number, &key)) {
+        PyObject *given = PyList_GetItem(list, i);
+        unsigned long long number = given == NULL ? 0 : PyLong_AsUnsignedLongLong(given);
+        if (PyErr_Occurred()) {
             return false;
         }
-        several->texts[several->texts_len] = TABLE[0];
-        memcpy(several->texts + several->texts_len + 1, key.digits, key.len);
-        several->lengths[i] = (dl_key_lengths){1, (uint32_t)key.len};
-        several->texts_len += 1 + key.len;
+        several->lengths[i] = append_key(number, several->texts, &several->texts_len);
     }
     return true;
 }
@@ -654,10 +632,7 @@ static int module_clear(PyObject *module)
     return 0;
 }
 
-/* From Python 3.12 on an interpreter with a lock of its own takes the module by one more slot, as _desk.c says. A Python without such a
- * lock takes it by another: the lock of dl_loader.c keeps calls apart. */
-enum { MULTIPLE_INTERPRETERS = 3, EACH_WITH_ITS_LOCK = 2 };
-
+/* A Python without an interpreter's lock takes the module by one more slot: the lock of dl_loader.c keeps calls apart. */
 static PyModuleDef_Slot module_slots[] = {
     {Py_mod_exec, module_exec},
 #ifdef Py_GIL_DISABLED
@@ -675,9 +650,6 @@ static struct PyModuleDef shared_module = {
 
 PyMODINIT_FUNC PyInit__shared(void)
 {
-    if (strtol(Py_GetVersion() + strlen("3."), NULL, 10) >= 12) {
-        module_slots[sizeof module_slots / sizeof *module_slots - 2] =
-            (PyModuleDef_Slot){MULTIPLE_INTERPRETERS, (void *)EACH_WITH_ITS_LOCK};
-    }
+    take_own_locks(&module_slots[sizeof module_slots / sizeof *module_slots - 2]);
     return PyModuleDef_Init(&shared_module);
 }
