@@ -92,10 +92,12 @@ def spelled(kind, what):
 def load_future(loader, key):
     hits = loader.counters.hits
     # Of what is held the desk is asked, and of a load not always.
-    is_held = loader.held(key) is not None
+    held = loader.held(key)
+    if held:
+        held.add_done_callback(asyncio.Future.exception)  # or asyncio prints an exception that nobody took
     future = loader.load(key)
     is_hit = loader.counters.hits > hits
-    assert is_hit == is_held, f"the load of {key!r} is {'' if is_hit else 'not '}a hit"
+    assert is_hit == bool(held), f"the load of {key!r} is {'' if is_hit else 'not '}a hit"
     return is_hit, future
 
 
