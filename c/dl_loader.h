@@ -32,7 +32,7 @@ enum {
     DL_EMPTY = 0,    /* no word yet; of dl_loader_wait_until: the deadline has passed */
     DL_SETTLED = 1,  /* the word that a settle or a prime gave it */
     DL_FAILED = 2,   /* the word with which its batch failed */
-    DL_ABANDONED = 3 /* of a wait alone: the cell is empty and stays so, since the loader is stopped or closed or has no such cell */
+    DL_ABANDONED = 3 /* of a wait alone: the cell is empty and stays so: the loader is stopped or closed, or max_cells is no greater */
 };
 
 /* What a cell shows, with its word if it is settled or failed, else 0. */

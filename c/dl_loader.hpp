@@ -18,8 +18,8 @@ namespace dl {
 /// A call that was refused, with its code.
 class refused : public std::runtime_error {
 public:
-    refused(const char *call, std::uint32_t code)
-        : std::runtime_error(std::string(call) + " was refused by the code " + std::to_string(code)), code(code) {}
+    refused(const char *call, std::uint32_t why)
+        : std::runtime_error(std::string(call) + " was refused by the code " + std::to_string(why)), code(why) {}
     const std::uint32_t code;
 };
 
@@ -38,14 +38,15 @@ struct member {
     std::uint32_t cell;
 };
 
-/// A batch that was sent. Whoever has it fetches it, and ends it by `settle` or `fail`; if it goes before, it fails with the word 0.
+/// A batch that was sent: fetch it, and settle or fail it. If it is destroyed before, it fails with the word 0, or else stops the loader.
 class job {
 public:
     job(dl_loader *loader, std::uint32_t caller, std::uint32_t batch) noexcept : loader_(loader), caller_(caller), batch_(batch) {}
     job(job &&other) noexcept : loader_(std::exchange(other.loader_, nullptr)), caller_(other.caller_), batch_(other.batch_) {}
     job &operator=(job &&) = delete;
     ~job() {
-        if (loader_) dl_loader_fail(loader_, caller_, batch_, 0);
+        std::uint32_t code = loader_ ? dl_loader_fail(loader_, caller_, batch_, 0) : std::uint32_t(DL_DONE);
+        if (code != DL_DONE && code != DL_ENDED_BEFORE) dl_loader_stop(loader_);
     }
     std::uint32_t batch() const noexcept { return batch_; }
     std::vector<member> members() const {
@@ -76,8 +77,7 @@ class jobs {
 public:
     jobs(dl_loader *loader, std::uint32_t caller, dl_dispatched sent) noexcept
         : loader_(loader), caller_(caller), next_(sent.first), left_(sent.count) {}
-    jobs(jobs &&other) noexcept
-        : loader_(other.loader_), caller_(other.caller_), next_(other.next_), left_(std::exchange(other.left_, 0)) {}
+    jobs(jobs &&other) noexcept : loader_(other.loader_), caller_(other.caller_), next_(other.next_), left_(std::exchange(other.left_, 0)) {}
     jobs &operator=(jobs &&) = delete;
     ~jobs() { while (next()); }
     std::size_t left() const noexcept { return left_; }
@@ -92,7 +92,7 @@ private:
     std::size_t left_;
 };
 
-/// A loader, which outlives its jobs. Any thread may make any call; one thread has it when it is moved or goes.
+/// A loader, which outlives its jobs. Any thread may make any call, but none while it is moved or destroyed.
 class loader {
 public:
     explicit loader(const dl_serial_opening &opening) : held_(open(opening), &dl_loader_free) {}
@@ -100,7 +100,7 @@ public:
         dl_ticket ticket = dl_loader_load(get(), caller, bytes(key.table), key.table.size(), bytes(key.id), key.id.size());
         return check("load", ticket.code), ticket;
     }
-    /// Holds a word for a key, unless it is held: whether it wasn't.
+    /// True if the key wasn't held, and now has the word.
     bool prime(std::uint32_t caller, key key, std::uint64_t word) {
         auto code = dl_loader_prime(get(), caller, bytes(key.table), key.table.size(), bytes(key.id), key.id.size(), word).code;
         return check("prime", code), code == DL_FRESH;
@@ -116,7 +116,8 @@ public:
     dl_shown look(std::uint32_t cell) const noexcept { return dl_loader_look(get(), cell); }
     dl_shown wait(std::uint32_t cell) noexcept { return dl_loader_wait(get(), cell); }
     dl_shown wait_for(std::uint32_t cell, std::chrono::nanoseconds most) noexcept {
-        return wait_until(cell, std::chrono::steady_clock::now() + most);
+        auto now = std::chrono::steady_clock::now();
+        return most < now.max() - now ? wait_until(cell, now + most) : wait(cell);
     }
     /// The steady clock is CLOCK_MONOTONIC.
     dl_shown wait_until(std::uint32_t cell, std::chrono::steady_clock::time_point then) noexcept {
@@ -124,7 +125,7 @@ public:
         timespec deadline = {std::time_t(whole.time_since_epoch().count()), long(std::chrono::nanoseconds(then - whole).count())};
         return dl_loader_wait_until(get(), cell, &deadline);
     }
-    /// Notes that the caller read the outcome of a ticket: whether there is one.
+    /// True if the ticket's cell has ended: then it is noted that the caller read it.
     bool saw(std::uint32_t caller, std::size_t ticket) {
         auto code = dl_loader_saw(get(), caller, ticket);
         return check("saw", code), code == DL_DONE;

@@ -33,7 +33,7 @@ enum {
     DL_NO_CALLER = 19,       /* the loader has no caller of this number */
     DL_STOPPED = 20,         /* the loader is stopped */
     DL_LOG_FULL = 21,        /* the loader has made as many calls as its limit says */
-    DL_UNSETTLED = 22,       /* a batch has not ended: settle it or fail it */
+    DL_UNSETTLED = 22,       /* a batch has not ended: dispatch, and settle or fail each */
     DL_NO_EVENT = 23,        /* the history has no such event, and a caller no such entry */
     DL_NO_TICKET = 24,       /* the caller has no ticket of this number */
     DL_BUG = 25              /* of the library: it never comes in a run */

@@ -89,6 +89,15 @@ static void a_job_that_goes_fails() {
     loader.close();
 }
 
+static void a_job_that_nothing_ends_stops_the_loader() {
+    dl_serial_opening few = opening(1);
+    few.max_calls = 2;
+    dl::loader loader(few);
+    loader.load(0, {"user", "a"});
+    CHECK(refusal([&] { loader.dispatch(0).next()->settle({1}); }) == DL_LOG_FULL);
+    CHECK(shows(loader.wait(0), DL_ABANDONED, 0));
+}
+
 static void a_loader_is_moved() {
     dl::loader first(opening(1));
     first.load(0, {"user", "a"});
@@ -105,7 +114,7 @@ static void a_wait_has_a_deadline() {
     loader.load(0, {"user", "a"});
     CHECK(shows(loader.wait_for(0, 0ns), DL_EMPTY, 0) && shows(loader.wait_for(0, 20ms), DL_EMPTY, 0));
     CHECK(shows(loader.wait_until(0, std::chrono::steady_clock::now() - 1h), DL_EMPTY, 0));
-    std::thread waits([&] { CHECK(shows(loader.wait_for(0, 1h), DL_SETTLED, 3)); });
+    std::thread waits([&] { CHECK(shows(loader.wait_for(0, std::chrono::nanoseconds::max()), DL_SETTLED, 3)); });
     loader.dispatch(0).next()->settle({3});
     waits.join();
 }
@@ -138,6 +147,7 @@ int main() {
     each_call_answers();
     what_is_refused_is_thrown();
     a_job_that_goes_fails();
+    a_job_that_nothing_ends_stops_the_loader();
     a_loader_is_moved();
     a_wait_has_a_deadline();
     threads_share_a_loader();

@@ -55,12 +55,13 @@ def posts_view(request):
 
 
 def post_view(request, number):
-    return (yield post(request, (yield request.post.load(number))))
+    row = yield request.post.load(number)
+    return (yield post(request, row)) if row else None
 
 
 def user_view(request, number):
     user, posts = yield [request.user.load(number), request.posts_of.load(number)]
-    return {"name": user["name"], "posts": (yield [post(request, row) for row in posts])}
+    return {"name": user["name"], "posts": (yield [post(request, row) for row in posts])} if user else None
 
 
 def names_view(request):
@@ -70,6 +71,11 @@ def names_view(request):
 
 
 VIEWS = {"posts": posts_view, "post": post_view, "user": user_view, "names": names_view}
+
+
+def not_found(start_response):
+    start_response("404 Not Found", [("Content-Type", "text/plain")])
+    return [b"there is no such page\n"]
 
 
 class Application:
@@ -83,16 +89,18 @@ class Application:
     def __call__(self, environ, start_response):
         name, *numbers = environ["PATH_INFO"].strip("/").split("/")
         if name not in VIEWS or not all(number.isdecimal() for number in numbers):
-            start_response("404 Not Found", [("Content-Type", "text/plain")])
-            return [b"there is no such page\n"]
+            return not_found(start_response)
         request = Request(self.path, self.kind)
         try:
             answer = VIEWS[name](request, *map(int, numbers))
-            body = json.dumps(answer if isinstance(answer, list) else run(answer)).encode()
+            answer = answer if isinstance(answer, list) else run(answer)
         finally:
             request.database.close()
             with self.lock:
                 self.statements += request.database.statements
+        if answer is None:
+            return not_found(start_response)
+        body = json.dumps(answer).encode()
         start_response("200 OK", [("Content-Type", "application/json"), ("Content-Length", str(len(body)))])
         return [body]
 

@@ -1,15 +1,15 @@
 //! What the close of a loader gives.
 
+use crate::cells::Cells;
 use crate::loader::{Key, Outcome};
 use std::ops::Range;
-use std::sync::OnceLock;
 
 /// The history of a closed loader, which a loader of one thread could have had.
 #[derive(Debug)]
 pub struct History<V, E> {
     pub(crate) events: Vec<Event>,
     pub(crate) entries: Vec<Vec<Entry>>,
-    pub(crate) cells: Box<[OnceLock<Outcome<V, E>>]>,
+    pub(crate) cells: Cells<Outcome<V, E>>,
 }
 
 impl<V, E> History<V, E> {
@@ -25,7 +25,7 @@ impl<V, E> History<V, E> {
 
     /// The outcome of a cell, if there is such a cell.
     pub fn outcome(&self, cell: u32) -> Option<&Outcome<V, E>> {
-        self.cells.get(cell as usize)?.get()
+        self.cells.get(cell)
     }
 }
 

@@ -1,5 +1,6 @@
 //! The loader: the proved library behind a lock, with a place for each outcome.
 
+use crate::cells::Cells;
 use crate::error::{Failure, Refusal};
 use crate::history::History;
 use crate::job::Job;
@@ -8,7 +9,7 @@ use std::array;
 use std::collections::hash_map::RandomState;
 use std::hash::{BuildHasher, Hasher};
 use std::sync::atomic::{AtomicU64, Ordering};
-use std::sync::{Condvar, Mutex, MutexGuard, OnceLock, PoisonError};
+use std::sync::{Condvar, Mutex, MutexGuard, PoisonError};
 use std::time::{Duration, Instant};
 
 /// Threads that wait for cell n wait at condition n modulo this, so that an end wakes few others.
@@ -87,7 +88,7 @@ pub struct Loader<V, E> {
     callers: u32,
     locked: Mutex<Locked>,
     ended: Box<[Condvar]>,
-    cells: Box<[OnceLock<Outcome<V, E>>]>,
+    cells: Cells<Outcome<V, E>>,
 }
 
 impl<V, E> Loader<V, E> {
@@ -115,7 +116,7 @@ impl<V, E> Loader<V, E> {
             callers,
             locked: Mutex::new(Locked { serial, is_stopped: false }),
             ended: (0..CONDITIONS).map(|_| Condvar::new()).collect(),
-            cells: (0..limits.max_cells).map(|_| OnceLock::new()).collect(),
+            cells: Cells::new(limits.max_cells),
         };
         (loader, (0..callers).map(|number| Caller { loader: id, number }).collect())
     }
@@ -132,7 +133,7 @@ impl<V, E> Loader<V, E> {
         Ok(given.into_iter().map(|given| self.ticket(caller, given)).collect())
     }
 
-    /// Holds a value, or an error of the key, for a key unless one is held: then you get it back.
+    /// Holds a value, or an error of the key, for a key. If the key is held already, you get your outcome back.
     pub fn prime(
         &self,
         caller: &mut Caller,
@@ -174,11 +175,11 @@ impl<V, E> Loader<V, E> {
     /// The outcome that a ticket shows, if there is one. It takes no lock, and the history doesn't note it.
     pub fn look(&self, ticket: &Ticket) -> Option<&Outcome<V, E>> {
         self.check(ticket.loader).ok()?;
-        self.cells[ticket.cell as usize].get()
+        self.cells.get(ticket.cell)
     }
 
     /// Waits for the outcome of a ticket of this caller, and notes in the history that the caller read it. There is none if the
-    /// loader is stopped.
+    /// loader is stopped before the batch ends. It waits for ever if nobody dispatches.
     pub fn wait(&self, caller: &mut Caller, ticket: &Ticket) -> Result<Option<&Outcome<V, E>>, Refusal> {
         self.wait_until(caller, ticket, None)
     }
@@ -240,7 +241,7 @@ impl<V, E> Loader<V, E> {
 
     /// Gives a cell its outcome, under the lock. It has none: a cell ends once.
     fn show(&self, cell: u32, outcome: Outcome<V, E>) {
-        let is_shown = self.cells[cell as usize].set(outcome).is_ok();
+        let is_shown = self.cells.set(cell, outcome).is_ok();
         debug_assert!(is_shown, "a cell ends once");
     }
 
@@ -254,10 +255,9 @@ impl<V, E> Loader<V, E> {
         if (ticket.loader, ticket.caller) != (self.id, caller.number) {
             return Err(Refusal::OtherLoader);
         }
-        let cell = &self.cells[ticket.cell as usize];
         let condition = &self.ended[ticket.cell as usize % CONDITIONS];
         let mut locked = self.lock();
-        while cell.get().is_none() && !locked.is_stopped {
+        while self.look(ticket).is_none() && !locked.is_stopped {
             let left = deadline.map(|deadline| deadline.saturating_duration_since(Instant::now()));
             locked = match left {
                 None => condition.wait(locked).unwrap_or_else(PoisonError::into_inner),
@@ -265,7 +265,7 @@ impl<V, E> Loader<V, E> {
                 Some(left) => condition.wait_timeout(locked, left).unwrap_or_else(PoisonError::into_inner).0,
             };
         }
-        let Some(outcome) = cell.get() else { return Ok(None) };
+        let Some(outcome) = self.look(ticket) else { return Ok(None) };
         locked.serial.saw(ticket.caller, ticket.number)?;
         Ok(Some(outcome))
     }
