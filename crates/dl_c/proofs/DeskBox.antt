@@ -12,7 +12,7 @@ use Rattle.dl_desk.specs.BatchBook as Book
 use Rattle.dl_c.specs.declared.kept_desk.KeptDesk.{KeptDesk}
 use Rattle.dl_c.specs.contracts.kept_desk.KeptDesk as Kept
 use Rattle.dl_c.proofs.kept_desk.KeptDesk.TheLaws as kept
-use Rattle.dl_c.specs.contracts.box_parts.BoxParts as Parts
+use Rattle.dl_c_values.specs.contracts.box_parts.BoxParts as Parts
 use Rattle.dl_c.specs.contracts.handle.Held as Held
 
 abbrev pub E : Bx

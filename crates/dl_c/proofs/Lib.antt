@@ -1,4 +1,2 @@
 pub mod DeskBox
-pub mod Cuts
-pub mod Rows
 pub mod Replies

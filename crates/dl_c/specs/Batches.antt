@@ -5,13 +5,13 @@ use Rattle.dl_desk.specs.Calls.{refusal}
 use Rattle.dl_desk.specs.declared.call.DeskCall.{DeskCall}
 use Rattle.dl_desk.specs.declared.call.DeskCall.TheVariants.{Dispatch}
 use Rattle.dl_desk.specs.BatchBook.{BatchBook, StandsFor}
-use Rattle.dl_c.specs.declared.codes.TheConstants.{DONE, OUT_OF_MEMORY, NO_BATCH}
-use Rattle.dl_c.specs.declared.answers.Loaded.{Loaded}
-use Rattle.dl_c.specs.declared.answers.Dispatched.{Dispatched}
-use Rattle.dl_c.specs.declared.key_texts.KeyTexts.{KeyTexts}
+use Rattle.dl_c_values.specs.declared.codes.TheConstants.{DONE, OUT_OF_MEMORY, NO_BATCH}
+use Rattle.dl_c_values.specs.declared.answers.Loaded.{Loaded}
+use Rattle.dl_c_values.specs.declared.answers.Dispatched.{Dispatched}
+use Rattle.dl_c_values.specs.declared.key_texts.KeyTexts.{KeyTexts}
 use Rattle.dl_c.specs.Codes.{code_by}
-use Rattle.dl_c.specs.Answers.{member_as, refused_as, sent_as}
-use Rattle.dl_c.specs.Keys.{Spells}
+use Rattle.dl_c_values.specs.Answers.{member_as, refused_as, sent_as, none_sent}
+use Rattle.dl_c_values.specs.Keys.{Spells}
 use Rattle.dl_c.specs.Calls.{Makes}
 
 -- The answer to a dispatch: the batches that it sends stand in a row.
@@ -19,7 +19,7 @@ pub record AnswersDispatch (answer : Dispatched) (old new : BatchBook) : Type 0 
   pub made : answer.code ≡ DONE → Makes old Dispatch new
   pub sent : answer.code ≡ DONE → (history : List Atom) → StandsFor old history → answer ≡ sent_as (jobs history)
   pub in_a_row : answer.code ≡ DONE → (history : List Atom) → StandsFor old history → jobs history ≡ jobs_from history answer.first answer.count
-  pub refused : DONE < answer.code → (answer ≡ record { code = OUT_OF_MEMORY; first = 0; count = 0 }) × (new ≡ old)
+  pub refused : DONE < answer.code → (answer ≡ none_sent OUT_OF_MEMORY) × (new ≡ old)
 
 -- The answer to an end of a batch is the code of what the history refuses, whole.
 pub record AnswersEnd (call : DeskCall) (code : ℕ) (old new : BatchBook) : Type 0 where

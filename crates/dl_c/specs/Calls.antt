@@ -1,17 +1,18 @@
 -- The calls of a desk as C makes them: what each answers, and the book that it leaves.
-use Rattle.std.specs.Prelude.{◌≡◌, ℕ, ◌<◌, ◌≤◌, ◌⊎◌, List, [], ◌∷◌, None}
+use Rattle.std.specs.Prelude.{◌≡◌, ℕ, ◌<◌, ◌≤◌, ◌⊎◌, List, None}
 use Rattle.dl_values.specs.Key.{Key}
 use Rattle.dl_desk.specs.History.{Atom, load_reply, prime_reply, held}
 use Rattle.dl_desk.specs.Calls.{refusal, after}
 use Rattle.dl_desk.specs.declared.call.DeskCall.{DeskCall}
 use Rattle.dl_desk.specs.declared.call.DeskCall.TheVariants.{Load, Prime, Clear}
 use Rattle.dl_desk.specs.BatchBook.{BatchBook, StandsFor}
-use Rattle.dl_c.specs.declared.codes.TheConstants.{DONE, FRESH, OUT_OF_MEMORY}
-use Rattle.dl_c.specs.declared.answers.Loaded.{Loaded}
+use Rattle.dl_c_values.specs.declared.codes.TheConstants.{DONE, FRESH, OUT_OF_MEMORY}
+use Rattle.dl_c_values.specs.declared.answers.Loaded.{Loaded}
 use Rattle.dl_c.specs.Codes.{code_by}
-use Rattle.dl_c.specs.Answers.{loaded_as, primed_as, held_as, refused_as}
+use Rattle.dl_c.specs.Answers.{primed_as, held_as}
+use Rattle.dl_c_values.specs.Answers.{loaded_as, refused_as}
 use Rattle.dl_values.specs.KeyTexts.{IsKeyText}
-use Rattle.dl_c.specs.Keys.{IsKeyFault}
+use Rattle.dl_c_values.specs.Keys.{IsKeyFault}
 
 -- A call is made. Whatever history the book stood for, it refuses nothing, and the new book stands for the one after the call.
 pub record Makes (old : BatchBook) (call : DeskCall) (new : BatchBook) : Type 0 where

@@ -4,11 +4,11 @@ use Rattle.dl_values.specs.Limits.{Limits, AreLimits, mixed, largest_limit}
 use Rattle.dl_values.specs.TableLimits.{fault_of}
 use Rattle.dl_values.specs.declared.table_limits.TableLimit.{TableLimit}
 use Rattle.dl_desk.specs.BatchBook.{StandsFor}
-use Rattle.dl_c.specs.declared.codes.TheConstants.{DONE, OUT_OF_MEMORY, BAD_LIMIT, OPEN}
+use Rattle.dl_c_values.specs.declared.codes.TheConstants.{DONE, OUT_OF_MEMORY, BAD_LIMIT, OPEN}
 use Rattle.dl_c.specs.declared.handle.Handle.{Handle}
-use Rattle.dl_c.specs.declared.tables.NamedLimit.{NamedLimit}
+use Rattle.dl_c_values.specs.declared.tables.NamedLimit.{NamedLimit}
 use Rattle.dl_c.specs.Handles.{book_of}
-use Rattle.dl_c.specs.Tables.{AreNames, AreLimitsOf, IsTablesFault, tables_of}
+use Rattle.dl_c_values.specs.Tables.{AreNames, AreLimitsOf, IsTablesFault, tables_of}
 
 -- the limits of a desk, which takes as many calls as may be
 abbrev pub limits_of : ℕ → ℕ → Limits

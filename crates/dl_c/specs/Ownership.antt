@@ -1,17 +1,11 @@
 -- What a handle owns.
-use Rattle.std.specs.Prelude.{Bool, true, false}
-use base.Fml.{Fml, ftrue}
+use base.Fml.{Fml}
 use denote.RawPtr.{Ptr}
 use Rattle.std.specs.Box.Ownership.{box_owns}
 use Rattle.std.specs.Global.{Global}
 use Rattle.std.specs.contracts.impls.GlobalAllocator.TheImpl.{ghosts}
 use Rattle.dl_c.specs.declared.kept_desk.KeptDesk.{KeptDesk}
 use Rattle.dl_c.specs.contracts.kept_desk.KeptDesk.{the_row}
-
--- what a place owns where it is filled, and nothing where it is not
-abbrev pub owned_if : Bool → Fml → Fml
-owned_if true owned = owned
-owned_if false owned = ftrue
 
 -- a box of the desk that is kept, as a box owns it
 abbrev pub desk_at : Global → Ptr → KeptDesk → Fml

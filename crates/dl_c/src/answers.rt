@@ -1,116 +1,32 @@
-//! Answers as C sees them.
+//! Answers of a desk as C sees them.
 
 ghost use Rattle.std.specs.Prelude.{◌≡◌};
-ghost use Rattle.dl_c.specs.Answers.{loaded_as, primed_as, held_as, refused_as, sent_as};
+ghost use Rattle.dl_c.specs.Answers.{primed_as, held_as};
 
-use crate::codes::{DONE, FRESH, HIT};
-use dl_desk::{DeskPrime, Job, LoadReply};
+use dl_c_values::answers::Loaded;
+use dl_c_values::codes::{FRESH, HIT};
+use dl_desk::DeskPrime;
 
-/// The answer to a call on a cell: a code, a cell and a batch. If the code promises no cell or no batch, that one is 0.
-#[repr(C)]
-#[derive(Clone, Copy, Debug, PartialEq, Eq)]
-pub struct Loaded {
-    pub code: u32,
-    pub cell: u32,
-    pub batch: u32,
-}
-
-/// The answer to a dispatch: a code, the number of the first batch that went out, and the number of batches.
-#[repr(C)]
-#[derive(Clone, Copy, Debug, PartialEq, Eq)]
-pub struct Dispatched {
-    pub code: u32,
-    pub first: u32,
-    pub count: usize,
-}
-
-impl Loaded {
-    /// No cell, for the reason that the code names.
-    pub fn refused(code: u32) -> Loaded
-        ensures { result ≡ refused_as code }
-    {
-        Loaded {
-            code,
-            cell: 0,
-            batch: 0,
-        }
-    }
-
-    /// The cell that was found.
-    pub fn found(cell: u32) -> Loaded
-        ensures { result ≡ record { code = HIT; cell = cell; batch = 0 } }
-    {
-        Loaded {
-            code: HIT,
+/// The answer to a prime.
+pub fn primed(reply: DeskPrime) -> Loaded
+    ensures { result ≡ primed_as reply }
+{
+    match reply {
+        DeskPrime::Primed(cell) => Loaded {
+            code: FRESH,
             cell,
             batch: 0,
-        }
-    }
-
-    /// The answer to a load.
-    pub fn of_load(reply: LoadReply) -> Loaded
-        ensures { result ≡ loaded_as reply }
-    {
-        match reply {
-            LoadReply::Hit(cell) => Loaded::found(cell),
-            LoadReply::Fresh { cell, batch } => Loaded {
-                code: FRESH,
-                cell,
-                batch,
-            },
-        }
-    }
-
-    /// The answer to a prime.
-    pub fn of_prime(reply: DeskPrime) -> Loaded
-        ensures { result ≡ primed_as reply }
-    {
-        match reply {
-            DeskPrime::Primed(cell) => Loaded {
-                code: FRESH,
-                cell,
-                batch: 0,
-            },
-            DeskPrime::Kept => Loaded::refused(HIT),
-        }
-    }
-
-    /// The answer to `dl_desk_held`.
-    pub fn of_held(cell: Option<u32>) -> Loaded
-        ensures { result ≡ held_as cell }
-    {
-        match cell {
-            Some(cell) => Loaded::found(cell),
-            None => Loaded::refused(FRESH),
-        }
+        },
+        DeskPrime::Kept => Loaded::refused(HIT),
     }
 }
 
-impl Dispatched {
-    /// The batches of these jobs went out.
-    #[tactic(auto, using(crate::proofs::Rows::first_of_some, crate::proofs::Rows::first_of_none))]
-    pub fn sent(jobs: &[Job]) -> Dispatched
-        ensures { result ≡ sent_as jobs.now }
-    {
-        let first = match jobs.first() {
-            Some(job) => job.batch,
-            None => 0,
-        };
-        Dispatched {
-            code: DONE,
-            first,
-            count: jobs.len(),
-        }
-    }
-
-    /// No batch went out, for the reason that the code names.
-    pub fn refused(code: u32) -> Dispatched
-        ensures { result ≡ record { code = code; first = 0; count = 0 } }
-    {
-        Dispatched {
-            code,
-            first: 0,
-            count: 0,
-        }
+/// The answer to `dl_desk_held`.
+pub fn held_cell(cell: Option<u32>) -> Loaded
+    ensures { result ≡ held_as cell }
+{
+    match cell {
+        Some(cell) => Loaded::found(cell),
+        None => Loaded::refused(FRESH),
     }
 }

@@ -4,15 +4,16 @@ ghost use Rattle.std.specs.Prelude.{◌≡◌, ◌<◌, List, IfSome, slice_get}
 ghost use Rattle.dl_desk.specs.History.{Atom, members};
 ghost use Rattle.dl_desk.specs.declared.call.DeskCall.TheVariants.{Settle, Fail};
 ghost use Rattle.dl_desk.specs.BatchBook.{StandsFor};
-ghost use Rattle.dl_c.specs.Answers.{refused_as};
-ghost use Rattle.dl_c.specs.Keys.{Spells};
+ghost use Rattle.dl_c_values.specs.Answers.{none_sent, refused_as};
+ghost use Rattle.dl_c_values.specs.Keys.{Spells};
 ghost use Rattle.dl_c.specs.Batches.{AnswersDispatch, AnswersEnd, AnswersMember, AnswersKey, member_answer};
 ghost use Rattle.dl_c.specs.Handles.{OnDesk, OnClosed};
 
-use crate::answers::{Dispatched, Loaded};
-use crate::codes::{CLOSED, DONE, NO_BATCH, NO_MEMBER, OUT_OF_MEMORY, code_of};
+use crate::codes::code_of;
 use crate::handle::{Handle, take};
-use crate::key_texts::KeyTexts;
+use dl_c_values::answers::{Dispatched, Loaded};
+use dl_c_values::codes::{CLOSED, DONE, NO_BATCH, NO_MEMBER, OUT_OF_MEMORY};
+use dl_c_values::key_texts::KeyTexts;
 use dl_desk::Desk;
 use std::alloc::Global;
 
@@ -22,7 +23,7 @@ use std::alloc::Global;
 /// Codes: `DONE`; `CLOSED`, `OUT_OF_MEMORY`.
 #[unsafe(no_mangle)]
 pub extern "C" fn dl_desk_dispatch(alloc: Global, handle: &mut Handle) -> Dispatched
-    ensures closed { OnClosed handle.old handle.new (result ≡ record { code = CLOSED; first = 0; count = 0 }) }
+    ensures closed { OnClosed handle.old handle.new (result ≡ none_sent CLOSED) }
     ensures desk { OnDesk handle.old handle.new (AnswersDispatch result) }
 {
     let Some(mut kept) = take(alloc, handle) else {
@@ -33,7 +34,7 @@ pub extern "C" fn dl_desk_dispatch(alloc: Global, handle: &mut Handle) -> Dispat
     answer
 }
 
-#[tactic(auto, using(crate::proofs::Rows::sent_in_a_row))]
+#[tactic(auto, using(dl_c_values::proofs::Rows::sent_in_a_row))]
 fn dispatch(alloc: Global, desk: &mut Desk) -> Dispatched
     ensures { AnswersDispatch result desk.old.book desk.new.book }
 {

@@ -1,19 +1,22 @@
 //! The calls on a key, and on all keys.
 
-ghost use Rattle.std.specs.Prelude.{◌≡◌, ◌<◌, ◌≤◌, ◌∷◌, [], List};
+ghost use Rattle.std.specs.Prelude.{◌≡◌, ◌<◌, ◌≤◌, List};
 ghost use Rattle.dl_desk.specs.History.{Atom, load_reply, prime_reply};
-ghost use Rattle.dl_desk.specs.declared.call.DeskCall.TheVariants.{Load, Prime, Clear, ClearAll};
+ghost use Rattle.dl_desk.specs.declared.call.DeskCall.TheVariants.{Load, Prime, ClearAll};
 ghost use Rattle.dl_desk.specs.BatchBook.{StandsFor};
-ghost use Rattle.dl_c.specs.declared.codes.TheConstants.{FRESH};
-ghost use Rattle.dl_c.specs.Answers.{loaded_as, primed_as, refused_as};
+ghost use Rattle.dl_c_values.specs.declared.codes.TheConstants.{FRESH};
+ghost use Rattle.dl_c.specs.Answers.{primed_as};
+ghost use Rattle.dl_c_values.specs.Answers.{loaded_as, refused_as};
 ghost use Rattle.dl_c.specs.Calls.{AnswersLoad, AnswersPrime, AnswersHeld, AnswersClear, Makes, Refuses};
 ghost use Rattle.dl_c.specs.Handles.{OnDesk, OnClosed};
 
-use crate::answers::Loaded;
-use crate::codes::{CLOSED, DONE, code_of};
+use crate::answers::{held_cell, primed};
+use crate::codes::code_of;
 use crate::handle::{Handle, take};
 use crate::kept_desk::KeptDesk;
-use crate::key_texts::key_of;
+use dl_c_values::answers::Loaded;
+use dl_c_values::codes::{CLOSED, DONE};
+use dl_c_values::key_texts::key_of;
 use dl_desk::{Desk, FetchKey};
 use std::alloc::Global;
 
@@ -108,7 +111,7 @@ fn prime_key(desk: &mut Desk, key: &FetchKey) -> Loaded
     ensures none { FRESH < result.code → result ≡ refused_as result.code }
 {
     match desk.prime(key) {
-        Ok(reply) => Loaded::of_prime(reply),
+        Ok(reply) => primed(reply),
         Err(fault) => Loaded::refused(code_of(fault)),
     }
 }
@@ -139,7 +142,7 @@ fn held(alloc: Global, kept: &mut KeptDesk, table: &[u8], id: &[u8]) -> Loaded
 {
     match key_of(alloc, kept.spare.take(), table, id) {
         Ok(key) => {
-            let answer = Loaded::of_held(kept.desk.held(&key));
+            let answer = held_cell(kept.desk.held(&key));
             kept.spare = Some(key);
             answer
         }

@@ -2,10 +2,11 @@
 
 ghost use Rattle.std.specs.Prelude.{◌≡◌, Bool, true, false, IfSome, IfNone};
 ghost use Rattle.dl_c.specs.declared.kept_desk.KeptDesk.{KeptDesk};
-ghost use Rattle.dl_c.specs.Ownership.{owned_if, desk_at};
+ghost use Rattle.dl_c.specs.Ownership.{desk_at};
+ghost use Rattle.dl_c_values.specs.Ownership.{owned_if};
 
-use crate::box_parts::BoxParts;
 use crate::kept_desk::KeptDesk;
+use dl_c_values::box_parts::BoxParts;
 use std::alloc::Global;
 use std::marker::Model;
 use std::{mem, ptr};

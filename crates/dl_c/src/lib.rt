@@ -7,13 +7,9 @@
 
 mod answers;
 mod batches;
-mod box_parts;
 mod calls;
 mod codes;
 mod handle;
 mod kept_desk;
-mod key_texts;
 mod lives;
 mod many;
-mod seed;
-mod tables;

@@ -4,11 +4,11 @@ ghost use Rattle.std.specs.Prelude.{◌≡◌, ◌<◌, true, false};
 ghost use Rattle.dl_c.specs.Handles.{OnClosed};
 ghost use Rattle.dl_c.specs.Lives.{AnswersOpen, AnswersByTable, limits_of};
 
-use crate::codes::{BAD_LIMIT, CLOSED, DONE, OPEN, OUT_OF_MEMORY};
 use crate::handle::{Handle, take};
 use crate::kept_desk::KeptDesk;
-use crate::seed::hashing;
-use crate::tables::{NamedLimit, limits_of_tables};
+use dl_c_values::codes::{BAD_LIMIT, CLOSED, DONE, OPEN, OUT_OF_MEMORY};
+use dl_c_values::seed::hashing;
+use dl_c_values::tables::{NamedLimit, limits_of_tables};
 use dl_desk::{Desk, LARGEST_LIMIT, Limits};
 use std::alloc::Global;
 

@@ -1,7 +1,5 @@
 pub mod KeptBox
 pub mod KeptSend
-pub mod Cuts
-pub mod Rows
 pub mod Tickets
 pub mod Told
 pub mod JobNow

@@ -14,10 +14,10 @@ use Rattle.dl_history.proofs.Pasts.{legal_at}
 use Rattle.dl_loader.specs.Book.{Keeps}
 use Rattle.dl_loader.specs.EventEffect.{event_of}
 use Rattle.dl_loader.specs.SerialLoader.{Serial, IsMade}
-use Rattle.dl_loader_c.specs.Answers.{first_of, sent_as}
+use Rattle.dl_c_values.specs.Answers.{first_of, sent_as}
 use Rattle.dl_loader_c.specs.Calls.{Makes}
-use Rattle.dl_loader_c.specs.declared.answers.Dispatched.{Dispatched}
-use Rattle.dl_loader_c.proofs.Rows.{jobs_in_a_row}
+use Rattle.dl_c_values.specs.declared.answers.Dispatched.{Dispatched}
+use Rattle.dl_c_values.proofs.Rows.{jobs_in_a_row}
 
 pub makes : (s : Service) (caller : ℕ) (call : Call) (reply : Reply) (old new : Serial) → Keeps s new.book → IsMade caller call reply old new
     → Makes s caller call reply old new

@@ -11,14 +11,14 @@ use Rattle.dl_desk.specs.declared.event.Call.TheVariants.{Dispatch, Settle, Fail
 use Rattle.dl_desk.specs.declared.event.Reply.TheVariants.{Done, Sent}
 use Rattle.dl_history.specs.History.{past}
 use Rattle.dl_loader.specs.SerialLoader.{Serial}
-use Rattle.dl_loader_c.specs.declared.codes.TheConstants.{DONE, HIT, NO_BATCH, OUT_OF_MEMORY}
-use Rattle.dl_loader_c.specs.declared.answers.Loaded.{Loaded}
-use Rattle.dl_loader_c.specs.declared.answers.Dispatched.{Dispatched}
-use Rattle.dl_loader_c.specs.declared.key_texts.KeyTexts.{KeyTexts}
-use Rattle.dl_loader_c.specs.Answers.{member_as, refused_as, sent_as, none_sent}
+use Rattle.dl_c_values.specs.declared.codes.TheConstants.{DONE, HIT, NO_BATCH, OUT_OF_MEMORY}
+use Rattle.dl_c_values.specs.declared.answers.Loaded.{Loaded}
+use Rattle.dl_c_values.specs.declared.answers.Dispatched.{Dispatched}
+use Rattle.dl_c_values.specs.declared.key_texts.KeyTexts.{KeyTexts}
+use Rattle.dl_c_values.specs.Answers.{member_as, refused_as, sent_as, none_sent}
 use Rattle.dl_loader_c.specs.Calls.{IsCallFault, Makes}
 use Rattle.dl_loader_c.specs.HostSource.{mark}
-use Rattle.dl_loader_c.specs.Keys.{Spells}
+use Rattle.dl_c_values.specs.Keys.{Spells}
 
 -- the answer to a dispatch: the batches that it sends stand in a row
 pub record AnswersDispatch (service : Service) (caller : ℕ) (answer : Dispatched) (old new : Serial) : Type 0 where

@@ -16,13 +16,14 @@ use Rattle.dl_history.specs.declared.fault.CallFault.{CallFault}
 use Rattle.dl_loader.specs.EventReplies.{reply_by}
 use Rattle.dl_loader.specs.SerialLoader.{Serial, IsMade, IsRefused, HasSeen, book_if, serial}
 use Rattle.dl_loader.specs.declared.reply.PrimeReply.{PrimeReply}
-use Rattle.dl_loader_c.specs.declared.codes.TheConstants.{DONE, FRESH, NONE, NO_CALLER, NO_TICKET, OUT_OF_MEMORY}
-use Rattle.dl_loader_c.specs.declared.answers.Loaded as loaded
+use Rattle.dl_c_values.specs.declared.codes.TheConstants.{DONE, FRESH, NONE, NO_CALLER, NO_TICKET, OUT_OF_MEMORY}
+use Rattle.dl_c_values.specs.declared.answers.Loaded as loaded
 use Rattle.dl_loader_c.specs.declared.answers.LoadTicket.{LoadTicket}
-use Rattle.dl_loader_c.specs.Answers.{ticket_as, no_ticket, primed_as, refused_as}
+use Rattle.dl_loader_c.specs.Answers.{ticket_as, no_ticket, primed_as}
+use Rattle.dl_c_values.specs.Answers.{refused_as}
 use Rattle.dl_loader_c.specs.Codes.{call_code}
 use Rattle.dl_loader_c.specs.HostSource.{mark}
-use Rattle.dl_loader_c.specs.Keys.{IsKeyFault}
+use Rattle.dl_c_values.specs.Keys.{IsKeyFault}
 
 -- A call of a caller is made, and answered as the history so far says.
 pub record Makes (service : Service) (caller : ℕ) (call : Call) (reply : Reply) (old new : Serial) : Type 0 where

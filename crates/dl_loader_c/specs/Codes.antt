@@ -1,16 +1,13 @@
--- The codes of refusals: of a loader's calls, of its start and of its close, and of tables with limits of their own.
-use Rattle.std.specs.Prelude.{ℕ, Option, Some, None}
+-- The codes of refusals: of a loader's calls, of its start and of its close.
+use Rattle.std.specs.Prelude.{ℕ}
 use Rattle.dl_history.specs.declared.fault.CallFault.{CallFault}
 use Rattle.dl_history.specs.declared.fault.CallFault.TheVariants as call
 use Rattle.dl_history.specs.declared.fault.CloseFault.{CloseFault}
 use Rattle.dl_history.specs.declared.fault.CloseFault.TheVariants as close
 use Rattle.dl_history.specs.declared.fault.StartFault.{StartFault}
 use Rattle.dl_history.specs.declared.fault.StartFault.TheVariants as start
-use Rattle.dl_values.specs.declared.fault.TableLimitFault.{TableLimitFault}
-use Rattle.dl_values.specs.declared.fault.TableLimitFault.TheVariants as table
-use Rattle.dl_loader_c.specs.declared.codes.TheConstants.{DONE, OUT_OF_MEMORY, CELLS_FULL, NO_BATCH, NOT_SENT, ENDED_BEFORE}
-use Rattle.dl_loader_c.specs.declared.codes.TheConstants.{EMPTY_TABLE, TABLE_TOO_LONG, BAD_TABLE_LIMIT, DUPLICATE_TABLE}
-use Rattle.dl_loader_c.specs.declared.codes.TheConstants.{BAD_CALLERS, STOPPED, LOG_FULL, UNSETTLED, BUG}
+use Rattle.dl_c_values.specs.declared.codes.TheConstants.{OUT_OF_MEMORY, CELLS_FULL, NO_BATCH, NOT_SENT, ENDED_BEFORE}
+use Rattle.dl_c_values.specs.declared.codes.TheConstants.{BAD_CALLERS, STOPPED, LOG_FULL, UNSETTLED, BUG}
 
 -- the code of a refused call
 abbrev pub call_code : CallFault → ℕ
@@ -38,16 +35,3 @@ abbrev pub start_code : StartFault → ℕ
 start_code start.NoCallers = BAD_CALLERS
 start_code start.TooManyCallers = BAD_CALLERS
 start_code start.OutOfMemory = OUT_OF_MEMORY
-
--- the code of tables that are refused
-abbrev pub table_code_of : TableLimitFault → ℕ
-table_code_of table.EmptyTable = EMPTY_TABLE
-table_code_of table.TableTooLong = TABLE_TOO_LONG
-table_code_of table.BatchLimit = BAD_TABLE_LIMIT
-table_code_of table.DuplicateTable = DUPLICATE_TABLE
-table_code_of table.OutOfMemory = OUT_OF_MEMORY
-
--- the code of tables that nothing refuses, or that a fault does
-abbrev pub table_code_by : Option TableLimitFault → ℕ
-table_code_by None = DONE
-table_code_by (Some fault) = table_code_of fault

@@ -1,8 +1,5 @@
 pub mod Codes
-pub mod Keys
 pub mod Answers
-pub mod Cuts
-pub mod Tables
 pub mod HostSource
 pub mod Named
 pub mod Contents

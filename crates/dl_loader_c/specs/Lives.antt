@@ -10,13 +10,13 @@ use Rattle.dl_history.specs.declared.fault.CloseFault.{CloseFault}
 use Rattle.dl_loader.specs.CloseRefusals.{RefusesClose}
 use Rattle.dl_loader.specs.Opening.{AreCallers}
 use Rattle.dl_loader.specs.SerialLoader.{Serial}
-use Rattle.dl_loader_c.specs.declared.codes.TheConstants.{DONE, OPEN, BAD_LIMIT, BAD_CALLERS, OUT_OF_MEMORY}
+use Rattle.dl_c_values.specs.declared.codes.TheConstants.{DONE, OPEN, BAD_LIMIT, BAD_CALLERS, OUT_OF_MEMORY}
 use Rattle.dl_loader_c.specs.declared.handle.Handle.{Handle}
 use Rattle.dl_loader_c.specs.declared.openings.SerialOpening.{SerialOpening}
-use Rattle.dl_loader_c.specs.declared.tables.NamedLimit.{NamedLimit}
+use Rattle.dl_c_values.specs.declared.tables.NamedLimit.{NamedLimit}
 use Rattle.dl_loader_c.specs.Codes.{close_code}
 use Rattle.dl_loader_c.specs.Contents.{Contents, contents}
-use Rattle.dl_loader_c.specs.Tables.{AreNames, AreLimitsOf, IsTablesFault, tables_of}
+use Rattle.dl_c_values.specs.Tables.{AreNames, AreLimitsOf, IsTablesFault, tables_of}
 
 -- ---- open
 

@@ -7,20 +7,20 @@ use Rattle.dl_desk.specs.declared.event.Event.{Event}
 use Rattle.dl_desk.specs.declared.event.Reply.{Reply}
 use Rattle.dl_desk.specs.declared.event.Reply.TheVariants as reply
 use Rattle.dl_desk.specs.declared.reply.LoadReply.{LoadReply}
-use Rattle.dl_desk.specs.declared.reply.LoadReply.TheVariants.{Hit, Fresh}
 use Rattle.dl_history.specs.Agreement.{entries_of}
 use Rattle.dl_history.specs.ClosedHistory.{History}
 use Rattle.dl_history.specs.Entries.{kind_of}
 use Rattle.dl_history.specs.declared.entry.EntryKind.{EntryKind}
 use Rattle.dl_history.specs.declared.entry.EntryKind.TheVariants as entry
-use Rattle.dl_loader_c.specs.declared.codes.TheConstants.{DONE, HIT, FRESH, NO_EVENT, NO_MEMBER}
-use Rattle.dl_loader_c.specs.declared.answers.Loaded.{Loaded}
-use Rattle.dl_loader_c.specs.declared.key_texts.KeyTexts.{KeyTexts}
+use Rattle.dl_c_values.specs.declared.codes.TheConstants.{DONE, HIT, FRESH, NO_EVENT, NO_MEMBER}
+use Rattle.dl_c_values.specs.declared.answers.Loaded.{Loaded}
+use Rattle.dl_c_values.specs.declared.key_texts.KeyTexts.{KeyTexts}
+use Rattle.dl_c_values.specs.Answers.{loaded_as}
 use Rattle.dl_loader_c.specs.declared.reading.ToldEntry.{ToldEntry}
 use Rattle.dl_loader_c.specs.declared.reading.ToldEvent.{ToldEvent}
-use Rattle.dl_loader_c.specs.Answers.{first_of, refused_as}
+use Rattle.dl_c_values.specs.Answers.{first_of, refused_as}
 use Rattle.dl_loader_c.specs.Contents.{Contents}
-use Rattle.dl_loader_c.specs.Keys.{Spells}
+use Rattle.dl_c_values.specs.Keys.{Spells}
 
 -- The contents stay. If they are a history, it tells; else an answer says that the loader is open.
 abbrev pub OnHistory : Contents → Contents → (History → Type 0) → Type 0 → Type 0
@@ -80,11 +80,6 @@ told_event (Some e) = event_as e
 told_event None = no_event NO_EVENT
 
 -- ---- keys of events
-
--- a reply to a load
-abbrev pub loaded_as : LoadReply → Loaded
-loaded_as (Hit c) = record { code = HIT; cell = c; batch = 0 }
-loaded_as (Fresh c b) = record { code = FRESH; cell = c; batch = b }
 
 abbrev pub many_as : Option LoadReply → Loaded
 many_as (Some r) = loaded_as r

@@ -1,19 +1,20 @@
 //! The calls on batches: you dispatch them, read what they have, and end them.
 
 ghost use Rattle.std.specs.Prelude.{◌≡◌, IfOk};
-ghost use Rattle.dl_loader_c.specs.Answers.{none_sent, refused_as};
+ghost use Rattle.dl_c_values.specs.Answers.{none_sent, refused_as};
 ghost use Rattle.dl_loader_c.specs.Batches.{AnswersDispatch, AnswersEnd, AnswersMember, failed, job_now, settled};
 ghost use Rattle.dl_loader_c.specs.Contents.{OnLoader};
 ghost use Rattle.dl_loader_c.specs.Handles.{OnClosed, OnOpen, Stays};
 ghost use Rattle.dl_loader_c.specs.HostSource.{by_marks};
 ghost use Rattle.dl_loader_c.specs.Named.{IsHosted, named_by};
 
-use crate::answers::{Dispatched, Loaded};
-use crate::box_parts::BoxParts;
-use crate::codes::{CLOSED, DONE, NO_BATCH, NO_CALLER, NO_MEMBER, OUT_OF_MEMORY, call_code};
+use crate::codes::call_code;
 use crate::handle::{Handle, HeldOf, take};
 use crate::host_source::HostSource;
-use crate::key_texts::KeyTexts;
+use dl_c_values::answers::{Dispatched, Loaded};
+use dl_c_values::box_parts::BoxParts;
+use dl_c_values::codes::{CLOSED, DONE, NO_BATCH, NO_CALLER, NO_MEMBER, OUT_OF_MEMORY};
+use dl_c_values::key_texts::KeyTexts;
 use dl_desk::{Job, Keys};
 use dl_loader::{GiveUp, LoaderName, SerialLoader};
 use dl_source::fetch_job;

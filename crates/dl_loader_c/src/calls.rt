@@ -2,18 +2,21 @@
 
 ghost use Rattle.std.specs.Prelude.{◌≡◌};
 ghost use Rattle.dl_desk.specs.declared.event.Call.TheVariants.{ClearAll};
-ghost use Rattle.dl_loader_c.specs.Answers.{no_ticket, refused_as};
+ghost use Rattle.dl_loader_c.specs.Answers.{no_ticket};
+ghost use Rattle.dl_c_values.specs.Answers.{refused_as};
 ghost use Rattle.dl_loader_c.specs.Calls.{AnswersCall, AnswersClear, AnswersLoad, AnswersPrime};
 ghost use Rattle.dl_loader_c.specs.Contents.{OnLoader};
 ghost use Rattle.dl_loader_c.specs.Handles.{OnClosed, OnOpen, Stays};
 ghost use Rattle.dl_loader_c.specs.Named.{IsHosted, named_by};
 
-use crate::answers::{LoadTicket, Loaded};
-use crate::box_parts::BoxParts;
-use crate::codes::{CLOSED, DONE, NO_CALLER, OUT_OF_MEMORY, call_code};
+use crate::answers::{LoadTicket, primed};
+use crate::codes::call_code;
 use crate::handle::{Handle, HeldOf, take};
 use crate::host_source::mark;
-use crate::key_texts::key_of;
+use dl_c_values::answers::Loaded;
+use dl_c_values::box_parts::BoxParts;
+use dl_c_values::codes::{CLOSED, DONE, NO_CALLER, OUT_OF_MEMORY};
+use dl_c_values::key_texts::key_of;
 use dl_loader::{LoaderName, SerialLoader};
 use std::alloc::Global;
 use std::marker::Brand;
@@ -158,7 +161,7 @@ fn prime_key<L: LoaderName>(
     match loader.prime(alloc, caller, &key, &mark) {
         Ok(reply) => {
             loader.keeps();
-            Loaded::of_prime(reply)
+            primed(reply)
         }
         Err(fault) => Loaded::refused(call_code(fault)),
     }

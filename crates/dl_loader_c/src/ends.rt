@@ -8,9 +8,9 @@ ghost use Rattle.dl_loader_c.specs.Handles.{OnClosed, OnOpen, Stays};
 ghost use Rattle.dl_loader_c.specs.Lives.{AnswersClose};
 ghost use Rattle.dl_loader_c.specs.Named.{IsHosted, named_by, service_by};
 
-use crate::box_parts::BoxParts;
-use crate::codes::{CLOSED, DONE, NO_CALLER, NO_TICKET, NONE, OUT_OF_MEMORY};
 use crate::handle::{Handle, HeldOf, take};
+use dl_c_values::box_parts::BoxParts;
+use dl_c_values::codes::{CLOSED, DONE, NO_CALLER, NO_TICKET, NONE, OUT_OF_MEMORY};
 use dl_loader::{LoaderName, SerialLoader};
 use std::alloc::Global;
 use std::marker::Brand;

@@ -3,10 +3,11 @@
 ghost use Rattle.std.specs.Prelude.{◌≡◌, Bool, true, false, IfNone, IfSome};
 ghost use Rattle.dl_loader_c.specs.Contents.{Contents, contents_code};
 ghost use Rattle.dl_loader_c.specs.Named.{Named, IsHosted, named_by, named_code};
-ghost use Rattle.dl_loader_c.specs.Ownership.{owned_if, kept_at, brand};
+ghost use Rattle.dl_loader_c.specs.Ownership.{kept_at, brand};
+ghost use Rattle.dl_c_values.specs.Ownership.{owned_if};
 
-use crate::box_parts::BoxParts;
 use crate::kept::Kept;
+use dl_c_values::box_parts::BoxParts;
 use dl_loader::LoaderName;
 use std::alloc::Global;
 use std::marker::{Brand, Model};

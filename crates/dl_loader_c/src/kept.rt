@@ -3,7 +3,8 @@
 ghost use Rattle.std.specs.Prelude.{◌≡◌, MatchOption};
 ghost use Rattle.dl_loader_c.specs.Lives.{AnswersClose};
 
-use crate::codes::{CLOSED, DONE, close_code};
+use crate::codes::close_code;
+use dl_c_values::codes::{CLOSED, DONE};
 use dl_history::History;
 use dl_loader::{LoaderName, SerialLoader};
 use std::alloc::Global;

@@ -7,16 +7,12 @@
 
 mod answers;
 mod batches;
-mod box_parts;
 mod calls;
 mod codes;
 mod ends;
 mod handle;
 mod host_source;
 mod kept;
-mod key_texts;
 mod many;
 mod openings;
 mod reading;
-mod seed;
-mod tables;

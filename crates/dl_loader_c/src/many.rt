@@ -1,21 +1,21 @@
 //! The load of several keys as one call.
 
-ghost use Rattle.std.specs.Prelude.{◌≡◌, ◌+◌, ◌-◌, ◌<◌, ◌≤◌, length, drop, None, OnOk, IfOk, IfErr};
-ghost use Rattle.std.specs.List.{All};
-ghost use Rattle.dl_values.specs.KeyTexts.{IsKeyText};
+ghost use Rattle.std.specs.Prelude.{◌≡◌, ◌+◌, ◌-◌, ◌<◌, ◌≤◌, length, None};
 ghost use Rattle.dl_desk.specs.declared.event.Call.TheVariants.{LoadMany};
 ghost use Rattle.dl_loader_c.specs.Answers.{tickets_as};
 ghost use Rattle.dl_loader_c.specs.Calls.{IsCallFault};
 ghost use Rattle.dl_loader_c.specs.Contents.{OnLoader};
 ghost use Rattle.dl_loader_c.specs.Handles.{OnClosed, OnOpen, Stays};
-ghost use Rattle.dl_loader_c.specs.Many.{AnswersMany, ManyAs, IsCutFault, IsFrontFault, front_key, cut, total};
+ghost use Rattle.dl_loader_c.specs.Many.{AnswersMany, ManyAs};
 ghost use Rattle.dl_loader_c.specs.Named.{IsHosted, named_by};
 
 use crate::answers::LoadTicket;
-use crate::box_parts::BoxParts;
-use crate::codes::{BAD_LENGTHS, CLOSED, DONE, NO_CALLER, OUT_OF_MEMORY, call_code};
+use crate::codes::call_code;
 use crate::handle::{Handle, HeldOf, take};
-use crate::key_texts::{KeyLengths, key_of};
+use dl_c_values::box_parts::BoxParts;
+use dl_c_values::codes::{BAD_LENGTHS, CLOSED, DONE, NO_CALLER, OUT_OF_MEMORY};
+use dl_c_values::key_lists::keys_of;
+use dl_c_values::key_texts::KeyLengths;
 use dl_desk::{FetchKey, LoadReply};
 use dl_loader::{LoaderName, SerialLoader};
 use std::alloc::Global;
@@ -69,7 +69,7 @@ fn load_many<L: LoaderName>(
     (HeldOf::<L>::hold(BoxParts::of(kept)), answer)
 }
 
-#[tactic(auto, using(crate::proofs::Cuts::length_parts))]
+#[tactic(auto, using(dl_c_values::proofs::Cuts::length_parts))]
 fn load_cut<L: LoaderName>(
     alloc: Global,
     loader: &mut SerialLoader<L>,
@@ -87,48 +87,6 @@ fn load_cut<L: LoaderName>(
         Ok(keys) => load_keys(alloc, loader, caller, keys.as_slice(), answers),
         Err(code) => code,
     }
-}
-
-/// The keys that the lengths cut the texts into. Fails with a code, for the first key that has a fault.
-fn keys_of(alloc: Global, texts: &[u8], lengths: &[KeyLengths]) -> Result<Vec<FetchKey>, u32>
-    ensures keys { IfOk result (λ keys. keys.items ≡ cut texts.now lengths.now) }
-    ensures are_keys { OnOk result (All IsKeyText (cut texts.now lengths.now)) }
-    ensures whole { OnOk result (total lengths.now ≡ length texts.now) }
-    ensures fault { IfErr result (λ code. IsCutFault texts.now lengths.now code) }
-{
-    let Ok(mut keys) = Vec::with_capacity(alloc, lengths.len()) else {
-        return Err(OUT_OF_MEMORY);
-    };
-    let mut rest = texts;
-    for key_lengths in lengths {
-        let (key, after) = next_key(alloc, rest, *key_lengths)?;
-        let Ok(()) = keys.push(key) else {
-            return Err(OUT_OF_MEMORY);
-        };
-        rest = after;
-    }
-    if rest.is_empty() {
-        Ok(keys)
-    } else {
-        Err(BAD_LENGTHS)
-    }
-}
-
-/// The key at the front of the texts, and the texts after it. Fails with a code.
-fn next_key(alloc: Global, texts: &[u8], lengths: KeyLengths) -> Result<(FetchKey, &[u8]), u32>
-    ensures key { IfOk result (λ next. next.0 ≡ front_key texts.now lengths) }
-    ensures is_key { OnOk result (IsKeyText (front_key texts.now lengths)) }
-    ensures rest { IfOk result (λ next. next.1.now ≡ drop (lengths.table + lengths.id) texts.now) }
-    ensures room { OnOk result (lengths.table + lengths.id ≤ length texts.now) }
-    ensures fault { IfErr result (λ code. IsFrontFault texts.now lengths code) }
-{
-    let Some((table, rest)) = texts.split_at_checked(lengths.table as usize) else {
-        return Err(BAD_LENGTHS);
-    };
-    let Some((id, rest)) = rest.split_at_checked(lengths.id as usize) else {
-        return Err(BAD_LENGTHS);
-    };
-    Ok((key_of(alloc, None, table, id)?, rest))
 }
 
 fn load_keys<L: LoaderName>(

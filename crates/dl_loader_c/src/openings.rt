@@ -4,18 +4,19 @@ ghost use Rattle.std.specs.Prelude.{◌≡◌, ◌<◌, false, None, IfErr, IfOk
 ghost use Rattle.dl_values.specs.Answering.{function};
 ghost use Rattle.dl_values.specs.Limits.{mixed};
 ghost use Rattle.dl_loader.specs.Opening.{Names};
-ghost use Rattle.dl_loader_c.specs.declared.codes.TheConstants.{DONE};
+ghost use Rattle.dl_c_values.specs.declared.codes.TheConstants.{DONE};
 ghost use Rattle.dl_loader_c.specs.HostSource.{answer_of};
 ghost use Rattle.dl_loader_c.specs.Lives.{AnswersOpen, AreNew, AreRulesOf, IsByTableFault, IsNew, IsOpenFault, limits_of};
 ghost use Rattle.dl_loader_c.specs.Named.{IsHosted, named_by};
 
-use crate::box_parts::BoxParts;
-use crate::codes::{BAD_LIMIT, DONE, OPEN, OUT_OF_MEMORY, start_code};
+use crate::codes::start_code;
 use crate::handle::{Handle, HeldOf};
 use crate::host_source::HostSource;
 use crate::kept::Kept;
-use crate::seed::hashing;
-use crate::tables::{NamedLimit, limits_of_tables};
+use dl_c_values::box_parts::BoxParts;
+use dl_c_values::codes::{BAD_LIMIT, DONE, OPEN, OUT_OF_MEMORY};
+use dl_c_values::seed::hashing;
+use dl_c_values::tables::{NamedLimit, limits_of_tables};
 use dl_desk::Limits;
 use dl_loader::{LoaderName, Opening, SerialLoader};
 use std::alloc::Global;

@@ -1,17 +1,17 @@
 //! Reading the history that a closed loader left.
 
 ghost use Rattle.std.specs.Prelude.{◌≡◌, true, slice_get};
-ghost use Rattle.dl_loader_c.specs.Answers.{refused_as};
+ghost use Rattle.dl_c_values.specs.Answers.{refused_as};
 ghost use Rattle.dl_loader_c.specs.Handles.{OnClosed, Stays};
 ghost use Rattle.dl_loader_c.specs.Named.{IsHosted, named_by};
-ghost use Rattle.dl_loader_c.specs.Readings.{OnHistory, ReadsKey, batches_sent, batches_told, call_number, entry_as, entry_at, event_as, keys_told, loaded_as, no_entry, no_event, reply_as, told_event};
+ghost use Rattle.dl_loader_c.specs.Readings.{OnHistory, ReadsKey, batches_sent, batches_told, call_number, entry_as, entry_at, event_as, keys_told, no_entry, no_event, reply_as, told_event};
 
-use crate::answers::Loaded;
-use crate::box_parts::BoxParts;
-use crate::codes::{CLOSED, DONE, FRESH, HIT, NO_EVENT, NO_MEMBER, OPEN};
 use crate::handle::{Handle, HeldOf, take};
-use crate::key_texts::KeyTexts;
-use dl_desk::{FetchKey, LoadReply};
+use dl_c_values::answers::Loaded;
+use dl_c_values::box_parts::BoxParts;
+use dl_c_values::codes::{CLOSED, DONE, FRESH, HIT, NO_EVENT, NO_MEMBER, OPEN};
+use dl_c_values::key_texts::KeyTexts;
+use dl_desk::FetchKey;
 use dl_history::{Call, EntryKind, Event, History, Reply};
 use dl_loader::LoaderName;
 use std::alloc::Global;
@@ -288,7 +288,7 @@ fn batches_of(call: &Call, reply: &Reply) -> (u32, usize)
 }
 
 /// The batches that a reply sends.
-#[tactic(auto, using(crate::proofs::Rows::first_of_some, crate::proofs::Rows::first_of_none))]
+#[tactic(auto, using(dl_c_values::proofs::Rows::first_of_some, dl_c_values::proofs::Rows::first_of_none))]
 fn sent_in(reply: &Reply) -> (u32, usize)
     ensures { result ≡ batches_sent reply.now }
 {
@@ -319,21 +319,5 @@ fn reply_to(reply: &Reply, index: usize) -> Loaded
         },
         Reply::Kept => Loaded::refused(HIT),
         Reply::Done | Reply::Sent(_) => Loaded::refused(DONE),
-    }
-}
-
-impl Loaded {
-    /// A reply to a load.
-    fn of_load(reply: LoadReply) -> Loaded
-        ensures { result ≡ loaded_as reply }
-    {
-        match reply {
-            LoadReply::Hit(cell) => Loaded::found(cell),
-            LoadReply::Fresh { cell, batch } => Loaded {
-                code: FRESH,
-                cell,
-                batch,
-            },
-        }
     }
 }

@@ -1,5 +1,5 @@
 use Rattle.std.proofs.Common.{ap, map, length, ◌∙◌}
-use Rattle.dl_c.specs.Answers.{loaded_as}
+use Rattle.dl_c_values.specs.Answers.{loaded_as}
 use Rattle.dl_c.proofs.Replies.{length-load_replies}
 use Rattle.dl_c.proofs.many.load_keys.Goals as goal
 

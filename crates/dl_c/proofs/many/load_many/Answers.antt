@@ -1,8 +1,8 @@
 use Rattle.std.proofs.Common.{◌≡◌, ◌<◌, length, inl, inr, refl, arith}
-use Rattle.dl_c.specs.declared.codes.TheConstants.{DONE, BAD_KEY}
+use Rattle.dl_c_values.specs.declared.codes.TheConstants.{DONE, BAD_KEY}
 use Rattle.dl_values.specs.KeyTexts.{IsKeyText}
-use Rattle.dl_c.specs.Many.{front_key, key_width}
-use Rattle.dl_c.proofs.Cuts.{fault_code}
+use Rattle.dl_c_values.specs.KeyLists.{front_key, key_width}
+use Rattle.dl_c_values.proofs.Cuts.{fault_code}
 use Rattle.dl_c.proofs.many.load_many.Goals as goal
 
 pub returns-in-Err : goal.returns-in-Err

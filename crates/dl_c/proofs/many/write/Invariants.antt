@@ -1,5 +1,5 @@
 use Rattle.std.proofs.Common.{◌≡◌, map, take, length}
-use Rattle.dl_c.specs.Answers.{loaded_as}
+use Rattle.dl_c_values.specs.Answers.{loaded_as}
 use Rattle.dl_c.proofs.many.write.Given as goal
 
 abbrev pub invariant-loop-place : goal.invariant-loop-place

@@ -1,9 +1,9 @@
 use Rattle.std.proofs.Common.{◌≡◌, ◌∙◌, ap, arith}
 use Rattle.dl_desk.specs.declared.event.Call.TheVariants.{Dispatch}
 use Rattle.dl_desk.specs.declared.event.Reply.TheVariants.{Sent}
-use Rattle.dl_loader_c.specs.declared.answers.Dispatched.{Dispatched}
-use Rattle.dl_loader_c.specs.declared.codes.TheConstants.{DONE}
-use Rattle.dl_loader_c.specs.Answers.{sent_as}
+use Rattle.dl_c_values.specs.declared.answers.Dispatched.{Dispatched}
+use Rattle.dl_c_values.specs.declared.codes.TheConstants.{DONE}
+use Rattle.dl_c_values.specs.Answers.{sent_as}
 use Rattle.dl_loader_c.proofs.Told.{in_a_row, makes}
 use Rattle.dl_loader_c.proofs.batches.send.Goals as goal
 

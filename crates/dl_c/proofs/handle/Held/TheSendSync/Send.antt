@@ -15,7 +15,8 @@ use Rattle.std.proofs.Crossing as heap
 use Rattle.std.proofs.alloc.Global.TheSendSync as handle
 use Rattle.dl_c.specs.contracts.kept_desk.KeptDesk as Kept
 use Rattle.dl_c.proofs.kept_desk.KeptDesk.TheSendSync.{the_send as kept}
-use Rattle.dl_c.specs.Ownership.{owned_if, desk_at}
+use Rattle.dl_c.specs.Ownership.{desk_at}
+use Rattle.dl_c_values.specs.Ownership.{owned_if}
 use Rattle.dl_c.specs.contracts.handle.Held.{the_row, the_type}
 
 quiet : {D X : Type 0} (to : D → X) (e : Exit X) → Quiet e → Quiet (hidden (under to e))

@@ -16,7 +16,8 @@ use Rattle.std.proofs.alloc.Global.TheSendSync as handle
 use Rattle.dl_loader_c.proofs.KeptSend.{Kept-send}
 use Rattle.dl_loader_c.specs.contracts.kept.Kept as Kept
 use Rattle.dl_loader_c.specs.Named.{Named, name_ghosts, ledger_ghosts}
-use Rattle.dl_loader_c.specs.Ownership.{brand, owned_if, kept_at}
+use Rattle.dl_loader_c.specs.Ownership.{brand, kept_at}
+use Rattle.dl_c_values.specs.Ownership.{owned_if}
 use Rattle.dl_loader_c.specs.contracts.handle.Held.{the_row, the_type}
 
 quiet : {D X : Type 0} (to : D → X) (e : Exit X) → Quiet e → Quiet (hidden (under to e))

@@ -39,7 +39,7 @@ use Rattle.std.specs.declared.sync.ledger.Ledger as ledger
 use Rattle.dl_loader_c.specs.Named.{Named, IsHosted, named_by, name_ghosts, ledger_ghosts}
 use Rattle.dl_loader_c.proofs.KeptBox as box
 use Rattle.dl_loader_c.specs.contracts.kept.Kept as Kept
-use Rattle.dl_loader_c.specs.contracts.box_parts.BoxParts as Parts
+use Rattle.dl_c_values.specs.contracts.box_parts.BoxParts as Parts
 use Rattle.dl_loader_c.specs.contracts.handle.HeldOf as HeldOf
 use Rattle.dl_loader_c.specs.contracts.handle.HeldOf.release as F
 use Rattle.dl_loader_c.specs.contracts.handle.HeldOf.release.Key.{name as #self}
