@@ -60,12 +60,7 @@ use std::thread::Threads;
 /// The program `plans` calls it, in `crates/plans`:
 ///
 /// ```rust
-/// let (alloc, mut reader, mut writer) = (rt.alloc(), rt.reader(), io::writer(rt));
-/// if options.migrate {
-///     run_migrate(alloc, hashing, &mut reader, &mut writer)
-/// } else {
-///     run(rt, alloc, hashing, &mut reader, &mut writer, options)
-/// }
+/// run(rt, alloc, hashing, &mut reader, &mut writer, options)
 /// ```
 pub fn run<R: Read, W: Write, T: Threads + Wait + Sync + Files + RandomSource + Eprint>(
     rt: &T,
@@ -93,11 +88,11 @@ pub fn run<R: Read, W: Write, T: Threads + Wait + Sync + Files + RandomSource + 
 
 /// What a document gives: its text, and if the options ask for them its picture, its trace and the line of its statistics.
 #[derive(Drop)]
-struct Given {
-    text: String,
-    picture: Option<String>,
-    trace: Option<String>,
-    statistics: Option<String>,
+pub(crate) struct Given {
+    pub(crate) text: String,
+    pub(crate) picture: Option<String>,
+    pub(crate) trace: Option<String>,
+    pub(crate) statistics: Option<String>,
 }
 
 /// Says a line on standard error, if there is one and the text was written.
@@ -108,7 +103,7 @@ fn tell<T: Eprint>(rt: &T, written: &Result<(), RunError>, line: &Option<String>
 }
 
 /// Writes the picture and then the trace to their files, if there are any.
-fn keep_files<T: Files + RandomSource>(
+pub(crate) fn keep_files<T: Files + RandomSource>(
     rt: &T,
     alloc: Global,
     options: &Options,
