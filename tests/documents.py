@@ -528,7 +528,7 @@ ROWS["other documents are no plan files"] = [
     refused("version", "null"),
     refused("version", "[1]"),
     refused("version", '{"tables":[],"plans":[[]]}'),
-    refused("version", '{"version":3,"tables":[],"plans":[[]]}'),
+    refused("version", '{"version":4,"tables":[],"plans":[[]]}'),
     refused("version", '{"version":1.0,"tables":[],"plans":[[]]}'),
     refused("version", '{"version":"1","tables":[],"plans":[[]]}'),
     refused("top", '{"version":1}'),
@@ -976,6 +976,190 @@ ROWS["in version 2 a batch of a plan file is of one table"] = [
     refused("limit BatchLimit", '{"version":2,"maxCells":0,"tables":[{"name":"t","rows":[],"maxBatchSize":0}],"plans":[[]]}'),
 ]
 
+# ---- version 3
+
+
+def plan_file_3(*terms, tables=USERS):
+    """A plan file of version 3 over tables, those of users if you give none: a plan of these terms."""
+    steps = ",".join(f'{{"eval":{term}}}' for term in terms)
+    return f'{{"version":3,"maxBatchSize":2,"tables":{tables},"plans":[[{steps}]]}}'
+
+
+def term_refused(term, about=None):
+    """The row of a plan file of version 3 whose second step is this term, which has no such form or has it at another place."""
+    return refused("plan 0 step 1", plan_file_3('{"value":1}', term, tables="[]"), about=about or term)
+
+
+def nested(count, inner):
+    """A term in so many bodies."""
+    return '{"over":[{"value":[[[[1]]]]},' + '{"over":[{"item":true},' * (count - 1) + inner + "]}" * count
+
+
+ITEM = '{"item":true}'
+FRIENDS = '{"each":[{"load":["user","u1"]},"friends","user"]}'
+NAME_OF_ITEM = '{"pick":[{"item":true},"name"]}'
+# The row of the user whose id is the item.
+USER_OF_ITEM = '{"follow":[{"object":{"id":{"item":true}}},"id","user"]}'
+
+ROWS["in version 3 a body goes over a list"] = [
+    answered(
+        "an object for each friend",
+        plan_file_3(f'{{"over":[{FRIENDS},{{"object":{{"name":{NAME_OF_ITEM},"is":{{"value":"friend"}}}}}}]}}'),
+        '0 0 ok [{"is":"friend","name":"Bob"},{"is":"friend","name":"Cy"}]',
+        "rounds 2",
+        'batch 0 [["user","u1"]] settled',
+        'batch 1 [["user","u2"],["user","u3"]] settled',
+        command_lines=BATCHES,
+    ),
+    answered(
+        "all copies load in one round, each key once",
+        plan_file_3(f'{{"over":[{{"value":["u3","u2","u3"]}},{{"pick":[{USER_OF_ITEM},"name"]}}]}}'),
+        '0 0 ok ["Cy","Bob","Cy"]',
+        "rounds 1",
+        'batch 0 [["user","u3"],["user","u2"]] settled',
+        command_lines=BATCHES,
+    ),
+    answered(
+        "the names of the friends of each of a list",
+        plan_file_3(
+            '{"over":[{"value":[{"friends":["u1","u2"]},{"friends":[]}]},'
+            f'{{"over":[{{"each":[{{"item":true}},"friends","user"]}},{NAME_OF_ITEM}]}}]}}'
+        ),
+        '0 0 ok [["Ada","Bob"],[]]',
+    ),
+    answered(
+        "a body in a body has an item of its own",
+        plan_file_3(f'{{"over":[{{"value":[[1,2],[3]]}},{{"over":[{ITEM},{{"all":[{ITEM}]}}]}}]}}'),
+        "0 0 ok [[[1],[2]],[[3]]]",
+    ),
+    answered(
+        "the part of an over in a body has the item around it",
+        plan_file_3(f'{{"over":[{{"value":[[1],[2]]}},{{"all":[{{"over":[{ITEM},{{"value":0}}]}},{ITEM}]}}]}}'),
+        "0 0 ok [[[0],[1]],[[0],[2]]]",
+    ),
+    answered("a body in two others", plan_file_3(nested(3, ITEM)), "0 0 ok [[[[1]]]]"),
+    answered("no items", plan_file_3('{"over":[{"value":[]},{"load":["user","u1"]}]}'), "0 0 ok []", "rounds 0", command_lines=BATCHES),
+    answered(
+        "an object of no members, and one whose name is there twice",
+        plan_file_3('{"object":{}}', '{"object":{"a":5,"a":{"value":1}}}'),
+        "0 0 ok {}",
+        '0 1 ok {"a":1}',
+    ),
+    answered(
+        "members in the order of their names",
+        plan_file_3('{"object":{"b":{"value":1},"":{"value":2},"a":{"value":3},"B":{"value":4}}}'),
+        '0 0 ok {"":2,"B":4,"a":3,"b":1}',
+    ),
+    answered("a field of an object", plan_file_3('{"pick":[{"object":{"a":{"load":["user","u3"]}}},"a"]}'), '0 0 ok {"name":"Cy"}'),
+    answered(
+        "as many items as there may be",
+        document(plan_file_3('{"over":[{"value":[', tables="[]")[: -len("}]]}")], ("1,", 1_023), f'1]}},{{"value":0}}]}}}}]]}}'),
+        f"0 0 ok [{','.join('0' * 1_024)}]",
+    ),
+    answered(
+        "a term of height 32",
+        document('{"version":3,"tables":[],"plans":[[{"eval":{"over":[{"value":[1]},', ('{"all":[', 30), ITEM, ("]}", 30), "]}}]]}"),
+        f"0 0 ok [{'[' * 30}1{']' * 30}]",
+    ),
+    answered(
+        "a table with a limit of its own",
+        plan_file_3('{"all":[{"load":["t","a"]},{"load":["t","b"]}]}', tables='[{"name":"t","maxBatchSize":1,"rows":[["a",1],["b",2]]}]'),
+        "0 0 ok [1,2]",
+        "rounds 1",
+        'batch 0 [["t","a"]] settled',
+        'batch 1 [["t","b"]] settled',
+        command_lines=BATCHES,
+    ),
+]
+
+ROWS["in version 3 a body or a member may have a fault"] = [
+    answered(
+        "no list, and an item that has no such field",
+        plan_file_3('{"over":[{"value":{}},{"item":true}]}', f'{{"over":[{{"value":[{{"name":1}},2,{{}}]}},{NAME_OF_ITEM}]}}'),
+        "0 0 fault NotAList",
+        "0 1 fault NoField",
+    ),
+    answered(
+        "a fault of the part comes first",
+        plan_file_3('{"over":[{"load":["user","u9"]},{"pick":[{"value":1},"x"]}]}'),
+        '0 0 fault key ["user","u9"] "gone"',
+    ),
+    answered(
+        "too many items",
+        document(plan_file_3('{"over":[{"value":[', tables="[]")[: -len("}]]}")], ("1,", 1_024), f'1]}},{{"value":0}}]}}}}]]}}'),
+        "0 0 fault TooMany",
+    ),
+    answered(
+        "the leftmost item that fails counts, and all are loaded",
+        plan_file_3(f'{{"over":[{{"value":["u7","u9","u1"]}},{USER_OF_ITEM}]}}'),
+        '0 0 fault key ["user","u7"] "no row"',
+        "rounds 1",
+        'batch 0 [["user","u7"],["user","u9"]] settled',
+        'batch 1 [["user","u1"]] settled',
+        command_lines=BATCHES,
+    ),
+    answered(
+        "of an object the first name that fails counts",
+        plan_file_3('{"object":{"b":{"pick":[{"value":1},"x"]},"a":{"over":[{"value":1},{"value":2}]}}}'),
+        "0 0 fault NotAList",
+    ),
+    answered("an item that is no id", plan_file_3(f'{{"over":[{{"value":["u1",1]}},{USER_OF_ITEM}]}}'), "0 0 fault NotAKey"),
+]
+
+ROWS["in version 3 a form has its place"] = [
+    term_refused(ITEM),
+    term_refused('{"over":[{"item":true},{"value":1}]}'),
+    term_refused('{"object":{"a":{"item":true}}}'),
+    term_refused('{"all":[{"over":[{"value":[1]},{"item":true}]},{"pick":[{"item":true},"a"]}]}'),
+    term_refused(nested(4, '{"value":1}'), about="a body in three others"),
+    *(term_refused(f'{{"over":[{{"value":[1]}},{{"item":{argument}}}]}}') for argument in ("false", "1", "null", "[]")),
+    *(
+        term_refused(f'{{"over":{argument}}}')
+        for argument in ("1", "{}", "[]", '[{"value":[1]}]', '[{"value":[1]},{"value":1},{"value":1}]', '[{"value":[1]},1]')
+    ),
+    *(
+        term_refused(f'{{"object":{argument}}}')
+        for argument in ("1", "[]", '[["a",{"value":1}]]', '{"a":1}', '{"a":{"value":1},"b":{"value":1.5}}')
+    ),
+    term_refused('{"object":{"a":{"value":1}},"all":[]}'),
+    # the versions before don't have these forms
+    *(
+        refused("plan 0 step 0", f'{{"version":{version},"tables":[],"plans":[[{{"eval":{term}}}]]}}')
+        for version in (1, 2)
+        for term in ('{"over":[{"value":[]},{"value":1}]}', '{"object":{}}', ITEM, '{"all":[{"object":{}}]}')
+    ),
+    # of two causes the first
+    refused(
+        "plan 0 step 1",
+        '{"version":3,"tables":5,"plans":[[{"eval":',
+        ('{"all":[', 32),
+        '{"value":1}',
+        ("]}", 32),
+        '},{"eval":{"item":true}}]]}',
+        about="a term too high, and then an item in no body",
+    ),
+    refused(
+        "plan 0 step 0",
+        '{"version":3,"tables":[],"plans":[[{"eval":',
+        ('{"all":[', 32),
+        ITEM,
+        ("]}", 32),
+        "}]]}",
+        about="an item in no body in a term too high",
+    ),
+    refused(
+        "too deep plan 0 step 0",
+        '{"version":3,"tables":[],"plans":[[{"eval":{"over":[{"value":[1]},',
+        ('{"all":[', 31),
+        ITEM,
+        ("]}", 31),
+        "]}}]]}",
+        about="a body of height 32",
+    ),
+    refused("version", '{"version":4,"script":3,"tables":[],"plans":[[]]}'),
+    refused("top", '{"version":3,"tableLimits":[],"tables":[],"plans":[[]]}'),
+]
+
 # What a table's number can't be, and numbers that no limit may be.
 NO_NUMBERS = ('"1"', "1.5", "null", "18446744073709551616", "[1]")
 NO_LIMITS = ("0", "-1", "65537", "18446744073709551615", "-9223372036854775808")
@@ -1239,6 +1423,7 @@ ROWS["a plan file of version 1 is migrated"] = [
     not_version_1("a file that was migrated", NOTHING_2),
     not_version_1("a script of version 2", '{"script":2,"calls":[]}'),
     not_version_1("a table with a limit of its own", plan_file_2(SHOP_AND_U13, "1")),
+    not_version_1("a plan file of version 3", '{"version":3,"tables":[],"plans":[[]]}'),
     Row("no bytes", b"", MIGRATE, status=1, error="refused: not json\n"),
 ]
 

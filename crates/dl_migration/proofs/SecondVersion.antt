@@ -1,15 +1,22 @@
 -- A tree that spells a plan file of version 1, migrated, spells the same file in version 2.
-use Rattle.std.proofs.Common.{◌≡◌, ◌∙◌, sym, ap, subst, refl, ℕ, ◌≤◌, List, [], length, Bool, true, false, codes, bytes_eq, is_some, if◌then◌else◌}
+use Rattle.std.proofs.Common.{◌≡◌, ◌∙◌, sym, ap, subst, refl, inl, ℕ, ℤ, pos, ◌≤◌, List, [], length, map, Bool, true, false, not, ◌&&◌, codes, bytes_eq, is_some}
+use Rattle.std.proofs.Common.{if◌then◌else◌}
 use Rattle.std.proofs.Common.{Option, Some, None, option_and_then, true≢false}
 use Rattle.std.proofs.lemmas.Slice.Eq.{bytes_eq-Decides}
+use Rattle.std.specs.List.{AllByRecursion}
+use Rattle.std.specs.Option.{option_map_or}
+use Rattle.std.specs.Ordering.{int_eq}
 use Rattle.serde_json.specs.Data.{Data, null, boolean, number, unsigned, string, array, object, Members}
 use Rattle.serde_json.specs.Find.{get, as_array, as_object}
 use Rattle.dl_source.specs.Spelling.{has_only, whole}
 use Rattle.dl_documents.specs.Document.{is_script, is_known, is_plans_member, has_only_known, version_name, whole_or_largest}
-use Rattle.dl_documents.specs.Document.{IsOfVersion, GivesLimit, GivesTables, SpellsPlans}
+use Rattle.dl_documents.specs.Document.{IsOfVersion, GivesLimit, GivesTables, SpellsPlans, forms_of, has_number, version_number}
 use Rattle.dl_documents.specs.Document.{IsTextOf}
 use Rattle.dl_documents.specs.Faults.{most_bytes}
 use Rattle.dl_documents.specs.OwnLimits.{TableLimits, version_by}
+use Rattle.dl_documents.specs.Steps.{IsPlan, plan_view}
+use Rattle.dl_documents.specs.declared.forms.Forms.{Forms}
+use Rattle.dl_documents.specs.declared.forms.Forms.TheVariants.{Six, Nine}
 use Rattle.dl_documents.specs.declared.input.Input.{Input}
 use Rattle.dl_documents.specs.declared.input.Input.TheVariants.{Script, Plans}
 use Rattle.dl_documents.specs.declared.input.PlanFile.{PlanFile}
@@ -38,6 +45,16 @@ has_only-migrated test (string s) mine all = all
 has_only-migrated test (array ds) mine all = all
 has_only-migrated test (object ms) mine all = names_all-put test (codes "version") (number (unsigned 2)) ms mine all
 
+and_no : (b : Bool) → (b && false) ≡ false
+and_no true = refl
+and_no false = refl
+
+-- before version 3 there are six forms of terms
+six : (d : Data) (n : ℕ) → version_number d ≡ Some (pos n) → int_eq (pos 3) (pos n) ≡ false → forms_of d ≡ Six
+six d n is other =
+    let third : has_number 3 d ≡ false = ap (λ (o : Option ℤ). option_map_or (int_eq (pos 3)) o false) is ∙ other in
+    ap (λ (b : Bool). if b then Nine 0 else Six) (ap (λ (b : Bool). not (is_script d) && b) third ∙ and_no (not (is_script d)))
+
 module _ (d : Data) (file : PlanFile) (s : SpellsPlans d file) (first : file.table_limits ≡ None) where
   -- each member but the version stays
   stays : (name : List ℕ) → bytes_eq name (codes "version") ≡ false → get name (migrated d) ≡ get name d
@@ -51,12 +68,22 @@ module _ (d : Data) (file : PlanFile) (s : SpellsPlans d file) (first : file.tab
   kind : is_script (migrated d) ≡ false
   kind = ap (λ (o : Option Data). is_some o) (stays (codes "script") refl) ∙ s.kind
 
-  version : IsOfVersion (migrated d) (version_by (Some []))
-  version =
+  -- the number of the version, before and after
+  number : version_number d ≡ Some (pos 1)
+  number = subst (λ (o : Option TableLimits). IsOfVersion d (version_by o)) first s.version
+
+  number_migrated : version_number (migrated d) ≡ Some (pos 2)
+  number_migrated =
       let members = is_object is_plans_member d known in
       let name : version_name (migrated d) ≡ codes "version" = ap (λ (b : Bool). if b then codes "script" else codes "version") kind in
       ap (λ (n : List ℕ). option_and_then whole (get n (migrated d))) name
       ∙ ap (λ (o : Option Data). option_and_then whole o) (version-migrated d members.0 members.1)
+
+  -- neither version has more forms of terms
+  plans : AllByRecursion (IsPlan (forms_of (migrated d))) (map plan_view file.plans.items)
+  plans =
+      subst (λ (forms : Forms). AllByRecursion (IsPlan forms) (map plan_view file.plans.items)) (six d 1 number refl ∙ sym (six (migrated d) 2 number_migrated refl))
+      s.plans
 
   members : has_only_known (version_by (Some [])) (migrated d) ≡ true
   members = ap (λ (b : Bool). has_only (is_known b (version_by (Some []))) (migrated d)) kind ∙ has_only-migrated is_plans_member d refl known
@@ -82,11 +109,11 @@ module _ (d : Data) (file : PlanFile) (s : SpellsPlans d file) (first : file.tab
   same_file : SpellsPlans (migrated d) (in_second_version file)
   same_file = record {
     kind = kind;
-    version = version;
+    version = inl number_migrated;
     members = members;
     list = ap (λ (o : Option Data). option_and_then as_array o) (stays (codes "plans") refl) ∙ s.list;
     count = s.count;
-    plans = s.plans;
+    plans = plans;
     tables = tables;
     limits = record {
       batch = limit (codes "maxBatchSize") file.limits.max_batch refl s.limits.batch;

@@ -8,7 +8,7 @@ use Rattle.serde_json.specs.Written.{has_float}
 use Rattle.dl_source.specs.Spelling.{whole}
 use Rattle.dl_source.proofs.Spelling.{array_of}
 use Rattle.dl_documents.specs.Document.{IsOfVersion, is_script, is_known, is_plans_member, is_limit_member, whole_or_largest, GivesLimit, GivesTables}
-use Rattle.dl_documents.specs.Document.{SpellsPlans}
+use Rattle.dl_documents.specs.Document.{SpellsPlans, forms_of}
 use Rattle.dl_documents.specs.OwnLimits.{TableLimits, version_by}
 use Rattle.dl_documents.specs.Steps.{plan_view, plans_tree}
 use Rattle.dl_documents.specs.declared.input.PlanFile.{PlanFile}
@@ -38,7 +38,7 @@ module _ (d : Data) (f : PlanFile) (s : SpellsPlans d f) (mixed : f.table_limits
   plans_whole : (e : Data) → get (codes "plans") d ≡ Some e → has_float e ≡ false
   plans_whole e is =
       let plans = map plan_view f.plans.items in
-      ap has_float (array_of e (plans_tree plans) (sym (ap (option_and_then as_array) is) ∙ s.list)) ∙ whole_plans plans s.plans
+      ap has_float (array_of e (plans_tree plans) (sym (ap (option_and_then as_array) is) ∙ s.list)) ∙ whole_plans (forms_of d) plans s.plans
 
   limit_whole : (k : List ℕ) (e : Data) → get k d ≡ Some e → is_limit_member k ≡ true → has_float e ≡ false
   limit_whole k e is known =

@@ -3,4 +3,5 @@ pub mod JsonText
 pub mod Numbers
 pub mod Script
 pub mod TermLoads
+pub mod Together
 pub mod Xml

@@ -136,7 +136,7 @@ fn push_parts(
             history,
             cells: &cells,
         };
-        match (known.waiting(term)?, rounds.get(place)) {
+        match (known.waiting(term, None)?, rounds.get(place)) {
             (Some(waiting), Some(round)) => {
                 let step = round.others.saturating_add(number);
                 parts.push(part_text(alloc, step, waiting)?)?;
