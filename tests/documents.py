@@ -1261,7 +1261,7 @@ ROWS["a run ends with its status"] = [
         "help",
         LOAD,
         ("--help", "-h", "--batches --help", "help"),
-        output=Holding("", ("Usage: plans", "migrate", "help", "--workers <N>", "[default: 3]", "--batches", "--help")),
+        output=Holding("", ("Usage: plans", "migrate", "help", "--workers <N>", "[default: 3]", "--batches", "--explain", "--help")),
         is_read=False,
     ),
     Row(
@@ -1293,4 +1293,278 @@ ROWS["a run ends with its status"] = [
     usage("a number that is no UTF-8", "--workers \udcff", "invalid UTF-8 was detected in one or more arguments", "Usage: plans"),
     Row("an output that takes nothing", LOAD, status=3, error="failed: write\n", is_full=True),
     Row("an output that takes nothing of what is migrated", document(NOTHING), MIGRATE, 3, error="failed: write\n", is_full=True),
+]
+
+# ---- where faults come from
+
+EXPLAIN = ("--explain", "--workers 1 --explain")
+
+# Rows of one user each, whose fields are of each kind. A batch with u13 breaks.
+EXPLAINED_TABLES = (
+    '[{"name":"user","rows":['
+    '["u1",{"name":"Ada","best":"u2","n":5,"o":{"a":1},"lost":"u9","err":"u7","down":"u13","ids":["u2","u1"]}],'
+    '["u2",{"name":"Bob","best":"","long":"' + "x" * 257 + '","ids":["u1",5,"u9"],"gone":["u1","u9","u7"],"down":["u1","u13"],"none":[]}],'
+    '["u3",{"many":[' + ",".join(['"u1"'] * 1_025) + '],"most":[' + ",".join(['"u1"'] * 1_024) + ']}],'
+    '["u4",7],["u5",["u1"]]],'
+    '"errors":[["u7","it\\n\\"is\\" gone"]],"breaks":[["u13","db down"]]}]'
+)
+U1_NAME = '{"pick":[{"load":["user","u1"]},"name"]}'
+U1, U2, U3 = (f'{{"load":["user","u{number}"]}}' for number in (1, 2, 3))
+NO_ROW = 'key ["user","u9"] "no row"'
+MET_NO_ROW = 'met the error "no row" of ["user","u9"]'
+NEEDS = {
+    "key": "a row",
+    "batch": "a batch that is answered",
+    "NoField": "an object with this field",
+    "NotAKey": "an id, a text of 1 to 256 bytes",
+    "NotAList": "a list of ids",
+    "TooMany": "at most 1024",
+}
+
+
+def explained_file(*plans):
+    """A plan file over these tables. A plan is its steps, and a step that is no text of its own is a term."""
+    return '{"version":1,"tables":%s,"plans":[%s]}' % (EXPLAINED_TABLES, ",".join(f"[{','.join(plan)}]" for plan in plans))
+
+
+def evaluation(term):
+    return '{"eval":%s}' % term
+
+
+def explained(about, term, fault, place, met):
+    """The row of a term with this fault, which comes from this place in the term, where the part met this."""
+    needs = NEEDS[fault.split(" ")[0]]
+    error = f"plan 0 step 0: eval{place}: {met}, and needs {needs}\n"
+    text = document(explained_file([evaluation(term)]))
+    return Row(about, text, EXPLAIN, output=f"0 0 fault {fault}\n", error=error)
+
+
+ROWS["a fault is explained"] = [
+    # A load.
+    explained("a load of no row", '{"load":["user","u9"]}', NO_ROW, "", f"load {MET_NO_ROW}"),
+    explained(
+        "a load from no table",
+        '{"load":["shop","s"]}',
+        'key ["shop","s"] "no table"',
+        "",
+        'load met the error "no table" of ["shop","s"]',
+    ),
+    explained(
+        "a load of an error, whose text has a line feed",
+        '{"load":["user","u7"]}',
+        r'key ["user","u7"] "it\n\"is\" gone"',
+        "",
+        r'load met the error "it\n\"is\" gone" of ["user","u7"]',
+    ),
+    explained(
+        "a load whose batch fails",
+        '{"load":["user","u13"]}',
+        'batch ["user","u13"] "db down"',
+        "",
+        'load met the failed batch ("db down") of ["user","u13"]',
+    ),
+    explained(
+        "a load of a long id",
+        '{"load":["user","' + "i" * 200 + '"]}',
+        'key ["user","' + "i" * 200 + '"] "no row"',
+        "",
+        'load met the error "no row" of ["user","' + "i" * 51 + "…",
+    ),
+    # A pick.
+    explained(
+        "a pick from an object without the field",
+        '{"pick":[{"value":{"b":[1,null],"a":"x"}},"c"]}',
+        "NoField",
+        "",
+        'pick "c" met {"a":"x","b":[1,null]}',
+    ),
+    explained("a pick from a row that is a number", '{"pick":[{"load":["user","u4"]},"n"]}', "NoField", "", 'pick "n" met 7'),
+    explained("a pick from a row that is a list", '{"pick":[{"load":["user","u5"]},"0"]}', "NoField", "", 'pick "0" met ["u1"]'),
+    explained("a pick from a text", '{"pick":[{"pick":[%s,"name"]},"name"]}' % U1, "NoField", "", 'pick "name" met "Ada"'),
+    explained("a pick from null", '{"pick":[{"value":null},""]}', "NoField", "", 'pick "" met null'),
+    explained(
+        "a pick from the list of an all",
+        '{"pick":[{"all":[{"value":1},{"all":[{"value":"b"},{"value":{}}]}]},"n"]}',
+        "NoField",
+        "",
+        'pick "n" met [1,["b",{}]]',
+    ),
+    explained(
+        "a pick from the rows of an each",
+        '{"pick":[{"each":[{"value":{"ids":["u4","u5"]}},"ids","user"]},"n"]}',
+        "NoField",
+        "",
+        'pick "n" met [7,["u1"]]',
+    ),
+    explained(
+        "a pick of a field with quotation marks",
+        '{"pick":[{"value":{}},"a\\"\\nb"]}',
+        "NoField",
+        "",
+        r'pick "a\"\nb" met {}',
+    ),
+    explained(
+        "a pick of a long field",
+        '{"pick":[{"value":{}},"' + "f" * 100 + '"]}',
+        "NoField",
+        "",
+        'pick "' + "f" * 59 + "… met {}",
+    ),
+    explained("a pick from a part that fails", '{"pick":[{"load":["user","u9"]},"name"]}', NO_ROW, ".pick[0]", f"load {MET_NO_ROW}"),
+    # A value is shown up to 60 characters, with those of its quotation marks.
+    explained("a value of 60 characters", '{"pick":[{"value":"' + "é" * 58 + '"},"n"]}', "NoField", "", 'pick "n" met "' + "é" * 58 + '"'),
+    explained("a value of 61 characters", '{"pick":[{"value":"' + "é" * 59 + '"},"n"]}', "NoField", "", 'pick "n" met "' + "é" * 59 + "…"),
+    # A follow.
+    explained("a follow from no field", '{"follow":[{"value":{"best":"u2"}},"worst","user"]}', "NoField", "", 'follow "worst" met {"best":"u2"}'),
+    explained("a follow of a number", '{"follow":[%s,"n","user"]}' % U1, "NotAKey", "", 'follow "n" met 5'),
+    explained("a follow of an object", '{"follow":[%s,"o","user"]}' % U1, "NotAKey", "", 'follow "o" met {"a":1}'),
+    explained("a follow of an empty text", '{"follow":[%s,"best","user"]}' % U2, "NotAKey", "", 'follow "best" met ""'),
+    explained("a follow of a long text", '{"follow":[%s,"long","user"]}' % U2, "NotAKey", "", 'follow "long" met "' + "x" * 59 + "…"),
+    explained("a follow of a list", '{"follow":[%s,"ids","user"]}' % U1, "NotAKey", "", 'follow "ids" met ["u2","u1"]'),
+    explained("a follow to no row", '{"follow":[%s,"lost","user"]}' % U1, NO_ROW, "", f'follow "lost" {MET_NO_ROW}'),
+    explained(
+        "a follow to an error",
+        '{"follow":[%s,"err","user"]}' % U1,
+        r'key ["user","u7"] "it\n\"is\" gone"',
+        "",
+        r'follow "err" met the error "it\n\"is\" gone" of ["user","u7"]',
+    ),
+    explained(
+        "a follow into a batch that fails",
+        '{"follow":[%s,"down","user"]}' % U1,
+        'batch ["user","u13"] "db down"',
+        "",
+        'follow "down" met the failed batch ("db down") of ["user","u13"]',
+    ),
+    explained(
+        "a follow from a part that fails, which a pick reads",
+        '{"pick":[{"follow":[{"follow":[%s,"lost","user"]},"best","user"]},"name"]}' % U1,
+        NO_ROW,
+        ".pick[0].follow[0]",
+        f'follow "lost" {MET_NO_ROW}',
+    ),
+    # An each.
+    explained("an each from no field", '{"each":[{"value":7},"ids","user"]}', "NoField", "", 'each "ids" met 7'),
+    explained("an each over an object", '{"each":[%s,"o","user"]}' % U1, "NotAList", "", 'each "o" met {"a":1}'),
+    explained("an each over an id", '{"each":[%s,"best","user"]}' % U1, "NotAList", "", 'each "best" met "u2"'),
+    explained("an each over too many", '{"each":[%s,"many","user"]}' % U3, "TooMany", "", 'each "many" met 1025 items'),
+    explained("an each over a number, and no row", '{"each":[%s,"ids","user"]}' % U2, "NotAKey", "", 'each "ids" met 5 at [1]'),
+    explained("an each over no row", '{"each":[%s,"gone","user"]}' % U2, NO_ROW, "", f'each "gone" {MET_NO_ROW} at [1]'),
+    explained(
+        "an each over a batch that fails, of which each key fails",
+        '{"each":[%s,"down","user"]}' % U2,
+        'batch ["user","u1"] "db down"',
+        "",
+        'each "down" met the failed batch ("db down") of ["user","u1"] at [0]',
+    ),
+    explained(
+        "an each over many, of which the last is no id",
+        '{"each":[{"value":{"ids":[' + '"u1",' * 1_023 + 'null]}},"ids","user"]}',
+        "NotAKey",
+        "",
+        'each "ids" met null at [1023]',
+    ),
+    explained(
+        "an each from a part that fails",
+        '{"each":[{"pick":[{"value":{"name":"Ada"}},"names"]},"ids","user"]}',
+        "NoField",
+        ".each[0]",
+        'pick "names" met {"name":"Ada"}',
+    ),
+    # An all.
+    explained(
+        "an all whose second part fails, and its third one otherwise",
+        '{"all":[%s,{"pick":[{"value":{}},"name"]},{"load":["user","u9"]}]}' % U1,
+        "NoField",
+        ".all[1]",
+        'pick "name" met {}',
+    ),
+    explained(
+        "two parts that fail alike, inside one another",
+        '{"all":[{"value":1},{"all":[]},{"all":[%s,{"load":["user","u9"]}]},{"load":["user","u9"]}]}' % U1,
+        NO_ROW,
+        ".all[2].all[1]",
+        f"load {MET_NO_ROW}",
+    ),
+    explained(
+        "each form around a part that fails",
+        '{"each":[{"pick":[{"follow":[{"pick":[{"all":[{"load":["user","u9"]}]},"a"]},"b","user"]},"c"]},"d","user"]}',
+        NO_ROW,
+        ".each[0].pick[0].follow[0].pick[0].all[0]",
+        f"load {MET_NO_ROW}",
+    ),
+]
+
+
+def several(about, plans, lines, explanations, **others):
+    """The row of these plans."""
+    error = "".join(f"{line}\n" for line in explanations)
+    return answered(about, explained_file(*plans), *lines, error=error, command_lines=EXPLAIN, **others)
+
+
+PRIME = '{"prime":[["user","u1"],{"error":"blocked"}]}'
+BLOCKED = 'met the error "blocked" of ["user","u1"], and needs a row'
+
+ROWS["each fault of a plan file is explained"] = [
+    several("no fault", [[evaluation(U1_NAME)], []], ['0 0 ok "Ada"'], []),
+    several(
+        "steps that evaluate nothing count, and steps without a fault have no line",
+        [[PRIME, evaluation(U1_NAME), '{"clear":["user","u1"]}', evaluation(U1_NAME), evaluation('{"load":["user","u9"]}')]],
+        ['0 1 fault key ["user","u1"] "blocked"', '0 3 ok "Ada"', f"0 4 fault {NO_ROW}"],
+        [f"plan 0 step 1: eval.pick[0]: load {BLOCKED}", f"plan 0 step 4: eval: load {MET_NO_ROW}, and needs a row"],
+    ),
+    several(
+        "a term reads what it loads itself, in rounds of its own",
+        [
+            [
+                evaluation('{"pick":[{"follow":[%s,"best","user"]},"name"]}' % U1),
+                '{"clearAll":true}',
+                '{"prime":[["user","u2"],{"value":{"best":7}}]}',
+                evaluation('{"follow":[{"follow":[%s,"best","user"]},"best","user"]}' % U1),
+                '{"clearAll":true}',
+                evaluation('{"follow":[{"follow":[%s,"best","user"]},"best","user"]}' % U1),
+            ]
+        ],
+        ['0 0 ok "Bob"', "0 3 fault NotAKey", "0 5 fault NotAKey"],
+        [
+            'plan 0 step 3: eval: follow "best" met 7, and needs an id, a text of 1 to 256 bytes',
+            'plan 0 step 5: eval: follow "best" met "", and needs an id, a text of 1 to 256 bytes',
+        ],
+    ),
+    several(
+        "several plans, in their order",
+        [
+            [evaluation('{"load":["user","u9"]}')],
+            [evaluation(U1_NAME)],
+            [evaluation(U1_NAME), evaluation('{"pick":[{"value":2},"x"]}'), evaluation('{"pick":[{"value":3},"y"]}')],
+        ],
+        [f"0 0 fault {NO_ROW}", '1 0 ok "Ada"', '2 0 ok "Ada"', "2 1 fault NoField", "2 2 fault NoField"],
+        [
+            f"plan 0 step 0: eval: load {MET_NO_ROW}, and needs a row",
+            'plan 2 step 1: eval: pick "x" met 2, and needs an object with this field',
+            'plan 2 step 2: eval: pick "y" met 3, and needs an object with this field',
+        ],
+    ),
+]
+
+FAULT = document(explained_file([evaluation('{"load":["user","u9"]}')]))
+ROWS["faults are explained on request, behind an answer"] = [
+    answered("without the option", FAULT, f"0 0 fault {NO_ROW}", command_lines=PLAIN),
+    answered(
+        "with batches",
+        FAULT,
+        f"0 0 fault {NO_ROW}",
+        "rounds 1",
+        'batch 0 [["user","u9"]] settled',
+        error=f"plan 0 step 0: eval: load {MET_NO_ROW}, and needs a row\n",
+        command_lines=("--batches --explain", "--explain --workers 16 --batches"),
+    ),
+    Row("a script", LOAD, ("--explain",), output="fresh 0 0\n"),
+    Row("a plan file that is migrated", document(NOTHING), ("--explain migrate",), output=NOTHING_2),
+    Row("a document that is refused", b"{}", ("--explain",), status=1, error="refused: version\n"),
+    Row("an output that takes nothing", FAULT, ("--explain",), status=3, error="failed: write\n", is_full=True),
+    Row("a plan that meets a limit", FAULT.replace(b'"version":1', b'"version":1,"maxCalls":1'), ("--explain",), status=3, error="failed: Run\n"),
+    usage("the option with a value", "--explain=true", "unexpected value 'true' for '--explain'"),
+    usage("the option twice", "--explain --explain", "the argument '--explain' cannot be used multiple times"),
+    usage("the option behind migrate", "migrate --explain", "unexpected argument '--explain' found", "Usage: plans migrate"),
 ]

@@ -72,7 +72,7 @@ fn plan_loads(
 }
 
 /// The events by which a caller began its rounds.
-fn rounds_of<'h>(
+pub(crate) fn rounds_of<'h>(
     alloc: Global,
     events: &'h Events,
     caller: u32,

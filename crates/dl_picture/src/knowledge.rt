@@ -23,7 +23,7 @@ use std::alloc::{AllocError, Global};
 use std::hash::RandomState;
 
 /// The most items of a list of ids.
-const MOST_ITEMS: usize = 1_024;
+pub(crate) const MOST_ITEMS: usize = 1_024;
 
 /// What a term knows: the cells of the keys that it has read, and the history with their outcomes.
 #[derive(Drop)]
@@ -35,7 +35,7 @@ pub(crate) struct Knowledge<'h, 'c> {
 
 impl<'h> Knowledge<'h, '_> {
     /// The outcome of a key, if it was read.
-    fn outcome(&self, key: &FetchKey) -> Option<&'h Outcome>
+    pub(crate) fn outcome(&self, key: &FetchKey) -> Option<&'h Outcome>
         ensures { option_copied result ≡ known_of self.now key.now }
     {
         match self.cells.get(key) {
@@ -61,7 +61,7 @@ impl<'h> Knowledge<'h, '_> {
     }
 
     /// The key that a value names in a table, if the value is an id.
-    fn key_in(&self, table: &Text, id: &Value) -> Result<Option<FetchKey>, AllocError>
+    pub(crate) fn key_in(&self, table: &Text, id: &Value) -> Result<Option<FetchKey>, AllocError>
         ensures { IfOk result (λ k. target_of k ≡ value_target table.now (view id.now)) }
     {
         match id.as_str() {

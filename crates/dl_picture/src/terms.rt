@@ -13,10 +13,10 @@ use std::alloc::{AllocError, Global};
 /// `AllocError` if memory runs out.
 ///
 /// # Examples
-/// Keeps the terms of plans that are to be served and drawn, from `crates/dl_plans`:
+/// Keeps the terms of plans that are to be served, from `crates/dl_plans`:
 ///
 /// ```rust
-/// Some(_) => Ok(Some(terms_of(alloc, plans)?)),
+/// Ok(Some(terms_of(alloc, plans)?))
 /// ```
 pub fn terms_of(alloc: Global, plans: &[Plan]) -> Result<Vec<Vec<Term>>, AllocError>
     ensures { IfOk result (λ copies. trees_of_terms copies.items ≡ map plan_terms plans.now) }

@@ -5,5 +5,6 @@ mod CommandMatches
 mod JoinedTables
 mod MigratedAnswers
 pub mod Runs
+mod SameFaults
 mod TableNames
 pub mod ThreadSafety

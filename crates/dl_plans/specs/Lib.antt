@@ -2,6 +2,7 @@ pub mod ReplyLines
 pub mod ScriptText
 pub mod ReportText
 pub mod Statistics
+pub mod Explanations
 pub mod Options
 pub mod JoinedTables
 pub mod Run

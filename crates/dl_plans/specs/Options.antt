@@ -25,6 +25,10 @@ workers_rule = record (new_rule (codes "workers")) {
 abbrev pub batches_rule : Rule
 batches_rule = record (new_rule (codes "batches")) { long = Some (codes "batches"); action = Some SetTrue }
 
+-- `--explain`, a flag
+abbrev pub explain_rule : Rule
+explain_rule = record (new_rule (codes "explain")) { long = Some (codes "explain"); action = Some SetTrue }
+
 -- `--statistics`, a flag
 abbrev pub statistics_rule : Rule
 statistics_rule = record (new_rule (codes "statistics")) { long = Some (codes "statistics"); action = Some SetTrue }
@@ -49,9 +53,13 @@ without_name s = record s { no_binary_name = true }
 abbrev pub migrate_app : App
 migrate_app = new_app (codes "migrate")
 
+-- the options that say how the plans are served, and what standard output has of it
+abbrev pub serving_app : App
+serving_app = with_rule (with_rule (on_top without_name (new_app (codes "plans"))) workers_rule) batches_rule
+
 -- the options for answering a document that name no file
 abbrev pub answering_app : App
-answering_app = with_rule (with_rule (with_rule (on_top without_name (new_app (codes "plans"))) workers_rule) batches_rule) statistics_rule
+answering_app = with_rule (with_rule serving_app explain_rule) statistics_rule
 
 -- the options for answering a document
 abbrev pub file_words_app : App
@@ -90,6 +98,8 @@ pub record AreGiven (rows : List Row) (used : Option (Text × List Row)) (o : Op
   pub most : o.workers ≤ most_workers
   pub batches : one_of (codes "batches") rows ≡ Some (codes "true") → o.batches ≡ true
   pub no_batches : one_of (codes "batches") rows ≡ Some (codes "false") → o.batches ≡ false
+  pub explain : one_of (codes "explain") rows ≡ Some (codes "true") → o.explain ≡ true
+  pub no_explain : one_of (codes "explain") rows ≡ Some (codes "false") → o.explain ≡ false
   pub statistics : one_of (codes "statistics") rows ≡ Some (codes "true") → o.statistics ≡ true
   pub no_statistics : one_of (codes "statistics") rows ≡ Some (codes "false") → o.statistics ≡ false
   pub picture : option_map string_bytes o.picture ≡ first_of (codes "picture") rows

@@ -68,7 +68,7 @@ fn push_fault(alloc: Global, out: &mut String, fault: &EvalFault) -> Result<(), 
 }
 
 /// Why a batch failed.
-fn batch_fault_text(alloc: Global, fault: &BatchFault) -> Result<String, AllocError>
+pub(crate) fn batch_fault_text(alloc: Global, fault: &BatchFault) -> Result<String, AllocError>
     ensures { IfOk result (λ text. string_bytes text ≡ batch_fault_text fault.now) }
 {
     match fault {

@@ -2,8 +2,8 @@
 
 ghost use Rattle.std.specs.Prelude.{◌≡◌, IfOk, IfSome, map, option_map, false, string_bytes};
 ghost use Rattle.clap.specs.Words.{app_of, rule_of, found_of, matches_of, rows_of, subcommand_of, subcommand_rows_of};
-ghost use Rattle.dl_plans.specs.Options.{plans_app, plans_words_app, file_words_app, answering_app, AreGiven};
-ghost use Rattle.dl_plans.specs.Options.{workers_rule, batches_rule, statistics_rule, picture_rule, trace_rule, database_rule};
+ghost use Rattle.dl_plans.specs.Options.{plans_app, plans_words_app, file_words_app, answering_app, serving_app, AreGiven};
+ghost use Rattle.dl_plans.specs.Options.{workers_rule, batches_rule, explain_rule, statistics_rule, picture_rule, trace_rule, database_rule};
 
 use crate::settings::Options;
 use clap::error::ErrorKind;
@@ -11,9 +11,9 @@ use clap::{Arg, ArgAction, ArgMatches, Command, Error, value_parser};
 use std::alloc::{AllocError, Global};
 use std::convert::AsStr;
 
-/// The options in the words behind the program's name, `[--workers N] [--batches] [--statistics] [--picture FILE]
-/// [--trace FILE] [--database FILE] [migrate]`, and the file of the database. N is 1 to 16, and 3 if you don't give it. No option follows
-/// `migrate`. The options have no tables of a database yet.
+/// The options in the words behind the program's name, `[--workers N] [--batches] [--explain] [--statistics]
+/// [--picture FILE] [--trace FILE] [--database FILE] [migrate]`, and the file of the database. N is 1 to 16, and 3 if you
+/// don't give it. No option follows `migrate`. The options have no tables of a database yet.
 ///
 /// # Errors
 /// The help, if the words ask for it; why the words are wrong, with the usage; or that memory ran out.
@@ -63,6 +63,7 @@ fn given(
     let options = Options {
         workers,
         batches: matches.get_flag("batches"),
+        explain: matches.get_flag("explain"),
         statistics: matches.get_flag("statistics"),
         picture: copied(alloc, matches.get_str("picture"))?,
         trace: copied(alloc, matches.get_str("trace"))?,
@@ -136,12 +137,20 @@ fn file_words<'a>(alloc: Global) -> Result<Command<'a>, AllocError>
 fn answering_words<'a>(alloc: Global) -> Result<Command<'a>, AllocError>
     ensures { IfOk result (λ c. app_of c ≡ answering_app) }
 {
+    serving_words(alloc)?
+        .arg(explain(alloc))?
+        .arg(statistics(alloc))
+}
+
+/// The options that say how the plans are served, and what standard output has of it.
+fn serving_words<'a>(alloc: Global) -> Result<Command<'a>, AllocError>
+    ensures { IfOk result (λ c. app_of c ≡ serving_app) }
+{
     Command::new(alloc, "plans")
         .about("Answers a document that stands on standard input")
         .no_binary_name(true)
         .arg(workers(alloc))?
-        .arg(batches(alloc))?
-        .arg(statistics(alloc))
+        .arg(batches(alloc))
 }
 
 /// `--workers N`.
@@ -166,6 +175,17 @@ fn batches<'a>(alloc: Global) -> Arg<'a>
         .long("batches")
         .action(ArgAction::SetTrue)
         .help("Prints the rounds and batches too, of a plan file with exactly one plan")
+}
+
+/// `--explain`.
+fn explain<'a>(alloc: Global) -> Arg<'a>
+    ensures rule { rule_of result ≡ explain_rule }
+    ensures local { result.global ≡ false }
+{
+    Arg::new(alloc, "explain")
+        .long("explain")
+        .action(ArgAction::SetTrue)
+        .help("Says on standard error where the faults of a plan file's answers come from")
 }
 
 /// `--statistics`.

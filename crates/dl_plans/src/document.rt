@@ -16,9 +16,10 @@ ghost use Rattle.dl_plans.specs.Statistics.{statistics_text};
 ghost use Rattle.dl_plans.specs.declared.settings.Options.{Options};
 
 use crate::QUEUE_PLACES;
+use crate::explanations::explanation_lines;
 use crate::fault::RunError;
 use crate::joined_tables::JoinedTables;
-use crate::picture::{drawn_terms, report_picture, report_trace};
+use crate::picture::{kept_terms, report_picture, report_trace};
 use crate::report::report_text;
 use crate::script_text::run_script;
 use crate::settings::Options;
@@ -46,7 +47,7 @@ use std::thread::Threads;
 /// document may have. It serves the plans of a plan file at once, each on a thread of its own, with as many workers as
 /// the options say. The file's tables answer, and behind them those of a database, if the options have one: then a plan
 /// file of version 2 may lack the member `tables`. If the options name files for them, the picture and the trace of what
-/// happened go there first, each as a whole or not at all. If they want statistics, a line on standard error goes last.
+/// happened go there first, each as a whole or not at all. If they want explanations or statistics, lines on standard error go last.
 /// `hashing` hashes keys, and nothing that you see depends on it.
 ///
 /// Call it at the end of a process: it leaves what it read and served to the system, and doesn't drop it.
@@ -87,22 +88,30 @@ pub fn run<R: Read, W: Write, T: Threads + Wait + Sync + Files + RandomSource + 
     keep_files(rt, alloc, &options, &given)?;
     forget(options);
     let written = write_all(writer, given.text.as_bytes());
-    tell(rt, &written, &given.statistics);
+    tell(rt, &written, &given);
     written
 }
 
-/// What a document gives: its text, and if the options ask for them its picture, its trace and the line of its statistics.
+/// What a document gives: its text, and if the options ask for them its picture, its trace, the lines of its explanations
+/// and the line of its statistics.
 #[derive(Drop)]
 struct Given {
     text: String,
     picture: Option<String>,
     trace: Option<String>,
+    explanations: Option<String>,
     statistics: Option<String>,
 }
 
-/// Says a line on standard error, if there is one and the text was written.
-fn tell<T: Eprint>(rt: &T, written: &Result<(), RunError>, line: &Option<String>) {
-    if let (Ok(()), Some(line)) = (written, line) {
+/// Says the explanations and then the statistics on standard error, if there are any and the text was written.
+fn tell<T: Eprint>(rt: &T, written: &Result<(), RunError>, given: &Given) {
+    if written.is_err() {
+        return;
+    }
+    if let Some(lines) = &given.explanations {
+        let _ = eprint!(rt; "{lines}");
+    }
+    if let Some(line) = &given.statistics {
         let _ = eprintln!(rt; "{line}");
     }
 }
@@ -206,7 +215,7 @@ fn answered<T: Threads + Wait + Sync>(
             made(given)
         }
         Input::Plans(file) => {
-            let terms = drawn_terms(alloc, file.plans.as_slice(), options);
+            let terms = kept_terms(alloc, file.plans.as_slice(), options);
             match served(rt, alloc, hashing, file, names, options) {
                 Ok(report) => {
                     let given = output_of_report(alloc, hashing, &report, &terms, names, options);
@@ -255,12 +264,13 @@ fn output_of_script(
         text,
         picture,
         trace,
+        explanations: None,
         statistics: None,
     })
 }
 
-/// What a report gives. With terms it has a picture, of what serving the plans with these terms left. The statistics go
-/// by the names of the plan file's tables. Fails if memory runs out, or did for the terms.
+/// What a report gives. The picture and the explanations are of what serving the plans with these terms left. The
+/// statistics go by the names of the plan file's tables. Fails if memory runs out, or did for the terms.
 fn output_of_report(
     alloc: Global,
     hashing: RandomState,
@@ -272,10 +282,19 @@ fn output_of_report(
     ensures text { IfOk result (λ given. string_bytes given.text ≡ report_text report.now options.now.batches) }
     ensures statistics { IfOk result (λ given. option_map string_bytes given.statistics ≡ statistics_text options.now names.now report.now.history.events) }
 {
-    let picture = match terms {
-        Ok(Some(terms)) => Some(report_picture(alloc, hashing, report, terms.as_slice())?),
-        Ok(None) => None,
+    let terms = match terms {
+        Ok(Some(terms)) => terms.as_slice(),
+        Ok(None) => &[],
         Err(_) => return Err(AllocError),
+    };
+    let picture = match &options.picture {
+        Some(_) => Some(report_picture(alloc, hashing, report, terms)?),
+        None => None,
+    };
+    let explanations = if options.explain {
+        Some(explanation_lines(alloc, hashing, report, terms)?)
+    } else {
+        None
     };
     let trace = match &options.trace {
         Some(_) => Some(report_trace(alloc, report)?),
@@ -287,6 +306,7 @@ fn output_of_report(
         text,
         picture,
         trace,
+        explanations,
         statistics,
     })
 }

@@ -1,4 +1,4 @@
-//! The picture and the trace of a report.
+//! The picture and the trace of a report, and the terms that are kept for it.
 
 ghost use Rattle.std.specs.Prelude.{◌≡◌, IfOk, IfSome, map};
 ghost use Rattle.dl_picture.specs.TermLoads.{plan_terms, trees_of_terms};
@@ -10,18 +10,18 @@ use dl_terms::{Plan, Term};
 use std::alloc::{AllocError, Global};
 use std::hash::RandomState;
 
-/// The terms of each plan, if the options ask for a picture. Fails if memory runs out.
-pub(crate) fn drawn_terms(
+/// The terms of each plan, if the options ask for a picture or for explanations. Fails if memory runs out.
+pub(crate) fn kept_terms(
     alloc: Global,
     plans: &[Plan],
     options: &Options,
 ) -> Result<Option<Vec<Vec<Term>>>, AllocError>
-    ensures { IfOk result (λ drawn. IfSome drawn (λ terms. trees_of_terms terms.items ≡ map plan_terms plans.now)) }
+    ensures { IfOk result (λ kept. IfSome kept (λ terms. trees_of_terms terms.items ≡ map plan_terms plans.now)) }
 {
-    match &options.picture {
-        Some(_) => Ok(Some(terms_of(alloc, plans)?)),
-        None => Ok(None),
+    if options.picture.is_none() && !options.explain {
+        return Ok(None);
     }
+    Ok(Some(terms_of(alloc, plans)?))
 }
 
 /// The picture of what serving the plans with these terms left. Fails if memory runs out.

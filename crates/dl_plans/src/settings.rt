@@ -11,6 +11,8 @@ pub struct Options {
     pub workers: u32,
     /// Whether to print the rounds and batches of a plan file that has exactly one plan.
     pub batches: bool,
+    /// Whether to say where the faults of a plan file's answers come from.
+    pub explain: bool,
     /// Whether to say how often a plan file asked the database, if there is one.
     pub statistics: bool,
     /// The file of the picture, if the command line asks for one.
@@ -32,6 +34,7 @@ impl Options {
         let Options {
             workers,
             batches,
+            explain,
             statistics,
             picture,
             trace,
@@ -41,6 +44,7 @@ impl Options {
         Options {
             workers,
             batches,
+            explain,
             statistics,
             picture,
             trace,

@@ -1,0 +1,46 @@
+use Rattle.std.proofs.Common.{◌∙◌, [], map, subst, sym}
+use Rattle.dl_terms.specs.View.{term_view}
+use Rattle.dl_picture.specs.FaultPath.{cells_in, HasOrigin}
+use Rattle.dl_picture.specs.TermLoads.{known_by, rounds_after}
+use Rattle.dl_picture.proofs.FaultRounds.{cells_end, cells_next, ends_some, origin_is, rounds_end}
+use Rattle.dl_picture.proofs.TermLoads.{waits_on}
+use Rattle.dl_picture.proofs.origins.term_origin.Goals as goal
+
+pub loop-place-preserved : goal.loop-place-preserved
+loop-place-preserved c =
+    let events = c.args.history.now.events in
+    let rounds = c.args.rounds.now in
+    let t = term_view c.args.term.now in
+    let i = c.loop-place.place in
+    let cells = c.loop-place.cells.entries in
+    let x = c.index-rounds-place.result in
+    let h = c.loop-place.invariant in
+    let waits = ends_some (known_by events cells) t c.in_ok-ending.ending c.in_ok-ending.ensures ∙ (sym c.is_some.ensures ∙ c.if-is_some.false) in
+    let step = waits_on events (λ e. e.now) rounds i t cells x c.loop-place-test.true c.index-rounds-place.is c.read_round.new.cells.entries waits c.in_ok-read_round.ensures in
+    record {
+      cells = sym (cells_next events (λ e. e.now) rounds i t cells x c.loop-place-test.true c.index-rounds-place.is c.read_round.new.cells.entries waits
+          c.in_ok-read_round.ensures)
+          ∙ h.cells;
+      left = sym step.1 ∙ h.left;
+    }
+
+pub returns-then-is_some-clause-origin : goal.returns-then-is_some-clause-origin
+returns-then-is_some-clause-origin c =
+    let events = c.args.history.now.events in
+    let rounds = c.args.rounds.now in
+    let t = term_view c.args.term.now in
+    let cells = c.loop-place.cells.entries in
+    let ends = ends_some (known_by events cells) t c.in_ok-ending.ending c.in_ok-ending.ensures ∙ (sym c.is_some.ensures ∙ c.if-is_some.true) in
+    subst (HasOrigin events t (map (λ e. e.now) rounds)) (sym c.origin_of.ensures)
+    (origin_is events t (map (λ e. e.now) rounds) cells c.in_ok-ending.ending
+    (cells_end events (λ e. e.now) rounds c.loop-place.place t cells ends (cells_in events t [] (map (λ e. e.now) rounds)) c.loop-place.invariant.cells)
+    c.in_ok-ending.ensures)
+
+pub returns-then-is_some-clause-left : goal.returns-then-is_some-clause-left
+returns-then-is_some-clause-left c =
+    let events = c.args.history.now.events in
+    let rounds = c.args.rounds.now in
+    let t = term_view c.args.term.now in
+    let cells = c.loop-place.cells.entries in
+    let ends = ends_some (known_by events cells) t c.in_ok-ending.ending c.in_ok-ending.ensures ∙ (sym c.is_some.ensures ∙ c.if-is_some.true) in
+    rounds_end events (λ e. e.now) rounds c.loop-place.place t cells ends (rounds_after events t [] (map (λ e. e.now) rounds)) c.loop-place.invariant.left
