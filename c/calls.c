@@ -70,6 +70,39 @@ static void a_closed_handle_answers(void)
     CHECK(!desk.is_open);
 }
 
+static void each_code_has_its_name(void)
+{
+#define NAMED(code) CHECK(strcmp(dl_code_name(code), #code) == 0)
+    NAMED(DL_OUT_OF_MEMORY);
+    NAMED(DL_CELLS_FULL);
+    NAMED(DL_NO_BATCH);
+    NAMED(DL_NOT_SENT);
+    NAMED(DL_ENDED_BEFORE);
+    NAMED(DL_BAD_KEY);
+    NAMED(DL_BAD_LIMIT);
+    NAMED(DL_CLOSED);
+    NAMED(DL_OPEN);
+    NAMED(DL_NO_MEMBER);
+    NAMED(DL_BAD_LENGTHS);
+    NAMED(DL_BAD_TEXT);
+    NAMED(DL_EMPTY_TABLE);
+    NAMED(DL_TABLE_TOO_LONG);
+    NAMED(DL_BAD_TABLE_LIMIT);
+    NAMED(DL_DUPLICATE_TABLE);
+    NAMED(DL_BAD_CALLERS);
+    NAMED(DL_NO_CALLER);
+    NAMED(DL_STOPPED);
+    NAMED(DL_LOG_FULL);
+    NAMED(DL_UNSETTLED);
+    NAMED(DL_NO_EVENT);
+    NAMED(DL_NO_TICKET);
+    NAMED(DL_BUG);
+#undef NAMED
+    CHECK(strcmp(dl_code_name(DL_DONE), "DL_DONE or DL_HIT") == 0);
+    CHECK(strcmp(dl_code_name(DL_NONE), "DL_FRESH or DL_NONE") == 0);
+    CHECK(strcmp(dl_code_name(DL_BUG + 1), dl_code_name(UINT32_MAX)) == 0);
+}
+
 static void a_desk_opens_and_closes_once(void)
 {
     dl_desk desk = {0};
@@ -397,6 +430,7 @@ static void a_large_desk_keeps_its_keys(void)
 int main(void)
 {
     a_closed_handle_answers();
+    each_code_has_its_name();
     a_desk_opens_and_closes_once();
     a_desk_keeps_both_halves_of_its_seed();
     a_desk_by_table_opens_once();

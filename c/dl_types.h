@@ -6,8 +6,8 @@
 #include <stddef.h>
 #include <stdint.h>
 
-/* What a call answers. DL_DONE and DL_HIT are one number, and so are DL_FRESH and DL_NONE: the call says which is meant. So
- * whoever prints codes needs to know of each the call that answered it. A desk answers none from DL_BAD_CALLERS on. */
+/* What a call answers. DL_DONE and DL_HIT are one number, and so are DL_FRESH and DL_NONE: the call says which is meant. A code above
+ * these is a refusal. A desk answers none from DL_BAD_CALLERS on. */
 enum {
     DL_DONE = 0,             /* the call is made */
     DL_HIT = 0,              /* a cell is found; of a prime: the key is held already */
@@ -38,6 +38,18 @@ enum {
     DL_NO_TICKET = 24,       /* the caller has no ticket of this number */
     DL_BUG = 25              /* of the library: it never comes in a run */
 };
+
+/* The name of a code, as "DL_BAD_KEY", for a host that prints why a call was refused. It is never NULL, and you don't free it. */
+static inline const char *dl_code_name(uint32_t code)
+{
+    static const char *const names[] = {
+        "DL_DONE or DL_HIT", "DL_FRESH or DL_NONE", "DL_OUT_OF_MEMORY", "DL_CELLS_FULL", "DL_NO_BATCH", "DL_NOT_SENT",
+        "DL_ENDED_BEFORE", "DL_BAD_KEY", "DL_BAD_LIMIT", "DL_CLOSED", "DL_OPEN", "DL_NO_MEMBER", "DL_BAD_LENGTHS",
+        "DL_BAD_TEXT", "DL_EMPTY_TABLE", "DL_TABLE_TOO_LONG", "DL_BAD_TABLE_LIMIT", "DL_DUPLICATE_TABLE", "DL_BAD_CALLERS",
+        "DL_NO_CALLER", "DL_STOPPED", "DL_LOG_FULL", "DL_UNSETTLED", "DL_NO_EVENT", "DL_NO_TICKET", "DL_BUG",
+    };
+    return code < sizeof names / sizeof *names ? names[code] : "no code of this header";
+}
 
 /* The most bytes of a key's table, and of its id. Each has at least one. */
 enum { DL_TABLE_BYTES = 64, DL_ID_BYTES = 256 };

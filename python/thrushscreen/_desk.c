@@ -170,7 +170,7 @@ static PyObject *raise_code(const Desk *self, uint32_t code)
         PyErr_SetString(PyExc_ValueError, "the batch has ended before");
         return NULL;
     default:
-        PyErr_Format(PyExc_SystemError, "the desk answered %u", (unsigned)code);
+        PyErr_Format(PyExc_SystemError, "the desk answered %s", dl_code_name(code));
         return NULL;
     }
 }

@@ -52,7 +52,7 @@ static PyObject *raise_code(const Shared *self, uint32_t code)
         PyErr_Format(PyExc_ValueError, "a limit is 1 to %d, and callers are 1 to %d", DL_LARGEST_LIMIT, DL_MOST_CALLERS);
         return NULL;
     default:
-        PyErr_Format(PyExc_SystemError, "the loader answered %u", (unsigned)code);
+        PyErr_Format(PyExc_SystemError, "the loader answered %s", dl_code_name(code));
         return NULL;
     }
 }
