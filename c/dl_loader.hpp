@@ -5,8 +5,6 @@
 #include "dl_loader.h"
 
 #include <chrono>
-#include <memory>
-#include <optional>
 #include <stdexcept>
 #include <string>
 #include <string_view>
@@ -16,133 +14,133 @@
 namespace dl {
 
 /// A call that was refused, with its code.
-class refused : public std::runtime_error {
-public:
-    refused(const char *call, std::uint32_t why)
-        : std::runtime_error(std::string(call) + " was refused by the code " + std::to_string(why)), code(why) {}
-    const std::uint32_t code;
+struct refused : std::runtime_error {
+    refused(const char *call, uint32_t why) : runtime_error(std::string(call) + " was refused: " + dl_code_name(why)), code(why) {}
+    const uint32_t code;
 };
-
-inline void check(const char *call, std::uint32_t code) {
-    if (code > DL_FRESH) throw refused(call, code);
-}
-
 /// A key: a table and an id in it.
-struct key {
-    std::string_view table, id;
-};
+struct key { std::string_view table, id; };
+/// A table, and the most keys of a batch of it.
+struct table_limit { std::string_view table; uint32_t limit; };
+/// A key of a batch with its cell, or a key of the history with what dl_serial_event_key answers for it.
+struct answer : dl_loaded { std::string table, id; };
+/// A call of the history with its keys.
+struct event : dl_event { std::vector<answer> answers; };
 
-/// A key of a batch, with its cell.
-struct member {
-    std::string table, id;
-    std::uint32_t cell;
-};
+namespace detail {
+inline uint32_t check(const char *call, uint32_t code) { return code <= DL_FRESH ? code : throw refused(call, code); }
+template <class Given> Given check(const char *call, Given given) { return check(call, given.code), given; }
+/// Pointers to what a vector and a text have, which aren't null if that is nothing.
+template <class T> auto *items(T &all) noexcept { static typename T::value_type none{}; return all.empty() ? &none : all.data(); }
+inline const uint8_t *bytes(std::string_view text) noexcept { return reinterpret_cast<const uint8_t *>(items(text)); }
+/// The keys that a call gives by their index.
+template <class Call> std::vector<answer> answers(const char *name, Call call) {
+    std::vector<answer> all;
+    dl_key_texts key;
+    for (dl_loaded at; (at = call(uint32_t(all.size()), &key)).code != DL_NO_MEMBER;)
+        all.push_back({check(name, at), {key.table, key.table + key.table_len}, {key.id, key.id + key.id_len}});
+    return all;
+}
+} // namespace detail
 
 /// A batch that was sent: fetch it, and settle or fail it. If it is destroyed before, it fails with the word 0, or else stops the loader.
 class job {
+    friend class loader;
+    dl_loader *loader_;
+    uint32_t caller_, batch_;
+    job(dl_loader *loader, uint32_t caller, uint32_t batch) noexcept : loader_(loader), caller_(caller), batch_(batch) {}
+    void end(const char *call, uint32_t code) { detail::check(call, code), loader_ = nullptr; }
 public:
-    job(dl_loader *loader, std::uint32_t caller, std::uint32_t batch) noexcept : loader_(loader), caller_(caller), batch_(batch) {}
     job(job &&other) noexcept : loader_(std::exchange(other.loader_, nullptr)), caller_(other.caller_), batch_(other.batch_) {}
-    job &operator=(job &&) = delete;
     ~job() {
-        std::uint32_t code = loader_ ? dl_loader_fail(loader_, caller_, batch_, 0) : std::uint32_t(DL_DONE);
+        uint32_t code = loader_ ? dl_loader_fail(loader_, caller_, batch_, 0) : uint32_t(DL_DONE);
         if (code != DL_DONE && code != DL_ENDED_BEFORE) dl_loader_stop(loader_);
     }
-    std::uint32_t batch() const noexcept { return batch_; }
-    std::vector<member> members() const {
-        std::vector<member> all;
-        dl_key_texts texts;
-        for (dl_loaded at; (at = dl_loader_member(loader_, batch_, std::uint32_t(all.size()), &texts)).code == DL_HIT;)
-            all.push_back({text(texts.table, texts.table_len), text(texts.id, texts.id_len), at.cell});
-        return all;
+    uint32_t batch() const noexcept { return batch_; }
+    std::vector<answer> members() const {
+        return detail::answers("members", [&](auto index, auto *key) { return dl_loader_member(loader_, batch_, index, key); });
     }
     /// Gives each member its word, in their order.
-    void settle(const std::vector<std::uint64_t> &words) {
-        const std::uint64_t none = 0;
-        check("settle", dl_loader_settle(loader_, caller_, batch_, words.empty() ? &none : words.data(), words.size()));
-        loader_ = nullptr;
+    void settle(const std::vector<uint64_t> &words) {
+        end("settle", dl_loader_settle(loader_, caller_, batch_, detail::items(words), words.size()));
     }
-    void fail(std::uint64_t word) {
-        check("fail", dl_loader_fail(loader_, caller_, batch_, word));
-        loader_ = nullptr;
-    }
-private:
-    static std::string text(const std::uint8_t *bytes, std::size_t size) { return {reinterpret_cast<const char *>(bytes), size}; }
-    dl_loader *loader_;
-    std::uint32_t caller_, batch_;
-};
-
-/// The jobs of a dispatch, which it gives one by one. Those that nobody took when it goes fail.
-class jobs {
-public:
-    jobs(dl_loader *loader, std::uint32_t caller, dl_dispatched sent) noexcept
-        : loader_(loader), caller_(caller), next_(sent.first), left_(sent.count) {}
-    jobs(jobs &&other) noexcept : loader_(other.loader_), caller_(other.caller_), next_(other.next_), left_(std::exchange(other.left_, 0)) {}
-    jobs &operator=(jobs &&) = delete;
-    ~jobs() { while (next()); }
-    std::size_t left() const noexcept { return left_; }
-    std::optional<job> next() noexcept {
-        if (left_ == 0) return std::nullopt;
-        left_--;
-        return std::optional<job>(std::in_place, loader_, caller_, next_++);
-    }
-private:
-    dl_loader *loader_;
-    std::uint32_t caller_, next_;
-    std::size_t left_;
+    void fail(uint64_t word) { end("fail", dl_loader_fail(loader_, caller_, batch_, word)); }
 };
 
 /// A loader, which outlives its jobs. Any thread may make any call, but none while it is moved or destroyed.
 class loader {
+    dl_loader *held_ = nullptr;
+    template <class Call, class... More> auto with(key key, const char *name, Call call, uint32_t caller, More... more) {
+        auto [table, id] = key;
+        return detail::check(name, call(held_, caller, detail::bytes(table), table.size(), detail::bytes(id), id.size(), more...));
+    }
 public:
-    explicit loader(const dl_serial_opening &opening) : held_(open(opening), &dl_loader_free) {}
-    dl_ticket load(std::uint32_t caller, key key) {
-        dl_ticket ticket = dl_loader_load(get(), caller, bytes(key.table), key.table.size(), bytes(key.id), key.id.size());
-        return check("load", ticket.code), ticket;
+    explicit loader(const dl_serial_opening &opening) { detail::check("open", dl_loader_open(&held_, &opening)); }
+    /// A loader of which each batch is of one table.
+    loader(const dl_serial_opening &opening, const std::vector<table_limit> &tables) {
+        std::string names;
+        std::vector<dl_table_limit> limits;
+        for (auto &[table, limit] : tables) names += table, limits.push_back({uint32_t(table.size()), limit});
+        auto code = dl_loader_open_by_table(&held_, &opening, detail::bytes(names), names.size(), detail::items(limits), limits.size());
+        detail::check("open_by_table", code);
+    }
+    loader(loader &&other) noexcept : held_(std::exchange(other.held_, nullptr)) {}
+    loader &operator=(loader &&other) noexcept { return std::swap(held_, other.held_), *this; }
+    ~loader() { dl_loader_free(held_); }
+    dl_ticket load(uint32_t caller, key key) { return with(key, "load", dl_loader_load, caller); }
+    /// Loads several keys as one call, all or none.
+    std::vector<dl_ticket> load_many(uint32_t caller, const std::vector<key> &keys) {
+        std::string texts;
+        std::vector<dl_key_lengths> lengths;
+        for (auto &[table, id] : keys) texts.append(table).append(id), lengths.push_back({uint32_t(table.size()), uint32_t(id.size())});
+        std::vector<dl_ticket> tickets(keys.size());
+        auto code = dl_loader_load_many(held_, caller, detail::bytes(texts), texts.size(), detail::items(lengths), lengths.size(),
+                                        detail::items(tickets), tickets.size());
+        return detail::check("load_many", code), tickets;
     }
     /// True if the key wasn't held, and now has the word.
-    bool prime(std::uint32_t caller, key key, std::uint64_t word) {
-        auto code = dl_loader_prime(get(), caller, bytes(key.table), key.table.size(), bytes(key.id), key.id.size(), word).code;
-        return check("prime", code), code == DL_FRESH;
+    bool prime(uint32_t caller, key key, uint64_t word) { return with(key, "prime", dl_loader_prime, caller, word).code == DL_FRESH; }
+    void clear(uint32_t caller, key key) { with(key, "clear", dl_loader_clear, caller); }
+    void clear_all(uint32_t caller) { detail::check("clear_all", dl_loader_clear_all(held_, caller)); }
+    /// Sends what is collected. If there is no memory for the jobs, the loader stops.
+    std::vector<job> dispatch(uint32_t caller) {
+        auto [code, first, count] = detail::check("dispatch", dl_loader_dispatch(held_, caller));
+        std::vector<job> jobs;
+        try { jobs.reserve(count); } catch (...) { dl_loader_stop(held_); throw; }
+        for (uint32_t batch = first; batch < first + count; batch++) jobs.push_back(job(held_, caller, batch));
+        return jobs;
     }
-    void clear(std::uint32_t caller, key key) {
-        check("clear", dl_loader_clear(get(), caller, bytes(key.table), key.table.size(), bytes(key.id), key.id.size()));
-    }
-    void clear_all(std::uint32_t caller) { check("clear_all", dl_loader_clear_all(get(), caller)); }
-    jobs dispatch(std::uint32_t caller) {
-        dl_dispatched sent = dl_loader_dispatch(get(), caller);
-        return check("dispatch", sent.code), jobs(get(), caller, sent);
-    }
-    dl_shown look(std::uint32_t cell) const noexcept { return dl_loader_look(get(), cell); }
-    dl_shown wait(std::uint32_t cell) noexcept { return dl_loader_wait(get(), cell); }
-    dl_shown wait_for(std::uint32_t cell, std::chrono::nanoseconds most) noexcept {
+    dl_shown look(uint32_t cell) const noexcept { return dl_loader_look(held_, cell); }
+    dl_shown wait(uint32_t cell) noexcept { return dl_loader_wait(held_, cell); }
+    dl_shown wait_for(uint32_t cell, std::chrono::nanoseconds most) noexcept {
         auto now = std::chrono::steady_clock::now();
         return most < now.max() - now ? wait_until(cell, now + most) : wait(cell);
     }
-    /// The steady clock is CLOCK_MONOTONIC.
-    dl_shown wait_until(std::uint32_t cell, std::chrono::steady_clock::time_point then) noexcept {
+    dl_shown wait_until(uint32_t cell, std::chrono::steady_clock::time_point then) noexcept { // CLOCK_MONOTONIC is steady.
         auto whole = std::chrono::floor<std::chrono::seconds>(then);
-        timespec deadline = {std::time_t(whole.time_since_epoch().count()), long(std::chrono::nanoseconds(then - whole).count())};
-        return dl_loader_wait_until(get(), cell, &deadline);
+        timespec deadline = {time_t(whole.time_since_epoch().count()), long(std::chrono::nanoseconds(then - whole).count())};
+        return dl_loader_wait_until(held_, cell, &deadline);
     }
     /// True if the ticket's cell has ended: then it is noted that the caller read it.
-    bool saw(std::uint32_t caller, std::size_t ticket) {
-        auto code = dl_loader_saw(get(), caller, ticket);
-        return check("saw", code), code == DL_DONE;
+    bool saw(uint32_t caller, size_t ticket) { return detail::check("saw", dl_loader_saw(held_, caller, ticket)) == DL_DONE; }
+    void stop() { detail::check("stop", dl_loader_stop(held_)); }
+    void close() { detail::check("close", dl_loader_close(held_)); }
+    /// The history of a closed loader: the calls of all callers.
+    std::vector<event> events() const {
+        std::vector<event> all;
+        auto key_of = [&](auto index, auto *key) { return dl_loader_event_key(held_, uint32_t(all.size()), index, key); };
+        for (dl_event at; (at = dl_loader_event(held_, uint32_t(all.size()))).code != DL_NO_EVENT;)
+            all.push_back({detail::check("events", at), detail::answers("events", key_of)});
+        return all;
     }
-    void stop() { check("stop", dl_loader_stop(get())); }
-    void close() { check("close", dl_loader_close(get())); }
-    /// For the calls of dl_loader.h that aren't here.
-    dl_loader *get() const noexcept { return held_.get(); }
-private:
-    static dl_loader *open(const dl_serial_opening &opening) {
-        dl_loader *made = nullptr;
-        return check("open", dl_loader_open(&made, &opening)), made;
+    /// What a caller called and saw, in its order.
+    std::vector<dl_entry> entries(uint32_t caller) const {
+        std::vector<dl_entry> all;
+        for (dl_entry at; (at = dl_loader_entry(held_, caller, all.size())).code != DL_NO_EVENT;)
+            all.push_back(detail::check("entries", at));
+        return all;
     }
-    static const std::uint8_t *bytes(std::string_view text) noexcept {
-        return reinterpret_cast<const std::uint8_t *>(text.empty() ? "" : text.data());
-    }
-    std::unique_ptr<dl_loader, decltype(&dl_loader_free)> held_;
+    dl_loader *get() const noexcept { return held_; }
 };
 
 } // namespace dl

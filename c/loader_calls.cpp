@@ -27,6 +27,14 @@ template <class Call> static std::uint32_t refusal(Call call) {
     return DL_DONE;
 }
 
+static bool is(const dl_loaded &answer, std::uint32_t code, std::uint32_t cell, std::uint32_t batch) {
+    return answer.code == code && answer.cell == cell && answer.batch == batch;
+}
+
+static bool is(const dl::answer &answer, std::string_view table, std::string_view id, std::uint32_t code, std::uint32_t cell, std::uint32_t batch) {
+    return answer.table == table && answer.id == id && is(answer, code, cell, batch);
+}
+
 static bool shows(dl_shown shown, std::uint32_t state, std::uint64_t word) {
     return shown.state == state && shown.word == word;
 }
@@ -41,24 +49,69 @@ static void each_call_answers() {
     CHECK(shows(loader.look(2), DL_SETTLED, 70) && shows(loader.look(0), DL_EMPTY, 0));
     CHECK(!loader.saw(0, 0));
     auto jobs = loader.dispatch(0);
-    CHECK(jobs.left() == 1);
-    auto job = jobs.next();
-    CHECK(job && !jobs.next() && job->batch() == 0);
-    auto members = job->members();
-    CHECK(members.size() == 2 && members[1].table == "user" && members[1].id == "bob" && members[1].cell == 1);
-    CHECK(refusal([&] { job->settle({}); }) == DL_BAD_LENGTHS);
-    job->settle({5, 6});
+    CHECK(jobs.size() == 1 && jobs[0].batch() == 0 && loader.dispatch(0).empty());
+    auto members = jobs[0].members();
+    CHECK(members.size() == 2 && is(members[1], "user", "bob", DL_HIT, 1, 0));
+    CHECK(refusal([&] { jobs[0].settle({}); }) == DL_BAD_LENGTHS);
+    jobs[0].settle({5, 6});
     CHECK(shows(loader.wait(0), DL_SETTLED, 5) && loader.saw(0, 0));
     loader.clear(0, {"user", "ada"});
     CHECK(loader.load(0, {"user", "ada"}).cell == 3);
     loader.clear_all(0);
     CHECK(loader.load(0, {"order", "7"}).cell == 4);
     CHECK(refusal([&] { loader.close(); }) == DL_UNSETTLED);
-    for (auto rest = loader.dispatch(0); auto next = rest.next();) next->fail(9);
+    for (auto &job : loader.dispatch(0)) job.fail(9);
     CHECK(shows(loader.look(3), DL_FAILED, 9));
     loader.close();
     CHECK(dl_loader_event(loader.get(), 0).code == DL_DONE);
     CHECK(refusal([&] { loader.stop(); }) == DL_CLOSED);
+}
+
+static void several_keys_are_one_call() {
+    dl::loader loader(opening(1));
+    auto tickets = loader.load_many(0, {{"user", "ada"}, {"order", "7"}, {"user", "ada"}});
+    CHECK(tickets.size() == 3 && tickets[0].code == DL_FRESH && tickets[1].cell == 1);
+    CHECK(tickets[2].code == DL_HIT && tickets[2].cell == 0 && tickets[2].ticket == 2);
+    CHECK(loader.load_many(0, {}).empty());
+    CHECK(refusal([&] { loader.load_many(0, {{"user", "bob"}, {"user", ""}}); }) == DL_BAD_KEY);
+    CHECK(loader.load(0, {"user", "bob"}).code == DL_FRESH);
+}
+
+static void a_batch_may_be_of_one_table() {
+    dl::loader loader(opening(1), {{"user", 3}, {"order", 1}});
+    loader.load_many(0, {{"user", "a"}, {"order", "1"}, {"user", "b"}, {"order", "2"}, {"user", "c"}, {"page", "x"}, {"page", "y"}, {"page", "z"}});
+    std::vector<std::size_t> sizes;
+    for (auto &job : loader.dispatch(0)) sizes.push_back(job.members().size());
+    CHECK((sizes == std::vector<std::size_t>{3, 1, 1, 2, 1}));
+    CHECK(refusal([] { dl::loader loader(opening(1), {}); }) == DL_DONE);
+    CHECK(refusal([] { dl::loader loader(opening(1), {{"user", 0}}); }) == DL_BAD_TABLE_LIMIT);
+    CHECK(refusal([] { dl::loader loader(opening(1), {{"user", 1}, {"user", 1}}); }) == DL_DUPLICATE_TABLE);
+    CHECK(refusal([] { dl::loader loader(opening(1), {{{}, 1}}); }) == DL_EMPTY_TABLE);
+}
+
+static void the_history_is_read_after_the_close() {
+    dl::loader loader(opening(2));
+    auto ticket = loader.load(1, {"user", "ada"});
+    loader.load_many(0, {{"user", "ada"}, {"user", "bob"}, {"user", "eve"}});
+    loader.prime(0, {"user", "bob"}, 3);
+    loader.clear(0, {"user", "bob"});
+    for (auto &job : loader.dispatch(1)) job.settle(std::vector<std::uint64_t>(job.members().size()));
+    loader.saw(1, ticket.ticket);
+    CHECK(refusal([&] { loader.events(); }) == DL_OPEN && refusal([&] { loader.entries(0); }) == DL_OPEN);
+    loader.close();
+    auto events = loader.events();
+    CHECK(events.size() == 7);
+    CHECK(events[0].caller == 1 && events[0].call == DL_CALL_LOAD && events[0].answers.size() == 1);
+    CHECK(is(events[0].answers[0], "user", "ada", DL_FRESH, 0, 0));
+    CHECK(events[1].caller == 0 && events[1].call == DL_CALL_LOAD_MANY && events[1].answers.size() == 3);
+    CHECK(is(events[1].answers[0], "user", "ada", DL_HIT, 0, 0) && is(events[1].answers[2], "user", "eve", DL_FRESH, 2, 1));
+    CHECK(events[2].call == DL_CALL_PRIME && is(events[2].answers[0], "user", "bob", DL_HIT, 0, 0));
+    CHECK(events[3].call == DL_CALL_CLEAR && events[4].call == DL_CALL_DISPATCH && events[4].answers.empty() && events[4].batches == 2);
+    CHECK(events[6].call == DL_CALL_SETTLE && events[6].batch == 1);
+    auto entries = loader.entries(1);
+    CHECK(entries.size() == 5 && entries[0].at == 0 && entries[3].at == 6);
+    CHECK(entries[4].kind == DL_ENTRY_SAW && entries[4].at == 5 && entries[4].cell == 0);
+    CHECK(loader.entries(0).size() == 3 && loader.entries(2).empty());
 }
 
 static void what_is_refused_is_thrown() {
@@ -71,6 +124,7 @@ static void what_is_refused_is_thrown() {
     loader.stop();
     CHECK(refusal([&] { loader.dispatch(0); }) == DL_STOPPED);
     CHECK(refusal([&] { loader.clear_all(0); }) == DL_STOPPED);
+    CHECK(dl::refused("load", DL_BAD_KEY).what() == std::string("load was refused: DL_BAD_KEY"));
 }
 
 static void a_job_that_goes_fails() {
@@ -78,12 +132,10 @@ static void a_job_that_goes_fails() {
     for (const char *id : {"a", "b", "c", "d", "e"}) loader.load(0, {"user", id});
     {
         auto jobs = loader.dispatch(0);
-        auto first = jobs.next();
-        auto moved = std::move(*first);
-        first.reset();
-        CHECK(shows(loader.look(0), DL_EMPTY, 0));
-        auto moved_jobs = std::move(jobs);
-        CHECK(jobs.left() == 0 && moved_jobs.left() == 2);
+        CHECK(jobs.size() == 3);
+        auto moved = std::move(jobs[0]);
+        jobs.clear();
+        CHECK(shows(loader.look(0), DL_EMPTY, 0) && shows(loader.look(4), DL_FAILED, 0));
     }
     for (std::uint32_t cell = 0; cell < 5; cell++) CHECK(shows(loader.wait(cell), DL_FAILED, 0));
     loader.close();
@@ -94,7 +146,7 @@ static void a_job_that_nothing_ends_stops_the_loader() {
     few.max_calls = 2;
     dl::loader loader(few);
     loader.load(0, {"user", "a"});
-    CHECK(refusal([&] { loader.dispatch(0).next()->settle({1}); }) == DL_LOG_FULL);
+    CHECK(refusal([&] { loader.dispatch(0)[0].settle({1}); }) == DL_LOG_FULL);
     CHECK(shows(loader.wait(0), DL_ABANDONED, 0));
 }
 
@@ -115,7 +167,7 @@ static void a_wait_has_a_deadline() {
     CHECK(shows(loader.wait_for(0, 0ns), DL_EMPTY, 0) && shows(loader.wait_for(0, 20ms), DL_EMPTY, 0));
     CHECK(shows(loader.wait_until(0, std::chrono::steady_clock::now() - 1h), DL_EMPTY, 0));
     std::thread waits([&] { CHECK(shows(loader.wait_for(0, std::chrono::nanoseconds::max()), DL_SETTLED, 3)); });
-    loader.dispatch(0).next()->settle({3});
+    loader.dispatch(0)[0].settle({3});
     waits.join();
 }
 
@@ -128,10 +180,10 @@ static void threads_share_a_loader() {
         threads.emplace_back([&, caller] {
             for (std::uint64_t key = 0; key < KEYS; key++) {
                 dl_ticket ticket = loader.load(caller, {"user", std::to_string(key)});
-                for (auto jobs = loader.dispatch(caller); auto job = jobs.next();) {
+                for (auto &job : loader.dispatch(caller)) {
                     std::vector<std::uint64_t> words;
-                    for (auto &member : job->members()) words.push_back(std::stoull(member.id));
-                    job->settle(words);
+                    for (auto &member : job.members()) words.push_back(std::stoull(member.id));
+                    job.settle(words);
                 }
                 wrong[caller] += !shows(loader.wait(ticket.cell), DL_SETTLED, key) || !loader.saw(caller, ticket.ticket);
             }
@@ -145,6 +197,9 @@ static void threads_share_a_loader() {
 
 int main() {
     each_call_answers();
+    several_keys_are_one_call();
+    a_batch_may_be_of_one_table();
+    the_history_is_read_after_the_close();
     what_is_refused_is_thrown();
     a_job_that_goes_fails();
     a_job_that_nothing_ends_stops_the_loader();

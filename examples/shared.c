@@ -51,6 +51,7 @@ int main(void)
     }
     request(&callers[0]);
     pthread_join(other, NULL);
-    printf("%s\n", dl_loader_close(loader) == DL_DONE ? "closed" : "a batch has not ended");
+    uint32_t code = dl_loader_close(loader);
+    printf("%s\n", code == DL_DONE ? "closed" : dl_code_name(code));
     dl_loader_free(loader);
 }

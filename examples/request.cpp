@@ -1,0 +1,46 @@
+// Two threads of one request load the same keys, by the loader that threads share. Its history says what was fetched.
+#include "dl_loader.hpp"
+
+#include <functional>
+#include <future>
+#include <iostream>
+#include <random>
+
+// Sends what is collected, and fetches it: here the word of a key is the length of its id.
+static void fetch(dl::loader &loader, std::uint32_t caller) {
+    for (auto &job : loader.dispatch(caller)) {
+        std::vector<std::uint64_t> words;
+        for (auto &member : job.members()) words.push_back(member.id.size());
+        job.settle(words);
+    }
+}
+
+static std::string request(dl::loader &loader, std::uint32_t caller) {
+    auto tickets = loader.load_many(caller, {{"user", "ada"}, {"user", "grace"}, {"order", "7"}});
+    fetch(loader, caller);
+    std::string words = "caller " + std::to_string(caller) + ":";
+    for (auto &ticket : tickets) {
+        dl_shown shown = loader.wait(ticket.cell);
+        loader.saw(caller, ticket.ticket);
+        words += shown.state == DL_SETTLED ? " " + std::to_string(shown.word) : " no value";
+    }
+    return words;
+}
+
+int main() try {
+    std::random_device random;
+    std::uniform_int_distribution<std::uint64_t> seed;
+    dl_serial_opening opening = {100, 1000, 5000, 2, seed(random), seed(random)}; // the most keys of a batch, cells, calls and callers
+    dl::loader loader(opening, {{"order", 20}});
+    auto other = std::async(std::launch::async, request, std::ref(loader), 1);
+    std::cout << request(loader, 0) << '\n' << other.get() << '\n';
+    loader.close();
+    for (auto &event : loader.events()) {
+        for (auto &key : event.answers) {
+            if (key.code == DL_FRESH) std::cout << "fetched " << key.table << ' ' << key.id << " in batch " << key.batch << '\n';
+        }
+    }
+} catch (const dl::refused &fault) {
+    std::cerr << fault.what() << '\n';
+    return 1;
+}
