@@ -10,11 +10,12 @@ import threading
 import time
 import traceback
 import unittest
+import warnings
 import weakref
 from concurrent.futures import ThreadPoolExecutor
 
 from interrupt import Interrupt, tracing
-from thrushscreen import LoaderFull, shared
+from thrushscreen import LoaderFull, shared, threads
 from thrushscreen.shared import Answer, Entry, ThreadedDataLoader
 
 # After so many seconds a thread is taken not to end.
@@ -111,17 +112,22 @@ class Loads(unittest.TestCase):
         self.assertEqual(batches, [["bad"], ["a"], ["a"]])
 
     def test_what_is_no_list_of_values_fails_the_batch(self):
-        async def coroutine(keys):
-            return keys
-
         for answer in (None, 3, "a", {"a": 1}, iter("a"), [], ["a", "b"]):
             with self.subTest(answer=answer), self.assertRaises(TypeError):
                 ThreadedDataLoader(lambda keys, answer=answer: answer).load("a")
-        given = coroutine(["a"])
-        with self.assertRaises(TypeError):
-            ThreadedDataLoader(lambda keys: given).load("a")
-        given.close()
         self.assertEqual(ThreadedDataLoader(tuple).load("a"), "a")
+
+    def test_an_async_batch_function_is_named_without_a_warning(self):
+        async def batch_load_fn(keys):
+            return keys
+
+        with warnings.catch_warnings(record=True) as given:
+            warnings.simplefilter("always")
+            for kind in (ThreadedDataLoader, threads.DataLoader):
+                with self.subTest(kind=kind), self.assertRaisesRegex(TypeError, "async def.*thrushscreen.DataLoader"):
+                    kind(batch_load_fn).load_many("a", return_exceptions=False).result()
+            gc.collect()
+        self.assertEqual(given, [])
 
     def test_a_primed_key_is_held_and_a_cleared_one_is_not(self):
         batches = []
@@ -161,8 +167,10 @@ class Loads(unittest.TestCase):
         loader = loader_of(batches, delay=0)
         for call in (loader.load, loader.submit, loader.clear, lambda key: loader.prime(key, 1), lambda key: loader.load_many([key])):
             for key in (None, []):
-                with self.subTest(call=call, key=key), self.assertRaises(TypeError):
+                with self.subTest(call=call, key=key), self.assertRaisesRegex(TypeError, "not None|list isn't: give get_cache_key"):
                     call(key)
+        with self.assertRaisesRegex(TypeError, "tuple isn't: give get_cache_key"):
+            loader.load(("a", []))
         self.assertEqual(loader.load_many([1, "1", 1.0, (1, "a")]), [1, "1", 1, (1, "a")])
         self.assertEqual(batches, [[1, "1", (1, "a")]])
 

@@ -4,6 +4,7 @@ from __future__ import annotations
 
 from collections.abc import Callable, Hashable, MutableMapping, Sequence
 from functools import wraps
+from types import CoroutineType
 from typing import Any, NamedTuple, TypeVar
 
 from ._desk import Desk
@@ -148,6 +149,24 @@ def checked(answer: Any) -> Sequence[Any]:
     if not is_sequence or isinstance(answer, (str, bytes, bytearray, memoryview)):
         raise TypeError(f"a batch function answers a list of values; this one answered {type(answer).__name__}")
     return answer  # type: ignore[no-any-return]
+
+
+def fetched(batch_load_fn: Callable[[list[Any]], object], keys: list[Any]) -> Sequence[Any]:
+    """What a plain batch function answers."""
+    answer = batch_load_fn(keys)
+    if isinstance(answer, CoroutineType):
+        answer.close()  # Python would warn that nobody awaits it.
+        raise TypeError("the batch function is an async def: give a plain function, or use thrushscreen.DataLoader")
+    return checked(answer)
+
+
+def unhashable(key: object) -> TypeError | None:
+    """What a call raises for a key that doesn't hash."""
+    try:
+        hash(key)
+    except TypeError:
+        return TypeError(f"a key is hashable, and {type(key).__name__} isn't: give get_cache_key")
+    return None
 
 
 def _check_type(option: str, given: object, wanted: type) -> None:

@@ -14,7 +14,7 @@ from time import monotonic
 from typing import Any, Generic, Literal, NamedTuple, NoReturn, TypeVar, Union, cast, overload
 from weakref import WeakSet
 
-from ._options import LARGEST_LIMIT, _check_function, _check_limit, _check_type, checked
+from ._options import LARGEST_LIMIT, _check_function, _check_limit, _check_type, fetched, unhashable
 from ._shared import Shared
 
 __all__ = ["Answer", "Entry", "Event", "History", "ThreadedDataLoader"]
@@ -358,7 +358,10 @@ class ThreadedDataLoader(Generic[K, V]):
         number = next(self._next_key)
         if self.cache:
             cache_key: Any = key if self.get_cache_key is None else self.get_cache_key(key)
-            number = self._numbers.setdefault(cache_key, number)
+            try:
+                number = self._numbers.setdefault(cache_key, number)
+            except TypeError as fault:
+                raise unhashable(cache_key) or fault from None
         self._keys.setdefault(number, key)
         return number
 
@@ -463,7 +466,7 @@ class ThreadedDataLoader(Generic[K, V]):
         mine = self._mine
         mine.fetching.update(cells)
         try:
-            answer = checked(self.batch_load_fn([self._keys[number] for number in numbers]))
+            answer = fetched(self.batch_load_fn, [self._keys[number] for number in numbers])
             if len(answer) != len(cells):
                 raise TypeError(f"a batch function answers a value for each key: {len(cells)}, and not {len(answer)}")
             outcomes = [_outcome(given) for given in answer]

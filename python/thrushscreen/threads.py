@@ -10,7 +10,7 @@ from types import GeneratorType
 from typing import Any, Generic, Literal, TypeVar, Union, overload
 from weakref import ref
 
-from ._options import F, K, Options, V, checked, checked_map
+from ._options import F, K, Options, V, checked_map, fetched
 
 __all__ = ["DataLoader", "Later", "run"]
 
@@ -246,4 +246,4 @@ class DataLoader(Options[K, V, Sequence[Union[V, BaseException]], Later[V]]):
 
     def _fetch(self, batches: list[Any]) -> None:
         """Fetches the only batch of a list, and ends it. The desk ends what this leaves."""
-        self._settle(batches, checked(self.batch_load_fn(batches[0][1])))
+        self._settle(batches, fetched(self.batch_load_fn, batches[0][1]))
