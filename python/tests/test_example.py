@@ -8,6 +8,9 @@ import unittest
 
 TOP = pathlib.Path(__file__).resolve().parents[2]
 
+# A program of a page with what it prints.
+PROGRAM = re.compile(r"^```python\n((?:(?!```).*\n)+)```\n\n```text\n((?:.+\n)+)```$", re.MULTILINE)
+
 
 class Examples(unittest.TestCase):
     def check(self, program, output):
@@ -19,12 +22,12 @@ class Examples(unittest.TestCase):
             with self.subTest(server=server):
                 self.check([TOP / "examples" / f"{server}.py"], (TOP / "examples" / f"{server}.out").read_text())
 
-    def test_the_programs_of_the_page(self):
-        page = (TOP / "python/README.md").read_text()
-        programs = re.findall(r"^```python\n(.*?)```\n\n```text\n(.*?)```", page, re.DOTALL | re.MULTILINE)
-        self.assertEqual(len(programs), 3)
-        for program, output in programs:
-            self.check(["-c", program], output)
+    def test_the_programs_of_the_pages(self):
+        for page, count in (("python/README.md", 3), ("docs/guide/python.md", 1)):
+            programs = PROGRAM.findall((TOP / page).read_text())
+            self.assertEqual(len(programs), count)
+            for program, output in programs:
+                self.check(["-c", program], output)
 
 
 if __name__ == "__main__":
