@@ -33,8 +33,9 @@
 //!
 //! In a server such as axum, make a loader for each request and put it into an `Arc`, with a [`Caller`] for each task that loads. A task
 //! loads all keys that it can ask for, and calls [`Loader::dispatch`]; it fetches the jobs that it got with the connection that it has,
-//! and then takes its outcomes: by [`Loader::wait`] on a thread that may block (`spawn_blocking`), or else it polls
-//! [`Loader::look`], which notes no read: once that shows an outcome, `wait` returns at once and notes it. If a task is cancelled, its jobs are dropped, and so they fail, and nobody waits for them.
+//! and then takes its outcomes: by [`Loader::wait`] on a thread that may block (`spawn_blocking`), or else it polls [`Loader::look`],
+//! which notes no read: once that shows an outcome, `wait` returns at once and notes it. If a task is cancelled, its jobs are dropped,
+//! and so they fail, and nobody waits for them.
 
 mod cells;
 mod error;
