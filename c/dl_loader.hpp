@@ -103,7 +103,7 @@ public:
     void clear(uint32_t caller, key key) { with(key, "clear", dl_loader_clear, caller); }
     void clear_all(uint32_t caller) { detail::check("clear_all", dl_loader_clear_all(held_, caller)); }
     /// Sends what is collected. If there is no memory for the jobs, the loader stops.
-    std::vector<job> dispatch(uint32_t caller) {
+    [[nodiscard]] std::vector<job> dispatch(uint32_t caller) {
         auto [code, first, count] = detail::check("dispatch", dl_loader_dispatch(held_, caller));
         std::vector<job> jobs;
         try { jobs.reserve(count); } catch (...) { dl_loader_stop(held_); throw; }

@@ -2,9 +2,21 @@
 #include "dl_loader.hpp"
 
 #include <cstdio>
+#include <cstdlib>
+#include <new>
 #include <thread>
 
 static unsigned passed, failed;
+static bool is_out_of_memory;
+
+void *operator new(std::size_t size) {
+    void *at = is_out_of_memory ? nullptr : std::malloc(size);
+    if (at == nullptr) throw std::bad_alloc();
+    return at;
+}
+
+void operator delete(void *at) noexcept { std::free(at); }
+void operator delete(void *at, std::size_t) noexcept { std::free(at); }
 
 static void check(bool holds, const char *what, int line) {
     ++(holds ? passed : failed);
@@ -122,7 +134,7 @@ static void what_is_refused_is_thrown() {
     CHECK(refusal([&] { loader.prime(1, {"user", "ada"}, 1); }) == DL_NO_CALLER);
     CHECK(refusal([&] { loader.saw(0, 0); }) == DL_NO_TICKET);
     loader.stop();
-    CHECK(refusal([&] { loader.dispatch(0); }) == DL_STOPPED);
+    CHECK(refusal([&] { (void)loader.dispatch(0); }) == DL_STOPPED);
     CHECK(refusal([&] { loader.clear_all(0); }) == DL_STOPPED);
     CHECK(dl::refused("load", DL_BAD_KEY).what() == std::string("load was refused: DL_BAD_KEY"));
 }
@@ -147,6 +159,20 @@ static void a_job_that_nothing_ends_stops_the_loader() {
     dl::loader loader(few);
     loader.load(0, {"user", "a"});
     CHECK(refusal([&] { loader.dispatch(0)[0].settle({1}); }) == DL_LOG_FULL);
+    CHECK(shows(loader.wait(0), DL_ABANDONED, 0));
+}
+
+static void a_dispatch_without_memory_stops_the_loader() {
+    dl::loader loader(opening(1));
+    loader.load(0, {"user", "a"});
+    is_out_of_memory = true;
+    try {
+        (void)loader.dispatch(0);
+        is_out_of_memory = false;
+    } catch (const std::bad_alloc &) {
+    }
+    CHECK(is_out_of_memory);
+    is_out_of_memory = false;
     CHECK(shows(loader.wait(0), DL_ABANDONED, 0));
 }
 
@@ -203,6 +229,7 @@ int main() {
     what_is_refused_is_thrown();
     a_job_that_goes_fails();
     a_job_that_nothing_ends_stops_the_loader();
+    a_dispatch_without_memory_stops_the_loader();
     a_loader_is_moved();
     a_wait_has_a_deadline();
     threads_share_a_loader();
