@@ -23,9 +23,9 @@ struct key { std::string_view table, id; };
 /// A table, and the most keys of a batch of it.
 struct table_limit { std::string_view table; uint32_t limit; };
 /// A key of a batch with its cell, or a key of the history with what dl_serial_event_key answers for it.
-struct answer : dl_loaded { std::string table, id; };
+struct loaded_key : dl_loaded { std::string table, id; };
 /// A call of the history with its keys.
-struct event : dl_event { std::vector<answer> answers; };
+struct event : dl_event { std::vector<loaded_key> keys; };
 
 namespace detail {
 inline uint32_t check(const char *call, uint32_t code) { return code <= DL_FRESH ? code : throw refused(call, code); }
@@ -34,8 +34,8 @@ template <class Given> Given check(const char *call, Given given) { return check
 template <class T> auto *items(T &all) noexcept { static typename T::value_type none{}; return all.empty() ? &none : all.data(); }
 inline const uint8_t *bytes(std::string_view text) noexcept { return reinterpret_cast<const uint8_t *>(items(text)); }
 /// The keys that a call gives by their index.
-template <class Call> std::vector<answer> answers(const char *name, Call call) {
-    std::vector<answer> all;
+template <class Call> std::vector<loaded_key> keys(const char *name, Call call) {
+    std::vector<loaded_key> all;
     dl_key_texts key;
     for (dl_loaded at; (at = call(uint32_t(all.size()), &key)).code != DL_NO_MEMBER;)
         all.push_back({check(name, at), {key.table, key.table + key.table_len}, {key.id, key.id + key.id_len}});
@@ -57,8 +57,8 @@ public:
         if (code != DL_DONE && code != DL_ENDED_BEFORE) dl_loader_stop(loader_);
     }
     uint32_t batch() const noexcept { return batch_; }
-    std::vector<answer> members() const {
-        return detail::answers("members", [&](auto index, auto *key) { return dl_loader_member(loader_, batch_, index, key); });
+    std::vector<loaded_key> members() const {
+        return detail::keys("members", [&](auto index, auto *key) { return dl_loader_member(loader_, batch_, index, key); });
     }
     /// Gives each member its word, in their order.
     void settle(const std::vector<uint64_t> &words) {
@@ -130,7 +130,7 @@ public:
         std::vector<event> all;
         auto key_of = [&](auto index, auto *key) { return dl_loader_event_key(held_, uint32_t(all.size()), index, key); };
         for (dl_event at; (at = dl_loader_event(held_, uint32_t(all.size()))).code != DL_NO_EVENT;)
-            all.push_back({detail::check("events", at), detail::answers("events", key_of)});
+            all.push_back({detail::check("events", at), detail::keys("events", key_of)});
         return all;
     }
     /// What a caller called and saw, in its order.

@@ -43,8 +43,8 @@ static bool is(const dl_loaded &answer, std::uint32_t code, std::uint32_t cell, 
     return answer.code == code && answer.cell == cell && answer.batch == batch;
 }
 
-static bool is(const dl::answer &answer, std::string_view table, std::string_view id, std::uint32_t code, std::uint32_t cell, std::uint32_t batch) {
-    return answer.table == table && answer.id == id && is(answer, code, cell, batch);
+static bool is(const dl::loaded_key &key, std::string_view table, std::string_view id, std::uint32_t code, std::uint32_t cell, std::uint32_t batch) {
+    return key.table == table && key.id == id && is(key, code, cell, batch);
 }
 
 static bool shows(dl_shown shown, std::uint32_t state, std::uint64_t word) {
@@ -113,12 +113,12 @@ static void the_history_is_read_after_the_close() {
     loader.close();
     auto events = loader.events();
     CHECK(events.size() == 7);
-    CHECK(events[0].caller == 1 && events[0].call == DL_CALL_LOAD && events[0].answers.size() == 1);
-    CHECK(is(events[0].answers[0], "user", "ada", DL_FRESH, 0, 0));
-    CHECK(events[1].caller == 0 && events[1].call == DL_CALL_LOAD_MANY && events[1].answers.size() == 3);
-    CHECK(is(events[1].answers[0], "user", "ada", DL_HIT, 0, 0) && is(events[1].answers[2], "user", "eve", DL_FRESH, 2, 1));
-    CHECK(events[2].call == DL_CALL_PRIME && is(events[2].answers[0], "user", "bob", DL_HIT, 0, 0));
-    CHECK(events[3].call == DL_CALL_CLEAR && events[4].call == DL_CALL_DISPATCH && events[4].answers.empty() && events[4].batches == 2);
+    CHECK(events[0].caller == 1 && events[0].call == DL_CALL_LOAD && events[0].keys.size() == 1);
+    CHECK(is(events[0].keys[0], "user", "ada", DL_FRESH, 0, 0));
+    CHECK(events[1].caller == 0 && events[1].call == DL_CALL_LOAD_MANY && events[1].keys.size() == 3);
+    CHECK(is(events[1].keys[0], "user", "ada", DL_HIT, 0, 0) && is(events[1].keys[2], "user", "eve", DL_FRESH, 2, 1));
+    CHECK(events[2].call == DL_CALL_PRIME && is(events[2].keys[0], "user", "bob", DL_HIT, 0, 0));
+    CHECK(events[3].call == DL_CALL_CLEAR && events[4].call == DL_CALL_DISPATCH && events[4].keys.empty() && events[4].batches == 2);
     CHECK(events[6].call == DL_CALL_SETTLE && events[6].batch == 1);
     auto entries = loader.entries(1);
     CHECK(entries.size() == 5 && entries[0].at == 0 && entries[3].at == 6);

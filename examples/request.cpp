@@ -36,7 +36,7 @@ int main() try {
     std::cout << request(loader, 0) << '\n' << other.get() << '\n';
     loader.close();
     for (auto &event : loader.events()) {
-        for (auto &key : event.answers) {
+        for (auto &key : event.keys) {
             if (key.code == DL_FRESH) std::cout << "fetched " << key.table << ' ' << key.id << " in batch " << key.batch << '\n';
         }
     }
