@@ -97,7 +97,7 @@ class Loader:
         self.loads = 0
         # The loads that terms asked for, each as often as it is in its term: a round loads a key once.
         self.asked = 0
-        # The step that loads, and the part of its term that does.
+        # The step that loads, and the leftmost part of its term that does, with how many others do.
         self.step, self.part = 0, None
         self.cells = []
         self.held = {}
@@ -184,18 +184,19 @@ class Evaluation:
     def __init__(self, loader, term):
         self.loader, self.term = loader, term
         self.known, self.wanted, self.rounds = {}, [], 0
-        # Of the last look at the term: how many loads it met, and the leftmost part that waits.
-        self.met, self.part = 0, None
+        # Of the last look at the term: how many loads it met, and the parts that wait.
+        self.met, self.parts = 0, []
 
     def answer(self):
         """Loads what the term waits for, round by round, until it has an answer."""
         while True:
-            self.wanted, self.met, self.part = [], 0, None
+            self.wanted, self.met, self.parts = [], 0, []
             answer = self.explore(self.term)
             if not self.wanted:
                 self.loader.asked += self.met
                 return answer
-            self.loader.part = self.part
+            first, *others = self.parts
+            self.loader.part = f"{first} +{len(others)}" if others else first
             self.known |= self.loader.load_many(self.wanted)
             self.rounds += 1
 
@@ -205,7 +206,7 @@ class Evaluation:
         if form == "value":
             return Answer(False, argument)
         if form == "load":
-            return self.look(tuple(argument), f"load {'/'.join(argument)}")
+            return self.noted(f"load {'/'.join(argument)}", self.look(tuple(argument)))
         if form == "all":
             return joined([self.explore(part) for part in argument])
         part = self.explore(argument[0])
@@ -217,23 +218,27 @@ class Evaluation:
         if form == "pick":
             return Answer(False, field)
         if form == "follow":
-            return self.load_id(argument[2], field, f"follow {argument[1]}")
+            return self.noted(f"follow {argument[1]}", self.load_id(argument[2], field))
         if not isinstance(field, list):
             return Answer(True, "NotAList")
         if len(field) > ITEMS:
             return Answer(True, "TooMany")
-        return joined([self.load_id(argument[2], item, f"each {argument[1]}") for item in field])
+        return self.noted(f"each {argument[1]}", joined([self.load_id(argument[2], item) for item in field]))
 
-    def load_id(self, table, key, part):
+    def noted(self, part, answer):
+        """The answer of a part, which waits if it has none."""
+        self.parts += [part] if answer is None else []
+        return answer
+
+    def load_id(self, table, key):
         if isinstance(key, str) and 1 <= len(key.encode()) <= ID_BYTES:
-            return self.look((table, key), part)
+            return self.look((table, key))
         return Answer(True, "NotAKey")
 
-    def look(self, key, part):
+    def look(self, key):
         self.met += 1
         outcome = self.known.get(key)
         if outcome is None:
-            self.part = self.part or part
             if key not in self.wanted:
                 self.wanted.append(key)
             return None

@@ -1,6 +1,6 @@
 //! What became of the cells of a history.
 
-use crate::mark::Mark;
+use crate::mark::{Badges, Mark};
 use dl_desk::{BatchFault, LoadReply, Outcome};
 use dl_history::{Events, History, Reply};
 use std::alloc::{AllocError, Global};
@@ -13,13 +13,17 @@ pub(crate) struct Fate {
 }
 
 impl Fate {
-    /// The mark of the cell, if it says more than that the cell began by a load and got a value.
-    pub(crate) fn mark(&self) -> Option<Mark> {
-        match &self.outcome {
+    /// The marks of a load of the cell, of which the first says what the load did.
+    pub(crate) fn badges(&self, mark: Mark) -> Badges {
+        let failure = match &self.outcome {
             Some(Outcome::KeyError(_)) => Some(Mark::KeyError),
             Some(Outcome::BatchFailed(_)) => Some(Mark::Failed),
-            Some(Outcome::Value(_)) | None if self.is_primed => Some(Mark::Primed),
             Some(Outcome::Value(_)) | None => None,
+        };
+        Badges {
+            mark,
+            is_primed: self.is_primed,
+            failure,
         }
     }
 

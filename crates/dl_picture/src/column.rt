@@ -2,7 +2,7 @@
 
 use crate::cut_text::{CHARACTER, push_cut_text};
 use crate::lines::{Line, Lines};
-use crate::mark::{Badges, CELL_MARKS, MARKS, Mark};
+use crate::mark::{Badges, Mark};
 use crate::phrase::Phrase;
 use crate::sheet::Sheet;
 
@@ -24,7 +24,7 @@ const BADGE: u64 = 15;
 
 const BADGE_STEP: u64 = 18;
 
-/// How many characters a second badge takes.
+/// How many characters another badge takes.
 const BADGE_ROOM: u64 = 3;
 
 /// How far below its corner the foot of a line's letters is.
@@ -52,10 +52,21 @@ pub(crate) struct Column<'a> {
 impl Column<'_> {
     /// How high it is.
     pub(crate) fn height(&self) -> u64 {
-        drawn_lines(self.lines, &MARKS)
+        (self.lines.count() as u64)
             .saturating_mul(LINE_HEIGHT)
             .saturating_add(self.top())
             .saturating_add(FOOT_HEIGHT)
+    }
+
+    /// The same with these lines.
+    pub(crate) fn with_lines<'l>(&'l self, lines: Lines<'l>) -> Column<'l> {
+        Column {
+            heading: self.heading,
+            side: self.side,
+            note: self.note,
+            batch: self.batch,
+            lines,
+        }
     }
 
     /// How far below its top the lines begin.
@@ -65,26 +76,6 @@ impl Column<'_> {
             None => HEADING_HEIGHT,
         }
     }
-}
-
-/// How many lines a column draws of these.
-fn drawn_lines(lines: Lines<'_>, marks: &[Mark]) -> u64 {
-    if !lines.are_many() {
-        return lines.count() as u64;
-    }
-    let mut sums: u64 = 0;
-    for mark in marks {
-        for cell in &CELL_MARKS {
-            let badges = Badges {
-                mark: *mark,
-                cell: *cell,
-            };
-            if lines.marked(badges) > 0 {
-                sums = sums.saturating_add(1);
-            }
-        }
-    }
-    sums
 }
 
 /// A column of this height, with its corner at x and y.
@@ -119,11 +110,8 @@ fn push_card(sheet: &mut Sheet, x: u64, y: u64, height: u64) {
     );
 }
 
-/// The lines of a column from this height on, or their counts if they are too many.
+/// The lines of a column from this height on.
 fn push_lines(sheet: &mut Sheet, top: u64, lines: Lines<'_>) {
-    if lines.are_many() {
-        return push_sums(sheet, top, lines, &MARKS);
-    }
     let mut y = top;
     for place in 0..lines.count() {
         if let Some(line) = lines.line(place) {
@@ -133,35 +121,13 @@ fn push_lines(sheet: &mut Sheet, top: u64, lines: Lines<'_>) {
     }
 }
 
-/// How many of the lines have each mark, from this height on.
-fn push_sums(sheet: &mut Sheet, top: u64, lines: Lines<'_>, marks: &[Mark]) {
-    let mut y = top;
-    for mark in marks {
-        for cell in &CELL_MARKS {
-            let badges = Badges {
-                mark: *mark,
-                cell: *cell,
-            };
-            let count = lines.marked(badges);
-            if count > 0 {
-                let words = lines.counted(count);
-                push_line(sheet, y, &Line::of_words(words, badges));
-                y = y.saturating_add(LINE_HEIGHT);
-            }
-        }
-    }
-}
-
 /// A line of a column, at this height.
 fn push_line(sheet: &mut Sheet, y: u64, line: &Line<'_>) {
     match line.label.text(sheet.alloc) {
         Ok(label) => {
             push_title(sheet, y, line, label.as_str());
-            push_badge(sheet, 0, 0, line.badges.mark);
-            if let Some(mark) = line.badges.cell {
-                push_badge(sheet, BADGE_STEP, 0, mark);
-            }
-            push_label(sheet, line, label.as_str());
+            let badges = push_badges(sheet, line.badges);
+            push_label(sheet, line, label.as_str(), badges.saturating_sub(1));
         }
         Err(error) => sheet.note(Err(error)),
     }
@@ -171,11 +137,14 @@ fn push_line(sheet: &mut Sheet, y: u64, line: &Line<'_>) {
 fn push_title(sheet: &mut Sheet, y: u64, line: &Line<'_>, label: &str) {
     sheet.push_form("<g transform='translate(# #)'><title>", &[PADDING, y]);
     sheet.push_escaped(label);
-    sheet.push(": ");
-    sheet.push(line.badges.mark.meaning());
-    if let Some(mark) = line.badges.cell {
-        sheet.push(", ");
-        sheet.push(mark.meaning());
+    let marks = line.badges.marks();
+    let mut between = ": ";
+    for mark in &marks {
+        if let Some(mark) = mark {
+            sheet.push(between);
+            sheet.push(line.label.meaning(*mark));
+            between = ", ";
+        }
     }
     if let Some(batch) = line.batch {
         sheet.push_form(", batch #", &[batch as u64]);
@@ -187,12 +156,25 @@ fn push_title(sheet: &mut Sheet, y: u64, line: &Line<'_>, label: &str) {
     sheet.push("</title>");
 }
 
-/// The words of a line behind its badges, and its end.
-fn push_label(sheet: &mut Sheet, line: &Line<'_>, label: &str) {
-    let (x, room) = match line.badges.cell {
-        Some(_) => (BADGE_STEP + BADGE + CHARACTER, LINE_ROOM - BADGE_ROOM),
-        None => (BADGE + CHARACTER, LINE_ROOM),
-    };
+/// The badges of a line, and how many they are.
+fn push_badges(sheet: &mut Sheet, badges: Badges) -> u64 {
+    let marks = badges.marks();
+    let mut count: u64 = 0;
+    for mark in &marks {
+        if let Some(mark) = mark {
+            push_badge(sheet, count.saturating_mul(BADGE_STEP), 0, *mark);
+            count = count.saturating_add(1);
+        }
+    }
+    count
+}
+
+/// The words of a line behind a badge and as many others, and its end.
+fn push_label(sheet: &mut Sheet, line: &Line<'_>, label: &str, others: u64) {
+    let x = others
+        .saturating_mul(BADGE_STEP)
+        .saturating_add(BADGE + CHARACTER);
+    let room = LINE_ROOM.saturating_sub(others.saturating_mul(BADGE_ROOM));
     match line.batch {
         Some(batch) => {
             push_cut_text(sheet, x, FOOT, label, room.saturating_sub(BATCH_ROOM));

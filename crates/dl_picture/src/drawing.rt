@@ -1,12 +1,14 @@
 //! Drawings: elements of SVG from top to bottom, in rows of columns.
 
 use crate::column::{COLUMN_WIDTH, Column, push_column};
-use crate::head::push_mark;
+use crate::head::{push_join_meaning, push_mark, push_meaning};
 use crate::joins::Joins;
+use crate::lines::MOST_KEYS;
 use crate::mark::{MARKS, Mark};
 use crate::phrase::Phrase;
 use crate::sheet::Sheet;
 use crate::style::STYLE;
+use crate::tally::Tally;
 use std::alloc::{AllocError, Global};
 
 /// How wide a drawing is at least, in pixels.
@@ -23,26 +25,35 @@ const GUTTER: u64 = 22;
 
 const GAP: u64 = 8;
 
+/// What the number in front of a part of a term is.
+const STEP_MEANING: &str = "eval N: step N of its plan, from 0";
+
 /// How far below the top of a line of words its foot is, and how high the line is.
 const WORDS_FOOT: u64 = 18;
 
 const WORDS_HEIGHT: u64 = 26;
 
 /// What is drawn so far: a sheet with elements of SVG, and how wide and high they are together; how many tiles the head
-/// has; and which place of the open row is filled, how high that is, and how high the highest of them is.
+/// has; which place of the open row is filled, how high that is, and how high the highest of them is; and what the legend
+/// is to explain.
 #[derive(Drop)]
 pub(crate) struct Drawing {
     pub(crate) sheet: Sheet,
     width: u64,
     pub(crate) height: u64,
     pub(crate) tiles: u64,
-    /// The height at which the head says what the marks mean.
+    /// The height of the head's legend.
     pub(crate) legend: u64,
+    /// How many failed batches it still has room for, if it shows counts.
+    pub(crate) failures: u64,
+    /// A column with more lines of keys shows counts in their place.
+    pub(crate) most_keys: usize,
     place: u64,
     columns: u64,
     filled: u64,
     tallest: u64,
     occurring: Vec<Mark>,
+    has_steps: bool,
     joins: Joins,
 }
 
@@ -55,11 +66,14 @@ impl Drawing {
             height: MARGIN,
             tiles: 0,
             legend: 0,
+            failures: 0,
+            most_keys: MOST_KEYS,
             place: 0,
             columns: 0,
             filled: 0,
             tallest: 0,
             occurring: Vec::new(alloc),
+            has_steps: false,
             joins: Joins::new(alloc),
         }
     }
@@ -103,8 +117,19 @@ impl Drawing {
         }
     }
 
-    /// A column below what the place has.
+    /// A column below what the place has. If its lines are too many, it has their counts.
     pub(crate) fn add_below(&mut self, column: &Column<'_>) {
+        if !column.lines.are_many(self.most_keys) {
+            return self.add_lines(column);
+        }
+        let mut tally = Tally::new(self.sheet.alloc);
+        let counted = tally.add_lines(column.lines);
+        self.sheet.note(counted);
+        self.add_lines(&column.with_lines(tally.lines()));
+    }
+
+    /// A column with all its lines, below what the place has.
+    fn add_lines(&mut self, column: &Column<'_>) {
         let before = self.place.saturating_mul(COLUMN_WIDTH + GUTTER);
         let (x, y) = (
             before.saturating_add(MARGIN),
@@ -120,15 +145,18 @@ impl Drawing {
             .note_column(x.saturating_add(COLUMN_WIDTH), y, column);
         self.sheet.note(noted);
         self.note_marks(column);
+        self.has_steps |= column.note.is_some() && column.batch.is_none();
     }
 
     /// Notes which marks occur in a column.
     fn note_marks(&mut self, column: &Column<'_>) {
         for place in 0..column.lines.count() {
             if let Some(line) = column.lines.line(place) {
-                self.note_mark(line.badges.mark);
-                if let Some(mark) = line.badges.cell {
-                    self.note_mark(mark);
+                let marks = line.badges.marks();
+                for mark in &marks {
+                    if let Some(mark) = mark {
+                        self.note_mark(*mark);
+                    }
                 }
             }
         }
@@ -143,15 +171,22 @@ impl Drawing {
         }
     }
 
-    /// What the marks mean that occur, in their order.
-    fn legend_sheet(&self) -> Sheet {
+    /// What the marks mean that occur, in their order, then the lines, and the numbers of steps.
+    fn legend_sheet(&mut self) -> Sheet {
         let mut sheet = Sheet::new(self.sheet.alloc);
-        let mut x = MARGIN;
+        let (mut x, y) = (MARGIN, self.legend);
         for mark in &MARKS {
             if self.occurring.contains(mark) {
-                x = push_mark(&mut sheet, x, self.legend, *mark);
+                x = push_mark(&mut sheet, x, y, *mark);
             }
         }
+        if self.joins.are_drawn() {
+            x = push_join_meaning(&mut sheet, x, y);
+        }
+        if self.has_steps {
+            x = push_meaning(&mut sheet, x, y, STEP_MEANING);
+        }
+        self.width = self.width.max(x);
         sheet
     }
 
@@ -169,9 +204,9 @@ impl Drawing {
     pub(crate) fn finish(&mut self) -> Result<String, AllocError> {
         self.end_row();
         let height = self.height.saturating_add(MARGIN);
+        let legend = self.legend_sheet();
         let mut document = Sheet::new(self.sheet.alloc);
         push_ground(&mut document, self.width, height);
-        let legend = self.legend_sheet();
         document.push_sheet(&legend);
         self.joins.push_to(&mut document);
         document.push_sheet(&self.sheet);

@@ -1,13 +1,13 @@
-//! Lanes that show counts, for pictures of many batches or rounds.
+//! Lanes that show counts, for pictures of many batches or rounds, and the first batches that failed.
 
 use crate::column::Column;
 use crate::drawing::Drawing;
-use crate::lanes::{Scene, call_lines, call_name, event_of, keys_of};
+use crate::lanes::{Scene, add_batch, call_lines, call_name, event_of, keys_of};
 use crate::loads::is_round;
 use crate::mark::Mark;
 use crate::phrase::Phrase;
 use crate::tally::Tally;
-use dl_desk::Reply;
+use dl_desk::{Job, Reply};
 use dl_history::{Call, Event};
 use std::alloc::AllocError;
 
@@ -22,6 +22,25 @@ pub(crate) fn rounds_a_column(lanes: u32, rounds: usize) -> usize {
     (rounds / places.max(1)).saturating_add(1)
 }
 
+/// What a column of such a lane shows: the rounds behind the first `first` ones up to `last`, what came with them, and
+/// which of their batches failed.
+#[derive(Drop)]
+struct Fold<'a> {
+    first: usize,
+    last: usize,
+    tally: Tally,
+    failed: Vec<&'a Job>,
+}
+
+impl Fold<'_> {
+    /// Begins the next one.
+    fn go_on(&mut self) {
+        self.first = self.last;
+        self.tally.clear();
+        self.failed.clear();
+    }
+}
+
 /// The lane of a caller, with a column for every `rounds_each` rounds. Fails if memory runs out.
 pub(crate) fn fold_calls(
     drawing: &mut Drawing,
@@ -29,25 +48,24 @@ pub(crate) fn fold_calls(
     caller: u32,
     rounds_each: usize,
 ) -> Result<(), AllocError> {
-    let mut tally = Tally::new(drawing.sheet.alloc);
-    let mut first: usize = 0;
-    let mut rounds: usize = 0;
+    let mut fold = Fold {
+        first: 0,
+        last: 0,
+        tally: Tally::new(drawing.sheet.alloc),
+        failed: Vec::new(drawing.sheet.alloc),
+    };
     let mut place: u64 = 0;
     for entry in scene.history.entries(caller) {
         if let Some(event) = event_of(scene.history.events(), *entry) {
-            if begins_column(event, rounds.saturating_sub(first), rounds_each) {
-                add_fold(drawing, place, first, rounds, &tally);
-                tally.clear();
-                first = rounds;
+            if begins_column(event, fold.last.saturating_sub(fold.first), rounds_each) {
+                add_fold(drawing, scene, place, &fold);
+                fold.go_on();
                 place = place.saturating_add(1);
             }
-            count_event(&mut tally, scene, event)?;
-            if is_round(&event.call) {
-                rounds = rounds.saturating_add(1);
-            }
+            count_event(&mut fold, scene, event)?;
         }
     }
-    add_fold(drawing, place, first, rounds, &tally);
+    add_fold(drawing, scene, place, &fold);
     Ok(())
 }
 
@@ -56,9 +74,9 @@ fn begins_column(event: &Event, rounds: usize, rounds_each: usize) -> bool {
     rounds >= rounds_each && call_name(&event.call, 0).is_some()
 }
 
-/// The column of the rounds behind the first `first` ones up to `last`, and of what came with them.
-fn add_fold(drawing: &mut Drawing, place: u64, first: usize, last: usize, tally: &Tally) {
-    let (from, to) = ((first as u64).saturating_add(1), last as u64);
+/// The column in a place of a lane, and below it the batches that failed, as far as the drawing has room for them.
+fn add_fold(drawing: &mut Drawing, scene: Scene<'_>, place: u64, fold: &Fold<'_>) {
+    let (from, to) = ((fold.first as u64).saturating_add(1), fold.last as u64);
     let heading = if from < to {
         Phrase::Range("rounds ", from, to)
     } else if from == to {
@@ -72,19 +90,36 @@ fn add_fold(drawing: &mut Drawing, place: u64, first: usize, last: usize, tally:
         side: Phrase::Words(""),
         note: None,
         batch: None,
-        lines: tally.lines(),
+        lines: fold.tally.lines(),
     });
+    for job in &fold.failed {
+        if drawing.failures > 0 {
+            drawing.failures = drawing.failures.saturating_sub(1);
+            add_batch(drawing, scene, *job);
+        }
+    }
 }
 
 /// Counts what a call did to its keys, and the batches that it sent. Fails if memory runs out.
-fn count_event(tally: &mut Tally, scene: Scene<'_>, event: &Event) -> Result<(), AllocError> {
+fn count_event<'a>(
+    fold: &mut Fold<'a>,
+    scene: Scene<'a>,
+    event: &'a Event,
+) -> Result<(), AllocError> {
     if call_name(&event.call, 0).is_some() {
-        tally.add_lines(call_lines(scene.cells, keys_of(&event.call), &event.reply))?;
+        fold.tally.add_lines(call_lines(scene.cells, keys_of(&event.call), &event.reply))?;
     }
     if let Reply::Sent(jobs) = &event.reply {
         for job in jobs.as_slice() {
-            tally.add_batch(end_mark(scene, job.batch))?;
+            let mark = end_mark(scene, job.batch);
+            fold.tally.add_batch(mark)?;
+            if mark == Mark::Failed {
+                fold.failed.push(job)?;
+            }
         }
+    }
+    if is_round(&event.call) {
+        fold.last = fold.last.saturating_add(1);
     }
     Ok(())
 }

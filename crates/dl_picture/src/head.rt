@@ -1,4 +1,4 @@
-//! The head of a picture: its title, its numbers, and what its marks mean.
+//! The head of a picture: its title, its numbers, and a legend of what it shows.
 
 use crate::batches::Mean;
 use crate::column::push_badge;
@@ -16,11 +16,18 @@ const TILE_HEIGHT: u64 = 50;
 
 const TILE_STEP: u64 = 167;
 
-/// The room below the tiles, and below the marks.
+/// The room below the tiles, and below the legend.
 const ROOM: u64 = 20;
 
-/// The room between what two marks mean, with a badge.
-const MARK_STEP: u64 = 46;
+/// The room of a sign in front of its meaning, and behind that.
+const SIGN_STEP: u64 = 22;
+
+const MEANING_STEP: u64 = 24;
+
+/// How wide a sign is, and how far below its corner its middle is.
+const SIGN: u64 = 15;
+
+const SIGN_MIDDLE: u64 = 8;
 
 /// The tiles of the loads and batches of a history. `keys` are the words for its keys.
 pub(crate) fn add_numbers(drawing: &mut Drawing, numbers: &HistoryNumbers, keys: &'static str) {
@@ -66,19 +73,37 @@ fn add_tile(drawing: &mut Drawing, name: &str, words: &'static str, figure: Phra
     sheet.push("\n");
 }
 
-/// Ends the head: below the tiles, it has room for what the marks mean.
+/// Ends the head: below the tiles, it has room for the legend.
 pub(crate) fn end_head(drawing: &mut Drawing) {
     drawing.legend = drawing.height.saturating_add(TILE_HEIGHT + ROOM);
     drawing.add_height(TILE_HEIGHT + ROOM + ROOM + ROOM);
 }
 
-/// What a mark means, with its corner at x and y, and where the next one begins.
+/// What a mark means, with its corner at x and y, and where the next sign begins.
 pub(crate) fn push_mark(sheet: &mut Sheet, x: u64, y: u64, mark: Mark) -> u64 {
-    let meaning = mark.meaning();
     push_badge(sheet, x, y, mark);
-    let (left, foot) = (x.saturating_add(22), y.saturating_add(12));
-    sheet.push_words("soft", left, foot, Phrase::Words(meaning));
+    push_meaning(sheet, x.saturating_add(SIGN_STEP), y, mark.meaning())
+}
+
+/// What a line between keys and a batch means, with its corner at x and y, and where the next sign begins.
+pub(crate) fn push_join_meaning(sheet: &mut Sheet, x: u64, y: u64) -> u64 {
+    let (right, middle) = (x.saturating_add(SIGN), y.saturating_add(SIGN_MIDDLE));
+    sheet.push_form(
+        "<line class='join' x1='#' y1='#' x2='#' y2='#'/>",
+        &[x, middle, right, middle],
+    );
+    push_meaning(
+        sheet,
+        x.saturating_add(SIGN_STEP),
+        y,
+        "joins keys to their batch",
+    )
+}
+
+/// Words for what something means, with their corner at x and y, and where the next sign begins.
+pub(crate) fn push_meaning(sheet: &mut Sheet, x: u64, y: u64, meaning: &'static str) -> u64 {
+    sheet.push_words("soft", x, y.saturating_add(12), Phrase::Words(meaning));
     sheet.push("\n");
     let width = (meaning.len() as u64).saturating_mul(CHARACTER);
-    x.saturating_add(width).saturating_add(MARK_STEP)
+    x.saturating_add(width).saturating_add(MEANING_STEP)
 }

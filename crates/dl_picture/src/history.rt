@@ -24,12 +24,17 @@ const MOST_ROUNDS: usize = 60;
 /// So does one that would have more bytes than this.
 pub(crate) const MOST_BYTES: usize = 900_000;
 
+/// A picture that shows counts has this many of its failed batches, and of each of them this many keys, or their count.
+const MOST_FAILURES: u64 = 60;
+
+const FEW_KEYS: usize = 20;
+
 /// Draws what serving plans left, as SVG. You give the terms of each plan, as [`terms_of`](crate::terms_of) gives them.
 /// The first callers of the history are these plans, and the others are workers. Each plan has a lane, and its rounds
 /// are in it from left to right. A round says which step and which part of its term it loads for. Above it are the
 /// primes and clears before it, and below it the batches that it sent, which lines join to their keys. With more than 60
-/// batches, or as many rounds in a lane, a lane shows counts, so the text has less than a megabyte. `hashing` hashes
-/// keys, and nothing that you see depends on it.
+/// batches, or as many rounds in a lane, a lane shows counts, and the first batches that failed, so the text has less than
+/// a megabyte. `hashing` hashes keys, and nothing that you see depends on it.
 ///
 /// # Errors
 /// `AllocError` if memory runs out.
@@ -63,7 +68,11 @@ pub fn history_picture(
             return Ok(picture);
         }
     }
-    folded_picture(alloc, scene, &numbers, alone)
+    let picture = folded_picture(alloc, scene, &numbers, alone, MOST_FAILURES)?;
+    if picture.len() <= MOST_BYTES {
+        return Ok(picture);
+    }
+    folded_picture(alloc, scene, &numbers, alone, 0)
 }
 
 /// The picture with all keys. Without a loader there are `alone` fetches, and the rounds of plans load for these parts.
@@ -90,14 +99,17 @@ fn whole_picture(
     drawing.finish()
 }
 
-/// The picture with counts in its lanes.
+/// The picture with counts in its lanes, and this many of the batches that failed.
 fn folded_picture(
     alloc: Global,
     scene: Scene<'_>,
     numbers: &HistoryNumbers,
     alone: u64,
+    failures: u64,
 ) -> Result<String, AllocError> {
     let mut drawing = Drawing::new(alloc);
+    drawing.failures = failures;
+    drawing.most_keys = FEW_KEYS;
     add_head(&mut drawing, numbers, alone);
     let rounds_each = rounds_a_column(lanes(scene), longest(scene));
     for caller in 0..most_lanes(scene) {

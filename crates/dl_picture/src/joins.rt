@@ -1,4 +1,4 @@
-//! Lines that join a batch to the keys that it answered.
+//! Lines that join keys to the batches that answered them.
 
 use crate::column::{Column, HEADING_HEIGHT, LINE_HEIGHT};
 use crate::sheet::Sheet;
@@ -9,12 +9,17 @@ const BOW: u64 = 9;
 
 const BOW_STEP: u64 = 5;
 
-/// A place on the right side of a column: of a batch, or of a key that it answered.
-#[derive(Clone, Copy, PartialEq, Eq)]
+/// How wide the bracket is that holds several keys together.
+const BRACKET: u64 = 4;
+
+/// A place on the right side of a column: of a batch, or of keys below one another that it answered, the first of which
+/// is at the height `top`, and the last at `foot`.
+#[derive(Clone, Copy)]
 struct Spot {
     batch: u32,
     x: u64,
-    y: u64,
+    top: u64,
+    foot: u64,
 }
 
 /// The batches that are drawn, and the keys.
@@ -42,56 +47,81 @@ impl Joins {
     ) -> Result<(), AllocError> {
         if let Some(batch) = column.batch {
             let y = y.saturating_add(HEADING_HEIGHT / 2);
-            self.batches.push(Spot { batch, x, y })?;
+            self.batches.push(Spot {
+                batch,
+                x,
+                top: y,
+                foot: y,
+            })?;
         }
-        let first = self.keys.len();
         let mut y = y
             .saturating_add(column.top())
             .saturating_add(LINE_HEIGHT / 2);
         for place in 0..column.lines.count() {
             if let Some(line) = column.lines.line(place) {
                 if let Some(batch) = line.batch {
-                    self.note_key(first, Spot { batch, x, y })?;
+                    self.note_key(batch, x, y)?;
                 }
             }
-            if !column.lines.are_many() {
-                y = y.saturating_add(LINE_HEIGHT);
-            }
+            y = y.saturating_add(LINE_HEIGHT);
         }
         Ok(())
     }
 
-    /// Notes a key, unless it is where one of those is that were noted last, behind the `first` first ones.
-    fn note_key(&mut self, first: usize, spot: Spot) -> Result<(), AllocError> {
-        for place in first..self.keys.len() {
-            if let Some(other) = self.keys.get(place) {
-                if *other == spot {
-                    return Ok(());
-                }
+    /// Notes a key at x and y, with those right above it that the same batch answered. Fails if memory runs out.
+    fn note_key(&mut self, batch: u32, x: u64, y: u64) -> Result<(), AllocError> {
+        if let Some(above) = self.keys.last_mut() {
+            if above.batch == batch && above.x == x && above.foot.saturating_add(LINE_HEIGHT) == y {
+                above.foot = y;
+                return Ok(());
             }
         }
-        self.keys.push(spot)?;
+        self.keys.push(Spot {
+            batch,
+            x,
+            top: y,
+            foot: y,
+        })?;
         Ok(())
     }
 
-    /// Appends a line from each key to its batch, if that is drawn.
+    /// Whether there are lines.
+    pub(crate) fn are_drawn(&self) -> bool {
+        !self.keys.is_empty()
+    }
+
+    /// Appends a line to each batch that is drawn, from its keys.
     pub(crate) fn push_to(&self, sheet: &mut Sheet) {
-        for key in &self.keys {
+        for keys in &self.keys {
             for batch in &self.batches {
-                if batch.batch == key.batch {
-                    push_join(sheet, *key, *batch);
+                if batch.batch == keys.batch {
+                    push_join(sheet, *keys, *batch);
                 }
             }
         }
     }
 }
 
-/// A line from a key to its batch.
-fn push_join(sheet: &mut Sheet, key: Spot, batch: Spot) {
-    let bow = BOW + (key.batch % 4) as u64 * BOW_STEP;
-    let (left, right) = (key.x.saturating_add(bow), batch.x.saturating_add(bow));
+/// A line from keys, which a bracket holds together if they are several, to their batch.
+fn push_join(sheet: &mut Sheet, keys: Spot, batch: Spot) {
+    let (x, top, foot) = (keys.x, keys.top, keys.foot);
+    let middle = top.saturating_add(foot.saturating_sub(top) / 2);
+    let bow = BOW + (keys.batch % 4) as u64 * BOW_STEP;
+    let (left, right) = (x.saturating_add(bow), batch.x.saturating_add(bow));
+    let begin = if top < foot {
+        sheet.push_form(
+            "<path class='join' d='M# #h#V#h-#",
+            &[x, top, BRACKET, foot, BRACKET],
+        );
+        x.saturating_add(BRACKET)
+    } else {
+        sheet.push("<path class='join' d='");
+        x
+    };
     sheet.push_form(
-        "<path class='join' d='M# #C# # # # # #'/>\n",
-        &[key.x, key.y, left, key.y, right, batch.y, batch.x, batch.y],
+        "M# #C# # # # # #'/>\n",
+        &[
+            begin, middle, left, middle, right, batch.top, batch.x, batch.top,
+        ],
     );
 }

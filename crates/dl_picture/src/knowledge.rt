@@ -210,27 +210,27 @@ impl<'h> Knowledge<'h, '_> {
         })
     }
 
-    /// The term itself, if it waits.
+    /// The term itself, if it waits, and no other part.
     fn waiting_itself(
         &self,
         term: &'h Term,
         itself: Waiting<'h>,
-    ) -> Result<Option<Waiting<'h>>, AllocError> {
+    ) -> Result<Option<(Waiting<'h>, u64)>, AllocError> {
         let asking = self.ask(term)?;
         Ok(if asking.part.waits() {
-            Some(itself)
+            Some((itself, 0))
         } else {
             None
         })
     }
 
-    /// The leftmost part of a term that waits, if one does.
-    pub(crate) fn waiting(&self, term: &'h Term) -> Result<Option<Waiting<'h>>, AllocError> {
+    /// The leftmost part of a term that waits, if one does, and how many others do.
+    pub(crate) fn waiting(&self, term: &'h Term) -> Result<Option<(Waiting<'h>, u64)>, AllocError> {
         match term {
             Term::Value(_) => Ok(None),
             Term::Load(key) => Ok(match self.outcome(key) {
                 Some(_) => None,
-                None => Some(Waiting::Load(key)),
+                None => Some((Waiting::Load(key), 0)),
             }),
             Term::Pick { part, .. } => self.waiting(part),
             Term::Follow { part, field, .. } => {
@@ -244,13 +244,26 @@ impl<'h> Knowledge<'h, '_> {
                 None => self.waiting_itself(term, Waiting::Each(field)),
             },
             Term::All(parts) => {
+                let mut waiting = None;
                 for part in parts {
-                    if let Some(waiting) = self.waiting(part)? {
-                        return Ok(Some(waiting));
-                    }
+                    waiting = together(waiting, self.waiting(part)?);
                 }
-                Ok(None)
+                Ok(waiting)
             }
         }
+    }
+}
+
+/// The first of the parts that wait, of those before and of one more, and how many others wait.
+fn together<'h>(
+    before: Option<(Waiting<'h>, u64)>,
+    more: Option<(Waiting<'h>, u64)>,
+) -> Option<(Waiting<'h>, u64)> {
+    match (before, more) {
+        (Some((first, others)), Some((_, behind))) => {
+            Some((first, others.saturating_add(behind).saturating_add(1)))
+        }
+        (Some(before), None) => Some(before),
+        (None, more) => more,
     }
 }

@@ -175,7 +175,7 @@ pub(crate) fn ended_by(call: &Call) -> Option<Ended> {
 }
 
 /// The column of a batch that went out: how it ended, who ended it, and what became of its keys.
-fn add_batch(drawing: &mut Drawing, scene: Scene<'_>, job: &Job) {
+pub(crate) fn add_batch(drawing: &mut Drawing, scene: Scene<'_>, job: &Job) {
     let (keys, number) = (job.keys.as_slice(), job.batch);
     let end = match scene.ends.get(number as usize) {
         Some(Some(event)) => Some(*event),

@@ -7,8 +7,8 @@ use crate::sheet::Sheet;
 use dl_desk::{FetchKey, LoadReply, Outcome};
 use std::alloc::{AllocError, Global};
 
-/// A column with more lines of keys than this shows counts in their place.
-const MOST_KEYS: usize = 200;
+/// A column with more lines of keys than this shows counts in their place, in a picture that shows keys.
+pub(crate) const MOST_KEYS: usize = 200;
 
 /// The same for lines of batches. A picture with more batches than this shows counts of all keys.
 pub(crate) const MOST_BATCHES: usize = 60;
@@ -20,6 +20,8 @@ pub(crate) enum Label<'a> {
     Key(&'a FetchKey),
     /// Words of the program.
     Words(Phrase),
+    /// The same of whole batches.
+    Batches(Phrase),
 }
 
 impl Label<'_> {
@@ -32,9 +34,17 @@ impl Label<'_> {
                 sheet.push("/");
                 sheet.push(key.id());
             }
-            Label::Words(words) => sheet.push_phrase(words),
+            Label::Words(words) | Label::Batches(words) => sheet.push_phrase(words),
         }
         sheet.finish()
+    }
+
+    /// What a mark says of it.
+    pub(crate) fn meaning(self, mark: Mark) -> &'static str {
+        match (self, mark) {
+            (Label::Batches(_), Mark::Failed) => "failed",
+            _ => mark.meaning(),
+        }
     }
 }
 
@@ -59,6 +69,7 @@ pub(crate) struct Ended {
 #[derive(Clone, Copy)]
 pub(crate) struct Count {
     pub(crate) badges: Badges,
+    pub(crate) is_of_batches: bool,
     pub(crate) count: usize,
 }
 
@@ -91,21 +102,11 @@ pub(crate) enum Lines<'a> {
 }
 
 impl<'a> Line<'a> {
-    /// A line of the program's own words.
-    pub(crate) fn of_words(words: Phrase, badges: Badges) -> Line<'a> {
+    /// A line with this label alone.
+    fn of(label: Label<'a>, badges: Badges) -> Line<'a> {
         Line {
             badges,
-            label: Label::Words(words),
-            batch: None,
-            why: None,
-        }
-    }
-
-    /// The line of a key.
-    fn of_key(key: &'a FetchKey, mark: Mark) -> Line<'a> {
-        Line {
-            badges: Badges::of(mark),
-            label: Label::Key(key),
+            label,
             batch: None,
             why: None,
         }
@@ -119,10 +120,7 @@ impl<'a> Line<'a> {
         };
         let fate = cells.get(cell as usize);
         Line {
-            badges: Badges {
-                mark,
-                cell: fate.and_then(|fate| fate.mark()),
-            },
+            badges: fate.map_or(Badges::of(mark), |fate| fate.badges(mark)),
             label: Label::Key(key),
             batch,
             why: fate.and_then(|fate| fate.why()),
@@ -146,20 +144,20 @@ impl<'a> Line<'a> {
 
     /// The line of a count.
     fn of_count(count: &Count) -> Line<'a> {
-        let words = match count.badges.mark {
-            Mark::Settled | Mark::Failed | Mark::Waiting => {
-                Phrase::count(count.count, " batch", " batches")
+        let label = match count.badges.mark {
+            _ if count.is_of_batches => {
+                Label::Batches(Phrase::count(count.count, " batch", " batches"))
             }
-            Mark::Refused => Phrase::count(count.count, " call", " calls"),
-            _ => Phrase::count(count.count, " key", " keys"),
+            Mark::Refused => Label::Words(Phrase::count(count.count, " call", " calls")),
+            _ => Label::Words(Phrase::count(count.count, " key", " keys")),
         };
-        Line::of_words(words, count.badges)
+        Line::of(label, count.badges)
     }
 
     /// The line of an ended batch.
     fn of_end(ended: &Ended) -> Line<'a> {
         let words = Phrase::Numbered("batch ", ended.batch as u64, "");
-        Line::of_words(words, Badges::of(ended.mark))
+        Line::of(Label::Batches(words), Badges::of(ended.mark))
     }
 }
 
@@ -176,19 +174,12 @@ impl<'a> Lines<'a> {
         }
     }
 
-    /// Whether they are too many to draw each of them.
-    pub(crate) fn are_many(self) -> bool {
+    /// Whether they are too many to draw each of them, if those of keys may be as many as this.
+    pub(crate) fn are_many(self, most_keys: usize) -> bool {
         match self {
             Lines::Ended(batches) => batches.len() > MOST_BATCHES,
-            _ => self.count() > MOST_KEYS,
-        }
-    }
-
-    /// The words for this many of them.
-    pub(crate) fn counted(self, count: usize) -> Phrase {
-        match self {
-            Lines::Ended(_) => Phrase::count(count, " batch", " batches"),
-            _ => Phrase::count(count, " key", " keys"),
+            Lines::Counts(_) => false,
+            _ => self.count() > most_keys,
         }
     }
 
@@ -204,7 +195,7 @@ impl<'a> Lines<'a> {
                 _ => None,
             },
             Lines::Keys { keys, mark } => match keys.get(place) {
-                Some(key) => Some(Line::of_key(key, mark)),
+                Some(key) => Some(Line::of(Label::Key(key), Badges::of(mark))),
                 None => None,
             },
             Lines::Settled { keys, outcomes } => match (keys.get(place), outcomes.get(place)) {
@@ -215,8 +206,8 @@ impl<'a> Lines<'a> {
                 Some(ended) => Some(Line::of_end(ended)),
                 None => None,
             },
-            Lines::Refused(name) => Some(Line::of_words(
-                Phrase::Words(name),
+            Lines::Refused(name) => Some(Line::of(
+                Label::Words(Phrase::Words(name)),
                 Badges::of(Mark::Refused),
             )),
             Lines::Counts(counts) => match counts.get(place) {
@@ -224,18 +215,5 @@ impl<'a> Lines<'a> {
                 None => None,
             },
         }
-    }
-
-    /// How many lines have these marks.
-    pub(crate) fn marked(self, badges: Badges) -> usize {
-        let mut count: usize = 0;
-        for place in 0..self.count() {
-            if let Some(line) = self.line(place) {
-                if line.badges == badges {
-                    count = count.saturating_add(1);
-                }
-            }
-        }
-        count
     }
 }

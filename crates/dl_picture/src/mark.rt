@@ -39,25 +39,32 @@ pub(crate) static MARKS: [Mark; 10] = [
     Mark::Waiting,
 ];
 
-/// The marks of a line: what its call did, and what became of the cell if that is more than that a load gave it a value.
+/// The marks of a line: what its call did, and of a load whether a prime began the cell, and how the cell failed.
 #[derive(Clone, Copy, PartialEq, Eq)]
 pub(crate) struct Badges {
     pub(crate) mark: Mark,
-    pub(crate) cell: Option<Mark>,
+    pub(crate) is_primed: bool,
+    pub(crate) failure: Option<Mark>,
 }
-
-/// The marks that a cell may have.
-pub(crate) static CELL_MARKS: [Option<Mark>; 4] = [
-    None,
-    Some(Mark::Primed),
-    Some(Mark::KeyError),
-    Some(Mark::Failed),
-];
 
 impl Badges {
     /// A mark alone.
     pub(crate) fn of(mark: Mark) -> Badges {
-        Badges { mark, cell: None }
+        Badges {
+            mark,
+            is_primed: false,
+            failure: None,
+        }
+    }
+
+    /// All of them, from left to right.
+    pub(crate) fn marks(self) -> [Option<Mark>; 3] {
+        let primed = if self.is_primed {
+            Some(Mark::Primed)
+        } else {
+            None
+        };
+        [Some(self.mark), primed, self.failure]
     }
 }
 
@@ -98,7 +105,7 @@ impl Mark {
     pub(crate) fn meaning(self) -> &'static str {
         match self {
             Mark::KeyError => "error of its key",
-            Mark::Failed => "failed with its batch",
+            Mark::Failed => "batch failed",
             _ => self.class(),
         }
     }

@@ -1,4 +1,4 @@
-//! What each round of a plan loads for: the number of its step, and the part of its term that waits.
+//! What each round of a plan loads for: the number of its step, and the parts of its term that wait.
 
 use crate::asked::{Cells, read_round};
 use crate::knowledge::Knowledge;
@@ -137,9 +137,9 @@ fn push_parts(
             cells: &cells,
         };
         match (known.waiting(term)?, rounds.get(place)) {
-            (Some(waiting), Some(round)) => {
+            (Some((first, others)), Some(round)) => {
                 let step = round.others.saturating_add(number);
-                parts.push(part_text(alloc, step, waiting)?)?;
+                parts.push(part_text(alloc, step, first, others)?)?;
                 read_round(&mut cells, round.event)?;
             }
             _ => return Ok(()),
@@ -148,11 +148,19 @@ fn push_parts(
     Ok(())
 }
 
-/// The text of a step's number and the part that waits.
-fn part_text(alloc: Global, step: u64, waiting: Waiting<'_>) -> Result<String, AllocError> {
+/// The text of a step's number, the first part that waits, and how many others do.
+fn part_text(
+    alloc: Global,
+    step: u64,
+    first: Waiting<'_>,
+    others: u64,
+) -> Result<String, AllocError> {
     let mut sheet = Sheet::new(alloc);
     sheet.push_number("eval ", step);
     sheet.push(": ");
-    waiting.push_to(&mut sheet);
+    first.push_to(&mut sheet);
+    if others > 0 {
+        sheet.push_number(" +", others);
+    }
     sheet.finish()
 }

@@ -2,6 +2,7 @@
 
 /// The style of every picture.
 pub(crate) static STYLE: &str = "<style>
+svg{color-scheme:light dark;background:#ffffff}
 text{font-family:ui-monospace,'DejaVu Sans Mono',Menlo,Consolas,monospace;font-size:12px;fill:#1b1f24}
 .title{font-size:18px;font-weight:bold}
 .lane{font-size:14px;font-weight:bold}
@@ -18,17 +19,22 @@ text{font-family:ui-monospace,'DejaVu Sans Mono',Menlo,Consolas,monospace;font-s
 .error{fill:#e69f00}
 .failed{fill:#d55e00}
 .cleared{fill:#f0e442}
-.kept{fill:#bbbbbb}
-.refused{fill:#999999}
-.settled{fill:#56b4e9}
-.waiting{fill:#dddddd}
+.kept{fill:#8c959f}
+.refused{fill:#1b1f24}
+.settled{fill:#0072b2}
+.waiting{fill:#ffffff;stroke:#57606a}
+.settled+.letter,.refused+.letter{fill:#ffffff}
 .join{fill:none;stroke:#8c959f}
 @media (prefers-color-scheme:dark){
+svg{background:#12161b}
 text{fill:#e6e9ed}
 .soft,.side{fill:#9aa5b1}
-.letter{fill:#000000}
+.letter,.refused+.letter{fill:#000000}
 .ground{fill:#12161b}
 .card{fill:#1d232b;stroke:#3d4752}
+.refused{fill:#e6e9ed}
+.waiting{fill:#1d232b;stroke:#9aa5b1}
+.waiting+.letter{fill:#e6e9ed}
 .join{stroke:#768390}
 }
 </style>

@@ -1,6 +1,6 @@
 //! Counts of lines by their marks.
 
-use crate::lines::{Count, Lines};
+use crate::lines::{Count, Label, Lines};
 use crate::mark::{Badges, Mark};
 use std::alloc::{AllocError, Global};
 
@@ -28,11 +28,11 @@ impl Tally {
         Lines::Counts(self.counts.as_slice())
     }
 
-    /// Counts the lines of a call. Fails if memory runs out.
+    /// Counts lines that aren't counts. Fails if memory runs out.
     pub(crate) fn add_lines(&mut self, lines: Lines<'_>) -> Result<(), AllocError> {
         for place in 0..lines.count() {
             if let Some(line) = lines.line(place) {
-                self.add(line.badges)?;
+                self.add(line.badges, matches!(&line.label, Label::Batches(_)))?;
             }
         }
         Ok(())
@@ -40,18 +40,22 @@ impl Tally {
 
     /// Counts a batch that ended in this way. Fails if memory runs out.
     pub(crate) fn add_batch(&mut self, mark: Mark) -> Result<(), AllocError> {
-        self.add(Badges::of(mark))
+        self.add(Badges::of(mark), true)
     }
 
     /// Counts one more.
-    fn add(&mut self, badges: Badges) -> Result<(), AllocError> {
+    fn add(&mut self, badges: Badges, is_of_batches: bool) -> Result<(), AllocError> {
         for count in self.counts.iter_mut() {
-            if count.badges == badges {
+            if count.badges == badges && count.is_of_batches == is_of_batches {
                 count.count = count.count.saturating_add(1);
                 return Ok(());
             }
         }
-        self.counts.push(Count { badges, count: 1 })?;
+        self.counts.push(Count {
+            badges,
+            is_of_batches,
+            count: 1,
+        })?;
         Ok(())
     }
 }
