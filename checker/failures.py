@@ -1,7 +1,7 @@
 """Finds the terms of a plan file that always fail. The program accepts them.
 
 Each term is evaluated over what its keys may have: their rows, and the values by which steps prime them. What a key without either would
-have is unknown, and so is what a term gives that always fails.
+have is unknown, and so is what a term gives that always fails. Over a database, any table and any field may be there.
 """
 
 from __future__ import annotations
@@ -105,8 +105,9 @@ def no_keys(field: str, read: list[Found]) -> Failure:
 class Terms:
     """The terms of a plan file, with which nothing else may be wrong, and the warnings about those that were evaluated."""
 
-    def __init__(self, document: Json) -> None:
+    def __init__(self, document: Json, has_database: bool) -> None:
         self.warnings: list[Complaint] = []
+        self.has_database = has_database
         self.tables = dict.fromkeys(table["name"] for table in document["tables"])
         # The values that each key may have.
         self.rows: dict[tuple[str, str], list[Found]] = {}
@@ -159,7 +160,7 @@ class Terms:
 
     def look_up(self, table: str, path: Path) -> None:
         """Warns of a table that isn't there, if no step primes a key of it."""
-        if table in self.tables or table in self.primed:
+        if self.has_database or table in self.tables or table in self.primed:
             return
         cause = f'No table has the name {shown(table)}, so each of its keys is an error ("no table").'
         self.warn(Failure(cause, other_name(table, self.tables, 'Add it to "tables".')), path)
@@ -167,7 +168,7 @@ class Terms:
     def picked(self, form: str, field: str, part: list[Found] | None, path: Path) -> list[Found] | None:
         """What the values of a part have as a field."""
         if part is None:
-            if field not in self.fields:
+            if field not in self.fields and not self.has_database:
                 cause = f'No row has {shown(field)}, so this "{form}" always fails.'
                 self.warn(Failure(cause, other_name(field, self.fields, "Add it to a row.")), (*path, 1))
             return None
@@ -202,6 +203,6 @@ def steps(document: Json) -> Iterator[tuple[Path, Json]]:
             yield ("plans", plan, step), one
 
 
-def warnings(document: Json) -> list[Complaint]:
+def warnings(document: Json, has_database: bool = False) -> list[Complaint]:
     """What makes terms of a document fail, in order: of a term after what makes its parts fail."""
-    return Terms(document).warnings if "version" in document else []
+    return Terms(document, has_database).warnings if "version" in document else []

@@ -198,6 +198,8 @@ def right_of(error: ValidationError, value: Json) -> str:
     text = f"Write {words(error.schema)}"
     if "version" in missing(error):
         return f'{text}. For a script, write "script" and "calls".'
+    if missing(error) == ["tables"] and error.instance.get("version") == 2:
+        return f"{text}. For a database, say ./check_document --database FILE."
     # The check of values is of their numbers alone.
     is_of_numbers = error.schema.get("type") == "integer" or error.validator == "anyOf"
     if is_of_numbers and isinstance(value, float):
@@ -292,13 +294,19 @@ def doubles_of_script(document: Json) -> Iterator[Finding]:
     yield from twice(names, document, TOP, "Give each table one limit.")
 
 
-def findings(document: bytes) -> list[Finding]:
+def document_over(has_database: bool, value: Json) -> Json:
+    """What counts in place of a document: over a database, a plan file of version 2 may lack its tables."""
+    is_second = isinstance(value, dict) and "script" not in value and value.get("version") == 2 and is_whole(None, value["version"])
+    return {"tables": [], **value} if has_database and is_second else value
+
+
+def findings(document: bytes, has_database: bool = False) -> list[Finding]:
     """All that is wrong with the bytes of a document: what counts first in front."""
     if len(document) > MOST_BYTES:
         cause, right = f"The document has {len(document):,} bytes.", f"Write at most {MOST_BYTES:,}."
         return [Finding(Refusal((1,), "refused: too large"), Complaint(cause, right))]
     try:
-        value = read(document)
+        value = document_over(has_database, read(document))
     except NotJson as error:
         return [Finding(Refusal((2,), "refused: not json"), Complaint(error.cause, error.right, spot=error.spot))]
     found = list(schema_findings(value))
