@@ -29,6 +29,11 @@ class Ending(NamedTuple):
         return f"{status}, and on standard output and standard error\n{text}"
 
 
+def unwritten(name):
+    """How a run ends that can't write this file."""
+    return Ending(3, b"", f'"{name}" can\'t be written\nfailed: write\n'.encode())
+
+
 class Interposer:
     """Builds refuse.c in a folder of its own, and runs a program above it."""
 

@@ -1,5 +1,6 @@
 -- The command line of `plans`, and what its matches give.
-use Rattle.std.specs.Prelude.{◌≡◌, ◌≤◌, ◌↔◌, ℕ, ◌∷◌, [], List, true, false, IsTrue, pos, codes, Option, Some, None, option_map, String, string_bytes}
+use Rattle.std.specs.Prelude.{◌≡◌, ◌≤◌, ◌↔◌, ℕ, ◌∷◌, [], List, Bool, true, false, IsTrue, pos, codes, Option, Some, None, option_map, String, string_bytes}
+use Rattle.std.specs.String.{string_eq}
 use Rattle.std.specs.declared.alloc.Global.{Global}
 use Rattle.std.specs.Str.Parse.{digits_value, without_leading_plus, IsNumeral}
 use Rattle.clap.specs.Words.{App, Shape, Row, Rule, Text, new_app, new_rule, first_of, one_of, with_rule, with_subcommand}
@@ -90,6 +91,18 @@ pub record GivesNumber (rows : List Row) (id : Text) (n : ℕ) : Type 0 where
   pub text : Text
   pub row : one_of id rows ≡ Some text
   pub decimal : IsDecimal text n
+
+-- whether there are two files, with one name
+abbrev pub have_one_name : Option (String Global) → Option (String Global) → Bool
+have_one_name (Some file) (Some other) = string_eq file other
+have_one_name (Some file) None = false
+have_one_name None other = false
+
+-- no two of the files that are there have one name
+pub record AreApart (picture trace database : Option (String Global)) : Type 0 where
+  pub picture_trace : have_one_name picture trace ≡ false
+  pub picture_database : have_one_name picture database ≡ false
+  pub trace_database : have_one_name trace database ≡ false
 
 -- the options and the file of the database that the matches and the subcommand in use give
 pub record AreGiven (rows : List Row) (used : Option (Text × List Row)) (o : Options) (file : Option (String Global)) : Type 0 where

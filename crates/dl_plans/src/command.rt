@@ -2,7 +2,7 @@
 
 ghost use Rattle.std.specs.Prelude.{◌≡◌, IfOk, IfSome, map, option_map, false, string_bytes};
 ghost use Rattle.clap.specs.Words.{app_of, rule_of, found_of, matches_of, rows_of, subcommand_of, subcommand_rows_of};
-ghost use Rattle.dl_plans.specs.Options.{plans_app, plans_words_app, file_words_app, answering_app, serving_app, AreGiven};
+ghost use Rattle.dl_plans.specs.Options.{plans_app, plans_words_app, file_words_app, answering_app, serving_app, have_one_name, AreApart, AreGiven};
 ghost use Rattle.dl_plans.specs.Options.{workers_rule, batches_rule, explain_rule, statistics_rule, picture_rule, trace_rule, database_rule};
 
 use crate::settings::Options;
@@ -21,13 +21,46 @@ pub fn options<'a, S: AsStr>(
     alloc: Global,
     words: &'a [S],
 ) -> Result<(Options, Option<String>), Error>
-    ensures { let texts = map S.text words.entry.now in
+    ensures given { let texts = map S.text words.entry.now in
         IfOk result (λ g. AreGiven (matches_of plans_app texts) (subcommand_of plans_app texts) g.0 g.1) }
+    ensures apart { IfOk result (λ g. AreApart g.0.picture g.0.trace g.1) }
 {
     let mut command = command(alloc)?;
-    match read(alloc, &mut command, words)? {
-        Some(given) => Ok(given),
-        None => Err(out_of_range(&mut command)),
+    match read(alloc, &mut command, words) {
+        Ok(Some((options, database))) => {
+            if has_file_twice(&options.picture, &options.trace, &database) {
+                return Err(out_of_files(&mut command));
+            }
+            Ok((options, database))
+        }
+        Ok(None) => Err(out_of_range(&mut command)),
+        Err(error) => match error.kind() {
+            ErrorKind::ValueValidation => Err(out_of_range(&mut command)),
+            _ => Err(error),
+        },
+    }
+}
+
+/// Whether two of the files have one name.
+fn has_file_twice(
+    picture: &Option<String>,
+    trace: &Option<String>,
+    database: &Option<String>,
+) -> bool
+    ensures { result ≡ false → AreApart picture.now trace.now database.now }
+{
+    have_one_name(picture, trace)
+        || have_one_name(picture, database)
+        || have_one_name(trace, database)
+}
+
+/// Whether there are two files, with one name.
+fn have_one_name(file: &Option<String>, other: &Option<String>) -> bool
+    ensures { result ≡ have_one_name file.now other.now }
+{
+    match (file, other) {
+        (Some(file), Some(other)) => file == other,
+        _ => false,
     }
 }
 
@@ -92,12 +125,19 @@ pub(crate) fn unreadable(alloc: Global) -> Error {
     }
 }
 
-/// The error for a number of workers that is out of range, with the usage in its text.
+/// The error for a number of workers that there can't be, with the usage in its text.
 fn out_of_range(command: &mut Command<'_>) -> Error {
-    refused(command, ErrorKind::ValueValidation, "N is not 1 to 16")
+    let message = "--workers takes a number from 1 to 16";
+    refused(command, ErrorKind::ValueValidation, message)
 }
 
-/// An error of the command line that says this, or that memory ran out.
+/// The error for a file that two options name, with the usage in its text.
+fn out_of_files(command: &mut Command<'_>) -> Error {
+    let message = "two options name the same file";
+    refused(command, ErrorKind::ArgumentConflict, message)
+}
+
+/// An error of the command line that says this, with the usage in its text, or that memory ran out.
 fn refused(command: &mut Command<'_>, kind: ErrorKind, message: &str) -> Error {
     match command.error(kind, message) {
         Ok(error) => error,

@@ -117,7 +117,7 @@ fn tell<T: Eprint>(rt: &T, written: &Result<(), RunError>, given: &Given) {
 }
 
 /// Writes the picture and then the trace to their files, if there are any.
-fn keep_files<T: Files + RandomSource>(
+fn keep_files<T: Files + RandomSource + Eprint>(
     rt: &T,
     alloc: Global,
     options: &Options,
@@ -129,8 +129,8 @@ fn keep_files<T: Files + RandomSource>(
     keep(rt, alloc, &options.trace, &given.trace)
 }
 
-/// Writes a text to its file, if there is one.
-fn keep<T: Files + RandomSource>(
+/// Writes a text to its file, if there is one. If that fails, a line on standard error names the file.
+fn keep<T: Files + RandomSource + Eprint>(
     rt: &T,
     alloc: Global,
     file: &Option<String>,
@@ -139,7 +139,13 @@ fn keep<T: Files + RandomSource>(
     ensures { IfErr result (λ e. (e ≡ RunError.Write) ⊎ (e ≡ RunError.OutOfMemory)) }
 {
     match (file, text) {
-        (Some(file), Some(text)) => write_whole(rt, alloc, file.as_str(), text.as_str()),
+        (Some(file), Some(text)) => {
+            let kept = write_whole(rt, alloc, file.as_str(), text.as_str());
+            if let Err(RunError::Write) = kept {
+                let _ = eprintln!(rt; "{file:?} can't be written");
+            }
+            kept
+        }
         _ => Ok(()),
     }
 }
