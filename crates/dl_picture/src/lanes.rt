@@ -20,13 +20,13 @@ pub(crate) fn event_of(events: &Events, entry: EntryKind) -> Option<&Event> {
 }
 
 /// What lanes are drawn of: a history, what became of its cells, the event that ended each batch, and how many of its
-/// callers are plans.
+/// callers are plans, if it is of plans and workers.
 #[derive(Clone, Copy)]
 pub(crate) struct Scene<'a> {
     pub(crate) history: &'a History,
     pub(crate) cells: &'a [Fate],
     pub(crate) ends: &'a [Option<&'a Event>],
-    pub(crate) plans: u32,
+    pub(crate) plans: Option<u32>,
 }
 
 /// The event that ended each batch of a history that has this many. Fails if memory runs out.
@@ -218,12 +218,12 @@ fn end_of<'a>(
     (" sent", None, Lines::Keys { keys, mark })
 }
 
-/// Who a caller is: the plans come first, and then the workers.
-pub(crate) fn caller_name(plans: u32, caller: u32) -> Phrase {
-    if caller < plans {
-        Phrase::Numbered("plan ", caller as u64, "")
-    } else {
-        Phrase::Numbered("worker ", (caller - plans) as u64, "")
+/// Who a caller is. If there are plans, they come first, and then their workers.
+pub(crate) fn caller_name(plans: Option<u32>, caller: u32) -> Phrase {
+    match plans {
+        None => Phrase::Numbered("caller ", caller as u64, ""),
+        Some(plans) if caller < plans => Phrase::Numbered("plan ", caller as u64, ""),
+        Some(plans) => Phrase::Numbered("worker ", caller.saturating_sub(plans) as u64, ""),
     }
 }
 
@@ -235,7 +235,7 @@ pub(crate) fn add_workers(drawing: &mut Drawing, history: &History, plans: u32) 
             drawing,
             events,
             history.entries(caller),
-            caller_name(plans, caller),
+            caller_name(Some(plans), caller),
         );
     }
 }
