@@ -72,13 +72,19 @@ static inline void dl_write_answer(FILE *to, dl_loader *loader, uint32_t at, dl_
     fputc(']', to);
 }
 
-/* Writes the history of a loader that was opened so. If a write fails, ferror says so. */
-static inline void dl_write_history(FILE *to, dl_loader *loader, const dl_serial_opening *opened)
+/* The limits of a loader, by which its script begins. */
+static inline void dl_write_limits(FILE *to, int version, const dl_serial_opening *opened)
+{
+    fprintf(to, "{\"script\":%d,\"maxBatchSize\":%lu,\"maxCells\":%lu,\"maxCalls\":%lu,", version, (unsigned long)opened->max_batch,
+            (unsigned long)opened->max_cells, (unsigned long)opened->max_calls);
+}
+
+/* The calls, and on a line of their own the answers. */
+static inline void dl_write_events(FILE *to, dl_loader *loader)
 {
     dl_event event;
 
-    fprintf(to, "{\"script\":1,\"maxBatchSize\":%lu,\"maxCells\":%lu,\"maxCalls\":%lu,\"calls\":[", (unsigned long)opened->max_batch,
-            (unsigned long)opened->max_cells, (unsigned long)opened->max_calls);
+    fputs("\"calls\":[", to);
     for (uint32_t at = 0; (event = dl_loader_event(loader, at)).code == DL_DONE; at++) {
         fputs(at > 0 ? "," : "", to);
         dl_write_call(to, loader, at, event);
@@ -89,6 +95,28 @@ static inline void dl_write_history(FILE *to, dl_loader *loader, const dl_serial
         dl_write_answer(to, loader, at, event);
     }
     fputs("]\n", to);
+}
+
+/* Writes the history of a loader that dl_loader_open opened so. If a write fails, ferror says so. */
+static inline void dl_write_history(FILE *to, dl_loader *loader, const dl_serial_opening *opened)
+{
+    dl_write_limits(to, 1, opened);
+    dl_write_events(to, loader);
+}
+
+/* The same of one that dl_loader_open_by_table opened so. */
+static inline void dl_write_history_by_table(FILE *to, dl_loader *loader, const dl_serial_opening *opened, const uint8_t *names,
+                                             const dl_table_limit *tables, size_t tables_len)
+{
+    dl_write_limits(to, 2, opened);
+    fputs("\"tableLimits\":[", to);
+    for (size_t i = 0; i < tables_len; names += tables[i].name_len, i++) {
+        fputs(i > 0 ? ",[" : "[", to);
+        dl_write_text(to, names, tables[i].name_len);
+        fprintf(to, ",%lu]", (unsigned long)tables[i].limit);
+    }
+    fputs("],", to);
+    dl_write_events(to, loader);
 }
 
 #endif

@@ -18,7 +18,7 @@ use std::alloc::{AllocError, Global};
 use std::hash::RandomState;
 use std::io::{Read, Write};
 use std::random::RandomSource;
-use std::rt::{Eprint, Files};
+use std::rt::Files;
 
 /// Reads the file of a history, makes its calls again, and writes a line for each event. If the options name files for them, it
 /// first writes a picture and a trace of the history. `hashing` hashes keys, and nothing that you see depends on it.
