@@ -102,11 +102,11 @@ have_one_name (Some file) (Some other) = string_eq file other
 have_one_name (Some file) None = false
 have_one_name None other = false
 
--- no two of the files that are there have one name
-pub record AreApart (picture trace database : Option (String Global)) : Type 0 where
+-- no two of the files that are there have one name: those that are written, and one that is read
+pub record AreApart (picture trace read : Option (String Global)) : Type 0 where
   pub picture_trace : have_one_name picture trace ≡ false
-  pub picture_database : have_one_name picture database ≡ false
-  pub trace_database : have_one_name trace database ≡ false
+  pub picture_read : have_one_name picture read ≡ false
+  pub trace_read : have_one_name trace read ≡ false
 
 -- the options and the file of the database that the matches and the subcommand in use give
 pub record AreGiven (rows : List Row) (used : Option (Text × List Row)) (o : Options) (file : Option (String Global)) : Type 0 where

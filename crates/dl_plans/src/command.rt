@@ -24,11 +24,14 @@ pub fn options<'a, S: AsStr>(
     ensures given { let texts = map S.text words.entry.now in
         IfOk result (λ g. AreGiven (matches_of plans_app texts) (subcommand_of plans_app texts) g.0 g.1) }
     ensures apart { IfOk result (λ g. AreApart g.0.picture g.0.trace g.1) }
+    ensures history { IfOk result (λ g. AreApart g.0.picture g.0.trace g.0.history) }
 {
     let mut command = command(alloc)?;
     match read(alloc, &mut command, words) {
         Ok(Some((options, database))) => {
-            if has_file_twice(&options.picture, &options.trace, &database) {
+            if has_file_twice(&options.picture, &options.trace, &database)
+                || has_file_twice(&options.picture, &options.trace, &options.history)
+            {
                 return Err(out_of_files(&mut command));
             }
             Ok((options, database))
@@ -41,17 +44,11 @@ pub fn options<'a, S: AsStr>(
     }
 }
 
-/// Whether two of the files have one name.
-fn has_file_twice(
-    picture: &Option<String>,
-    trace: &Option<String>,
-    database: &Option<String>,
-) -> bool
-    ensures { result ≡ false → AreApart picture.now trace.now database.now }
+/// Whether two of the files have one name: of those that are written, and one that is read.
+fn has_file_twice(picture: &Option<String>, trace: &Option<String>, read: &Option<String>) -> bool
+    ensures { result ≡ false → AreApart picture.now trace.now read.now }
 {
-    have_one_name(picture, trace)
-        || have_one_name(picture, database)
-        || have_one_name(trace, database)
+    have_one_name(picture, trace) || have_one_name(picture, read) || have_one_name(trace, read)
 }
 
 /// Whether there are two files, with one name.

@@ -65,8 +65,9 @@ fn given(
             Ok(given) => Ok(given),
             Err(_) => Err(RunError::OutOfMemory),
         },
-        Err(HistoryFault::OutOfMemory | HistoryFault::Replay(ReplayFault::OutOfMemory)) =>
-            Err(RunError::OutOfMemory),
+        Err(HistoryFault::OutOfMemory | HistoryFault::Replay(ReplayFault::OutOfMemory)) => Err(
+            RunError::OutOfMemory,
+        ),
         Err(fault) => Err(RunError::NoHistory(fault)),
     }
 }
