@@ -6,10 +6,10 @@ use crate::drawing::Drawing;
 use crate::folded::{fold_calls, rounds_a_column};
 use crate::head::{add_count, add_numbers, end_head};
 use crate::lanes::{
-    Scene, add_calls, add_workers, batch_ends, caller_name, callers, event_of, is_shown,
+    Scene, add_calls, add_workers, batch_ends, caller_name, callers, ends_column, event_of,
+    is_shown,
 };
 use crate::lines::MOST_BATCHES;
-use crate::loads::rounds;
 use crate::numbers::{HistoryNumbers, history_numbers, plan_numbers};
 use crate::parts::plan_parts;
 use crate::phrase::Phrase;
@@ -32,10 +32,11 @@ const FEW_KEYS: usize = 20;
 /// Draws a history, as SVG. Of what serving plans left, you give the terms of each plan, as [`terms_of`](crate::terms_of)
 /// gives them: the first callers are these plans, and the others are workers. Without terms the callers are none of
 /// these. Each plan has a lane, as each caller does that made other calls than ends of batches, and its rounds are in it
-/// from left to right. A round of a plan says which step and which part of its term it loads for. Above it are the primes
-/// and clears before it, and below it the batches that it sent, which lines join to their keys. With more than 60
-/// batches, or as many rounds in a lane, a lane shows counts, and the first batches that failed, so the text has less than
-/// a megabyte. `hashing` hashes keys, and nothing that you see depends on it.
+/// from left to right, or the calls up to each of its dispatches. A round of a plan says which step and which part of its
+/// term it loads for. Above it are the primes and clears before it, and below it the batches that it sent, which lines
+/// join to their keys. With more than 60 batches, or as many rounds, or calls without plans, in a lane, a lane shows
+/// counts, and the first batches that failed, so the text has less than a megabyte. `hashing` hashes keys, and nothing
+/// that you see depends on it.
 ///
 /// # Errors
 /// `AllocError` if memory runs out.
@@ -65,7 +66,8 @@ pub fn history_picture(
         ends: ends.as_slice(),
         plans: plans.map(|plans| plans.len().min(MOST_PLANS) as u32),
     };
-    if numbers.batches.batches <= MOST_BATCHES as u64 && longest(scene) <= MOST_ROUNDS {
+    let is_short = longest(scene) <= MOST_ROUNDS && has_few_calls(scene);
+    if numbers.batches.batches <= MOST_BATCHES as u64 && is_short {
         let parts = plan_parts(alloc, hashing, history, plans.unwrap_or(&[]))?;
         let picture = whole_picture(alloc, scene, &numbers, alone, parts.as_slice())?;
         if picture.len() <= MOST_BYTES {
@@ -155,13 +157,49 @@ fn lanes(scene: Scene<'_>) -> u32 {
     lanes
 }
 
-/// How many rounds the longest lane has.
+/// How many rounds, or without plans how many dispatches, the longest lane has.
 fn longest(scene: Scene<'_>) -> usize {
     let mut most: usize = 0;
     for caller in 0..most_lanes(scene) {
-        most = most.max(rounds(scene.history.events(), caller));
+        most = most.max(columns(scene, caller));
     }
     most
+}
+
+/// How many columns of a lane end.
+fn columns(scene: Scene<'_>, caller: u32) -> usize {
+    let mut count: usize = 0;
+    for entry in scene.history.entries(caller) {
+        if let Some(event) = event_of(scene.history.events(), *entry) {
+            if ends_column(scene, event) {
+                count = count.saturating_add(1);
+            }
+        }
+    }
+    count
+}
+
+/// Whether no lane shows more calls than it may have rounds, or there are plans.
+fn has_few_calls(scene: Scene<'_>) -> bool {
+    for caller in 0..most_lanes(scene) {
+        if scene.plans.is_none() && calls_shown(scene, caller) > MOST_ROUNDS {
+            return false;
+        }
+    }
+    true
+}
+
+/// How many calls a lane shows.
+fn calls_shown(scene: Scene<'_>, caller: u32) -> usize {
+    let mut count: usize = 0;
+    for entry in scene.history.entries(caller) {
+        if let Some(event) = event_of(scene.history.events(), *entry) {
+            if is_shown(event) {
+                count = count.saturating_add(1);
+            }
+        }
+    }
+    count
 }
 
 /// Whether a caller has a lane: it is a plan, or it loaded, primed, cleared or sent a batch.
@@ -169,14 +207,7 @@ fn has_lane(scene: Scene<'_>, caller: u32) -> bool {
     if caller < scene.plans.unwrap_or(0) {
         return true;
     }
-    for entry in scene.history.entries(caller) {
-        if let Some(event) = event_of(scene.history.events(), *entry) {
-            if is_shown(event) {
-                return true;
-            }
-        }
-    }
-    false
+    calls_shown(scene, caller) > 0
 }
 
 /// The words above the lane of a caller.
@@ -186,10 +217,16 @@ fn add_lane_words(drawing: &mut Drawing, scene: Scene<'_>, caller: u32) {
             let loads = numbers.loads;
             drawing.begin_words("lane");
             drawing.sheet.push_phrase(caller_name(scene.plans, caller));
-            drawing.sheet.push_form(
-                ": rounds #, loads #, hits #</text>\n",
-                &[numbers.rounds as u64, loads.loads, loads.hits],
-            );
+            if scene.plans.is_some() {
+                drawing
+                    .sheet
+                    .push_form(": rounds #,", &[numbers.rounds as u64]);
+            } else {
+                drawing.sheet.push(":");
+            }
+            drawing
+                .sheet
+                .push_form(" loads #, hits #</text>\n", &[loads.loads, loads.hits]);
         }
         Err(error) => drawing.sheet.note(Err(error)),
     }
