@@ -130,7 +130,12 @@ pub script_passes : (d : Data) (s : Script) → SpellsScript d s → (f : PlanFa
 script_passes d s spells =
     let v : Version = version_by s.table_limits in
     let h : Head = record { version = v; numbers = numbers_of s.limits } in
-    let head : HasHead d h = record { version = spells.version; members = spells.members; numbers = are_given d s.limits spells.limits } in
+    let head : HasHead d h = record {
+      version = spells.version;
+      forms = refl;
+      members = spells.members;
+      numbers = are_given d s.limits spells.limits;
+    } in
     let ns : List TableNumber = spells.own.given in
     let low : Clear d 10 = clear_10 d h (map call_tree s.calls) ns spells.kind head spells.list spells.own.numbers s.calls
     (record { trees = refl; calls = spells.calls }) in

@@ -62,10 +62,9 @@ use std::thread::Threads;
 ///
 /// ```rust
 /// let (alloc, mut reader, mut writer) = (rt.alloc(), rt.reader(), io::writer(rt));
-/// if options.migrate {
-///     run_migrate(alloc, hashing, &mut reader, &mut writer)
-/// } else {
-///     run(rt, alloc, hashing, &mut reader, &mut writer, options)
+/// match options.migrate {
+///     Some(target) => run_migrate(alloc, hashing, &mut reader, &mut writer, target),
+///     None => run(rt, alloc, hashing, &mut reader, &mut writer, options),
 /// }
 /// ```
 pub fn run<R: Read, W: Write, T: Threads + Wait + Sync + Files + RandomSource + Eprint>(

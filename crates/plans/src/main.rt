@@ -18,16 +18,15 @@ fn main(rt: HostRuntime) -> ExitCode {
     ExitCode::from(status)
 }
 
-/// Writes what the options ask for to standard output: the document on standard input as version 2, or what it gives.
+/// Writes what the options ask for to standard output: the document on standard input in a later version, or what it gives.
 fn written<R: Input + Print + Eprint + AllocGlobal + Threads + Wait + Sync + Files + RandomSource>(
     rt: &R,
     hashing: RandomState,
     options: Options,
 ) -> Result<(), RunError> {
     let (alloc, mut reader, mut writer) = (rt.alloc(), rt.reader(), io::writer(rt));
-    if options.migrate {
-        run_migrate(alloc, hashing, &mut reader, &mut writer)
-    } else {
-        run(rt, alloc, hashing, &mut reader, &mut writer, options)
+    match options.migrate {
+        Some(target) => run_migrate(alloc, hashing, &mut reader, &mut writer, target),
+        None => run(rt, alloc, hashing, &mut reader, &mut writer, options),
     }
 }
