@@ -39,7 +39,7 @@ impl EventCall for Load<'_> {
         Ok(Prepared {
             call: Call::Load(key),
             reply: Reply::Loaded(reply),
-            dues: Vec::new(alloc),
+            dues: None,
             answer: reply,
         })
     }
@@ -91,7 +91,7 @@ impl EventCall for LoadMany<'_> {
         Ok(Prepared {
             call: Call::LoadMany(keys),
             reply: Reply::Many(told),
-            dues: Vec::new(alloc),
+            dues: None,
             answer: replies,
         })
     }
