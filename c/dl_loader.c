@@ -1,7 +1,7 @@
 /* The lock around the calls of dl_serial.h, and the words of the cells.
  *
- * DL_HELGRIND has helgrind know what the states of the cells order, since it knows no atomic operations. DL_NO_LOCK leaves out the
- * lock, for a test that helgrind finds that. */
+ * DL_HELGRIND has helgrind know what the lock and the states of the cells order, since it knows no atomic operations. DL_NO_LOCK
+ * leaves out the lock, for a test that helgrind finds that. */
 #define _POSIX_C_SOURCE 200809L
 #include "dl_loader.h"
 
@@ -15,10 +15,15 @@
 #define VALGRIND_HG_DISABLE_CHECKING(start, length) ((void)0)
 #define ANNOTATE_HAPPENS_BEFORE(place) ((void)0)
 #define ANNOTATE_HAPPENS_AFTER(place) ((void)0)
+#define ANNOTATE_RWLOCK_CREATE(lock) ((void)0)
+#define ANNOTATE_RWLOCK_DESTROY(lock) ((void)0)
+#define ANNOTATE_RWLOCK_ACQUIRED(lock, is_written) ((void)0)
+#define ANNOTATE_RWLOCK_RELEASED(lock, is_written) ((void)0)
 #endif
 
-/* Threads that wait for cell n wait at condition n modulo this, so that an end wakes few others. */
-enum { CONDITIONS = 64 };
+/* Threads that wait for cell n wait at condition n modulo CONDITIONS, so that an end wakes few others. Those that wait for the lock wait at
+ * the last condition. */
+enum { CONDITIONS = 64, LEFT = CONDITIONS, ALL_CONDITIONS };
 
 /* A cell: its word is written once, under the lock and before its state, and is read after that. */
 typedef struct {
@@ -26,36 +31,65 @@ typedef struct {
     uint64_t word;
 } cell;
 
+/* The states of the lock. AWAITED: it is taken, and whoever leaves it wakes a thread. A mutex has the same states, but costs more: here
+ * one atomic operation takes a free lock, and one leaves it if nobody waits. */
+enum { FREE, TAKEN, AWAITED };
+
 struct dl_loader {
-    pthread_mutex_t lock;
-    pthread_cond_t ended[CONDITIONS];
-    dl_serial serial; /* under the lock */
-    bool is_over;     /* under the lock: stopped or closed, so that no empty cell gets a word */
+    _Atomic uint32_t lock;
+    dl_serial serial;      /* under the lock */
+    pthread_mutex_t waits; /* of the conditions; taken after the lock, if a thread has both */
+    pthread_cond_t conditions[ALL_CONDITIONS];
+    bool is_over; /* under waits: stopped or closed, so that no empty cell gets a word */
     uint32_t cell_count;
     cell *cells;
 };
 
+#ifndef DL_NO_LOCK
+/* Takes the lock when it was not free. Whoever leaves it after it is AWAITED signals under waits, so no thread misses that. */
+static void wait_to_enter(dl_loader *loader)
+{
+    pthread_mutex_lock(&loader->waits);
+    while (atomic_exchange_explicit(&loader->lock, AWAITED, memory_order_acquire) != FREE) {
+        pthread_cond_wait(&loader->conditions[LEFT], &loader->waits);
+    }
+    pthread_mutex_unlock(&loader->waits);
+}
+
 static void enter(dl_loader *loader)
 {
-#ifndef DL_NO_LOCK
-    pthread_mutex_lock(&loader->lock);
-#else
-    (void)loader;
-#endif
+    uint32_t state = FREE;
+
+    if (!atomic_compare_exchange_strong_explicit(&loader->lock, &state, TAKEN, memory_order_acquire, memory_order_relaxed)) {
+        wait_to_enter(loader);
+    }
+    ANNOTATE_RWLOCK_ACQUIRED(&loader->lock, 1);
 }
 
 static void leave(dl_loader *loader)
 {
-#ifndef DL_NO_LOCK
-    pthread_mutex_unlock(&loader->lock);
-#else
-    (void)loader;
-#endif
+    ANNOTATE_RWLOCK_RELEASED(&loader->lock, 1);
+    if (atomic_exchange_explicit(&loader->lock, FREE, memory_order_release) == AWAITED) {
+        pthread_mutex_lock(&loader->waits);
+        pthread_cond_signal(&loader->conditions[LEFT]);
+        pthread_mutex_unlock(&loader->waits);
+    }
 }
+#else
+static void enter(dl_loader *loader)
+{
+    (void)loader;
+}
+
+static void leave(dl_loader *loader)
+{
+    (void)loader;
+}
+#endif
 
 /* ---- open and free */
 
-/* Makes so many conditions, of the clock that deadlines are of. How many were made. */
+/* Makes all conditions, of the clock that deadlines are of. How many were made. */
 static unsigned make_conditions(pthread_cond_t *conditions)
 {
     pthread_condattr_t attributes;
@@ -65,7 +99,7 @@ static unsigned make_conditions(pthread_cond_t *conditions)
         return 0;
     }
     if (pthread_condattr_setclock(&attributes, CLOCK_MONOTONIC) == 0) {
-        while (made < CONDITIONS && pthread_cond_init(&conditions[made], &attributes) == 0) {
+        while (made < ALL_CONDITIONS && pthread_cond_init(&conditions[made], &attributes) == 0) {
             made++;
         }
     }
@@ -89,12 +123,14 @@ static bool make_parts(dl_loader *loader, uint32_t cell_count)
     if (loader->cells == NULL) {
         return false;
     }
-    made = make_conditions(loader->ended);
-    if (made < CONDITIONS || pthread_mutex_init(&loader->lock, NULL) != 0) {
-        destroy_conditions(loader->ended, made);
+    made = make_conditions(loader->conditions);
+    if (made < ALL_CONDITIONS || pthread_mutex_init(&loader->waits, NULL) != 0) {
+        destroy_conditions(loader->conditions, made);
         free(loader->cells);
         return false;
     }
+    ANNOTATE_RWLOCK_CREATE(&loader->lock);
+    VALGRIND_HG_DISABLE_CHECKING(&loader->lock, sizeof loader->lock);
     loader->cell_count = cell_count;
     for (uint32_t i = 0; i < cell_count; i++) {
         VALGRIND_HG_DISABLE_CHECKING(&loader->cells[i].state, sizeof loader->cells[i].state);
@@ -140,8 +176,9 @@ void dl_loader_free(dl_loader *loader)
         return;
     }
     dl_serial_free(&loader->serial);
-    destroy_conditions(loader->ended, CONDITIONS);
-    pthread_mutex_destroy(&loader->lock);
+    destroy_conditions(loader->conditions, ALL_CONDITIONS);
+    pthread_mutex_destroy(&loader->waits);
+    ANNOTATE_RWLOCK_DESTROY(&loader->lock);
     free(loader->cells);
     free(loader);
 }
@@ -212,11 +249,13 @@ static void show_batch(dl_loader *loader, uint32_t batch, uint32_t state, const 
         show(loader, member.cell, (dl_shown){state, words[is_one ? 0 : index]});
         touched |= UINT64_C(1) << member.cell % CONDITIONS;
     }
+    pthread_mutex_lock(&loader->waits);
     for (unsigned condition = 0; condition < CONDITIONS; condition++) {
         if (touched >> condition & 1) {
-            pthread_cond_broadcast(&loader->ended[condition]);
+            pthread_cond_broadcast(&loader->conditions[condition]);
         }
     }
+    pthread_mutex_unlock(&loader->waits);
 }
 
 /* DL_DONE if a batch has so many members. Under the lock. */
@@ -303,18 +342,18 @@ dl_shown dl_loader_look(const dl_loader *loader, uint32_t number)
 /* Waits for a cell that was empty, with a deadline or without. */
 static dl_shown wait_for(dl_loader *loader, uint32_t number, const struct timespec *deadline)
 {
-    pthread_cond_t *ended = &loader->ended[number % CONDITIONS];
+    pthread_cond_t *ended = &loader->conditions[number % CONDITIONS];
     dl_shown shown;
     int fault = 0;
 
-    pthread_mutex_lock(&loader->lock);
+    pthread_mutex_lock(&loader->waits);
     while ((shown = dl_loader_look(loader, number)).state == DL_EMPTY && !loader->is_over && fault == 0) {
-        fault = deadline == NULL ? pthread_cond_wait(ended, &loader->lock) : pthread_cond_timedwait(ended, &loader->lock, deadline);
+        fault = deadline == NULL ? pthread_cond_wait(ended, &loader->waits) : pthread_cond_timedwait(ended, &loader->waits, deadline);
     }
     if (shown.state == DL_EMPTY && loader->is_over) {
         shown.state = DL_ABANDONED;
     }
-    pthread_mutex_unlock(&loader->lock);
+    pthread_mutex_unlock(&loader->waits);
     return shown;
 }
 
@@ -345,10 +384,12 @@ uint32_t dl_loader_saw(dl_loader *loader, uint32_t caller, size_t ticket)
 static void end_waits(dl_loader *loader, uint32_t code)
 {
     if (code == DL_DONE) {
+        pthread_mutex_lock(&loader->waits);
         loader->is_over = true;
         for (unsigned condition = 0; condition < CONDITIONS; condition++) {
-            pthread_cond_broadcast(&loader->ended[condition]);
+            pthread_cond_broadcast(&loader->conditions[condition]);
         }
+        pthread_mutex_unlock(&loader->waits);
     }
 }
 
