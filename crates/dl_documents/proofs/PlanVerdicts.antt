@@ -129,10 +129,10 @@ module _ (d : Data) (given : Head) (rows : List (List Data)) (tree : Data) (kind
 
   module _ (plans : List (List StepTree)) (read : AreRead (forms_of d) rows plans) where
     plan_of : (m : ℕ) (row : List Data) → slice_get rows m ≡ Some row
-        → (plan : List StepTree) × (slice_get plans m ≡ Some plan) × (row ≡ map step_tree plan) × AllByRecursion (IsPlanStep (forms_of d) (forms_of d)) plan
+        → (plan : List StepTree) × (slice_get plans m ≡ Some plan) × (row ≡ map step_tree plan) × AllByRecursion (IsPlanStep (forms_of d)) plan
     plan_of m row there =
         let p = from_item (map step_tree) plans m row (ap (λ (xs : List (List Data)). slice_get xs m) (sym read.trees) ∙ there) in
-        (p.0, p.1, p.2, all_at (AllByRecursion (IsPlanStep (forms_of d) (forms_of d))) plans m p.0 read.steps p.1)
+        (p.0, p.1, p.2, all_at (AllByRecursion (IsPlanStep (forms_of d))) plans m p.0 read.steps p.1)
 
     row_of_plan : (m : ℕ) (plan : List StepTree) → slice_get plans m ≡ Some plan → slice_get rows m ≡ Some (map step_tree plan)
     row_of_plan m plan there = ap (λ (xs : List (List Data)). slice_get xs m) read.trees ∙ item_made (map step_tree) plans m plan there
@@ -167,7 +167,7 @@ module _ (d : Data) (given : Head) (rows : List (List Data)) (tree : Data) (kind
 
     deep : (m s : ℕ) (plan : List StepTree) (y : StepTree) → slice_get plans m ≡ Some plan → slice_get plan s ≡ Some y → IsHigh y → IsDeepStep d m s
     deep m s plan (eval t) there item high =
-        let is : IsPlanStep (forms_of d) (eval t) = all_at (IsPlanStep (forms_of d)) plan s (eval t) (all_at (AllByRecursion (IsPlanStep (forms_of d) (forms_of d))) plans m plan read.steps there) item in (
+        let is : IsPlanStep (forms_of d) (eval t) = all_at (IsPlanStep (forms_of d)) plan s (eval t) (all_at (AllByRecursion (IsPlanStep (forms_of d))) plans m plan read.steps there) item in (
           step_tree (eval t),
           step_at m s (map step_tree plan) (step_tree (eval t)) (row_of_plan m plan there) (item_made step_tree plan s (eval t) item),
           record { term = t; is = is; spelled = refl; high = high },
