@@ -40,11 +40,11 @@ fn main(rt: HostRuntime) -> anyhow::Result<()> {
 /// Makes a database of two users.
 fn fill(rt: &HostRuntime) -> Result<(), Error> {
     let mut conn = Connection::open(rt, PATH)?;
-    conn.execute_batch(
+    let filled = conn.execute_batch(
         "CREATE TABLE IF NOT EXISTS user (id TEXT PRIMARY KEY, name TEXT NOT NULL) STRICT;
          INSERT OR REPLACE INTO user VALUES ('u1', 'Ada'), ('u2', 'Bob')",
-    )?;
-    conn.close()
+    );
+    conn.close().and(filled)
 }
 
 /// The plan whose one step is the load of a user.
