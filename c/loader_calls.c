@@ -3,10 +3,12 @@
 #define _POSIX_C_SOURCE 200809L
 #include "checks.h"
 #include "dl_desk.h" /* A program may use both headers. */
+#include "dl_history.h"
 #include "dl_loader.h"
 
 #include <pthread.h>
 #include <stdio.h>
+#include <stdlib.h>
 #include <string.h>
 
 _Static_assert(sizeof(dl_serial) == 16, "a handle");
@@ -440,6 +442,69 @@ static void the_close_gives_the_history(void)
     dl_loader_free(loader);
 }
 
+static void a_history_is_written_as_two_lines_of_json(void)
+{
+    static const char wanted[] =
+        "{\"script\":1,\"maxBatchSize\":1,\"maxCells\":8,\"maxCalls\":16,\"calls\":[{\"load\":[\"user\",\"a\"]},"
+        "{\"loadMany\":[[\"user\",\"b\"],[\"user\",\"a\"]]},{\"prime\":[\"user\",\"c\"]},{\"prime\":[\"user\",\"c\"]},{\"clear\":[\"user\",\"a\"]},"
+        "{\"clearAll\":true},{\"dispatch\":true},{\"settle\":0},{\"fail\":1}]}\n"
+        "[[0,1,0,0],[1,1,1,1,0,0,0],[0,1,2,0],[0,0,0,0],[1],[0],[1,0,1],[0],[1]]\n";
+    const dl_serial_opening opening = opening_of(1, 8, 16, 2);
+    dl_loader *loader = with_each_call();
+    char *text = NULL;
+    size_t len = 0;
+    FILE *to = open_memstream(&text, &len);
+
+    CHECK(to != NULL && dl_loader_close(loader) == DL_DONE);
+    if (to != NULL) {
+        dl_write_history(to, loader, &opening);
+        CHECK(fclose(to) == 0 && strcmp(text, wanted) == 0);
+    }
+    free(text);
+    dl_loader_free(loader);
+}
+
+static void a_history_by_table_is_written_with_the_limits_of_tables(void)
+{
+    static const char wanted[] = "{\"script\":2,\"maxBatchSize\":2,\"maxCells\":8,\"maxCalls\":16,\"tableLimits\":[[\"s\",1],[\"tt\",3]],"
+                                 "\"calls\":[{\"load\":[\"t\",\"a\"]},{\"load\":[\"s\",\"x\"]},{\"dispatch\":true},{\"fail\":1},{\"fail\":0}]}\n"
+                                 "[[0,1,0,0],[0,1,1,1],[0,0,1],[0],[0]]\n";
+    static const dl_table_limit tables[2] = {{1, 1}, {2, 3}};
+    const dl_serial_opening opening = opening_of(2, 8, 16, 1);
+    dl_loader *loader = NULL;
+    char *text = NULL;
+    size_t len = 0;
+    FILE *to = open_memstream(&text, &len);
+
+    CHECK(open_by_table(&loader, "stt", tables, 2) == DL_DONE);
+    dl_loader_load(loader, 0, KEY("t", "a"));
+    dl_loader_load(loader, 0, KEY("s", "x"));
+    dl_loader_dispatch(loader, 0);
+    CHECK(dl_loader_fail(loader, 0, 1, 0) == DL_DONE && dl_loader_fail(loader, 0, 0, 0) == DL_DONE);
+    CHECK(to != NULL && dl_loader_close(loader) == DL_DONE);
+    if (to != NULL) {
+        dl_write_history_by_table(to, loader, &opening, (const uint8_t *)"stt", tables, 2);
+        CHECK(fclose(to) == 0 && strcmp(text, wanted) == 0);
+    }
+    free(text);
+    dl_loader_free(loader);
+}
+
+static void texts_of_json_are_quoted(void)
+{
+    static const uint8_t given[] = {'"', '\\', '\n', 0x1f, 0xc3, 0xa9};
+    char *text = NULL;
+    size_t len = 0;
+    FILE *to = open_memstream(&text, &len);
+
+    CHECK(to != NULL);
+    if (to != NULL) {
+        dl_write_text(to, given, sizeof given);
+        CHECK(fclose(to) == 0 && strcmp(text, "\"\\\"\\\\\\u000a\\u001f\xc3\xa9\"") == 0);
+    }
+    free(text);
+}
+
 static void a_closed_loader_takes_no_calls_and_keeps_its_words(void)
 {
     dl_loader *loader = with_each_call();
@@ -469,6 +534,9 @@ int main(void)
     a_wait_may_have_a_deadline();
     threads_that_wait_are_woken();
     the_close_gives_the_history();
+    a_history_is_written_as_two_lines_of_json();
+    a_history_by_table_is_written_with_the_limits_of_tables();
+    texts_of_json_are_quoted();
     a_closed_loader_takes_no_calls_and_keeps_its_words();
     printf("%u passed, %u failed\n", passed, failed);
     return failed == 0 ? 0 : 1;

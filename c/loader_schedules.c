@@ -7,6 +7,7 @@
  * It prints what is wrong, with the seed of its run, and how many runs passed. With `tell` it prints each history too, as a line of JSON,
  * for tests/hosts to hold against a loader of its own. */
 #define _POSIX_C_SOURCE 200809L
+#include "dl_history.h"
 #include "dl_loader.h"
 
 #include <pthread.h>
@@ -594,7 +595,7 @@ static const char *audit(const history *self)
 }
 
 /* Holds the history that a closed loader gives against the definitions, and then a change of it, which has to be wrong. */
-static const char *audit_both(dl_loader *loader, uint64_t seed, bool tells)
+static const char *audit_both(dl_loader *loader, const dl_serial_opening *opened, uint64_t seed, bool tells)
 {
     const char *fault = read_history(&told, loader);
 
@@ -604,6 +605,7 @@ static const char *audit_both(dl_loader *loader, uint64_t seed, bool tells)
     }
     if (tells) {
         tell(&told, callers, false);
+        dl_write_history(stdout, loader, opened);
     }
     spoil(&told, seed);
     if (tells) {
@@ -639,7 +641,7 @@ static const char *run(uint64_t seed, bool tells)
         fault = fault == NULL ? callers[i].fault : fault;
     }
     fault = fault == NULL && dl_loader_close(loader) != DL_DONE ? "close" : fault;
-    fault = fault == NULL ? audit_both(loader, seed, tells) : fault;
+    fault = fault == NULL ? audit_both(loader, &opening, seed, tells) : fault;
     dl_loader_free(loader);
     return fault;
 }

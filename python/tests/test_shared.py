@@ -3,6 +3,7 @@
 import concurrent.futures
 import contextlib
 import gc
+import json
 import math
 import subprocess
 import sys
@@ -16,7 +17,7 @@ from concurrent.futures import ThreadPoolExecutor
 
 from interrupt import Interrupt, tracing
 from thrushscreen import LoaderFull, shared, threads
-from thrushscreen.shared import Answer, Entry, ThreadedDataLoader
+from thrushscreen.shared import Answer, Entry, History, ThreadedDataLoader
 
 # After so many seconds a thread is taken not to end.
 LONGEST = 60
@@ -604,15 +605,15 @@ class Histories(unittest.TestCase):
         loader.dispatch()
         self.assertEqual(results(loads), ["b", "a"])
         self.assertEqual(loads[0].result(), "b")
-        events, entries = loader.close()
+        events, entries, limits = loader.close()
         none = range(0, 0)
         wanted = [
-            ("load", (Answer("a", True, 0, 0),), none),
-            ("load", (Answer("b", True, 1, 1),), none),
-            ("load", (Answer("a", False, 0, None),), none),
-            ("prime", (Answer("c", True, 2, None),), none),
-            ("prime", (Answer("c", False, None, None),), none),
-            ("clear", (Answer("a", False, None, None),), none),
+            ("load", (Answer("a", True, 0, 0, 0),), none),
+            ("load", (Answer("b", True, 1, 1, 1),), none),
+            ("load", (Answer("a", False, 0, None, 0),), none),
+            ("prime", (Answer("c", True, 2, None, 3),), none),
+            ("prime", (Answer("c", False, None, None, 3),), none),
+            ("clear", (Answer("a", False, None, None, 0),), none),
             ("clear_all", (), none),
             ("dispatch", (), range(2)),
             ("settle", (), range(1)),
@@ -622,10 +623,26 @@ class Histories(unittest.TestCase):
         self.assertEqual({event.caller for event in events}, {0})
         self.assertEqual(entries[0], [*(Entry(at, None) for at in range(10)), Entry(9, 1), Entry(8, 0)])
         self.assertEqual((len(entries), entries[1:]), (32, [[]] * 31))
+        self.assertEqual(limits, {"maxBatchSize": 1, "maxCells": 65_536, "maxCalls": 65_536})
+        self.assertEqual(
+            History(events, entries, limits).to_json(),
+            '{"script":1,"maxBatchSize":1,"maxCells":65536,"maxCalls":65536,"calls":[{"load":["key","a"]},{"load":["key","b"]},'
+            '{"load":["key","a"]},{"prime":["key","c"]},{"prime":["key","c"]},{"clear":["key","a"]},{"clearAll":true},{"dispatch":true},'
+            '{"settle":0},{"settle":1}]}\n[[0,1,0,0],[0,1,1,1],[0,0,0,0],[0,1,2,0],[0,0,0,0],[0],[0],[0,0,1],[0],[0]]\n',
+        )
         for call in (loader.close, loader.clear_all, lambda: loader.load("a"), loader.dispatch):
             with self.assertRaisesRegex(RuntimeError, "closed"):
                 call()
         self.assertEqual(loads[0].result(), "b")
+
+    def test_each_key_has_a_text_of_its_own_in_json(self):
+        loader = loader_of([], max_batch_size=7)
+        for key in (1, "1", 1.5, "", "1 #1", "x" * 300, "x" * 299, 1.0):
+            loader.clear(key)
+        script, answers = loader.close().to_json().splitlines()
+        ids = [call["clear"][1] for call in json.loads(script)["calls"]]
+        self.assertEqual(ids, ["1", "1 #1", "1.5", " #3", "1 #1 #4", "x" * 200, "x" * 200 + " #6", "1"])
+        self.assertEqual(json.loads(answers), [[0]] * 8)
 
 
 if __name__ == "__main__":

@@ -2,6 +2,7 @@
 
 from __future__ import annotations
 
+import json
 import threading
 from collections import deque
 from collections.abc import Callable, Hashable, Iterable, Iterator, Sequence
@@ -39,6 +40,8 @@ class Answer(NamedTuple):
     """The cell, if the call is a load or began one."""
     batch: int | None
     """The batch that a fresh load joined."""
+    number: int
+    """The number of the key: what has one number is one key."""
 
 
 class Event(NamedTuple):
@@ -67,6 +70,50 @@ class History(NamedTuple):
     events: list[Event]
     entries: list[list[Entry]]
     """Of each caller, in its order."""
+    limits: dict[str, int]
+    """The limits of the loader, by the names that the program ``plans`` has for them."""
+
+    def to_json(self) -> str:
+        """What ``plans --history`` draws: two lines of JSON, with the calls and what each was answered. A key has the text that ``str``
+        gives it."""
+        texts = _Texts()
+        calls = [_call(event, texts) for event in self.events]
+        answers = [[event.caller, *_numbers(event)] for event in self.events]
+        return "".join(json.dumps(line, separators=(",", ":")) + "\n" for line in ({"script": 1, **self.limits, "calls": calls}, answers))
+
+
+class _Texts:
+    """The texts of keys, by their numbers. No two have one: behind that of the second is its number."""
+
+    def __init__(self) -> None:
+        self._texts: dict[int, str] = {}
+        self._taken: set[str] = set()
+
+    def key(self, answer: Answer) -> list[str]:
+        """A key as ``plans`` reads it: a table, and an id of 1 to 256 bytes."""
+        if answer.number not in self._texts:
+            text = str(answer.key).encode(errors="replace")[:200].decode(errors="ignore")
+            while not text or text in self._taken:
+                text = f"{text} #{answer.number}"
+            self._taken.add(text)
+            self._texts[answer.number] = text
+        return ["key", self._texts[answer.number]]
+
+
+def _call(event: Event, texts: _Texts) -> dict[str, Any]:
+    """An event as a call of a script."""
+    first, *rest = event.call.split("_")
+    name, keys = first + "".join(map(str.title, rest)), [texts.key(answer) for answer in event.answers]
+    if event.call in ("settle", "fail"):
+        return {name: event.batches[0]}
+    return {name: True if event.call in ("clear_all", "dispatch") else keys if event.call == "load_many" else keys[0]}
+
+
+def _numbers(event: Event) -> list[int]:
+    """What it was answered: for each key whether a cell begins with it, the cell and the batch; or the batches that were sent."""
+    if event.call in ("load", "load_many", "prime"):
+        return [number for answer in event.answers for number in (int(answer.is_fresh), answer.cell or 0, answer.batch or 0)]
+    return [*event.batches] if event.call == "dispatch" else []
 
 
 class _Error(NamedTuple):
@@ -229,6 +276,7 @@ class ThreadedDataLoader(Generic[K, V]):
         self._check_options()
         size = (self.max_batch_size or LARGEST_LIMIT) if self.batch else 1
         self._shared = Shared(size, self.max_cells, self.max_calls, CALLERS)
+        self._limits = {"maxBatchSize": size, "maxCells": self.max_cells, "maxCalls": self.max_calls}
         self._next_key = count()
         self._numbers: dict[Hashable, int] = {}
         self._keys: dict[int, K] = {}
@@ -347,7 +395,7 @@ class ThreadedDataLoader(Generic[K, V]):
         self._shared.close()
         events = [self._event(*event) for event in iter(map(self._shared.event, count()).__next__, None)]
         entries = [[Entry(at, None if is_call else cell) for is_call, at, cell in self._entries(caller)] for caller in range(CALLERS)]
-        return History(events, entries)
+        return History(events, entries, self._limits)
 
     # Keys.
 
@@ -504,7 +552,7 @@ class ThreadedDataLoader(Generic[K, V]):
     def _event(self, caller: int, call: int, batch: int, batches: int, keys: list[tuple[int, bool, int, int]]) -> Event:
         is_load = CALLS[call] in ("load", "load_many")
         answers = tuple(
-            Answer(self._keys[number], is_fresh, cell if is_load or is_fresh else None, at if is_load and is_fresh else None)
+            Answer(self._keys[number], is_fresh, cell if is_load or is_fresh else None, at if is_load and is_fresh else None, number)
             for number, is_fresh, cell, at in keys
         )
         return Event(caller, CALLS[call], answers, range(batch, batch + batches))

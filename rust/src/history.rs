@@ -1,12 +1,14 @@
 //! What the close of a loader gives.
 
 use crate::cells::Cells;
-use crate::loader::{Key, Outcome};
+use crate::loader::{Key, Opened, Outcome};
+use std::fmt::Write;
 use std::ops::Range;
 
 /// The history of a closed loader, which a loader of one thread could have had.
 #[derive(Debug)]
 pub struct History<V, E> {
+    pub(crate) opened: Opened,
     pub(crate) events: Vec<Event>,
     pub(crate) entries: Vec<Vec<Entry>>,
     pub(crate) cells: Cells<Outcome<V, E>>,
@@ -26,6 +28,48 @@ impl<V, E> History<V, E> {
     /// The outcome of a cell, if there is such a cell.
     pub fn outcome(&self, cell: u32) -> Option<&Outcome<V, E>> {
         self.cells.get(cell)
+    }
+
+    /// What `plans --history` draws: two lines of JSON, with the calls and what each was answered.
+    pub fn to_json(&self) -> String {
+        let Opened { limits, tables } = &self.opened;
+        let version = 1 + tables.iter().len();
+        let own = tables.iter().map(|tables| {
+            format!("\"tableLimits\":{},", listed(tables, |(name, limit)| format!("[{},{limit}]", text(name))))
+        });
+        format!(
+            "{{\"script\":{version},\"maxBatchSize\":{},\"maxCells\":{},\"maxCalls\":{},{}\"calls\":{}}}\n{}\n",
+            limits.max_batch,
+            limits.max_cells,
+            limits.max_calls,
+            own.collect::<String>(),
+            listed(&self.events, |event| event.call.to_json()),
+            listed(&self.events, |event| listed(&[&[event.caller], &*event.call.numbers()].concat(), u32::to_string)),
+        )
+    }
+}
+
+/// A list of JSON.
+fn listed<T>(items: &[T], written: impl Fn(&T) -> String) -> String {
+    format!("[{}]", items.iter().map(written).collect::<Vec<_>>().join(","))
+}
+
+/// A text of JSON.
+fn text(text: &str) -> String {
+    let mut written = String::from('"');
+    for letter in text.chars() {
+        match letter {
+            '"' | '\\' => written.extend(['\\', letter]),
+            '\0'..='\x1f' => write!(written, "\\u{:04x}", u32::from(letter)).expect("a String takes all"),
+            _ => written.push(letter),
+        }
+    }
+    written + "\""
+}
+
+impl Key {
+    fn to_json(&self) -> String {
+        format!("[{},{}]", text(&self.table), text(&self.id))
     }
 }
 
@@ -71,6 +115,34 @@ pub enum Call {
     Fail(u32),
 }
 
+impl Call {
+    /// The call of a script.
+    fn to_json(&self) -> String {
+        let (name, argument) = match self {
+            Call::Load(key, _) => ("load", key.to_json()),
+            Call::LoadMany(loads) => ("loadMany", listed(loads, |(key, _)| key.to_json())),
+            Call::Prime(key, _) => ("prime", key.to_json()),
+            Call::Clear(key) => ("clear", key.to_json()),
+            Call::ClearAll => ("clearAll", "true".into()),
+            Call::Dispatch(_) => ("dispatch", "true".into()),
+            Call::Settle(batch) => ("settle", batch.to_string()),
+            Call::Fail(batch) => ("fail", batch.to_string()),
+        };
+        format!("{{\"{name}\":{argument}}}")
+    }
+
+    /// What was answered: for each key whether a cell begins with it, the cell and the batch; or the batches that were sent.
+    fn numbers(&self) -> Vec<u32> {
+        match self {
+            Call::Load(_, reply) => reply.numbers().to_vec(),
+            Call::LoadMany(loads) => loads.iter().flat_map(|(_, reply)| reply.numbers()).collect(),
+            Call::Prime(_, cell) => vec![cell.is_some().into(), cell.unwrap_or(0), 0],
+            Call::Dispatch(batches) => batches.clone().collect(),
+            Call::Clear(_) | Call::ClearAll | Call::Settle(_) | Call::Fail(_) => Vec::new(),
+        }
+    }
+}
+
 /// What a load is answered.
 #[derive(Clone, Copy, Debug, PartialEq, Eq)]
 pub enum Reply {
@@ -83,6 +155,15 @@ pub enum Reply {
         /// The batch that fetches it.
         batch: u32,
     },
+}
+
+impl Reply {
+    fn numbers(self) -> [u32; 3] {
+        match self {
+            Reply::Hit(cell) => [0, cell, 0],
+            Reply::Fresh { cell, batch } => [1, cell, batch],
+        }
+    }
 }
 
 /// What a caller did.

@@ -75,6 +75,13 @@ impl Ticket {
     }
 }
 
+/// What a loader was opened with: its limits and, if each batch is of one table, those of tables.
+#[derive(Debug)]
+pub(crate) struct Opened {
+    pub(crate) limits: Limits,
+    pub(crate) tables: Option<Vec<(String, u32)>>,
+}
+
 /// What is behind the lock.
 struct Locked {
     serial: Serial,
@@ -86,6 +93,7 @@ pub struct Loader<V, E> {
     /// By this it knows its callers and tickets.
     id: u64,
     callers: u32,
+    opened: Opened,
     locked: Mutex<Locked>,
     ended: Box<[Condvar]>,
     cells: Cells<Outcome<V, E>>,
@@ -95,7 +103,7 @@ impl<V, E> Loader<V, E> {
     /// Opens a loader with so many callers, 1 to 32.
     pub fn open(limits: Limits, callers: u32) -> Result<(Loader<V, E>, Vec<Caller>), Refusal> {
         let serial = Serial::open(&opening(limits, callers))?;
-        Ok(Loader::over(serial, limits, callers))
+        Ok(Loader::over(serial, Opened { limits, tables: None }, callers))
     }
 
     /// Opens a loader of which each batch is of one table. Each of these tables has a limit of its own: the most keys of its batches.
@@ -105,10 +113,11 @@ impl<V, E> Loader<V, E> {
         tables: &[(&str, u32)],
     ) -> Result<(Loader<V, E>, Vec<Caller>), Refusal> {
         let serial = Serial::open_by_table(&opening(limits, callers), tables)?;
-        Ok(Loader::over(serial, limits, callers))
+        let tables = tables.iter().map(|(name, limit)| (name.to_string(), *limit)).collect();
+        Ok(Loader::over(serial, Opened { limits, tables: Some(tables) }, callers))
     }
 
-    fn over(serial: Serial, limits: Limits, callers: u32) -> (Loader<V, E>, Vec<Caller>) {
+    fn over(serial: Serial, opened: Opened, callers: u32) -> (Loader<V, E>, Vec<Caller>) {
         static OPENED: AtomicU64 = AtomicU64::new(0);
         let id = OPENED.fetch_add(1, Ordering::Relaxed);
         let loader = Loader {
@@ -116,7 +125,8 @@ impl<V, E> Loader<V, E> {
             callers,
             locked: Mutex::new(Locked { serial, is_stopped: false }),
             ended: (0..CONDITIONS).map(|_| Condvar::new()).collect(),
-            cells: Cells::new(limits.max_cells),
+            cells: Cells::new(opened.limits.max_cells),
+            opened,
         };
         (loader, (0..callers).map(|number| Caller { loader: id, number }).collect())
     }
@@ -208,10 +218,10 @@ impl<V, E> Loader<V, E> {
         if let Err(refusal) = closed {
             return Err((refusal, self));
         }
-        let Loader { callers, locked, cells, .. } = self;
+        let Loader { callers, opened, locked, cells, .. } = self;
         let mut serial = locked.into_inner().unwrap_or_else(PoisonError::into_inner).serial;
         let entries = (0..callers).map(|caller| serial.entries(caller)).collect();
-        Ok(History { events: serial.events(), entries, cells })
+        Ok(History { opened, events: serial.events(), entries, cells })
     }
 
     /// Ends a batch, and shows its cells.

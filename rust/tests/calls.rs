@@ -210,6 +210,25 @@ fn the_close_gives_the_history() {
     assert_eq!(history.outcome(0), Some(&value("ada")));
     assert_eq!(history.outcome(1), Some(&Err(Failure::Batch(Arc::new("down".into())))));
     assert_eq!((history.outcome(2), history.outcome(3)), (Some(&value("cy")), None));
+    let lines = concat!(
+        r#"{"script":1,"maxBatchSize":1,"maxCells":8,"maxCalls":64,"calls":[{"load":["user","a"]},"#,
+        r#"{"loadMany":[["user","b"],["user","a"]]},{"prime":["user","c"]},{"prime":["user","c"]},{"clear":["user","a"]},"#,
+        r#"{"clearAll":true},{"dispatch":true},{"settle":0},{"fail":1}]}"#,
+        "\n[[0,1,0,0],[1,1,1,1,0,0,0],[0,1,2,0],[0,0,0,0],[1],[0],[1,0,1],[1],[1]]\n"
+    );
+    assert_eq!(history.to_json(), lines);
+}
+
+#[test]
+fn a_history_by_table_is_written_with_the_limits_of_tables() {
+    let (loader, mut callers) = Texts::open_by_table(LIMITS, 1, &[("a\"b", 1)]).unwrap();
+    loader.clear(&mut callers[0], "\\", "\u{1f}\u{e9}").unwrap();
+    let lines = concat!(
+        r#"{"script":2,"maxBatchSize":2,"maxCells":8,"maxCalls":64,"tableLimits":[["a\"b",1]],"#,
+        r#""calls":[{"clear":["\\","\u001fé"]}]}"#,
+        "\n[[0]]\n"
+    );
+    assert_eq!(loader.close().map_err(|(refusal, _)| refusal).unwrap().to_json(), lines);
 }
 
 #[test]

@@ -2,4 +2,3 @@ pub mod KeptBox
 pub mod KeptSend
 pub mod Tickets
 pub mod Told
-pub mod JobNow

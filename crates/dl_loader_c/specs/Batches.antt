@@ -3,7 +3,7 @@ use Rattle.std.specs.Prelude.{◌≡◌, ℕ, ◌<◌, ◌⊎◌, List, None, So
 use Rattle.dl_values.specs.declared.job.Job.{Job}
 use Rattle.dl_values.specs.declared.outcome.BatchFault.TheVariants.{Unsent}
 use Rattle.dl_desk.specs.BatchBook.{StandsFor}
-use Rattle.dl_desk.specs.History.{Atom, begun, members, job, jobs_from}
+use Rattle.dl_desk.specs.History.{Atom, begun, members, jobs_from}
 use Rattle.dl_desk.specs.Events.{atoms}
 use Rattle.dl_desk.specs.Service.{Service}
 use Rattle.dl_desk.specs.declared.event.Call.{Call}
@@ -17,7 +17,8 @@ use Rattle.dl_c_values.specs.declared.answers.Dispatched.{Dispatched}
 use Rattle.dl_c_values.specs.declared.key_texts.KeyTexts.{KeyTexts}
 use Rattle.dl_c_values.specs.Answers.{member_as, refused_as, sent_as, none_sent}
 use Rattle.dl_loader_c.specs.Calls.{IsCallFault, Makes}
-use Rattle.dl_loader_c.specs.HostSource.{mark}
+use Rattle.dl_host.specs.HostSource.{mark}
+use Rattle.dl_host.specs.Jobs.{job_now}
 use Rattle.dl_c_values.specs.Keys.{Spells}
 
 -- the answer to a dispatch: the batches that it sends stand in a row
@@ -32,10 +33,6 @@ settled job = Settle job.batch (map (λ key. mark) job.keys)
 
 abbrev pub failed : Job → Call
 failed job = Fail job.batch Unsent
-
--- the job of a batch, by what the history has so far
-abbrev pub job_now : ℕ → Serial → Job
-job_now batch s = job (atoms (past s.book.history)) batch
 
 -- why a batch isn't ended: memory is short for its job, or the call with the job isn't made
 abbrev pub IsEndFault : Service → ℕ → Call → Job → Serial → ℕ → Type 0

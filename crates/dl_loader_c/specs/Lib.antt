@@ -1,6 +1,5 @@
 pub mod Codes
 pub mod Answers
-pub mod HostSource
 pub mod Named
 pub mod Contents
 pub mod Calls

@@ -1,24 +1,23 @@
 //! The calls on batches: you dispatch them, read what they have, and end them.
 
-ghost use Rattle.std.specs.Prelude.{◌≡◌, IfOk};
+ghost use Rattle.std.specs.Prelude.{◌≡◌};
 ghost use Rattle.dl_c_values.specs.Answers.{none_sent, refused_as};
-ghost use Rattle.dl_loader_c.specs.Batches.{AnswersDispatch, AnswersEnd, AnswersMember, failed, job_now, settled};
+ghost use Rattle.dl_loader_c.specs.Batches.{AnswersDispatch, AnswersEnd, AnswersMember, failed, settled};
 ghost use Rattle.dl_loader_c.specs.Contents.{OnLoader};
 ghost use Rattle.dl_loader_c.specs.Handles.{OnClosed, OnOpen, Stays};
-ghost use Rattle.dl_loader_c.specs.HostSource.{by_marks};
+ghost use Rattle.dl_host.specs.HostSource.{by_marks};
 ghost use Rattle.dl_loader_c.specs.Named.{IsHosted, named_by};
 
 use crate::codes::call_code;
 use crate::handle::{Handle, HeldOf, take};
-use crate::host_source::HostSource;
 use dl_c_values::answers::{Dispatched, Loaded};
 use dl_c_values::box_parts::BoxParts;
 use dl_c_values::codes::{CLOSED, DONE, NO_BATCH, NO_CALLER, NO_MEMBER, OUT_OF_MEMORY};
 use dl_c_values::key_texts::KeyTexts;
-use dl_desk::{Job, Keys};
+use dl_host::{HostSource, job_of};
 use dl_loader::{GiveUp, LoaderName, SerialLoader};
 use dl_source::fetch_job;
-use std::alloc::{AllocError, Global};
+use std::alloc::Global;
 use std::marker::Brand;
 
 /// Sends every batch that has not gone out yet, in order. You get the number of the first one and how many they are; the
@@ -255,22 +254,4 @@ fn fail_batch<L: LoaderName>(
         }
         Err(fault) => call_code(fault),
     }
-}
-
-/// The job of a batch, which has no keys if there is no such batch. Fails if memory runs out.
-#[tactic(auto, using(crate::proofs::JobNow::no_keys, crate::proofs::JobNow::all_keys))]
-fn job_of<L: LoaderName>(
-    alloc: Global,
-    loader: &SerialLoader<L>,
-    batch: u32,
-) -> Result<Job, AllocError>
-    ensures { IfOk result (λ job. job ≡ job_now batch loader.now) }
-{
-    loader.keeps();
-    let Some(view) = loader.batch(batch) else {
-        let keys = Keys::copy_of(alloc, &[])?;
-        return Ok(Job { batch, keys });
-    };
-    let keys = Keys::copy_of(alloc, view.keys())?;
-    Ok(Job { batch, keys })
 }

@@ -11,7 +11,6 @@ mod calls;
 mod codes;
 mod ends;
 mod handle;
-mod host_source;
 mod kept;
 mod many;
 mod openings;

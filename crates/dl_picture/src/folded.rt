@@ -2,8 +2,7 @@
 
 use crate::column::Column;
 use crate::drawing::Drawing;
-use crate::lanes::{Scene, add_batch, call_lines, call_name, event_of, keys_of};
-use crate::loads::is_round;
+use crate::lanes::{Scene, add_batch, call_lines, call_name, ends_column, event_of, keys_of};
 use crate::mark::Mark;
 use crate::phrase::Phrase;
 use crate::tally::Tally;
@@ -16,13 +15,13 @@ const MOST_COLUMNS: usize = 240;
 
 const MOST_PLACES: usize = 60;
 
-/// How many rounds a column stands for in lanes of which the longest has this many rounds.
+/// How many rounds or dispatches a column stands for in lanes of which the longest has this many.
 pub(crate) fn rounds_a_column(lanes: u32, rounds: usize) -> usize {
     let places = (MOST_COLUMNS / (lanes as usize).max(1)).min(MOST_PLACES);
     (rounds / places.max(1)).saturating_add(1)
 }
 
-/// What a column of such a lane shows: the rounds behind the first `first` ones up to `last`, what came with them, and
+/// What a column of such a lane shows: the rounds or the dispatches behind the first `first` ones up to `last`, what came with them, and
 /// which of their batches failed.
 #[derive(Drop)]
 struct Fold<'a> {
@@ -41,7 +40,7 @@ impl Fold<'_> {
     }
 }
 
-/// The lane of a caller, with a column for every `rounds_each` rounds. Fails if memory runs out.
+/// The lane of a caller, with a column for every `rounds_each` rounds or dispatches. Fails if memory runs out.
 pub(crate) fn fold_calls(
     drawing: &mut Drawing,
     scene: Scene<'_>,
@@ -69,24 +68,16 @@ pub(crate) fn fold_calls(
     Ok(())
 }
 
-/// Whether an event begins another column, behind one of `rounds` rounds.
+/// Whether an event begins another column, behind one of `rounds` rounds or dispatches.
 fn begins_column(event: &Event, rounds: usize, rounds_each: usize) -> bool {
-    rounds >= rounds_each && call_name(&event.call, 0).is_some()
+    rounds >= rounds_each && call_name(&event.call, None).is_some()
 }
 
 /// The column in a place of a lane, and below it the batches that failed, as far as the drawing has room for them.
 fn add_fold(drawing: &mut Drawing, scene: Scene<'_>, place: u64, fold: &Fold<'_>) {
-    let (from, to) = ((fold.first as u64).saturating_add(1), fold.last as u64);
-    let heading = if from < to {
-        Phrase::Range("rounds ", from, to)
-    } else if from == to {
-        Phrase::Numbered("round ", to, "")
-    } else {
-        Phrase::Words("no round")
-    };
     drawing.go_to(place);
     drawing.add_below(&Column {
-        heading,
+        heading: fold_name(scene, fold),
         side: Phrase::Words(""),
         note: None,
         batch: None,
@@ -100,13 +91,29 @@ fn add_fold(drawing: &mut Drawing, scene: Scene<'_>, place: u64, fold: &Fold<'_>
     }
 }
 
+/// The words above such a column.
+fn fold_name(scene: Scene<'_>, fold: &Fold<'_>) -> Phrase {
+    let (from, to) = ((fold.first as u64).saturating_add(1), fold.last as u64);
+    let (none, one, several) = match scene.plans {
+        Some(_) => ("no round", "round ", "rounds "),
+        None => ("no dispatch", "dispatch ", "dispatches "),
+    };
+    if from < to {
+        Phrase::Range(several, from, to)
+    } else if from == to {
+        Phrase::Numbered(one, to, "")
+    } else {
+        Phrase::Words(none)
+    }
+}
+
 /// Counts what a call did to its keys, and the batches that it sent. Fails if memory runs out.
 fn count_event<'a>(
     fold: &mut Fold<'a>,
     scene: Scene<'a>,
     event: &'a Event,
 ) -> Result<(), AllocError> {
-    if call_name(&event.call, 0).is_some() {
+    if call_name(&event.call, None).is_some() {
         fold.tally.add_lines(call_lines(scene.cells, keys_of(&event.call), &event.reply))?;
     }
     if let Reply::Sent(jobs) = &event.reply {
@@ -118,7 +125,7 @@ fn count_event<'a>(
             }
         }
     }
-    if is_round(&event.call) {
+    if ends_column(scene, event) {
         fold.last = fold.last.saturating_add(1);
     }
     Ok(())

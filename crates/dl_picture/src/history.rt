@@ -6,10 +6,10 @@ use crate::drawing::Drawing;
 use crate::folded::{fold_calls, rounds_a_column};
 use crate::head::{add_count, add_numbers, end_head};
 use crate::lanes::{
-    Scene, add_calls, add_workers, batch_ends, caller_name, callers, event_of, is_shown,
+    Scene, add_calls, add_workers, batch_ends, caller_name, callers, ends_column, event_of,
+    is_shown,
 };
 use crate::lines::MOST_BATCHES;
-use crate::loads::rounds;
 use crate::numbers::{HistoryNumbers, history_numbers, plan_numbers};
 use crate::parts::plan_parts;
 use crate::phrase::Phrase;
@@ -29,12 +29,14 @@ const MOST_FAILURES: u64 = 60;
 
 const FEW_KEYS: usize = 20;
 
-/// Draws what serving plans left, as SVG. You give the terms of each plan, as [`terms_of`](crate::terms_of) gives them.
-/// The first callers of the history are these plans, and the others are workers. Each plan has a lane, and its rounds
-/// are in it from left to right. A round says which step and which part of its term it loads for. Above it are the
-/// primes and clears before it, and below it the batches that it sent, which lines join to their keys. With more than 60
-/// batches, or as many rounds in a lane, a lane shows counts, and the first batches that failed, so the text has less than
-/// a megabyte. `hashing` hashes keys, and nothing that you see depends on it.
+/// Draws a history, as SVG. Of what serving plans left, you give the terms of each plan, as [`terms_of`](crate::terms_of)
+/// gives them: the first callers are these plans, and the others are workers. Without terms the callers are none of
+/// these. Each plan has a lane, as each caller does that made other calls than ends of batches, and its rounds are in it
+/// from left to right, or the calls up to each of its dispatches. A round of a plan says which step and which part of its
+/// term it loads for. Above it are the primes and clears before it, and below it the batches that it sent, which lines
+/// join to their keys. With more than 60 batches, or as many rounds, or calls without plans, in a lane, a lane shows
+/// counts, and the first batches that failed, so the text has less than a megabyte. `hashing` hashes keys, and nothing
+/// that you see depends on it.
 ///
 /// # Errors
 /// `AllocError` if memory runs out.
@@ -43,26 +45,30 @@ const FEW_KEYS: usize = 20;
 /// The picture of a report, from `crates/dl_plans`:
 ///
 /// ```rust
-/// history_picture(alloc, hashing, report.history(), terms)
+/// history_picture(alloc, hashing, report.history(), Some(terms))
 /// ```
 pub fn history_picture(
     alloc: Global,
     hashing: RandomState,
     history: &History,
-    plans: &[Vec<Term>],
+    plans: Option<&[Vec<Term>]>,
 ) -> Result<String, AllocError> {
     let numbers = history_numbers(history)?;
-    let alone = loads_asked(alloc, hashing, history, plans)?;
+    let alone = match plans {
+        Some(plans) => Some(loads_asked(alloc, hashing, history, plans)?),
+        None => None,
+    };
     let cells = cell_fates(alloc, history)?;
     let ends = batch_ends(alloc, history.events(), numbers.batches.batches)?;
     let scene = Scene {
         history,
         cells: cells.as_slice(),
         ends: ends.as_slice(),
-        plans: plans.len().min(MOST_PLANS) as u32,
+        plans: plans.map(|plans| plans.len().min(MOST_PLANS) as u32),
     };
-    if numbers.batches.batches <= MOST_BATCHES as u64 && longest(scene) <= MOST_ROUNDS {
-        let parts = plan_parts(alloc, hashing, history, plans)?;
+    let is_short = longest(scene) <= MOST_ROUNDS && has_few_calls(scene);
+    if numbers.batches.batches <= MOST_BATCHES as u64 && is_short {
+        let parts = plan_parts(alloc, hashing, history, plans.unwrap_or(&[]))?;
         let picture = whole_picture(alloc, scene, &numbers, alone, parts.as_slice())?;
         if picture.len() <= MOST_BYTES {
             return Ok(picture);
@@ -75,12 +81,12 @@ pub fn history_picture(
     folded_picture(alloc, scene, &numbers, alone, 0)
 }
 
-/// The picture with all keys. Without a loader there are `alone` fetches, and the rounds of plans load for these parts.
+/// The picture with all keys. Without a loader plans make `alone` fetches, and their rounds load for these parts.
 fn whole_picture(
     alloc: Global,
     scene: Scene<'_>,
     numbers: &HistoryNumbers,
-    alone: u64,
+    alone: Option<u64>,
     parts: &[Vec<String>],
 ) -> Result<String, AllocError> {
     let mut drawing = Drawing::new(alloc);
@@ -104,7 +110,7 @@ fn folded_picture(
     alloc: Global,
     scene: Scene<'_>,
     numbers: &HistoryNumbers,
-    alone: u64,
+    alone: Option<u64>,
     failures: u64,
 ) -> Result<String, AllocError> {
     let mut drawing = Drawing::new(alloc);
@@ -123,11 +129,13 @@ fn folded_picture(
     drawing.finish()
 }
 
-/// The head of a history's picture. Without a loader there are `alone` fetches.
-fn add_head(drawing: &mut Drawing, numbers: &HistoryNumbers, alone: u64) {
+/// The head of a history's picture. Without a loader plans make `alone` fetches.
+fn add_head(drawing: &mut Drawing, numbers: &HistoryNumbers, alone: Option<u64>) {
     drawing.add_words("title", Phrase::Words("What the requests did"));
     add_numbers(drawing, numbers, "keys fetched");
-    add_count(drawing, "alone", "fetches, no loader", alone);
+    if let Some(alone) = alone {
+        add_count(drawing, "alone", "fetches, no loader", alone);
+    }
     end_head(drawing);
 }
 
@@ -135,7 +143,7 @@ fn add_head(drawing: &mut Drawing, numbers: &HistoryNumbers, alone: u64) {
 
 /// How many callers may have lanes.
 fn most_lanes(scene: Scene<'_>) -> u32 {
-    callers(scene.history.events()).max(scene.plans)
+    callers(scene.history.events()).max(scene.plans.unwrap_or(0))
 }
 
 /// How many callers have lanes.
@@ -149,28 +157,57 @@ fn lanes(scene: Scene<'_>) -> u32 {
     lanes
 }
 
-/// How many rounds the longest lane has.
+/// How many rounds, or without plans how many dispatches, the longest lane has.
 fn longest(scene: Scene<'_>) -> usize {
     let mut most: usize = 0;
     for caller in 0..most_lanes(scene) {
-        most = most.max(rounds(scene.history.events(), caller));
+        most = most.max(columns(scene, caller));
     }
     most
 }
 
-/// Whether a caller has a lane: it is a plan, or it loaded, primed, cleared or sent a batch.
-fn has_lane(scene: Scene<'_>, caller: u32) -> bool {
-    if caller < scene.plans {
-        return true;
-    }
+/// How many columns of a lane end.
+fn columns(scene: Scene<'_>, caller: u32) -> usize {
+    let mut count: usize = 0;
     for entry in scene.history.entries(caller) {
         if let Some(event) = event_of(scene.history.events(), *entry) {
-            if is_shown(event) {
-                return true;
+            if ends_column(scene, event) {
+                count = count.saturating_add(1);
             }
         }
     }
-    false
+    count
+}
+
+/// Whether no lane shows more calls than it may have rounds, or there are plans.
+fn has_few_calls(scene: Scene<'_>) -> bool {
+    for caller in 0..most_lanes(scene) {
+        if scene.plans.is_none() && calls_shown(scene, caller) > MOST_ROUNDS {
+            return false;
+        }
+    }
+    true
+}
+
+/// How many calls a lane shows.
+fn calls_shown(scene: Scene<'_>, caller: u32) -> usize {
+    let mut count: usize = 0;
+    for entry in scene.history.entries(caller) {
+        if let Some(event) = event_of(scene.history.events(), *entry) {
+            if is_shown(event) {
+                count = count.saturating_add(1);
+            }
+        }
+    }
+    count
+}
+
+/// Whether a caller has a lane: it is a plan, or it loaded, primed, cleared or sent a batch.
+fn has_lane(scene: Scene<'_>, caller: u32) -> bool {
+    if caller < scene.plans.unwrap_or(0) {
+        return true;
+    }
+    calls_shown(scene, caller) > 0
 }
 
 /// The words above the lane of a caller.
@@ -180,17 +217,25 @@ fn add_lane_words(drawing: &mut Drawing, scene: Scene<'_>, caller: u32) {
             let loads = numbers.loads;
             drawing.begin_words("lane");
             drawing.sheet.push_phrase(caller_name(scene.plans, caller));
-            drawing.sheet.push_form(
-                ": rounds #, loads #, hits #</text>\n",
-                &[numbers.rounds as u64, loads.loads, loads.hits],
-            );
+            if scene.plans.is_some() {
+                drawing
+                    .sheet
+                    .push_form(": rounds #,", &[numbers.rounds as u64]);
+            } else {
+                drawing.sheet.push(":");
+            }
+            drawing
+                .sheet
+                .push_form(" loads #, hits #</text>\n", &[loads.loads, loads.hits]);
         }
         Err(error) => drawing.sheet.note(Err(error)),
     }
 }
 
-/// The workers, and which batches they ended.
+/// The workers of plans, and which batches they ended.
 fn add_all_workers(drawing: &mut Drawing, scene: Scene<'_>) {
-    drawing.add_words("lane", Phrase::Words("workers"));
-    add_workers(drawing, scene.history, scene.plans);
+    if let Some(plans) = scene.plans {
+        drawing.add_words("lane", Phrase::Words("workers"));
+        add_workers(drawing, scene.history, plans);
+    }
 }

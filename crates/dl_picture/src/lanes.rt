@@ -20,13 +20,13 @@ pub(crate) fn event_of(events: &Events, entry: EntryKind) -> Option<&Event> {
 }
 
 /// What lanes are drawn of: a history, what became of its cells, the event that ended each batch, and how many of its
-/// callers are plans.
+/// callers are plans, if it is of plans and workers.
 #[derive(Clone, Copy)]
 pub(crate) struct Scene<'a> {
     pub(crate) history: &'a History,
     pub(crate) cells: &'a [Fate],
     pub(crate) ends: &'a [Option<&'a Event>],
-    pub(crate) plans: u32,
+    pub(crate) plans: Option<u32>,
 }
 
 /// The event that ended each batch of a history that has this many. Fails if memory runs out.
@@ -53,8 +53,19 @@ pub(crate) fn batch_ends(
 
 // ---- lanes
 
-/// The lane of a caller: each round is in its place, below the primes and clears since the round before and above the
-/// batches that it sent. Its rounds load for these parts of terms.
+/// Whether what follows in a caller's lane is further to the right: behind each round of a plan, and behind each dispatch
+/// of another caller that sent batches.
+pub(crate) fn ends_column(scene: Scene<'_>, event: &Event) -> bool {
+    match (scene.plans, &event.reply) {
+        (Some(_), _) => is_round(&event.call),
+        (None, Reply::Sent(jobs)) => !jobs.as_slice().is_empty(),
+        (None, _) => false,
+    }
+}
+
+/// The lane of a caller. Each round of a plan is in its place, below the primes and clears since the round before and
+/// above the batches that it sent, and loads for one of these parts of terms. Another caller's calls up to a dispatch are
+/// above its batches.
 pub(crate) fn add_calls<'a>(
     drawing: &mut Drawing,
     scene: Scene<'a>,
@@ -66,14 +77,14 @@ pub(crate) fn add_calls<'a>(
         if let Some(event) = event_of(scene.history.events(), *entry) {
             add_call(drawing, scene, event, rounds, parts);
             add_sent(drawing, scene, &event.reply);
-            if is_round(&event.call) {
+            if ends_column(scene, event) {
                 rounds = rounds.saturating_add(1);
             }
         }
     }
 }
 
-/// The column of a call after this many rounds, or none if it is a dispatch or ends a batch.
+/// The column of a call after this many others, or none if it is a dispatch or ends a batch.
 fn add_call<'a>(
     drawing: &mut Drawing,
     scene: Scene<'a>,
@@ -81,7 +92,7 @@ fn add_call<'a>(
     rounds: usize,
     parts: &'a [String],
 ) {
-    if let Some(heading) = call_name(&event.call, rounds) {
+    if let Some(heading) = call_name(&event.call, scene.plans.map(|_| rounds)) {
         let lines = call_lines(scene.cells, keys_of(&event.call), &event.reply);
         let note = match &event.call {
             Call::LoadMany(_) => parts.get(rounds),
@@ -107,14 +118,13 @@ fn add_sent(drawing: &mut Drawing, scene: Scene<'_>, reply: &Reply) {
     }
 }
 
-/// The words above a call after this many rounds.
-pub(crate) fn call_name(call: &Call, rounds: usize) -> Option<Phrase> {
+/// The words above a call, of a plan after this many rounds.
+pub(crate) fn call_name(call: &Call, rounds: Option<usize>) -> Option<Phrase> {
     match call {
-        Call::LoadMany(_) => Some(Phrase::Numbered(
-            "round ",
-            (rounds as u64).saturating_add(1),
-            "",
-        )),
+        Call::LoadMany(_) => match rounds {
+            Some(rounds) => Some(Phrase::Numbered("round ", (rounds as u64).saturating_add(1), "")),
+            None => Some(Phrase::Words("load many")),
+        },
         Call::Load(_) => Some(Phrase::Words("load")),
         Call::Prime(_, _) => Some(Phrase::Words("prime")),
         Call::Clear(_) => Some(Phrase::Words("clear")),
@@ -127,7 +137,7 @@ pub(crate) fn call_name(call: &Call, rounds: usize) -> Option<Phrase> {
 pub(crate) fn is_shown(event: &Event) -> bool {
     match &event.reply {
         Reply::Sent(jobs) => !jobs.as_slice().is_empty(),
-        _ => call_name(&event.call, 0).is_some(),
+        _ => call_name(&event.call, None).is_some(),
     }
 }
 
@@ -218,12 +228,12 @@ fn end_of<'a>(
     (" sent", None, Lines::Keys { keys, mark })
 }
 
-/// Who a caller is: the plans come first, and then the workers.
-pub(crate) fn caller_name(plans: u32, caller: u32) -> Phrase {
-    if caller < plans {
-        Phrase::Numbered("plan ", caller as u64, "")
-    } else {
-        Phrase::Numbered("worker ", (caller - plans) as u64, "")
+/// Who a caller is. If there are plans, they come first, and then their workers.
+pub(crate) fn caller_name(plans: Option<u32>, caller: u32) -> Phrase {
+    match plans {
+        None => Phrase::Numbered("caller ", caller as u64, ""),
+        Some(plans) if caller < plans => Phrase::Numbered("plan ", caller as u64, ""),
+        Some(plans) => Phrase::Numbered("worker ", caller.saturating_sub(plans) as u64, ""),
     }
 }
 
@@ -235,7 +245,7 @@ pub(crate) fn add_workers(drawing: &mut Drawing, history: &History, plans: u32) 
             drawing,
             events,
             history.entries(caller),
-            caller_name(plans, caller),
+            caller_name(Some(plans), caller),
         );
     }
 }

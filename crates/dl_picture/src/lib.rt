@@ -1,9 +1,9 @@
 //! Pictures of what requests did, as SVG: the rounds of plans, their batches and their hits; traces of it, as JSON; and
 //! the numbers of a history.
 //!
-//! [`history_picture`] draws what serving plans left, and [`script_picture`] draws the calls of a script with their
-//! answers. At the head of a picture are its numbers; [`history_numbers`] and [`plan_numbers`] give you those of any
-//! history. [`history_trace`] and [`script_trace`] write the same as traces.
+//! [`history_picture`] draws what serving plans left, or a history without plans, and [`script_picture`] draws the calls of
+//! a script with their answers. At the head of a picture are its numbers; [`history_numbers`] and [`plan_numbers`] give
+//! you those of any history. [`history_trace`] and [`script_trace`] write the same as traces.
 //!
 //! The label of a loop is its name in `proofs/`.
 #![tactic(auto)]

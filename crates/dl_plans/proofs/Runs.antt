@@ -179,6 +179,7 @@ not_migrated_all bytes (error.Run f) h = h
 not_migrated_all bytes error.Write h = h
 not_migrated_all bytes error.OutOfMemory h = h
 not_migrated_all bytes error.NotVersion1 h = other_all bytes h
+not_migrated_all bytes (error.NoHistory f) h = h
 
 -- what an error says of the first bytes it says of all
 abbrev pub IsSaidOfAll : (List ℕ → RunError → Type 0) → Type 0
@@ -196,3 +197,4 @@ refused_all options bytes (error.Run f) h = (h.0, document_all options bytes (in
 refused_all options bytes error.Write h = h
 refused_all options bytes error.OutOfMemory h = h
 refused_all options bytes error.NotVersion1 h = h
+refused_all options bytes (error.NoHistory f) h = h

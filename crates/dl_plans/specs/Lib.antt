@@ -9,3 +9,4 @@ pub mod Run
 pub mod Migration
 pub mod MigratedAnswers
 pub mod Status
+pub mod History

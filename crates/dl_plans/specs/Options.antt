@@ -46,6 +46,10 @@ trace_rule = record (new_rule (codes "trace")) { long = Some (codes "trace"); va
 abbrev pub database_rule : Rule
 database_rule = record (new_rule (codes "database")) { long = Some (codes "database"); value_names = 1 }
 
+-- `--history FILE`
+abbrev pub history_rule : Rule
+history_rule = record (new_rule (codes "history")) { long = Some (codes "history"); value_names = 1 }
+
 -- the words follow the program's name
 abbrev pub without_name : Shape → Shape
 without_name s = record s { no_binary_name = true }
@@ -64,7 +68,7 @@ answering_app = with_rule (with_rule serving_app explain_rule) statistics_rule
 
 -- the options for answering a document
 abbrev pub file_words_app : App
-file_words_app = with_rule (with_rule (with_rule answering_app picture_rule) trace_rule) database_rule
+file_words_app = with_rule (with_rule (with_rule (with_rule answering_app picture_rule) trace_rule) database_rule) history_rule
 
 -- the command line without its version
 abbrev pub plans_words_app : App
@@ -98,11 +102,11 @@ have_one_name (Some file) (Some other) = string_eq file other
 have_one_name (Some file) None = false
 have_one_name None other = false
 
--- no two of the files that are there have one name
-pub record AreApart (picture trace database : Option (String Global)) : Type 0 where
+-- no two of the files that are there have one name: those that are written, and one that is read
+pub record AreApart (picture trace read : Option (String Global)) : Type 0 where
   pub picture_trace : have_one_name picture trace ≡ false
-  pub picture_database : have_one_name picture database ≡ false
-  pub trace_database : have_one_name trace database ≡ false
+  pub picture_read : have_one_name picture read ≡ false
+  pub trace_read : have_one_name trace read ≡ false
 
 -- the options and the file of the database that the matches and the subcommand in use give
 pub record AreGiven (rows : List Row) (used : Option (Text × List Row)) (o : Options) (file : Option (String Global)) : Type 0 where
@@ -120,3 +124,4 @@ pub record AreGiven (rows : List Row) (used : Option (Text × List Row)) (o : Op
   pub database : option_map string_bytes file ≡ first_of (codes "database") rows
   pub unread : o.database ≡ None
   pub migrate : IsTrue o.migrate ↔ (name_of used ≡ Some (codes "migrate"))
+  pub history : option_map string_bytes o.history ≡ first_of (codes "history") rows

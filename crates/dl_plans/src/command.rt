@@ -3,7 +3,7 @@
 ghost use Rattle.std.specs.Prelude.{◌≡◌, IfOk, IfSome, map, option_map, false, string_bytes};
 ghost use Rattle.clap.specs.Words.{app_of, rule_of, found_of, matches_of, rows_of, subcommand_of, subcommand_rows_of};
 ghost use Rattle.dl_plans.specs.Options.{plans_app, plans_words_app, file_words_app, answering_app, serving_app, have_one_name, AreApart, AreGiven};
-ghost use Rattle.dl_plans.specs.Options.{workers_rule, batches_rule, explain_rule, statistics_rule, picture_rule, trace_rule, database_rule};
+ghost use Rattle.dl_plans.specs.Options.{workers_rule, batches_rule, explain_rule, statistics_rule, picture_rule, trace_rule, database_rule, history_rule};
 
 use crate::settings::Options;
 use clap::error::ErrorKind;
@@ -12,8 +12,8 @@ use std::alloc::{AllocError, Global};
 use std::convert::AsStr;
 
 /// The options in the words behind the program's name, `[--workers N] [--batches] [--explain] [--statistics]
-/// [--picture FILE] [--trace FILE] [--database FILE] [migrate]`, and the file of the database. N is 1 to 16, and 3 if you
-/// don't give it. No option follows `migrate`. The options have no tables of a database yet.
+/// [--picture FILE] [--trace FILE] [--database FILE] [--history FILE] [migrate]`, and the file of the database. N is 1 to
+/// 16, and 3 if you don't give it. No option follows `migrate`. The options have no tables of a database yet.
 ///
 /// # Errors
 /// The help, if the words ask for it; why the words are wrong, with the usage; or that memory ran out.
@@ -24,11 +24,14 @@ pub fn options<'a, S: AsStr>(
     ensures given { let texts = map S.text words.entry.now in
         IfOk result (λ g. AreGiven (matches_of plans_app texts) (subcommand_of plans_app texts) g.0 g.1) }
     ensures apart { IfOk result (λ g. AreApart g.0.picture g.0.trace g.1) }
+    ensures history { IfOk result (λ g. AreApart g.0.picture g.0.trace g.0.history) }
 {
     let mut command = command(alloc)?;
     match read(alloc, &mut command, words) {
         Ok(Some((options, database))) => {
-            if has_file_twice(&options.picture, &options.trace, &database) {
+            if has_file_twice(&options.picture, &options.trace, &database)
+                || has_file_twice(&options.picture, &options.trace, &options.history)
+            {
                 return Err(out_of_files(&mut command));
             }
             Ok((options, database))
@@ -41,17 +44,11 @@ pub fn options<'a, S: AsStr>(
     }
 }
 
-/// Whether two of the files have one name.
-fn has_file_twice(
-    picture: &Option<String>,
-    trace: &Option<String>,
-    database: &Option<String>,
-) -> bool
-    ensures { result ≡ false → AreApart picture.now trace.now database.now }
+/// Whether two of the files have one name: of those that are written, and one that is read.
+fn has_file_twice(picture: &Option<String>, trace: &Option<String>, read: &Option<String>) -> bool
+    ensures { result ≡ false → AreApart picture.now trace.now read.now }
 {
-    have_one_name(picture, trace)
-        || have_one_name(picture, database)
-        || have_one_name(trace, database)
+    have_one_name(picture, trace) || have_one_name(picture, read) || have_one_name(trace, read)
 }
 
 /// Whether there are two files, with one name.
@@ -102,6 +99,7 @@ fn given(
         trace: copied(alloc, matches.get_str("trace"))?,
         database: None,
         migrate: matches.subcommand_matches("migrate").is_some(),
+        history: copied(alloc, matches.get_str("history"))?,
     };
     Ok(Some((options, database)))
 }
@@ -170,7 +168,8 @@ fn file_words<'a>(alloc: Global) -> Result<Command<'a>, AllocError>
     answering_words(alloc)?
         .arg(picture(alloc))?
         .arg(trace(alloc))?
-        .arg(database(alloc))
+        .arg(database(alloc))?
+        .arg(history(alloc))
 }
 
 /// The options for answering a document that name no file.
@@ -270,4 +269,15 @@ fn database<'a>(alloc: Global) -> Arg<'a>
         .long("database")
         .value_name("FILE")
         .help("Answers from the tables of a SQLite database too")
+}
+
+/// `--history FILE`.
+fn history<'a>(alloc: Global) -> Arg<'a>
+    ensures rule { rule_of result ≡ history_rule }
+    ensures local { result.global ≡ false }
+{
+    Arg::new(alloc, "history")
+        .long("history")
+        .value_name("FILE")
+        .help("Prints the events of a history that a host wrote to a file, and answers no document")
 }

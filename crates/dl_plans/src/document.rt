@@ -61,12 +61,7 @@ use std::thread::Threads;
 /// The program `plans` calls it, in `crates/plans`:
 ///
 /// ```rust
-/// let (alloc, mut reader, mut writer) = (rt.alloc(), rt.reader(), io::writer(rt));
-/// if options.migrate {
-///     run_migrate(alloc, hashing, &mut reader, &mut writer)
-/// } else {
-///     run(rt, alloc, hashing, &mut reader, &mut writer, options)
-/// }
+/// run(rt, alloc, hashing, &mut reader, &mut writer, options)
 /// ```
 pub fn run<R: Read, W: Write, T: Threads + Wait + Sync + Files + RandomSource + Eprint>(
     rt: &T,
@@ -95,12 +90,12 @@ pub fn run<R: Read, W: Write, T: Threads + Wait + Sync + Files + RandomSource + 
 /// What a document gives: its text, and if the options ask for them its picture, its trace, the lines of its explanations
 /// and the line of its statistics.
 #[derive(Drop)]
-struct Given {
-    text: String,
-    picture: Option<String>,
-    trace: Option<String>,
-    explanations: Option<String>,
-    statistics: Option<String>,
+pub(crate) struct Given {
+    pub(crate) text: String,
+    pub(crate) picture: Option<String>,
+    pub(crate) trace: Option<String>,
+    pub(crate) explanations: Option<String>,
+    pub(crate) statistics: Option<String>,
 }
 
 /// Says the explanations and then the statistics on standard error, if there are any and the text was written.
@@ -117,7 +112,7 @@ fn tell<T: Eprint>(rt: &T, written: &Result<(), RunError>, given: &Given) {
 }
 
 /// Writes the picture and then the trace to their files, if there are any.
-fn keep_files<T: Files + RandomSource + Eprint>(
+pub(crate) fn keep_files<T: Files + RandomSource + Eprint>(
     rt: &T,
     alloc: Global,
     options: &Options,

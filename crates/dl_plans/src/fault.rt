@@ -1,6 +1,7 @@
 //! How a run of the program fails.
 
 use dl_documents::PlanFault;
+use dl_replay::HistoryFault;
 use dl_scope::ScopeFault;
 use thiserror::Error;
 
@@ -25,6 +26,9 @@ pub enum RunError {
     /// There is nothing to migrate: a script, or a plan file of version 2. The run wrote nothing.
     #[error("refused: not version 1")]
     NotVersion1,
+    /// The file has no history. The run wrote nothing.
+    #[error("refused: {0}")]
+    NoHistory(HistoryFault),
 }
 
 /// The name of a fault.

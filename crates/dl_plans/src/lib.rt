@@ -1,5 +1,6 @@
 //! The parts of the program `plans`: its command line; what a document gives, over a reader and a writer ([`run`]); the
-//! texts of scripts and reports; the files of pictures and traces; migration; and the lines and statuses of failures.
+//! texts of scripts and reports; the files of pictures and traces; histories of hosts; migration; and the lines and statuses
+//! of failures.
 #![tactic(auto)]
 
 mod answer_lines;
@@ -10,6 +11,7 @@ mod explanation_lines;
 mod explanations;
 mod fault;
 mod front;
+mod history;
 mod invocation;
 mod joined_tables;
 pub mod laws;
@@ -31,6 +33,7 @@ pub use dl_documents::{Calls, Input, MOST_BYTES, PlanFault, PlanFile, Script, re
 pub use dl_migration::{MigrateFault, migrate};
 pub use document::run;
 pub use fault::RunError;
+pub use history::run_history;
 pub use invocation::{asked, told};
 pub use migration::run_migrate;
 pub use report::report_text;

@@ -31,12 +31,12 @@ pub(crate) fn report_picture(
     report: &Report,
     terms: &[Vec<Term>],
 ) -> Result<String, AllocError> {
-    history_picture(alloc, hashing, report.history(), terms)
+    history_picture(alloc, hashing, report.history(), Some(terms))
 }
 
 /// The trace of what serving plans left. Fails if memory runs out.
 pub(crate) fn report_trace(alloc: Global, report: &Report) -> Result<String, AllocError> {
-    history_trace(alloc, report.history(), plans_of(report))
+    history_trace(alloc, report.history(), Some(plans_of(report)))
 }
 
 /// How many plans were served.

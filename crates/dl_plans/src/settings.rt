@@ -24,6 +24,8 @@ pub struct Options {
     pub database: Option<Tables>,
     /// Whether to write a plan file of version 1 as version 2, and not to answer it.
     pub migrate: bool,
+    /// The file of a history, if the command line names one: to be drawn, and no document answered.
+    pub history: Option<String>,
 }
 
 impl Options {
@@ -39,6 +41,7 @@ impl Options {
             picture,
             trace,
             migrate,
+            history,
             ..
         } = self;
         Options {
@@ -50,6 +53,7 @@ impl Options {
             trace,
             database,
             migrate,
+            history,
         }
     }
 }

@@ -12,7 +12,7 @@ use std::io;
 /// The status of a run that succeeds, and of a request for help.
 pub(crate) const RAN: u8 = 0;
 
-/// The status for a document that is refused, or that doesn't have the version it must have.
+/// The status for a document or a history that is refused, or a document that doesn't have the version it must have.
 const REFUSED: u8 = 1;
 
 /// The status for a command line that is refused.
@@ -22,13 +22,13 @@ const USAGE: u8 = 2;
 pub(crate) const FAILED: u8 = 3;
 
 impl RunError {
-    /// The status that the program ends with after such a run: 1 if the document is refused, or must be of version 1 to
-    /// migrate and isn't; else 3.
+    /// The status that the program ends with after such a run: 1 if the document or the file of a history is refused, or
+    /// the document must be of version 1 to migrate and isn't; else 3.
     pub fn status(&self) -> u8
         ensures { result ≡ run_status self.now }
     {
         match self {
-            RunError::Refused(_) | RunError::NotVersion1 => REFUSED,
+            RunError::Refused(_) | RunError::NotVersion1 | RunError::NoHistory(_) => REFUSED,
             RunError::Read | RunError::Run(_) | RunError::Write | RunError::OutOfMemory => FAILED,
         }
     }

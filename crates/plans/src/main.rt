@@ -1,7 +1,8 @@
 //! The program `plans`: it answers the document on standard input. Its parts are in `dl_plans`.
 #![tactic(auto)]
 
-use dl_plans::{Options, RunError, asked, run, run_migrate, told};
+use dl_plans::{Options, RunError, asked, run, run_history, run_migrate, told};
+use std::fs::File;
 use std::hash::RandomState;
 use std::io;
 use std::process::ExitCode;
@@ -18,7 +19,8 @@ fn main(rt: HostRuntime) -> ExitCode {
     ExitCode::from(status)
 }
 
-/// Writes what the options ask for to standard output: the document on standard input as version 2, or what it gives.
+/// Writes what the options ask for to standard output: the document on standard input as version 2, or what it gives; or the
+/// events of a history.
 fn written<R: Input + Print + Eprint + AllocGlobal + Threads + Wait + Sync + Files + RandomSource>(
     rt: &R,
     hashing: RandomState,
@@ -27,6 +29,11 @@ fn written<R: Input + Print + Eprint + AllocGlobal + Threads + Wait + Sync + Fil
     let (alloc, mut reader, mut writer) = (rt.alloc(), rt.reader(), io::writer(rt));
     if options.migrate {
         run_migrate(alloc, hashing, &mut reader, &mut writer)
+    } else if let Some(file) = &options.history {
+        match File::open(rt, file.as_str()) {
+            Ok(mut file) => run_history(rt, alloc, hashing, &mut file, &mut writer, &options),
+            Err(_) => Err(RunError::Read),
+        }
     } else {
         run(rt, alloc, hashing, &mut reader, &mut writer, options)
     }

@@ -26,4 +26,5 @@ returns c =
         λ is. name_used c.args.matches.now ∙ c.subcommand_matches.ensures.found.0 (sym c.is_some.ensures ∙ is),
         λ named. c.is_some.ensures ∙ c.subcommand_matches.ensures.found.1 (sym (name_used c.args.matches.now) ∙ named),
       );
+      history = c.in_ok-copied-3.ensures ∙ (c.get_str-4.ensures ∙ first_value-rows found (codes "history"));
     }

@@ -1,7 +1,7 @@
 //! The source of a host, which keeps the outcomes itself.
 
 ghost use Rattle.std.specs.Prelude.{◌≡◌, IfOk};
-ghost use Rattle.dl_loader_c.specs.HostSource.{mark};
+ghost use Rattle.dl_host.specs.HostSource.{mark};
 
 use dl_desk::{FetchKey, Json, Outcome, Outcomes};
 use dl_source::{BatchAnswer, Source};
@@ -14,7 +14,7 @@ pub struct HostSource;
 
 impl Source for HostSource {
     ghost use Rattle.dl_values.specs.Answering.{function};
-    ghost use Rattle.dl_loader_c.specs.HostSource.{answer_of, answer_fits};
+    ghost use Rattle.dl_host.specs.HostSource.{answer_of, answer_fits};
 
     ghost answer = { function answer_of };
 

@@ -9,7 +9,7 @@ use Rattle.dl_values.specs.declared.outcome.Outcome.TheVariants.{Value}
 use Rattle.dl_values.specs.declared.outcome.BatchAnswer.{BatchAnswer}
 use Rattle.dl_values.specs.declared.outcome.BatchAnswer.TheVariants.{Each}
 use Rattle.dl_values.specs.Answering.{IsFor}
-use Rattle.dl_loader_c.specs.declared.host_source.HostSource.{HostSource}
+use Rattle.dl_host.specs.declared.host_source.HostSource.{HostSource}
 
 abbrev pub mark : Outcome
 mark = Value null

@@ -1,7 +1,7 @@
 use Rattle.std.proofs.Common.{◌∙◌, ap, List}
 use Rattle.dl_values.specs.Key.{Key}
-use Rattle.dl_loader_c.proofs.JobNow.{no_keys}
-use Rattle.dl_loader_c.proofs.batches.job_of.Goals as goal
+use Rattle.dl_host.proofs.JobNow.{no_keys}
+use Rattle.dl_host.proofs.job.job_of.Goals as goal
 
 pub returns-in_default : goal.returns-in_default
 returns-in_default g c =

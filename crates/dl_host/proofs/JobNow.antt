@@ -11,7 +11,7 @@ use Rattle.dl_desk.proofs.Facts.{members-unnamed, named}
 use Rattle.dl_history.specs.History.{past}
 use Rattle.dl_loader.specs.Book.{Keeps}
 use Rattle.dl_loader.specs.SerialLoader.{Serial}
-use Rattle.dl_loader_c.specs.Batches.{job_now}
+use Rattle.dl_host.specs.Jobs.{job_now}
 
 abbrev pub keys_of : List (Key × ℕ) → List Key
 keys_of ms = map (λ (m : Key × ℕ). m.0) ms

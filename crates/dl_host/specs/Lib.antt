@@ -1,0 +1,2 @@
+pub mod HostSource
+pub mod Jobs
